@@ -1,0 +1,5 @@
+pub mod LineLemmas
+pub mod FieldLemmas
+pub mod VerbLemmas
+pub mod SplitLemmas
+pub mod SectionLemmas

@@ -1,0 +1,59 @@
+-- One line more of a list of lines.
+use Rattle.std.proofs.Common.{ℕ, zero, suc, ◌≡◌, ◌+◌, ◌<◌, ◌≤◌, Bool, true, false, not, cond, List, [], ◌∷◌, ◌++◌, length, take, drop, refl, sym, ◌∙◌, ap, arith, get_or, add-one, append_assoc, append-nil, subst, Result, Ok, Err, is_ok, All}
+use Rattle.std.specs.Prelude.{is_err, if◌then◌else◌}
+use Rattle.std.proofs.lemmas.List.Elements.{All-push}
+use Rattle.std.proofs.Math.Numerals.{one-add}
+use Rattle.std.proofs.lemmas.List.Folds.{concat-append}
+use Rattle.std.specs.List.{concat, prefix_len}
+
+-- what is taken and what is left, one element on
+pub take-next : {X : Type 0} (xs : List X) (k : ℕ) (x : X) (ys : List X) → drop k xs ≡ x ∷ ys → take (k + 1) xs ≡ take k xs ++ x ∷ []
+take-next {X} xs k x ys is = rw add-one (by xs k is)
+  where
+    by : (xs : List X) (k : ℕ) → drop k xs ≡ x ∷ ys → take (suc k) xs ≡ take k xs ++ x ∷ []
+    by [] zero is = absurd (cc)
+    by [] (suc k) is = absurd (cc)
+    by (z ∷ zs) zero is = ap (λ o. take 1 o) is
+    by (z ∷ zs) (suc k) is = ap (λ o. z ∷ o) (by zs k is)
+
+pub drop-next : {X : Type 0} (xs : List X) (k : ℕ) (x : X) (ys : List X) → drop k xs ≡ x ∷ ys → drop (k + 1) xs ≡ ys
+drop-next {X} xs k x ys is = rw add-one (by xs k is)
+  where
+    by : (xs : List X) (k : ℕ) → drop k xs ≡ x ∷ ys → drop (suc k) xs ≡ ys
+    by [] zero is = absurd (cc)
+    by [] (suc k) is = absurd (cc)
+    by (z ∷ zs) zero is = ap (λ o. drop 1 o) is
+    by (z ∷ zs) (suc k) is = by zs k is
+
+-- the bytes of the lines taken, one line on
+pub concat-next : (lines : List (List ℕ)) (k : ℕ) (line : List ℕ) (others : List (List ℕ)) (bytes rest after : List ℕ) → drop k lines ≡ line ∷ others → bytes ≡ concat (take k lines) ++ rest → rest ≡ line ++ after → bytes ≡ concat (take (k + 1) lines) ++ after
+concat-next lines k line others bytes rest after is cut first =
+    let taken : concat (take (k + 1) lines) ≡ concat (take k lines) ++ line = rw (take-next lines k line others is) (concat-append (take k lines) (line ∷ []) ∙ ap (λ o. concat (take k lines) ++ o) (append-nil line)) in
+    cut ∙ ap (λ o. concat (take k lines) ++ o) first ∙ sym (append_assoc (concat (take k lines)) line after) ∙ ap (λ o. o ++ after) (sym taken)
+
+-- one more that passes
+pub prefix_len-next : {X : Type 0} (p : X → Bool) (n k : ℕ) (rest : List X) (x : X) (others : List X) → n ≡ k + prefix_len p rest → rest ≡ x ∷ others → p x ≡ true → n ≡ k + 1 + prefix_len p others
+prefix_len-next p n k rest x others is first passes =
+    let step : prefix_len p rest ≡ 1 + prefix_len p others = rw (first, passes) refl in
+    omega (arith, is, step)
+
+-- behind the first that pass comes one that fails, or nothing
+pub prefix_len-after : {X : Type 0} (p : X → Bool) (xs : List X) → prefix_len p (drop (prefix_len p xs) xs) ≡ 0
+prefix_len-after p [] = refl
+prefix_len-after p (x ∷ xs) = by (p x) refl (prefix_len-after p xs)
+  where
+    by : (test : Bool) → p x ≡ test → prefix_len p (drop (prefix_len p xs) xs) ≡ 0 → prefix_len p (drop (prefix_len p (x ∷ xs)) (x ∷ xs)) ≡ 0
+    by true is others = rw (is, one-add) others
+    by false is others = rw (is, is) refl
+
+-- a list after a push that was refused or not
+pub pushed : {X A E : Type 0} (r : Result A E) (new old : List X) (x : X) → new ≡ (if is_ok r then old ++ x ∷ [] else old) → is_err r ≡ false → new ≡ old ++ x ∷ []
+pushed (Ok a) new old x is fine = is
+pushed (Err e) new old x is fine = absurd (cc)
+
+pub pushed-all : {X A E : Type 0} (P : X → Type 0) (r : Result A E) (new old : List X) (x : X) → new ≡ (if is_ok r then old ++ x ∷ [] else old) → All P old → P x → All P new
+pushed-all {X} P r new old x is olds one = let Q : List X → Type 0 = λ xs. All P xs in subst Q (sym is) (by r)
+  where
+    by : {A E : Type 0} (r : Result A E) → All P (if is_ok r then old ++ x ∷ [] else old)
+    by (Ok a) = All-push P old x olds one
+    by (Err e) = olds

@@ -1,0 +1,53 @@
+-- One section more.
+use Rattle.std.proofs.Common.{◌≡◌, ◌≢◌, ◌∷◌, [], ◌++◌, ◌+◌, ℕ, Bool, true, false, cond, rules, arith, sym, ◌∙◌, refl, ap, length, length-append, drop, map, Some, is_some, is_ok, All}
+use Rattle.std.proofs.lemmas.List.{map-append}
+use Rattle.std.specs.List.{prefix_len}
+use Rattle.std.proofs.lemmas.List.Elements.{All-push}
+use Rattle.ld_trace.specs.declared.source.Source.{Source}
+use Rattle.ld_trace.specs.declared.source.TheConstants.{MOST_TRACES}
+use Rattle.ld_trace.specs.Lines.{lines}
+use Rattle.ld_trace.specs.Sources.{Fits, fields_of, headers_before, is_other, label_of, opened_at, plain, section_at}
+use Rattle.ld_trace.proofs.SplitLemmas.{prefix_len-after, pushed, pushed-all}
+use Rattle.ld_trace.specs.Splitting.{given_from}
+use Rattle.ld_trace.proofs.SectionLemmas.{Opens, header-first, headers-section, left-section, faults-section, sections-section, section-is, label-word, neither}
+use Rattle.ld_trace.proofs.cut.split.Goals as goal
+
+pub loop-header-preserved : goal.loop-header-preserved
+loop-header-preserved c =
+    let all = lines c.args.bytes.now in
+    let k = c.loop-header.rest.line in
+    let m = c.body-body.result.count in
+    let number = c.loop-header.number in
+    let x = c.in-Some.header.now in
+    let others = lines c.in-Some.after.now in
+    let i = c.loop-header.invariant in
+    let body = c.body-body.ensures in
+    let is : drop k all ≡ x ∷ others = sym i.cut.left ∙ c.in-Some.ensures.first in
+    let opens : Opens all k m x others = record { is = is; header = header-first x others (ap (prefix_len is_other) (sym c.in-Some.ensures.first) ∙ i.cut.at_header); own = body.count } in
+    let labelled : label_of (fields_of x) ≡ Some c.in-Some-label.name.now = search rules in
+    let few : number ≢ MOST_TRACES = search rules in
+    let source : Source = record { number = number; name = c.in-Some-label.name; first_line = k + 2; bytes = c.body-body.result.bytes } in
+    let told : plain source ≡ section_at all k = section-is all k m number x others _ _ opens i.headers labelled body.bytes in
+    record {
+      cut = record {
+        left = body.rest ∙ left-section all k m x others opens;
+        faults = faults-section all k m number x others opens i.headers few (ap is_some labelled) i.cut.faults;
+        at_header = ap (prefix_len is_other) (body.rest ∙ ap (λ n. drop n others) body.count) ∙ prefix_len-after is_other others;
+      };
+      headers = headers-section all k m x others opens ∙ ap (λ n. n + 1) i.headers;
+      opened = λ h.
+          let both = neither c.loop-header.refused c.is_err-refused.result h in
+          ap (λ items. map plain items ++ given_from (opened_at all) all (k + 1 + m)) (pushed c.push.result _ _ source c.push.ensures.items (sym c.is_err-refused.ensures.value ∙ both.1))
+          ∙ ap (λ told. told ++ given_from (opened_at all) all (k + 1 + m)) (map-append plain c.loop-header.sources.items (source ∷ []))
+          ∙ sections-section all k m x others _ (plain source) opens told (i.opened both.0);
+      fit = pushed-all (λ s. Fits (plain s)) c.push.result _ _ source c.push.ensures.items i.fit (record {
+        number = omega (arith, few, i.few);
+        label = label-word (fields_of x) _ labelled;
+        first_line = omega arith;
+        last_line = omega (arith, ap length c.in-Some.ensures.whole, length-append x c.in-Some.after.now, c.in-Some.ensures.shorter, i.within, i.long);
+        bytes = omega (arith, ap length c.in-Some.ensures.whole, length-append x c.in-Some.after.now, body.own, i.within, i.long);
+      });
+      within = omega (arith, ap length c.in-Some.ensures.whole, length-append x c.in-Some.after.now, c.in-Some.ensures.shorter, body.within, i.within);
+      long = i.long;
+      few = omega (arith, few, i.few);
+    }

@@ -1,0 +1,21 @@
+-- The lines so far have no fault and open the sections so far; what is left begins with a header.
+use Rattle.std.proofs.Common.{◌≡◌, ◌+◌, ◌++◌, ◌≤◌, false, length, map, All}
+use Rattle.ld_trace.specs.declared.source.TheConstants.{LONGEST_STREAM, MOST_TRACES}
+use Rattle.ld_trace.specs.Lines.{lines}
+use Rattle.ld_trace.specs.Sources.{Fits, headers_before, opened_at, plain, sections}
+use Rattle.ld_trace.specs.Splitting.{IsCutAt, given_from}
+use Rattle.ld_trace.proofs.cut.split.Given as goal
+
+abbrev pub invariant-loop-header : goal.invariant-loop-header
+invariant-loop-header l = let all = lines l.bytes in record {
+  cut : IsCutAt all l.rest.line l.rest.bytes.now;
+  headers : headers_before all l.rest.line ≡ l.number;
+  opened : l.refused ≡ false → map plain l.sources.items ++ given_from (opened_at all) all l.rest.line ≡ sections all;
+  fit : All (λ source. Fits (plain source)) l.sources.items;
+  within : l.rest.line + length l.rest.bytes.now ≤ length l.bytes;
+  long : length l.bytes ≤ LONGEST_STREAM;
+  few : l.number ≤ MOST_TRACES;
+}
+
+abbrev pub decreases-loop-header : goal.decreases-loop-header
+decreases-loop-header l = length l.rest.bytes.now

@@ -1,0 +1,5 @@
+pub mod Lines
+pub mod Sources
+pub mod Events
+pub mod Reading
+pub mod Splitting

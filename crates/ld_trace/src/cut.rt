@@ -1,0 +1,152 @@
+//! Cuts a stream into its traces.
+ghost use Rattle.std.specs.Prelude.{◌≡◌, ◌+◌, ◌≤◌, All, Err, IfErr, IfOk, IfSome, None, OnErr, Some, drop, length, map, slice_get};
+ghost use Rattle.std.specs.List.{concat, prefix_len, take_while};
+ghost use Rattle.std.specs.Option.{option_map};
+ghost use Rattle.ld_trace.specs.Lines.{lines, says_nothing};
+ghost use Rattle.ld_trace.specs.Sources.{Fits, fields_of, headers_before, is_header, is_other, label_of, line_faults, opened_at, plain, sections, sources, stream_fault};
+ghost use Rattle.ld_trace.specs.Splitting.{IsCutAt, given_from};
+
+use crate::line::{begins_comment, is_word, next_field, next_line, text};
+use crate::source::{LONGEST_STREAM, MOST_TRACES, Source, StreamFault};
+use std::alloc::Global;
+
+/// Whether a line is a header, well formed or not.
+fn is_header(line: &[u8]) -> bool
+    ensures { result ≡ is_header line.now }
+{
+    match next_field(text(line)) {
+        Some((first, _)) => first == b"trace".as_slice(),
+        None => false,
+    }
+}
+
+/// Whether a line says nothing.
+fn says_nothing(line: &[u8]) -> bool
+    ensures { result ≡ says_nothing (fields_of line.now) }
+{
+    match next_field(text(line)) {
+        Some((first, _)) => begins_comment(first),
+        None => true,
+    }
+}
+
+/// The label of a header, where it is well formed.
+fn label(header: &[u8]) -> Option<&[u8]>
+    ensures { option_map (λ name. name.now) result ≡ label_of (fields_of header.now) }
+{
+    let (_, rest) = next_field(text(header))?;
+    let (name, rest) = next_field(rest)?;
+    match next_field(rest) {
+        None if is_word(name) => Some(name),
+        _ => None,
+    }
+}
+
+/// What is left of a stream behind some lines, and how many these are.
+#[derive(Clone, Copy)]
+struct Rest<'a> {
+    bytes: &'a [u8],
+    line: u64,
+}
+
+/// The lines before the first header. They have to say nothing.
+fn skip_preamble(bytes: &[u8]) -> Result<Rest<'_>, StreamFault>
+    ensures cut { IfOk result (λ rest. IsCutAt (lines bytes.now) rest.line rest.bytes.now) }
+    ensures no_header { IfOk result (λ rest. headers_before (lines bytes.now) rest.line ≡ 0) }
+    ensures no_section { IfOk result (λ rest. sections (lines bytes.now) ≡ given_from (opened_at (lines bytes.now)) (lines bytes.now) rest.line) }
+    ensures within { IfOk result (λ rest. rest.line + length rest.bytes.now ≤ length bytes.now) }
+    ensures fault { IfErr result (λ fault. slice_get (line_faults (lines bytes.now)) 0 ≡ Some fault) }
+{
+    let mut rest = bytes;
+    let mut count = 0;
+    while let Some((line, after)) = next_line(rest) {
+        if is_header(line) {
+            break;
+        }
+        count += 1;
+        if !says_nothing(line) {
+            return Err(StreamFault::NoHeader(count));
+        }
+        rest = after;
+    }
+    Ok(Rest {
+        bytes: rest,
+        line: count,
+    })
+}
+
+/// Some lines at the front of a stream, what stands after them, and how many they are.
+#[derive(Clone, Copy)]
+struct Front<'a> {
+    bytes: &'a [u8],
+    rest: &'a [u8],
+    count: u64,
+}
+
+/// The lines before the next header.
+fn body(bytes: &[u8]) -> Front<'_>
+    ensures bytes { result.bytes.now ≡ concat (take_while is_other (lines bytes.now)) }
+    ensures rest { lines result.rest.now ≡ drop result.count (lines bytes.now) }
+    ensures count { result.count ≡ prefix_len is_other (lines bytes.now) }
+    ensures within { result.count + length result.rest.now ≤ length bytes.now }
+    ensures own { length result.bytes.now ≤ length bytes.now }
+{
+    let mut rest = bytes;
+    let mut count = 0;
+    while let Some((line, after)) = next_line(rest) {
+        if is_header(line) {
+            break;
+        }
+        rest = after;
+        count += 1;
+    }
+    let (bytes, _) = bytes.split_at(bytes.len() - rest.len());
+    Front { bytes, rest, count }
+}
+
+/// The traces of a stream, in order, each as the section behind its header. Where the stream has a
+/// fault there are none, and the answer is that of the first line that has one; want of memory is
+/// answered only for a stream without fault.
+pub fn split<'a>(alloc: Global, bytes: &'a [u8]) -> Result<Vec<Source<'a>>, StreamFault>
+    ensures fault { IfSome (stream_fault bytes.entry.now) (λ fault. result ≡ Err fault) }
+    ensures memory { stream_fault bytes.entry.now ≡ None → OnErr result (result ≡ Err StreamFault.Memory) }
+    ensures sources { IfOk result (λ all. map plain all.items ≡ sources bytes.entry.now) }
+    ensures fit { IfOk result (λ all. All (λ source. Fits (plain source)) all.items) }
+{
+    if bytes.len() > LONGEST_STREAM {
+        return Err(StreamFault::TooLong);
+    }
+    let mut rest = skip_preamble(bytes)?;
+    let mut sources = Vec::new(alloc);
+    let mut number = 0;
+    let mut refused = false;
+    while let Some((header, after)) = next_line(rest.bytes) {
+        let Some(name) = label(header) else {
+            return Err(StreamFault::BadHeader(rest.line + 1));
+        };
+        if number == MOST_TRACES {
+            return Err(StreamFault::TooManyTraces);
+        }
+        let body = body(after);
+        let source = Source {
+            number,
+            name,
+            first_line: rest.line + 2,
+            bytes: body.bytes,
+        };
+        // A fault of a later line comes before want of memory.
+        refused |= sources.push(source).is_err();
+        number += 1;
+        rest = Rest {
+            bytes: body.rest,
+            line: rest.line + 1 + body.count,
+        };
+    }
+    if refused {
+        return Err(StreamFault::Memory);
+    }
+    Ok(sources)
+}
+
+#[cfg(test)]
+mod tests;

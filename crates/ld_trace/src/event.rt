@@ -1,0 +1,274 @@
+//! The event that a line names.
+ghost use Rattle.std.specs.Prelude.{◌≡◌, ◌≢◌, ◌<◌, ℕ, List, IfSome, IfNone, length};
+ghost use Rattle.std.specs.List.{position};
+ghost use Rattle.std.specs.Option.{option_map};
+ghost use Rattle.ld_trace.specs.Events.{PlainEvent, PlainLock, is_sign, lock_of, plain_lock, said_by, said_of_lock, said_of_state, seen, state_of};
+ghost use Rattle.ld_trace.specs.Lines.{fields};
+ghost use Rattle.ld_trace.specs.Reading.{both_now, pair_of, said_with_lock, said_with_state};
+
+use crate::line::{begins_comment, is_name, is_word, next_field};
+
+/// A lock: an instance of a class, or the one that has no instance's name.
+#[derive(Clone, Copy, Debug, PartialEq, Eq)]
+pub struct Lock<'a> {
+    pub class: &'a [u8],
+    pub instance: Option<&'a [u8]>,
+}
+
+/// What an interrupt handler is: of a hardware interrupt, or of a softirq.
+#[derive(Clone, Copy, Debug, PartialEq, Eq)]
+pub enum State {
+    Hard,
+    Soft,
+}
+
+/// What a task did.
+#[derive(Clone, Copy, Debug, PartialEq, Eq)]
+pub enum Event<'a> {
+    /// It acquires the lock, and may wait for it.
+    Acquire { task: &'a [u8], lock: Lock<'a> },
+    /// It acquires the lock by a trylock that succeeded, so it didn't wait.
+    Try { task: &'a [u8], lock: Lock<'a> },
+    /// It releases the lock.
+    Release { task: &'a [u8], lock: Lock<'a> },
+    /// An interrupt handler begins over it.
+    Enter { task: &'a [u8], state: State },
+    /// That handler ends.
+    Exit { task: &'a [u8], state: State },
+    /// Its flag for the state goes on.
+    Enable { task: &'a [u8], state: State },
+    /// Its flag for the state goes off.
+    Disable { task: &'a [u8], state: State },
+}
+
+/// What is wrong with a line by itself. Where several apply, it is the first.
+#[derive(Clone, Copy, Debug, PartialEq, Eq)]
+pub enum LineFault {
+    /// The first field is no verb.
+    BadVerb,
+    /// The fields aren't three.
+    BadCount,
+    /// The task or the lock isn't spelled as one.
+    BadName,
+    /// The state is neither `hard` nor `soft`.
+    BadState,
+}
+
+/// The event that a line names, `None` where the line says nothing, or what is wrong with it. The
+/// line comes without its end; a header is a `BadVerb` here.
+pub fn read_event(line: &[u8]) -> Result<Option<Event<'_>>, LineFault>
+    ensures { seen result ≡ said_by line.now }
+{
+    let Some((first, rest)) = next_field(line) else {
+        return Ok(None);
+    };
+    if begins_comment(first) {
+        return Ok(None);
+    }
+    match Verb::of(first) {
+        Some(verb) => verb.read(rest),
+        None => Err(LineFault::BadVerb),
+    }
+}
+
+/// What the first field of an event says.
+#[derive(Clone, Copy)]
+enum Verb {
+    OfLock(LockVerb),
+    OfState(StateVerb),
+}
+
+/// A verb that takes a task and a lock.
+#[derive(Clone, Copy)]
+enum LockVerb {
+    Acquire,
+    Try,
+    Release,
+}
+
+/// A verb that takes a task and a state.
+#[derive(Clone, Copy)]
+enum StateVerb {
+    Enter,
+    Exit,
+    Enable,
+    Disable,
+}
+
+impl Verb {
+    ghost use Rattle.ld_trace.specs.Reading.{said_after, spelling};
+
+    fn of(field: &[u8]) -> Option<Self>
+        ensures found { IfSome result (λ verb. field.now ≡ spelling verb) }
+        ensures none { IfNone result ((verb : Verb) → field.now ≢ spelling verb) }
+    {
+        match LockVerb::of(field) {
+            Some(verb) => Some(Verb::OfLock(verb)),
+            None => match StateVerb::of(field) {
+                Some(verb) => Some(Verb::OfState(verb)),
+                None => None,
+            },
+        }
+    }
+
+    /// What a line with this verb says, by the fields after it.
+    fn read(self, rest: &[u8]) -> Result<Option<Event<'_>>, LineFault>
+        ensures { seen result ≡ said_after self (fields rest.now) }
+    {
+        match self {
+            Verb::OfLock(verb) => verb.read(rest),
+            Verb::OfState(verb) => verb.read(rest),
+        }
+    }
+}
+
+impl LockVerb {
+    ghost use Rattle.ld_trace.specs.Reading.{said_after_lock_verb, spelling_of_lock_verb};
+
+    fn of(field: &[u8]) -> Option<Self>
+        ensures found { IfSome result (λ verb. field.now ≡ spelling_of_lock_verb verb) }
+        ensures none { IfNone result ((verb : LockVerb) → field.now ≢ spelling_of_lock_verb verb) }
+    {
+        if field == b"acquire".as_slice() {
+            Some(LockVerb::Acquire)
+        } else if field == b"try".as_slice() {
+            Some(LockVerb::Try)
+        } else if field == b"release".as_slice() {
+            Some(LockVerb::Release)
+        } else {
+            None
+        }
+    }
+
+    fn read(self, rest: &[u8]) -> Result<Option<Event<'_>>, LineFault>
+        ensures { seen result ≡ said_after_lock_verb self (fields rest.now) }
+    {
+        let (task, lock) = task_and_lock(rest)?;
+        match self {
+            LockVerb::Acquire => Ok(Some(Event::Acquire { task, lock })),
+            LockVerb::Try => Ok(Some(Event::Try { task, lock })),
+            LockVerb::Release => Ok(Some(Event::Release { task, lock })),
+        }
+    }
+}
+
+impl StateVerb {
+    ghost use Rattle.ld_trace.specs.Reading.{said_after_state_verb, spelling_of_state_verb};
+
+    fn of(field: &[u8]) -> Option<Self>
+        ensures found { IfSome result (λ verb. field.now ≡ spelling_of_state_verb verb) }
+        ensures none { IfNone result ((verb : StateVerb) → field.now ≢ spelling_of_state_verb verb) }
+    {
+        if field == b"enter".as_slice() {
+            Some(StateVerb::Enter)
+        } else if field == b"exit".as_slice() {
+            Some(StateVerb::Exit)
+        } else if field == b"enable".as_slice() {
+            Some(StateVerb::Enable)
+        } else if field == b"disable".as_slice() {
+            Some(StateVerb::Disable)
+        } else {
+            None
+        }
+    }
+
+    fn read(self, rest: &[u8]) -> Result<Option<Event<'_>>, LineFault>
+        ensures { seen result ≡ said_after_state_verb self (fields rest.now) }
+    {
+        let (task, state) = task_and_state(rest)?;
+        match self {
+            StateVerb::Enter => Ok(Some(Event::Enter { task, state })),
+            StateVerb::Exit => Ok(Some(Event::Exit { task, state })),
+            StateVerb::Enable => Ok(Some(Event::Enable { task, state })),
+            StateVerb::Disable => Ok(Some(Event::Disable { task, state })),
+        }
+    }
+}
+
+/// The task and the lock that stand after a verb.
+fn task_and_lock(rest: &[u8]) -> Result<(&[u8], Lock<'_>), LineFault>
+    ensures { (make : List ℕ → PlainLock → PlainEvent) → said_of_lock make (fields rest.now) ≡ said_with_lock make result }
+{
+    let Some((task, field)) = two_fields(rest) else {
+        return Err(LineFault::BadCount);
+    };
+    match read_lock(field) {
+        Some(lock) if is_word(task) => Ok((task, lock)),
+        _ => Err(LineFault::BadName),
+    }
+}
+
+/// The task and the state that stand after a verb.
+fn task_and_state(rest: &[u8]) -> Result<(&[u8], State), LineFault>
+    ensures { (make : List ℕ → State → PlainEvent) → said_of_state make (fields rest.now) ≡ said_with_state make result }
+{
+    let Some((task, field)) = two_fields(rest) else {
+        return Err(LineFault::BadCount);
+    };
+    if !is_word(task) {
+        return Err(LineFault::BadName);
+    }
+    match read_state(field) {
+        Some(state) => Ok((task, state)),
+        None => Err(LineFault::BadState),
+    }
+}
+
+/// The fields, where they are two.
+fn two_fields(rest: &[u8]) -> Option<(&[u8], &[u8])>
+    ensures { option_map both_now result ≡ pair_of (fields rest.now) }
+{
+    let (first, rest) = next_field(rest)?;
+    let (second, rest) = next_field(rest)?;
+    match next_field(rest) {
+        None => Some((first, second)),
+        Some(_) => None,
+    }
+}
+
+/// The lock that a field names: `CLASS` or `CLASS@INSTANCE`.
+fn read_lock(field: &[u8]) -> Option<Lock<'_>>
+    ensures { option_map plain_lock result ≡ lock_of field.now }
+{
+    if is_name(field) {
+        return Some(Lock {
+            class: field,
+            instance: None,
+        });
+    }
+    let sign = sign_at(field)?;
+    let class = &field[..sign];
+    let name = &field[sign + 1..];
+    if is_name(class) && is_name(name) {
+        Some(Lock {
+            class,
+            instance: Some(name),
+        })
+    } else {
+        None
+    }
+}
+
+/// The place of the first `@`.
+fn sign_at(field: &[u8]) -> Option<usize>
+    ensures first { result ≡ position is_sign field.now }
+    ensures within { IfSome result (λ place. place < length field.now) }
+{
+    field.iter().position(|byte| *byte == b'@')
+}
+
+/// The state that a field names.
+fn read_state(field: &[u8]) -> Option<State>
+    ensures { result ≡ state_of field.now }
+{
+    if field == b"hard".as_slice() {
+        Some(State::Hard)
+    } else if field == b"soft".as_slice() {
+        Some(State::Soft)
+    } else {
+        None
+    }
+}
+
+#[cfg(test)]
+mod tests;
