@@ -1,0 +1,152 @@
+//! `Classes`, which numbers names.
+ghost use Rattle.std.specs.Prelude.{◌≡◌, ◌<◌, ◌≤◌, ◌↔◌, ℕ, [], length, take};
+ghost use Rattle.std.specs.Prelude.{slice_index_or, IfOk, OnOk, OnErr};
+ghost use Rattle.ld_class.specs.Names.{place_of, with_name, IsNameAt, AreDistinct};
+
+use indexmap::IndexSet;
+use std::alloc::{AllocError, Global};
+use std::marker::Model;
+
+/// The most names that a `Classes` holds: more than a whole stream of traces can have, and few
+/// enough that each place fits a `u32`.
+pub const MAX_NAMES: usize = 1 << 30;
+
+/// Distinct names in the order in which each was first interned. A name's place in that order,
+/// counted from 0, is its number.
+///
+/// The names are borrowed: no byte of them is copied.
+#[derive(Drop)]
+pub struct Classes<'a> {
+    names: IndexSet<&'a [u8]>,
+}
+
+impl<'a> Model for Classes<'a> {
+    ghost use Rattle.std.specs.Prelude.{ℕ, List, ◌≤◌, length, map};
+    ghost use Rattle.ld_class.specs.Names.{AreDistinct};
+    ghost use Rattle.ld_class.specs.declared.names.TheConstants.{MAX_NAMES};
+
+    ghost Value = { List (List ℕ) };
+
+    ghost view = { λ c. map (λ name. name.now) c.names.keys };
+
+    ghost invariant = { λ c. (length c.names.keys ≤ MAX_NAMES)
+        × AreDistinct (map (λ name. name.now) c.names.keys) };
+}
+
+impl<'a> Classes<'a> {
+    /// No names. It takes no memory until the first one is interned.
+    pub fn new(alloc: Global) -> Classes<'a>
+        ensures { result ≡ [] }
+    {
+        Classes {
+            names: IndexSet::new(alloc),
+        }
+    }
+
+    /// The number of names.
+    pub fn len(&self) -> usize
+        ensures len { result ≡ length self.now }
+        ensures bounded { length self.now ≤ MAX_NAMES }
+        ensures distinct { AreDistinct self.now }
+    {
+        self.names.len()
+    }
+
+    /// The place of `name`, which is put last where it is new.
+    ///
+    /// `AllocError` where it is new and the memory for it was refused. A name that is there takes
+    /// no memory.
+    pub fn intern(&mut self, name: &'a [u8]) -> Result<u32, AllocError>
+        requires { length self.old < MAX_NAMES }
+
+        // A name that is there is never refused.
+        ensures known { (id : ℕ) → place_of self.old name.entry.now ≡ Some id → result ≡ Ok id }
+        ensures added { place_of self.old name.entry.now ≡ None
+            → IfOk result (λ id. id ≡ length self.old) }
+
+        ensures names { OnOk result (self.new ≡ with_name self.old name.entry.now) }
+        ensures refused { OnErr result (self.new ≡ self.old) }
+
+        // In either case the answer is the place of that name, and no place loses its name.
+        ensures place { IfOk result (λ id. IsNameAt self.new id name.entry.now) }
+        ensures kept { (id : ℕ) → id < length self.old
+            → IsNameAt self.new id (slice_index_or self.old id []) }
+    {
+        let (place, _) = self.names.insert_full(name)?;
+        Ok(place as u32)
+    }
+
+    /// The place of `name`, or `None` where it is not there.
+    pub fn find(&self, name: &[u8]) -> Option<u32>
+        ensures place { result ≡ place_of self.now name.now }
+        ensures exact { (id : ℕ) → (result ≡ Some id) ↔ IsNameAt self.now id name.now }
+    {
+        let place = self.names.get_index_of(&name)?;
+        Some(place as u32)
+    }
+
+    /// The name at the place `id`.
+    pub fn name(&self, id: u32) -> &'a [u8]
+        requires { id < length self.now }
+        ensures name { result.now ≡ slice_index_or self.now id [] }
+        ensures place { place_of self.now result.now ≡ Some id }
+    {
+        self.names.as_slice()[id as usize]
+    }
+
+    /// Keeps the first `n` names, or all where there are no more. The memory stays for later ones.
+    pub fn cut(&mut self, n: usize)
+        ensures { self.new ≡ take n self.old }
+    {
+        self.names.truncate(n);
+    }
+}
+
+#[cfg(test)]
+mod tests {
+    use super::*;
+    use std::test::Fail;
+
+    #[test]
+    fn numbers_names_in_order_of_first_insertion(rt: HostRuntime) -> Result<(), Fail> {
+        let mut classes = Classes::new(rt.alloc());
+        assert_eq!(rt; classes.intern(b"B")?, 0);
+        assert_eq!(rt; classes.intern(b"A")?, 1);
+        assert_eq!(rt; classes.intern(b"B")?, 0);
+        assert_eq!(rt; classes.len(), 2);
+        assert_eq!(rt; classes.name(1), b"A".as_slice());
+        assert_eq!(rt; classes.find(b"A"), Some(1));
+        assert_eq!(rt; classes.find(b"C"), None);
+        classes.cut(1);
+        assert_eq!(rt; classes.find(b"A"), None);
+        assert_eq!(rt; classes.intern(b"C")?, 1);
+        Ok(())
+    }
+
+    // Under `rt try --test --fail-alloc N`, for N from 1 to 24, one allocation of one growth is
+    // refused: the answers are then as before, and the call made again answers `Ok`.
+    #[test]
+    fn a_refused_growth_changes_nothing(rt: HostRuntime) -> Result<(), Fail> {
+        // Names of 1 to 200 bytes, for which the set grows six times.
+        let text = [b'x'; 200];
+        let mut classes = Classes::new(rt.alloc());
+        for id in 0..200u32 {
+            let name = &text[..=id as usize];
+            assert!(rt; classes.len() < MAX_NAMES);
+            let mut answer = classes.intern(name);
+            if answer.is_err() {
+                assert_eq!(rt; classes.find(name), None);
+                assert_eq!(rt; classes.len(), id as usize);
+                for known in 0..id {
+                    let known_name = &text[..=known as usize];
+                    assert_eq!(rt; classes.find(known_name), Some(known));
+                    assert_eq!(rt; classes.name(known), known_name);
+                }
+                answer = classes.intern(name);
+            }
+            assert_eq!(rt; answer?, id);
+        }
+        assert_eq!(rt; classes.len(), 200);
+        Ok(())
+    }
+}
