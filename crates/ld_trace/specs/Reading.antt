@@ -1,4 +1,5 @@
--- The parts of a line, as the functions of the reader see them.
+-- The parts of a line, as the functions of the reader see them. No public contract cites this
+-- file.
 use Rattle.std.specs.Prelude.{ℕ, List, [], ◌∷◌, Option, Some, None, Result, Ok, Err, codes}
 use Rattle.std.specs.Borrow.{Bor}
 use Rattle.ld_trace.specs.declared.event.Lock.{Lock}

@@ -1,5 +1,5 @@
 -- The sections of a stream, and its fault.
-use Rattle.std.specs.Prelude.{◌≡◌, ℕ, ◌+◌, ◌≤◌, Bool, true, false, not, ◌==◌, nat_lt, List, [], ◌∷◌, length, take, drop, count_by, slice_get, slice_index_or, Option, Some, None, is_some, unwrap_or, if◌then◌else◌, codes, IsTrue}
+use Rattle.std.specs.Prelude.{◌≡◌, ℕ, ◌+◌, ◌<◌, ◌≤◌, Bool, true, false, not, ◌==◌, nat_lt, List, [], ◌∷◌, length, take, drop, count_by, slice_get, slice_index_or, Option, Some, None, is_some, unwrap_or, if◌then◌else◌, codes, IsTrue}
 use Rattle.std.specs.List.{concat, filter_map, enumerate_from, take_while}
 use Rattle.std.specs.Str.{bytes_eq}
 use Rattle.ld_trace.specs.declared.source.Source.{Source}
@@ -37,7 +37,7 @@ fields_of line = fields (text_of line)
 abbrev pub is_header : List ℕ → Bool
 is_header line = begins_trace (fields_of line)
 
--- what belongs to the section before it
+-- a line that is no header
 abbrev pub is_other : List ℕ → Bool
 is_other line = not (is_header line)
 
@@ -46,7 +46,8 @@ abbrev pub headers_before : List (List ℕ) → ℕ → ℕ
 headers_before all i = count_by is_header (take i all)
 
 -- The section that the header at place i opens, where places count from 0 and lines from 1: it ends
--- before the next header or at the end of the lines.
+-- before the next header or at the end of the lines. (Behind a header that isn't well formed the label
+-- is empty; the stream has a fault then.)
 abbrev pub section_at : List (List ℕ) → ℕ → PlainSource
 section_at all i = record {
   number = headers_before all i;
@@ -87,8 +88,8 @@ stream_fault bytes = if nat_lt LONGEST_STREAM (length bytes) then Some TooLong e
 
 -- what each source of a stream meets
 pub record Fits (source : PlainSource) : Type 0 where
-  pub number : source.number + 1 ≤ MOST_TRACES
+  pub number : source.number < MOST_TRACES
   pub label : IsTrue (is_word source.label)
-  pub first_line : 2 ≤ source.first_line
-  pub last_line : source.first_line ≤ LONGEST_STREAM + 1
+  pub from_line : 2 ≤ source.first_line
+  pub to_line : source.first_line ≤ LONGEST_STREAM + 1
   pub bytes : length source.bytes ≤ LONGEST_STREAM

@@ -1,4 +1,5 @@
--- What is left of a stream's lines, as the functions that cut it see it.
+-- What is left of a stream's lines, as the functions that cut it see it. No public contract cites this
+-- file.
 use Rattle.std.specs.Prelude.{◌≡◌, ℕ, ◌+◌, List, drop, Option}
 use Rattle.std.specs.List.{filter_map, enumerate_from, prefix_len}
 use Rattle.ld_trace.specs.declared.source.StreamFault.{StreamFault}

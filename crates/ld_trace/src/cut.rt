@@ -53,9 +53,11 @@ struct Rest<'a> {
 fn skip_preamble(bytes: &[u8]) -> Result<Rest<'_>, StreamFault>
     ensures cut { IfOk result (λ rest. IsCutAt (lines bytes.now) rest.line rest.bytes.now) }
     ensures no_header { IfOk result (λ rest. headers_before (lines bytes.now) rest.line ≡ 0) }
-    ensures no_section { IfOk result (λ rest. sections (lines bytes.now) ≡ given_from (opened_at (lines bytes.now)) (lines bytes.now) rest.line) }
+    ensures no_section { IfOk result (λ rest. let all = lines bytes.now in
+        sections all ≡ given_from (opened_at all) all rest.line) }
     ensures within { IfOk result (λ rest. rest.line + length rest.bytes.now ≤ length bytes.now) }
-    ensures fault { IfErr result (λ fault. slice_get (line_faults (lines bytes.now)) 0 ≡ Some fault) }
+    ensures fault { IfErr result (λ fault.
+        slice_get (line_faults (lines bytes.now)) 0 ≡ Some fault) }
 {
     let mut rest = bytes;
     let mut count = 0;
@@ -105,11 +107,12 @@ fn body(bytes: &[u8]) -> Front<'_>
 }
 
 /// The traces of a stream, in order, each as the section behind its header. Where the stream has a
-/// fault there are none, and the answer is that of the first line that has one; want of memory is
-/// answered only for a stream without fault.
+/// fault there are none, and the fault is `TooLong`, or else that of the first line that has one.
+/// Want of memory is answered only for a stream without fault.
 pub fn split<'a>(alloc: Global, bytes: &'a [u8]) -> Result<Vec<Source<'a>>, StreamFault>
     ensures fault { IfSome (stream_fault bytes.entry.now) (λ fault. result ≡ Err fault) }
-    ensures memory { stream_fault bytes.entry.now ≡ None → OnErr result (result ≡ Err StreamFault.Memory) }
+    ensures memory { stream_fault bytes.entry.now ≡ None →
+        OnErr result (result ≡ Err StreamFault.Memory) }
     ensures sources { IfOk result (λ all. map plain all.items ≡ sources bytes.entry.now) }
     ensures fit { IfOk result (λ all. All (λ source. Fits (plain source)) all.items) }
 {

@@ -187,7 +187,8 @@ impl StateVerb {
 
 /// The task and the lock that stand after a verb.
 fn task_and_lock(rest: &[u8]) -> Result<(&[u8], Lock<'_>), LineFault>
-    ensures { (make : List ℕ → PlainLock → PlainEvent) → said_of_lock make (fields rest.now) ≡ said_with_lock make result }
+    ensures { (make : List ℕ → PlainLock → PlainEvent) →
+        said_of_lock make (fields rest.now) ≡ said_with_lock make result }
 {
     let Some((task, field)) = two_fields(rest) else {
         return Err(LineFault::BadCount);
@@ -200,7 +201,8 @@ fn task_and_lock(rest: &[u8]) -> Result<(&[u8], Lock<'_>), LineFault>
 
 /// The task and the state that stand after a verb.
 fn task_and_state(rest: &[u8]) -> Result<(&[u8], State), LineFault>
-    ensures { (make : List ℕ → State → PlainEvent) → said_of_state make (fields rest.now) ≡ said_with_state make result }
+    ensures { (make : List ℕ → State → PlainEvent) →
+        said_of_state make (fields rest.now) ≡ said_with_state make result }
 {
     let Some((task, field)) = two_fields(rest) else {
         return Err(LineFault::BadCount);

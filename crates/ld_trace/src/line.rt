@@ -12,9 +12,11 @@ pub const LONGEST_WORD: usize = 64;
 /// Cuts the first line off, and gives it with the LF that ends it, and what follows; `None` where
 /// there is no byte.
 pub fn next_line(bytes: &[u8]) -> Option<(&[u8], &[u8])>
-    ensures first { MatchOption result (bytes.now ≡ []) (λ cut. lines bytes.now ≡ cut.0.now ∷ lines cut.1.now) }
-    ensures whole { MatchOption result (bytes.now ≡ []) (λ cut. bytes.now ≡ cut.0.now ++ cut.1.now) }
-    ensures shorter { IfSome result (λ cut. 0 < length cut.0.now) }
+    ensures first { MatchOption result (bytes.now ≡ []) (λ cut.
+        lines bytes.now ≡ cut.0.now ∷ lines cut.1.now) }
+    ensures whole { MatchOption result (bytes.now ≡ []) (λ cut.
+        bytes.now ≡ cut.0.now ++ cut.1.now) }
+    ensures nonempty { IfSome result (λ cut. 0 < length cut.0.now) }
 {
     if bytes.is_empty() {
         return None;
@@ -66,7 +68,8 @@ fn run_len(text: &[u8]) -> usize
 
 /// Cuts the first field off, and gives it and what follows; `None` where there is no field.
 pub fn next_field(text: &[u8]) -> Option<(&[u8], &[u8])>
-    ensures { MatchOption result (fields text.now ≡ []) (λ cut. fields text.now ≡ cut.0.now ∷ fields cut.1.now) }
+    ensures { MatchOption result (fields text.now ≡ []) (λ cut.
+        fields text.now ≡ cut.0.now ∷ fields cut.1.now) }
 {
     let text = skip_blanks(text);
     if text.is_empty() {

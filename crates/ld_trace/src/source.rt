@@ -7,6 +7,9 @@ use thiserror::Error;
 /// How many bytes a stream has at most.
 pub const LONGEST_STREAM: usize = 2_147_483_648;
 
+// No stream so long is tried by a test.
+const _: () = prove!(LONGEST_STREAM == 1 << 31);
+
 /// How many traces a stream has at most.
 pub const MOST_TRACES: u64 = 65_535;
 

@@ -19,5 +19,5 @@ loop-line-preserved c =
       cut = concat-next all count line others _ _ _ left c.loop-line.invariant.cut whole;
       left = sym (drop-next all count line others left);
       others = prefix_len-next is_other _ count _ line others c.loop-line.invariant.others c.in-Some.ensures.first other;
-      within = omega (arith, ap length whole, length-append line c.in-Some.after.now, c.in-Some.ensures.shorter, c.loop-line.invariant.within);
+      within = omega (arith, ap length whole, length-append line c.in-Some.after.now, c.in-Some.ensures.nonempty, c.loop-line.invariant.within);
     }

@@ -43,11 +43,11 @@ loop-header-preserved c =
       fit = pushed-all (λ s. Fits (plain s)) c.push.result _ _ source c.push.ensures.items i.fit (record {
         number = omega (arith, few, i.few);
         label = label-word (fields_of x) _ labelled;
-        first_line = omega arith;
-        last_line = omega (arith, ap length c.in-Some.ensures.whole, length-append x c.in-Some.after.now, c.in-Some.ensures.shorter, i.within, i.long);
+        from_line = omega arith;
+        to_line = omega (arith, ap length c.in-Some.ensures.whole, length-append x c.in-Some.after.now, c.in-Some.ensures.nonempty, i.within, i.long);
         bytes = omega (arith, ap length c.in-Some.ensures.whole, length-append x c.in-Some.after.now, body.own, i.within, i.long);
       });
-      within = omega (arith, ap length c.in-Some.ensures.whole, length-append x c.in-Some.after.now, c.in-Some.ensures.shorter, body.within, i.within);
+      within = omega (arith, ap length c.in-Some.ensures.whole, length-append x c.in-Some.after.now, c.in-Some.ensures.nonempty, body.within, i.within);
       long = i.long;
       few = omega (arith, few, i.few);
     }
