@@ -1,3 +1,4 @@
 pub mod Mapped
 pub mod NameLemmas
 pub mod Shown
+pub mod UsageLemmas

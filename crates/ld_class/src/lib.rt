@@ -1,6 +1,9 @@
-//! The names of lock classes and of tasks, numbered in order of their first use.
+//! The names of lock classes and of tasks, numbered in order of their first use, and the usage of a
+//! class.
 #![tactic(auto)]
 
 mod names;
+mod usage;
 
 pub use names::{Classes, MAX_NAMES};
+pub use usage::Usage;

@@ -1,7 +1,7 @@
 -- The first field of a line, by the blanks before it and the first blank after it.
-use Rattle.std.proofs.Common.{ℕ, zero, suc, ◌≡◌, ◌+◌, ◌<◌, ◌≤◌, Bool, true, false, not, cond, List, [], ◌∷◌, length, take, drop, refl, sym, ◌∙◌, ap, arith, get_or}
+use Rattle.std.proofs.Common.{ℕ, ◌≡◌, ◌<◌, Bool, true, false, not, List, [], ◌∷◌, length, take, drop, refl, ap, arith}
 use Rattle.std.proofs.Math.Numerals.{one-add}
-use Rattle.std.specs.List.{filter, prefix_len, position_or_len, slice_split, onto_first}
+use Rattle.std.specs.List.{filter, prefix_len, position_or_len, slice_split}
 use Rattle.ld_trace.specs.Lines.{is_blank, is_empty, fields}
 
 -- a blank before a field belongs to none

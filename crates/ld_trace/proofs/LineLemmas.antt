@@ -1,5 +1,5 @@
 -- The first line of some bytes, by the first LF.
-use Rattle.std.proofs.Common.{ℕ, zero, suc, ◌≡◌, ◌+◌, ◌<◌, ◌≤◌, Bool, true, false, cond, List, [], ◌∷◌, length, take, drop, refl, sym, ◌∙◌, ap, arith, get_or, Option, Some, None}
+use Rattle.std.proofs.Common.{ℕ, zero, suc, ◌≡◌, ◌<◌, Bool, true, false, List, [], ◌∷◌, length, take, drop, refl, ap, arith}
 use Rattle.std.specs.List.{onto_first}
 use Rattle.memchr.specs.Find.{is_byte, Passes, Nowhere}
 use Rattle.ld_trace.specs.Lines.{lines}

@@ -1,14 +1,12 @@
 -- Faults and sections of lines, a line or some lines further on.
-use Rattle.std.proofs.Common.{ℕ, zero, suc, ◌≡◌, ◌+◌, ◌<◌, ◌≤◌, ◌||◌, Bool, true, false, not, cond, List, [], ◌∷◌, ◌++◌, length, take, drop, refl, sym, ◌∙◌, ap, arith, rules, get_or, add-one, append_assoc, append-nil, Option, None, Some, codes, ⊎_elim, eqb}
+use Rattle.std.proofs.Common.{ℕ, zero, suc, ◌≡◌, ◌+◌, ◌<◌, ◌≤◌, ◌||◌, Bool, true, false, not, cond, List, [], ◌∷◌, ◌++◌, length, take, drop, refl, sym, ◌∙◌, ap, arith, get_or, append_assoc, Option, None, Some, codes, ⊎_elim, eqb}
 use Rattle.std.proofs.Math.Numerals.{one-add}
-use Rattle.std.specs.Prelude.{count_by, slice_get, is_some, unwrap_or, IsTrue, ◌==◌}
-use Rattle.std.specs.List.{concat, prefix_len, take_while, filter_map, cons_option, enumerate_from}
-use Rattle.std.specs.Str.{bytes_eq}
+use Rattle.std.specs.Prelude.{is_some, unwrap_or, IsTrue, ◌==◌}
+use Rattle.std.specs.List.{concat, prefix_len, take_while, cons_option}
 use Rattle.std.proofs.lemmas.List.{drop-drop, get_or-drop, length-drop}
 use Rattle.std.proofs.lemmas.List.Sums.{prefix_len_passes, prefix_len-le-length, sum_by-append}
 use Rattle.std.proofs.lemmas.Bool.Decides.{eqb_tells}
 use Rattle.std.proofs.lemmas.Slice.Eq.{bytes_eq-Decides}
-use Rattle.ld_trace.specs.declared.source.StreamFault.{StreamFault}
 use Rattle.ld_trace.specs.declared.source.TheConstants.{MOST_TRACES}
 use Rattle.ld_trace.specs.Lines.{is_word, says_nothing}
 use Rattle.ld_trace.specs.Sources.{PlainSource, begins_trace, fault_at, fields_of, headers_before, is_header, is_other, label_of, line_faults, opened_at, section_at, sections}

@@ -1,10 +1,9 @@
 -- What is left of a stream's lines, as the functions that cut it see it. No public contract cites this
 -- file.
-use Rattle.std.specs.Prelude.{◌≡◌, ℕ, ◌+◌, List, drop, Option}
+use Rattle.std.specs.Prelude.{◌≡◌, ℕ, List, drop, Option}
 use Rattle.std.specs.List.{filter_map, enumerate_from, prefix_len}
-use Rattle.ld_trace.specs.declared.source.StreamFault.{StreamFault}
 use Rattle.ld_trace.specs.Lines.{lines}
-use Rattle.ld_trace.specs.Sources.{PlainSource, fault_at, headers_before, is_other, line_faults, opened_at, sections}
+use Rattle.ld_trace.specs.Sources.{fault_at, is_other, line_faults}
 
 -- what the lines from place k on give, each with its place
 abbrev pub given_from : {Y : Type 0} → (ℕ → List ℕ → Option Y) → List (List ℕ) → ℕ → List Y

@@ -48,13 +48,6 @@ fn events_are_read(rt: HostRuntime) {
         }
         _ => assert!(rt; false, "it is a try"),
     }
-    match read_event(b"exit t soft") {
-        Ok(Some(Event::Exit { task, state })) => {
-            assert!(rt; task == b"t".as_slice());
-            assert!(rt; state == State::Soft);
-        }
-        _ => assert!(rt; false, "it is an exit"),
-    }
 }
 
 #[test]
@@ -70,9 +63,10 @@ fn the_first_fault_of_a_line_is_told(rt: HostRuntime) -> Result<(), Fail> {
     assert!(rt; refuses(b"acquire t @1", LineFault::BadName));
     assert!(rt; refuses(b"acquire t A@1@2", LineFault::BadName));
     assert!(rt; refuses(b"acquire t A/1", LineFault::BadName));
-    assert!(rt; refuses(b"enter t nmi", LineFault::BadState));
+    assert!(rt; refuses(b"exit t soft", LineFault::BadVerb));
+    assert!(rt; refuses(b"enter t nmi", LineFault::BadVerb));
     let task = with_letters(rt.alloc(), b"enter ", 65, b" nmi")?;
-    assert!(rt; refuses(task.as_slice(), LineFault::BadName));
+    assert!(rt; refuses(task.as_slice(), LineFault::BadVerb));
     Ok(())
 }
 

@@ -1,9 +1,8 @@
 -- One line that is no header is one more of the section.
-use Rattle.std.proofs.Common.{◌≡◌, ◌∷◌, true, rules, arith, sym, ◌∙◌, refl, ap, length, length-append, drop}
-use Rattle.std.specs.List.{prefix_len}
+use Rattle.std.proofs.Common.{◌≡◌, ◌∷◌, true, arith, sym, ◌∙◌, refl, ap, length, length-append, drop}
 use Rattle.ld_trace.specs.Lines.{lines}
 use Rattle.ld_trace.specs.Sources.{is_other}
-use Rattle.ld_trace.proofs.SplitLemmas.{take-next, drop-next, concat-next, prefix_len-next}
+use Rattle.ld_trace.proofs.SplitLemmas.{drop-next, concat-next, prefix_len-next}
 use Rattle.ld_trace.proofs.cut.body.Goals as goal
 
 pub loop-line-preserved : goal.loop-line-preserved

@@ -1,12 +1,11 @@
 -- One section more.
-use Rattle.std.proofs.Common.{◌≡◌, ◌≢◌, ◌∷◌, [], ◌++◌, ◌+◌, ℕ, Bool, true, false, cond, rules, arith, sym, ◌∙◌, refl, ap, length, length-append, drop, map, Some, is_some, is_ok, All}
+use Rattle.std.proofs.Common.{◌≡◌, ◌≢◌, ◌∷◌, [], ◌++◌, ◌+◌, rules, arith, sym, ◌∙◌, ap, length, length-append, drop, map, Some, is_some}
 use Rattle.std.proofs.lemmas.List.{map-append}
 use Rattle.std.specs.List.{prefix_len}
-use Rattle.std.proofs.lemmas.List.Elements.{All-push}
 use Rattle.ld_trace.specs.declared.source.Source.{Source}
 use Rattle.ld_trace.specs.declared.source.TheConstants.{MOST_TRACES}
 use Rattle.ld_trace.specs.Lines.{lines}
-use Rattle.ld_trace.specs.Sources.{Fits, fields_of, headers_before, is_other, label_of, opened_at, plain, section_at}
+use Rattle.ld_trace.specs.Sources.{Fits, fields_of, is_other, label_of, opened_at, plain, section_at}
 use Rattle.ld_trace.proofs.SplitLemmas.{prefix_len-after, pushed, pushed-all}
 use Rattle.ld_trace.specs.Splitting.{given_from}
 use Rattle.ld_trace.proofs.SectionLemmas.{Opens, header-first, headers-section, left-section, faults-section, sections-section, section-is, label-word, neither}

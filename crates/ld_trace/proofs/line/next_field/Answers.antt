@@ -1,5 +1,5 @@
 -- The first field stands between the blanks at the front and the first blank after them.
-use Rattle.std.proofs.Common.{◌≡◌, ◌∷◌, ◌∙◌, rules, arith}
+use Rattle.std.proofs.Common.{◌∙◌, rules}
 use Rattle.ld_trace.proofs.FieldLemmas.{fields-run, fields-empty}
 use Rattle.ld_trace.proofs.line.next_field.Goals as goal
 

@@ -1,5 +1,5 @@
 -- The first line ends at the first LF, or is all of the bytes.
-use Rattle.std.proofs.Common.{◌≡◌, ◌∷◌, rules, arith, add-one}
+use Rattle.std.proofs.Common.{rules, add-one}
 use Rattle.ld_trace.proofs.LineLemmas.{lines-cut, lines-one}
 use Rattle.ld_trace.proofs.line.next_line.Goals as goal
 

@@ -1,5 +1,4 @@
 -- No blank belongs to a field.
-use Rattle.std.proofs.Common.{◌≡◌, rules}
 use Rattle.ld_trace.proofs.FieldLemmas.{fields-blanks}
 use Rattle.ld_trace.proofs.SplitLemmas.{prefix_len-after}
 use Rattle.ld_trace.specs.Lines.{is_blank}
