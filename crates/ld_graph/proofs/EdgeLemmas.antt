@@ -1,0 +1,230 @@
+-- An edge in a list, as tests find it.
+use Rattle.std.proofs.Common.{◌≡◌, ◌≢◌, ◌⊎◌, inl, inr, ◌++◌, set, if◌then◌else◌, ℕ, ◌<◌, ◌≤◌, Bool}
+use Rattle.std.proofs.Common.{true, false, true≢false, ◌&&◌, nat_eq, List, [], ◌∷◌, length, get_or}
+use Rattle.std.proofs.Common.{slice_get, position, Option, Some, None, arith, refl, sym, ap, subst}
+use Rattle.std.proofs.Common.{◌∙◌, Contains, is_some, ◌↔◌}
+use Rattle.std.specs.List.{list_any, IsDistinct}
+use Rattle.std.proofs.lemmas.Map.Keys.{apart_from_distinct}
+use Rattle.std.proofs.lemmas.List.{get_or_append_left, get_or_push, get_or_past, get_or-set_same}
+use Rattle.std.proofs.lemmas.List.{get_or-set_other, length_push}
+use Rattle.std.proofs.lemmas.List.Elements.{Contains-append_left, Contains-push}
+use Rattle.std.proofs.lemmas.List.Elements.{Contains-push_cases}
+use Rattle.std.proofs.lemmas.Bool.{cases_eq, cases_lt, eqb-true, eq-eqb}
+use Rattle.std.proofs.lemmas.List.Quantifiers.{position-Some}
+use Rattle.std.proofs.lemmas.Option.{slice_get-get_or, get_or_from_slice_get}
+use Rattle.indexmap.proofs.CallerLemmas.{Contains-list_any}
+use Rattle.ld_graph.specs.declared.Edge.{Edge}
+use Rattle.ld_graph.specs.Edges.{edge, IsEdge, IsFirstPlace}
+use Rattle.ld_graph.specs.Walks.{HasWalk, DistanceIs}
+use Rattle.ld_graph.specs.Neighbours.{list_at, IsNear}
+use Rattle.ld_graph.proofs.WalkLemmas.{HasWalk-turned, DistanceIs-same}
+use Rattle.indexmap.specs.IndexSet.{insert_key}
+
+-- what `==` computes
+abbrev pub same_edge : Edge → Edge → Bool
+same_edge x y = nat_eq x.from y.from && nat_eq x.to y.to
+
+two_true : (p q : Bool) → (p && q) ≡ true → (p ≡ true) × (q ≡ true)
+two_true true q e = (refl, e)
+two_true false q e = absurd (true≢false (sym e))
+
+pub same_edge-≡ : (x y : Edge) → same_edge x y ≡ true → x ≡ y
+same_edge-≡ x y e =
+    let h = two_true (nat_eq x.from y.from) (nat_eq x.to y.to) e in
+    ap (λ f. edge f x.to) (eqb-true x.from y.from h.0) ∙ ap (λ t. edge y.from t) (eqb-true x.to y.to
+    h.1)
+
+pub same_edge-refl : (x : Edge) → same_edge x x ≡ true
+same_edge-refl x = ap (λ b. b && nat_eq x.to x.to) (eq-eqb x.from x.from refl)
+    ∙ eq-eqb x.to x.to refl
+
+pub IsEdge-found : (edges : List Edge) (a b : ℕ) → list_any (same_edge (edge a b)) edges ≡ true
+    → IsEdge edges a b
+IsEdge-found edges a b e = Contains-list_any same_edge same_edge-≡ edges (edge a b) e
+
+pub IsFirstPlace-position : (edges : List Edge) (a b i : ℕ)
+    → position (same_edge (edge a b)) edges ≡ Some i → IsFirstPlace edges a b i
+IsFirstPlace-position edges a b i e =
+    let h = position-Some (same_edge (edge a b)) edges i (edge a b) e in
+    record {
+      there = slice_get-get_or edges i (edge a b) h.0 ∙ ap (λ x. Some x) (sym (same_edge-≡ (edge a
+          b) (get_or edges i (edge a b)) h.1));
+      first = λ j l f.
+          let g = get_or_from_slice_get edges j (edge a b) (edge a b) f in
+          true≢false (sym (same_edge-refl (edge a b)) ∙ ap (λ x. same_edge (edge a b) x) (sym g)
+          ∙ h.2 j l);
+    }
+
+-- the edges of a list with one more
+pub IsEdge-push : (edges : List Edge) (a b x y : ℕ) → IsEdge (edges ++ edge a b ∷ []) x y
+    → IsEdge edges x y ⊎ ((a ≡ x) × (b ≡ y))
+IsEdge-push edges a b x y h = by (Contains-push_cases edges (edge a b) (edge x y) h)
+  where
+    by : Contains edges (edge x y) ⊎ (edge a b ≡ edge x y) → IsEdge edges x y ⊎ ((a ≡ x) × (b ≡ y))
+    by (inl e) = inl e
+    by (inr e) = inr (ap (λ k. k.from) e, ap (λ k. k.to) e)
+
+-- the neighbours where one list has one more
+pub IsNear-push : (lists : List (List ℕ)) (a b x y : ℕ) → a < length lists
+    → IsNear (set lists a (list_at lists a ++ b ∷ [])) x y → IsNear lists x y ⊎ ((a ≡ x) × (b ≡ y))
+IsNear-push lists a b x y l h = by (cases_eq x a)
+  where
+    two : Contains (list_at lists a) y ⊎ (b ≡ y) → x ≡ a → IsNear lists x y ⊎ ((a ≡ x) × (b ≡ y))
+    two (inl e) q = inl (subst (λ z. IsNear lists z y) (sym q) e)
+    two (inr e) q = inr (sym q, e)
+
+    by : (x ≡ a) ⊎ (x ≢ a) → IsNear lists x y ⊎ ((a ≡ x) × (b ≡ y))
+    by (inl q) =
+        two (Contains-push_cases (list_at lists a) b y
+        (subst (λ n. Contains n y) (ap (λ z. list_at (set lists a (list_at lists a ++ b ∷ [])) z) q
+        ∙ get_or-set_same lists a (list_at lists a ++ b ∷ []) [] l) h)) q
+    by (inr q) = inl (subst (λ n. Contains n y) (get_or-set_other lists a x (list_at lists a ++ b ∷
+        []) [] q) h)
+
+pub IsNear-old : (lists : List (List ℕ)) (a b x y : ℕ) → a < length lists → IsNear lists x y
+    → IsNear (set lists a (list_at lists a ++ b ∷ [])) x y
+IsNear-old lists a b x y l h = by (cases_eq x a)
+  where
+    by : (x ≡ a) ⊎ (x ≢ a) → IsNear (set lists a (list_at lists a ++ b ∷ [])) x y
+    by (inl q) =
+        subst (λ n. Contains n y) (sym (ap (λ z. list_at (set lists a (list_at lists a ++ b ∷ []))
+        z) q ∙ get_or-set_same lists a (list_at lists a ++ b ∷ []) [] l))
+        (Contains-append_left (list_at lists a) (b ∷ []) y (subst (λ z. IsNear lists z y) q h))
+    by (inr q) = subst (λ n. Contains n y) (sym (get_or-set_other lists a x (list_at lists a ++ b ∷
+        []) [] q)) h
+
+pub IsNear-new : (lists : List (List ℕ)) (a b : ℕ) → a < length lists
+    → IsNear (set lists a (list_at lists a ++ b ∷ [])) a b
+IsNear-new lists a b l =
+    subst (λ n. Contains n b) (sym (get_or-set_same lists a (list_at lists a ++ b ∷ []) [] l))
+    (Contains-push (list_at lists a) b)
+
+-- a new class has no neighbours
+pub IsNear-class : (lists : List (List ℕ)) (x y : ℕ) → IsNear (lists ++ [] ∷ []) x y
+    ↔ IsNear lists x y
+IsNear-class lists x y = by (cases_lt x (length lists))
+  where
+    none : length lists ≤ x → list_at (lists ++ [] ∷ []) x ≡ []
+    none l = last (cases_eq (length lists) x)
+      where
+        last : (length lists ≡ x) ⊎ (length lists ≢ x) → list_at (lists ++ [] ∷ []) x ≡ []
+        last (inl e) = get_or_push lists [] [] x e
+        last (inr e) = get_or_past (lists ++ [] ∷ []) x [] (let p = length_push {X = List ℕ} lists
+            [] in omega arith)
+
+    by : (x < length lists) ⊎ (length lists ≤ x) → IsNear (lists ++ [] ∷ []) x y ↔ IsNear lists x y
+    by (inl l) =
+        let e = get_or_append_left lists ([] ∷ []) [] x l in
+        (subst (λ n. Contains n y) e, subst (λ n. Contains n y) (sym e))
+    by (inr l) =
+        let e = none l in let f = get_or_past lists x [] l in
+        (subst (λ n. Contains n y) (e ∙ sym f), subst (λ n. Contains n y) (f ∙ sym e))
+
+-- both grow by the same edge
+pub IsNear-edge : (lists : List (List ℕ)) (edges : List Edge) (a b : ℕ) → a < length lists
+    → ((x y : ℕ) → IsNear lists x y ↔ IsEdge edges x y)
+    → (x y : ℕ) → IsNear (set lists a (list_at lists a ++ b ∷ [])) x y
+    ↔ IsEdge (edges ++ edge a b ∷ []) x y
+IsNear-edge lists edges a b l same x y = (
+  λ h. to (IsNear-push lists a b x y l h),
+  λ h. back
+      (IsEdge-push edges a b x y h),
+)
+  where
+    to : IsNear lists x y ⊎ ((a ≡ x) × (b ≡ y)) → IsEdge (edges ++ edge a b ∷ []) x y
+    to (inl h) = Contains-append_left edges (edge a b ∷ []) (edge x y) ((same x y).0 h)
+    to (inr e) = subst (λ z. IsEdge (edges ++ edge a b ∷ []) z y) e.0 (subst (λ z. IsEdge (edges ++
+        edge a b ∷ []) a z) e.1 (Contains-push edges (edge a b)))
+
+    back : IsEdge edges x y ⊎ ((a ≡ x) × (b ≡ y)) → IsNear (set lists a (list_at lists a ++ b ∷ []))
+        x y
+    back (inl h) = IsNear-old lists a b x y l ((same x y).1 h)
+    back (inr e) = subst (λ z. IsNear (set lists a (list_at lists a ++ b ∷ [])) z y) e.0 (subst (λ
+        z. IsNear (set lists a (list_at lists a ++ b ∷ [])) a z) e.1 (IsNear-new lists a b l))
+
+pub IsNear-turned : (lists : List (List ℕ)) (edges : List Edge) (a b : ℕ) → b < length lists
+    → ((x y : ℕ) → IsNear lists x y ↔ IsEdge edges y x)
+    → (x y : ℕ) → IsNear (set lists b (list_at lists b ++ a ∷ [])) x y
+    ↔ IsEdge (edges ++ edge a b ∷ []) y x
+IsNear-turned lists edges a b l same x y = (
+  λ h. to (IsNear-push lists b a x y l h),
+  λ h. back
+      (IsEdge-push edges a b y x h),
+)
+  where
+    to : IsNear lists x y ⊎ ((b ≡ x) × (a ≡ y)) → IsEdge (edges ++ edge a b ∷ []) y x
+    to (inl h) = Contains-append_left edges (edge a b ∷ []) (edge y x) ((same x y).0 h)
+    to (inr e) = subst (λ z. IsEdge (edges ++ edge a b ∷ []) y z) e.0 (subst (λ z. IsEdge (edges ++
+        edge a b ∷ []) z b) e.1 (Contains-push edges (edge a b)))
+
+    back : IsEdge edges y x ⊎ ((a ≡ y) × (b ≡ x)) → IsNear (set lists b (list_at lists b ++ a ∷ []))
+        x y
+    back (inl h) = IsNear-old lists b a x y l ((same x y).1 h)
+    back (inr e) = subst (λ z. IsNear (set lists b (list_at lists b ++ a ∷ [])) z y) e.1 (subst (λ
+        z. IsNear (set lists b (list_at lists b ++ a ∷ [])) b z) e.0 (IsNear-new lists b a l))
+
+-- the ends of the edges of a list with one more
+pub ends_push : (edges : List Edge) (a b n : ℕ) → a < n → b < n → ((x y : ℕ) → IsEdge edges x y
+    → (x < n) × (y < n))
+    → (x y : ℕ) → IsEdge (edges ++ edge a b ∷ []) x y → (x < n) × (y < n)
+ends_push edges a b n l m ends x y h = by (IsEdge-push edges a b x y h)
+  where
+    by : IsEdge edges x y ⊎ ((a ≡ x) × (b ≡ y)) → (x < n) × (y < n)
+    by (inl e) = ends x y e
+    by (inr e) = (subst (λ z. z < n) e.0 l, subst (λ z. z < n) e.1 m)
+
+-- a class has a level exactly where a walk leads to it
+pub found_exact : (edges : List Edge) (a x : ℕ) (o : Option ℕ)
+    → DistanceIs (λ p q. IsEdge edges q p) x a o
+    → (b : Bool) → b ≡ is_some o → (b ≡ true) ↔ HasWalk (IsEdge edges) a x
+found_exact edges a x None h b e = (
+  λ t. absurd (true≢false (sym t
+      ∙ e)),
+  λ w. absurd (h (HasWalk-turned (λ p q. IsEdge edges q p) x a w)),
+)
+found_exact edges a x (Some n) h b e = (
+  λ _. HasWalk-turned (IsEdge edges) a x (
+    h.reached.0,
+    h.reached.1.0,
+  ),
+  λ _. e,
+)
+
+-- neighbours that are a relation stay so as a class comes
+pub near_class : (R : ℕ → ℕ → Type 0) (lists more : List (List ℕ)) → more ≡ lists ++ [] ∷ []
+    → ((x y : ℕ) → IsNear lists x y ↔ R x y)
+    → (x y : ℕ) → IsNear more x y ↔ R x y
+near_class R lists more e same x y =
+    let n = IsNear-class lists x y in let k = same x y in
+    subst (λ l. IsNear l x y ↔ R x y) (sym e) (λ h. k.0 (n.0 h), λ h. n.1 (k.1 h))
+
+-- a key that isn't there goes last
+pub insert_key-new : (edges : List Edge) (e : Edge) → list_any (same_edge e) edges ≡ false
+    → insert_key same_edge edges e ≡ edges ++ e ∷ []
+insert_key-new edges e h = ap (λ b. if b then edges else edges ++ e ∷ []) h
+
+-- distances by equal relations
+pub DistanceIs-near : (lists : List (List ℕ)) (R : ℕ → ℕ → Type 0) → ((x y : ℕ) → IsNear lists x y
+    ↔ R y x) → (x to : ℕ) (o : Option ℕ)
+    → DistanceIs (λ p q. IsNear lists q p) x to o → DistanceIs R x to o
+DistanceIs-near lists R same x to o h = DistanceIs-same (λ p q. IsNear lists q p) R (λ p q. (same q
+    p).0) (λ p q. (same q p).1) x to o h
+
+pub DistanceIs-along : (lists : List (List ℕ)) (R : ℕ → ℕ → Type 0) → ((x y : ℕ) → IsNear lists x y
+    ↔ R x y) → (x to : ℕ) (o : Option ℕ)
+    → DistanceIs R x to o → DistanceIs (IsNear lists) x to o
+DistanceIs-along lists R same x to o h = DistanceIs-same R (IsNear lists) (λ p q. (same p q).1) (λ p
+    q. (same p q).0) x to o h
+
+-- in a list of distinct edges each stands once
+pub edges_once : (edges : List Edge) → IsDistinct same_edge edges → (i j : ℕ) → i < j
+    → j < length edges → slice_get edges i ≢ slice_get edges j
+edges_once edges h i j a b e =
+    let l : i < length edges = omega arith in
+    let p = slice_get-get_or edges i (edge 0 0) l in
+    let q = slice_get-get_or edges j (edge 0 0) b in
+    let r : Some (get_or edges i (edge 0 0)) ≡ Some (get_or edges j (edge 0 0)) = sym p ∙ e ∙ q in
+    let s : get_or edges i (edge 0 0) ≡ get_or edges j (edge 0 0) = cc in
+    true≢false (sym (same_edge-refl (get_or edges i (edge 0 0)))
+    ∙ ap (λ x. same_edge (get_or edges i (edge 0 0)) x) s
+    ∙ apart_from_distinct same_edge edges i j (edge 0 0) h a b)

@@ -1,0 +1,135 @@
+-- A graph keeps its invariant as its memory grows.
+use Rattle.std.proofs.Common.{◌≡◌, ◌↔◌, ℕ, ◌+◌, ◌<◌, ◌≤◌, ◌^◌, max, length, arith, refl, sym, ap}
+use Rattle.std.proofs.Common.{subst, ◌∙◌, vec_len, vec_capacity}
+use Rattle.indexmap.specs.IndexSet.{spare}
+use Rattle.ld_graph.specs.declared.graph.Graph.TheInside.{Inside}
+use Rattle.ld_graph.specs.Neighbours.{Listed, IsNear}
+use Rattle.ld_graph.specs.Edges.{IsEdge}
+use Rattle.ld_graph.specs.Levels.{level_at}
+use Rattle.ld_graph.specs.Walks.{DistanceIs}
+use Rattle.ld_graph.specs.Kept.{IsKept}
+
+-- the lists are as before, with at least the memory that it had
+pub record ListsGrown (old new : Listed) : Type 0 where
+  pub lists : new.lists ≡ old.lists
+  pub items : new.items ≡ old.items
+  pub class_room : old.class_room ≤ new.class_room
+  pub item_room : old.item_room ≤ new.item_room
+
+pub lists_same : (a : Listed) → ListsGrown a a
+lists_same a = record {
+  lists = refl;
+  items = refl;
+  class_room = omega arith;
+  item_room = omega
+      arith;
+}
+
+-- so is the graph
+pub record HasGrown (old new : Inside) : Type 0 where
+  pub keys : new.edges.keys ≡ old.edges.keys
+  pub edges : spare old.edges ≤ spare new.edges
+  pub after : ListsGrown old.after new.after
+  pub before : ListsGrown old.before new.before
+  pub levels : new.levels.items ≡ old.levels.items
+  pub len : vec_len new.levels ≡ vec_len old.levels
+  pub levels_room : vec_capacity old.levels ≤ vec_capacity new.levels
+  pub queue_room : vec_capacity old.queue ≤ vec_capacity new.queue
+  pub spare_classes : new.spare_classes ≡ old.spare_classes
+  pub spare_edges : new.spare_edges ≡ old.spare_edges
+  pub searched : new.searched ≡ old.searched
+
+pub IsKept-grown : (old new : Inside) → HasGrown old new → IsKept old → IsKept new
+IsKept-grown old new g h =
+    let classes = g.len in
+    let count = ap length g.keys in
+    record {
+      after_classes = ap length g.after.lists ∙ h.after_classes ∙ sym g.len;
+      before_classes = ap length g.before.lists ∙ h.before_classes ∙ sym g.len;
+      after_items = g.after.items ∙ h.after_items ∙ sym count;
+      before_items = g.before.items ∙ h.before_items ∙ sym count;
+      after_edges = λ a b. subst (λ l. IsNear l a b ↔ IsEdge new.edges.keys a b) (sym g.after.lists)
+          (subst (λ k. IsNear old.after.lists a b ↔ IsEdge k a b) (sym g.keys) (h.after_edges a b));
+      before_edges = λ a b. subst (λ l. IsNear l a b ↔ IsEdge new.edges.keys b a) (sym
+          g.before.lists) (subst (λ k. IsNear old.before.lists a b
+          ↔ IsEdge k b a) (sym g.keys) (h.before_edges a b));
+      ends = λ a b e. subst (λ n. (a < n) × (b < n)) (sym g.len) (h.ends a b (subst (λ k. IsEdge k a
+          b) g.keys e));
+      room_edges = omega (arith, g.edges, h.room_edges, g.spare_edges);
+      room_after = (
+        omega (arith, classes, h.room_after.0, g.after.class_room, g.spare_classes),
+        omega (arith, count, h.room_after.1, g.after.item_room, g.spare_edges),
+      );
+      room_before = (
+        omega (arith, classes, h.room_before.0, g.before.class_room, g.spare_classes),
+        omega (arith, count, h.room_before.1, g.before.item_room, g.spare_edges),
+      );
+      room_levels = omega (arith, classes, h.room_levels, g.levels_room, g.spare_classes);
+      room_queue = omega (arith, classes, h.room_queue, g.queue_room, g.spare_classes);
+      few = omega (arith, classes, h.few, g.spare_classes);
+      levels = λ a e x.
+          subst (λ k. DistanceIs (λ p q. IsEdge k q p) x a (level_at new.levels.items x)) (sym
+          g.keys)
+          (subst (λ l. DistanceIs (λ p q. IsEdge old.edges.keys q p) x a (level_at l x)) (sym
+          g.levels)
+          (h.levels a (sym g.searched ∙ e) x));
+    }
+
+-- where there is memory for more, the spares may be more
+pub IsKept-spare : (g : Inside) (classes edges more_classes more_edges : ℕ) → IsKept g
+    → more_classes ≡ max g.spare_classes classes → more_edges ≡ max g.spare_edges edges
+    → edges ≤ spare g.edges
+    → vec_len g.levels + classes ≤ g.after.class_room → g.after.items + edges ≤ g.after.item_room
+    → vec_len g.levels + classes ≤ g.before.class_room → g.before.items + edges ≤ g.before.item_room
+    → vec_len g.levels + classes ≤ vec_capacity g.levels
+    → vec_len g.levels + classes ≤ vec_capacity g.queue
+    → vec_len g.levels + classes ≤ 2 ^ 30
+    → IsKept (record g { spare_classes = more_classes; spare_edges = more_edges })
+IsKept-spare g classes edges more_classes more_edges h m n e a b c d l q f =
+    let after = h.after_items in
+    let before = h.before_items in
+    record {
+      after_classes = h.after_classes;
+      before_classes = h.before_classes;
+      after_items = h.after_items;
+      before_items = h.before_items;
+      after_edges = h.after_edges;
+      before_edges = h.before_edges;
+      ends = h.ends;
+      room_edges = omega (arith, n, e, h.room_edges);
+      room_after = (
+        omega (arith, m, a, h.room_after.0),
+        omega (
+          arith,
+          n,
+          b,
+          after,
+          h.room_after.1,
+        ),
+      );
+      room_before = (
+        omega (arith, m, c, h.room_before.0),
+        omega (
+          arith,
+          n,
+          d,
+          before,
+          h.room_before.1,
+        ),
+      );
+      room_levels = omega (arith, m, l, h.room_levels);
+      room_queue = omega (arith, m, q, h.room_queue);
+      few = omega (arith, m, f, h.few);
+      levels = h.levels;
+    }
+
+-- the neighbours in a graph's lists are classes
+pub after_ends : (g : Inside) → IsKept g → (a b : ℕ) → IsNear g.after.lists a b
+    → b < length g.after.lists
+after_ends g h a b n = let e = (h.ends a b ((h.after_edges a b).0 n)).1
+    in omega (arith, e, h.after_classes)
+
+pub before_ends : (g : Inside) → IsKept g → (a b : ℕ) → IsNear g.before.lists a b
+    → b < length g.before.lists
+before_ends g h a b n = let e = (h.ends b a ((h.before_edges a b).0 n)).0
+    in omega (arith, e, h.before_classes)

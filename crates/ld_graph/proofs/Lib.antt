@@ -1,0 +1,7 @@
+pub mod RunLemmas
+pub mod WalkLemmas
+pub mod SpreadLemmas
+pub mod SearchLemmas
+pub mod EdgeLemmas
+pub mod KeptLemmas
+pub mod ShownLemmas

@@ -1,0 +1,182 @@
+-- One class after another is given a level.
+use Rattle.std.proofs.Common.{◌≡◌, ◌≢◌, ℕ, true, false, true≢false, is_some, is_none, Contains}
+use Rattle.std.proofs.Common.{cond, count_by, ◌+◌, ◌<◌, ◌≤◌, ◌⊎◌, inl, inr, List, [], ◌∷◌, ◌++◌}
+use Rattle.std.proofs.Common.{length, get_or, set, Option, Some, None, arith, refl, sym, ap, subst}
+use Rattle.std.proofs.Common.{◌∙◌}
+use Rattle.std.proofs.lemmas.List.{get_or_append_left, get_or_push, length_push, get_or-set_same}
+use Rattle.std.proofs.lemmas.List.{get_or-set_other, get_or_past, get_or_default}
+use Rattle.std.proofs.lemmas.List.Sums.{sum_by-set, count_by-le-length}
+use Rattle.std.proofs.lemmas.Bool.{cases_lt, cases_eq}
+use Rattle.std.proofs.lemmas.List.Elements.{Contains-get_or}
+use Rattle.ld_graph.specs.Neighbours.{IsNear, list_at}
+use Rattle.ld_graph.specs.Levels.{level_at, HasLevel, Spreads}
+
+pub some_same : (k l : ℕ) → Some k ≡ Some l → k ≡ l
+some_same k l e = cc
+
+-- a class with a level is within the list
+pub level_within : (levels : List (Option ℕ)) (x k : ℕ) → level_at levels x ≡ Some k
+    → x < length levels
+level_within levels x k h = by (cases_lt x (length levels))
+  where
+    by : (x < length levels) ⊎ (length levels ≤ x) → x < length levels
+    by (inl l) = l
+    by (inr l) = let e : level_at levels x ≡ None = get_or_past levels x None l in cc
+
+-- a class with a level keeps it where one with none is given one
+pub kept_marked : (levels : List (Option ℕ)) (y level : ℕ) → level_at levels y ≡ None
+    → (x k : ℕ) → level_at levels x ≡ Some k → level_at (set levels y (Some level)) x ≡ Some k
+kept_marked levels y level free x k e = by (cases_eq x y)
+  where
+    by : (x ≡ y) ⊎ (x ≢ y) → level_at (set levels y (Some level)) x ≡ Some k
+    by (inl p) = let f : level_at levels x ≡ None = ap (λ z. level_at levels z) p ∙ free in cc
+    by (inr p) = get_or-set_other levels y x (Some level) None p ∙ e
+
+module _ (near : ℕ → Type 0) (level : ℕ) where
+  pub Spreads-none : (levels : List (Option ℕ)) (queue : List ℕ)
+      → Spreads near level levels queue levels queue
+  Spreads-none levels queue = record {
+    kept = λ x k h. h;
+    fresh = λ x k h. inl h;
+    front = λ i l. refl;
+    longer = omega arith;
+    added = λ i a b. absurd (omega arith);
+  }
+
+  module _ (old : List (Option ℕ)) (before : List ℕ) (now : List (Option ℕ)) (queue : List ℕ) (h :
+      Spreads near level old before now queue)
+      (y : ℕ) (ny : near y) (within : y < length now) (free : level_at now y ≡ None) where
+    abbrev marked : List (Option ℕ)
+    marked = set now y (Some level)
+
+    abbrev waiting : List ℕ
+    waiting = queue ++ y ∷ []
+
+    other : (x : ℕ) → x ≢ y → level_at marked x ≡ level_at now x
+    other x ne = get_or-set_other now y x (Some level) None ne
+
+    same : level_at marked y ≡ Some level
+    same = get_or-set_same now y (Some level) None within
+
+    fresh : (x k : ℕ) → level_at marked x ≡ Some k
+        → (level_at old x ≡ Some k)
+        ⊎ ((k ≡ level) × near x × ((i : ℕ) × ((length before ≤ i) × (i < length waiting)
+        × (get_or waiting i 0 ≡ x))))
+    fresh x k e = by (cases_eq x y)
+      where
+        old_one : (level_at old x ≡ Some k)
+            ⊎ ((k ≡ level) × near x × ((i : ℕ) × ((length before ≤ i) × (i < length queue)
+            × (get_or queue i 0 ≡ x))))
+            → (level_at old x ≡ Some k)
+            ⊎ ((k ≡ level) × near x × ((i : ℕ) × ((length before ≤ i) × (i < length waiting)
+            × (get_or waiting i 0 ≡ x))))
+        old_one (inl o) = inl o
+        old_one (inr o) =
+            let l = o.2.1.1 in let p = length_push queue y in
+            inr (
+              o.0,
+              o.1,
+              (
+                o.2.0,
+                (
+                  o.2.1.0,
+                  omega (arith, l, p),
+                  get_or_append_left queue (y ∷ [])
+                      0 o.2.0 l ∙ o.2.1.2,
+                ),
+              ),
+            )
+
+        by : (x ≡ y) ⊎ (x ≢ y) → (level_at old x ≡ Some k)
+            ⊎ ((k ≡ level) × near x × ((i : ℕ) × ((length before ≤ i) × (i < length waiting)
+            × (get_or waiting i 0 ≡ x))))
+        by (inl p) =
+            let f : Some level ≡ Some k = sym same ∙ ap (λ z. level_at marked z) (sym p) ∙ e in
+            let q = length_push queue y in let l = h.longer in
+            inr (
+              sym (some_same level k f),
+              subst near (sym p) ny,
+              (
+                length queue,
+                (
+                  l,
+                  omega (
+                    arith,
+                    q,
+                  ),
+                  get_or_push queue y 0 (length queue) refl ∙ sym p,
+                ),
+              ),
+            )
+        by (inr p) = old_one (h.fresh x k (sym (other x p) ∙ e))
+
+    added : (i : ℕ) → length before ≤ i → i < length waiting
+        → level_at marked (get_or waiting i 0) ≡ Some level
+    added i a b = by (cases_lt i (length queue))
+      where
+        by : (i < length queue) ⊎ (length queue ≤ i) → level_at marked (get_or waiting i 0) ≡ Some
+            level
+        by (inl l) = ap (λ z. level_at marked z) (get_or_append_left queue (y ∷ []) 0 i l)
+            ∙ kept_marked now y level free (get_or queue i 0) level (h.added i a l)
+        by (inr l) =
+            let p = length_push queue y in let e : length queue ≡ i = omega (arith, p, b) in
+            ap (λ z. level_at marked z) (get_or_push queue y 0 i e) ∙ same
+
+    -- one more class, near and without a level, is given it
+    pub Spreads-more : Spreads near level old before marked waiting
+    Spreads-more = record {
+      kept = λ x k e. kept_marked now y level free x k (h.kept x k e);
+      fresh = fresh;
+      front = λ i l. let g = h.longer in let m : i < length queue = omega arith
+          in get_or_append_left queue (y ∷ []) 0 i m ∙ h.front i l;
+      longer = let g = h.longer in let p = length_push queue y in omega arith;
+      added = added;
+    }
+
+-- each element of a list is contained, and each that is contained has a level where each element
+-- has one
+pub near_all : (near : List ℕ) (levels : List (Option ℕ)) (n : ℕ) → length near ≤ n → ((k : ℕ)
+    → k < n → HasLevel levels (get_or near k 0))
+    → (x : ℕ) → Contains near x → HasLevel levels x
+near_all near levels n l h x e =
+    let m = e.1 in
+    subst (λ y. HasLevel levels y) (get_or_default near e.0 0 x m ∙ e.2) (h e.0 (omega arith))
+
+pub some_is : (o : Option ℕ) → is_some o ≡ true → (k : ℕ) × (o ≡ Some k)
+some_is None e = absurd (true≢false (sym e))
+some_is (Some k) e = (k, refl)
+
+pub none_is : (o : Option ℕ) → is_some o ≡ false → o ≡ None
+none_is None e = refl
+none_is (Some k) e = absurd (true≢false e)
+
+-- one fewer class has no level where one that had none is given one
+pub count_marked : (levels : List (Option ℕ)) (x k : ℕ) → x < length levels
+    → level_at levels x ≡ None
+    → count_by is_none (set levels x (Some k)) + 1 ≡ count_by is_none levels
+count_marked levels x k l e =
+    let s : count_by is_none (set levels x (Some k)) + cond {A = ℕ} (is_none (level_at levels x)) 1
+    0 ≡ count_by is_none levels + 0 =
+    sum_by-set (λ o. cond {A = ℕ} (is_none o) 1 0) levels x (Some k) None l in
+    let f : cond {A = ℕ} (is_none (level_at levels x)) 1 0 ≡ 1 = ap (λ o. cond {A = ℕ} (is_none o) 1
+    0) e in
+    omega arith
+
+-- what has no level below the list's length has none at all
+pub all_none : (levels : List (Option ℕ)) (n : ℕ) → length levels ≤ n → ((x : ℕ) → x < n
+    → level_at levels x ≡ None) → (x : ℕ) → level_at levels x ≡ None
+all_none levels n l h x = by (cases_lt x n)
+  where
+    by : (x < n) ⊎ (n ≤ x) → level_at levels x ≡ None
+    by (inl b) = h x b
+    by (inr b) = get_or_past levels x None (omega arith)
+
+-- fewer classes wait for a level than there are classes
+pub count_none : (levels : List (Option ℕ)) → count_by is_none levels ≤ length levels
+count_none levels = count_by-le-length is_none levels
+
+-- an element of a class's list is its neighbour
+pub near_here : (lists : List (List ℕ)) (c : ℕ) (near : List ℕ) → near ≡ list_at lists c → (k : ℕ)
+    → k < length near → IsNear lists c (get_or near k 0)
+near_here lists c near e k l = subst (λ n. Contains n (get_or near k 0)) e (Contains-get_or near k 0
+    l)

@@ -1,0 +1,93 @@
+use Rattle.std.proofs.Common.{[], arith, subst}
+use Rattle.ld_graph.specs.Neighbours.{IsNear}
+use Rattle.ld_graph.specs.Levels.{Spreads}
+use Rattle.ld_graph.proofs.SpreadLemmas.{count_none}
+use Rattle.ld_graph.proofs.SearchLemmas.{IsPartial-begun, IsPartial-next, IsPartial-all}
+use Rattle.ld_graph.proofs.SearchLemmas.{next_within, next_small, next_level}
+use Rattle.ld_graph.proofs.levels.measure.Goals as goal
+
+pub loop-done-init : goal.loop-done-init
+loop-done-init c =
+    let spreads : Spreads (IsNear c.args.lists.now.lists c.args.start) 1 c.clear.new.levels []
+    c.expand.new.levels c.expand.new.queue.items =
+    subst (λ q. Spreads (IsNear c.args.lists.now.lists c.args.start) 1 c.clear.new.levels q
+    c.expand.new.levels c.expand.new.queue.items) c.clear-2.ensures.items
+    c.expand.ensures.spreads in
+    let few = count_none c.clear.new.levels in
+    record {
+      count = omega (
+        arith,
+        few,
+        c.expand.ensures.count,
+        c.clear-2.ensures.len,
+        c.requires.classes,
+        c.clear.auto.levels,
+      );
+      capacity = omega (arith, c.expand.ensures.capacity, c.clear-2.ensures.capacity);
+      partial = IsPartial-begun (IsNear c.args.lists.now.lists) c.args.start c.clear.new.levels
+          c.expand.new.levels c.expand.new.queue.items c.clear.ensures spreads
+          c.expand.ensures.reached;
+    }
+
+pub loop-done-preserved : goal.loop-done-preserved
+loop-done-preserved c =
+    record {
+      count = omega (arith, c.expand-in-loop-done.ensures.count, c.loop-done.invariant.count);
+      capacity = omega (
+        arith,
+        c.expand-in-loop-done.ensures.capacity,
+        c.loop-done.invariant.capacity,
+      );
+      partial = IsPartial-next (IsNear c.args.lists.now.lists) c.args.start c.loop-done.done
+          c.loop-done.levels c.loop-done.queue.items c.loop-done.invariant.partial
+          (omega (arith, c.loop-done-test.true, c.len.ensures)) c.index-class.result.now
+          c.index-class.ensures
+          c.expand-in-loop-done.new.levels c.expand-in-loop-done.new.queue.items c.in-Some.level
+          c.in-Some.is
+          c.expand-in-loop-done.ensures.spreads c.expand-in-loop-done.ensures.reached;
+    }
+
+pub loop-done-smaller : goal.loop-done-smaller
+loop-done-smaller c = omega (
+  arith,
+  c.expand-in-loop-done.ensures.count,
+  c.loop-done-test.true,
+  c.len.ensures,
+)
+
+pub bounds : goal.bounds
+bounds c =
+    next_within (IsNear c.args.lists.now.lists) c.args.start c.loop-done.done c.loop-done.levels
+    c.loop-done.queue.items c.loop-done.invariant.partial
+    (omega (arith, c.loop-done-test.true, c.len.ensures)) c.index-class.result.now
+    c.index-class.ensures
+
+pub overflow_add-level : goal.overflow_add-level
+overflow_add-level c =
+    let small = next_small (IsNear c.args.lists.now.lists) c.args.start c.loop-done.done
+    c.loop-done.levels c.loop-done.queue.items c.loop-done.invariant.partial
+    (omega (arith, c.loop-done-test.true, c.len.ensures)) c.index-class.result.now
+    c.index-class.ensures c.in-Some.level c.in-Some.is in
+    omega (arith, small)
+
+pub unreachable-requires : goal.unreachable-requires
+unreachable-requires c =
+    let next = next_level (IsNear c.args.lists.now.lists) c.args.start c.loop-done.done
+    c.loop-done.levels c.loop-done.queue.items c.loop-done.invariant.partial
+    (omega (arith, c.loop-done-test.true, c.len.ensures)) c.index-class.result.now
+    c.index-class.ensures in
+    c.in_default.not-Some next.0 next.1.0
+
+pub returns-clause-distances : goal.returns-clause-distances
+returns-clause-distances c =
+    IsPartial-all (IsNear c.args.lists.now.lists) c.args.start c.loop-done.done c.loop-done.levels
+    c.loop-done.queue.items c.loop-done.invariant.partial
+    (omega (arith, c.loop-done-test.false, c.len.ensures))
+
+pub expand-requires-clause-ends : goal.expand-requires-clause-ends
+expand-requires-clause-ends c = λ x n. let e = c.requires.ends c.args.start x n
+    in omega (arith, e, c.requires.classes, c.clear.auto.levels)
+
+pub expand-requires-in-loop-done-clause-ends : goal.expand-requires-in-loop-done-clause-ends
+expand-requires-in-loop-done-clause-ends c = λ x n. let e = c.requires.ends c.index-class.result.now
+    x n in omega (arith, e, c.requires.classes, c.loop-done.auto.levels)

@@ -1,0 +1,62 @@
+-- A graph as its callers see it. Classes are numbers, from 0 on.
+use Rattle.std.specs.Prelude.{◌≡◌, ◌≢◌, ℕ, ◌+◌, ◌-◌, ◌<◌, List, [], ◌∷◌, ◌++◌, Option, None, Some}
+use Rattle.std.specs.Prelude.{Contains, slice_get, slice_index, ◌⊎◌}
+use Rattle.ld_graph.specs.declared.Edge.{Edge}
+
+-- the edge from one class to another
+abbrev pub edge : ℕ → ℕ → Edge
+edge a b = record { from = a; to = b }
+
+-- there is an edge from a to b
+abbrev pub IsEdge : List Edge → ℕ → ℕ → Type 0
+IsEdge edges a b = Contains edges (edge a b)
+
+-- the edge from a to b was inserted first as number i
+pub record IsFirstPlace (edges : List Edge) (a b i : ℕ) : Type 0 where
+  pub there : slice_get edges i ≡ Some (edge a b)
+  pub first : (j : ℕ) → j < i → slice_get edges j ≢ Some (edge a b)
+
+-- x comes before y: by place, then by number
+abbrev pub ComesBefore : List ℕ → ℕ → ℕ → Type 0
+ComesBefore places x y =
+    (slice_index places x < slice_index places y)
+    ⊎ ((slice_index places x ≡ slice_index places y) × (x < y))
+
+-- a graph: how many classes it has, its edges in order of insertion, for how many more of both it
+-- has memory, and the class that was searched from last, if no class or edge was added since
+pub record Seen : Type 0 where
+  pub classes : ℕ
+  pub edges : List Edge
+  pub spare_classes : ℕ
+  pub spare_edges : ℕ
+  pub searched : Option ℕ
+
+-- no class, no edge and no memory
+abbrev pub empty_graph : Seen
+empty_graph = record {
+  classes = 0;
+  edges = [];
+  spare_classes = 0;
+  spare_edges = 0;
+  searched = None;
+}
+
+-- the graph with one more class, which took a spare one
+abbrev pub with_class : Seen → Seen
+with_class g = record g {
+  classes = g.classes + 1;
+  spare_classes = g.spare_classes - 1;
+  searched = None;
+}
+
+-- the graph with one more edge, which took a spare one
+abbrev pub with_edge : Seen → ℕ → ℕ → Seen
+with_edge g a b = record g {
+  edges = g.edges ++ edge a b ∷ [];
+  spare_edges = g.spare_edges - 1;
+  searched = None;
+}
+
+-- the graph with other spares
+abbrev pub with_spares : Seen → ℕ → ℕ → Seen
+with_spares g classes edges = record g { spare_classes = classes; spare_edges = edges }

@@ -1,0 +1,245 @@
+//! The graph itself.
+
+ghost use Rattle.std.specs.Prelude.{◌≡◌, ◌≢◌, ℕ, ◌+◌, ◌<◌, ◌≤◌, ◌↔◌, length, slice_get};
+ghost use Rattle.std.specs.Prelude.{slice_index_or, None, Some, IsTrue, IsSome, IfOk, IfSome};
+ghost use Rattle.std.specs.Prelude.{OnOk, MatchOption};
+ghost use Rattle.std.specs.Bool.{OnTrue, OnFalse};
+ghost use Rattle.ld_graph.specs.Edges.{ComesBefore, IsEdge, IsFirstPlace};
+ghost use Rattle.ld_graph.specs.Edges.{empty_graph, with_class, with_edge, with_spares};
+ghost use Rattle.ld_graph.specs.Walks.{DistanceIs, HasWalk, IsShownWalk};
+
+use crate::Edge;
+use crate::levels::measure;
+use crate::lists::Neighbours;
+use crate::shown::show;
+use indexmap::IndexSet;
+use std::alloc::{AllocError, Global};
+use std::marker::Model;
+
+/// How many classes a graph may have, with its spare ones.
+pub const MOST_CLASSES: usize = 1 << 30;
+
+/// A directed graph whose classes are the numbers from 0 on.
+#[derive(Drop)]
+pub struct Graph {
+    edges: IndexSet<Edge>,
+    /// For each class its successors.
+    after: Neighbours,
+    /// For each class its predecessors.
+    before: Neighbours,
+    /// For each class its distance from the searched class.
+    levels: Vec<Option<u64>>,
+    /// Room for the classes that wait in a search.
+    queue: Vec<u32>,
+    spare_classes: usize,
+    spare_edges: usize,
+    /// The class that the levels are of.
+    searched: Option<u32>,
+}
+
+impl Model for Graph {
+    ghost use Rattle.ld_graph.specs.Edges.{Seen};
+
+    ghost Value = { Seen };
+
+    ghost use Rattle.ld_graph.specs.Kept.{seen, IsKept};
+
+    ghost view = { seen };
+
+    ghost invariant = { IsKept };
+}
+
+impl Graph {
+    /// A graph with no class and no edge. Takes no memory.
+    pub fn new(alloc: Global) -> Graph
+        ensures { result ≡ empty_graph }
+    {
+        Graph {
+            edges: IndexSet::new(alloc),
+            after: Neighbours::new(alloc),
+            before: Neighbours::new(alloc),
+            levels: Vec::new(alloc),
+            queue: Vec::new(alloc),
+            spare_classes: 0,
+            spare_edges: 0,
+            searched: None,
+        }
+    }
+
+    /// The number of classes.
+    pub fn len(&self) -> usize
+        ensures count { result ≡ self.now.classes }
+        ensures few { result ≤ MOST_CLASSES }
+    {
+        self.levels.len()
+    }
+
+    /// The number of edges.
+    pub fn edges(&self) -> u64
+        ensures count { result ≡ length self.now.edges }
+        ensures ends { (a b : ℕ) → IsEdge self.now.edges a b
+            → (a < self.now.classes) × (b < self.now.classes) }
+        ensures once { (i j : ℕ) → i < j → j < length self.now.edges
+            → slice_get self.now.edges i ≢ slice_get self.now.edges j }
+    {
+        self.edges.len() as u64
+    }
+
+    /// How many classes can be added without taking memory.
+    pub fn spare_classes(&self) -> usize
+        ensures { result ≡ self.now.spare_classes }
+    {
+        self.spare_classes
+    }
+
+    /// How many edges can be inserted without taking memory.
+    pub fn spare_edges(&self) -> usize
+        ensures { result ≡ self.now.spare_edges }
+    {
+        self.spare_edges
+    }
+
+    /// Takes the memory for so many further classes and edges.
+    ///
+    /// # Errors
+    ///
+    /// `AllocError` where memory was refused. The graph is then as before, but the spares may have
+    /// grown.
+    pub fn room(&mut self, classes: usize, edges: usize) -> Result<(), AllocError>
+        requires { self.old.classes + classes ≤ MOST_CLASSES }
+        ensures classes { OnOk result (classes ≤ self.new.spare_classes) }
+        ensures edges { OnOk result (edges ≤ self.new.spare_edges) }
+        ensures same { self.new ≡ with_spares self.old self.new.spare_classes self.new.spare_edges }
+        ensures kept { (self.old.spare_classes ≤ self.new.spare_classes)
+            × (self.old.spare_edges ≤ self.new.spare_edges) }
+    {
+        let wanted = self.len() + classes;
+        self.edges.reserve(edges)?;
+        self.after.room(classes, edges)?;
+        self.before.room(classes, edges)?;
+        self.levels.reserve(classes)?;
+        self.queue.clear();
+        self.queue.reserve(wanted)?;
+        self.spare_classes = self.spare_classes.max(classes);
+        self.spare_edges = self.spare_edges.max(edges);
+        Ok(())
+    }
+
+    /// Adds a class, which takes a spare one, and answers its number. Takes no memory.
+    pub fn add_class(&mut self) -> u32
+        requires { 0 < self.old.spare_classes }
+        ensures number { result ≡ self.old.classes }
+        ensures graph { self.new ≡ with_class self.old }
+    {
+        let number = self.len();
+        self.after.add_class();
+        self.before.add_class();
+        let Ok(()) = self.levels.push(None) else {
+            unreachable!()
+        };
+        self.spare_classes -= 1;
+        self.searched = None;
+        number as u32
+    }
+
+    /// The edge's number in order of insertion, from 0 on, or `None` where there is no such edge.
+    pub fn edge(&self, a: u32, b: u32) -> Option<u64>
+        ensures { MatchOption result (¬ IsEdge self.now.edges a b)
+            (IsFirstPlace self.now.edges a b) }
+    {
+        let number = self.edges.get_index_of(&Edge { from: a, to: b })?;
+        Some(number as u64)
+    }
+
+    /// Inserts the edge from `a` to `b`, which takes a spare one, and answers whether it is new. An
+    /// edge that is there already changes nothing. Takes no memory.
+    pub fn insert(&mut self, a: u32, b: u32) -> bool
+        requires a { a < self.old.classes }
+        requires b { b < self.old.classes }
+        requires room { 0 < self.old.spare_edges }
+        ensures answer { IsTrue result ↔ (¬ IsEdge self.old.edges a b) }
+        ensures new { OnTrue result (self.new ≡ with_edge self.old a b) }
+        ensures known { OnFalse result (IsEdge self.old.edges a b) }
+        ensures same { OnFalse result (self.new ≡ self.old) }
+    {
+        let edge = Edge { from: a, to: b };
+        if self.edges.contains(&edge) {
+            return false;
+        }
+        let Ok(_) = self.edges.insert(edge) else {
+            unreachable!()
+        };
+        self.after.push(a, b);
+        self.before.push(b, a);
+        self.spare_edges -= 1;
+        self.searched = None;
+        true
+    }
+
+    /// For each class the least number of edges, at least one, of a walk from it to `to`, or `None`
+    /// where there is no such walk.
+    ///
+    /// # Errors
+    ///
+    /// `AllocError` where memory was refused.
+    pub fn distances(&self, alloc: Global, to: u32) -> Result<Vec<Option<u64>>, AllocError>
+        requires { to < self.now.classes }
+        ensures len { IfOk result (λ distances. length distances.items ≡ self.now.classes) }
+        ensures each { IfOk result (λ distances. (c : ℕ) →
+            DistanceIs (IsEdge self.now.edges) c to (slice_index_or distances.items c None)) }
+    {
+        let mut levels = Vec::new(alloc);
+        levels.resize(self.len(), None)?;
+        let mut queue = Vec::with_capacity(alloc, self.len())?;
+        measure(&self.before, to, &mut levels, &mut queue);
+        Ok(levels)
+    }
+
+    /// A shortest walk from `a` to `b`, or `None` where there is none. Each next class but the last
+    /// is, of the successors that are one edge nearer to `b`, the one of least place, and of equal
+    /// places that of the lesser number.
+    ///
+    /// # Errors
+    ///
+    /// `AllocError` where memory was refused.
+    pub fn walk(
+        &self,
+        alloc: Global,
+        a: u32,
+        b: u32,
+        places: &[u32],
+    ) -> Result<Option<Vec<u32>>, AllocError>
+        requires a { a < self.now.classes }
+        requires b { b < self.now.classes }
+        requires places { length places.now ≡ self.now.classes }
+        ensures { IfOk result (λ walk. MatchOption walk (¬ HasWalk (IsEdge self.now.edges) a b)
+            (λ w. IsShownWalk (IsEdge self.now.edges) (ComesBefore places.now) a b w.items)) }
+    {
+        let distances = self.distances(alloc, b)?;
+        let Some(distance) = distances[a as usize] else {
+            return Ok(None);
+        };
+        let walk = show(alloc, &self.after, a, b, distance, &distances, places)?;
+        Ok(Some(walk))
+    }
+
+    /// Searches for the classes that walks from `from` lead to, which `found` then tells. Takes no
+    /// memory.
+    pub fn search(&mut self, from: u32)
+        requires { from < self.old.classes }
+        ensures { self.new ≡ record self.old { searched = Some from } }
+    {
+        measure(&self.after, from, &mut self.levels, &mut self.queue);
+        self.searched = Some(from);
+    }
+
+    /// Whether there is a walk of at least one edge from the class that was searched from to `c`.
+    pub fn found(&self, c: u32) -> bool
+        requires class { c < self.now.classes }
+        requires searched { IsSome self.now.searched }
+        ensures { IfSome self.now.searched
+            (λ a. IsTrue result ↔ HasWalk (IsEdge self.now.edges) a c) }
+    {
+        self.levels[c as usize].is_some()
+    }
+}

@@ -1,0 +1,20 @@
+//! A directed graph of numbered classes: its distances and its shown walks.
+#![tactic(auto)]
+
+mod graph;
+mod levels;
+mod lists;
+mod shown;
+#[cfg(test)]
+mod tests;
+
+pub use graph::{Graph, MOST_CLASSES};
+
+/// An edge, from one class to another.
+#[derive(Clone, Copy, PartialEq, Eq, Hash, Debug)]
+pub struct Edge {
+    /// The class that the edge leaves.
+    pub from: u32,
+    /// The class that it enters.
+    pub to: u32,
+}
