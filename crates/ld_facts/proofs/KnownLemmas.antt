@@ -1,0 +1,151 @@
+-- From the scan of a trace to what its facts say.
+use Rattle.std.proofs.Common.{◌≡◌, ◌+◌, ◌<◌, ◌++◌, ◌∷◌, [], ◌||◌, List, ℕ, Bool, true, false, length, map, filter_map, get_or, Some, None, Ok, Err, refl, ap, sym, subst, ◌∙◌, arith, if◌then◌else◌, append_assoc, length-append}
+use Rattle.std.specs.Prelude.{AllPairs, slice_get}
+use Rattle.std.specs.List.{cons_option, enumerate_from, list_any}
+use Rattle.std.specs.Option.{option_map}
+use Rattle.std.proofs.lemmas.Bool.{true≢false}
+use Rattle.std.proofs.lemmas.List.{append-nil, get_or-map, length-map}
+use Rattle.std.proofs.lemmas.List.Quantifiers.{all_pairs_push}
+use Rattle.ld_trace.specs.declared.event.Event.{Event}
+use Rattle.ld_trace.specs.declared.event.LineFault.{LineFault}
+use Rattle.ld_trace.specs.Lines.{lines, text_of}
+use Rattle.ld_trace.specs.Sources.{PlainSource}
+use Rattle.ld_trace.specs.Events.{PlainEvent, Position, Said, plain_event, position_of, positions, said_by}
+use Rattle.ld_facts.specs.declared.edges.EdgeFact.{EdgeFact}
+use Rattle.ld_facts.specs.declared.fault.TraceFault.{TraceFault}
+use Rattle.ld_facts.specs.declared.outcome.Outcome.TheVariants.{Read, Refused}
+use Rattle.ld_facts.specs.declared.scan.Scan.{Scan}
+use Rattle.ld_facts.specs.Outcome.{each_once, classes, event_fault, events, faulty_lines, outcome, outcome_by, of_line, said_fault}
+use Rattle.ld_facts.specs.Dependency.{Dependency, Seen, dependencies_at, first_line, same_dependency, seen}
+use Rattle.ld_facts.specs.Union.{if_read}
+use Rattle.ld_facts.specs.Facts.{IsKnown, named}
+use Rattle.ld_facts.specs.Reading.{IsAt, IsReadTo, happens, positions_from, same_seen}
+use Rattle.ld_facts.proofs.OutcomeLemmas.{first_fault}
+use Rattle.ld_facts.proofs.PlaceLemmas.{alike_from_decides, by_pushes, each_once-more, find_each_once}
+use Rattle.ld_facts.proofs.StepLemmas.{Decides-same_dependency}
+
+-- the positions of lines, by the first of them
+positions-first : (line : ℕ) (rest first others : List ℕ) (said : Said) → lines rest ≡ first ∷ lines others → said_by (text_of first) ≡ said → positions_from line rest ≡ cons_option (position_of line said) (positions_from (line + 1) others)
+positions-first line rest first others said cut is =
+    ap (λ ls. filter_map (λ p. position_of p.0 (said_by (text_of p.1))) (enumerate_from line ls)) cut
+    ∙ ap (λ s. cons_option (position_of line s) (positions_from (line + 1) others)) is
+
+-- no element passes a test that none of them passes
+none_passes : {X : Type 0} (p : X → Bool) (xs : List X) → list_any p xs ≡ false → (k : ℕ) (d : X) → k < length xs → p (get_or xs k d) ≡ false
+none_passes p [] none k d below = absurd (omega arith)
+none_passes p (x ∷ xs) none ℕ.zero d below = first (p x) none
+  where
+    first : (b : Bool) → (b || list_any p xs) ≡ false → b ≡ false
+    first true is = is
+    first false is = refl
+none_passes p (x ∷ xs) none (ℕ.suc k) d below = none_passes p xs (rest (p x) none) k d (omega arith)
+  where
+    rest : (b : Bool) → (b || list_any p xs) ≡ false → list_any p xs ≡ false
+    rest true is = absurd (true≢false is)
+    rest false is = is
+
+-- no two elements of a list with each element once are the same
+each_once-pairs : {X : Type 0} (same : X → X → Bool) → ((x y : X) → same x y ≡ true → (z : X) → same x z ≡ same y z) → (xs : List X) → AllPairs (λ a b. same b a ≡ false) (each_once same xs)
+each_once-pairs {X} same alike xs = by_pushes (λ ys. AllPairs (λ a b. same b a ≡ false) (each_once same ys)) (λ i j d before below. absurd (omega arith)) step xs
+  where
+    added : (ys : List X) (y : X) → AllPairs (λ a b. same b a ≡ false) ys → (b : Bool) → list_any (same y) ys ≡ b → AllPairs (λ a b. same b a ≡ false) (ys ++ (if b then [] else y ∷ []))
+    added ys y h true is = subst (AllPairs (λ a b. same b a ≡ false)) (sym (append-nil ys)) h
+    added ys y h false is = all_pairs_push (λ a b. same b a ≡ false) ys y h (none_passes (same y) ys is)
+
+    step : (ys : List X) (y : X) → AllPairs (λ a b. same b a ≡ false) (each_once same ys) → AllPairs (λ a b. same b a ≡ false) (each_once same (ys ++ y ∷ []))
+    step ys y h = subst (AllPairs (λ a b. same b a ≡ false)) (sym (each_once-more same alike ys y)) (added (each_once same ys) y h (list_any (same y) (each_once same ys)) refl)
+
+alike_seen : (x y : Seen Dependency) → same_seen x y ≡ true → (z : Seen Dependency) → same_seen x z ≡ same_seen y z
+alike_seen x y is z = alike_from_decides same_dependency Decides-same_dependency x.what y.what is z.what
+
+-- numbered dependencies that are these by name, each once
+module _ (names : List (List ℕ)) (edges : List EdgeFact) (shown : List (Seen Dependency)) (is : map (named names) edges ≡ each_once same_seen shown) where
+  once_named : AllPairs (λ d e. (d.from ≡ e.from) × (d.to ≡ e.to) → ⊥) edges
+  once_named i j d before below both =
+      let apart : AllPairs (λ a b. same_seen b a ≡ false) (map (named names) edges) = subst (AllPairs (λ a b. same_seen b a ≡ false)) (sym is) (each_once-pairs same_seen alike_seen shown) in
+      let differ : same_seen (get_or (map (named names) edges) j (named names d)) (get_or (map (named names) edges) i (named names d)) ≡ false = apart i j (named names d) before (omega (arith, below, length-map edges (named names))) in
+      let here : get_or (map (named names) edges) i (named names d) ≡ named names (get_or edges i d) = get_or-map (named names) edges i d (named names d) (omega arith) in
+      let there : get_or (map (named names) edges) j (named names d) ≡ named names (get_or edges j d) = get_or-map (named names) edges j d (named names d) below in
+      let alike : (named names (get_or edges j d)).what ≡ (named names (get_or edges i d)).what = (λ k. record { from = get_or names (sym both.0 k) []; to = get_or names (sym both.1 k) [] }) in
+      true≢false (sym ((Decides-same_dependency (named names (get_or edges j d)).what (named names (get_or edges i d)).what).1 alike) ∙ (λ k. same_seen (sym there k) (sym here k)) ∙ differ)
+
+  least_named : (what : Dependency) → first_line same_dependency (map (named names) edges) what ≡ first_line same_dependency shown what
+  least_named what =
+      ap (λ xs. first_line same_dependency xs what) is
+      ∙ ap (option_map (λ s. s.line)) (find_each_once same_seen alike_seen (record { what = what; line = 0 }) shown)
+
+-- the same scan and count by other names
+pub moved : (source : PlainSource) (line : ℕ) (rest : List ℕ) (scan old : Scan) (count before : ℕ) → scan ≡ old → count ≡ before → IsReadTo source line rest old before → IsReadTo source line rest scan count
+moved source line rest scan old count before is many read = subst (λ s. IsReadTo source line rest s count) (sym is) (subst (IsReadTo source line rest old) (sym many) read)
+
+-- the scan of a source, one line further on
+module _ (source : PlainSource) (line : ℕ) (rest : List ℕ) (scan : Scan) (count : ℕ) (read : IsReadTo source line rest scan count) (first others : List ℕ) (cut : lines rest ≡ first ∷ lines others) where
+  -- a line that says nothing
+  pub read-nothing : said_by (text_of first) ≡ Ok None → IsReadTo source (line + 1) others scan count
+  read-nothing is = record {
+    before = read.before;
+    whole = read.whole ∙ ap (λ ps. read.before ++ ps) (positions-first line rest first others (Ok None) cut is);
+    scanned = read.scanned;
+    counted = read.counted;
+  }
+
+  -- an event without a fault, which leaves another scan
+  pub read-event : (text : List ℕ) (event : Event) (next : Scan) → text ≡ text_of first → ((all : List Position) → IsAt all scan → IsAt (all ++ happens line (plain_event event) ∷ []) next) → said_by text ≡ Ok (Some (plain_event event)) → IsReadTo source (line + 1) others next (count + 1)
+  read-event text event next shown scanned says = record {
+    before = read.before ++ happens line (plain_event event) ∷ [];
+    whole =
+        read.whole ∙ ap (λ ps. read.before ++ ps) (positions-first line rest first others (Ok (Some (plain_event event))) cut (ap said_by (sym shown) ∙ says))
+        ∙ sym (append_assoc read.before (happens line (plain_event event) ∷ []) (positions_from (line + 1) others));
+    scanned = scanned read.before read.scanned;
+    counted = ap (λ n. n + 1) read.counted ∙ sym (length-append read.before (happens line (plain_event event) ∷ []));
+  }
+
+  -- a position with a fault: the trace is refused
+  refused : (said : Said) (p : Position) (fault : TraceFault) → said_by (text_of first) ≡ said → position_of line said ≡ Some p → said_fault (events read.before) p.says ≡ Some fault → outcome source ≡ Refused p.line fault
+  refused said p fault is at faulty =
+      let whole : positions source ≡ read.before ++ p ∷ positions_from (line + 1) others =
+      read.whole ∙ ap (λ ps. read.before ++ ps) (positions-first line rest first others said cut is ∙ ap (λ o. cons_option o (positions_from (line + 1) others)) at) in
+      ap (outcome_by (length (positions source))) (ap (λ ps. slice_get (faulty_lines ps) 0) whole ∙ first_fault read.before p (positions_from (line + 1) others) fault read.scanned.clean faulty)
+
+  pub refused-event : (event : PlainEvent) (fault : TraceFault) → said_by (text_of first) ≡ Ok (Some event) → ((all : List Position) → IsAt all scan → event_fault (events all) event ≡ Some fault) → outcome source ≡ Refused line fault
+  refused-event event fault is faulty = refused (Ok (Some event)) (happens line event) fault is refl (faulty read.before read.scanned)
+
+  pub refused-line : (fault : LineFault) → said_by (text_of first) ≡ Err fault → outcome source ≡ Refused line (of_line fault)
+  refused-line fault is = refused (Err fault) (record { line = line; says = Err fault }) (of_line fault) is refl refl
+
+-- a scan that is read to the end has the facts
+pub read-known : (source : PlainSource) (line : ℕ) (rest : List ℕ) (scan : Scan) (count : ℕ) → IsReadTo source line rest scan count → rest ≡ [] → IsKnown (record { source = source; outcome = Read count; classes = scan.classes; edges = scan.locks.edges })
+read-known source line rest scan count read ended =
+    let all : positions source ≡ read.before = read.whole ∙ ap (λ bytes. read.before ++ positions_from line bytes) ended ∙ append-nil read.before in
+    let is : outcome source ≡ Read count =
+    (λ i. outcome_by (length (all i)) (slice_get (faulty_lines (all i)) 0)) ∙ (λ i. outcome_by (sym read.counted i) (slice_get (read.scanned.clean i) 0)) in
+    record {
+      outcome = sym is;
+      classes = read.scanned.classes ∙ (λ i. if_read (sym is i) (classes (events (sym all i))));
+      within = read.scanned.within;
+      once = once_named scan.classes scan.locks.edges (seen dependencies_at read.before) read.scanned.edges;
+      edges = λ what.
+          least_named scan.classes scan.locks.edges (seen dependencies_at read.before) read.scanned.edges what
+          ∙ (λ i. first_line same_dependency (if_read (sym is i) (seen dependencies_at (sym all i))) what);
+    }
+
+-- before the first line
+pub read-none : (source : PlainSource) (scan : Scan) → scan ≡ record { tasks = []; classes = []; locks = record { stacks = []; edges = [] } } → IsReadTo source source.first_line source.bytes scan 0
+read-none source scan new = subst (λ s. IsReadTo source source.first_line source.bytes s 0) (sym new) (record {
+  before = [];
+  whole = refl;
+  scanned = record {
+    clean = refl;
+    quiet = refl;
+    tasks = refl;
+    classes = refl;
+    few_tasks = omega arith;
+    few_classes = omega arith;
+    many = refl;
+    stacks = λ id name is. (refl, λ k d below. absurd (omega arith));
+    shallow = λ id. omega arith;
+    edges = refl;
+    within = λ k d below. absurd (omega arith);
+  };
+  counted = refl;
+})

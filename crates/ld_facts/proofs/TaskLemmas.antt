@@ -1,0 +1,156 @@
+-- The tasks of a scan before and after the task of one more event, and what a task that is new to the trace holds.
+use Rattle.std.proofs.Common.{◌≡◌, ◌≢◌, ◌<◌, ◌≤◌, ◌+◌, ◌++◌, ◌∷◌, [], ◌||◌, ◌&&◌, List, ℕ, Bool, true, false, not, length, map, get_or, Option, Some, None, refl, ap, sym, subst, ◌∙◌, ◌⊎◌, inl, inr, arith, if◌then◌else◌, eqb, length-append}
+use Rattle.std.proofs.Math.Seq.{get_or-append_seam}
+use Rattle.std.proofs.lemmas.Bool.{or_parts, eq-eqb, ne_eqb, cases_lt}
+use Rattle.std.proofs.lemmas.List.{map-append, get_or_append_left, get_or_past}
+use Rattle.std.proofs.lemmas.List.Elements.{All-nil, All-same}
+use Rattle.std.proofs.lemmas.List.Folds.{list_any-append}
+use Rattle.std.proofs.lemmas.Slice.Eq.{bytes_eq-Decides}
+use Rattle.std.specs.List.{list_any}
+use Rattle.std.specs.Str.{bytes_eq}
+use Rattle.ld_class.specs.Names.{AreDistinct, IsNameAt, place_of, with_name}
+use Rattle.ld_class.proofs.NameLemmas.{place_of-None, with_name-known, with_name-new, list_any-known, list_any-new}
+use Rattle.ld_trace.specs.Events.{PlainEvent, PlainLock, Position}
+use Rattle.ld_trace.specs.Events.PlainEvent.{Acquire, Try, Release, Enter, Exit, Enable, Disable}
+use Rattle.ld_facts.specs.declared.fault.TraceFault.TheVariants.{TooManyTasks}
+use Rattle.ld_facts.specs.declared.outcome.TheConstants.{MOST_TASKS}
+use Rattle.ld_facts.specs.declared.scan.Scan.{Scan}
+use Rattle.ld_facts.specs.Frames.{task_of, frame_of}
+use Rattle.ld_facts.specs.Held.{Key, held_by}
+use Rattle.ld_facts.specs.Locks.{Hold}
+use Rattle.ld_facts.specs.Outcome.{is_one_too_many, event_fault, events, tasks}
+use Rattle.ld_facts.specs.Reading.{IsAt, Holds, acquisition}
+use Rattle.ld_facts.proofs.PlaceLemmas.{alike_from_decides, any_each_once, by_pushes}
+use Rattle.ld_facts.proofs.HeldLemmas.{held_by-acquires, held_by-releases_other, held_by-other}
+use Rattle.ld_facts.proofs.StepLemmas.{tasks-push}
+
+and_false : (b : Bool) → (b && false) ≡ false
+and_false true = refl
+and_false false = refl
+
+-- the test whether a name is one too many
+module _ (most : ℕ) (names : List (List ℕ)) (name : List ℕ) where
+  pub is_one_too_many-full : place_of names name ≡ None → most ≤ length names → length names ≤ most → is_one_too_many most names name ≡ true
+  is_one_too_many-full new low high =
+      let full : length names ≡ most = omega arith in
+      (λ i. eq-eqb (length names) most full i && not (list_any-new names name new i))
+
+  pub is_one_too_many-known : (id : ℕ) → place_of names name ≡ Some id → is_one_too_many most names name ≡ false
+  is_one_too_many-known id known = ap (λ b. eqb (length names) most && not b) (list_any-known names name id known) ∙ and_false (eqb (length names) most)
+
+  pub is_one_too_many-fits : (place_of names name ≡ None → length names < most) → is_one_too_many most names name ≡ false
+  is_one_too_many-fits fits = by (place_of names name) refl
+    where
+      by : (r : Option ℕ) → place_of names name ≡ r → is_one_too_many most names name ≡ false
+      by None new = let low = fits new in ap (λ b. b && not (list_any (bytes_eq name) names)) (ne_eqb (length names) most (λ same. omega arith))
+      by (Some id) known = is_one_too_many-known id known
+
+  -- the names with it are no more than there may be
+  pub with_name-few : (place_of names name ≡ None → length names < most) → length names ≤ most → length (with_name names name) ≤ most
+  with_name-few fits few = by (place_of names name) refl
+    where
+      by : (r : Option ℕ) → place_of names name ≡ r → length (with_name names name) ≤ most
+      by None new = let low = fits new in omega (arith, ap length (with_name-new names name new), length-append names (name ∷ []))
+      by (Some id) known = omega (arith, ap length (with_name-known names name id known))
+
+-- the fault of an event of one task too many
+pub too_many_tasks : (past : List PlainEvent) (e : PlainEvent) → is_one_too_many MOST_TASKS (tasks past) (task_of e) ≡ true → event_fault past e ≡ Some TooManyTasks
+too_many_tasks past e is = rw is refl
+
+-- distinct names stay distinct with one more
+pub AreDistinct-with_name : (names : List (List ℕ)) (name : List ℕ) → AreDistinct names → AreDistinct (with_name names name)
+AreDistinct-with_name names name distinct = by (place_of names name) refl
+  where
+    placed : place_of names name ≡ None → (i : ℕ) (other : List ℕ) → IsNameAt (names ++ name ∷ []) i other → IsNameAt names i other ⊎ ((i ≡ length names) × (other ≡ name))
+    placed new i other at = split (cases_lt i (length names))
+      where
+        split : (i < length names) ⊎ (length names ≤ i) → IsNameAt names i other ⊎ ((i ≡ length names) × (other ≡ name))
+        split (inl low) = inl (low, sym (get_or_append_left names (name ∷ []) [] i low) ∙ at.1)
+        split (inr high) =
+            let last : i ≡ length names = omega (arith, at.0, length-append names (name ∷ [])) in
+            inr (last, sym at.1 ∙ ap (λ k. get_or (names ++ name ∷ []) k []) last ∙ get_or-append_seam names name [] [])
+
+    apart : place_of names name ≡ None → (i j : ℕ) (other : List ℕ) → IsNameAt names i other ⊎ ((i ≡ length names) × (other ≡ name)) → IsNameAt names j other ⊎ ((j ≡ length names) × (other ≡ name)) → i ≡ j
+    apart new i j other (inl a) (inl b) = distinct i j other a b
+    apart new i j other (inl a) (inr b) = absurd (place_of-None names name i new (a.0, a.1 ∙ b.1))
+    apart new i j other (inr a) (inl b) = absurd (place_of-None names name j new (b.0, b.1 ∙ a.1))
+    apart new i j other (inr a) (inr b) = a.0 ∙ sym b.0
+
+    by : (r : Option ℕ) → place_of names name ≡ r → AreDistinct (with_name names name)
+    by None new = subst AreDistinct (sym (with_name-new names name new)) (λ i j other at_i at_j. apart new i j other (placed new i other at_i) (placed new j other at_j))
+    by (Some id) known = subst AreDistinct (sym (with_name-known names name id known)) distinct
+
+-- the tasks of a trace are distinct
+pub tasks-AreDistinct : (past : List PlainEvent) → AreDistinct (tasks past)
+tasks-AreDistinct past = by_pushes (λ xs. AreDistinct (tasks xs)) (λ i j name at_i at_j. absurd (omega (arith, at_i.0))) (λ xs e rest. subst AreDistinct (sym (tasks-push xs e)) (AreDistinct-with_name (tasks xs) (task_of e) rest)) past
+
+-- a task without an event holds nothing
+pub held_by-new : (past : List PlainEvent) (name : List ℕ) → place_of (tasks past) name ≡ None → held_by past name ≡ []
+held_by-new past name new =
+    by_pushes (λ xs. list_any (bytes_eq name) (map task_of xs) ≡ false → held_by xs name ≡ []) (λ _. refl) step past
+    (sym (any_each_once bytes_eq (alike_from_decides bytes_eq bytes_eq-Decides) name (map task_of past)) ∙ list_any-new (tasks past) name new)
+  where
+    acquired : (xs : List PlainEvent) (e : PlainEvent) (key : Key) → bytes_eq name (task_of e) ≡ false → held_by xs name ≡ [] → held_by xs name ++ (if bytes_eq name (task_of e) then key ∷ [] else []) ≡ []
+    acquired xs e key other rest = λ i. rest i ++ (if other i then key ∷ [] else [])
+
+    by : (xs : List PlainEvent) (e : PlainEvent) → bytes_eq name (task_of e) ≡ false → held_by xs name ≡ [] → held_by (xs ++ e ∷ []) name ≡ []
+    by xs (Acquire t l) other rest = held_by-acquires xs name (Acquire t l) l refl ∙ acquired xs (Acquire t l) (record { task = t; frame = frame_of xs t; lock = l }) other rest
+    by xs (Try t l) other rest = held_by-acquires xs name (Try t l) l refl ∙ acquired xs (Try t l) (record { task = t; frame = frame_of xs t; lock = l }) other rest
+    by xs (Release t l) other rest = held_by-releases_other xs name t l other ∙ rest
+    by xs (Enter t s) other rest = held_by-other xs name (Enter t s) refl refl ∙ rest
+    by xs (Exit t s) other rest = held_by-other xs name (Exit t s) refl refl ∙ rest
+    by xs (Enable t s) other rest = held_by-other xs name (Enable t s) refl refl ∙ rest
+    by xs (Disable t s) other rest = held_by-other xs name (Disable t s) refl refl ∙ rest
+
+    step : (xs : List PlainEvent) (e : PlainEvent) → (list_any (bytes_eq name) (map task_of xs) ≡ false → held_by xs name ≡ []) → list_any (bytes_eq name) (map task_of (xs ++ e ∷ [])) ≡ false → held_by (xs ++ e ∷ []) name ≡ []
+    step xs e rest none =
+        let parts = or_parts (list_any (bytes_eq name) (map task_of xs)) (bytes_eq name (task_of e) || false)
+        (sym (list_any-append (bytes_eq name) (map task_of xs) (task_of e ∷ [])) ∙ ap (list_any (bytes_eq name)) (sym (map-append task_of xs (e ∷ []))) ∙ none) in
+        let other = or_parts (bytes_eq name (task_of e)) false parts.1 in
+        by xs e other.0 (rest parts.0)
+
+-- the scan with the task of one more event, as `Scan::task` leaves it
+module _ (all : List Position) (scan : Scan) (is_at : IsAt all scan) (name : List ℕ) (names : List (List ℕ)) (stacks : List (List Hold)) (is : names ≡ with_name scan.tasks name) (kept : (k : ℕ) → get_or stacks k [] ≡ get_or scan.locks.stacks k []) where
+  -- each task holds what it held, and a new one nothing
+  pub task-stacks : (id : ℕ) (other : List ℕ) → IsNameAt names id other → Holds scan.classes (get_or stacks id []) other all
+  task-stacks id other at = subst (λ stack. Holds scan.classes stack other all) (sym (kept id)) (by (place_of scan.tasks name) refl)
+    where
+      by : (r : Option ℕ) → place_of scan.tasks name ≡ r → Holds scan.classes (get_or scan.locks.stacks id []) other all
+      by (Some k) known = is_at.stacks id other (subst (λ ns. IsNameAt ns id other) (is ∙ with_name-known scan.tasks name k known) at)
+      by None new = split (subst (λ ns. IsNameAt ns id other) (is ∙ with_name-new scan.tasks name new) at) (cases_lt id (length scan.tasks))
+        where
+          split : IsNameAt (scan.tasks ++ name ∷ []) id other → (id < length scan.tasks) ⊎ (length scan.tasks ≤ id) → Holds scan.classes (get_or scan.locks.stacks id []) other all
+          split end (inl low) = is_at.stacks id other (low, sym (get_or_append_left scan.tasks (name ∷ []) [] id low) ∙ end.1)
+          split end (inr high) =
+              let last : id ≡ length scan.tasks = omega (arith, end.0, length-append scan.tasks (name ∷ [])) in
+              let same : other ≡ name = sym end.1 ∙ ap (λ k. get_or (scan.tasks ++ name ∷ []) k []) last ∙ get_or-append_seam scan.tasks name [] [] in
+              let past_end : length scan.locks.stacks ≤ id = omega (arith, is_at.many) in
+              let empty : get_or scan.locks.stacks id [] ≡ [] = get_or_past scan.locks.stacks id [] past_end in
+              let none : held_by (events all) other ≡ [] = held_by-new (events all) other (ap (λ n. place_of (tasks (events all)) n) same ∙ ap (λ ns. place_of ns name) (sym is_at.tasks) ∙ new) in
+              ((λ i. map (λ hold. hold.lock) (empty i)) ∙ sym (λ i. map (λ key. key.lock) (none i)), All-same (λ hold. IsNameAt scan.classes hold.class hold.lock.class) (get_or scan.locks.stacks id []) [] empty (All-nil (λ hold. IsNameAt scan.classes hold.class hold.lock.class)))
+
+  -- the names are distinct
+  pub task-distinct : AreDistinct names
+  task-distinct = subst AreDistinct (sym (is ∙ ap (λ ns. with_name ns name) is_at.tasks)) (AreDistinct-with_name (tasks (events all)) name (tasks-AreDistinct (events all)))
+
+  -- so another number is that of another name
+  pub task-other : (id k : ℕ) (other : List ℕ) → IsNameAt names id name → IsNameAt names k other → k ≢ id → bytes_eq other name ≡ false
+  task-other id k other here there apart = by (bytes_eq other name) refl
+    where
+      by : (b : Bool) → bytes_eq other name ≡ b → b ≡ false
+      by false eq = refl
+      by true eq = absurd (apart (task-distinct k id name (there.0, there.1 ∙ (bytes_eq-Decides other name).0 eq) here))
+
+-- a scan that has too many tasks for one more
+pub scan_too_many_tasks : (all : List Position) (scan : Scan) (e : PlainEvent) → IsAt all scan → place_of scan.tasks (task_of e) ≡ None → MOST_TASKS ≤ length scan.tasks → event_fault (events all) e ≡ Some TooManyTasks
+scan_too_many_tasks all scan e is_at new full =
+    too_many_tasks (events all) e (ap (λ ns. is_one_too_many MOST_TASKS ns (task_of e)) (sym is_at.tasks) ∙ is_one_too_many-full MOST_TASKS scan.tasks (task_of e) new full is_at.few_tasks)
+
+-- the same of an acquisition
+pub acquisition_too_many_tasks : (all : List Position) (scan : Scan) (name : List ℕ) (lock : PlainLock) (waited : Option ℕ) → IsAt all scan → place_of scan.tasks name ≡ None → MOST_TASKS ≤ length scan.tasks → event_fault (events all) (acquisition name lock waited) ≡ Some TooManyTasks
+acquisition_too_many_tasks all scan name lock None is_at new full = scan_too_many_tasks all scan (Try name lock) is_at new full
+acquisition_too_many_tasks all scan name lock (Some line) is_at new full = scan_too_many_tasks all scan (Acquire name lock) is_at new full
+
+-- one that has not
+pub scan_not_too_many_tasks : (all : List Position) (scan : Scan) (name : List ℕ) → IsAt all scan → (place_of scan.tasks name ≡ None → length scan.tasks < MOST_TASKS) → is_one_too_many MOST_TASKS (tasks (events all)) name ≡ false
+scan_not_too_many_tasks all scan name is_at fits = ap (λ ns. is_one_too_many MOST_TASKS ns name) (sym is_at.tasks) ∙ is_one_too_many-fits MOST_TASKS scan.tasks name fits

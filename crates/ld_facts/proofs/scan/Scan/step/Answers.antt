@@ -1,0 +1,23 @@
+use Rattle.std.proofs.Common.{◌++◌, ◌∷◌, [], ap, subst, sym, ◌∙◌}
+use Rattle.std.proofs.lemmas.Result.{on_ok_weaker}
+use Rattle.ld_trace.specs.Events.{plain_event}
+use Rattle.ld_facts.specs.Outcome.{event_fault, events}
+use Rattle.ld_facts.specs.Reading.{IsAt, happens}
+use Rattle.ld_facts.proofs.scan.Scan.step.Goals as goal
+
+pub returns-in-Acquire-clause-fault : goal.returns-in-Acquire-clause-fault
+returns-in-Acquire-clause-fault c fault is all is_at =
+    ap (λ e. event_fault (events all) (plain_event e)) c.in-Acquire.is ∙ c.acquire.ensures.fault fault is all is_at
+
+pub returns-in-Try-clause-fault : goal.returns-in-Try-clause-fault
+returns-in-Try-clause-fault c fault is all is_at =
+    ap (λ e. event_fault (events all) (plain_event e)) c.in-Try.is ∙ c.acquire-in-Try.ensures.fault fault is all is_at
+
+pub returns-in-Release-clause-ok : goal.returns-in-Release-clause-ok
+returns-in-Release-clause-ok c = on_ok_weaker c.release.result
+    (λ h all is_at. subst (λ e. IsAt (all ++ happens c.args.line (plain_event e) ∷ []) c.release.new.self) (sym c.in-Release.is) (h all c.args.line is_at))
+    c.release.ensures.ok
+
+pub returns-in-Release-clause-fault : goal.returns-in-Release-clause-fault
+returns-in-Release-clause-fault c fault is all is_at =
+    ap (λ e. event_fault (events all) (plain_event e)) c.in-Release.is ∙ c.release.ensures.fault fault is all is_at

@@ -1,0 +1,14 @@
+pub mod Open
+pub mod Frames
+pub mod Held
+pub mod Flags
+pub mod Outcome
+pub mod Dependency
+pub mod Usage
+pub mod Union
+pub mod Scan
+pub mod Chains
+pub mod Edges
+pub mod Locks
+pub mod Reading
+pub mod Facts

@@ -1,0 +1,65 @@
+-- What tasks hold and which dependencies were told, and what ties the cache of chains to them.
+use Rattle.std.specs.Prelude.{◌≡◌, ◌<◌, ◌≤◌, ◌+◌, ℕ, Bool, true, List, [], map, length, take, slice_index_or, Option, None, IfSome}
+use Rattle.std.specs.List.{last_or, list_all, list_any, All}
+use Rattle.ld_trace.specs.Events.{PlainLock}
+use Rattle.ld_facts.specs.declared.chains.Link.{Link}
+use Rattle.ld_facts.specs.declared.edges.EdgeFact.{EdgeFact}
+use Rattle.ld_facts.specs.Chains.{chain_before}
+use Rattle.ld_facts.specs.Edges.{same_pair, edge_to}
+use Rattle.ld_facts.specs.Held.{same_lock}
+use Rattle.ld_facts.specs.Scan.{PlainHeld, plain_held}
+use Rattle.ld_facts.specs.declared.held.Held.{Held}
+
+-- a lock that a task holds, and the number of its class
+pub record Hold : Type 0 where
+  pub lock : PlainLock
+  pub class : ℕ
+
+abbrev pub hold_of : PlainHeld → Hold
+hold_of held = record { lock = held.lock; class = held.class }
+
+-- what tasks hold, by their numbers, each in order of acquisition, and the dependencies so far
+pub record Known : Type 0 where
+  pub stacks : List (List Hold)
+  pub edges : List EdgeFact
+
+abbrev pub classes_held : List PlainHeld → List ℕ
+classes_held stack = map (λ held. held.class) stack
+
+-- the chain of a stack is that of its last lock
+abbrev pub chain_of : List PlainHeld → Option ℕ
+chain_of stack = last_or None (map (λ held. held.chain) stack)
+
+-- this number is that of the chain
+abbrev pub IsChain : List (List ℕ) → ℕ → List ℕ → Type 0
+IsChain chains number chain = (number < length chains) × (slice_index_or chains number [] ≡ chain)
+
+-- each of the first n locks carries the chain of the classes up to it
+abbrev pub AreChainedBelow : List (List ℕ) → List PlainHeld → ℕ → Type 0
+AreChainedBelow chains stack n = (i : ℕ) (d : PlainHeld) → i < n → i < length stack → IsChain chains (slice_index_or stack i d).chain (take (i + 1) (classes_held stack))
+
+abbrev pub AreChained : List (List ℕ) → List PlainHeld → Type 0
+AreChained chains stack = AreChainedBelow chains stack (length stack)
+
+-- chains keep their numbers as more are met
+pub record IsExtended (old new : List (List ℕ)) : Type 0 where
+  pub more : length old ≤ length new
+  pub kept : (n : ℕ) → n < length old → slice_index_or new n [] ≡ slice_index_or old n []
+
+-- the dependencies of a waiting acquisition are there
+pub record IsTold (chains : List (List ℕ)) (edges : List EdgeFact) (link : Link) : Type 0 where
+  pub known : IfSome link.before (λ n. n < length chains)
+  pub told : list_all (λ from. list_any (same_pair (edge_to link.class 0 from)) edges) (chain_before chains link.before) ≡ true
+
+-- what ties stacks, chains and what was told
+pub record AreTied (stacks : List (List PlainHeld)) (chains : List (List ℕ)) (told : List Link) (edges : List EdgeFact) : Type 0 where
+  pub chained : (task : ℕ) → AreChained chains (slice_index_or stacks task [])
+  pub complete : All (λ link. IsTold chains edges link) told
+
+-- it is of this lock
+abbrev pub is_of : PlainLock → Hold → Bool
+is_of lock hold = same_lock lock hold.lock
+
+-- the locks of a stack, as plain data without their chains
+abbrev pub holds_of : List Held → List Hold
+holds_of stack = map (λ held. hold_of (plain_held held)) stack

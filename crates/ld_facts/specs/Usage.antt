@@ -1,0 +1,46 @@
+-- *Usage*.
+use Rattle.std.specs.Prelude.{ℕ, Bool, false, ◌&&◌, List, [], ◌∷◌, ◌++◌, map, filter}
+use Rattle.std.specs.Str.{bytes_eq}
+use Rattle.ld_trace.specs.declared.event.State.{State}
+use Rattle.ld_trace.specs.declared.event.State.TheVariants.{Hard, Soft}
+use Rattle.ld_trace.specs.Events.{PlainEvent}
+use Rattle.ld_trace.specs.Events.PlainEvent.{Acquire}
+use Rattle.ld_facts.specs.Frames.{contexts}
+use Rattle.ld_facts.specs.Held.{held}
+use Rattle.ld_facts.specs.Flags.{same_state, is_enabled}
+
+-- a class used in a state's context, or held with the state enabled
+pub data Bit : Type 0 where
+  In : (state : State) → Bit
+  On : (state : State) → Bit
+
+abbrev pub same_bit : Bit → Bit → Bool
+same_bit (In a) (In b) = same_state a b
+same_bit (In a) (On b) = false
+same_bit (On a) (In b) = false
+same_bit (On a) (On b) = same_state a b
+
+-- one bit of one class
+pub record Use : Type 0 where
+  pub class : List ℕ
+  pub bit : Bit
+
+abbrev pub same_use : Use → Use → Bool
+same_use a b = bytes_eq a.class b.class && same_bit a.bit b.bit
+
+-- IN_S of c stands at p if p is a waiting acquisition of c by a task with S among its contexts. Here
+-- `now` is the past at p.
+abbrev pub in_uses : List PlainEvent → PlainEvent → List Use
+in_uses now (Acquire task lock) = map (λ state. record { class = lock.class; bit = In state }) (contexts now task)
+in_uses now other = []
+
+-- ON_HARD of c stands at p if an acquisition of c, of any frame, is open at p and its task's hard flag
+-- at p is on; ON_SOFT, where both its flags are on.
+abbrev pub on_uses : List PlainEvent → State → List Use
+on_uses now state = map (λ key. record { class = key.lock.class; bit = On state }) (filter (λ key. is_enabled now key.task state) (held now))
+
+-- the uses that stand at an event after these
+abbrev pub uses_at : List PlainEvent → PlainEvent → List Use
+uses_at past event =
+    let now = past ++ event ∷ [] in
+    in_uses now event ++ (on_uses now Hard ++ on_uses now Soft)

@@ -1,0 +1,71 @@
+//! What one trace shows.
+ghost use Rattle.std.specs.Prelude.{◌≡◌};
+ghost use Rattle.ld_trace.specs.Sources.{plain};
+ghost use Rattle.ld_facts.specs.Facts.{IsKnown};
+
+use crate::edges::{EdgeFact, Edges};
+use crate::outcome::Outcome;
+use ld_class::Classes;
+use ld_trace::Source;
+use std::marker::Model;
+
+/// What one trace shows.
+#[derive(Drop)]
+pub struct Facts<'a> {
+    pub(crate) source: Source<'a>,
+    pub(crate) outcome: Outcome,
+    pub(crate) classes: Classes<'a>,
+    pub(crate) edges: Edges,
+}
+
+impl<'a> Model for Facts<'a> {
+    ghost use Rattle.ld_facts.specs.Facts.{Known, IsKnown};
+    ghost use Rattle.ld_trace.specs.Sources.{plain};
+
+    ghost Value = { Known };
+
+    ghost view = { λ f. record {
+      source = plain f.source;
+      outcome = f.outcome;
+      classes = f.classes;
+      edges = f.edges;
+    } };
+
+    ghost invariant = { λ f. IsKnown (record {
+      source = plain f.source;
+      outcome = f.outcome;
+      classes = f.classes;
+      edges = f.edges;
+    }) };
+}
+
+impl<'a> Facts<'a> {
+    /// The trace.
+    pub fn source(&self) -> Source<'a>
+        ensures source { plain result ≡ self.now.source }
+        ensures known { IsKnown self.now }
+    {
+        self.source
+    }
+
+    /// What became of it.
+    pub fn outcome(&self) -> Outcome
+        ensures { result ≡ self.now.outcome }
+    {
+        self.outcome
+    }
+
+    /// Its classes, in order of first acquisition; none where it is refused.
+    pub fn classes(&self) -> &Classes<'a>
+        ensures { result.now ≡ self.now.classes }
+    {
+        &self.classes
+    }
+
+    /// Its dependencies, each once with its least line; none where it is refused.
+    pub fn edges(&self) -> &[EdgeFact]
+        ensures { result.now ≡ self.now.edges }
+    {
+        self.edges.as_slice()
+    }
+}

@@ -1,0 +1,59 @@
+//! Reads the facts of a trace.
+ghost use Rattle.std.specs.Prelude.{◌≡◌, IfOk};
+ghost use Rattle.ld_trace.specs.Sources.{plain, Fits};
+ghost use Rattle.ld_facts.specs.Outcome.{outcome};
+ghost use Rattle.ld_facts.specs.declared.outcome.Outcome.TheVariants.{Refused};
+
+use crate::edges::Edges;
+use crate::fault::TraceFault;
+use crate::known::Facts;
+use crate::outcome::Outcome;
+use crate::scan::{Scan, Stop};
+use ld_class::Classes;
+use ld_trace::{Source, next_line, read_event, text};
+use std::alloc::{AllocError, Global};
+
+/// The facts of a trace.
+pub fn facts<'a>(alloc: Global, source: Source<'a>) -> Result<Facts<'a>, AllocError>
+    requires { Fits (plain source) }
+    ensures { IfOk result (λ facts. facts.source ≡ plain source.entry) }
+{
+    let mut scan = Scan::new(alloc);
+    let mut rest = source.bytes;
+    let mut line = source.first_line;
+    let mut events = 0;
+    while let Some((first, others)) = next_line(rest) {
+        match read_event(text(first)) {
+            Ok(None) => {}
+            Ok(Some(event)) => match scan.step(event, line) {
+                Ok(()) => events += 1,
+                Err(Stop::Memory) => return Err(AllocError),
+                Err(Stop::Fault(fault)) => return Ok(refused(alloc, source, line, fault)),
+            },
+            Err(fault) => return Ok(refused(alloc, source, line, TraceFault::from(fault))),
+        }
+        rest = others;
+        line += 1;
+    }
+    Ok(Facts {
+        source,
+        outcome: Outcome::Read { events },
+        classes: scan.classes,
+        edges: scan.locks.into_edges(),
+    })
+}
+
+fn refused<'a>(alloc: Global, source: Source<'a>, line: u64, fault: TraceFault) -> Facts<'a>
+    requires { outcome (plain source) ≡ Refused line fault }
+    ensures { result.source ≡ plain source.entry }
+{
+    Facts {
+        source,
+        outcome: Outcome::Refused { line, fault },
+        classes: Classes::new(alloc),
+        edges: Edges::new(alloc),
+    }
+}
+
+#[cfg(test)]
+mod tests;

@@ -1,0 +1,168 @@
+//! Rows of streams, by what is told of their one trace.
+use super::*;
+use crate::edges::EdgeFact;
+use std::test::Fail;
+
+fn source(bytes: &[u8]) -> Source<'_> {
+    Source {
+        number: 0,
+        name: b"m",
+        first_line: 2,
+        bytes,
+    }
+}
+
+fn told<'a>(rt: &HostRuntime, bytes: &'a [u8]) -> Result<Facts<'a>, Fail> {
+    let source = source(bytes);
+    if !source.fits() {
+        return Err(Fail::from(AllocError));
+    }
+    Ok(facts(rt.alloc(), source)?)
+}
+
+fn outcome(rt: &HostRuntime, bytes: &[u8]) -> Result<Outcome, Fail> {
+    let facts = told(rt, bytes)?;
+    Ok(facts.outcome())
+}
+
+fn refused_at(line: u64, fault: TraceFault) -> Outcome {
+    Outcome::Refused { line, fault }
+}
+
+fn has_edge(edges: &[EdgeFact], from: u32, to: u32, line: u64) -> bool {
+    edges.contains(&EdgeFact { from, to, line })
+}
+
+#[test]
+fn a_lock_released_out_of_order_is_no_source(rt: HostRuntime) -> Result<(), Fail> {
+    let bytes = b"acquire t A\nacquire t B\nrelease t A\nacquire t C\n";
+    let facts = told(&rt, bytes)?;
+    assert_eq!(rt; facts.outcome(), Outcome::Read { events: 4 });
+    assert_eq!(rt; facts.classes().len(), 3);
+    assert_eq!(rt; facts.edges().len(), 2);
+    assert!(rt; has_edge(facts.edges(), 0, 1, 3));
+    assert!(rt; has_edge(facts.edges(), 1, 2, 5));
+    Ok(())
+}
+
+#[test]
+fn a_dependency_has_its_least_line(rt: HostRuntime) -> Result<(), Fail> {
+    let bytes = b"acquire t A\nacquire t B\nrelease t B\nacquire t B\n";
+    let facts = told(&rt, bytes)?;
+    assert_eq!(rt; facts.edges().len(), 1);
+    assert!(rt; has_edge(facts.edges(), 0, 1, 3));
+    Ok(())
+}
+
+#[test]
+fn a_trylock_is_no_target(rt: HostRuntime) -> Result<(), Fail> {
+    let facts = told(&rt, b"acquire t A@1\ntry t A@2\n")?;
+    assert_eq!(rt; facts.outcome(), Outcome::Read { events: 2 });
+    assert_eq!(rt; facts.edges().len(), 0);
+    Ok(())
+}
+
+#[test]
+fn a_held_trylock_is_a_source(rt: HostRuntime) -> Result<(), Fail> {
+    let facts = told(&rt, b"try t A\nacquire t B\n")?;
+    assert_eq!(rt; facts.edges().len(), 1);
+    assert!(rt; has_edge(facts.edges(), 0, 1, 3));
+    Ok(())
+}
+
+#[test]
+fn two_instances_recur(rt: HostRuntime) -> Result<(), Fail> {
+    let facts = told(&rt, b"acquire t A@1\nacquire t A@2\n")?;
+    assert_eq!(rt; facts.edges().len(), 1);
+    assert!(rt; has_edge(facts.edges(), 0, 0, 3));
+    Ok(())
+}
+
+#[test]
+fn a_trace_is_refused_at_its_first_fault(rt: HostRuntime) -> Result<(), Fail> {
+    assert_eq!(rt;
+        outcome(&rt, b"lock t A\n")?,
+        refused_at(2, TraceFault::BadVerb)
+    );
+    assert_eq!(rt;
+        outcome(&rt, b"acquire t\n")?,
+        refused_at(2, TraceFault::BadCount)
+    );
+    assert_eq!(rt;
+        outcome(&rt, b"acquire t A@\n")?,
+        refused_at(2, TraceFault::BadName)
+    );
+    assert_eq!(rt;
+        outcome(&rt, b"release t A\n")?,
+        refused_at(2, TraceFault::NotHeld)
+    );
+    assert_eq!(rt;
+        outcome(&rt, b"acquire t A@1\nrelease t A\n")?,
+        refused_at(3, TraceFault::NotHeld)
+    );
+    assert_eq!(rt;
+        outcome(&rt, b"acquire t A\nrelease u A\n")?,
+        refused_at(3, TraceFault::NotHeld)
+    );
+    let facts = told(&rt, b"acquire t A\nacquire t B\nlock t C\n")?;
+    assert_eq!(rt; facts.outcome(), refused_at(4, TraceFault::BadVerb));
+    assert_eq!(rt; facts.classes().len(), 0);
+    assert_eq!(rt; facts.edges().len(), 0);
+    Ok(())
+}
+
+#[test]
+fn a_trace_has_1024_tasks_at_most(rt: HostRuntime) -> Result<(), Fail> {
+    let mut text = String::new(rt.alloc());
+    for number in 1..=1024 {
+        text.push_str(format!(in rt.alloc(); "acquire t{number} A\n")?.as_str())?;
+    }
+    assert_eq!(rt;
+        outcome(&rt, text.as_bytes())?,
+        Outcome::Read { events: 1024 }
+    );
+    text.push_str("acquire t1025 A\n")?;
+    assert_eq!(rt;
+        outcome(&rt, text.as_bytes())?,
+        refused_at(1026, TraceFault::TooManyTasks)
+    );
+    Ok(())
+}
+
+#[test]
+fn a_trace_has_8191_classes_at_most(rt: HostRuntime) -> Result<(), Fail> {
+    let mut text = String::new(rt.alloc());
+    for number in 1..=8191 {
+        text.push_str(format!(in rt.alloc();
+            "acquire t c{number}\nrelease t c{number}\n"
+        )?.as_str())?;
+    }
+    assert_eq!(rt;
+        outcome(&rt, text.as_bytes())?,
+        Outcome::Read { events: 16382 }
+    );
+    text.push_str("acquire t c8192\n")?;
+    assert_eq!(rt;
+        outcome(&rt, text.as_bytes())?,
+        refused_at(16384, TraceFault::TooManyClasses)
+    );
+    Ok(())
+}
+
+#[test]
+fn a_task_holds_48_locks_at_most(rt: HostRuntime) -> Result<(), Fail> {
+    let mut text = String::new(rt.alloc());
+    for number in 1..=48 {
+        text.push_str(format!(in rt.alloc(); "acquire t c{number}\n")?.as_str())?;
+    }
+    let all = told(&rt, text.as_bytes())?;
+    assert_eq!(rt; all.outcome(), Outcome::Read { events: 48 });
+    assert_eq!(rt; all.edges().len(), 1128);
+    drop(all);
+    text.push_str("acquire t c49\n")?;
+    assert_eq!(rt;
+        outcome(&rt, text.as_bytes())?,
+        refused_at(50, TraceFault::TooDeep)
+    );
+    Ok(())
+}

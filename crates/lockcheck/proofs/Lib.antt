@@ -1,0 +1,9 @@
+pub mod Added
+pub mod Bounds
+pub mod Counted
+pub mod EachOnce
+pub mod Kept
+pub mod Names
+pub mod Pushed
+pub mod Texts
+pub mod Transfers

@@ -1,0 +1,7 @@
+use Rattle.std.proofs.Common.{◌≡◌, ◌++◌, take}
+use Rattle.lockcheck.specs.Report.{refused_lines}
+use Rattle.lockcheck.specs.Union.{sources_of}
+use Rattle.lockcheck.proofs.text.write_all_refused.Given as goal
+
+abbrev pub invariant-loop-trace : goal.invariant-loop-trace
+invariant-loop-trace l = l.text.items ≡ l.fn.text.items ++ refused_lines (sources_of (take l.trace-index l.listed))

@@ -1,0 +1,84 @@
+//! Runs over devices of the tests' own, and over those of the library.
+
+use super::{RunFault, run};
+use crate::devices::{Input, Output, Std};
+use crate::fakes::{FakeReader, FakeWriter, Mishap};
+use crate::verdict::Verdict;
+use ld_trace::StreamFault;
+use std::io::Cursor;
+use std::test::Fail;
+
+const EMPTY: &[u8] = b"traces 0 refused 0 events 0 classes 0 dependencies 0\nunchecked\n";
+
+const INVERSION: &[u8] = b"trace ab\nacquire t A\nacquire t B\nrelease t B\nrelease t A\ntrace ba\nacquire t B\nacquire t A\nrelease t A\nrelease t B\n";
+
+const INVERSION_REPORT: &[u8] =
+    b"traces 2 refused 0 events 8 classes 2 dependencies 2\nunchecked\n";
+
+#[test]
+fn a_read_that_fails_is_read(rt: HostRuntime) {
+    // The first read, and one in mid-stream, after which a further read would go well.
+    for failing in [0, 1] {
+        let mut input = FakeReader::new(INVERSION, 2, Some(failing));
+        let mut output = FakeWriter::new(rt.alloc(), 5, Mishap::Nothing);
+        let outcome = run(rt.alloc(), &mut input, &mut output, 1);
+        assert_eq!(rt; outcome, Err(RunFault::Read), "at read {failing}");
+        assert!(rt; input.failed() && !input.ended());
+        assert_eq!(rt; output.written(), b"".as_slice());
+        assert!(rt; !output.failed());
+    }
+}
+
+#[test]
+fn a_report_is_written_in_parts(rt: HostRuntime) {
+    let mut input = FakeReader::new(INVERSION, 7, None);
+    let mut output = FakeWriter::new(rt.alloc(), 5, Mishap::Nothing);
+    let outcome = run(rt.alloc(), &mut input, &mut output, 1);
+    assert_eq!(rt; outcome, Ok(Verdict::Clean));
+    assert!(rt; input.ended() && !input.failed());
+    assert_eq!(rt; output.written(), INVERSION_REPORT);
+    assert!(rt; output.is_flushed() && !output.failed());
+}
+
+#[test]
+fn a_write_or_flush_that_fails_is_write(rt: HostRuntime) {
+    // What was written is the report of the empty input, up to the failure.
+    for (mishap, written) in [
+        (Mishap::WriteFails(0), b"".as_slice()),
+        (Mishap::WriteFails(1), b"trace".as_slice()),
+        (Mishap::WriteTakesNothing(0), b"".as_slice()),
+        (Mishap::WriteTakesNothing(1), b"trace".as_slice()),
+        (Mishap::FlushFails, EMPTY),
+    ] {
+        let mut input = FakeReader::new(b"", 1, None);
+        let mut output = FakeWriter::new(rt.alloc(), 5, mishap);
+        let outcome = run(rt.alloc(), &mut input, &mut output, 1);
+        assert_eq!(rt; outcome, Err(RunFault::Write));
+        assert_eq!(rt; output.written(), written);
+        assert!(rt; output.failed() && !output.is_flushed());
+    }
+}
+
+#[test]
+fn a_stream_with_a_fault_has_no_report(rt: HostRuntime) {
+    let mut input = FakeReader::new(b"acquire t A\n", 2, None);
+    let mut output = FakeWriter::new(rt.alloc(), 5, Mishap::Nothing);
+    let outcome = run(rt.alloc(), &mut input, &mut output, 1);
+    assert_eq!(rt; outcome, Err(RunFault::Stream(StreamFault::NoHeader(1))));
+    assert_eq!(rt; output.written(), b"".as_slice());
+}
+
+#[test]
+fn std_readers_and_writers_are_devices(rt: HostRuntime) -> Result<(), Fail> {
+    let mut text = Vec::new(rt.alloc());
+    let mut slice = Std::new(b"".as_slice());
+    assert_eq!(rt; run(rt.alloc(), &mut slice, &mut Std::new(&mut text), 1)?, Verdict::Clean);
+    assert_eq!(rt; text.as_slice(), EMPTY);
+    assert!(rt; slice.ended());
+
+    let mut text = Vec::new(rt.alloc());
+    let mut cursor = Std::new(Cursor::new(INVERSION));
+    assert_eq!(rt; run(rt.alloc(), &mut cursor, &mut Std::new(&mut text), 1)?, Verdict::Clean);
+    assert_eq!(rt; text.as_slice(), INVERSION_REPORT);
+    Ok(())
+}
