@@ -1,5 +1,5 @@
 -- An acquisition, against the positions before it.
-use Rattle.std.proofs.Common.{◌≡◌, ◌≢◌, ◌<◌, ◌≤◌, ◌+◌, ◌++◌, ◌∷◌, [], ◌∙◌, ◌&&◌, ◌==◌, ◌⊎◌, inl, inr, ⊎_elim, eqb, Bool, true, false, not, cond, ℕ, List, Option, Some, None, Ok, length, map, refl, ap, sym, subst, arith, slice_index_or, All, length-append}
+use Rattle.std.proofs.Common.{◌≡◌, ◌≢◌, ◌<◌, ◌≤◌, ◌++◌, ◌∷◌, [], ◌∙◌, ◌&&◌, ◌==◌, ⊎_elim, eqb, Bool, true, false, not, ℕ, List, Option, Some, None, Ok, length, map, refl, ap, sym, subst, arith, slice_index_or, All, length-append}
 use Rattle.std.proofs.lemmas.List.{length-map, length-set, get_or-set_same, get_or-set_other, map-append, append-nil}
 use Rattle.std.proofs.lemmas.List.Elements.{All-push}
 use Rattle.std.proofs.lemmas.Slice.Eq.{bytes_eq-Decides}
@@ -10,9 +10,9 @@ use Rattle.ld_facts.proofs.PlaceLemmas.{with_new}
 use Rattle.std.specs.Str.{bytes_eq}
 use Rattle.std.proofs.lemmas.Bool.Decides.{eqb_tells}
 use Rattle.ld_class.specs.Names.{AreDistinct, IsNameAt, place_of, with_name}
-use Rattle.ld_class.proofs.NameLemmas.{list_any-known, list_any-new, with_name-known, with_name-new}
+use Rattle.ld_class.proofs.NameLemmas.{list_any-known, list_any-new}
 use Rattle.ld_trace.specs.Events.{PlainEvent, PlainLock, Position}
-use Rattle.ld_trace.specs.Events.PlainEvent.{Acquire, Try, Release}
+use Rattle.ld_trace.specs.Events.PlainEvent.{Acquire, Try}
 use Rattle.ld_facts.specs.declared.fault.TraceFault.TheVariants.{TooManyTasks, TooManyClasses, TooDeep}
 use Rattle.ld_facts.specs.declared.outcome.TheConstants.{MOST_CLASSES, MOST_HELD, MOST_TASKS}
 use Rattle.ld_facts.specs.declared.edges.EdgeFact.{EdgeFact}
@@ -209,10 +209,10 @@ module _ (all : List Position) (old : Scan) (is : IsAt all old) (name : List ℕ
       let own : bytes_eq name (task_of event) ≡ true = (bytes_eq-Decides name (task_of event)).1 (sym (task-acquired name lock waited)) in
       let keys : held_by (events more) name ≡ held_by (events all) name ++ record { task = task_of event; frame = frame_of (events all) (task_of event); lock = lock } ∷ [] = ap (λ past. held_by past name) now ∙ held_by-acquires (events all) name event lock (acquired name lock waited) ∙ rw own refl in
       let told : Holds classes' (stack ++ record { lock = lock; class = number } ∷ []) name more = (
-          map-append (λ (hold : Hold). hold.lock) stack (record { lock = lock; class = number } ∷ []) ∙ ap (λ locks. locks ++ lock ∷ []) holds.0
-          ∙ sym (ap (map (λ key. key.lock)) keys ∙ map-append (λ (key : Key). key.lock) (held_by (events all) name) (record { task = task_of event; frame = frame_of (events all) (task_of event); lock = lock } ∷ [])),
-          All-push (λ hold. IsNameAt classes' hold.class hold.lock.class) stack (record { lock = lock; class = number }) (holds-now stack holds.1) entered.class,
-        ) in
+        map-append (λ (hold : Hold). hold.lock) stack (record { lock = lock; class = number } ∷ []) ∙ ap (λ locks. locks ++ lock ∷ []) holds.0
+            ∙ sym (ap (map (λ key. key.lock)) keys ∙ map-append (λ (key : Key). key.lock) (held_by (events all) name) (record { task = task_of event; frame = frame_of (events all) (task_of event); lock = lock } ∷ [])),
+        All-push (λ hold. IsNameAt classes' hold.class hold.lock.class) stack (record { lock = lock; class = number }) (holds-now stack holds.1) entered.class,
+      ) in
       subst (λ o. Holds classes' (slice_index_or (slice_set stacks' id (stack ++ record { lock = lock; class = number } ∷ [])) k []) o more) (sym named') (subst (λ s. Holds classes' s name more) (sym here) told)
 
   stack-other : (k : ℕ) (other : List ℕ) → IsNameAt tasks' k other → k ≢ id → Holds classes' (slice_index_or (slice_set stacks' id (stack ++ record { lock = lock; class = number } ∷ [])) k []) other more
@@ -228,24 +228,24 @@ module _ (all : List Position) (old : Scan) (is : IsAt all old) (name : List ℕ
   pub acquired-at : (edges' : List EdgeFact) → length stack < MOST_HELD → map (named classes') edges' ≡ each_once same_seen (seen dependencies_at more) → All (IsWithin classes') edges'
       → IsAt more (record { tasks = tasks'; classes = classes'; locks = record { stacks = slice_set stacks' id (stack ++ record { lock = lock; class = number } ∷ []); edges = edges' } })
   acquired-at edges' room edges within = record {
-      clean = no_fault all (happens line event) is.clean (fault-none all old is name lock waited entered.few_tasks entered.few_classes (omega (arith, length-held)));
-      quiet = ap is_quiet now ∙ quiet-more (events all) event is.quiet (calm name lock waited);
-      tasks = entered.tasks ∙ ap (λ ns. with_name ns name) is.tasks ∙ sym (ap tasks now ∙ tasks-push (events all) event ∙ ap (with_name (tasks (events all))) (task-acquired name lock waited));
-      classes = classes-now;
-      few_tasks = subst (λ (names : List (List ℕ)). length names ≤ MOST_TASKS) (sym entered.tasks) (with_name-few MOST_TASKS old.tasks name entered.few_tasks is.few_tasks);
-      few_classes = subst (λ (names : List (List ℕ)). length names ≤ MOST_CLASSES) (sym entered.classes) (with_name-few MOST_CLASSES old.classes lock.class entered.few_classes is.few_classes);
-      many = length-set stacks' id (stack ++ record { lock = lock; class = number } ∷ []) ∙ entered.many;
-      stacks = λ k other at. ⊎_elim (λ (same : (eqb k id ≡ true) × (k ≡ id)). stack-own k other at same.1) (λ (apart : (eqb k id ≡ false) × (k ≢ id)). stack-other k other at apart.1) (eqb_tells k id);
-      shallow = λ k. ⊎_elim
-          (λ (same : (eqb k id ≡ true) × (k ≡ id)).
-              let here = ap (λ i. slice_index_or (slice_set stacks' id (stack ++ record { lock = lock; class = number } ∷ [])) i []) same.1 ∙ get_or-set_same stacks' id (stack ++ record { lock = lock; class = number } ∷ []) [] (omega (arith, entered.many, entered.task.0)) in
-              omega (arith, ap length here, length-append stack (record { lock = lock; class = number } ∷ []), room))
-          (λ (apart : (eqb k id ≡ false) × (k ≢ id)).
-              omega (arith, ap length (get_or-set_other stacks' id k (stack ++ record { lock = lock; class = number } ∷ []) [] apart.1), ap length (entered.stacks k), is.shallow k))
-          (eqb_tells k id);
-      edges = edges;
-      within = within;
-    }
+    clean = no_fault all (happens line event) is.clean (fault-none all old is name lock waited entered.few_tasks entered.few_classes (omega (arith, length-held)));
+    quiet = ap is_quiet now ∙ quiet-more (events all) event is.quiet (calm name lock waited);
+    tasks = entered.tasks ∙ ap (λ ns. with_name ns name) is.tasks ∙ sym (ap tasks now ∙ tasks-push (events all) event ∙ ap (with_name (tasks (events all))) (task-acquired name lock waited));
+    classes = classes-now;
+    few_tasks = subst (λ (names : List (List ℕ)). length names ≤ MOST_TASKS) (sym entered.tasks) (with_name-few MOST_TASKS old.tasks name entered.few_tasks is.few_tasks);
+    few_classes = subst (λ (names : List (List ℕ)). length names ≤ MOST_CLASSES) (sym entered.classes) (with_name-few MOST_CLASSES old.classes lock.class entered.few_classes is.few_classes);
+    many = length-set stacks' id (stack ++ record { lock = lock; class = number } ∷ []) ∙ entered.many;
+    stacks = λ k other at. ⊎_elim (λ (same : (eqb k id ≡ true) × (k ≡ id)). stack-own k other at same.1) (λ (apart : (eqb k id ≡ false) × (k ≢ id)). stack-other k other at apart.1) (eqb_tells k id);
+    shallow = λ k. ⊎_elim
+        (λ (same : (eqb k id ≡ true) × (k ≡ id)).
+        let here = ap (λ i. slice_index_or (slice_set stacks' id (stack ++ record { lock = lock; class = number } ∷ [])) i []) same.1 ∙ get_or-set_same stacks' id (stack ++ record { lock = lock; class = number } ∷ []) [] (omega (arith, entered.many, entered.task.0)) in
+        omega (arith, ap length here, length-append stack (record { lock = lock; class = number } ∷ []), room))
+        (λ (apart : (eqb k id ≡ false) × (k ≢ id)).
+        omega (arith, ap length (get_or-set_other stacks' id k (stack ++ record { lock = lock; class = number } ∷ []) [] apart.1), ap length (entered.stacks k), is.shallow k))
+        (eqb_tells k id);
+    edges = edges;
+    within = within;
+  }
 
 module _ (all : List Position) (old : Scan) (is : IsAt all old) (name : List ℕ) (lock : PlainLock) (line id number : ℕ) (tasks' classes' : List (List ℕ)) (stacks' : List (List Hold)) (entered : Entered old name lock.class id number tasks' classes' stacks') where
   abbrev froms : List ℕ

@@ -1,7 +1,6 @@
 pub mod AcquireLemmas
 pub mod ChainLemmas
 pub mod EdgeLemmas
-pub mod FlagLemmas
 pub mod FrameLemmas
 pub mod HeldLemmas
 pub mod LockLemmas

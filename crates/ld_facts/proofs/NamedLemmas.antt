@@ -39,8 +39,8 @@ module _ (names : List (List ℕ)) (distinct : AreDistinct names) where
       let by_names = bytes_eq-Decides (slice_index_or names i []) (slice_index_or names j []) in
       let by_numbers = Decides-eqb i j in
       same_test (bytes_eq (slice_index_or names i []) (slice_index_or names j [])) (i == j)
-          (λ h. by_numbers.1 (distinct i j (slice_index_or names j []) (low_i, by_names.0 h) (low_j, refl)))
-          (λ h. by_names.1 (ap (λ k. slice_index_or names k []) (by_numbers.0 h)))
+      (λ h. by_numbers.1 (distinct i j (slice_index_or names j []) (low_i, by_names.0 h) (low_j, refl)))
+      (λ h. by_names.1 (ap (λ k. slice_index_or names k []) (by_numbers.0 h)))
 
   same_named : (a b : EdgeFact) → IsWithin names a → IsWithin names b → same_seen (named names a) (named names b) ≡ same_pair a b
   same_named a b in_a in_b = λ i. numbers_by_name a.from b.from in_a.0 in_b.0 i && numbers_by_name a.to b.to in_a.1 in_b.1 i
@@ -187,10 +187,10 @@ dependencies-told all task lock line class names edges stack distinct quiet told
     tell-named more (distinct-more names lock.class distinct) edges line class (map (λ hold. hold.class) stack) (within-more names lock.class edges within) here.0 (holds-within more stack at_more)
     ∙ ap (λ zs. fold (with_new same_seen) zs (map (λ from. named more (edge_to class line from)) (map (λ hold. hold.class) stack))) (named-more names lock.class edges within ∙ told)
     ∙ ap (fold (with_new same_seen) (each_once same_seen (seen dependencies_at all)))
-        (seen_from more stack class line lock.class at_more here.1
-        ∙ ap (map (seen_to line lock.class)) same
-        ∙ seen_keys (held_by (events all) task) line lock.class
-        ∙ ap (λ keys. map (at_line line) (map (λ key. record { from = key.lock.class; to = lock.class }) keys)) (sym (held_in-quiet (events all) task quiet)))
+    (seen_from more stack class line lock.class at_more here.1
+    ∙ ap (map (seen_to line lock.class)) same
+    ∙ seen_keys (held_by (events all) task) line lock.class
+    ∙ ap (λ keys. map (at_line line) (map (λ key. record { from = key.lock.class; to = lock.class }) keys)) (sym (held_in-quiet (events all) task quiet)))
     ∙ sym (dependencies-push all (happens line (Acquire task lock)))
 
 pub within-told : (names : List (List ℕ)) (edges : List EdgeFact) (stack : List Hold) (line class : ℕ) (name : List ℕ) → All (IsWithin names) edges → All (λ hold. IsNameAt names hold.class hold.lock.class) stack → IsNameAt (with_name names name) class name → All (IsWithin (with_name names name)) (fold with_edge edges (map (edge_to class line) (map (λ hold. hold.class) stack)))

@@ -1,5 +1,5 @@
 -- A release, seen through the stacks of the scan: the latest lock of the name goes from the stack of its task.
-use Rattle.std.proofs.Common.{◌≡◌, ◌<◌, ◌≤◌, ◌+◌, ◌++◌, ◌∷◌, [], ◌&&◌, ◌||◌, List, ℕ, Bool, true, false, not, cond, length, map, filter, get_or, set, Some, None, refl, ap, sym, subst, ◌∙◌, ◌⊎◌, inl, inr, arith, if◌then◌else◌}
+use Rattle.std.proofs.Common.{◌≡◌, ◌<◌, ◌≤◌, ◌++◌, ◌∷◌, [], ◌&&◌, ◌||◌, List, ℕ, Bool, true, false, not, cond, length, map, filter, get_or, set, Some, None, refl, ap, sym, subst, ◌∙◌, ◌⊎◌, inl, inr, arith, if◌then◌else◌}
 use Rattle.std.proofs.lemmas.Bool.{and_parts, and_from, cases_eq}
 use Rattle.std.proofs.lemmas.List.{length-set, get_or-set_same, get_or-set_other}
 use Rattle.std.proofs.lemmas.List.Elements.{All-cons, All-head, All-tail, All-same}
@@ -131,17 +131,19 @@ module _ (all : List Position) (scan : Scan) (is_at : IsAt all scan) (name : Lis
         by (inl same) =
             let before = task-stacks all scan is_at name names stacks is kept id name place in
             let changed : get_or (set stacks id left) k [] ≡ left = ap (λ n. get_or (set stacks id left) n []) same ∙ get_or-set_same stacks id left [] inside in
-            let named : other ≡ name = sym at.1 ∙ ap (λ n. get_or names n []) same ∙ place.1 in
-            (ap (map (λ hold. hold.lock)) changed ∙ released_stack (events all) is_at.quiet name lock (get_or stacks id []) before.0
-            ∙ (λ i. map (λ key. key.lock) (held_by (sym (events-push all (happens line (Release name lock))) i) (sym named i))),
-            All-same (λ hold. IsNameAt scan.classes hold.class hold.lock.class) (get_or (set stacks id left) k []) left changed (All-remove_last (λ hold. IsNameAt scan.classes hold.class hold.lock.class) (is_of lock) (get_or stacks id []) before.1))
+            let named : other ≡ name = sym at.1 ∙ ap (λ n. get_or names n []) same ∙ place.1 in (
+              ap (map (λ hold. hold.lock)) changed ∙ released_stack (events all) is_at.quiet name lock (get_or stacks id []) before.0
+                  ∙ (λ i. map (λ key. key.lock) (held_by (sym (events-push all (happens line (Release name lock))) i) (sym named i))),
+              All-same (λ hold. IsNameAt scan.classes hold.class hold.lock.class) (get_or (set stacks id left) k []) left changed (All-remove_last (λ hold. IsNameAt scan.classes hold.class hold.lock.class) (is_of lock) (get_or stacks id []) before.1),
+            )
         by (inr apart) =
             let before = task-stacks all scan is_at name names stacks is kept k other at in
-            let same : get_or (set stacks id left) k [] ≡ get_or stacks k [] = get_or-set_other stacks id k left [] apart in
-            (ap (map (λ hold. hold.lock)) same ∙ before.0
-            ∙ ap (map (λ key. key.lock)) (sym (held_by-releases_other (events all) other name lock (task-other all scan is_at name names stacks is kept id k other place at apart)))
-            ∙ ap (λ es. map (λ key. key.lock) (held_by es other)) (sym (events-push all (happens line (Release name lock)))),
-            All-same (λ hold. IsNameAt scan.classes hold.class hold.lock.class) (get_or (set stacks id left) k []) (get_or stacks k []) same before.1)
+            let same : get_or (set stacks id left) k [] ≡ get_or stacks k [] = get_or-set_other stacks id k left [] apart in (
+              ap (map (λ hold. hold.lock)) same ∙ before.0
+                  ∙ ap (map (λ key. key.lock)) (sym (held_by-releases_other (events all) other name lock (task-other all scan is_at name names stacks is kept id k other place at apart)))
+                  ∙ ap (λ es. map (λ key. key.lock) (held_by es other)) (sym (events-push all (happens line (Release name lock)))),
+              All-same (λ hold. IsNameAt scan.classes hold.class hold.lock.class) (get_or (set stacks id left) k []) (get_or stacks k []) same before.1,
+            )
 
     release-shallow : (k : ℕ) → length (get_or (set stacks id left) k []) ≤ MOST_HELD
     release-shallow k = by (cases_eq k id)
@@ -165,5 +167,5 @@ module _ (all : List Position) (scan : Scan) (is_at : IsAt all scan) (name : Lis
       stacks = release-stacks;
       shallow = release-shallow;
       edges = is_at.edges ∙ sym (dependencies-push all (happens line (Release name lock)));
-      within = is_at.within
+      within = is_at.within;
     }

@@ -1,6 +1,6 @@
 -- What the scan of a trace keeps, against the positions so far. No public contract cites this file.
-use Rattle.std.specs.Prelude.{◌≡◌, ◌<◌, ◌≤◌, ℕ, Bool, true, Option, None, Some, Ok, List, [], ◌∷◌, ◌++◌, All, fold, map, length, slice_index_or}
-use Rattle.std.specs.List.{concat, filter_map, enumerate_from}
+use Rattle.std.specs.Prelude.{◌≡◌, ◌<◌, ◌≤◌, ℕ, Bool, true, Option, None, Some, Ok, List, [], ◌++◌, All, fold, map, length, slice_index_or}
+use Rattle.std.specs.List.{filter_map, enumerate_from}
 use Rattle.ld_class.specs.Names.{IsNameAt}
 use Rattle.ld_trace.specs.Lines.{lines, text_of}
 use Rattle.ld_trace.specs.Sources.{PlainSource}

@@ -10,7 +10,8 @@ use std::test::Fail;
 
 const EMPTY: &[u8] = b"traces 0 refused 0 events 0 classes 0 dependencies 0\nunchecked\n";
 
-const INVERSION: &[u8] = b"trace ab\nacquire t A\nacquire t B\nrelease t B\nrelease t A\ntrace ba\nacquire t B\nacquire t A\nrelease t A\nrelease t B\n";
+const INVERSION: &[u8] =
+    b"trace ab\nacquire t A\nacquire t B\nrelease t B\nrelease t A\ntrace ba\nacquire t B\nacquire t A\nrelease t A\nrelease t B\n";
 
 const INVERSION_REPORT: &[u8] =
     b"traces 2 refused 0 events 8 classes 2 dependencies 2\nunchecked\n";
@@ -72,13 +73,19 @@ fn a_stream_with_a_fault_has_no_report(rt: HostRuntime) {
 fn std_readers_and_writers_are_devices(rt: HostRuntime) -> Result<(), Fail> {
     let mut text = Vec::new(rt.alloc());
     let mut slice = Std::new(b"".as_slice());
-    assert_eq!(rt; run(rt.alloc(), &mut slice, &mut Std::new(&mut text), 1)?, Verdict::Clean);
+    assert_eq!(rt;
+        run(rt.alloc(), &mut slice, &mut Std::new(&mut text), 1)?,
+        Verdict::Clean
+    );
     assert_eq!(rt; text.as_slice(), EMPTY);
     assert!(rt; slice.ended());
 
     let mut text = Vec::new(rt.alloc());
     let mut cursor = Std::new(Cursor::new(INVERSION));
-    assert_eq!(rt; run(rt.alloc(), &mut cursor, &mut Std::new(&mut text), 1)?, Verdict::Clean);
+    assert_eq!(rt;
+        run(rt.alloc(), &mut cursor, &mut Std::new(&mut text), 1)?,
+        Verdict::Clean
+    );
     assert_eq!(rt; text.as_slice(), INVERSION_REPORT);
     Ok(())
 }

@@ -1,14 +1,12 @@
 -- The faults of an acquisition, and what it leaves.
-use Rattle.std.proofs.Common.{◌≡◌, ◌≤◌, ◌∙◌, ap, sym, subst, Err, Option, None, Some, length, ℕ, arith, map, slice_index_or, List, [], ◌<◌, ◌++◌, ◌∷◌}
+use Rattle.std.proofs.Common.{◌≡◌, ◌≤◌, ◌∙◌, ap, sym, subst, Err, None, Some, length, ℕ, arith, map, slice_index_or, List, [], ◌<◌, ◌++◌, ◌∷◌}
 use Rattle.std.specs.Prelude.{slice_set}
 use Rattle.std.proofs.lemmas.Result.{err_from_is_err_and}
-use Rattle.std.proofs.lemmas.List.{length-map}
 use Rattle.ld_class.specs.Names.{IsNameAt, place_of, with_name}
 use Rattle.ld_trace.specs.Events.{plain_lock}
 use Rattle.ld_facts.specs.declared.scan.Stop.TheVariants.{Fault}
-use Rattle.ld_facts.specs.declared.fault.TraceFault.{TraceFault}
 use Rattle.ld_facts.specs.declared.fault.TraceFault.TheVariants.{TooDeep}
-use Rattle.ld_facts.specs.declared.outcome.TheConstants.{MOST_CLASSES, MOST_HELD, MOST_TASKS}
+use Rattle.ld_facts.specs.declared.outcome.TheConstants.{MOST_CLASSES, MOST_HELD}
 use Rattle.ld_facts.specs.declared.edges.EdgeFact.{EdgeFact}
 use Rattle.ld_facts.specs.Reading.{IsAt, acquisition, happens, told_by}
 use Rattle.ld_facts.specs.Locks.{Hold, Known}
@@ -34,7 +32,6 @@ returns-in_err-class-clause-fault c = λ fault said all is.
     let new : place_of c.args.self.now.classes c.args.lock.class.now ≡ None = ap (λ names. place_of names c.args.lock.class.now) (sym same) ∙ why.1 in
     let full : MOST_CLASSES ≤ length c.args.self.now.classes = subst (λ (names : List (List ℕ)). MOST_CLASSES ≤ length names) same why.2 in
     fault-classes all _ is _ (plain_lock c.args.lock) c.args.waited c.in_ok-task.ensures.fits new full ∙ ap (λ f. Some f) (sym why.0)
-
 
 pub returns-then-depth-ge-MOST_HELD-clause-fault : goal.returns-then-depth-ge-MOST_HELD-clause-fault
 returns-then-depth-ge-MOST_HELD-clause-fault c = λ fault said all is.
@@ -87,5 +84,5 @@ returns-clause-ok c = λ all line at is.
     let pushed : Scan → Scan = λ s. record { tasks = s.tasks; classes = s.classes; locks = record { stacks = slice_set s.locks.stacks id (slice_index_or s.locks.stacks id [] ++ top); edges = s.locks.edges } } in
     let held : record { tasks = c.tell.new.self.tasks; classes = c.tell.new.self.classes; locks = c.hold.new.self } ≡ pushed c.tell.new.self = ap (λ (locks : Known). record { tasks = c.tell.new.self.tasks; classes = c.tell.new.self.classes; locks = locks }) h in
     let same : pushed c.tell.new.self ≡ record { tasks = c.class.new.self.tasks; classes = c.class.new.self.classes; locks = record { stacks = slice_set stacks' id (slice_index_or stacks' id [] ++ top); edges = edges' } } =
-        ap pushed t ∙ ap (λ (edges : List EdgeFact). record { tasks = c.class.new.self.tasks; classes = c.class.new.self.classes; locks = record { stacks = slice_set stacks' id (slice_index_or stacks' id [] ++ top); edges = told_by c.args.waited number froms edges } }) before in
+    ap pushed t ∙ ap (λ (edges : List EdgeFact). record { tasks = c.class.new.self.tasks; classes = c.class.new.self.classes; locks = record { stacks = slice_set stacks' id (slice_index_or stacks' id [] ++ top); edges = told_by c.args.waited number froms edges } }) before in
     subst (λ (s : Scan). IsAt (all ++ happens line (acquisition name lock c.args.waited) ∷ []) s) (sym (held ∙ same)) told
