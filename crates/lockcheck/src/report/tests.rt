@@ -156,12 +156,6 @@ fn refuses_a_trace_with_an_interrupt_verb(rt: HostRuntime) -> Result<(), Fail> {
 #[test]
 fn refuses_a_trace_with_too_much(rt: HostRuntime) -> Result<(), Fail> {
     let mut tasks = String::new(rt.alloc());
-    for task in 1..=1025u32 {
-        writeln!(tasks, "disable t{task} hard")?;
-    }
-    assert_refused(&rt, rt.alloc(), tasks.as_str(), 1026, "TooManyTasks")?;
-
-    let mut tasks = String::new(rt.alloc());
     for task in 1..=1024u32 {
         writeln!(tasks, "acquire t{task} A")?;
     }

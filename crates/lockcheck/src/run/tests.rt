@@ -89,3 +89,25 @@ fn std_readers_and_writers_are_devices(rt: HostRuntime) -> Result<(), Fail> {
     assert_eq!(rt; text.as_slice(), INVERSION_REPORT);
     Ok(())
 }
+
+// Under `rt try --test --fail-alloc N` one allocation is refused, that of another growth for each N:
+// the answer is then `Memory` and nothing was written, or the whole report, where N is past the last.
+#[test]
+fn a_refused_growth_writes_nothing(rt: HostRuntime) {
+    let mut room = [b'-'; 128];
+    let mut input = FakeReader::new(INVERSION, 40, None);
+    let mut output = Std::new(Cursor::new(room.as_mut_slice()));
+    let outcome = run(rt.alloc(), &mut input, &mut output, 1);
+    let count = INVERSION_REPORT.len();
+    match outcome {
+        Ok(verdict) => {
+            assert_eq!(rt; verdict, Verdict::Clean);
+            assert!(rt; room.starts_with(INVERSION_REPORT));
+            assert!(rt; room[count..].iter().all(|byte| *byte == b'-'));
+        }
+        Err(fault) => {
+            assert_eq!(rt; fault, RunFault::Memory);
+            assert!(rt; room.iter().all(|byte| *byte == b'-'));
+        }
+    }
+}
