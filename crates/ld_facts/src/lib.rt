@@ -14,5 +14,5 @@ mod scan;
 pub use edges::EdgeFact;
 pub use fault::TraceFault;
 pub use known::Facts;
-pub use outcome::{MOST_CLASSES, MOST_HELD, MOST_TASKS, Outcome, Witness};
+pub use outcome::{Listed, MOST_CLASSES, MOST_HELD, MOST_TASKS, Outcome, Witness};
 pub use reading::facts;

@@ -13,7 +13,7 @@ use Rattle.ld_facts.specs.declared.outcome.Witness.{Witness}
 use Rattle.ld_facts.specs.Outcome.{outcome}
 use Rattle.ld_facts.specs.Dependency.{Dependency, Seen, first_line, same_dependency}
 use Rattle.ld_facts.specs.Union.{dependencies_of, dependency_witness, first_of, union_dependencies}
-use Rattle.lockcheck.specs.declared.union.Listed.{Listed}
+use Rattle.ld_facts.specs.declared.outcome.Listed.{Listed}
 use Rattle.lockcheck.specs.declared.union.Pair.{Pair}
 use Rattle.lockcheck.specs.declared.verdict.Verdict.TheVariants.{Clean, Refused}
 use Rattle.lockcheck.specs.Verdict.{verdict}

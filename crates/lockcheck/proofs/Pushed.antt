@@ -11,7 +11,7 @@ use Rattle.ld_facts.specs.Outcome.{each_once, outcome}
 use Rattle.ld_facts.specs.Dependency.{Dependency, first_line, same_dependency}
 use Rattle.ld_facts.specs.Facts.{IsKnown, Known}
 use Rattle.ld_facts.specs.Union.{classes_of, dependencies_of, dependency_witness, earlier, first_of, union_classes}
-use Rattle.lockcheck.specs.declared.union.Listed.{Listed}
+use Rattle.ld_facts.specs.declared.outcome.Listed.{Listed}
 use Rattle.lockcheck.specs.declared.union.Pair.{Pair}
 use Rattle.lockcheck.specs.Union.{Adds, AddsNames, IsUnion, earlier_of, seen_in, sources_of}
 use Rattle.lockcheck.proofs.Kept.{earlier_of-none}

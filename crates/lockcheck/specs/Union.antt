@@ -8,7 +8,7 @@ use Rattle.ld_facts.specs.declared.outcome.Witness.{Witness}
 use Rattle.ld_facts.specs.Outcome.{each_once, outcome}
 use Rattle.ld_facts.specs.Dependency.{Dependency, Seen, first_line, same_dependency}
 use Rattle.ld_facts.specs.Union.{dependency_witness, earlier, union_classes}
-use Rattle.lockcheck.specs.declared.union.Listed.{Listed}
+use Rattle.ld_facts.specs.declared.outcome.Listed.{Listed}
 use Rattle.lockcheck.specs.declared.union.Pair.{Pair}
 
 -- the sources of a list

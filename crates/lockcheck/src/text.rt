@@ -6,8 +6,8 @@ ghost use Rattle.lockcheck.specs.Totals.{events};
 ghost use Rattle.lockcheck.specs.Union.{AreOutcomes, sources_of};
 
 use crate::totals::Totals;
-use crate::union::{Listed, Union};
-use ld_facts::{Outcome, TraceFault};
+use crate::union::Union;
+use ld_facts::{Listed, Outcome, TraceFault};
 use std::alloc::{AllocError, Global};
 use std::io::Write;
 

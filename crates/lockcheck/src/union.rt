@@ -10,36 +10,10 @@ use crate::totals::Totals;
 use crate::verdict::Verdict;
 use indexmap::{IndexMap, IndexSet};
 use ld_class::Classes;
-use ld_facts::{Facts, Outcome, Witness};
+use ld_facts::{Facts, Listed, Outcome, Witness};
 use ld_trace::Source;
 use std::alloc::{AllocError, Global};
 use std::marker::Model;
-
-/// A trace, and what became of it.
-#[derive(Clone, Copy, Debug, PartialEq, Eq)]
-pub struct Listed<'a> {
-    pub source: Source<'a>,
-    pub outcome: Outcome,
-}
-
-impl<'a> Listed<'a> {
-    /// Whether it is refused.
-    pub fn is_refused(&self) -> bool
-        ensures { result ≡ is_refused self.now.outcome }
-    {
-        matches!(self.outcome, Outcome::Refused { .. })
-    }
-
-    /// How many events it has, where it is read.
-    pub fn events(&self) -> u64
-        ensures { result ≡ events_read self.now.outcome }
-    {
-        match self.outcome {
-            Outcome::Read { events } => events,
-            Outcome::Refused { .. } => 0,
-        }
-    }
-}
 
 /// A dependency, by the names of its classes: the one held, and the one acquired under it.
 #[derive(Clone, Copy, Debug, PartialEq, Eq, Hash)]
@@ -147,18 +121,35 @@ impl<'a> Union<'a> {
     }
 }
 
+/// Whether a trace is refused.
+fn is_refused(trace: &Listed<'_>) -> bool
+    ensures { result ≡ is_refused trace.now.outcome }
+{
+    matches!(trace.outcome, Outcome::Refused { .. })
+}
+
+/// How many events a trace has, where it is read.
+fn events_of(trace: &Listed<'_>) -> u64
+    ensures { result ≡ events_read trace.now.outcome }
+{
+    match trace.outcome {
+        Outcome::Read { events } => events,
+        Outcome::Refused { .. } => 0,
+    }
+}
+
 /// Whether one is refused.
 fn refuses_any(listed: &[Listed<'_>]) -> bool
     ensures { result ≡ list_any (λ trace. is_refused trace.outcome) listed.now }
 {
-    listed.iter().any(|trace| trace.is_refused())
+    listed.iter().any(|trace| is_refused(trace))
 }
 
 /// How many are refused.
 fn refused_among(listed: &[Listed<'_>]) -> u64
     ensures { result ≡ count_by (λ trace. is_refused trace.outcome) listed.now }
 {
-    listed.iter().filter(|trace| trace.is_refused()).count() as u64
+    listed.iter().filter(|trace| is_refused(trace)).count() as u64
 }
 
 /// How many events those have that are read.
@@ -166,7 +157,7 @@ fn events_among(listed: &[Listed<'_>]) -> u64
     requires { sum_by (λ trace. events_read trace.outcome) listed.now < 2 ^ 64 }
     ensures { result ≡ sum_by (λ trace. events_read trace.outcome) listed.now }
 {
-    listed.iter().map(|trace| trace.events()).sum()
+    listed.iter().map(|trace| events_of(trace)).sum()
 }
 
 /// Adds the classes of a trace.
