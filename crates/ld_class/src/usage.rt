@@ -7,8 +7,8 @@ use bitflags::{Flag, Flags};
 use std::ops::{BitOr, BitOrAssign};
 
 /// A set of the usage bits of a lock class. For each of the states hard and soft there are two
-/// bits: IN, a lock of the class was acquired by an interrupt handler of that state, and ON, one
-/// was held where such a handler could interrupt.
+/// bits: IN, a lock of the class was acquired with an interrupt handler of that state open, and ON,
+/// one was held where such a handler could interrupt.
 ///
 /// The operations on sets are those of [`Flags`].
 #[derive(Clone, Copy, PartialEq, Eq, Debug)]
@@ -16,13 +16,14 @@ pub struct Usage(u8);
 
 // Written by hand and not by `bitflag_items!`, whose operators have no contract.
 impl Usage {
-    /// A task acquired a lock of the class, and not by a trylock, in a hard interrupt handler.
+    /// A task acquired a lock of the class, and not by a trylock, with a hard handler open over it.
     pub const IN_HARD: Usage = Usage(1);
 
     /// A task held a lock of the class while its hard flag was on.
     pub const ON_HARD: Usage = Usage(2);
 
-    /// A task acquired a lock of the class, and not by a trylock, in a soft interrupt handler.
+    /// A task acquired a lock of the class, and not by a trylock, with a soft handler open over it,
+    /// also in a hard handler over that one.
     pub const IN_SOFT: Usage = Usage(4);
 
     /// A task held a lock of the class while its hard flag and its soft flag were on.

@@ -1,35 +1,48 @@
 -- An acquisition, against the positions before it.
-use Rattle.std.proofs.Common.{◌≡◌, ◌≢◌, ◌<◌, ◌≤◌, ◌++◌, ◌∷◌, [], ◌∙◌, ◌&&◌, ◌==◌, ⊎_elim, eqb, Bool, true, false, not, ℕ, List, Option, Some, None, Ok, length, map, refl, ap, sym, subst, arith, slice_index_or, All, length-append}
-use Rattle.std.proofs.lemmas.List.{length-map, length-set, get_or-set_same, get_or-set_other, map-append, append-nil}
-use Rattle.std.proofs.lemmas.List.Elements.{All-push}
-use Rattle.std.proofs.lemmas.Slice.Eq.{bytes_eq-Decides}
-use Rattle.std.proofs.lemmas.List.Folds.{list_all-append}
-use Rattle.std.specs.Prelude.{slice_set, fold, IfSome}
-use Rattle.ld_facts.specs.Edges.{edge_to, with_edge}
-use Rattle.ld_facts.proofs.PlaceLemmas.{with_new}
-use Rattle.std.specs.Str.{bytes_eq}
+use Rattle.std.proofs.Common.{◌≡◌, ◌≢◌, ◌<◌, ◌≤◌, ◌++◌, ◌∷◌, [], ◌∙◌, ◌==◌, ⊎_elim, eqb, Bool, true, false, ℕ, List, None, Some, Ok, length, map, drop, refl, ap, sym, subst, arith, slice_index_or, All, length-append, reverse, if◌then◌else◌}
 use Rattle.std.proofs.lemmas.Bool.Decides.{eqb_tells}
+use Rattle.std.proofs.lemmas.List.{length-map, length-set, get_or-set_same, get_or-set_other, map-append}
+use Rattle.std.proofs.lemmas.List.Elements.{All-cons, All-drop, All-nil, All-push}
+use Rattle.std.proofs.lemmas.Slice.Eq.{bytes_eq-Decides}
+use Rattle.std.specs.Prelude.{slice_set, fold}
+use Rattle.std.specs.Str.{bytes_eq}
 use Rattle.ld_class.specs.Names.{AreDistinct, IsNameAt, place_of, with_name}
-use Rattle.ld_class.proofs.NameLemmas.{list_any-known, list_any-new}
+use Rattle.ld_trace.specs.declared.event.State.{State}
+use Rattle.ld_trace.specs.declared.event.State.TheVariants.{Hard, Soft}
 use Rattle.ld_trace.specs.Events.{PlainEvent, PlainLock, Position}
 use Rattle.ld_trace.specs.Events.PlainEvent.{Acquire, Try}
-use Rattle.ld_facts.specs.declared.fault.TraceFault.TheVariants.{TooManyTasks, TooManyClasses, TooDeep}
+use Rattle.ld_facts.specs.declared.fault.TraceFault.TheVariants.{TooManyClasses, TooDeep}
+use Rattle.ld_facts.specs.declared.interrupts.Interrupts.{Interrupts}
 use Rattle.ld_facts.specs.declared.outcome.TheConstants.{MOST_CLASSES, MOST_HELD, MOST_TASKS}
 use Rattle.ld_facts.specs.declared.edges.EdgeFact.{EdgeFact}
 use Rattle.ld_facts.specs.declared.scan.Scan.{Scan}
-use Rattle.ld_facts.specs.Frames.{frame_of, is_interrupt, is_quiet, task_of}
-use Rattle.ld_facts.specs.Held.{Key, held_by, lock_acquired}
+use Rattle.ld_facts.specs.declared.uses.UsageFact.{UsageFact}
+use Rattle.ld_facts.specs.Edges.{edge_to, with_edge}
+use Rattle.ld_facts.specs.Flags.{is_enabled}
+use Rattle.ld_facts.specs.Frames.{contexts, frame_of, task_of}
+use Rattle.ld_facts.specs.Held.{Key, held_by, held_in, lock_acquired}
 use Rattle.ld_facts.specs.Dependency.{Dependency, Seen, dependencies_at, seen, seen_at}
+use Rattle.ld_facts.specs.Interrupts.{enabled_now, fresh, start_now, states_of}
+use Rattle.ld_facts.specs.Levels.{is_interrupt, stack, state_of}
 use Rattle.ld_facts.specs.Locks.{Hold}
 use Rattle.ld_facts.specs.Outcome.{class_acquired, classes, each_once, event_fault, events, is_bad_enable, is_bad_exit, is_badly_nested, is_held_at_exit, is_masked, is_not_held, is_one_too_many, tasks}
-use Rattle.ld_facts.specs.Reading.{Holds, IsAt, IsWithin, acquisition, happens, same_seen, told_by}
-use Rattle.ld_facts.specs.Facts.{named}
-use Rattle.ld_facts.proofs.HeldLemmas.{held_by-acquires}
-use Rattle.ld_facts.proofs.OutcomeLemmas.{events-push, no_fault}
-use Rattle.ld_facts.proofs.QuietLemmas.{held_in-quiet}
-use Rattle.ld_facts.proofs.StepLemmas.{classes-acquires, dependencies-push, tasks-push}
-use Rattle.ld_facts.proofs.TaskLemmas.{task-stacks, task-other, with_name-few}
-use Rattle.ld_facts.proofs.NamedLemmas.{distinct-classes, holds-more, holds-names, holds-within, named-more, tell-named, within-more, within-tell}
+use Rattle.ld_facts.specs.Reading.{AreMany, HasTask, IsAt, IsTask, IsWithin, acquisition, happens, same_seen}
+use Rattle.ld_facts.specs.Facts.{named, named_use}
+use Rattle.ld_facts.specs.Usage.{uses_at}
+use Rattle.ld_facts.specs.Facts.{IsUse}
+use Rattle.ld_facts.specs.Uses.{in_facts, on_facts, same_what, with_use}
+use Rattle.ld_facts.proofs.FlagLemmas.{contexts-other_task, is_enabled-quiet, levels-quiet, stack-quiet}
+use Rattle.ld_facts.proofs.GroupLemmas.{starts-kept}
+use Rattle.ld_facts.proofs.HeldLemmas.{enters_none, held_by-acquires}
+use Rattle.ld_facts.proofs.InnerLemmas.{clean-grouped, contexts-are, enabled-is, inner-is, length-is}
+use Rattle.ld_facts.proofs.MovedLemmas.{moved-at}
+use Rattle.ld_facts.proofs.NamedLemmas.{IsNameAt-more, distinct-classes, holds-more, holds-names, holds-within, named-more, tell-named, within-more, within-tell}
+use Rattle.ld_facts.proofs.OutcomeLemmas.{events-push}
+use Rattle.ld_facts.proofs.PlaceLemmas.{with_new}
+use Rattle.ld_facts.proofs.StepLemmas.{classes-acquires, dependencies-push}
+use Rattle.ld_facts.proofs.TaskLemmas.{is_one_too_many-fits, is_one_too_many-full, task-at, with_name-few}
+use Rattle.ld_facts.proofs.UsageLemmas.{at_line, map-map, on_use, uses_in, uses_once, uses_once-push_new, with_uses, with_uses-append}
+use Rattle.ld_facts.proofs.UseLemmas.{in_facts-named, in_facts-within, named_use-more, on_facts-named, on_facts-within, uses-named, uses-within, within_use-more}
 
 below-not : (n most : ℕ) → n < most → (n == most) ≡ false
 below-not n most below = ⊎_elim (λ (same : (eqb n most ≡ true) × (n ≡ most)). absurd (let equal = same.1 in omega arith)) (λ p. p.0) (eqb_tells n most)
@@ -37,44 +50,23 @@ below-not n most below = ⊎_elim (λ (same : (eqb n most ≡ true) × (n ≡ mo
 same-is : (n most : ℕ) → n ≡ most → (n == most) ≡ true
 same-is n most is = ⊎_elim (λ p. p.0) (λ (apart : (eqb n most ≡ false) × (n ≢ most)). absurd (apart.1 is)) (eqb_tells n most)
 
--- a new name is not one too many, or the names are as many as there may be
-few : (most : ℕ) (names : List (List ℕ)) (name : List ℕ) → (place_of names name ≡ None → length names < most) → is_one_too_many most names name ≡ false
-few most names name fits = by (place_of names name) refl
-  where
-    by : (place : Option ℕ) → place_of names name ≡ place → is_one_too_many most names name ≡ false
-    by (Some id) is = rw (list_any-known names name id is) (and-false (length names == most))
-      where
-        and-false : (b : Bool) → (b && false) ≡ false
-        and-false true = refl
-        and-false false = refl
-    by None is = rw (below-not (length names) most (fits is)) refl
-
-pub too_many : (most : ℕ) (names : List (List ℕ)) (name : List ℕ) → place_of names name ≡ None → most ≤ length names → length names ≤ most → is_one_too_many most names name ≡ true
-too_many most names name new full least = rw (list_any-new names name new, same-is (length names) most (omega arith)) refl
-
--- what is known when the task and the class of an acquisition have their numbers
-pub record Entered (old : Scan) (name class_name : List ℕ) (id number : ℕ) (tasks' classes' : List (List ℕ)) (stacks' : List (List Hold)) : Type 0 where
-  pub tasks : tasks' ≡ with_name old.tasks name
-  pub task : IsNameAt tasks' id name
-  pub few_tasks : place_of old.tasks name ≡ None → length old.tasks < MOST_TASKS
-  pub many : length stacks' ≡ length tasks'
-  pub stacks : (k : ℕ) → slice_index_or stacks' k [] ≡ slice_index_or old.locks.stacks k []
-  pub classes : classes' ≡ with_name old.classes class_name
-  pub class : IsNameAt classes' number class_name
-  pub few_classes : place_of old.classes class_name ≡ None → length old.classes < MOST_CLASSES
-
 -- an acquisition is of its task and its lock
-pub acquired : (name : List ℕ) (lock : PlainLock) (waited : Option ℕ) → lock_acquired (acquisition name lock waited) ≡ Some lock
-acquired name lock None = refl
-acquired name lock (Some line) = refl
+module _ (name : List ℕ) (lock : PlainLock) where
+  pub acquired : (waits : Bool) → lock_acquired (acquisition waits name lock) ≡ Some lock
+  acquired false = refl
+  acquired true = refl
 
-pub class-acquired : (name : List ℕ) (lock : PlainLock) (waited : Option ℕ) → class_acquired (acquisition name lock waited) ≡ Some lock.class
-class-acquired name lock None = refl
-class-acquired name lock (Some line) = refl
+  pub class-acquired : (waits : Bool) → class_acquired (acquisition waits name lock) ≡ Some lock.class
+  class-acquired false = refl
+  class-acquired true = refl
 
-pub task-acquired : (name : List ℕ) (lock : PlainLock) (waited : Option ℕ) → task_of (acquisition name lock waited) ≡ name
-task-acquired name lock None = refl
-task-acquired name lock (Some line) = refl
+  pub task-acquired : (waits : Bool) → task_of (acquisition waits name lock) ≡ name
+  task-acquired false = refl
+  task-acquired true = refl
+
+  calm : (waits : Bool) → is_interrupt (acquisition waits name lock) ≡ false
+  calm false = refl
+  calm true = refl
 
 -- it has none of the later faults
 record NoLater (past : List PlainEvent) (event : PlainEvent) : Type 0 where
@@ -85,55 +77,64 @@ record NoLater (past : List PlainEvent) (event : PlainEvent) : Type 0 where
   holds_none : is_held_at_exit past event ≡ false
   enables : is_bad_enable past event ≡ false
 
-no-later : (past : List PlainEvent) (name : List ℕ) (lock : PlainLock) (waited : Option ℕ) → NoLater past (acquisition name lock waited)
-no-later past name lock None = record { is_held = refl; nests = refl; unmasked = refl; exits = refl; holds_none = refl; enables = refl }
-no-later past name lock (Some line) = record { is_held = refl; nests = refl; unmasked = refl; exits = refl; holds_none = refl; enables = refl }
+no-later : (past : List PlainEvent) (name : List ℕ) (lock : PlainLock) (waits : Bool) → NoLater past (acquisition waits name lock)
+no-later past name lock false = record { is_held = refl; nests = refl; unmasked = refl; exits = refl; holds_none = refl; enables = refl }
+no-later past name lock true = record { is_held = refl; nests = refl; unmasked = refl; exits = refl; holds_none = refl; enables = refl }
 
 -- the faults of an acquisition, in their order
-module _ (all : List Position) (old : Scan) (is : IsAt all old) (name : List ℕ) (lock : PlainLock) (waited : Option ℕ) where
-  tasks_fit : (place_of old.tasks name ≡ None → length old.tasks < MOST_TASKS) → is_one_too_many MOST_TASKS (tasks (events all)) (task_of (acquisition name lock waited)) ≡ false
-  tasks_fit fits = rw (task-acquired name lock waited, ← is.tasks) (few MOST_TASKS old.tasks name fits)
+module _ (all : List Position) (old : Scan) (is : IsAt all old) (waits : Bool) (name : List ℕ) (lock : PlainLock) (fits : place_of old.tasks name ≡ None → length old.tasks < MOST_TASKS) where
+  tasks_fit : is_one_too_many MOST_TASKS (tasks (events all)) (task_of (acquisition waits name lock)) ≡ false
+  tasks_fit = rw (task-acquired name lock waits, ← is.tasks) (is_one_too_many-fits MOST_TASKS old.tasks name fits)
 
-  pub fault-tasks : place_of old.tasks name ≡ None → MOST_TASKS ≤ length old.tasks → event_fault (events all) (acquisition name lock waited) ≡ Some TooManyTasks
-  fault-tasks new full = let many : is_one_too_many MOST_TASKS (tasks (events all)) (task_of (acquisition name lock waited)) ≡ true = rw (task-acquired name lock waited, ← is.tasks) (too_many MOST_TASKS old.tasks name new full is.few_tasks) in rw many refl
+  pub fault-classes : place_of old.classes lock.class ≡ None → MOST_CLASSES ≤ length old.classes → event_fault (events all) (acquisition waits name lock) ≡ Some TooManyClasses
+  fault-classes new full =
+      let many : is_one_too_many MOST_CLASSES (classes (events all)) lock.class ≡ true = rw (← is.classes) (is_one_too_many-full MOST_CLASSES old.classes lock.class new full is.few_classes) in
+      rw (tasks_fit, class-acquired name lock waits, many) refl
 
-  pub fault-classes : (place_of old.tasks name ≡ None → length old.tasks < MOST_TASKS) → place_of old.classes lock.class ≡ None → MOST_CLASSES ≤ length old.classes → event_fault (events all) (acquisition name lock waited) ≡ Some TooManyClasses
-  fault-classes fits new full =
-      let many : is_one_too_many MOST_CLASSES (classes (events all)) lock.class ≡ true = rw (← is.classes) (too_many MOST_CLASSES old.classes lock.class new full is.few_classes) in
-      rw (tasks_fit fits, class-acquired name lock waited, many) refl
-
-  module _ (fits : place_of old.tasks name ≡ None → length old.tasks < MOST_TASKS) (class_fits : place_of old.classes lock.class ≡ None → length old.classes < MOST_CLASSES) where
+  module _ (class_fits : place_of old.classes lock.class ≡ None → length old.classes < MOST_CLASSES) where
     classes_fit : is_one_too_many MOST_CLASSES (classes (events all)) lock.class ≡ false
-    classes_fit = rw (← is.classes) (few MOST_CLASSES old.classes lock.class class_fits)
+    classes_fit = rw (← is.classes) (is_one_too_many-fits MOST_CLASSES old.classes lock.class class_fits)
 
-    pub fault-deep : length (held_by (events all) name) ≡ MOST_HELD → event_fault (events all) (acquisition name lock waited) ≡ Some TooDeep
-    fault-deep deep = rw (tasks_fit fits, class-acquired name lock waited, classes_fit, acquired name lock waited, task-acquired name lock waited, same-is (length (held_by (events all) name)) MOST_HELD deep) refl
+    pub fault-deep : length (held_by (events all) name) ≡ MOST_HELD → event_fault (events all) (acquisition waits name lock) ≡ Some TooDeep
+    fault-deep deep = rw (tasks_fit, class-acquired name lock waits, classes_fit, acquired name lock waits, task-acquired name lock waits, same-is (length (held_by (events all) name)) MOST_HELD deep) refl
 
-    pub fault-none : length (held_by (events all) name) < MOST_HELD → event_fault (events all) (acquisition name lock waited) ≡ None
+    pub fault-none : length (held_by (events all) name) < MOST_HELD → event_fault (events all) (acquisition waits name lock) ≡ None
     fault-none shallow =
-        let later = no-later (events all) name lock waited in
-        rw (tasks_fit fits, class-acquired name lock waited, classes_fit, acquired name lock waited, task-acquired name lock waited, below-not (length (held_by (events all) name)) MOST_HELD shallow, later.is_held, later.nests, later.unmasked, later.exits, later.holds_none, later.enables) refl
+        let later = no-later (events all) name lock waits in
+        rw (tasks_fit, class-acquired name lock waits, classes_fit, acquired name lock waits, task-acquired name lock waits, below-not (length (held_by (events all) name)) MOST_HELD shallow, later.is_held, later.nests, later.unmasked, later.exits, later.holds_none, later.enables) refl
 
--- a past stays quiet with an event that is no interrupt's
-quiet-more : (past : List PlainEvent) (e : PlainEvent) → is_quiet past ≡ true → is_interrupt e ≡ false → is_quiet (past ++ e ∷ []) ≡ true
-quiet-more past e quiet calm = list_all-append (λ x. not (is_interrupt x)) past (e ∷ []) ∙ rw (quiet, calm) refl
+-- what is known when the task and the class of an acquisition have their numbers
+pub record Entered (old : Scan) (name class_name : List ℕ) (id number : ℕ) (new : Scan) : Type 0 where
+  pub tasks : new.tasks ≡ with_name old.tasks name
+  pub place : IsNameAt new.tasks id name
+  pub fits : place_of old.tasks name ≡ None → length old.tasks < MOST_TASKS
+  pub many : AreMany new
+  pub stacks : (k : ℕ) → slice_index_or new.locks.stacks k [] ≡ slice_index_or old.locks.stacks k []
+  pub interrupts : (k : ℕ) → slice_index_or new.locks.interrupts k fresh ≡ slice_index_or old.locks.interrupts k fresh
+  pub edges : new.locks.edges ≡ old.locks.edges
+  pub uses : new.uses ≡ old.uses
+  pub classes : new.classes ≡ with_name old.classes class_name
+  pub class : IsNameAt new.classes number class_name
+  pub few_classes : place_of old.classes class_name ≡ None → length old.classes < MOST_CLASSES
 
-calm : (name : List ℕ) (lock : PlainLock) (waited : Option ℕ) → is_interrupt (acquisition name lock waited) ≡ false
-calm name lock None = refl
-calm name lock (Some line) = refl
+pub entered : (old mid new : Scan) (name class : List ℕ) (id number : ℕ) → HasTask old name id mid → (new.tasks ≡ mid.tasks) × (new.locks ≡ mid.locks) × (new.uses ≡ mid.uses) → new.classes ≡ with_name mid.classes class → IsNameAt new.classes number class → (place_of mid.classes class ≡ None → length mid.classes < MOST_CLASSES) → Entered old name class id number new
+entered old mid new name class id number has same more at few = record {
+  tasks = same.0 ∙ has.tasks;
+  place = subst (λ names. IsNameAt names id name) (sym same.0) has.place;
+  fits = has.fits;
+  many = (ap (λ locks. length locks.stacks) same.1 ∙ has.many.0 ∙ ap length (sym same.0), ap (λ locks. length locks.interrupts) same.1 ∙ has.many.1 ∙ ap length (sym same.0));
+  stacks = λ k. ap (λ locks. slice_index_or locks.stacks k []) same.1 ∙ has.stacks k;
+  interrupts = λ k. ap (λ locks. slice_index_or locks.interrupts k fresh) same.1 ∙ has.interrupts k;
+  edges = ap (λ locks. locks.edges) same.1 ∙ has.edges;
+  uses = same.2 ∙ has.uses;
+  classes = more ∙ ap (λ names. with_name names class) has.classes;
+  class = at;
+  few_classes = subst (λ names. place_of names class ≡ None → length names < MOST_CLASSES) has.classes few;
+}
 
 -- a dependency on this class, told at this line
 abbrev on_class : List ℕ → ℕ → List ℕ → Seen Dependency
 on_class class line from = record { what = record { from = from; to = class }; line = line }
-
--- the locks of keys, and the classes of locks
-classes-of_keys : (keys : List Key) → map (λ key. key.lock.class) keys ≡ map (λ l. l.class) (map (λ key. key.lock) keys)
-classes-of_keys [] = refl
-classes-of_keys (key ∷ keys) = ap (λ o. key.lock.class ∷ o) (classes-of_keys keys)
-
-classes-of_holds : (stack : List Hold) → map (λ hold. hold.lock.class) stack ≡ map (λ l. l.class) (map (λ hold. hold.lock) stack)
-classes-of_holds [] = refl
-classes-of_holds (hold ∷ stack) = ap (λ o. hold.lock.class ∷ o) (classes-of_holds stack)
 
 told-of_keys : (class : List ℕ) (line : ℕ) (keys : List Key) → map (λ (what : Dependency). record { what = what; line = line }) (map (λ (key : Key). record { from = key.lock.class; to = class }) keys) ≡ map (on_class class line) (map (λ key. key.lock.class) keys)
 told-of_keys class line [] = refl
@@ -144,117 +145,195 @@ told-of_numbers names number line [] = refl
 told-of_numbers names number line (from ∷ froms) = ap (λ o. on_class (slice_index_or names number []) line (slice_index_or names from []) ∷ o) (told-of_numbers names number line froms)
 
 -- an acquisition that fits is one more position
-module _ (all : List Position) (old : Scan) (is : IsAt all old) (name : List ℕ) (lock : PlainLock) (waited : Option ℕ) (line id number : ℕ) (tasks' classes' : List (List ℕ)) (stacks' : List (List Hold)) (entered : Entered old name lock.class id number tasks' classes' stacks') where
-  abbrev stack : List Hold
-  stack = slice_index_or stacks' id []
+module _ (all : List Position) (old : Scan) (is : IsAt all old) (name : List ℕ) (lock : PlainLock) (line id number : ℕ) (new : Scan) (enters : Entered old name lock.class id number new) where
+  abbrev held_now : List Hold
+  held_now = slice_index_or new.locks.stacks id []
 
-  abbrev event : PlainEvent
-  event = acquisition name lock waited
+  abbrev frames_now : Interrupts
+  frames_now = slice_index_or new.locks.interrupts id fresh
 
-  abbrev more : List Position
-  more = all ++ happens line event ∷ []
+  abbrev inner : List Hold
+  inner = drop (start_now frames_now) held_now
 
-  holds : Holds old.classes stack name all
-  holds = task-stacks all old is name tasks' stacks' entered.tasks entered.stacks id name entered.task
+  abbrev top : Hold
+  top = record { lock = lock; class = number }
 
-  pub length-held : length (held_by (events all) name) ≡ length stack
-  length-held = sym (length-map (held_by (events all) name) (λ (key : Key). key.lock)) ∙ ap length (sym holds.0) ∙ length-map stack (λ (hold : Hold). hold.lock)
+  before : IsTask old.classes held_now frames_now (events all) name
+  before =
+      subst (λ held. IsTask old.classes held frames_now (events all) name) (sym (enters.stacks id))
+      (subst (λ interrupts. IsTask old.classes (slice_index_or old.locks.stacks id []) interrupts (events all) name) (sym (enters.interrupts id))
+      (task-at all old is name new.tasks enters.tasks id name enters.place))
 
-  now : events more ≡ events all ++ event ∷ []
-  now = events-push all (happens line event)
+  pub length-held : length (held_by (events all) name) ≡ length held_now
+  length-held = sym (length-is old.classes held_now frames_now (events all) name before)
 
-  classes-now : classes' ≡ classes (events more)
-  classes-now = entered.classes ∙ ap (λ ns. with_name ns lock.class) is.classes ∙ sym (ap classes now ∙ classes-acquires (events all) event lock.class (class-acquired name lock waited))
+  classes-now : (waits : Bool) → new.classes ≡ classes (events all ++ acquisition waits name lock ∷ [])
+  classes-now waits = enters.classes ∙ ap (λ ns. with_name ns lock.class) is.classes ∙ sym (classes-acquires (events all) (acquisition waits name lock) lock.class (class-acquired name lock waits))
 
-  distinct : AreDistinct classes'
-  distinct = subst AreDistinct (sym classes-now) (distinct-classes (events more))
+  distinct : AreDistinct new.classes
+  distinct = subst AreDistinct (sym (classes-now true)) (distinct-classes (events all ++ Acquire name lock ∷ []))
 
   -- the numbers of the classes that were held before are those of the same names now
-  holds-now : (other : List Hold) → All (λ hold. IsNameAt old.classes hold.class hold.lock.class) other → All (λ hold. IsNameAt classes' hold.class hold.lock.class) other
-  holds-now other each = subst (λ names. All (λ hold. IsNameAt names hold.class hold.lock.class) other) (sym entered.classes) (holds-more old.classes lock.class other each)
+  holds-now : (other : List Hold) → All (λ hold. IsNameAt old.classes hold.class hold.lock.class) other → All (λ hold. IsNameAt new.classes hold.class hold.lock.class) other
+  holds-now other each = subst (λ names. All (λ hold. IsNameAt names hold.class hold.lock.class) other) (sym enters.classes) (holds-more old.classes lock.class other each)
 
-  within-now : All (IsWithin classes') old.locks.edges
-  within-now = subst (λ names. All (IsWithin names) old.locks.edges) (sym entered.classes) (within-more old.classes lock.class old.locks.edges is.within)
+  -- The dependencies.
 
-  named-now : map (named classes') old.locks.edges ≡ each_once same_seen (seen dependencies_at all)
-  named-now = ap (λ names. map (named names) old.locks.edges) entered.classes ∙ named-more old.classes lock.class old.locks.edges is.within ∙ is.edges
+  edges-now : map (named new.classes) new.locks.edges ≡ each_once same_seen (seen dependencies_at all)
+  edges-now = (λ i. map (named (enters.classes i)) (enters.edges i)) ∙ named-more old.classes lock.class old.locks.edges is.within ∙ is.edges
+
+  within-now : All (IsWithin new.classes) new.locks.edges
+  within-now = subst (All (IsWithin new.classes)) (sym enters.edges) (subst (λ names. All (IsWithin names) old.locks.edges) (sym enters.classes) (within-more old.classes lock.class old.locks.edges is.within))
+
+  inner-now : All (λ hold. IsNameAt new.classes hold.class hold.lock.class) inner
+  inner-now = All-drop (λ hold. IsNameAt new.classes hold.class hold.lock.class) (start_now frames_now) held_now (holds-now held_now before.classes)
+
+  abbrev froms : List ℕ
+  froms = map (λ hold. hold.class) inner
+
+  froms-are : map (λ from. slice_index_or new.classes from []) froms ≡ map (λ key. key.lock.class) (held_in (events all) name (frame_of (events all) name))
+  froms-are =
+      holds-names new.classes inner inner-now
+      ∙ sym (map-map (λ (l : PlainLock). l.class) (λ (hold : Hold). hold.lock) inner)
+      ∙ ap (map (λ l. l.class)) (inner-is old.classes held_now frames_now (events all) name before (clean-grouped all name is.clean))
+      ∙ map-map (λ (l : PlainLock). l.class) (λ (key : Key). key.lock) (held_in (events all) name (frame_of (events all) name))
 
   -- what a waiting acquisition tells
-  told-now : map (λ (from : ℕ). record { what = record { from = slice_index_or classes' from []; to = slice_index_or classes' number [] }; line = line }) (map (λ hold. hold.class) stack) ≡ seen_at dependencies_at (events all) line (Ok (Acquire name lock))
+  told-now : map (λ (from : ℕ). record { what = record { from = slice_index_or new.classes from []; to = slice_index_or new.classes number [] }; line = line }) froms ≡ seen_at dependencies_at (events all) line (Ok (Acquire name lock))
   told-now =
-      told-of_numbers classes' number line (map (λ hold. hold.class) stack)
-      ∙ ap (λ to. map (on_class to line) (map (λ from. slice_index_or classes' from []) (map (λ hold. hold.class) stack))) entered.class.1
-      ∙ ap (map (on_class lock.class line)) (holds-names classes' stack (holds-now stack holds.1) ∙ classes-of_holds stack ∙ ap (map (λ l. l.class)) holds.0 ∙ sym (classes-of_keys (held_by (events all) name)))
-      ∙ sym (told-of_keys lock.class line (held_by (events all) name))
-      ∙ ap (λ keys. map (λ (what : Dependency). record { what = what; line = line }) (map (λ (key : Key). record { from = key.lock.class; to = lock.class }) keys)) (sym (held_in-quiet (events all) name is.quiet))
+      told-of_numbers new.classes number line froms
+      ∙ (λ i. map (on_class (enters.class.1 i) line) (froms-are i))
+      ∙ sym (told-of_keys lock.class line (held_in (events all) name (frame_of (events all) name)))
 
-  -- what the positions show then, where it waited, and where it didn't
-  edges-told : map (named classes') (fold with_edge old.locks.edges (map (edge_to number line) (map (λ hold. hold.class) stack))) ≡ each_once same_seen (seen dependencies_at (all ++ happens line (Acquire name lock) ∷ []))
+  abbrev told_edges : List EdgeFact
+  told_edges = fold with_edge new.locks.edges (map (edge_to number line) froms)
+
+  edges-told : map (named new.classes) told_edges ≡ each_once same_seen (seen dependencies_at (all ++ happens line (Acquire name lock) ∷ []))
   edges-told =
-      tell-named classes' distinct old.locks.edges line number (map (λ hold. hold.class) stack) within-now entered.class.0 (holds-within classes' stack (holds-now stack holds.1))
-      ∙ ap (λ known. fold (with_new same_seen) known (map (λ (from : ℕ). record { what = record { from = slice_index_or classes' from []; to = slice_index_or classes' number [] }; line = line }) (map (λ hold. hold.class) stack))) named-now
-      ∙ ap (fold (with_new same_seen) (each_once same_seen (seen dependencies_at all))) told-now
+      tell-named new.classes distinct new.locks.edges line number froms within-now enters.class.0 (holds-within new.classes inner inner-now)
+      ∙ (λ i. fold (with_new same_seen) (edges-now i) (told-now i))
       ∙ sym (dependencies-push all (happens line (Acquire name lock)))
 
-  edges-untold : map (named classes') old.locks.edges ≡ each_once same_seen (seen dependencies_at (all ++ happens line (Try name lock) ∷ []))
-  edges-untold = named-now ∙ sym (dependencies-push all (happens line (Try name lock)))
+  within-told : All (IsWithin new.classes) told_edges
+  within-told = within-tell new.classes new.locks.edges line number froms within-now enters.class.0 (holds-within new.classes inner inner-now)
 
-  within-told : All (IsWithin classes') (fold with_edge old.locks.edges (map (edge_to number line) (map (λ hold. hold.class) stack)))
-  within-told = within-tell classes' old.locks.edges line number (map (λ hold. hold.class) stack) within-now entered.class.0 (holds-within classes' stack (holds-now stack holds.1))
+  edges-untold : map (named new.classes) new.locks.edges ≡ each_once same_seen (seen dependencies_at (all ++ happens line (Try name lock) ∷ []))
+  edges-untold = edges-now ∙ sym (dependencies-push all (happens line (Try name lock)))
 
-  stack-own : (k : ℕ) (other : List ℕ) → IsNameAt tasks' k other → k ≡ id → Holds classes' (slice_index_or (slice_set stacks' id (stack ++ record { lock = lock; class = number } ∷ [])) k []) other more
-  stack-own k other at same =
-      let named' : other ≡ name = sym at.1 ∙ ap (λ i. slice_index_or tasks' i []) same ∙ entered.task.1 in
-      let here : slice_index_or (slice_set stacks' id (stack ++ record { lock = lock; class = number } ∷ [])) k [] ≡ stack ++ record { lock = lock; class = number } ∷ [] = ap (λ i. slice_index_or (slice_set stacks' id (stack ++ record { lock = lock; class = number } ∷ [])) i []) same ∙ get_or-set_same stacks' id (stack ++ record { lock = lock; class = number } ∷ []) [] (omega (arith, entered.many, entered.task.0)) in
-      let own : bytes_eq name (task_of event) ≡ true = (bytes_eq-Decides name (task_of event)).1 (sym (task-acquired name lock waited)) in
-      let keys : held_by (events more) name ≡ held_by (events all) name ++ record { task = task_of event; frame = frame_of (events all) (task_of event); lock = lock } ∷ [] = ap (λ past. held_by past name) now ∙ held_by-acquires (events all) name event lock (acquired name lock waited) ∙ rw own refl in
-      let told : Holds classes' (stack ++ record { lock = lock; class = number } ∷ []) name more = (
-        map-append (λ (hold : Hold). hold.lock) stack (record { lock = lock; class = number } ∷ []) ∙ ap (λ locks. locks ++ lock ∷ []) holds.0
-            ∙ sym (ap (map (λ key. key.lock)) keys ∙ map-append (λ (key : Key). key.lock) (held_by (events all) name) (record { task = task_of event; frame = frame_of (events all) (task_of event); lock = lock } ∷ [])),
-        All-push (λ hold. IsNameAt classes' hold.class hold.lock.class) stack (record { lock = lock; class = number }) (holds-now stack holds.1) entered.class,
-      ) in
-      subst (λ o. Holds classes' (slice_index_or (slice_set stacks' id (stack ++ record { lock = lock; class = number } ∷ [])) k []) o more) (sym named') (subst (λ s. Holds classes' s name more) (sym here) told)
+  -- The usage.
 
-  stack-other : (k : ℕ) (other : List ℕ) → IsNameAt tasks' k other → k ≢ id → Holds classes' (slice_index_or (slice_set stacks' id (stack ++ record { lock = lock; class = number } ∷ [])) k []) other more
-  stack-other k other at apart =
-      let here : slice_index_or (slice_set stacks' id (stack ++ record { lock = lock; class = number } ∷ [])) k [] ≡ slice_index_or stacks' k [] = get_or-set_other stacks' id k (stack ++ record { lock = lock; class = number } ∷ []) [] apart in
-      let before : Holds old.classes (slice_index_or stacks' k []) other all = task-stacks all old is name tasks' stacks' entered.tasks entered.stacks k other at in
-      let apart' : bytes_eq other name ≡ false = task-other all old is name tasks' stacks' entered.tasks entered.stacks id k other entered.task at apart in
-      let another : bytes_eq other (task_of event) ≡ false = ap (bytes_eq other) (task-acquired name lock waited) ∙ apart' in
-      let keys : held_by (events more) other ≡ held_by (events all) other = ap (λ past. held_by past other) now ∙ held_by-acquires (events all) other event lock (acquired name lock waited) ∙ rw another (append-nil (held_by (events all) other)) in
-      let told : Holds classes' (slice_index_or stacks' k []) other more = (before.0 ∙ ap (map (λ key. key.lock)) (sym keys), holds-now (slice_index_or stacks' k []) before.1) in
-      subst (λ s. Holds classes' s other more) (sym here) told
+  abbrev key : Key
+  key = record { task = name; frame = frame_of (events all) name; lock = lock }
 
-  pub acquired-at : (edges' : List EdgeFact) → length stack < MOST_HELD → map (named classes') edges' ≡ each_once same_seen (seen dependencies_at more) → All (IsWithin classes') edges'
-      → IsAt more (record { tasks = tasks'; classes = classes'; locks = record { stacks = slice_set stacks' id (stack ++ record { lock = lock; class = number } ∷ []); edges = edges' } })
-  acquired-at edges' room edges within = record {
-    clean = no_fault all (happens line event) is.clean (fault-none all old is name lock waited entered.few_tasks entered.few_classes (omega (arith, length-held)));
-    quiet = ap is_quiet now ∙ quiet-more (events all) event is.quiet (calm name lock waited);
-    tasks = entered.tasks ∙ ap (λ ns. with_name ns name) is.tasks ∙ sym (ap tasks now ∙ tasks-push (events all) event ∙ ap (with_name (tasks (events all))) (task-acquired name lock waited));
-    classes = classes-now;
-    few_tasks = subst (λ (names : List (List ℕ)). length names ≤ MOST_TASKS) (sym entered.tasks) (with_name-few MOST_TASKS old.tasks name entered.few_tasks is.few_tasks);
-    few_classes = subst (λ (names : List (List ℕ)). length names ≤ MOST_CLASSES) (sym entered.classes) (with_name-few MOST_CLASSES old.classes lock.class entered.few_classes is.few_classes);
-    many = length-set stacks' id (stack ++ record { lock = lock; class = number } ∷ []) ∙ entered.many;
-    stacks = λ k other at. ⊎_elim (λ (same : (eqb k id ≡ true) × (k ≡ id)). stack-own k other at same.1) (λ (apart : (eqb k id ≡ false) × (k ≢ id)). stack-other k other at apart.1) (eqb_tells k id);
-    shallow = λ k. ⊎_elim
-        (λ (same : (eqb k id ≡ true) × (k ≡ id)).
-        let here = ap (λ i. slice_index_or (slice_set stacks' id (stack ++ record { lock = lock; class = number } ∷ [])) i []) same.1 ∙ get_or-set_same stacks' id (stack ++ record { lock = lock; class = number } ∷ []) [] (omega (arith, entered.many, entered.task.0)) in
-        omega (arith, ap length here, length-append stack (record { lock = lock; class = number } ∷ []), room))
-        (λ (apart : (eqb k id ≡ false) × (k ≢ id)).
-        omega (arith, ap length (get_or-set_other stacks' id k (stack ++ record { lock = lock; class = number } ∷ []) [] apart.1), ap length (entered.stacks k), is.shallow k))
-        (eqb_tells k id);
-    edges = edges;
-    within = within;
+  abbrev ons : List UsageFact
+  ons = on_facts frames_now line (number ∷ [])
+
+  abbrev ins : List UsageFact
+  ins = in_facts frames_now line number
+
+  ons-within : All (IsUse new.classes) ons
+  ons-within = on_facts-within new.classes frames_now line (number ∷ []) (All-cons (λ c. c < length new.classes) number [] enters.class.0 (All-nil (λ c. c < length new.classes)))
+
+  ins-within : All (IsUse new.classes) ins
+  ins-within = in_facts-within new.classes frames_now line number enters.class.0
+
+  uses-now : map (named_use new.classes) new.uses ≡ each_once same_what (seen uses_at all)
+  uses-now = (λ i. map (named_use (enters.classes i)) (enters.uses i)) ∙ named_use-more old.classes lock.class old.uses is.used ∙ is.uses
+
+  used-now : All (IsUse new.classes) new.uses
+  used-now = subst (All (IsUse new.classes)) (sym enters.uses) (subst (λ names. All (IsUse names) old.uses) (sym enters.classes) (within_use-more old.classes lock.class old.uses is.used))
+
+  -- the lock that is acquired counts under the flags of its task, which stay
+  ons-are : (waits : Bool) → map (named_use new.classes) ons ≡ map (at_line line) (map (on_use Hard) (if is_enabled (events all ++ acquisition waits name lock ∷ []) name Hard then key ∷ [] else []) ++ map (on_use Soft) (if is_enabled (events all ++ acquisition waits name lock ∷ []) name Soft then key ∷ [] else []))
+  ons-are waits =
+      on_facts-named new.classes frames_now line (number ∷ []) (key ∷ []) (ap (λ class. class ∷ []) enters.class.1)
+      ∙ (λ i. map (at_line line) (map (on_use Hard) (if enabled Hard i then key ∷ [] else []) ++ map (on_use Soft) (if enabled Soft i then key ∷ [] else [])))
+    where
+      enabled : (state : State) → enabled_now state frames_now ≡ is_enabled (events all ++ acquisition waits name lock ∷ []) name state
+      enabled state = enabled-is old.classes held_now frames_now (events all) name before state ∙ sym (is_enabled-quiet (events all) (acquisition waits name lock) name state (calm name lock waits))
+
+  ins-are : map (named_use new.classes) ins ≡ map (at_line line) (uses_in (contexts (events all) name) (Some lock))
+  ins-are =
+      in_facts-named new.classes frames_now line number lock enters.class
+      ∙ ap (λ cs. map (at_line line) (uses_in cs (Some lock))) (sym (contexts-are old.classes held_now frames_now (events all) name before))
+
+  uses-tried : map (named_use new.classes) (fold with_use new.uses ons) ≡ each_once same_what (seen uses_at (all ++ happens line (Try name lock) ∷ []))
+  uses-tried =
+      uses-named new.classes distinct new.uses ons used-now ons-within
+      ∙ (λ i. fold (with_new same_what) (uses-now i) (ons-are false i))
+      ∙ sym (uses_once-push_new all (happens line (Try name lock)))
+
+  uses-acquired : map (named_use new.classes) (fold with_use (fold with_use new.uses ins) ons) ≡ each_once same_what (seen uses_at (all ++ happens line (Acquire name lock) ∷ []))
+  uses-acquired =
+      uses-named new.classes distinct (fold with_use new.uses ins) ons (uses-within new.classes new.uses ins used-now ins-within) ons-within
+      ∙ ap (λ known. fold (with_new same_what) known (map (named_use new.classes) ons)) (uses-named new.classes distinct new.uses ins used-now ins-within)
+      ∙ (λ i. fold (with_new same_what) (fold (with_new same_what) (uses-now i) (ins-are i)) (ons-are true i))
+      ∙ sym (with_uses-append line (uses_once all) (uses_in (contexts (events all) name) (Some lock)) (map (on_use Hard) (if is_enabled (events all ++ Acquire name lock ∷ []) name Hard then key ∷ [] else []) ++ map (on_use Soft) (if is_enabled (events all ++ Acquire name lock ∷ []) name Soft then key ∷ [] else [])))
+      ∙ sym (uses_once-push_new all (happens line (Acquire name lock)))
+
+  -- The task.
+
+  own : (waits : Bool) → IsTask new.classes (held_now ++ top ∷ []) frames_now (events all ++ acquisition waits name lock ∷ []) name
+  own waits = record {
+    locks = map-append (λ (hold : Hold). hold.lock) held_now (top ∷ []) ∙ ap (λ locks. locks ++ lock ∷ []) before.locks ∙ sym (ap (map (λ other. other.lock)) keys ∙ map-append (λ (other : Key). other.lock) (held_by (events all) name) (record { task = task_of (acquisition waits name lock); frame = frame_of (events all) (task_of (acquisition waits name lock)); lock = lock } ∷ []));
+    classes = All-push (λ hold. IsNameAt new.classes hold.class hold.lock.class) held_now top (holds-now held_now before.classes) enters.class;
+    states = before.states ∙ sym (ap (map state_of) quiet);
+    starts = before.starts ∙ sym (starts-kept (events all) (acquisition waits name lock) name quiet);
+    levels = λ state. before.levels state ∙ sym (levels-quiet (events all) (acquisition waits name lock) name state (calm name lock waits));
   }
+    where
+      none_entered : (Rattle.ld_facts.specs.Frames.enters (acquisition waits name lock) ≡ None) × (Rattle.ld_facts.specs.Frames.exits (acquisition waits name lock) ≡ None)
+      none_entered = enters_none (acquisition waits name lock) lock (acquired name lock waits)
 
-module _ (all : List Position) (old : Scan) (is : IsAt all old) (name : List ℕ) (lock : PlainLock) (line id number : ℕ) (tasks' classes' : List (List ℕ)) (stacks' : List (List Hold)) (entered : Entered old name lock.class id number tasks' classes' stacks') where
-  abbrev froms : List ℕ
-  froms = map (λ hold. hold.class) (slice_index_or stacks' id [])
+      quiet : stack (events all ++ (acquisition waits name lock) ∷ []) name ≡ stack (events all) name
+      quiet = stack-quiet (events all) name (acquisition waits name lock) none_entered.0 none_entered.1
 
-  pub edges-by : (waited : Option ℕ) → IfSome waited (λ at. line ≡ at) → map (named classes') (told_by waited number froms old.locks.edges) ≡ each_once same_seen (seen dependencies_at (all ++ happens line (acquisition name lock waited) ∷ []))
-  edges-by None same = edges-untold all old is name lock None line id number tasks' classes' stacks' entered
-  edges-by (Some at) same = subst (λ (n : ℕ). map (named classes') (fold with_edge old.locks.edges (map (edge_to number n) froms)) ≡ each_once same_seen (seen dependencies_at (all ++ happens line (Acquire name lock) ∷ []))) same (edges-told all old is name lock (Some line) line id number tasks' classes' stacks' entered)
+      own_task : bytes_eq name (task_of (acquisition waits name lock)) ≡ true
+      own_task = (bytes_eq-Decides name (task_of (acquisition waits name lock))).1 (sym (task-acquired name lock waits))
 
-  pub within-by : (waited : Option ℕ) → IfSome waited (λ at. line ≡ at) → All (IsWithin classes') (told_by waited number froms old.locks.edges)
-  within-by None same = within-now all old is name lock None line id number tasks' classes' stacks' entered
-  within-by (Some at) same = subst (λ (n : ℕ). All (IsWithin classes') (fold with_edge old.locks.edges (map (edge_to number n) froms))) same (within-told all old is name lock (Some line) line id number tasks' classes' stacks' entered)
+      keys : held_by (events all ++ (acquisition waits name lock) ∷ []) name ≡ held_by (events all) name ++ record { task = task_of (acquisition waits name lock); frame = frame_of (events all) (task_of (acquisition waits name lock)); lock = lock } ∷ []
+      keys = held_by-acquires (events all) name (acquisition waits name lock) lock (acquired name lock waits) ∙ rw own_task refl
+
+  -- the scan with it, and with these dependencies and usage bits
+  abbrev with_top : List EdgeFact → List UsageFact → Scan
+  with_top edges uses = record { tasks = new.tasks; classes = new.classes; locks = record { stacks = slice_set new.locks.stacks id (held_now ++ top ∷ []); interrupts = new.locks.interrupts; edges = edges }; uses = uses }
+
+  inside : id < length new.locks.stacks
+  inside = omega (arith, enters.place.0, enters.many.0)
+
+  same : slice_index_or (slice_set new.locks.stacks id (held_now ++ top ∷ [])) id [] ≡ held_now ++ top ∷ []
+  same = get_or-set_same new.locks.stacks id (held_now ++ top ∷ []) [] inside
+
+  acquired-by : (waits : Bool) (edges : List EdgeFact) (uses : List UsageFact) → length held_now < MOST_HELD → map (named new.classes) edges ≡ each_once same_seen (seen dependencies_at (all ++ happens line (acquisition waits name lock) ∷ [])) → All (IsWithin new.classes) edges → map (named_use new.classes) uses ≡ each_once same_what (seen uses_at (all ++ happens line (acquisition waits name lock) ∷ [])) → All (IsUse new.classes) uses → IsAt (all ++ happens line (acquisition waits name lock) ∷ []) (with_top edges uses)
+  acquired-by waits edges uses room shown within counted used =
+      moved-at all old (acquisition waits name lock) line id (with_top edges uses) is (record {
+        fault = fault-none all old is waits name lock enters.fits enters.few_classes (omega (arith, room, length-held));
+        tasks = enters.tasks ∙ ap (with_name old.tasks) (sym own_task);
+        place = subst (IsNameAt new.tasks id) (sym own_task) enters.place;
+        fits = subst (λ task. place_of old.tasks task ≡ None → length old.tasks < MOST_TASKS) (sym own_task) enters.fits;
+        many = (length-set new.locks.stacks id (held_now ++ top ∷ []) ∙ enters.many.0, enters.many.1);
+        classes = classes-now waits;
+        few_classes = subst (λ (names : List (List ℕ)). length names ≤ MOST_CLASSES) (sym enters.classes) (with_name-few MOST_CLASSES old.classes lock.class enters.few_classes is.few_classes);
+        stays = λ n other at. subst (λ names. IsNameAt names n other) (sym enters.classes) (IsNameAt-more old.classes lock.class n other at);
+        stacks = λ k apart. get_or-set_other new.locks.stacks id k (held_now ++ top ∷ []) [] apart ∙ enters.stacks k;
+        interrupts = λ k apart. enters.interrupts k;
+        own =
+            subst (λ held. IsTask new.classes held frames_now (events all ++ acquisition waits name lock ∷ []) (task_of (acquisition waits name lock))) (sym same)
+            (subst (IsTask new.classes (held_now ++ top ∷ []) frames_now (events all ++ acquisition waits name lock ∷ [])) (sym own_task) (own waits));
+        shallow = omega (arith, ap length same, length-append held_now (top ∷ []), room);
+        edges = shown;
+        within = within;
+        uses = counted;
+        used = used;
+      })
+    where
+      own_task : task_of (acquisition waits name lock) ≡ name
+      own_task = task-acquired name lock waits
+
+  pub tried-at : length held_now < MOST_HELD → IsAt (all ++ happens line (Try name lock) ∷ []) (with_top new.locks.edges (fold with_use new.uses ons))
+  tried-at room = acquired-by false new.locks.edges (fold with_use new.uses ons) room edges-untold within-now uses-tried (uses-within new.classes new.uses ons used-now ons-within)
+
+  pub acquired-at : length held_now < MOST_HELD → IsAt (all ++ happens line (Acquire name lock) ∷ []) (with_top told_edges (fold with_use (fold with_use new.uses ins) ons))
+  acquired-at room =
+      acquired-by true told_edges (fold with_use (fold with_use new.uses ins) ons) room edges-told within-told uses-acquired
+      (uses-within new.classes (fold with_use new.uses ins) ons (uses-within new.classes new.uses ins used-now ins-within) ons-within)

@@ -9,7 +9,7 @@ use Rattle.std.proofs.lemmas.List.Quantifiers.{all_pairs_push}
 use Rattle.ld_trace.specs.declared.event.Event.{Event}
 use Rattle.ld_trace.specs.declared.event.LineFault.{LineFault}
 use Rattle.ld_trace.specs.Lines.{lines, text_of}
-use Rattle.ld_trace.specs.Sources.{PlainSource}
+use Rattle.ld_trace.specs.Sources.{Fits, PlainSource}
 use Rattle.ld_trace.specs.Events.{PlainEvent, Position, Said, plain_event, position_of, positions, said_by}
 use Rattle.ld_facts.specs.declared.edges.EdgeFact.{EdgeFact}
 use Rattle.ld_facts.specs.declared.fault.TraceFault.{TraceFault}
@@ -18,11 +18,15 @@ use Rattle.ld_facts.specs.declared.scan.Scan.{Scan}
 use Rattle.ld_facts.specs.Outcome.{each_once, classes, event_fault, events, faulty_lines, outcome, outcome_by, of_line, said_fault}
 use Rattle.ld_facts.specs.Dependency.{Dependency, Seen, dependencies_at, first_line, same_dependency, seen}
 use Rattle.ld_facts.specs.Union.{if_read}
-use Rattle.ld_facts.specs.Facts.{IsKnown, named}
+use Rattle.ld_facts.specs.Facts.{IsKnown, named, named_use}
+use Rattle.ld_facts.specs.Usage.{Use, bit_of, same_use, uses_at}
+use Rattle.ld_facts.specs.Uses.{same_what}
+use Rattle.ld_facts.specs.declared.uses.UsageFact.{UsageFact}
 use Rattle.ld_facts.specs.Reading.{IsAt, IsReadTo, happens, positions_from, same_seen}
 use Rattle.ld_facts.proofs.OutcomeLemmas.{first_fault}
 use Rattle.ld_facts.proofs.PlaceLemmas.{alike_from_decides, by_pushes, each_once-more, find_each_once}
 use Rattle.ld_facts.proofs.StepLemmas.{Decides-same_dependency}
+use Rattle.ld_facts.proofs.UsageLemmas.{Decides-same_use, first_line-once, same_what-alike}
 
 -- the positions of lines, by the first of them
 positions-first : (line : ℕ) (rest first others : List ℕ) (said : Said) → lines rest ≡ first ∷ lines others → said_by (text_of first) ≡ said → positions_from line rest ≡ cons_option (position_of line said) (positions_from (line + 1) others)
@@ -74,6 +78,16 @@ module _ (names : List (List ℕ)) (edges : List EdgeFact) (shown : List (Seen D
       ap (λ xs. first_line same_dependency xs what) is
       ∙ ap (option_map (λ s. s.line)) (find_each_once same_seen alike_seen (record { what = what; line = 0 }) shown)
 
+-- numbered usage bits that are these by name, each once
+once_used : (names : List (List ℕ)) (uses : List UsageFact) (shown : List (Seen Use)) → map (named_use names) uses ≡ each_once same_what shown → AllPairs (λ u v. (u.class ≡ v.class) × (u.bit ≡ v.bit) → ⊥) uses
+once_used names uses shown is i j d before below both =
+    let apart : AllPairs (λ a b. same_what b a ≡ false) (map (named_use names) uses) = subst (AllPairs (λ a b. same_what b a ≡ false)) (sym is) (each_once-pairs same_what same_what-alike shown) in
+    let differ : same_what (get_or (map (named_use names) uses) j (named_use names d)) (get_or (map (named_use names) uses) i (named_use names d)) ≡ false = apart i j (named_use names d) before (omega (arith, below, length-map uses (named_use names))) in
+    let here : get_or (map (named_use names) uses) i (named_use names d) ≡ named_use names (get_or uses i d) = get_or-map (named_use names) uses i d (named_use names d) (omega arith) in
+    let there : get_or (map (named_use names) uses) j (named_use names d) ≡ named_use names (get_or uses j d) = get_or-map (named_use names) uses j d (named_use names d) below in
+    let alike : (named_use names (get_or uses j d)).what ≡ (named_use names (get_or uses i d)).what = (λ k. record { class = get_or names (sym both.0 k) []; bit = bit_of (sym both.1 k) }) in
+    true≢false (sym ((Decides-same_use (named_use names (get_or uses j d)).what (named_use names (get_or uses i d)).what).1 alike) ∙ (λ k. same_what (sym there k) (sym here k)) ∙ differ)
+
 -- the same scan and count by other names
 pub moved : (source : PlainSource) (line : ℕ) (rest : List ℕ) (scan old : Scan) (count before : ℕ) → scan ≡ old → count ≡ before → IsReadTo source line rest old before → IsReadTo source line rest scan count
 moved source line rest scan old count before is many read = subst (λ s. IsReadTo source line rest s count) (sym is) (subst (IsReadTo source line rest old) (sym many) read)
@@ -114,38 +128,47 @@ module _ (source : PlainSource) (line : ℕ) (rest : List ℕ) (scan : Scan) (co
   refused-line fault is = refused (Err fault) (record { line = line; says = Err fault }) (of_line fault) is refl refl
 
 -- a scan that is read to the end has the facts
-pub read-known : (source : PlainSource) (line : ℕ) (rest : List ℕ) (scan : Scan) (count : ℕ) → IsReadTo source line rest scan count → rest ≡ [] → IsKnown (record { source = source; outcome = Read count; classes = scan.classes; edges = scan.locks.edges })
-read-known source line rest scan count read ended =
+pub read-known : (source : PlainSource) (line : ℕ) (rest : List ℕ) (scan : Scan) (count : ℕ) → Fits source → IsReadTo source line rest scan count → rest ≡ [] → IsKnown (record { source = source; outcome = Read count; classes = scan.classes; edges = scan.locks.edges; usage = scan.uses })
+read-known source line rest scan count fits read ended =
     let all : positions source ≡ read.before = read.whole ∙ ap (λ bytes. read.before ++ positions_from line bytes) ended ∙ append-nil read.before in
     let is : outcome source ≡ Read count =
     (λ i. outcome_by (length (all i)) (slice_get (faulty_lines (all i)) 0)) ∙ (λ i. outcome_by (sym read.counted i) (slice_get (read.scanned.clean i) 0)) in
     record {
+      fits = fits;
       outcome = sym is;
+      few = read.scanned.few_classes;
       classes = read.scanned.classes ∙ (λ i. if_read (sym is i) (classes (events (sym all i))));
       within = read.scanned.within;
       once = once_named scan.classes scan.locks.edges (seen dependencies_at read.before) read.scanned.edges;
       edges = λ what.
           least_named scan.classes scan.locks.edges (seen dependencies_at read.before) read.scanned.edges what
           ∙ (λ i. first_line same_dependency (if_read (sym is i) (seen dependencies_at (sym all i))) what);
+      used_within = read.scanned.used;
+      used_once = once_used scan.classes scan.uses (seen uses_at read.before) read.scanned.uses;
+      usage = λ what.
+          ap (λ us. first_line same_use us what) read.scanned.uses
+          ∙ first_line-once read.before what
+          ∙ (λ i. first_line same_use (if_read (sym is i) (seen uses_at (sym all i))) what);
     }
 
 -- before the first line
-pub read-none : (source : PlainSource) (scan : Scan) → scan ≡ record { tasks = []; classes = []; locks = record { stacks = []; edges = [] } } → IsReadTo source source.first_line source.bytes scan 0
+pub read-none : (source : PlainSource) (scan : Scan) → scan ≡ record { tasks = []; classes = []; locks = record { stacks = []; interrupts = []; edges = [] }; uses = [] } → IsReadTo source source.first_line source.bytes scan 0
 read-none source scan new = subst (λ s. IsReadTo source source.first_line source.bytes s 0) (sym new) (record {
   before = [];
   whole = refl;
   scanned = record {
     clean = refl;
-    quiet = refl;
     tasks = refl;
     classes = refl;
     few_tasks = omega arith;
     few_classes = omega arith;
-    many = refl;
-    stacks = λ id name is. (refl, λ k d below. absurd (omega arith));
+    many = (refl, refl);
+    each = λ id name at. absurd (omega (arith, at.0));
     shallow = λ id. omega arith;
     edges = refl;
     within = λ k d below. absurd (omega arith);
+    uses = refl;
+    used = λ k d below. absurd (omega arith);
   };
   counted = refl;
 })

@@ -11,20 +11,16 @@ use Rattle.std.specs.List.{list_any, filter_map}
 use Rattle.std.specs.Str.{bytes_eq}
 use Rattle.ld_class.specs.Names.{AreDistinct, IsNameAt, place_of, with_name}
 use Rattle.ld_class.proofs.NameLemmas.{place_of-None, with_name-known, with_name-new}
-use Rattle.ld_trace.specs.Events.{PlainEvent, PlainLock, Position}
-use Rattle.ld_trace.specs.Events.PlainEvent.{Acquire, Release, Try}
+use Rattle.ld_trace.specs.Events.{PlainEvent}
 use Rattle.ld_facts.specs.declared.edges.EdgeFact.{EdgeFact}
-use Rattle.ld_facts.specs.Dependency.{Dependency, Seen, dependencies_at, seen}
+use Rattle.ld_facts.specs.Dependency.{Dependency}
 use Rattle.ld_facts.specs.Edges.{edge_to, same_pair, with_edge}
-use Rattle.ld_facts.specs.Frames.{is_quiet}
-use Rattle.ld_facts.specs.Held.{Key, held_by}
 use Rattle.ld_facts.specs.Locks.{Hold}
-use Rattle.ld_facts.specs.Outcome.{class_acquired, classes, each_once, events}
-use Rattle.ld_facts.specs.Reading.{IsWithin, happens, same_seen}
+use Rattle.ld_facts.specs.Outcome.{class_acquired, classes, each_once}
+use Rattle.ld_facts.specs.Reading.{IsWithin, same_seen}
 use Rattle.ld_facts.specs.Facts.{named}
 use Rattle.ld_facts.proofs.PlaceLemmas.{by_pushes, with_new}
-use Rattle.ld_facts.proofs.QuietLemmas.{held_in-quiet}
-use Rattle.ld_facts.proofs.StepLemmas.{dependencies-push, names-more}
+use Rattle.ld_facts.proofs.StepLemmas.{names-more}
 
 -- two tests that pass together are one
 same_test : (a b : Bool) → (a ≡ true → b ≡ true) → (b ≡ true → a ≡ true) → a ≡ b
@@ -160,47 +156,3 @@ holds-within names stack at = All-map (λ from. from < length names) (λ hold. h
 
 pub holds-more : (names : List (List ℕ)) (name : List ℕ) (stack : List Hold) → All (λ hold. IsNameAt names hold.class hold.lock.class) stack → All (λ hold. IsNameAt (with_name names name) hold.class hold.lock.class) stack
 holds-more names name stack at = All-weaker (λ hold. IsNameAt names hold.class hold.lock.class) (λ hold. IsNameAt (with_name names name) hold.class hold.lock.class) (λ hold h. IsNameAt-more names name hold.class hold.lock.class h) stack at
-
-abbrev at_line : ℕ → Dependency → Seen Dependency
-at_line line what = record { what = what; line = line }
-
-abbrev seen_to : ℕ → List ℕ → PlainLock → Seen Dependency
-seen_to line to lock = record { what = record { from = lock.class; to = to }; line = line }
-
--- what a task holds gives the dependencies of its waiting acquisition, at this line
-seen_from : (names : List (List ℕ)) (stack : List Hold) (class line : ℕ) (to : List ℕ) → All (λ hold. IsNameAt names hold.class hold.lock.class) stack → slice_index_or names class [] ≡ to → map (λ from. named names (edge_to class line from)) (map (λ hold. hold.class) stack) ≡ map (seen_to line to) (map (λ hold. hold.lock) stack)
-seen_from names [] class line to at is = refl
-seen_from names (x ∷ xs) class line to at is =
-    let here = All-head (λ hold. IsNameAt names hold.class hold.lock.class) x xs at in
-    let rest = seen_from names xs class line to (All-tail (λ hold. IsNameAt names hold.class hold.lock.class) x xs at) is in
-    (λ i. record { what = record { from = here.1 i; to = is i }; line = line } ∷ rest i)
-
-seen_keys : (keys : List Key) (line : ℕ) (to : List ℕ) → map (seen_to line to) (map (λ key. key.lock) keys) ≡ map (at_line line) (map (λ key. record { from = key.lock.class; to = to }) keys)
-seen_keys [] line to = refl
-seen_keys (x ∷ xs) line to = ap (λ rest. seen_to line to x.lock ∷ rest) (seen_keys xs line to)
-
--- the numbered dependencies that a waiting acquisition leaves are those of the trace with it
-pub dependencies-told : (all : List Position) (task : List ℕ) (lock : PlainLock) (line class : ℕ) (names : List (List ℕ)) (edges : List EdgeFact) (stack : List Hold) → AreDistinct names → is_quiet (events all) ≡ true → map (named names) edges ≡ each_once same_seen (seen dependencies_at all) → All (IsWithin names) edges → map (λ hold. hold.lock) stack ≡ map (λ key. key.lock) (held_by (events all) task) → All (λ hold. IsNameAt names hold.class hold.lock.class) stack → IsNameAt (with_name names lock.class) class lock.class → map (named (with_name names lock.class)) (fold with_edge edges (map (edge_to class line) (map (λ hold. hold.class) stack))) ≡ each_once same_seen (seen dependencies_at (all ++ happens line (Acquire task lock) ∷ []))
-dependencies-told all task lock line class names edges stack distinct quiet told within same at here =
-    let more = with_name names lock.class in
-    let at_more = holds-more names lock.class stack at in
-    tell-named more (distinct-more names lock.class distinct) edges line class (map (λ hold. hold.class) stack) (within-more names lock.class edges within) here.0 (holds-within more stack at_more)
-    ∙ ap (λ zs. fold (with_new same_seen) zs (map (λ from. named more (edge_to class line from)) (map (λ hold. hold.class) stack))) (named-more names lock.class edges within ∙ told)
-    ∙ ap (fold (with_new same_seen) (each_once same_seen (seen dependencies_at all)))
-    (seen_from more stack class line lock.class at_more here.1
-    ∙ ap (map (seen_to line lock.class)) same
-    ∙ seen_keys (held_by (events all) task) line lock.class
-    ∙ ap (λ keys. map (at_line line) (map (λ key. record { from = key.lock.class; to = lock.class }) keys)) (sym (held_in-quiet (events all) task quiet)))
-    ∙ sym (dependencies-push all (happens line (Acquire task lock)))
-
-pub within-told : (names : List (List ℕ)) (edges : List EdgeFact) (stack : List Hold) (line class : ℕ) (name : List ℕ) → All (IsWithin names) edges → All (λ hold. IsNameAt names hold.class hold.lock.class) stack → IsNameAt (with_name names name) class name → All (IsWithin (with_name names name)) (fold with_edge edges (map (edge_to class line) (map (λ hold. hold.class) stack)))
-within-told names edges stack line class name within at here =
-    within-tell (with_name names name) edges line class (map (λ hold. hold.class) stack) (within-more names name edges within) here.0 (holds-within (with_name names name) stack (holds-more names name stack at))
-
--- an acquisition that can't wait adds a name and no dependency
-pub dependencies-untold : (all : List Position) (task : List ℕ) (lock : PlainLock) (line : ℕ) (names : List (List ℕ)) (edges : List EdgeFact) → map (named names) edges ≡ each_once same_seen (seen dependencies_at all) → All (IsWithin names) edges → map (named (with_name names lock.class)) edges ≡ each_once same_seen (seen dependencies_at (all ++ happens line (Try task lock) ∷ []))
-dependencies-untold all task lock line names edges told within = named-more names lock.class edges within ∙ told ∙ sym (dependencies-push all (happens line (Try task lock)))
-
--- nor does a release
-pub dependencies-released : (all : List Position) (task : List ℕ) (lock : PlainLock) (line : ℕ) → each_once same_seen (seen dependencies_at (all ++ happens line (Release task lock) ∷ [])) ≡ each_once same_seen (seen dependencies_at all)
-dependencies-released all task lock line = dependencies-push all (happens line (Release task lock))

@@ -1,29 +1,41 @@
--- A release, seen through the stacks of the scan: the latest lock of the name goes from the stack of its task.
-use Rattle.std.proofs.Common.{◌≡◌, ◌<◌, ◌≤◌, ◌++◌, ◌∷◌, [], ◌&&◌, ◌||◌, List, ℕ, Bool, true, false, not, cond, length, map, filter, get_or, set, Some, None, refl, ap, sym, subst, ◌∙◌, ◌⊎◌, inl, inr, arith, if◌then◌else◌}
-use Rattle.std.proofs.lemmas.Bool.{and_parts, and_from, cases_eq}
-use Rattle.std.proofs.lemmas.List.{length-set, get_or-set_same, get_or-set_other}
-use Rattle.std.proofs.lemmas.List.Elements.{All-cons, All-head, All-tail, All-same}
-use Rattle.std.proofs.lemmas.List.Folds.{list_all-append}
+-- A release, seen through the stacks of the scan: the latest lock of the name goes from the innermost frame
+-- of its task.
+use Rattle.std.proofs.Common.{◌≡◌, ◌<◌, ◌≤◌, ◌++◌, ◌∷◌, [], ◌&&◌, ◌||◌, List, ℕ, Bool, true, false, not, cond, length, map, filter, take, drop, get_or, set, Option, Some, None, refl, ap, sym, subst, ◌∙◌, arith, if◌then◌else◌, length-append}
+use Rattle.std.proofs.lemmas.Bool.{true≢false, and_parts, and_from, or_parts}
+use Rattle.std.proofs.lemmas.List.{length-set, get_or-set_same, get_or-set_other, map-append, take-append-drop, take-map}
+use Rattle.std.proofs.lemmas.List.Elements.{All-append, All-cons, All-drop, All-head, All-tail, All-take}
 use Rattle.std.specs.List.{All, list_all, list_any}
 use Rattle.std.specs.Str.{bytes_eq}
-use Rattle.ld_class.specs.Names.{IsNameAt, place_of, with_name}
+use Rattle.ld_class.specs.Names.{IsNameAt}
+use Rattle.ld_trace.specs.declared.event.State.{State}
+use Rattle.ld_trace.specs.declared.event.State.TheVariants.{Hard, Soft}
 use Rattle.ld_trace.specs.Events.{PlainEvent, PlainLock, Position}
 use Rattle.ld_trace.specs.Events.PlainEvent.{Release}
 use Rattle.ld_facts.specs.declared.fault.TraceFault.TheVariants.{NotHeld}
+use Rattle.ld_facts.specs.declared.interrupts.Interrupts.{Interrupts}
 use Rattle.ld_facts.specs.declared.outcome.TheConstants.{MOST_HELD, MOST_TASKS}
 use Rattle.ld_facts.specs.declared.scan.Scan.{Scan}
 use Rattle.ld_facts.specs.Open.{remove_last}
-use Rattle.ld_facts.specs.Frames.{frame_of, is_interrupt, is_quiet}
-use Rattle.ld_facts.specs.Held.{Key, same_frame, same_key, same_lock, held, held_by}
+use Rattle.ld_facts.specs.Dependency.{seen}
+use Rattle.ld_facts.specs.Facts.{named_use}
+use Rattle.ld_facts.specs.Flags.{is_enabled}
+use Rattle.ld_facts.specs.Frames.{contexts, frame_of, task_of}
+use Rattle.ld_facts.specs.Held.{Key, same_frame, same_key, same_lock, held, held_by, held_in}
+use Rattle.ld_facts.specs.Interrupts.{fresh, start_now}
+use Rattle.ld_facts.specs.Levels.{stack, starts, state_of}
 use Rattle.ld_facts.specs.Locks.{Hold, is_of}
-use Rattle.ld_facts.specs.Outcome.{classes, event_fault, events, is_not_held, is_one_too_many, tasks}
-use Rattle.ld_facts.specs.Reading.{IsAt, Holds, happens}
-use Rattle.ld_facts.proofs.RemoveLemmas.{list_any-map, map-remove_last}
-use Rattle.ld_facts.proofs.HeldLemmas.{any_held_by, held_by-releases, held_by-releases_other}
-use Rattle.ld_facts.proofs.QuietLemmas.{frame_of-quiet, held-quiet}
-use Rattle.ld_facts.proofs.OutcomeLemmas.{no_fault, events-push}
-use Rattle.ld_facts.proofs.StepLemmas.{tasks-push, classes-other, dependencies-push}
-use Rattle.ld_facts.proofs.TaskLemmas.{task-stacks, task-other, with_name-few, scan_not_too_many_tasks}
+use Rattle.ld_facts.specs.Outcome.{each_once, event_fault, events, is_not_held, is_one_too_many, tasks}
+use Rattle.ld_facts.specs.Reading.{HasTask, IsAt, IsTask, happens}
+use Rattle.ld_facts.specs.Usage.{uses_at}
+use Rattle.ld_facts.specs.Facts.{IsUse}
+use Rattle.ld_facts.specs.Uses.{same_what}
+use Rattle.ld_facts.proofs.RemoveLemmas.{list_any-filter, list_any-map, map-remove_last}
+use Rattle.ld_facts.proofs.HeldLemmas.{Decides-same_frame, Decides-same_key, any_held_by, held_by-releases}
+use Rattle.ld_facts.proofs.FlagLemmas.{levels-quiet, stack-quiet}
+use Rattle.ld_facts.proofs.GroupLemmas.{IsGrouped, held_in-innermost, outer_elsewhere, remove_last-append, starts-kept}
+use Rattle.ld_facts.proofs.InnerLemmas.{clean-grouped, inner-is, start-is}
+use Rattle.ld_facts.proofs.MovedLemmas.{own-before, shallow-before, tasks-fit, unacquired}
+use Rattle.ld_facts.proofs.UsageLemmas.{new_keys, new_uses, on_use, uses_in, uses_once, uses_once-push_new, waits_for, with_uses}
 
 -- two tests that agree at each element of which a third holds
 module _ {X : Type 0} (p q r : X → Bool) (same : (x : X) → r x ≡ true → p x ≡ q x) where
@@ -40,11 +52,11 @@ module _ {X : Type 0} (p q r : X → Bool) (same : (x : X) → r x ≡ true → 
       (λ i. cond (list_any_agree xs parts.1 i) (x ∷ remove_last_agree_where xs parts.1 i) (cond (same x parts.0 i) xs (x ∷ xs)))
 
 -- what passes a filter, and another test where all do
-list_all-filter : {X : Type 0} (p q : X → Bool) (xs : List X) → list_all q xs ≡ true → list_all (λ x. p x && q x) (filter p xs) ≡ true
-list_all-filter p q [] all = refl
-list_all-filter p q (x ∷ xs) all =
+all_both : {X : Type 0} (p q : X → Bool) (xs : List X) → list_all q xs ≡ true → list_all (λ x. p x && q x) (filter p xs) ≡ true
+all_both p q [] all = refl
+all_both p q (x ∷ xs) all =
     let parts = and_parts (q x) (list_all q xs) all in
-    by (p x) refl parts.0 (list_all-filter p q xs parts.1)
+    by (p x) refl parts.0 (all_both p q xs parts.1)
   where
     by : (b : Bool) → p x ≡ b → q x ≡ true → list_all (λ y. p y && q y) (filter p xs) ≡ true → list_all (λ y. p y && q y) (cond b (x ∷ filter p xs) (filter p xs)) ≡ true
     by true is here rest = and_from (p x && q x) (list_all (λ y. p y && q y) (filter p xs)) (and_from (p x) (q x) is here) rest
@@ -72,100 +84,170 @@ length-remove_last-le p (x ∷ xs) = by (list_any p xs) (p x) (length-remove_las
 abbrev pub key_released : List PlainEvent → List ℕ → PlainLock → Key
 key_released past name lock = record { task = name; frame = frame_of past name; lock = lock }
 
--- in a past without interrupts a key of the task is told by its lock
-module _ (past : List PlainEvent) (quiet : is_quiet past ≡ true) (name : List ℕ) (lock : PlainLock) where
-  told_by_lock : (key : Key) → (bytes_eq name key.task && same_frame None key.frame) ≡ true → same_key (key_released past name lock) key ≡ same_lock lock key.lock
-  told_by_lock key is =
-      let parts = and_parts (bytes_eq name key.task) (same_frame None key.frame) is in
-      (ap (λ f. (bytes_eq name key.task && same_frame f key.frame) && same_lock lock key.lock) (frame_of-quiet past name quiet))
-      ∙ (λ i. (parts.0 i && parts.1 i) && same_lock lock key.lock)
+-- what a filter keeps passes it
+all_kept : {X : Type 0} (p : X → Bool) (xs : List X) → list_all p (filter p xs) ≡ true
+all_kept p [] = refl
+all_kept p (x ∷ xs) = by (p x) refl (all_kept p xs)
+  where
+    by : (b : Bool) → p x ≡ b → list_all p (filter p xs) ≡ true → list_all p (cond b (x ∷ filter p xs) (filter p xs)) ≡ true
+    by true is rest = and_from (p x) (list_all p (filter p xs)) is rest
+    by false is rest = rest
 
-  all_of_task : list_all (λ key. bytes_eq name key.task && same_frame None key.frame) (held_by past name) ≡ true
-  all_of_task = list_all-filter (λ key. bytes_eq name key.task) (λ key. same_frame None key.frame) (held past) (held-quiet past quiet)
+-- where no element passes the weaker test
+none_less : {X : Type 0} (p q : X → Bool) → ((x : X) → p x ≡ true → q x ≡ true) → (xs : List X) → list_any q xs ≡ false → list_any p xs ≡ false
+none_less p q within [] none = refl
+none_less p q within (x ∷ xs) none =
+    let parts = or_parts (q x) (list_any q xs) none in
+    by (p x) refl (none_less p q within xs parts.1)
+  where
+    by : (b : Bool) → p x ≡ b → list_any p xs ≡ false → (b || list_any p xs) ≡ false
+    by true is rest = absurd (true≢false (sym (within x is) ∙ (or_parts (q x) (list_any q xs) none).0))
+    by false is rest = rest
 
-  -- so the stack of the task tells whether it's held
-  pub held_by_stack : (stack : List Hold) → map (λ hold. hold.lock) stack ≡ map (λ key. key.lock) (held_by past name) → list_any (same_key (key_released past name lock)) (held past) ≡ list_any (is_of lock) stack
-  held_by_stack stack is =
-      sym (any_held_by past (key_released past name lock))
-      ∙ list_any_agree (same_key (key_released past name lock)) (λ key. same_lock lock key.lock) (λ key. bytes_eq name key.task && same_frame None key.frame) told_by_lock (held_by past name) all_of_task
-      ∙ sym (list_any-map (λ key. key.lock) (same_lock lock) (held_by past name))
-      ∙ ap (list_any (same_lock lock)) (sym is)
-      ∙ list_any-map (λ hold. hold.lock) (same_lock lock) stack
+-- what is kept of a task, when it releases a lock in its innermost frame
+module _ (names : List (List ℕ)) (stack : List Hold) (interrupts : Interrupts) (past : List PlainEvent) (task : List ℕ) (is : IsTask names stack interrupts past task) (grouped : IsGrouped past task) (lock : PlainLock) where
+  abbrev key : Key
+  key = key_released past task lock
 
-  -- and the stack without its latest lock of the name is what the task holds after the release
-  pub released_stack : (stack : List Hold) → map (λ hold. hold.lock) stack ≡ map (λ key. key.lock) (held_by past name) → map (λ hold. hold.lock) (remove_last (is_of lock) stack) ≡ map (λ key. key.lock) (held_by (past ++ Release name lock ∷ []) name)
-  released_stack stack is =
-      map-remove_last (λ hold. hold.lock) (same_lock lock) stack
-      ∙ ap (remove_last (same_lock lock)) is
-      ∙ sym (map-remove_last (λ key. key.lock) (same_lock lock) (held_by past name))
-      ∙ ap (map (λ key. key.lock)) (sym (remove_last_agree_where (same_key (key_released past name lock)) (λ key. same_lock lock key.lock) (λ key. bytes_eq name key.task && same_frame None key.frame) told_by_lock (held_by past name) all_of_task))
-      ∙ ap (map (λ key. key.lock)) (sym (held_by-releases past name lock))
+  abbrev frame : Option ℕ
+  frame = frame_of past task
+
+  abbrev inner : List Hold
+  inner = drop (start_now interrupts) stack
+
+  in_frame : (other : Key) → same_key key other ≡ true → same_frame frame other.frame ≡ true
+  in_frame other same = (Decides-same_frame frame other.frame).1 (ap (λ k. k.frame) ((Decides-same_key key other).0 same))
+
+  told_by_lock : (other : Key) → (same_frame frame other.frame && bytes_eq task other.task) ≡ true → same_key key other ≡ same_lock lock other.lock
+  told_by_lock other both =
+      let parts = and_parts (same_frame frame other.frame) (bytes_eq task other.task) both in
+      (λ i. (parts.1 i && parts.0 i) && same_lock lock other.lock)
+
+  all_in_frame : list_all (λ other. same_frame frame other.frame && bytes_eq task other.task) (held_in past task frame) ≡ true
+  all_in_frame = all_both (λ other. same_frame frame other.frame) (λ other. bytes_eq task other.task) (held_by past task) (all_kept (λ other. bytes_eq task other.task) (held past))
+
+  -- its locks from there on tell whether it's held
+  pub inner_held : list_any (same_key key) (held past) ≡ list_any (is_of lock) inner
+  inner_held =
+      sym (any_held_by past key)
+      ∙ sym (list_any-filter (same_key key) (λ other. same_frame frame other.frame) in_frame (held_by past task))
+      ∙ list_any_agree (same_key key) (λ other. same_lock lock other.lock) (λ other. same_frame frame other.frame && bytes_eq task other.task) told_by_lock (held_in past task frame) all_in_frame
+      ∙ sym (list_any-map (λ other. other.lock) (same_lock lock) (held_in past task frame))
+      ∙ ap (list_any (same_lock lock)) (sym (inner-is names stack interrupts past task is grouped))
+      ∙ list_any-map (λ hold. hold.lock) (same_lock lock) inner
+
+  -- and without the latest of them they are what it holds after the release
+  pub released_stack : map (λ hold. hold.lock) (take (start_now interrupts) stack ++ remove_last (is_of lock) inner) ≡ map (λ other. other.lock) (held_by (past ++ Release task lock ∷ []) task)
+  released_stack =
+      map-append (λ (hold : Hold). hold.lock) (take (start_now interrupts) stack) (remove_last (is_of lock) inner)
+      ∙ (λ i. sym (take-map (λ (hold : Hold). hold.lock) (start_now interrupts) stack) i ++ map-remove_last (λ (hold : Hold). hold.lock) (same_lock lock) inner i)
+      ∙ (λ i. take (start i) (is.locks i) ++ remove_last (same_lock lock) (inner-is names stack interrupts past task is grouped i))
+      ∙ (λ i. take-map (λ (other : Key). other.lock) at (held_by past task) i ++ sym (map-remove_last (λ (other : Key). other.lock) (same_lock lock) (held_in past task frame)) i)
+      ∙ sym (map-append (λ (other : Key). other.lock) (take at (held_by past task)) (remove_last (λ other. same_lock lock other.lock) (held_in past task frame)))
+      ∙ ap (map (λ other. other.lock)) (
+      (λ i. take at (held_by past task) ++ sym (remove_last_agree_where (same_key key) (λ other. same_lock lock other.lock) (λ other. same_frame frame other.frame && bytes_eq task other.task) told_by_lock (held_in past task frame) all_in_frame) i)
+      ∙ (λ i. take at (held_by past task) ++ remove_last (same_key key) (held_in-innermost past task grouped i))
+      ∙ sym (remove_last-append (same_key key) (take at (held_by past task)) (drop at (held_by past task)) (none_less (same_key key) (λ other. same_frame frame other.frame) in_frame (take at (held_by past task)) (outer_elsewhere past task grouped)))
+      ∙ ap (remove_last (same_key key)) (take-append-drop at (held_by past task))
+      ∙ sym (held_by-releases past task lock)
+      )
+    where
+      at : ℕ
+      at = get_or (starts past task) 0 0
+
+      start : start_now interrupts ≡ at
+      start = start-is names stack interrupts past task is
 
 -- the fault of a release by a task that isn't one too many
 release_fault : (past : List PlainEvent) (name : List ℕ) (lock : PlainLock) → is_one_too_many MOST_TASKS (tasks past) name ≡ false → event_fault past (Release name lock) ≡ (if is_not_held past (Release name lock) then Some NotHeld else None)
 release_fault past name lock fits = rw fits refl
 
--- the scan with the task of the release, as `Scan::task` leaves it
-module _ (all : List Position) (scan : Scan) (is_at : IsAt all scan) (name : List ℕ) (lock : PlainLock) (names : List (List ℕ)) (stacks : List (List Hold)) (is : names ≡ with_name scan.tasks name) (kept : (k : ℕ) → get_or stacks k [] ≡ get_or scan.locks.stacks k []) (fits : place_of scan.tasks name ≡ None → length scan.tasks < MOST_TASKS) (id : ℕ) (place : IsNameAt names id name) where
-  release_held : is_not_held (events all) (Release name lock) ≡ not (list_any (is_of lock) (get_or stacks id []))
-  release_held = ap not (held_by_stack (events all) is_at.quiet name lock (get_or stacks id []) (task-stacks all scan is_at name names stacks is kept id name place).0)
+-- the uses of an event that counts no key
+none_counted : (state : State) (b : Bool) → map (on_use state) (if b then [] else []) ≡ []
+none_counted state true = refl
+none_counted state false = refl
 
-  fault_by : (b : Bool) → list_any (is_of lock) (get_or stacks id []) ≡ b → event_fault (events all) (Release name lock) ≡ (if not b then Some NotHeld else None)
-  fault_by b found = release_fault (events all) name lock (scan_not_too_many_tasks all scan name is_at fits) ∙ ap (λ (c : Bool). if c then Some NotHeld else None) (release_held ∙ ap not found)
+pub uses-uncounted : (all : List Position) (e : PlainEvent) (line : ℕ) → waits_for e ≡ None → new_keys (events all) e ≡ [] → each_once same_what (seen uses_at (all ++ happens line e ∷ [])) ≡ each_once same_what (seen uses_at all)
+uses-uncounted all e line waits_none counts_none =
+    uses_once-push_new all (happens line e)
+    ∙ ap (with_uses line (uses_once all)) ((λ i. uses_in (contexts (events all) (task_of e)) (waits_none i) ++ (none Hard i ++ none Soft i)))
+  where
+    none : (state : State) → new_uses (events all) e state ≡ []
+    none state = ap (λ keys. map (on_use state) (if is_enabled (events all ++ e ∷ []) (task_of e) state then keys else [])) counts_none ∙ none_counted state (is_enabled (events all ++ e ∷ []) (task_of e) state)
 
-  -- a lock that isn't in the stack isn't held
-  pub release-not_held : list_any (is_of lock) (get_or stacks id []) ≡ false → event_fault (events all) (Release name lock) ≡ Some NotHeld
+-- the scan with the task of the release
+module _ (all : List Position) (old : Scan) (is_at : IsAt all old) (name : List ℕ) (lock : PlainLock) (id : ℕ) (mid : Scan) (has : HasTask old name id mid) where
+  abbrev held_now : List Hold
+  held_now = get_or mid.locks.stacks id []
+
+  abbrev frames_now : Interrupts
+  frames_now = get_or mid.locks.interrupts id fresh
+
+  before : IsTask old.classes held_now frames_now (events all) name
+  before = own-before all old is_at name id mid has
+
+  grouped : IsGrouped (events all) name
+  grouped = clean-grouped all name is_at.clean
+
+  fault_by : (b : Bool) → list_any (is_of lock) (drop (start_now frames_now) held_now) ≡ b → event_fault (events all) (Release name lock) ≡ (if not b then Some NotHeld else None)
+  fault_by b found =
+      release_fault (events all) name lock (tasks-fit all old is_at name id mid has)
+      ∙ ap (λ (c : Bool). if not c then Some NotHeld else None) (inner_held old.classes held_now frames_now (events all) name before grouped lock ∙ found)
+
+  -- a lock that isn't among those of the innermost frame isn't held there
+  pub release-not_held : list_any (is_of lock) (drop (start_now frames_now) held_now) ≡ false → event_fault (events all) (Release name lock) ≡ Some NotHeld
   release-not_held found = fault_by false found
 
-  module _ (line : ℕ) (many : length stacks ≡ length names) (found : list_any (is_of lock) (get_or stacks id []) ≡ true) where
-    abbrev left : List Hold
-    left = remove_last (is_of lock) (get_or stacks id [])
+  abbrev pub left : List Hold
+  left = take (start_now frames_now) held_now ++ remove_last (is_of lock) (drop (start_now frames_now) held_now)
 
-    inside : id < length stacks
-    inside = omega (arith, place.0, many)
+  abbrev pub scan_left : Scan
+  scan_left = record { tasks = mid.tasks; classes = mid.classes; locks = record { stacks = set mid.locks.stacks id left; interrupts = mid.locks.interrupts; edges = mid.locks.edges }; uses = mid.uses }
 
-    release-stacks : (k : ℕ) (other : List ℕ) → IsNameAt names k other → Holds scan.classes (get_or (set stacks id left) k []) other (all ++ happens line (Release name lock) ∷ [])
-    release-stacks k other at = by (cases_eq k id)
-      where
-        by : (k ≡ id) ⊎ (k ≡ id → ⊥) → Holds scan.classes (get_or (set stacks id left) k []) other (all ++ happens line (Release name lock) ∷ [])
-        by (inl same) =
-            let before = task-stacks all scan is_at name names stacks is kept id name place in
-            let changed : get_or (set stacks id left) k [] ≡ left = ap (λ n. get_or (set stacks id left) n []) same ∙ get_or-set_same stacks id left [] inside in
-            let named : other ≡ name = sym at.1 ∙ ap (λ n. get_or names n []) same ∙ place.1 in (
-              ap (map (λ hold. hold.lock)) changed ∙ released_stack (events all) is_at.quiet name lock (get_or stacks id []) before.0
-                  ∙ (λ i. map (λ key. key.lock) (held_by (sym (events-push all (happens line (Release name lock))) i) (sym named i))),
-              All-same (λ hold. IsNameAt scan.classes hold.class hold.lock.class) (get_or (set stacks id left) k []) left changed (All-remove_last (λ hold. IsNameAt scan.classes hold.class hold.lock.class) (is_of lock) (get_or stacks id []) before.1),
-            )
-        by (inr apart) =
-            let before = task-stacks all scan is_at name names stacks is kept k other at in
-            let same : get_or (set stacks id left) k [] ≡ get_or stacks k [] = get_or-set_other stacks id k left [] apart in (
-              ap (map (λ hold. hold.lock)) same ∙ before.0
-                  ∙ ap (map (λ key. key.lock)) (sym (held_by-releases_other (events all) other name lock (task-other all scan is_at name names stacks is kept id k other place at apart)))
-                  ∙ ap (λ es. map (λ key. key.lock) (held_by es other)) (sym (events-push all (happens line (Release name lock)))),
-              All-same (λ hold. IsNameAt scan.classes hold.class hold.lock.class) (get_or (set stacks id left) k []) (get_or stacks k []) same before.1,
-            )
+  inside : id < length mid.locks.stacks
+  inside = omega (arith, has.place.0, has.many.0)
 
-    release-shallow : (k : ℕ) → length (get_or (set stacks id left) k []) ≤ MOST_HELD
-    release-shallow k = by (cases_eq k id)
-      where
-        by : (k ≡ id) ⊎ (k ≡ id → ⊥) → length (get_or (set stacks id left) k []) ≤ MOST_HELD
-        by (inl same) =
-            let changed : get_or (set stacks id left) k [] ≡ left = ap (λ n. get_or (set stacks id left) n []) same ∙ get_or-set_same stacks id left [] inside in
-            omega (arith, ap length changed, length-remove_last-le (is_of lock) (get_or stacks id []), ap length (kept id), is_at.shallow id)
-        by (inr apart) = omega (arith, ap length (get_or-set_other stacks id k left [] apart), ap length (kept k), is_at.shallow k)
+  same : get_or (set mid.locks.stacks id left) id [] ≡ left
+  same = get_or-set_same mid.locks.stacks id left [] inside
 
-    -- where it is in the stack, the scan without it is what the release leaves
-    pub release-at : IsAt (all ++ happens line (Release name lock) ∷ []) (record { tasks = names; classes = scan.classes; locks = record { stacks = set stacks id left; edges = scan.locks.edges } })
-    release-at = record {
-      clean = no_fault all (happens line (Release name lock)) is_at.clean (fault_by true found);
-      quiet = ap is_quiet (events-push all (happens line (Release name lock))) ∙ list_all-append (λ e. not (is_interrupt e)) (events all) (Release name lock ∷ []) ∙ and_from (is_quiet (events all)) true is_at.quiet refl;
-      tasks = is ∙ ap (λ ns. with_name ns name) is_at.tasks ∙ sym (tasks-push (events all) (Release name lock)) ∙ ap tasks (sym (events-push all (happens line (Release name lock))));
-      classes = is_at.classes ∙ sym (classes-other (events all) (Release name lock) refl) ∙ ap classes (sym (events-push all (happens line (Release name lock))));
-      few_tasks = subst (λ ns. length ns ≤ MOST_TASKS) (sym is) (with_name-few MOST_TASKS scan.tasks name fits is_at.few_tasks);
-      few_classes = is_at.few_classes;
-      many = length-set stacks id left ∙ many;
-      stacks = release-stacks;
-      shallow = release-shallow;
-      edges = is_at.edges ∙ sym (dependencies-push all (happens line (Release name lock)));
-      within = is_at.within;
-    }
+  own : IsTask old.classes left frames_now (events all ++ Release name lock ∷ []) name
+  own = record {
+    locks = released_stack old.classes held_now frames_now (events all) name before grouped lock;
+    classes = All-append (λ hold. IsNameAt old.classes hold.class hold.lock.class) (take (start_now frames_now) held_now) (remove_last (is_of lock) (drop (start_now frames_now) held_now))
+        (All-take (λ hold. IsNameAt old.classes hold.class hold.lock.class) (start_now frames_now) held_now before.classes)
+        (All-remove_last (λ hold. IsNameAt old.classes hold.class hold.lock.class) (is_of lock) (drop (start_now frames_now) held_now) (All-drop (λ hold. IsNameAt old.classes hold.class hold.lock.class) (start_now frames_now) held_now before.classes));
+    states = before.states ∙ sym (ap (map state_of) quiet);
+    starts = before.starts ∙ sym (starts-kept (events all) (Release name lock) name quiet);
+    levels = λ state. before.levels state ∙ sym (levels-quiet (events all) (Release name lock) name state refl);
+  }
+    where
+      quiet : stack (events all ++ Release name lock ∷ []) name ≡ stack (events all) name
+      quiet = stack-quiet (events all) name (Release name lock) refl refl
+
+  shorter : length left ≤ MOST_HELD
+  shorter = omega (
+    arith,
+    length-append (take (start_now frames_now) held_now) (remove_last (is_of lock) (drop (start_now frames_now) held_now)),
+    length-remove_last-le (is_of lock) (drop (start_now frames_now) held_now),
+    sym (length-append (take (start_now frames_now) held_now) (drop (start_now frames_now) held_now)),
+    ap length (take-append-drop (start_now frames_now) held_now),
+    shallow-before all old is_at name id mid has,
+  )
+
+  -- where it is, the scan without it is what the release leaves
+  pub release-at : (line : ℕ) → list_any (is_of lock) (drop (start_now frames_now) held_now) ≡ true → IsAt (all ++ happens line (Release name lock) ∷ []) scan_left
+  release-at line found =
+      unacquired all old (Release name lock) line id mid scan_left is_at has
+      (record {
+        tasks = refl;
+        classes = refl;
+        edges = refl;
+        many = (length-set mid.locks.stacks id left ∙ has.many.0, has.many.1);
+        stacks = λ k apart. get_or-set_other mid.locks.stacks id k left [] apart;
+        interrupts = λ k apart. refl;
+      })
+      (fault_by true found) refl refl
+      (subst (λ held. IsTask old.classes held frames_now (events all ++ Release name lock ∷ []) name) (sym same) own)
+      (subst (λ (held : List Hold). length held ≤ MOST_HELD) (sym same) shorter)
+      (ap (map (named_use old.classes)) has.uses ∙ is_at.uses ∙ sym (uses-uncounted all (Release name lock) line refl refl))
+      (subst (All (IsUse old.classes)) (sym has.uses) is_at.used)

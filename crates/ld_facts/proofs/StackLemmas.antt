@@ -1,38 +1,35 @@
 -- The stacks as plain data, after a change of one of them.
-use Rattle.std.proofs.Common.{◌≡◌, ◌<◌, ◌≤◌, ◌+◌, ◌-◌, ◌||◌, ◌++◌, ◌∷◌, [], List, ℕ, zero, suc, Bool, true, false, map, length, get_or, set, take, drop, remove, refl, ap, sym, ◌∙◌, arith}
-use Rattle.std.proofs.lemmas.List.{map-append, map-set, length-map, drop_more, take-map}
+use Rattle.std.proofs.Common.{◌≡◌, ◌<◌, ◌≤◌, ◌+◌, ◌-◌, ◌||◌, ◌∷◌, [], List, ℕ, zero, suc, Bool, true, false, map, length, get_or, set, take, drop, remove, refl, ap, sym, ◌∙◌, arith}
+use Rattle.std.proofs.lemmas.List.{get_or-map, map-set, length-map, drop_more, take_rest}
 use Rattle.std.proofs.lemmas.List.Folds.{list_any_at}
 use Rattle.std.specs.List.{drop-map, list_any}
-use Rattle.arrayvec.specs.ArrayVec.{ArrayVec}
 use Rattle.ld_trace.specs.Events.{PlainLock, plain_lock}
 use Rattle.ld_facts.specs.Held.{same_lock}
 use Rattle.ld_facts.specs.declared.held.Held.{Held}
-use Rattle.ld_facts.specs.Scan.{PlainHeld, plain_held, holds}
+use Rattle.ld_facts.specs.declared.held.Stack.{Stack}
+use Rattle.ld_facts.specs.Interrupts.{start_now}
+use Rattle.ld_facts.specs.Scan.{PlainStack, empty_stack, inner, plain_held, holds}
 use Rattle.ld_facts.specs.Open.{remove_last}
 
-abbrev pub shown : ArrayVec Held → List PlainHeld
-shown stack = map plain_held stack.items
-
-pub get_or-map : {X Y : Type 0} (f : X → Y) (xs : List X) (i : ℕ) (d : X) (e : Y) → i < length xs → get_or (map f xs) i e ≡ f (get_or xs i d)
-get_or-map f [] i d e within = absurd (omega arith)
-get_or-map f (x ∷ xs) zero d e within = refl
-get_or-map f (x ∷ xs) (suc i) d e within = get_or-map f xs i d e (omega arith)
+abbrev pub shown : Stack → PlainStack
+shown stack = record { held = map plain_held stack.held.items; interrupts = stack.interrupts }
 
 -- a stack that is read, as plain data
-pub seen_at : (view : List (List PlainHeld)) (stacks : List (ArrayVec Held)) (i : ℕ) (old : ArrayVec Held) → map shown stacks ≡ view → i < length view → old ≡ get_or stacks i old → get_or view i [] ≡ shown old
+pub seen_at : (view : List PlainStack) (stacks : List Stack) (i : ℕ) (old : Stack) → map shown stacks ≡ view → i < length view → old ≡ get_or stacks i old → get_or view i empty_stack ≡ shown old
 seen_at view stacks i old is inside read =
     let within : i < length stacks = omega (arith, inside, length-map stacks shown, ap length is) in
-    ap (λ v. get_or v i []) (sym is) ∙ get_or-map shown stacks i old [] within ∙ ap shown (sym read)
+    ap (λ v. get_or v i empty_stack) (sym is) ∙ get_or-map shown stacks i old empty_stack within ∙ ap shown (sym read)
 
 -- one stack is put in another's place
-pub put : (view : List (List PlainHeld)) (stacks : List (ArrayVec Held)) (i : ℕ) (old new : ArrayVec Held) (after : List PlainHeld → List PlainHeld) → map shown stacks ≡ view → i < length view → old ≡ get_or stacks i old → shown new ≡ after (shown old) → map shown (set stacks i new) ≡ set view i (after (get_or view i []))
+pub put : (view : List PlainStack) (stacks : List Stack) (i : ℕ) (old new : Stack) (after : PlainStack → PlainStack) → map shown stacks ≡ view → i < length view → old ≡ get_or stacks i old → shown new ≡ after (shown old) → map shown (set stacks i new) ≡ set view i (after (get_or view i empty_stack))
 put view stacks i old new after is inside read changed =
     let here = seen_at view stacks i old is inside read in
     map-set shown stacks i new ∙ (λ k. set (is k) i (changed k)) ∙ ap (λ s. set view i (after s)) (sym here)
 
--- an element is taken from a mapped list
-pub map-remove : {X Y : Type 0} (f : X → Y) (xs : List X) (i : ℕ) → map f (remove xs i) ≡ remove (map f xs) i
-map-remove f xs i = map-append f (take i xs) (drop (suc i) xs) ∙ (λ k. sym (take-map f i xs) k ++ sym (drop-map f (suc i) xs) k)
+-- the locks from a place of a stack on, as plain data
+pub part_is : (stack : PlainStack) (held : List Held) (start : ℕ) → map plain_held held ≡ stack.held → start ≡ start_now stack.interrupts → map plain_held (take (length held - start) (drop start held)) ≡ inner stack
+part_is stack held start is starts =
+    ap (map plain_held) (take_rest held start) ∙ sym (drop-map plain_held start held) ∙ (λ i. drop (starts i) (is i))
 
 -- the element at i is the last that passes
 pub removed_is : {X : Type 0} (p : X → Bool) (xs : List X) (i : ℕ) (d : X) → i < length xs → p (get_or xs i d) ≡ true → list_any p (drop (suc i) xs) ≡ false → remove xs i ≡ remove_last p xs

@@ -3,7 +3,7 @@ use Rattle.std.proofs.Common.{◌≡◌, ◌≢◌, ◌<◌, ◌≤◌, ◌++◌
 use Rattle.std.proofs.Math.Seq.{get_or-append_seam}
 use Rattle.std.proofs.lemmas.Bool.{or_parts, eq-eqb, ne_eqb, cases_lt}
 use Rattle.std.proofs.lemmas.List.{map-append, get_or_append_left, get_or_past}
-use Rattle.std.proofs.lemmas.List.Elements.{All-nil, All-same}
+use Rattle.std.proofs.lemmas.List.Elements.{All-nil, All-same, All-weaker}
 use Rattle.std.proofs.lemmas.List.Folds.{list_any-append}
 use Rattle.std.proofs.lemmas.Slice.Eq.{bytes_eq-Decides}
 use Rattle.std.specs.List.{list_any}
@@ -11,17 +11,23 @@ use Rattle.std.specs.Str.{bytes_eq}
 use Rattle.ld_class.specs.Names.{AreDistinct, IsNameAt, place_of, with_name}
 use Rattle.ld_class.proofs.NameLemmas.{place_of-None, with_name-known, with_name-new, list_any-known, list_any-new}
 use Rattle.ld_trace.specs.Events.{PlainEvent, PlainLock, Position}
-use Rattle.ld_trace.specs.Events.PlainEvent.{Acquire, Try, Release, Enter, Exit, Enable, Disable}
+use Rattle.ld_trace.specs.Events.PlainEvent.{Acquire, Try}
+use Rattle.ld_trace.specs.declared.event.State.{State}
+use Rattle.ld_trace.specs.declared.event.State.TheVariants.{Hard, Soft}
 use Rattle.ld_facts.specs.declared.fault.TraceFault.TheVariants.{TooManyTasks}
 use Rattle.ld_facts.specs.declared.outcome.TheConstants.{MOST_TASKS}
 use Rattle.ld_facts.specs.declared.scan.Scan.{Scan}
-use Rattle.ld_facts.specs.Frames.{task_of, frame_of}
-use Rattle.ld_facts.specs.Held.{Key, held_by}
+use Rattle.ld_facts.specs.declared.interrupts.Interrupts.{Interrupts}
+use Rattle.ld_facts.specs.Frames.{task_of}
+use Rattle.ld_facts.specs.Held.{held_by}
+use Rattle.ld_facts.specs.Interrupts.{fresh, levels_of, starts_of, states_of}
+use Rattle.ld_facts.specs.Levels.{levels, stack, starts_in, state_of}
 use Rattle.ld_facts.specs.Locks.{Hold}
 use Rattle.ld_facts.specs.Outcome.{is_one_too_many, event_fault, events, tasks}
-use Rattle.ld_facts.specs.Reading.{IsAt, Holds, acquisition}
+use Rattle.ld_facts.specs.Reading.{IsAt, IsTask, acquisition}
 use Rattle.ld_facts.proofs.PlaceLemmas.{alike_from_decides, any_each_once, by_pushes}
-use Rattle.ld_facts.proofs.HeldLemmas.{held_by-acquires, held_by-releases_other, held_by-other}
+use Rattle.ld_facts.proofs.FlagLemmas.{levels-other, stack-other, states-other}
+use Rattle.ld_facts.proofs.GroupLemmas.{held_by-other_task, starts-kept}
 use Rattle.ld_facts.proofs.StepLemmas.{tasks-push}
 
 and_false : (b : Bool) → (b && false) ≡ false
@@ -84,50 +90,68 @@ AreDistinct-with_name names name distinct = by (place_of names name) refl
 pub tasks-AreDistinct : (past : List PlainEvent) → AreDistinct (tasks past)
 tasks-AreDistinct past = by_pushes (λ xs. AreDistinct (tasks xs)) (λ i j name at_i at_j. absurd (omega (arith, at_i.0))) (λ xs e rest. subst AreDistinct (sym (tasks-push xs e)) (AreDistinct-with_name (tasks xs) (task_of e) rest)) past
 
--- a task without an event holds nothing
-pub held_by-new : (past : List PlainEvent) (name : List ℕ) → place_of (tasks past) name ≡ None → held_by past name ≡ []
-held_by-new past name new =
-    by_pushes (λ xs. list_any (bytes_eq name) (map task_of xs) ≡ false → held_by xs name ≡ []) (λ _. refl) step past
+-- a task without an event holds nothing, has no frame, and its flags are on
+pub record IsUnheard (past : List PlainEvent) (name : List ℕ) : Type 0 where
+  pub holds : held_by past name ≡ []
+  pub frames : stack past name ≡ []
+  pub flags : (state : State) → levels past name state ≡ true ∷ []
+
+pub unheard : (past : List PlainEvent) (name : List ℕ) → place_of (tasks past) name ≡ None → IsUnheard past name
+unheard past name new =
+    by_pushes (λ xs. list_any (bytes_eq name) (map task_of xs) ≡ false → IsUnheard xs name) (λ _. record { holds = refl; frames = refl; flags = λ state. refl }) step past
     (sym (any_each_once bytes_eq (alike_from_decides bytes_eq bytes_eq-Decides) name (map task_of past)) ∙ list_any-new (tasks past) name new)
   where
-    acquired : (xs : List PlainEvent) (e : PlainEvent) (key : Key) → bytes_eq name (task_of e) ≡ false → held_by xs name ≡ [] → held_by xs name ++ (if bytes_eq name (task_of e) then key ∷ [] else []) ≡ []
-    acquired xs e key other rest = λ i. rest i ++ (if other i then key ∷ [] else [])
-
-    by : (xs : List PlainEvent) (e : PlainEvent) → bytes_eq name (task_of e) ≡ false → held_by xs name ≡ [] → held_by (xs ++ e ∷ []) name ≡ []
-    by xs (Acquire t l) other rest = held_by-acquires xs name (Acquire t l) l refl ∙ acquired xs (Acquire t l) (record { task = t; frame = frame_of xs t; lock = l }) other rest
-    by xs (Try t l) other rest = held_by-acquires xs name (Try t l) l refl ∙ acquired xs (Try t l) (record { task = t; frame = frame_of xs t; lock = l }) other rest
-    by xs (Release t l) other rest = held_by-releases_other xs name t l other ∙ rest
-    by xs (Enter t s) other rest = held_by-other xs name (Enter t s) refl refl ∙ rest
-    by xs (Exit t s) other rest = held_by-other xs name (Exit t s) refl refl ∙ rest
-    by xs (Enable t s) other rest = held_by-other xs name (Enable t s) refl refl ∙ rest
-    by xs (Disable t s) other rest = held_by-other xs name (Disable t s) refl refl ∙ rest
-
-    step : (xs : List PlainEvent) (e : PlainEvent) → (list_any (bytes_eq name) (map task_of xs) ≡ false → held_by xs name ≡ []) → list_any (bytes_eq name) (map task_of (xs ++ e ∷ [])) ≡ false → held_by (xs ++ e ∷ []) name ≡ []
+    step : (xs : List PlainEvent) (e : PlainEvent) → (list_any (bytes_eq name) (map task_of xs) ≡ false → IsUnheard xs name) → list_any (bytes_eq name) (map task_of (xs ++ e ∷ [])) ≡ false → IsUnheard (xs ++ e ∷ []) name
     step xs e rest none =
         let parts = or_parts (list_any (bytes_eq name) (map task_of xs)) (bytes_eq name (task_of e) || false)
         (sym (list_any-append (bytes_eq name) (map task_of xs) (task_of e ∷ [])) ∙ ap (list_any (bytes_eq name)) (sym (map-append task_of xs (e ∷ []))) ∙ none) in
-        let other = or_parts (bytes_eq name (task_of e)) false parts.1 in
-        by xs e other.0 (rest parts.0)
+        let other = (or_parts (bytes_eq name (task_of e)) false parts.1).0 in
+        let before = rest parts.0 in
+        record {
+          holds = held_by-other_task xs name e other ∙ before.holds;
+          frames = stack-other xs name e other ∙ before.frames;
+          flags = λ state. levels-other xs e name state other ∙ before.flags state;
+        }
 
--- the scan with the task of one more event, as `Scan::task` leaves it
-module _ (all : List Position) (scan : Scan) (is_at : IsAt all scan) (name : List ℕ) (names : List (List ℕ)) (stacks : List (List Hold)) (is : names ≡ with_name scan.tasks name) (kept : (k : ℕ) → get_or stacks k [] ≡ get_or scan.locks.stacks k []) where
-  -- each task holds what it held, and a new one nothing
-  pub task-stacks : (id : ℕ) (other : List ℕ) → IsNameAt names id other → Holds scan.classes (get_or stacks id []) other all
-  task-stacks id other at = subst (λ stack. Holds scan.classes stack other all) (sym (kept id)) (by (place_of scan.tasks name) refl)
+-- an event of another task leaves what the scan keeps of this one, also among more classes
+pub task-unmoved : (names more : List (List ℕ)) (held : List Hold) (interrupts : Interrupts) (past : List PlainEvent) (e : PlainEvent) (task : List ℕ) → bytes_eq task (task_of e) ≡ false → ((number : ℕ) (name : List ℕ) → IsNameAt names number name → IsNameAt more number name) → IsTask names held interrupts past task → IsTask more held interrupts (past ++ e ∷ []) task
+task-unmoved names more held interrupts past e task other stays is = record {
+  locks = is.locks ∙ ap (map (λ key. key.lock)) (sym (held_by-other_task past task e other));
+  classes = All-weaker (λ hold. IsNameAt names hold.class hold.lock.class) (λ hold. IsNameAt more hold.class hold.lock.class) (λ hold at. stays hold.class hold.lock.class at) held is.classes;
+  states = is.states ∙ sym (states-other past task e other);
+  starts = is.starts ∙ sym (starts-kept past e task (stack-other past task e other));
+  levels = λ state. is.levels state ∙ sym (levels-other past e task state other);
+}
+
+fresh_levels : (state : State) → levels_of state fresh ≡ true ∷ []
+fresh_levels Hard = refl
+fresh_levels Soft = refl
+
+-- the scan with the task of one more event among its tasks
+module _ (all : List Position) (scan : Scan) (is_at : IsAt all scan) (name : List ℕ) (names : List (List ℕ)) (is : names ≡ with_name scan.tasks name) where
+  -- what it keeps of each task, and of a new one
+  pub task-at : (id : ℕ) (other : List ℕ) → IsNameAt names id other → IsTask scan.classes (get_or scan.locks.stacks id []) (get_or scan.locks.interrupts id fresh) (events all) other
+  task-at id other at = by (place_of scan.tasks name) refl
     where
-      by : (r : Option ℕ) → place_of scan.tasks name ≡ r → Holds scan.classes (get_or scan.locks.stacks id []) other all
-      by (Some k) known = is_at.stacks id other (subst (λ ns. IsNameAt ns id other) (is ∙ with_name-known scan.tasks name k known) at)
+      by : (r : Option ℕ) → place_of scan.tasks name ≡ r → IsTask scan.classes (get_or scan.locks.stacks id []) (get_or scan.locks.interrupts id fresh) (events all) other
+      by (Some k) known = is_at.each id other (subst (λ ns. IsNameAt ns id other) (is ∙ with_name-known scan.tasks name k known) at)
       by None new = split (subst (λ ns. IsNameAt ns id other) (is ∙ with_name-new scan.tasks name new) at) (cases_lt id (length scan.tasks))
         where
-          split : IsNameAt (scan.tasks ++ name ∷ []) id other → (id < length scan.tasks) ⊎ (length scan.tasks ≤ id) → Holds scan.classes (get_or scan.locks.stacks id []) other all
-          split end (inl low) = is_at.stacks id other (low, sym (get_or_append_left scan.tasks (name ∷ []) [] id low) ∙ end.1)
+          split : IsNameAt (scan.tasks ++ name ∷ []) id other → (id < length scan.tasks) ⊎ (length scan.tasks ≤ id) → IsTask scan.classes (get_or scan.locks.stacks id []) (get_or scan.locks.interrupts id fresh) (events all) other
+          split end (inl low) = is_at.each id other (low, sym (get_or_append_left scan.tasks (name ∷ []) [] id low) ∙ end.1)
           split end (inr high) =
               let last : id ≡ length scan.tasks = omega (arith, end.0, length-append scan.tasks (name ∷ [])) in
               let same : other ≡ name = sym end.1 ∙ ap (λ k. get_or (scan.tasks ++ name ∷ []) k []) last ∙ get_or-append_seam scan.tasks name [] [] in
-              let past_end : length scan.locks.stacks ≤ id = omega (arith, is_at.many) in
-              let empty : get_or scan.locks.stacks id [] ≡ [] = get_or_past scan.locks.stacks id [] past_end in
-              let none : held_by (events all) other ≡ [] = held_by-new (events all) other (ap (λ n. place_of (tasks (events all)) n) same ∙ ap (λ ns. place_of ns name) (sym is_at.tasks) ∙ new) in
-              ((λ i. map (λ hold. hold.lock) (empty i)) ∙ sym (λ i. map (λ key. key.lock) (none i)), All-same (λ hold. IsNameAt scan.classes hold.class hold.lock.class) (get_or scan.locks.stacks id []) [] empty (All-nil (λ hold. IsNameAt scan.classes hold.class hold.lock.class)))
+              let holds : get_or scan.locks.stacks id [] ≡ [] = get_or_past scan.locks.stacks id [] (omega (arith, is_at.many.0)) in
+              let frames : get_or scan.locks.interrupts id fresh ≡ fresh = get_or_past scan.locks.interrupts id fresh (omega (arith, is_at.many.1)) in
+              let none = unheard (events all) other (ap (λ n. place_of (tasks (events all)) n) same ∙ ap (λ ns. place_of ns name) (sym is_at.tasks) ∙ new) in
+              record {
+                locks = ap (map (λ hold. hold.lock)) holds ∙ sym (ap (map (λ key. key.lock)) none.holds);
+                classes = All-same (λ hold. IsNameAt scan.classes hold.class hold.lock.class) (get_or scan.locks.stacks id []) [] holds (All-nil (λ hold. IsNameAt scan.classes hold.class hold.lock.class));
+                states = ap states_of frames ∙ sym (ap (map state_of) none.frames);
+                starts = ap starts_of frames ∙ sym (ap (starts_in (events all) other) none.frames);
+                levels = λ state. ap (levels_of state) frames ∙ fresh_levels state ∙ sym (none.flags state);
+              }
 
   -- the names are distinct
   pub task-distinct : AreDistinct names
@@ -147,9 +171,9 @@ scan_too_many_tasks all scan e is_at new full =
     too_many_tasks (events all) e (ap (λ ns. is_one_too_many MOST_TASKS ns (task_of e)) (sym is_at.tasks) ∙ is_one_too_many-full MOST_TASKS scan.tasks (task_of e) new full is_at.few_tasks)
 
 -- the same of an acquisition
-pub acquisition_too_many_tasks : (all : List Position) (scan : Scan) (name : List ℕ) (lock : PlainLock) (waited : Option ℕ) → IsAt all scan → place_of scan.tasks name ≡ None → MOST_TASKS ≤ length scan.tasks → event_fault (events all) (acquisition name lock waited) ≡ Some TooManyTasks
-acquisition_too_many_tasks all scan name lock None is_at new full = scan_too_many_tasks all scan (Try name lock) is_at new full
-acquisition_too_many_tasks all scan name lock (Some line) is_at new full = scan_too_many_tasks all scan (Acquire name lock) is_at new full
+pub acquisition_too_many_tasks : (all : List Position) (scan : Scan) (waits : Bool) (name : List ℕ) (lock : PlainLock) → IsAt all scan → place_of scan.tasks name ≡ None → MOST_TASKS ≤ length scan.tasks → event_fault (events all) (acquisition waits name lock) ≡ Some TooManyTasks
+acquisition_too_many_tasks all scan false name lock is_at new full = scan_too_many_tasks all scan (Try name lock) is_at new full
+acquisition_too_many_tasks all scan true name lock is_at new full = scan_too_many_tasks all scan (Acquire name lock) is_at new full
 
 -- one that has not
 pub scan_not_too_many_tasks : (all : List Position) (scan : Scan) (name : List ℕ) → IsAt all scan → (place_of scan.tasks name ≡ None → length scan.tasks < MOST_TASKS) → is_one_too_many MOST_TASKS (tasks (events all)) name ≡ false

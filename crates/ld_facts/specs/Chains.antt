@@ -1,4 +1,4 @@
--- Chains of classes as the nodes of a tree.
+-- Chains of classes as the nodes of a tree. No public contract cites this file.
 use Rattle.std.specs.Prelude.{◌<◌, ℕ, Bool, ◌&&◌, ◌==◌, nat_eq, List, [], ◌∷◌, ◌++◌, Option, Some, None, length, slice_index_or, fold, IfSome, if◌then◌else◌}
 use Rattle.std.specs.List.{list_any}
 use Rattle.std.specs.Option.{option_eq}

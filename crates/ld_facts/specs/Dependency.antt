@@ -38,6 +38,7 @@ seen_at at past line (Err fault) = []
 abbrev pub seen : {A : Type 0} → (List PlainEvent → PlainEvent → List A) → List Position → List (Seen A)
 seen at all = flat_map (λ p. seen_at at (events (take p.0 all)) p.1.line p.1.says) (enumerate_from 0 all)
 
--- the least line at which something stands
+-- the line of the first of these that is this; of what stands at positions, whose lines ascend, it is
+-- the least line
 abbrev pub first_line : {A : Type 0} → (A → A → Bool) → List (Seen A) → A → Option ℕ
 first_line same all what = option_map (λ s. s.line) (find (λ s. same what s.what) all)

@@ -1,4 +1,4 @@
--- Dependencies between numbered classes.
+-- Dependencies between numbered classes. No public contract cites this file.
 use Rattle.std.specs.Prelude.{ℕ, Bool, ◌&&◌, ◌==◌, List, [], ◌∷◌, ◌++◌, if◌then◌else◌}
 use Rattle.std.specs.List.{list_any}
 use Rattle.ld_facts.specs.declared.edges.EdgeFact.{EdgeFact}

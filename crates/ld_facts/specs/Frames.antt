@@ -1,7 +1,7 @@
 -- *Frames*. A list of events is read here as a past: the events up to a position stand for "at" that
 -- position, and the events before it for "just before" it.
-use Rattle.std.specs.Prelude.{Bool, true, false, not, ℕ, Bool, true, false, List, map, filter, filter_map, Option, Some, None}
-use Rattle.std.specs.List.{last_or, list_all}
+use Rattle.std.specs.Prelude.{ℕ, List, map, filter, filter_map, Option, Some, None}
+use Rattle.std.specs.List.{last_or}
 use Rattle.std.specs.Str.{bytes_eq}
 use Rattle.ld_trace.specs.declared.event.State.{State}
 use Rattle.ld_trace.specs.Events.{PlainEvent}
@@ -48,15 +48,3 @@ frame_of past task = last_or None (map (λ o. o.place) (frames past task))
 -- the contexts of a task: the states of all its open enters
 abbrev pub contexts : List PlainEvent → List ℕ → List State
 contexts past task = filter_map (λ o. state_entered o.element) (frames past task)
-
--- the verbs of interrupts: `enter`, `exit`, `enable` and `disable`
-abbrev pub is_interrupt : PlainEvent → Bool
-is_interrupt (Enter task state) = true
-is_interrupt (Exit task state) = true
-is_interrupt (Enable task state) = true
-is_interrupt (Disable task state) = true
-is_interrupt other = false
-
--- no event is an interrupt's
-abbrev pub is_quiet : List PlainEvent → Bool
-is_quiet past = list_all (λ event. not (is_interrupt event)) past

@@ -5,6 +5,9 @@ pub mod Flags
 pub mod Outcome
 pub mod Dependency
 pub mod Usage
+pub mod Levels
+pub mod Interrupts
+pub mod Uses
 pub mod Union
 pub mod Scan
 pub mod Chains

@@ -1,6 +1,8 @@
 -- *Usage*.
-use Rattle.std.specs.Prelude.{ℕ, Bool, false, ◌&&◌, List, [], ◌∷◌, ◌++◌, map, filter}
+use Rattle.std.specs.Prelude.{◌≡◌, ℕ, Bool, false, ◌&&◌, List, [], ◌∷◌, ◌++◌, map, filter, if◌then◌else◌}
 use Rattle.std.specs.Str.{bytes_eq}
+use Rattle.ld_class.specs.declared.usage.Usage as sets
+use Rattle.ld_class.specs.Usage.{has_bit, in_hard, in_soft, on_hard, on_soft}
 use Rattle.ld_trace.specs.declared.event.State.{State}
 use Rattle.ld_trace.specs.declared.event.State.TheVariants.{Hard, Soft}
 use Rattle.ld_trace.specs.Events.{PlainEvent}
@@ -19,6 +21,25 @@ same_bit (In a) (In b) = same_state a b
 same_bit (In a) (On b) = false
 same_bit (On a) (In b) = false
 same_bit (On a) (On b) = same_state a b
+
+-- a bit as a set that has it alone
+abbrev pub usage_of : Bit → sets.Usage
+usage_of (In Hard) = in_hard
+usage_of (In Soft) = in_soft
+usage_of (On Hard) = on_hard
+usage_of (On Soft) = on_soft
+
+-- the bit of a set that has one
+abbrev pub bit_of : sets.Usage → Bit
+bit_of usage =
+    if has_bit usage in_hard then In Hard
+    else if has_bit usage in_soft then In Soft
+    else if has_bit usage on_hard then On Hard
+    else On Soft
+
+-- the set has one bit
+abbrev pub IsBit : sets.Usage → Type 0
+IsBit usage = usage ≡ usage_of (bit_of usage)
 
 -- one bit of one class
 pub record Use : Type 0 where

@@ -1,12 +1,14 @@
-//! The locks that tasks hold.
-ghost use Rattle.std.specs.Prelude.{◌≡◌, ◌<◌, ◌≤◌, ◌+◌, [], ◌∷◌, ◌++◌, length, false, map, remove, slice_index_or, slice_set, IfNone, IfSome, OnErr, OnOk};
+//! The locks that tasks hold, and the frames that they are in.
+ghost use Rattle.std.specs.Prelude.{◌≡◌, ◌<◌, ◌≤◌, ◌+◌, [], ◌∷◌, ◌++◌, length, false, map, remove, take, slice_index_or, slice_set, IfNone, IfSome, OnErr, OnOk};
 ghost use Rattle.std.specs.List.{list_any};
 ghost use Rattle.ld_trace.specs.Events.{plain_lock};
 ghost use Rattle.ld_facts.specs.Held.{same_lock};
-ghost use Rattle.ld_facts.specs.Scan.{holds, plain_held};
+ghost use Rattle.ld_facts.specs.Interrupts.{start_now};
+ghost use Rattle.ld_facts.specs.Scan.{empty_stack, holds, inner, plain_held};
 ghost use Rattle.ld_facts.specs.Open.{remove_last};
 ghost use Rattle.ld_facts.specs.declared.outcome.TheConstants.{MOST_HELD};
 
+use crate::interrupts::Interrupts;
 use crate::outcome::MOST_HELD;
 use arrayvec::ArrayVec;
 use ld_trace::Lock;
@@ -19,7 +21,8 @@ pub struct Held<'a> {
     pub lock: Lock<'a>,
     /// The number of the lock's class.
     pub class: u32,
-    /// The number of the chain of the classes that the task holds, up to this one.
+    /// The number of the chain of the classes that the task holds in the frame of this lock, up to
+    /// this one.
     pub chain: usize,
 }
 
@@ -37,21 +40,29 @@ impl<'a> Default for Held<'a> {
     }
 }
 
-/// The stacks of tasks, by the task's number: the locks that it holds, in order of acquisition.
+/// What a task holds and where it is.
+#[derive(Drop)]
+struct Stack<'a> {
+    /// The locks, in order of acquisition: those of outer frames lie below those of inner ones.
+    held: ArrayVec<Held<'a>, MOST_HELD>,
+    interrupts: Interrupts,
+}
+
+/// The stacks of tasks, by the task's number.
 #[derive(Drop)]
 pub struct Stacks<'a> {
-    stacks: Vec<ArrayVec<Held<'a>, MOST_HELD>>,
+    stacks: Vec<Stack<'a>>,
 }
 
 impl<'a> Model for Stacks<'a> {
-    ghost use Rattle.std.specs.Prelude.{ℕ, List, map};
-    ghost use Rattle.ld_facts.specs.Scan.{PlainHeld};
+    ghost use Rattle.std.specs.Prelude.{List, map};
+    ghost use Rattle.ld_facts.specs.Scan.{PlainStack};
 
-    ghost Value = { List (List PlainHeld) };
+    ghost Value = { List PlainStack };
 
     ghost use Rattle.ld_facts.specs.Scan.{plain_held};
 
-    ghost view = { λ s. map (λ stack. map plain_held stack.items) s.stacks.items };
+    ghost view = { λ s. map (λ stack. record { held = map plain_held stack.held.items; interrupts = stack.interrupts }) s.stacks.items };
 }
 
 impl<'a> Stacks<'a> {
@@ -63,53 +74,69 @@ impl<'a> Stacks<'a> {
         }
     }
 
-    pub fn len(&self) -> usize
-        ensures { result ≡ length self.now }
-    {
-        self.stacks.len()
-    }
-
-    /// One more task, which holds nothing.
+    /// One more task, which holds nothing and is outside frames.
     pub fn grow(&mut self) -> Result<(), AllocError>
-        ensures grown { OnOk result (self.new ≡ self.old ++ [] ∷ []) }
+        ensures grown { OnOk result (self.new ≡ self.old ++ empty_stack ∷ []) }
         ensures refused { OnErr result (self.new ≡ self.old) }
     {
-        self.stacks.push(ArrayVec::new())?;
+        let stack = Stack {
+            held: ArrayVec::new(),
+            interrupts: Interrupts::new(),
+        };
+        self.stacks.push(stack)?;
         Ok(())
     }
 
-    /// What the task holds.
+    /// What the task holds, in all its frames.
     pub fn held(&self, task: u32) -> &[Held<'a>]
         requires { task < length self.now }
-        ensures held { map plain_held result.now ≡ slice_index_or self.now task [] }
+        ensures held { map plain_held result.now ≡ (slice_index_or self.now task empty_stack).held }
         ensures depth { length result.now ≤ MOST_HELD }
     {
-        self.stacks[task as usize].as_slice()
+        self.stacks[task as usize].held.as_slice()
+    }
+
+    /// What the task holds in its innermost frame; outside frames, all that it holds.
+    pub fn innermost(&self, task: u32) -> &[Held<'a>]
+        requires task { task < length self.now }
+        requires start { start_now (slice_index_or self.now task empty_stack).interrupts ≤ length (slice_index_or self.now task empty_stack).held }
+        ensures held { map plain_held result.now ≡ inner (slice_index_or self.now task empty_stack) }
+        ensures depth { length result.now ≤ MOST_HELD }
+    {
+        let start = self.interrupts(task).start();
+        &self.held(task)[start..]
+    }
+
+    /// The task's frames and flags.
+    pub fn interrupts(&self, task: u32) -> Interrupts
+        requires { task < length self.now }
+        ensures { result ≡ (slice_index_or self.now task empty_stack).interrupts }
+    {
+        self.stacks[task as usize].interrupts
     }
 
     pub fn push(&mut self, task: u32, held: Held<'a>)
         requires task { task < length self.old }
-        requires room { length (slice_index_or self.old task []) < MOST_HELD }
-        ensures { self.new ≡ slice_set self.old task (slice_index_or self.old task [] ++ plain_held held.entry ∷ []) }
+        requires room { length (slice_index_or self.old task empty_stack).held < MOST_HELD }
+        ensures { self.new ≡ slice_set self.old task (record (slice_index_or self.old task empty_stack) { held = (slice_index_or self.old task empty_stack).held ++ plain_held held.entry ∷ [] }) }
     {
-        self.stacks[task as usize].push(held);
+        self.stacks[task as usize].held.push(held);
     }
 
-    /// Takes a lock from the stack; the later ones move down by one place.
-    pub fn remove(&mut self, task: u32, place: usize)
-        requires task { task < length self.old }
-        requires place { place < length (slice_index_or self.old task []) }
-        ensures { self.new ≡ slice_set self.old task (remove (slice_index_or self.old task []) place) }
-    {
-        self.stacks[task as usize].remove(place);
-    }
-
-    /// Puts another stack in the place of the task's.
-    pub fn replace(&mut self, task: u32, stack: ArrayVec<Held<'a>, MOST_HELD>)
+    /// Takes the locks from this place on from the task's stack.
+    pub fn truncate(&mut self, task: u32, place: usize)
         requires { task < length self.old }
-        ensures { self.new ≡ slice_set self.old task (map plain_held stack.entry.items) }
+        ensures { self.new ≡ slice_set self.old task (record (slice_index_or self.old task empty_stack) { held = take place (slice_index_or self.old task empty_stack).held }) }
     {
-        self.stacks[task as usize] = stack;
+        self.stacks[task as usize].held.truncate(place);
+    }
+
+    /// Puts these frames and flags in the place of the task's.
+    pub fn set_interrupts(&mut self, task: u32, interrupts: Interrupts)
+        requires { task < length self.old }
+        ensures { self.new ≡ slice_set self.old task (record (slice_index_or self.old task empty_stack) { interrupts = interrupts }) }
+    {
+        self.stacks[task as usize].interrupts = interrupts;
     }
 }
 

@@ -5,6 +5,7 @@ ghost use Rattle.ld_facts.specs.Facts.{IsKnown};
 
 use crate::edges::{EdgeFact, Edges};
 use crate::outcome::Outcome;
+use crate::uses::{UsageFact, Uses};
 use ld_class::Classes;
 use ld_trace::Source;
 use std::marker::Model;
@@ -16,6 +17,7 @@ pub struct Facts<'a> {
     pub(crate) outcome: Outcome,
     pub(crate) classes: Classes<'a>,
     pub(crate) edges: Edges,
+    pub(crate) usage: Uses,
 }
 
 impl<'a> Model for Facts<'a> {
@@ -29,6 +31,7 @@ impl<'a> Model for Facts<'a> {
       outcome = f.outcome;
       classes = f.classes;
       edges = f.edges;
+      usage = f.usage;
     } };
 
     ghost invariant = { λ f. IsKnown (record {
@@ -36,6 +39,7 @@ impl<'a> Model for Facts<'a> {
       outcome = f.outcome;
       classes = f.classes;
       edges = f.edges;
+      usage = f.usage;
     }) };
 }
 
@@ -62,10 +66,19 @@ impl<'a> Facts<'a> {
         &self.classes
     }
 
-    /// Its dependencies, each once with its least line; none where it is refused.
+    /// Its dependencies, each once with its least line; none where it is refused. In no promised
+    /// order.
     pub fn edges(&self) -> &[EdgeFact]
         ensures { result.now ≡ self.now.edges }
     {
         self.edges.as_slice()
+    }
+
+    /// Its usage bits, each of each class once with its least line; none where it is refused. In no
+    /// promised order.
+    pub fn usage(&self) -> &[UsageFact]
+        ensures { result.now ≡ self.now.usage }
+    {
+        self.usage.as_slice()
     }
 }

@@ -1,9 +1,13 @@
-//! What tasks hold, and the dependencies that their waiting acquisitions told.
-ghost use Rattle.std.specs.Prelude.{◌≡◌, ◌<◌, ◌≤◌, ◌+◌, [], ◌∷◌, ◌++◌, fold, length, map, remove, slice_index_or, slice_set, IfOk, OnOk};
+//! What tasks hold and where they are, and the dependencies that their waiting acquisitions told.
+//!
+//! Locks of outer frames stay held, but an acquisition and a release see those of the innermost
+//! frame alone.
+ghost use Rattle.std.specs.Prelude.{◌≡◌, ◌<◌, ◌≤◌, ◌+◌, true, [], ◌∷◌, ◌++◌, drop, fold, length, map, take, slice_index_or, slice_set, IfOk, OnOk};
 ghost use Rattle.std.specs.List.{list_any};
 ghost use Rattle.ld_trace.specs.Events.{plain_lock};
 ghost use Rattle.ld_facts.specs.Edges.{edge_to, with_edge};
-ghost use Rattle.ld_facts.specs.Locks.{chain_of, holds_of, is_of, AreChained, IsExtended};
+ghost use Rattle.ld_facts.specs.Interrupts.{IsEntered, IsLeft, IsSet, fresh, nests_in, start_now, states_of};
+ghost use Rattle.ld_facts.specs.Locks.{IsMoved, chain_of, holds_of, inner_of, is_of, outer_of};
 ghost use Rattle.ld_facts.specs.Scan.{plain_held};
 ghost use Rattle.ld_facts.specs.Open.{remove_last};
 ghost use Rattle.ld_facts.specs.declared.outcome.TheConstants.{MOST_HELD};
@@ -11,13 +15,14 @@ ghost use Rattle.ld_facts.specs.declared.outcome.TheConstants.{MOST_HELD};
 use crate::chains::{Chains, Link, Told};
 use crate::edges::Edges;
 use crate::held::{Held, Stacks, latest};
+use crate::interrupts::Interrupts;
 use crate::outcome::MOST_HELD;
 use arrayvec::ArrayVec;
-use ld_trace::Lock;
+use ld_trace::{Lock, State};
 use std::alloc::{AllocError, Global};
 use std::marker::Model;
 
-/// What each task holds, by the task's number, and the dependencies so far.
+/// What each task holds and where it is, by the task's number, and the dependencies so far.
 ///
 /// Beside them stands a cache: a waiting acquisition whose chain was met before tells nothing anew.
 #[derive(Drop)]
@@ -29,19 +34,18 @@ pub struct Locks<'a> {
 }
 
 impl<'a> Model for Locks<'a> {
-    ghost use Rattle.std.specs.Prelude.{map};
-    ghost use Rattle.ld_facts.specs.Locks.{Known, hold_of, AreTied};
+    ghost use Rattle.ld_facts.specs.Locks.{AreTied, Known, known_of};
 
     ghost Value = { Known };
 
-    ghost view = { λ l. record { stacks = map (map hold_of) l.stacks; edges = l.edges } };
+    ghost view = { λ l. known_of l.stacks l.edges };
 
     ghost invariant = { λ l. AreTied l.stacks l.chains l.told l.edges };
 }
 
 impl<'a> Locks<'a> {
     pub fn new(alloc: Global) -> Locks<'a>
-        ensures { result ≡ record { stacks = []; edges = [] } }
+        ensures { result ≡ record { stacks = []; interrupts = []; edges = [] } }
     {
         Locks {
             stacks: Stacks::new(alloc),
@@ -51,27 +55,42 @@ impl<'a> Locks<'a> {
         }
     }
 
-    /// One more task, which holds nothing.
+    /// One more task, which holds nothing and is outside frames.
     pub fn grow(&mut self) -> Result<(), AllocError>
-        ensures { OnOk result (self.new ≡ record self.old { stacks = self.old.stacks ++ [] ∷ [] }) }
+        ensures { OnOk result (self.new ≡ record self.old {
+          stacks = self.old.stacks ++ [] ∷ [];
+          interrupts = self.old.interrupts ++ fresh ∷ [];
+        }) }
     {
         self.stacks.grow()
     }
 
-    /// How many locks the task holds.
-    pub fn depth(&self, task: u32) -> usize
+    /// What the task holds, in all its frames.
+    pub fn held(&self, task: u32) -> &[Held<'a>]
         requires { task < length self.now.stacks }
-        ensures { result ≡ length (slice_index_or self.now.stacks task []) }
+        ensures { holds_of result.now ≡ slice_index_or self.now.stacks task [] }
     {
-        self.stacks.held(task).len()
+        self.stacks.held(task)
     }
 
-    /// Tells the dependencies of a waiting acquisition of the class.
+    /// The task's frames and flags.
+    pub fn interrupts(&self, task: u32) -> Interrupts
+        requires { task < length self.now.stacks }
+        ensures { result ≡ slice_index_or self.now.interrupts task fresh }
+    {
+        self.stacks.interrupts(task)
+    }
+
+    /// Tells the dependencies of a waiting acquisition of the class, from what the task holds in its
+    /// innermost frame.
     pub fn tell(&mut self, task: u32, class: u32, line: u64) -> Result<(), AllocError>
         requires { task < length self.old.stacks }
-        ensures { OnOk result (self.new ≡ record self.old { edges = fold with_edge self.old.edges (map (edge_to class line) (map (λ hold. hold.class) (slice_index_or self.old.stacks task []))) }) }
+        ensures { OnOk result (self.new ≡ record self.old {
+          edges = fold with_edge self.old.edges
+              (map (edge_to class line) (map (λ hold. hold.class) (inner_of self.old task)));
+        }) }
     {
-        let stack = self.stacks.held(task);
+        let stack = self.stacks.innermost(task);
         let before = last_chain(stack);
         let link = Link { before, class };
         if self.told.has(link) {
@@ -85,31 +104,102 @@ impl<'a> Locks<'a> {
     pub fn hold(&mut self, task: u32, lock: Lock<'a>, class: u32) -> Result<(), AllocError>
         requires task { task < length self.old.stacks }
         requires room { length (slice_index_or self.old.stacks task []) < MOST_HELD }
-        ensures { OnOk result (self.new ≡ record self.old { stacks = slice_set self.old.stacks task (slice_index_or self.old.stacks task [] ++ record { lock = plain_lock lock.entry; class = class } ∷ []) }) }
+        ensures { OnOk result (self.new ≡ record self.old {
+          stacks = slice_set self.old.stacks task (slice_index_or self.old.stacks task []
+              ++ record { lock = plain_lock lock.entry; class = class } ∷ []);
+        }) }
     {
-        let before = last_chain(self.stacks.held(task));
+        let before = last_chain(self.stacks.innermost(task));
         let chain = self.chains.extend(before, class)?;
         self.stacks.push(task, Held { lock, class, chain });
         Ok(())
     }
 
-    /// The task released the lock: its latest acquisition ends. Tells whether there was one.
+    /// The task acquired these locks, in this order.
+    fn hold_all(&mut self, task: u32, locks: &[Held<'a>]) -> Result<(), AllocError>
+        requires task { task < length self.old.stacks }
+        requires room { length (slice_index_or self.old.stacks task []) + length locks.now
+            ≤ MOST_HELD }
+        ensures { OnOk result (self.new ≡ record self.old {
+          stacks = slice_set self.old.stacks task
+              (slice_index_or self.old.stacks task [] ++ holds_of locks.now);
+        }) }
+    {
+        for held in locks {
+            self.hold(task, held.lock, held.class)?;
+        }
+        Ok(())
+    }
+
+    /// The task released the lock: its latest acquisition in the innermost frame ends. Tells whether
+    /// there was one.
     pub fn let_go(&mut self, task: u32, lock: Lock<'a>) -> Result<bool, AllocError>
         requires { task < length self.old.stacks }
-        ensures held { IfOk result (λ was. was ≡ list_any (is_of (plain_lock lock.entry)) (slice_index_or self.old.stacks task [])) }
-        ensures stacks { OnOk result (self.new ≡ record self.old { stacks = slice_set self.old.stacks task (remove_last (is_of (plain_lock lock.entry)) (slice_index_or self.old.stacks task [])) }) }
+        ensures held { IfOk result (λ was.
+            was ≡ list_any (is_of (plain_lock lock.entry)) (inner_of self.old task)) }
+        ensures stacks { OnOk result (self.new ≡ record self.old {
+          stacks = slice_set self.old.stacks task (outer_of self.old task
+              ++ remove_last (is_of (plain_lock lock.entry)) (inner_of self.old task));
+        }) }
     {
-        let Some(place) = latest(self.stacks.held(task), lock) else {
+        let start = self.stacks.interrupts(task).start();
+        let held = self.stacks.held(task);
+        let Some(place) = latest(&held[start..], lock) else {
             return Ok(false);
         };
-        let stack = self.stacks.held(task);
-        if place + 1 == stack.len() {
-            self.stacks.remove(task, place);
+        let place = start + place;
+        if place + 1 == held.len() {
+            self.stacks.truncate(task, place);
         } else {
-            let others = without(&mut self.chains, stack, place)?;
-            self.stacks.replace(task, others);
+            // The later locks get the chains that they have without this one.
+            let later = copied(&held[place + 1..]);
+            self.stacks.truncate(task, place);
+            self.hold_all(task, later.as_slice())?;
         }
         Ok(true)
+    }
+
+    /// A frame of the state opens over what the task holds.
+    pub fn enter(&mut self, task: u32, state: State)
+        requires task { task < length self.old.stacks }
+        requires nests { nests_in (states_of (slice_index_or self.old.interrupts task fresh)) state
+            ≡ true }
+        ensures moved { IsMoved self.old self.new task }
+        ensures entered { IsEntered state (length (slice_index_or self.old.stacks task []))
+            (slice_index_or self.old.interrupts task fresh)
+            (slice_index_or self.new.interrupts task fresh) }
+    {
+        let start = self.stacks.held(task).len();
+        let mut interrupts = self.stacks.interrupts(task);
+        interrupts.enter(state, start);
+        self.stacks.set_interrupts(task, interrupts);
+    }
+
+    /// The task's innermost frame closes, in which it holds nothing.
+    pub fn exit(&mut self, task: u32)
+        requires task { task < length self.old.stacks }
+        requires open { 0 < length (states_of (slice_index_or self.old.interrupts task fresh)) }
+        requires empty { start_now (slice_index_or self.old.interrupts task fresh)
+            ≡ length (slice_index_or self.old.stacks task []) }
+        ensures moved { IsMoved self.old self.new task }
+        ensures left { IsLeft (slice_index_or self.old.interrupts task fresh)
+            (slice_index_or self.new.interrupts task fresh) }
+    {
+        let mut interrupts = self.stacks.interrupts(task);
+        interrupts.exit();
+        self.stacks.set_interrupts(task, interrupts);
+    }
+
+    /// The task's flag for the state goes on or off in its innermost frame.
+    pub fn set(&mut self, task: u32, state: State, on: bool)
+        requires task { task < length self.old.stacks }
+        ensures moved { IsMoved self.old self.new task }
+        ensures set { IsSet state on (slice_index_or self.old.interrupts task fresh)
+            (slice_index_or self.new.interrupts task fresh) }
+    {
+        let mut interrupts = self.stacks.interrupts(task);
+        interrupts.set(state, on);
+        self.stacks.set_interrupts(task, interrupts);
     }
 
     /// The dependencies.
@@ -120,43 +210,16 @@ impl<'a> Locks<'a> {
     }
 }
 
-/// The stack without the lock at this place: the later ones get the chains that they have then.
-fn without<'a>(
-    chains: &mut Chains,
-    stack: &[Held<'a>],
-    place: usize,
-) -> Result<ArrayVec<Held<'a>, MOST_HELD>, AllocError>
-    requires place { place < length stack.now }
-    requires depth { length stack.now ≤ MOST_HELD }
-    requires chained { AreChained chains.old (map plain_held stack.now) }
-    ensures chained { IfOk result (λ others. AreChained chains.new (map plain_held others.items)) }
-    ensures locks { IfOk result (λ others. holds_of others.items ≡ remove (holds_of stack.now) place) }
-    ensures kept { IsExtended chains.old chains.new }
+/// These locks, apart from the stack that they are in.
+fn copied<'a>(locks: &[Held<'a>]) -> ArrayVec<Held<'a>, MOST_HELD>
+    requires { length locks.now ≤ MOST_HELD }
+    ensures { result.items ≡ locks.now }
 {
-    let mut others = ArrayVec::new();
-    append(chains, &mut others, &stack[..place])?;
-    append(chains, &mut others, &stack[place + 1..])?;
-    Ok(others)
-}
-
-/// Puts these locks at the end of a stack, with the chains that they have there.
-fn append<'a>(
-    chains: &mut Chains,
-    stack: &mut ArrayVec<Held<'a>, MOST_HELD>,
-    more: &[Held<'a>],
-) -> Result<(), AllocError>
-    requires room { length stack.old.items + length more.now ≤ MOST_HELD }
-    requires chained { AreChained chains.old (map plain_held stack.old.items) }
-    ensures chained { OnOk result (AreChained chains.new (map plain_held stack.new.items)) }
-    ensures locks { OnOk result (holds_of stack.new.items ≡ holds_of stack.old.items ++ holds_of more.now) }
-    ensures kept { IsExtended chains.old chains.new }
-{
-    for held in more {
-        let before = last_chain(stack.as_slice());
-        let chain = chains.extend(before, held.class)?;
-        stack.push(Held { chain, ..*held });
+    let mut copy = ArrayVec::new();
+    if copy.try_extend_from_slice(locks).is_err() {
+        unreachable!();
     }
-    Ok(())
+    copy
 }
 
 /// The chain of the classes of a stack; `None` where it is empty.

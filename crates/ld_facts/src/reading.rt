@@ -9,11 +9,15 @@ use crate::fault::TraceFault;
 use crate::known::Facts;
 use crate::outcome::Outcome;
 use crate::scan::{Scan, Stop};
+use crate::uses::Uses;
 use ld_class::Classes;
 use ld_trace::{Source, next_line, read_event, text};
 use std::alloc::{AllocError, Global};
 
-/// The facts of a trace.
+/// The facts of a trace: what became of it and, where it was read to its end, what it shows. A trace
+/// with a fault is refused as a whole, and shows nothing of what stood before the fault.
+///
+/// `AllocError` where a growth of memory was refused, whatever the trace says.
 pub fn facts<'a>(alloc: Global, source: Source<'a>) -> Result<Facts<'a>, AllocError>
     requires { Fits (plain source) }
     ensures { IfOk result (λ facts. facts.source ≡ plain source.entry) }
@@ -40,11 +44,13 @@ pub fn facts<'a>(alloc: Global, source: Source<'a>) -> Result<Facts<'a>, AllocEr
         outcome: Outcome::Read { events },
         classes: scan.classes,
         edges: scan.locks.into_edges(),
+        usage: scan.uses,
     })
 }
 
 fn refused<'a>(alloc: Global, source: Source<'a>, line: u64, fault: TraceFault) -> Facts<'a>
-    requires { outcome (plain source) ≡ Refused line fault }
+    requires outcome { outcome (plain source) ≡ Refused line fault }
+    requires fits { Fits (plain source) }
     ensures { result.source ≡ plain source.entry }
 {
     Facts {
@@ -52,6 +58,7 @@ fn refused<'a>(alloc: Global, source: Source<'a>, line: u64, fault: TraceFault) 
         outcome: Outcome::Refused { line, fault },
         classes: Classes::new(alloc),
         edges: Edges::new(alloc),
+        usage: Uses::new(alloc),
     }
 }
 

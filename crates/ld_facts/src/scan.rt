@@ -1,18 +1,21 @@
 //! The scan of a trace: what its events so far leave, one event at a time.
-ghost use Rattle.std.specs.Prelude.{◌≡◌, ◌<◌, ◌≤◌, ◌++◌, ◌∷◌, ℕ, List, [], None, Some, Err, length, map, slice_index_or, IfOk, IfSome, OnOk};
+ghost use Rattle.std.specs.Prelude.{◌≡◌, ◌<◌, ◌≤◌, ◌++◌, ◌∷◌, ℕ, List, [], None, Some, Err, fold, length, map, slice_index_or, IfOk, OnOk};
 ghost use Rattle.ld_class.specs.Names.{place_of, with_name, IsNameAt};
 ghost use Rattle.ld_trace.specs.Events.{Position, plain_event, plain_lock};
-ghost use Rattle.ld_trace.specs.Events.PlainEvent.{Release};
+ghost use Rattle.ld_trace.specs.Events.PlainEvent.{Disable, Enable, Enter, Exit, Release};
+ghost use Rattle.ld_facts.specs.Interrupts.{fresh};
 ghost use Rattle.ld_facts.specs.Outcome.{event_fault, events};
-ghost use Rattle.ld_facts.specs.Reading.{IsAt, acquisition, happens, told_by};
+ghost use Rattle.ld_facts.specs.Reading.{AreMany, HasTask, IsAt, acquisition, happens, taken, waited};
+ghost use Rattle.ld_facts.specs.Uses.{on_facts, with_use};
 ghost use Rattle.ld_facts.specs.declared.fault.TraceFault.{TraceFault};
-ghost use Rattle.ld_facts.specs.declared.outcome.TheConstants.{MOST_CLASSES, MOST_TASKS};
+ghost use Rattle.ld_facts.specs.declared.outcome.TheConstants.{MOST_CLASSES, MOST_HELD, MOST_TASKS};
 
 use crate::fault::TraceFault;
 use crate::locks::Locks;
 use crate::outcome::{MOST_CLASSES, MOST_HELD, MOST_TASKS};
+use crate::uses::Uses;
 use ld_class::Classes;
-use ld_trace::{Event, Lock};
+use ld_trace::{Event, Lock, State};
 use std::alloc::{AllocError, Global};
 
 /// Why a scan ends before its trace does.
@@ -41,26 +44,34 @@ pub struct Scan<'a> {
     pub tasks: Classes<'a>,
     /// The classes, in order of first acquisition.
     pub classes: Classes<'a>,
-    /// What the tasks hold, by their numbers, and the dependencies.
+    /// What the tasks hold, by their numbers, their frames and flags, and the dependencies.
     pub locks: Locks<'a>,
+    /// The usage bits of the classes, by their numbers.
+    pub uses: Uses,
 }
 
 impl<'a> Scan<'a> {
     /// Before the first event.
     pub fn new(alloc: Global) -> Scan<'a>
-        ensures { result ≡ record { tasks = []; classes = []; locks = record { stacks = []; edges = [] } } }
+        ensures { result ≡ record {
+          tasks = [];
+          classes = [];
+          locks = record { stacks = []; interrupts = []; edges = [] };
+          uses = [];
+        } }
     {
         Scan {
             tasks: Classes::new(alloc),
             classes: Classes::new(alloc),
             locks: Locks::new(alloc),
+            uses: Uses::new(alloc),
         }
     }
 
     /// One more event, at this line.
     pub fn step(&mut self, event: Event<'a>, line: u64) -> Result<(), Stop>
-        requires many { length self.old.locks.stacks ≡ length self.old.tasks }
-        ensures many { OnOk result (length self.new.locks.stacks ≡ length self.new.tasks) }
+        requires many { AreMany self.old }
+        ensures many { OnOk result (AreMany self.new) }
         ensures ok { OnOk result ((all : List Position) → IsAt all self.old →
             IsAt (all ++ happens line (plain_event event.entry) ∷ []) self.new) }
         ensures fault { (fault : TraceFault) → result ≡ Err (Stop.Fault fault) →
@@ -68,46 +79,71 @@ impl<'a> Scan<'a> {
             event_fault (events all) (plain_event event.entry) ≡ Some fault }
     {
         match event {
-            Event::Acquire { task, lock } => self.acquire(task, lock, Some(line)),
-            Event::Try { task, lock } => self.acquire(task, lock, None),
+            Event::Acquire { task, lock } => self.acquire(task, lock, line, true),
+            Event::Try { task, lock } => self.acquire(task, lock, line, false),
             Event::Release { task, lock } => self.release(task, lock),
+            Event::Enter { task, state } => self.enter(task, state),
+            Event::Exit { task, state } => self.exit(task, state, line),
+            Event::Enable { task, state } => self.enable(task, state, line),
+            Event::Disable { task, state } => self.disable(task, state),
         }
     }
 
-    /// An acquisition, at this line where it may have waited.
-    fn acquire(&mut self, task: &'a [u8], lock: Lock<'a>, waited: Option<u64>) -> Result<(), Stop>
-        requires many { length self.old.locks.stacks ≡ length self.old.tasks }
-        ensures many { OnOk result (length self.new.locks.stacks ≡ length self.new.tasks) }
-        ensures ok { OnOk result ((all : List Position) (line : ℕ) → IfSome waited (λ at. line ≡ at) → IsAt all self.old →
-            IsAt (all ++ happens line (acquisition task.entry.now (plain_lock lock.entry) waited) ∷ []) self.new) }
+    /// An acquisition, which may have waited or not.
+    fn acquire(
+        &mut self,
+        task: &'a [u8],
+        lock: Lock<'a>,
+        line: u64,
+        waits: bool,
+    ) -> Result<(), Stop>
+        requires many { AreMany self.old }
+        ensures many { OnOk result (AreMany self.new) }
+        ensures ok { OnOk result ((all : List Position) → IsAt all self.old →
+            IsAt (all ++ happens line (acquisition waits task.entry.now (plain_lock lock.entry)) ∷ [])
+            self.new) }
         ensures fault { (fault : TraceFault) → result ≡ Err (Stop.Fault fault) →
             (all : List Position) → IsAt all self.old →
-            event_fault (events all) (acquisition task.entry.now (plain_lock lock.entry) waited) ≡ Some fault }
+            event_fault (events all) (acquisition waits task.entry.now (plain_lock lock.entry))
+            ≡ Some fault }
     {
         let task = self.task(task)?;
         let class = self.class(lock.class)?;
-        if self.locks.depth(task) >= MOST_HELD {
+        if self.locks.held(task).len() >= MOST_HELD {
             return Err(Stop::Fault(TraceFault::TooDeep));
         }
-        self.tell(task, class, waited)?;
-        self.locks.hold(task, lock, class)?;
+        if waits {
+            self.wait(task, class, line)?;
+        }
+        self.take(task, class, lock, line)?;
         Ok(())
     }
 
-    /// Tells the dependencies of an acquisition, at this line where it may have waited.
-    fn tell(&mut self, task: u32, class: u32, waited: Option<u64>) -> Result<(), AllocError>
+    /// The task waits for a lock of the class: there are dependencies on it, and it is used in the
+    /// task's contexts.
+    fn wait(&mut self, task: u32, class: u32, line: u64) -> Result<(), AllocError>
         requires { task < length self.old.locks.stacks }
-        ensures { OnOk result (self.new ≡ record self.old { locks = record self.old.locks { edges = told_by waited class (map (λ hold. hold.class) (slice_index_or self.old.locks.stacks task [])) self.old.locks.edges } }) }
+        ensures { OnOk result (self.new ≡ waited self.old task class line) }
     {
-        match waited {
-            Some(line) => self.locks.tell(task, class, line),
-            None => Ok(()),
-        }
+        self.locks.tell(task, class, line)?;
+        let interrupts = self.locks.interrupts(task);
+        self.uses.waited(class, interrupts, line)
+    }
+
+    /// The task holds the lock from now on, which counts under its flags.
+    fn take(&mut self, task: u32, class: u32, lock: Lock<'a>, line: u64) -> Result<(), AllocError>
+        requires task { task < length self.old.locks.stacks }
+        requires room { length (slice_index_or self.old.locks.stacks task []) < MOST_HELD }
+        ensures { OnOk result (self.new ≡ taken self.old task class (plain_lock lock.entry) line) }
+    {
+        self.locks.hold(task, lock, class)?;
+        let interrupts = self.locks.interrupts(task);
+        self.uses.acquired(class, interrupts, line)
     }
 
     fn release(&mut self, task: &'a [u8], lock: Lock<'a>) -> Result<(), Stop>
-        requires many { length self.old.locks.stacks ≡ length self.old.tasks }
-        ensures many { OnOk result (length self.new.locks.stacks ≡ length self.new.tasks) }
+        requires many { AreMany self.old }
+        ensures many { OnOk result (AreMany self.new) }
         ensures ok { OnOk result ((all : List Position) (line : ℕ) → IsAt all self.old →
             IsAt (all ++ happens line (Release task.entry.now (plain_lock lock.entry)) ∷ []) self.new) }
         ensures fault { (fault : TraceFault) → result ≡ Err (Stop.Fault fault) →
@@ -122,17 +158,102 @@ impl<'a> Scan<'a> {
         }
     }
 
+    fn enter(&mut self, task: &'a [u8], state: State) -> Result<(), Stop>
+        requires many { AreMany self.old }
+        ensures many { OnOk result (AreMany self.new) }
+        ensures ok { OnOk result ((all : List Position) (line : ℕ) → IsAt all self.old →
+            IsAt (all ++ happens line (Enter task.entry.now state) ∷ []) self.new) }
+        ensures fault { (fault : TraceFault) → result ≡ Err (Stop.Fault fault) →
+            (all : List Position) → IsAt all self.old →
+            event_fault (events all) (Enter task.entry.now state) ≡ Some fault }
+    {
+        let task = self.task(task)?;
+        let interrupts = self.locks.interrupts(task);
+        if !interrupts.nests(state) {
+            return Err(Stop::Fault(TraceFault::BadNest));
+        }
+        if !interrupts.is_enabled(state) {
+            return Err(Stop::Fault(TraceFault::Masked));
+        }
+        self.locks.enter(task, state);
+        Ok(())
+    }
+
+    fn exit(&mut self, task: &'a [u8], state: State, line: u64) -> Result<(), Stop>
+        requires many { AreMany self.old }
+        ensures many { OnOk result (AreMany self.new) }
+        ensures ok { OnOk result ((all : List Position) → IsAt all self.old →
+            IsAt (all ++ happens line (Exit task.entry.now state) ∷ []) self.new) }
+        ensures fault { (fault : TraceFault) → result ≡ Err (Stop.Fault fault) →
+            (all : List Position) → IsAt all self.old →
+            event_fault (events all) (Exit task.entry.now state) ≡ Some fault }
+    {
+        let task = self.task(task)?;
+        let interrupts = self.locks.interrupts(task);
+        if !interrupts.is_innermost(state) {
+            return Err(Stop::Fault(TraceFault::BadExit));
+        }
+        if self.locks.held(task).len() != interrupts.start() {
+            return Err(Stop::Fault(TraceFault::HeldAtExit));
+        }
+        self.locks.exit(task);
+        self.count_held(task, line)?;
+        Ok(())
+    }
+
+    fn enable(&mut self, task: &'a [u8], state: State, line: u64) -> Result<(), Stop>
+        requires many { AreMany self.old }
+        ensures many { OnOk result (AreMany self.new) }
+        ensures ok { OnOk result ((all : List Position) → IsAt all self.old →
+            IsAt (all ++ happens line (Enable task.entry.now state) ∷ []) self.new) }
+        ensures fault { (fault : TraceFault) → result ≡ Err (Stop.Fault fault) →
+            (all : List Position) → IsAt all self.old →
+            event_fault (events all) (Enable task.entry.now state) ≡ Some fault }
+    {
+        let task = self.task(task)?;
+        if self.locks.interrupts(task).has(state) {
+            return Err(Stop::Fault(TraceFault::BadEnable));
+        }
+        self.locks.set(task, state, true);
+        self.count_held(task, line)?;
+        Ok(())
+    }
+
+    fn disable(&mut self, task: &'a [u8], state: State) -> Result<(), Stop>
+        requires many { AreMany self.old }
+        ensures many { OnOk result (AreMany self.new) }
+        ensures ok { OnOk result ((all : List Position) (line : ℕ) → IsAt all self.old →
+            IsAt (all ++ happens line (Disable task.entry.now state) ∷ []) self.new) }
+        ensures fault { (fault : TraceFault) → result ≡ Err (Stop.Fault fault) →
+            (all : List Position) → IsAt all self.old →
+            event_fault (events all) (Disable task.entry.now state) ≡ Some fault }
+    {
+        let task = self.task(task)?;
+        self.locks.set(task, state, false);
+        Ok(())
+    }
+
+    /// All that the task holds, in every frame, counts under its flags.
+    fn count_held(&mut self, task: u32, line: u64) -> Result<(), AllocError>
+        requires { task < length self.old.locks.stacks }
+        ensures { OnOk result (self.new ≡ record self.old {
+          uses = fold with_use self.old.uses
+              (on_facts (slice_index_or self.old.locks.interrupts task fresh) line
+              (map (λ hold. hold.class) (slice_index_or self.old.locks.stacks task [])));
+        }) }
+    {
+        let interrupts = self.locks.interrupts(task);
+        self.uses.held(self.locks.held(task), interrupts, line)
+    }
+
     /// The number of the task, which may be new.
     fn task(&mut self, name: &'a [u8]) -> Result<u32, Stop>
-        requires many { length self.old.locks.stacks ≡ length self.old.tasks }
-        ensures place { IfOk result (λ id. IsNameAt self.new.tasks id name.entry.now) }
-        ensures tasks { OnOk result (self.new.tasks ≡ with_name self.old.tasks name.entry.now) }
-        ensures many { OnOk result (length self.new.locks.stacks ≡ length self.new.tasks) }
-        ensures fits { OnOk result (place_of self.old.tasks name.entry.now ≡ None → length self.old.tasks < MOST_TASKS) }
-        ensures classes { self.new.classes ≡ self.old.classes }
-        ensures edges { OnOk result (self.new.locks.edges ≡ self.old.locks.edges) }
-        ensures stacks { OnOk result ((k : ℕ) → slice_index_or self.new.locks.stacks k [] ≡ slice_index_or self.old.locks.stacks k []) }
-        ensures fault { (fault : TraceFault) → result ≡ Err (Stop.Fault fault) → (fault ≡ TraceFault.TooManyTasks) × (place_of self.old.tasks name.entry.now ≡ None) × (MOST_TASKS ≤ length self.old.tasks) }
+        requires many { AreMany self.old }
+        ensures task { IfOk result (λ id. HasTask self.old name.entry.now id self.new) }
+        ensures fault { (fault : TraceFault) → result ≡ Err (Stop.Fault fault) →
+            (fault ≡ TraceFault.TooManyTasks)
+            × (place_of self.old.tasks name.entry.now ≡ None)
+            × (MOST_TASKS ≤ length self.old.tasks) }
     {
         if let Some(task) = self.tasks.find(name) {
             return Ok(task);
@@ -148,9 +269,15 @@ impl<'a> Scan<'a> {
     fn class(&mut self, name: &'a [u8]) -> Result<u32, Stop>
         ensures place { IfOk result (λ id. IsNameAt self.new.classes id name.entry.now) }
         ensures classes { OnOk result (self.new.classes ≡ with_name self.old.classes name.entry.now) }
-        ensures fits { OnOk result (place_of self.old.classes name.entry.now ≡ None → length self.old.classes < MOST_CLASSES) }
-        ensures others { (self.new.tasks ≡ self.old.tasks) × (self.new.locks ≡ self.old.locks) }
-        ensures fault { (fault : TraceFault) → result ≡ Err (Stop.Fault fault) → (fault ≡ TraceFault.TooManyClasses) × (place_of self.old.classes name.entry.now ≡ None) × (MOST_CLASSES ≤ length self.old.classes) }
+        ensures fits { OnOk result (place_of self.old.classes name.entry.now ≡ None →
+            length self.old.classes < MOST_CLASSES) }
+        ensures others { (self.new.tasks ≡ self.old.tasks)
+            × (self.new.locks ≡ self.old.locks)
+            × (self.new.uses ≡ self.old.uses) }
+        ensures fault { (fault : TraceFault) → result ≡ Err (Stop.Fault fault) →
+            (fault ≡ TraceFault.TooManyClasses)
+            × (place_of self.old.classes name.entry.now ≡ None)
+            × (MOST_CLASSES ≤ length self.old.classes) }
     {
         if let Some(class) = self.classes.find(name) {
             return Ok(class);

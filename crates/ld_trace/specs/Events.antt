@@ -1,5 +1,5 @@
 -- The event that a line names, or its fault.
-use Rattle.std.specs.Prelude.{ℕ, Bool, false, ◌&&◌, ◌||◌, ◌==◌, List, [], ◌∷◌, Option, Some, None, Result, Ok, Err, if◌then◌else◌, codes}
+use Rattle.std.specs.Prelude.{ℕ, Bool, ◌&&◌, ◌==◌, List, [], ◌∷◌, Option, Some, None, Result, Ok, Err, if◌then◌else◌, codes}
 use Rattle.std.specs.List.{filter_map, enumerate_from, before_first, after_first}
 use Rattle.std.specs.Option.{option_map}
 use Rattle.std.specs.Str.{bytes_eq}
@@ -35,6 +35,10 @@ abbrev pub plain_event : Event → PlainEvent
 plain_event (events.Acquire task lock) = Acquire task.now (plain_lock lock)
 plain_event (events.Try task lock) = Try task.now (plain_lock lock)
 plain_event (events.Release task lock) = Release task.now (plain_lock lock)
+plain_event (events.Enter task state) = Enter task.now state
+plain_event (events.Exit task state) = Exit task.now state
+plain_event (events.Enable task state) = Enable task.now state
+plain_event (events.Disable task state) = Disable task.now state
 
 -- the sign between class and instance, `@`
 abbrev pub is_sign : ℕ → Bool
@@ -98,15 +102,9 @@ said_by_fields (verb ∷ others) =
     else if bytes_eq verb (codes "disable") then said_of_state Disable others
     else Err BadVerb
 
--- what serves for now: these verbs, which take a STATE, aren't read yet
-abbrev pub takes_state : List (List ℕ) → Bool
-takes_state [] = false
-takes_state (verb ∷ others) =
-    bytes_eq verb (codes "enter") || bytes_eq verb (codes "exit") || bytes_eq verb (codes "enable") || bytes_eq verb (codes "disable")
-
--- what a line without its end says, where a line with such a verb is a `BadVerb` for now
+-- what a line without its end says
 abbrev pub said_by : List ℕ → Said
-said_by line = if takes_state (fields line) then Err BadVerb else said_by_fields (fields line)
+said_by line = said_by_fields (fields line)
 
 -- a line of a source that says something: its number in the stream, and the event or the fault
 pub record Position : Type 0 where

@@ -2,9 +2,9 @@
 ghost use Rattle.std.specs.Prelude.{◌≡◌, ◌≢◌, ◌<◌, ℕ, List, IfSome, IfNone, length};
 ghost use Rattle.std.specs.List.{position};
 ghost use Rattle.std.specs.Option.{option_map};
-ghost use Rattle.ld_trace.specs.Events.{PlainEvent, PlainLock, is_sign, lock_of, plain_lock, said_by, said_of_lock, seen};
+ghost use Rattle.ld_trace.specs.Events.{PlainEvent, PlainLock, is_sign, lock_of, plain_lock, said_by, said_of_lock, said_of_state, seen, state_of};
 ghost use Rattle.ld_trace.specs.Lines.{fields};
-ghost use Rattle.ld_trace.specs.Reading.{both_now, pair_of, said_with_lock};
+ghost use Rattle.ld_trace.specs.Reading.{both_now, pair_of, said_with_lock, said_with_state};
 
 use crate::line::{begins_comment, is_name, is_word, next_field};
 
@@ -15,8 +15,7 @@ pub struct Lock<'a> {
     pub instance: Option<&'a [u8]>,
 }
 
-/// What an interrupt handler is: of a hardware interrupt, or of a softirq. No event that is read
-/// yet has one.
+/// What an interrupt handler is: of a hardware interrupt, or of a softirq.
 #[derive(Clone, Copy, Debug, PartialEq, Eq)]
 pub enum State {
     Hard,
@@ -32,6 +31,14 @@ pub enum Event<'a> {
     Try { task: &'a [u8], lock: Lock<'a> },
     /// It releases the lock.
     Release { task: &'a [u8], lock: Lock<'a> },
+    /// An interrupt handler begins over it.
+    Enter { task: &'a [u8], state: State },
+    /// That handler ends.
+    Exit { task: &'a [u8], state: State },
+    /// Its flag for the state goes on.
+    Enable { task: &'a [u8], state: State },
+    /// Its flag for the state goes off.
+    Disable { task: &'a [u8], state: State },
 }
 
 /// What is wrong with a line by itself. Where several apply, it is the first.
@@ -43,8 +50,7 @@ pub enum LineFault {
     BadCount,
     /// The task or the lock isn't spelled as one.
     BadName,
-    /// The state is neither `hard` nor `soft`. No line is refused so yet, since the verbs that take
-    /// a state aren't read: they are a `BadVerb`.
+    /// The state is neither `hard` nor `soft`.
     BadState,
 }
 
@@ -68,9 +74,25 @@ pub fn read_event(line: &[u8]) -> Result<Option<Event<'_>>, LineFault>
 /// What the first field of an event says.
 #[derive(Clone, Copy)]
 enum Verb {
+    OfLock(LockVerb),
+    OfState(StateVerb),
+}
+
+/// A verb that takes a task and a lock.
+#[derive(Clone, Copy)]
+enum LockVerb {
     Acquire,
     Try,
     Release,
+}
+
+/// A verb that takes a task and a state.
+#[derive(Clone, Copy)]
+enum StateVerb {
+    Enter,
+    Exit,
+    Enable,
+    Disable,
 }
 
 impl Verb {
@@ -80,14 +102,12 @@ impl Verb {
         ensures found { IfSome result (λ verb. field.now ≡ spelling verb) }
         ensures none { IfNone result ((verb : Verb) → field.now ≢ spelling verb) }
     {
-        if field == b"acquire".as_slice() {
-            Some(Verb::Acquire)
-        } else if field == b"try".as_slice() {
-            Some(Verb::Try)
-        } else if field == b"release".as_slice() {
-            Some(Verb::Release)
-        } else {
-            None
+        match LockVerb::of(field) {
+            Some(verb) => Some(Verb::OfLock(verb)),
+            None => match StateVerb::of(field) {
+                Some(verb) => Some(Verb::OfState(verb)),
+                None => None,
+            },
         }
     }
 
@@ -95,11 +115,73 @@ impl Verb {
     fn read(self, rest: &[u8]) -> Result<Option<Event<'_>>, LineFault>
         ensures { seen result ≡ said_after self (fields rest.now) }
     {
+        match self {
+            Verb::OfLock(verb) => verb.read(rest),
+            Verb::OfState(verb) => verb.read(rest),
+        }
+    }
+}
+
+impl LockVerb {
+    ghost use Rattle.ld_trace.specs.Reading.{said_after_lock_verb, spelling_of_lock_verb};
+
+    fn of(field: &[u8]) -> Option<Self>
+        ensures found { IfSome result (λ verb. field.now ≡ spelling_of_lock_verb verb) }
+        ensures none { IfNone result ((verb : LockVerb) → field.now ≢ spelling_of_lock_verb verb) }
+    {
+        if field == b"acquire".as_slice() {
+            Some(LockVerb::Acquire)
+        } else if field == b"try".as_slice() {
+            Some(LockVerb::Try)
+        } else if field == b"release".as_slice() {
+            Some(LockVerb::Release)
+        } else {
+            None
+        }
+    }
+
+    fn read(self, rest: &[u8]) -> Result<Option<Event<'_>>, LineFault>
+        ensures { seen result ≡ said_after_lock_verb self (fields rest.now) }
+    {
         let (task, lock) = task_and_lock(rest)?;
         match self {
-            Verb::Acquire => Ok(Some(Event::Acquire { task, lock })),
-            Verb::Try => Ok(Some(Event::Try { task, lock })),
-            Verb::Release => Ok(Some(Event::Release { task, lock })),
+            LockVerb::Acquire => Ok(Some(Event::Acquire { task, lock })),
+            LockVerb::Try => Ok(Some(Event::Try { task, lock })),
+            LockVerb::Release => Ok(Some(Event::Release { task, lock })),
+        }
+    }
+}
+
+impl StateVerb {
+    ghost use Rattle.ld_trace.specs.Reading.{said_after_state_verb, spelling_of_state_verb};
+
+    fn of(field: &[u8]) -> Option<Self>
+        ensures found { IfSome result (λ verb. field.now ≡ spelling_of_state_verb verb) }
+        ensures none { IfNone result ((verb : StateVerb) →
+            field.now ≢ spelling_of_state_verb verb) }
+    {
+        if field == b"enter".as_slice() {
+            Some(StateVerb::Enter)
+        } else if field == b"exit".as_slice() {
+            Some(StateVerb::Exit)
+        } else if field == b"enable".as_slice() {
+            Some(StateVerb::Enable)
+        } else if field == b"disable".as_slice() {
+            Some(StateVerb::Disable)
+        } else {
+            None
+        }
+    }
+
+    fn read(self, rest: &[u8]) -> Result<Option<Event<'_>>, LineFault>
+        ensures { seen result ≡ said_after_state_verb self (fields rest.now) }
+    {
+        let (task, state) = task_and_state(rest)?;
+        match self {
+            StateVerb::Enter => Ok(Some(Event::Enter { task, state })),
+            StateVerb::Exit => Ok(Some(Event::Exit { task, state })),
+            StateVerb::Enable => Ok(Some(Event::Enable { task, state })),
+            StateVerb::Disable => Ok(Some(Event::Disable { task, state })),
         }
     }
 }
@@ -115,6 +197,23 @@ fn task_and_lock(rest: &[u8]) -> Result<(&[u8], Lock<'_>), LineFault>
     match read_lock(field) {
         Some(lock) if is_word(task) => Ok((task, lock)),
         _ => Err(LineFault::BadName),
+    }
+}
+
+/// The task and the state that stand after a verb.
+fn task_and_state(rest: &[u8]) -> Result<(&[u8], State), LineFault>
+    ensures { (make : List ℕ → State → PlainEvent) →
+        said_of_state make (fields rest.now) ≡ said_with_state make result }
+{
+    let Some((task, field)) = two_fields(rest) else {
+        return Err(LineFault::BadCount);
+    };
+    if !is_word(task) {
+        return Err(LineFault::BadName);
+    }
+    match read_state(field) {
+        Some(state) => Ok((task, state)),
+        None => Err(LineFault::BadState),
     }
 }
 
@@ -159,6 +258,19 @@ fn sign_at(field: &[u8]) -> Option<usize>
     ensures within { IfSome result (λ place. place < length field.now) }
 {
     field.iter().position(|byte| *byte == b'@')
+}
+
+/// The state that a field names.
+fn read_state(field: &[u8]) -> Option<State>
+    ensures { result ≡ state_of field.now }
+{
+    if field == b"hard".as_slice() {
+        Some(State::Hard)
+    } else if field == b"soft".as_slice() {
+        Some(State::Soft)
+    } else {
+        None
+    }
 }
 
 #[cfg(test)]

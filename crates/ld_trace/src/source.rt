@@ -52,7 +52,7 @@ pub enum StreamFault {
     /// This line says something, and stands before every header.
     #[error("line {0}: NoHeader")]
     NoHeader(u64),
-    /// This line begins with `trace`, and isn't `trace LABEL`.
+    /// This line's first field is `trace`, and the line isn't `trace LABEL`.
     #[error("line {0}: BadHeader")]
     BadHeader(u64),
     /// It has a 65,536th header.

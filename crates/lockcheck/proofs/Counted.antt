@@ -14,12 +14,13 @@ use Rattle.ld_facts.specs.Outcome.{outcome}
 use Rattle.ld_facts.specs.Dependency.{Dependency, Seen, first_line, same_dependency}
 use Rattle.ld_facts.specs.Union.{dependencies_of, dependency_witness, first_of, union_dependencies}
 use Rattle.ld_facts.specs.declared.outcome.Listed.{Listed}
+use Rattle.ld_facts.proofs.PlaceLemmas.{alike_from_decides, any_each_once}
 use Rattle.lockcheck.specs.declared.union.Pair.{Pair}
 use Rattle.lockcheck.specs.declared.verdict.Verdict.TheVariants.{Clean, Refused}
 use Rattle.lockcheck.specs.Verdict.{verdict}
 use Rattle.lockcheck.specs.Totals.{events_read, is_refused, totals}
 use Rattle.lockcheck.specs.Union.{AreOutcomes, IsUnion, plain_pair, seen_in, sources_of, witness_of}
-use Rattle.lockcheck.proofs.EachOnce.{IsDistinct-each_once, IsEquivalence-from_decides, alike_from_decides, any_each_once}
+use Rattle.lockcheck.proofs.EachOnce.{IsDistinct-each_once, IsEquivalence-from_decides}
 use Rattle.lockcheck.proofs.Kept.{same_dependency-refl, same_dependency-true, same_pair}
 
 -- a sum over the listed outcomes is that over the outcomes of the sources

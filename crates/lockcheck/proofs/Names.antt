@@ -8,7 +8,7 @@ use Rattle.std.specs.Str.{bytes_eq}
 use Rattle.indexmap.specs.IndexSet.{insert_key}
 use Rattle.ld_class.proofs.Mapped.{insert_key-map}
 use Rattle.ld_facts.specs.Outcome.{each_once}
-use Rattle.lockcheck.proofs.EachOnce.{alike_from_decides, each_once-more}
+use Rattle.ld_facts.proofs.PlaceLemmas.{alike_from_decides, each_once-more}
 
 inserted : (names : List (List ℕ)) (name : List ℕ) (b : Bool) → (if b then names else names ++ name ∷ []) ≡ names ++ (if b then [] else name ∷ [])
 inserted names name true = sym (append-nil names)

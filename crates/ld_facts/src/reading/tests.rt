@@ -1,6 +1,8 @@
 //! Rows of streams, by what is told of their one trace.
 use super::*;
 use crate::edges::EdgeFact;
+use crate::uses::UsageFact;
+use ld_class::Usage;
 use std::test::Fail;
 
 fn source(bytes: &[u8]) -> Source<'_> {
@@ -31,6 +33,10 @@ fn refused_at(line: u64, fault: TraceFault) -> Outcome {
 
 fn has_edge(edges: &[EdgeFact], from: u32, to: u32, line: u64) -> bool {
     edges.contains(&EdgeFact { from, to, line })
+}
+
+fn has_bit(usage: &[UsageFact], class: u32, bit: Usage, line: u64) -> bool {
+    usage.contains(&UsageFact { class, bit, line })
 }
 
 #[test]
@@ -104,10 +110,135 @@ fn a_trace_is_refused_at_its_first_fault(rt: HostRuntime) -> Result<(), Fail> {
         outcome(&rt, b"acquire t A\nrelease u A\n")?,
         refused_at(3, TraceFault::NotHeld)
     );
+    assert_eq!(rt;
+        outcome(&rt, b"acquire t A\nenter t soft\nrelease t A\n")?,
+        refused_at(4, TraceFault::NotHeld)
+    );
     let facts = told(&rt, b"acquire t A\nacquire t B\nlock t C\n")?;
     assert_eq!(rt; facts.outcome(), refused_at(4, TraceFault::BadVerb));
     assert_eq!(rt; facts.classes().len(), 0);
     assert_eq!(rt; facts.edges().len(), 0);
+    assert_eq!(rt; facts.usage().len(), 0);
+    Ok(())
+}
+
+#[test]
+fn a_handler_nests_only_as_hard_over_soft(rt: HostRuntime) -> Result<(), Fail> {
+    let bytes = b"enter t hard\nenter t soft\n";
+    assert_eq!(rt; outcome(&rt, bytes)?, refused_at(3, TraceFault::BadNest));
+    let bytes = b"enter t soft\nenter t soft\n";
+    assert_eq!(rt; outcome(&rt, bytes)?, refused_at(3, TraceFault::BadNest));
+    let bytes = b"enter t hard\nenter t hard\n";
+    assert_eq!(rt; outcome(&rt, bytes)?, refused_at(3, TraceFault::BadNest));
+    let bytes = b"enter t nmi\n";
+    assert_eq!(rt; outcome(&rt, bytes)?, refused_at(2, TraceFault::BadState));
+    Ok(())
+}
+
+#[test]
+fn a_handler_begins_only_where_it_is_enabled(rt: HostRuntime) -> Result<(), Fail> {
+    let bytes = b"disable t hard\nenter t hard\n";
+    assert_eq!(rt; outcome(&rt, bytes)?, refused_at(3, TraceFault::Masked));
+    let bytes = b"disable t hard\nenter t soft\n";
+    assert_eq!(rt; outcome(&rt, bytes)?, refused_at(3, TraceFault::Masked));
+    let bytes = b"disable t soft\nenter t soft\n";
+    assert_eq!(rt; outcome(&rt, bytes)?, refused_at(3, TraceFault::Masked));
+    Ok(())
+}
+
+#[test]
+fn only_the_innermost_frame_closes_and_empty(rt: HostRuntime) -> Result<(), Fail> {
+    let bytes = b"exit t soft\n";
+    assert_eq!(rt; outcome(&rt, bytes)?, refused_at(2, TraceFault::BadExit));
+    let bytes = b"enter t soft\nenter t hard\nexit t soft\n";
+    assert_eq!(rt; outcome(&rt, bytes)?, refused_at(4, TraceFault::BadExit));
+    let bytes = b"enter t hard\nacquire t A\nexit t hard\n";
+    assert_eq!(rt; outcome(&rt, bytes)?, refused_at(4, TraceFault::HeldAtExit));
+    Ok(())
+}
+
+#[test]
+fn no_context_is_enabled(rt: HostRuntime) -> Result<(), Fail> {
+    let bytes = b"enter t soft\nenable t soft\n";
+    assert_eq!(rt; outcome(&rt, bytes)?, refused_at(3, TraceFault::BadEnable));
+    let bytes = b"enter t hard\nenable t hard\n";
+    assert_eq!(rt; outcome(&rt, bytes)?, refused_at(3, TraceFault::BadEnable));
+    let bytes = b"enter t soft\nenter t hard\nenable t soft\n";
+    assert_eq!(rt; outcome(&rt, bytes)?, refused_at(4, TraceFault::BadEnable));
+    Ok(())
+}
+
+#[test]
+fn enabling_counts_what_is_held(rt: HostRuntime) -> Result<(), Fail> {
+    let bytes = b"disable t hard\nacquire t A\nenable t hard\nrelease t A\n";
+    let facts = told(&rt, bytes)?;
+    assert_eq!(rt; facts.outcome(), Outcome::Read { events: 4 });
+    assert_eq!(rt; facts.usage().len(), 2);
+    assert!(rt; has_bit(facts.usage(), 0, Usage::ON_HARD, 4));
+    assert!(rt; has_bit(facts.usage(), 0, Usage::ON_SOFT, 4));
+    Ok(())
+}
+
+#[test]
+fn outer_flags_come_back_at_exit(rt: HostRuntime) -> Result<(), Fail> {
+    let bytes = b"disable t soft\nacquire t A\nenter t hard\nexit t hard\nenable t soft\n";
+    let facts = told(&rt, bytes)?;
+    assert_eq!(rt; facts.outcome(), Outcome::Read { events: 5 });
+    assert_eq!(rt; facts.usage().len(), 2);
+    assert!(rt; has_bit(facts.usage(), 0, Usage::ON_HARD, 3));
+    assert!(rt; has_bit(facts.usage(), 0, Usage::ON_SOFT, 6));
+    Ok(())
+}
+
+#[test]
+fn frames_stand_apart(rt: HostRuntime) -> Result<(), Fail> {
+    let bytes =
+        b"enter t soft\nacquire t S\nenter t hard\nacquire t H\nrelease t H\nexit t hard\nrelease t S\nexit t soft\n";
+    let facts = told(&rt, bytes)?;
+    assert_eq!(rt; facts.outcome(), Outcome::Read { events: 8 });
+    assert_eq!(rt; facts.edges().len(), 0);
+    assert_eq!(rt; facts.usage().len(), 4);
+    assert!(rt; has_bit(facts.usage(), 0, Usage::IN_SOFT, 3));
+    assert!(rt; has_bit(facts.usage(), 0, Usage::ON_HARD, 3));
+    assert!(rt; has_bit(facts.usage(), 1, Usage::IN_SOFT, 5));
+    assert!(rt; has_bit(facts.usage(), 1, Usage::IN_HARD, 5));
+    Ok(())
+}
+
+#[test]
+fn a_handler_does_not_count_what_it_interrupts(rt: HostRuntime) -> Result<(), Fail> {
+    let facts = told(&rt, b"acquire t A\nenter t hard\nacquire t B\n")?;
+    assert_eq!(rt; facts.usage().len(), 3);
+    assert!(rt; has_bit(facts.usage(), 0, Usage::ON_HARD, 2));
+    assert!(rt; has_bit(facts.usage(), 0, Usage::ON_SOFT, 2));
+    assert!(rt; has_bit(facts.usage(), 1, Usage::IN_HARD, 4));
+    Ok(())
+}
+
+#[test]
+fn usage_follows_the_flags(rt: HostRuntime) -> Result<(), Fail> {
+    let facts = told(&rt, b"disable t soft\nenter t hard\nacquire t A\n")?;
+    assert_eq!(rt; facts.usage().len(), 1);
+    assert!(rt; has_bit(facts.usage(), 0, Usage::IN_HARD, 4));
+    drop(facts);
+    let facts = told(&rt, b"disable t soft\nacquire t A\n")?;
+    assert_eq!(rt; facts.usage().len(), 1);
+    assert!(rt; has_bit(facts.usage(), 0, Usage::ON_HARD, 3));
+    Ok(())
+}
+
+#[test]
+fn a_trylock_is_not_used_in_a_context(rt: HostRuntime) -> Result<(), Fail> {
+    let facts = told(&rt, b"enter t hard\ntry t A\n")?;
+    assert_eq!(rt; facts.outcome(), Outcome::Read { events: 2 });
+    assert_eq!(rt; facts.usage().len(), 0);
+    Ok(())
+}
+
+#[test]
+fn flags_are_told_again_and_again(rt: HostRuntime) -> Result<(), Fail> {
+    let bytes = b"disable t hard\ndisable t hard\nenable t hard\nenable t hard\n";
+    assert_eq!(rt; outcome(&rt, bytes)?, Outcome::Read { events: 4 });
     Ok(())
 }
 
@@ -121,7 +252,7 @@ fn a_trace_has_1024_tasks_at_most(rt: HostRuntime) -> Result<(), Fail> {
         outcome(&rt, text.as_bytes())?,
         Outcome::Read { events: 1024 }
     );
-    text.push_str("acquire t1025 A\n")?;
+    text.push_str("disable t1025 hard\n")?;
     assert_eq!(rt;
         outcome(&rt, text.as_bytes())?,
         refused_at(1026, TraceFault::TooManyTasks)

@@ -17,6 +17,10 @@ fn acquires(line: &[u8], by: &[u8], of: &[u8]) -> bool {
     }
 }
 
+fn names(line: &[u8], event: Event<'_>) -> bool {
+    read_event(line) == Ok(Some(event))
+}
+
 /// This line with so many bytes `a` after it.
 fn with_letters(alloc: Global, line: &[u8], count: usize, end: &[u8]) -> Result<Vec<u8>, Fail> {
     let mut all = line.to_vec(alloc)?;
@@ -51,6 +55,20 @@ fn events_are_read(rt: HostRuntime) {
 }
 
 #[test]
+fn events_with_a_state_are_read(rt: HostRuntime) {
+    let task = b"t".as_slice();
+    let (hard, soft) = (State::Hard, State::Soft);
+    assert!(rt; names(b"enter t hard", Event::Enter { task, state: hard }));
+    assert!(rt; names(b"enter t soft", Event::Enter { task, state: soft }));
+    assert!(rt; names(b"exit t hard", Event::Exit { task, state: hard }));
+    assert!(rt; names(b"exit t soft", Event::Exit { task, state: soft }));
+    assert!(rt; names(b"enable t hard", Event::Enable { task, state: hard }));
+    assert!(rt; names(b"enable t soft", Event::Enable { task, state: soft }));
+    assert!(rt; names(b"disable t hard", Event::Disable { task, state: hard }));
+    assert!(rt; names(b"disable t soft", Event::Disable { task, state: soft }));
+}
+
+#[test]
 fn the_first_fault_of_a_line_is_told(rt: HostRuntime) -> Result<(), Fail> {
     assert!(rt; refuses(b"lock t A", LineFault::BadVerb));
     assert!(rt; refuses(b"Acquire t A", LineFault::BadVerb));
@@ -63,10 +81,12 @@ fn the_first_fault_of_a_line_is_told(rt: HostRuntime) -> Result<(), Fail> {
     assert!(rt; refuses(b"acquire t @1", LineFault::BadName));
     assert!(rt; refuses(b"acquire t A@1@2", LineFault::BadName));
     assert!(rt; refuses(b"acquire t A/1", LineFault::BadName));
-    assert!(rt; refuses(b"exit t soft", LineFault::BadVerb));
-    assert!(rt; refuses(b"enter t nmi", LineFault::BadVerb));
+    assert!(rt; refuses(b"exit t", LineFault::BadCount));
+    assert!(rt; refuses(b"enable t hard soft", LineFault::BadCount));
+    assert!(rt; refuses(b"enter t nmi", LineFault::BadState));
+    assert!(rt; refuses(b"disable t Hard", LineFault::BadState));
     let task = with_letters(rt.alloc(), b"enter ", 65, b" nmi")?;
-    assert!(rt; refuses(task.as_slice(), LineFault::BadVerb));
+    assert!(rt; refuses(task.as_slice(), LineFault::BadName));
     Ok(())
 }
 

@@ -90,8 +90,8 @@ fn std_readers_and_writers_are_devices(rt: HostRuntime) -> Result<(), Fail> {
     Ok(())
 }
 
-// Under `rt try --test --fail-alloc N` one allocation is refused, that of another growth for each N:
-// the answer is then `Memory` and nothing was written, or the whole report, where N is past the last.
+// Under `rt try --test --fail-alloc N` one allocation is refused, another for each N: the answer is
+// then `Memory` and nothing was written. Where N is past the last, it is the whole report.
 #[test]
 fn a_refused_growth_writes_nothing(rt: HostRuntime) {
     let mut room = [b'-'; 128];

@@ -12,15 +12,15 @@ use Rattle.ld_facts.proofs.reading.facts.Goals.{in-Ok-None, in-Ok-Some+in-Ok}
 pub loop-first-init : goal.loop-first-init
 loop-first-init c = record { many = search rules; lines = omega arith; counted = omega arith; read = read-none (plain c.args.source) _ c.before.new-scan.ensures }
 
-pub refused-requires : goal.refused-requires
-refused-requires c =
+pub refused-requires-clause-outcome : goal.refused-requires-clause-outcome
+refused-requires-clause-outcome c =
     refused-event (plain c.args.source) c.loop-first.line c.loop-first.rest.now c.loop-first.scan c.loop-first.events c.loop-first.invariant.read c.in-Some.first.now c.in-Some.others.now c.in-Some.ensures.first
     (plain_event c.in-Ok-Some.event) c.in-Err-Fault.fault (ap said_by (sym c.text.ensures) ∙ sym c.in-Ok-Some.ensures ∙ ap (λ o. Ok (option_map plain_event o)) c.in-Ok-Some.field-0-is)
     (c.step.ensures.fault c.in-Err-Fault.fault (c.in-Err-Fault.is ∙ ap Err c.in-Err-Fault.field-0-is))
     ∙ ap (Refused c.loop-first.line) (sym c.in-Err-Fault.fault-is)
 
-pub refused-requires-in-Err : goal.refused-requires-in-Err
-refused-requires-in-Err c =
+pub refused-requires-in-Err-clause-outcome : goal.refused-requires-in-Err-clause-outcome
+refused-requires-in-Err-clause-outcome c =
     refused-line (plain c.args.source) c.loop-first.line c.loop-first.rest.now c.loop-first.scan c.loop-first.events c.loop-first.invariant.read c.in-Some.first.now c.in-Some.others.now c.in-Some.ensures.first
     c.in-Err.fault (ap said_by (sym c.text.ensures) ∙ sym c.in-Err.ensures)
     ∙ ap (Refused c.loop-first.line) (sym c.from.ensures)
@@ -49,5 +49,5 @@ loop-first-preserved c = elim c.match-read_event-2.branch [
 
 pub invariant_of-result : goal.invariant_of-result
 invariant_of-result c =
-    subst (λ edges. IsKnown (record { source = plain c.args.source; outcome = Read c.loop-first.events; classes = c.loop-first.scan.classes; edges = edges })) (sym c.into_edges.ensures)
-    (read-known (plain c.args.source) c.loop-first.line c.loop-first.rest.now c.loop-first.scan c.loop-first.events c.loop-first.invariant.read c.in_default.ensures.first)
+    subst (λ edges. IsKnown (record { source = plain c.args.source; outcome = Read c.loop-first.events; classes = c.loop-first.scan.classes; edges = edges; usage = c.loop-first.scan.uses })) (sym c.into_edges.ensures)
+    (read-known (plain c.args.source) c.loop-first.line c.loop-first.rest.now c.loop-first.scan c.loop-first.events c.requires c.loop-first.invariant.read c.in_default.ensures.first)

@@ -1,11 +1,11 @@
 use Rattle.std.proofs.Common.{◌≡◌, ◌+◌, ◌≤◌, length}
 use Rattle.ld_trace.specs.Sources.{plain}
-use Rattle.ld_facts.specs.Reading.{IsReadTo}
+use Rattle.ld_facts.specs.Reading.{AreMany, IsReadTo}
 use Rattle.ld_facts.proofs.reading.facts.Given as goal
 
 abbrev pub invariant-loop-first : goal.invariant-loop-first
 invariant-loop-first l = record {
-  many : length l.scan.locks.stacks ≡ length l.scan.tasks;
+  many : AreMany l.scan;
   lines : l.line + length l.rest ≤ l.fn.source.first_line + length l.fn.source.bytes.now;
   counted : l.events + length l.rest ≤ length l.fn.source.bytes.now;
   read : IsReadTo (plain l.fn.source) l.line l.rest l.scan l.events;

@@ -1,13 +1,10 @@
-use Rattle.std.proofs.Common.{◌≡◌, ◌++◌, ◌∷◌, [], List, Some, Err, get_or, set, ap, sym, subst, ◌∙◌}
+use Rattle.std.proofs.Common.{◌≡◌, ◌++◌, ◌∷◌, [], Some, Err, ap, sym, subst, ◌∙◌}
 use Rattle.std.proofs.lemmas.Result.{err_from_is_err_and}
 use Rattle.ld_trace.specs.Events.{plain_lock}
 use Rattle.ld_trace.specs.Events.PlainEvent.{Release}
-use Rattle.ld_facts.specs.declared.edges.EdgeFact.{EdgeFact}
 use Rattle.ld_facts.specs.declared.fault.TraceFault.TheVariants.{NotHeld}
-use Rattle.ld_facts.specs.declared.scan.Scan.{Scan}
 use Rattle.ld_facts.specs.declared.scan.Stop.TheVariants.{Fault}
-use Rattle.ld_facts.specs.Locks.{is_of}
-use Rattle.ld_facts.specs.Open.{remove_last}
+use Rattle.ld_facts.specs.Locks.{Known}
 use Rattle.ld_facts.specs.Reading.{IsAt, happens}
 use Rattle.ld_facts.proofs.TaskLemmas.{scan_too_many_tasks}
 use Rattle.ld_facts.proofs.ReleaseLemmas.{release-not_held, release-at}
@@ -23,19 +20,10 @@ returns-in_err-task-clause-fault c fault is all is_at =
 
 pub returns-else-branch-clause-fault : goal.returns-else-branch-clause-fault
 returns-else-branch-clause-fault c fault is all is_at =
-    let held = c.in_ok-let_go.ensures.held in
-    let none = sym held ∙ c.if-branch.false in
     let same : NotHeld ≡ fault = cc in
-    release-not_held all c.args.self.now is_at c.args.task.now (plain_lock c.args.lock) c.task.new.self.tasks c.task.new.self.locks.stacks c.in_ok-task.ensures.tasks c.in_ok-task.ensures.stacks c.in_ok-task.ensures.fits c.in_ok-task.task c.in_ok-task.ensures.place none
-    ∙ ap Some same
+    release-not_held all c.args.self.now is_at c.args.task.now (plain_lock c.args.lock) c.in_ok-task.task c.task.new.self c.in_ok-task.ensures.task (sym c.in_ok-let_go.ensures.held ∙ c.if-branch.false) ∙ ap Some same
 
 pub returns-then-branch-clause-ok : goal.returns-then-branch-clause-ok
 returns-then-branch-clause-ok c all line is_at =
-    let held = c.in_ok-let_go.ensures.held in
-    let found = sym held ∙ c.if-branch.true in
-    let left = remove_last (is_of (plain_lock c.args.lock)) (get_or c.task.new.self.locks.stacks c.in_ok-task.task []) in
-    let locks : c.let_go.new.self ≡ record { stacks = set c.task.new.self.locks.stacks c.in_ok-task.task left; edges = c.args.self.now.locks.edges } =
-    c.in_ok-let_go.ensures.stacks ∙ ap (λ (es : List EdgeFact). record { stacks = set c.task.new.self.locks.stacks c.in_ok-task.task left; edges = es }) c.in_ok-task.ensures.edges in
-    subst (λ (scan : Scan). IsAt (all ++ happens line (Release c.args.task.now (plain_lock c.args.lock)) ∷ []) scan)
-    (λ i. record { tasks = c.task.new.self.tasks; classes = sym c.in_ok-task.ensures.classes i; locks = sym locks i })
-    (release-at all c.args.self.now is_at c.args.task.now (plain_lock c.args.lock) c.task.new.self.tasks c.task.new.self.locks.stacks c.in_ok-task.ensures.tasks c.in_ok-task.ensures.stacks c.in_ok-task.ensures.fits c.in_ok-task.task c.in_ok-task.ensures.place line c.in_ok-task.ensures.many found)
+    subst (λ (locks : Known). IsAt (all ++ happens line (Release c.args.task.now (plain_lock c.args.lock)) ∷ []) (record { tasks = c.task.new.self.tasks; classes = c.task.new.self.classes; locks = locks; uses = c.task.new.self.uses })) (sym c.in_ok-let_go.ensures.stacks)
+    (release-at all c.args.self.now is_at c.args.task.now (plain_lock c.args.lock) c.in_ok-task.task c.task.new.self c.in_ok-task.ensures.task line (sym c.in_ok-let_go.ensures.held ∙ c.if-branch.true))

@@ -21,3 +21,11 @@ returns-in-Release-clause-ok c = on_ok_weaker c.release.result
 pub returns-in-Release-clause-fault : goal.returns-in-Release-clause-fault
 returns-in-Release-clause-fault c fault is all is_at =
     ap (λ e. event_fault (events all) (plain_event e)) c.in-Release.is ∙ c.release.ensures.fault fault is all is_at
+
+pub returns-in-Enter-clause-fault : goal.returns-in-Enter-clause-fault
+returns-in-Enter-clause-fault c fault is all is_at =
+    ap (λ e. event_fault (events all) (plain_event e)) c.in-Enter.is ∙ c.enter.ensures.fault fault is all is_at
+
+pub returns-in-Exit-clause-fault : goal.returns-in-Exit-clause-fault
+returns-in-Exit-clause-fault c fault is all is_at =
+    ap (λ e. event_fault (events all) (plain_event e)) c.in-Exit.is ∙ c.exit.ensures.fault fault is all is_at
