@@ -1,0 +1,10 @@
+pub mod AlarmLemmas
+pub mod BookLemmas
+pub mod BoundLemmas
+pub mod EachOnceLemmas
+pub mod NameLemmas
+pub mod NumberLemmas
+pub mod SeenLemmas
+pub mod TotalLemmas
+pub mod UnionLemmas
+pub mod UsageLemmas

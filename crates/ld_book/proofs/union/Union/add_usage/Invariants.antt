@@ -1,0 +1,18 @@
+use Rattle.std.proofs.Common.{◌≡◌, Option, map, take}
+use Rattle.ld_facts.specs.declared.outcome.Witness.{Witness}
+use Rattle.ld_facts.specs.Dependency.{first_line}
+use Rattle.ld_facts.specs.Facts.{named_use}
+use Rattle.ld_facts.specs.Usage.{Use, same_use}
+use Rattle.ld_book.specs.Union.{AreUsed, HasRows, earlier_of, seen_in}
+use Rattle.ld_book.proofs.union.Union.add_usage.Given as goal
+
+abbrev pub invariant-loop-seen : goal.invariant-loop-seen
+invariant-loop-seen l = record {
+  classes : l.self.classes ≡ l.fn.self.classes;
+  graph : l.self.graph ≡ l.fn.self.graph;
+  dependencies : l.self.dependencies ≡ l.fn.self.dependencies;
+  rows : HasRows l.self;
+  used : (first : Use → Option Witness) → AreUsed l.fn.self.classes l.fn.self.usage.items first
+      → AreUsed l.self.classes l.self.usage.items
+      (λ what. earlier_of (first what) (seen_in l.number (first_line same_use (map (named_use l.facts.classes) (take l.seen-index l.facts.usage)) what)));
+}
