@@ -1,4 +1,9 @@
-pub mod Numbered
-pub mod StreamFaults
+pub mod Added
+pub mod Bounds
+pub mod Counted
+pub mod EachOnce
+pub mod Kept
+pub mod Names
+pub mod Pushed
 pub mod Texts
 pub mod Transfers

@@ -5,8 +5,8 @@ use Rattle.ld_trace.specs.Sources.{PlainSource}
 use Rattle.ld_facts.specs.declared.outcome.Outcome.{Outcome}
 use Rattle.ld_facts.specs.declared.outcome.Outcome.TheVariants.{Read, Refused}
 use Rattle.ld_facts.specs.Outcome.{name_of, outcome}
-use Rattle.ld_book.specs.declared.totals.Totals.{Totals}
-use Rattle.ld_book.specs.Totals.{totals}
+use Rattle.lockcheck.specs.declared.totals.Totals.{Totals}
+use Rattle.lockcheck.specs.Totals.{totals}
 
 -- group 1: `traces N refused R events E classes C dependencies D`
 abbrev pub summary_line : Totals → List ℕ

@@ -10,7 +10,9 @@ mod fakes;
 mod report;
 pub mod run;
 mod text;
+mod totals;
 mod transfer;
+mod union;
 mod verdict;
 
 use crate::devices::Std;

@@ -2,12 +2,11 @@
 ghost use Rattle.std.specs.Prelude.{◌≡◌, All, Err, IfOk, IfSome, None, OnErr, map};
 ghost use Rattle.ld_trace.specs.Sources.{Fits, plain, sources, stream_fault};
 ghost use Rattle.lockcheck.specs.Report.{report_text};
-ghost use Rattle.lockcheck.specs.Sources.{AreNumbered};
 ghost use Rattle.lockcheck.specs.Verdict.{verdict};
 
 use crate::text::text_of;
+use crate::union::Union;
 use crate::verdict::Verdict;
-use ld_book::{Book, Refusal};
 use ld_facts::facts;
 use ld_trace::{Source, StreamFault, split};
 use std::alloc::{AllocError, Global};
@@ -64,53 +63,25 @@ pub fn report_of(alloc: Global, bytes: &[u8]) -> Result<Report, ReportFault>
         OnErr result (result ≡ Err ReportFault.Memory) }
 {
     let sources = split(alloc, bytes)?;
-    let report = report_from(alloc, &sources)?;
-    Ok(report)
+    let union = union_of(alloc, &sources)?;
+    let text = text_of(alloc, &union)?;
+    Ok(Report {
+        text,
+        verdict: union.verdict(),
+    })
 }
 
-/// The report of these traces.
-fn report_from(alloc: Global, sources: &[Source<'_>]) -> Result<Report, AllocError>
-    requires fit { All (λ source. Fits (plain source)) sources.now }
-    requires numbered { AreNumbered (map plain sources.now) }
-    ensures text { IfOk result (λ report.
-        report.text.items ≡ report_text (map plain sources.now)) }
-    ensures verdict { IfOk result (λ report.
-        report.verdict ≡ verdict (map plain sources.now)) }
+/// What these traces show together.
+fn union_of<'a>(alloc: Global, sources: &[Source<'a>]) -> Result<Union<'a>, AllocError>
+    requires { All (λ source. Fits (plain source)) sources.now }
+    ensures { IfOk result (λ union. union ≡ map plain sources.now) }
 {
-    let book = book_of(alloc, sources)?;
-    let text = text_of(alloc, &book)?;
-    let verdict = verdict_of(&book);
-    Ok(Report { text, verdict })
-}
-
-/// The book that lists these traces.
-fn book_of<'a>(alloc: Global, sources: &[Source<'a>]) -> Result<Book<'a>, AllocError>
-    requires fit { All (λ source. Fits (plain source)) sources.now }
-    requires numbered { AreNumbered (map plain sources.now) }
-    ensures { IfOk result (λ book. book ≡ map plain sources.now) }
-{
-    let mut book = Book::new(alloc);
+    let mut union = Union::new(alloc);
     for source in sources {
         let shown = facts(alloc, *source)?;
-        match book.add(shown) {
-            Ok(()) => {}
-            Err(Refusal::Memory(_)) => return Err(AllocError),
-            // The numbers of sources are distinct.
-            Err(Refusal::Twice(_)) => unreachable!(),
-        }
+        union = union.with(&shown)?;
     }
-    Ok(book)
-}
-
-/// What a report of the traces that a book lists comes to.
-fn verdict_of(book: &Book<'_>) -> Verdict
-    ensures { result ≡ verdict book.now }
-{
-    if book.totals().refused > 0 {
-        Verdict::Refused
-    } else {
-        Verdict::Clean
-    }
+    Ok(union)
 }
 
 #[cfg(test)]

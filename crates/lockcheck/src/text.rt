@@ -1,21 +1,24 @@
 //! Writes the lines of a report.
-ghost use Rattle.std.specs.Prelude.{◌≡◌, ◌++◌, IfOk, OnOk, decimal};
+ghost use Rattle.std.specs.Prelude.{◌≡◌, ◌<◌, ◌^◌, ◌++◌, IfOk, OnOk, decimal};
 ghost use Rattle.ld_facts.specs.declared.outcome.Outcome.TheVariants.{Refused};
 ghost use Rattle.lockcheck.specs.Report.{refused_line, refused_lines, report_text, summary_line};
-ghost use Rattle.ld_book.specs.Book.{AreOutcomes, sources_of};
+ghost use Rattle.lockcheck.specs.Totals.{events};
+ghost use Rattle.lockcheck.specs.Union.{AreOutcomes, sources_of};
 
-use ld_book::{Book, Totals};
+use crate::totals::Totals;
+use crate::union::Union;
 use ld_facts::{Listed, Outcome, TraceFault};
 use std::alloc::{AllocError, Global};
 use std::io::Write;
 
-/// The text of the report of the traces that a book lists.
-pub fn text_of(alloc: Global, book: &Book<'_>) -> Result<Vec<u8>, AllocError>
-    ensures { IfOk result (λ text. text.items ≡ report_text book.now) }
+/// The text of the report of some traces.
+pub fn text_of(alloc: Global, union: &Union<'_>) -> Result<Vec<u8>, AllocError>
+    requires { events union.now < 2 ^ 64 }
+    ensures { IfOk result (λ text. text.items ≡ report_text union.now) }
 {
     let mut text = Vec::new(alloc);
-    write_summary(&mut text, &book.totals())?;
-    write_all_refused(&mut text, book.listed())?;
+    write_summary(&mut text, &union.totals())?;
+    write_all_refused(&mut text, union.listed())?;
     text.extend_from_slice(b"unchecked\n")?;
     Ok(text)
 }

@@ -1,5 +1,6 @@
-use super::{ReportFault, report_of};
-use ld_trace::StreamFault;
+use super::{ReportFault, report_of, union_of};
+use ld_facts::Witness;
+use ld_trace::{StreamFault, split};
 use std::alloc::Global;
 use std::process::Abort;
 use std::test::Fail;
@@ -216,6 +217,27 @@ unchecked
 fn a_stream_with_a_fault_has_no_report(rt: HostRuntime) {
     let fault = report_of(rt.alloc(), b"acquire t A\n").err();
     assert_eq!(rt; fault, Some(ReportFault::Stream(StreamFault::NoHeader(1))));
+}
+
+#[test]
+fn keeps_the_first_witness(rt: HostRuntime) -> Result<(), Fail> {
+    for (stream, from, to, witness) in [
+        (INVERSION, b"A".as_slice(), b"B".as_slice(), Some((0, 3))),
+        (INVERSION, b"B", b"A", Some((1, 8))),
+        (OUT_OF_ORDER_RELEASE, b"A", b"B", Some((0, 3))),
+        (OUT_OF_ORDER_RELEASE, b"B", b"C", Some((0, 5))),
+        (OUT_OF_ORDER_RELEASE, b"A", b"C", None),
+        (MIXED_LINE_ENDS, b"A", b"B", Some((0, 6))),
+        (SAME_LABEL, b"A", b"B", Some((0, 3))),
+        (TRYLOCK_TARGET, b"B", b"A", Some((1, 6))),
+        (TRYLOCK_TARGET, b"A", b"B", None),
+    ] {
+        let sources = split(rt.alloc(), stream)?;
+        let union = union_of(rt.alloc(), &sources)?;
+        let expected = witness.map(|(number, line)| Witness { number, line });
+        assert_eq!(rt; union.witness(from, to), expected);
+    }
+    Ok(())
 }
 
 #[test]

@@ -1,9 +1,0 @@
-pub mod Totals
-pub mod Violations
-pub mod Verdict
-pub mod Alarms
-pub mod Names
-pub mod Usage
-pub mod Union
-pub mod Numbers
-pub mod Book
