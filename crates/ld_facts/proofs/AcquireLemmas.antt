@@ -1,11 +1,12 @@
 -- An acquisition, against the positions before it.
-use Rattle.std.proofs.Common.{◌≡◌, ◌≢◌, ◌<◌, ◌≤◌, ◌++◌, ◌∷◌, [], ◌∙◌, ◌==◌, ⊎_elim, eqb, Bool, true, false, ℕ, List, None, Some, Ok, length, map, drop, refl, ap, sym, subst, arith, slice_index_or, All, length-append, reverse, if◌then◌else◌}
-use Rattle.std.proofs.lemmas.Bool.Decides.{eqb_tells}
-use Rattle.std.proofs.lemmas.List.{length-map, length-set, get_or-set_same, get_or-set_other, map-append}
+use Rattle.std.proofs.Common.{◌≡◌, ◌<◌, ◌≤◌, ◌++◌, ◌∷◌, [], ◌∙◌, Bool, true, false, ℕ, List, None, Some, Ok, length, map, drop, refl, ap, sym, subst, arith, slice_index_or, All, length-append, if◌then◌else◌}
+use Rattle.std.proofs.lemmas.Bool.{eq-eqb, ne_eqb}
+use Rattle.std.proofs.lemmas.List.{length-set, get_or-set_same, get_or-set_other, map-append}
 use Rattle.std.proofs.lemmas.List.Elements.{All-cons, All-drop, All-nil, All-push}
 use Rattle.std.proofs.lemmas.Slice.Eq.{bytes_eq-Decides}
 use Rattle.std.specs.Prelude.{slice_set, fold}
 use Rattle.std.specs.Str.{bytes_eq}
+use Rattle.std.proofs.lemmas.Simd.{map-map}
 use Rattle.ld_class.specs.Names.{AreDistinct, IsNameAt, place_of, with_name}
 use Rattle.ld_trace.specs.declared.event.State.{State}
 use Rattle.ld_trace.specs.declared.event.State.TheVariants.{Hard, Soft}
@@ -22,7 +23,7 @@ use Rattle.ld_facts.specs.Flags.{is_enabled}
 use Rattle.ld_facts.specs.Frames.{contexts, frame_of, task_of}
 use Rattle.ld_facts.specs.Held.{Key, held_by, held_in, lock_acquired}
 use Rattle.ld_facts.specs.Dependency.{Dependency, Seen, dependencies_at, seen, seen_at}
-use Rattle.ld_facts.specs.Interrupts.{enabled_now, fresh, start_now, states_of}
+use Rattle.ld_facts.specs.Interrupts.{enabled_now, fresh, start_now}
 use Rattle.ld_facts.specs.Levels.{is_interrupt, stack, state_of}
 use Rattle.ld_facts.specs.Locks.{Hold}
 use Rattle.ld_facts.specs.Outcome.{class_acquired, classes, each_once, event_fault, events, is_bad_enable, is_bad_exit, is_badly_nested, is_held_at_exit, is_masked, is_not_held, is_one_too_many, tasks}
@@ -31,24 +32,17 @@ use Rattle.ld_facts.specs.Facts.{named, named_use}
 use Rattle.ld_facts.specs.Usage.{uses_at}
 use Rattle.ld_facts.specs.Facts.{IsUse}
 use Rattle.ld_facts.specs.Uses.{in_facts, on_facts, same_what, with_use}
-use Rattle.ld_facts.proofs.FlagLemmas.{contexts-other_task, is_enabled-quiet, levels-quiet, stack-quiet}
+use Rattle.ld_facts.proofs.FlagLemmas.{is_enabled-quiet, levels-quiet, stack-quiet}
 use Rattle.ld_facts.proofs.GroupLemmas.{starts-kept}
 use Rattle.ld_facts.proofs.HeldLemmas.{enters_none, held_by-acquires}
 use Rattle.ld_facts.proofs.InnerLemmas.{clean-grouped, contexts-are, enabled-is, inner-is, length-is}
 use Rattle.ld_facts.proofs.MovedLemmas.{moved-at}
 use Rattle.ld_facts.proofs.NamedLemmas.{IsNameAt-more, distinct-classes, holds-more, holds-names, holds-within, named-more, tell-named, within-more, within-tell}
-use Rattle.ld_facts.proofs.OutcomeLemmas.{events-push}
 use Rattle.ld_facts.proofs.PlaceLemmas.{with_new}
 use Rattle.ld_facts.proofs.StepLemmas.{classes-acquires, dependencies-push}
 use Rattle.ld_facts.proofs.TaskLemmas.{is_one_too_many-fits, is_one_too_many-full, task-at, with_name-few}
-use Rattle.ld_facts.proofs.UsageLemmas.{at_line, map-map, on_use, uses_in, uses_once, uses_once-push_new, with_uses, with_uses-append}
+use Rattle.ld_facts.proofs.UsageLemmas.{at_line, on_use, uses_in, uses_once, uses_once-push_new, with_uses-append}
 use Rattle.ld_facts.proofs.UseLemmas.{in_facts-named, in_facts-within, named_use-more, on_facts-named, on_facts-within, uses-named, uses-within, within_use-more}
-
-below-not : (n most : ℕ) → n < most → (n == most) ≡ false
-below-not n most below = ⊎_elim (λ (same : (eqb n most ≡ true) × (n ≡ most)). absurd (let equal = same.1 in omega arith)) (λ p. p.0) (eqb_tells n most)
-
-same-is : (n most : ℕ) → n ≡ most → (n == most) ≡ true
-same-is n most is = ⊎_elim (λ p. p.0) (λ (apart : (eqb n most ≡ false) × (n ≢ most)). absurd (apart.1 is)) (eqb_tells n most)
 
 -- an acquisition is of its task and its lock
 module _ (name : List ℕ) (lock : PlainLock) where
@@ -96,12 +90,12 @@ module _ (all : List Position) (old : Scan) (is : IsAt all old) (waits : Bool) (
     classes_fit = rw (← is.classes) (is_one_too_many-fits MOST_CLASSES old.classes lock.class class_fits)
 
     pub fault-deep : length (held_by (events all) name) ≡ MOST_HELD → event_fault (events all) (acquisition waits name lock) ≡ Some TooDeep
-    fault-deep deep = rw (tasks_fit, class-acquired name lock waits, classes_fit, acquired name lock waits, task-acquired name lock waits, same-is (length (held_by (events all) name)) MOST_HELD deep) refl
+    fault-deep deep = rw (tasks_fit, class-acquired name lock waits, classes_fit, acquired name lock waits, task-acquired name lock waits, eq-eqb (length (held_by (events all) name)) MOST_HELD deep) refl
 
     pub fault-none : length (held_by (events all) name) < MOST_HELD → event_fault (events all) (acquisition waits name lock) ≡ None
     fault-none shallow =
         let later = no-later (events all) name lock waits in
-        rw (tasks_fit, class-acquired name lock waits, classes_fit, acquired name lock waits, task-acquired name lock waits, below-not (length (held_by (events all) name)) MOST_HELD shallow, later.is_held, later.nests, later.unmasked, later.exits, later.holds_none, later.enables) refl
+        rw (tasks_fit, class-acquired name lock waits, classes_fit, acquired name lock waits, task-acquired name lock waits, ne_eqb (length (held_by (events all) name)) MOST_HELD (λ same. omega arith), later.is_held, later.nests, later.unmasked, later.exits, later.holds_none, later.enables) refl
 
 -- what is known when the task and the class of an acquisition have their numbers
 pub record Entered (old : Scan) (name class_name : List ℕ) (id number : ℕ) (new : Scan) : Type 0 where

@@ -1,6 +1,6 @@
 -- Chains by their numbers.
 use Rattle.std.proofs.Common.{◌≡◌, ◌⊎◌, inl, inr, ◌<◌, ◌≤◌, ◌+◌, ◌∷◌, [], ◌++◌, List, ℕ, Bool, true, false, true≢false, nat_eq, Option, Some, None, ap, ◌∙◌, sym, subst, arith, refl, length, get_or, if◌then◌else◌, IfSome}
-use Rattle.std.proofs.lemmas.Bool.{eqb-true, eq-eqb, and_parts, and_from, cases_lt}
+use Rattle.std.proofs.lemmas.Bool.{eqb-true, and_parts, cases_lt}
 use Rattle.std.proofs.lemmas.List.{get_or_push, get_or_append_left, length_push}
 use Rattle.std.proofs.lemmas.List.Sums.{fold_push}
 use Rattle.std.proofs.lemmas.Option.{get_or_from_slice_get}
@@ -16,17 +16,10 @@ same_before None (Some y) h = absurd (true≢false (sym h))
 same_before (Some x) None h = absurd (true≢false (sym h))
 same_before (Some x) (Some y) h = ap Some (eqb-true x y h)
 
-same_before_itself : (a : Option ℕ) → option_eq nat_eq a a ≡ true
-same_before_itself None = refl
-same_before_itself (Some x) = eq-eqb x x refl
-
 pub same_link-≡ : (a b : Link) → same_link a b ≡ true → a ≡ b
 same_link-≡ a b h =
     let parts = and_parts (option_eq nat_eq a.before b.before) (nat_eq a.class b.class) h in
     (λ i. record { before = same_before a.before b.before parts.0 i; class = eqb-true a.class b.class parts.1 i })
-
-pub same_link-refl : (a : Link) → same_link a a ≡ true
-same_link-refl a = and_from (option_eq nat_eq a.before a.before) (nat_eq a.class a.class) (same_before_itself a.before) (eq-eqb a.class a.class refl)
 
 -- the chains, with one more
 chains-push : (links : List Link) (link : Link) → chains_of (links ++ link ∷ []) ≡ chains_of links ++ (chain_before (chains_of links) link.before ++ link.class ∷ []) ∷ []

@@ -1,11 +1,11 @@
 -- The flags of a task, frame by frame, after one more event.
-use Rattle.std.proofs.Common.{◌≡◌, ◌<◌, ◌≤◌, ◌+◌, ◌++◌, ◌∷◌, [], List, ℕ, suc, Bool, true, false, ◌&&◌, not, length, map, filter_map, take, drop, reverse, get_or, Option, Some, None, refl, ap, sym, subst, ◌∙◌, arith, if◌then◌else◌, append_assoc, length-append}
+use Rattle.std.proofs.Common.{◌≡◌, ◌<◌, ◌≤◌, ◌++◌, ◌∷◌, [], List, ℕ, Bool, true, false, ◌&&◌, not, length, map, filter_map, take, drop, reverse, get_or, Option, Some, None, refl, ap, sym, subst, ◌∙◌, arith, if◌then◌else◌, length-append}
 use Rattle.std.proofs.lemmas.Bool.{true≢false, ne_eqb, eq-eqb, and_parts, and_from}
-use Rattle.std.proofs.lemmas.List.{append-nil, drop-map, map-append, length_push, length-map, reverse-append, reverse-reverse, length-reverse, take-append-le, take_at}
+use Rattle.std.proofs.lemmas.List.{append-nil, drop-map, map-append, length_push, reverse-append, reverse-reverse, take-append-le, take_at}
 use Rattle.std.proofs.lemmas.List.Elements.{filter_map-append}
 use Rattle.std.proofs.lemmas.Grind.{reverse_onto}
 use Rattle.std.proofs.lemmas.Slice.Eq.{bytes_eq-Decides}
-use Rattle.std.specs.List.{cons_option, last_or, list_any}
+use Rattle.std.specs.List.{cons_option, last_or}
 use Rattle.std.specs.Option.{unwrap_or}
 use Rattle.std.specs.Str.{bytes_eq}
 use Rattle.ld_trace.specs.declared.event.State.{State}
@@ -19,16 +19,12 @@ use Rattle.ld_facts.specs.Flags.{same_state, says_flag, says_flag_in, last_said,
 use Rattle.ld_facts.specs.Levels.{is_interrupt, levels, levels_in, stack, state_of, states}
 use Rattle.ld_facts.specs.declared.outcome.TheConstants.{MOST_TASKS}
 use Rattle.ld_facts.specs.Outcome.{tasks, is_one_too_many, has_too_many_classes, is_too_deep, is_not_held, is_badly_nested, is_masked, is_bad_exit, is_held_at_exit, is_bad_enable, event_fault}
-use Rattle.ld_facts.proofs.PlaceLemmas.{by_pushes}
-use Rattle.ld_facts.proofs.FrameLemmas.{frames-enter, frames-exit, frames-exit_other, frames-exit_none, frames-other, contexts-other}
+use Rattle.ld_facts.proofs.PlaceLemmas.{by_pushes, last_or-push}
+use Rattle.ld_facts.proofs.FrameLemmas.{frames-enter, frames-exit, frames-exit_other, frames-exit_none, frames-other}
 use Rattle.ld_facts.proofs.HeldLemmas.{placed-push}
 
 reverse-push : {X : Type 0} (xs : List X) (x : X) → reverse (xs ++ x ∷ []) ≡ x ∷ reverse xs
 reverse-push xs x = reverse-append xs (x ∷ [])
-
-last_or-push : {X : Type 0} (o : Option X) (xs : List X) (x : X) → last_or o (xs ++ x ∷ []) ≡ Some x
-last_or-push o [] x = refl
-last_or-push o (y ∷ xs) x = last_or-push (Some y) xs x
 
 -- the stack after one more event
 
@@ -185,21 +181,6 @@ levels-head past task state = levels_in-head task state past (stack past task)
 pub flag-levels : (past : List PlainEvent) (task : List ℕ) (state : State) → flag past task state ≡ get_or (levels past task state) 0 true
 flag-levels past task state = sym (ap (λ bs. get_or bs 0 true) (levels-head past task state))
 
--- one level for each frame, and one outside frames
-pub length-levels : (past : List PlainEvent) (task : List ℕ) (state : State) → length (levels past task state) ≡ length (frames past task) + 1
-length-levels past task state = each (stack past task) ∙ ap (λ n. n + 1) (length-reverse (frames past task))
-  where
-    each : (fs : List Frame) → length (levels_in task state past fs) ≡ length fs + 1
-    each [] = refl
-    each (f ∷ fs) = omega (arith, each fs)
-
--- before the first event
-pub levels-empty : (task : List ℕ) (state : State) → levels [] task state ≡ true ∷ []
-levels-empty task state = refl
-
-pub flag-empty : (task : List ℕ) (state : State) → flag [] task state ≡ true
-flag-empty task state = refl
-
 -- what an event doesn't say in these frames, or outside frames, it doesn't change there
 module _ (past : List PlainEvent) (e : PlainEvent) (task : List ℕ) (state : State) (outside : last_said (past ++ e ∷ []) task state None ≡ last_said past task state None) where
   flag_in-kept : (n : ℕ) (fs : List Frame) → ((k : ℕ) → k < n → last_said (past ++ e ∷ []) task state (Some k) ≡ last_said past task state (Some k)) → n ≤ length past → Falls n fs → flag_in task state (past ++ e ∷ []) fs ≡ flag_in task state past fs
@@ -351,23 +332,6 @@ contexts-states past task = ap (filter_map (λ o. state_entered o.element)) (fra
         ∙ (λ i. each fs all.1 i ++ cons_option (all.0 i) [])
         ∙ sym (reverse_onto (map state_of fs) (state_of f) [])
 
-pub length-contexts : (past : List PlainEvent) (task : List ℕ) → length (contexts past task) ≡ length (frames past task)
-length-contexts past task = ap length (contexts-states past task) ∙ length-reverse (states past task) ∙ length-map (stack past task) state_of ∙ length-reverse (frames past task)
-
-pub contexts-enter : (past : List PlainEvent) (task : List ℕ) (state : State) → contexts (past ++ Enter task state ∷ []) task ≡ contexts past task ++ state ∷ []
-contexts-enter past task state =
-    contexts-states (past ++ Enter task state ∷ []) task ∙ ap reverse (states-enter past task state) ∙ reverse_onto (states past task) state [] ∙ ap (λ cs. cs ++ state ∷ []) (sym (contexts-states past task))
-
--- an exit takes the last context
-pub contexts-exit : (past : List PlainEvent) (task : List ℕ) (state : State) (outer : List State) (inner : State) → contexts past task ≡ outer ++ inner ∷ [] → contexts (past ++ Exit task state ∷ []) task ≡ outer
-contexts-exit past task state outer inner is =
-    contexts-states (past ++ Exit task state ∷ []) task
-    ∙ ap reverse (states-exit past task state ∙ ap (drop 1) (sym (reverse-reverse (states past task)) ∙ ap reverse (sym (contexts-states past task) ∙ is) ∙ reverse-push outer inner))
-    ∙ reverse-reverse outer
-
-pub contexts-other_task : (past : List PlainEvent) (task : List ℕ) (e : PlainEvent) → bytes_eq task (task_of e) ≡ false → contexts (past ++ e ∷ []) task ≡ contexts past task
-contexts-other_task past task e other = contexts-states (past ++ e ∷ []) task ∙ ap reverse (states-other past task e other) ∙ sym (contexts-states past task)
-
 -- an exit that is no fault closes a frame
 pub levels-exit_good : (past : List PlainEvent) (task : List ℕ) (left state : State) → is_bad_exit past (Exit task left) ≡ false → levels (past ++ Exit task left ∷ []) task state ≡ drop 1 (levels past task state)
 levels-exit_good past task left state good = each (stack past task) refl
@@ -377,23 +341,6 @@ levels-exit_good past task left state good = each (stack past task) refl
         let none : contexts past task ≡ [] = contexts-states past task ∙ ap (λ gs. reverse (map state_of gs)) is in
         absurd (true≢false (ap (λ cs. not (is_some_and (same_state left) (last_or None cs))) (sym none) ∙ good))
     each (inner ∷ outer) is = levels-exit past task left state inner outer is
-
--- The levels of a task after an event of its own, where its flag was `before`.
-abbrev pub levels_by : State → PlainEvent → Bool → List Bool → List Bool
-levels_by state (Enter by entered) before bs = (if same_state state entered then false else before) ∷ bs
-levels_by state (Exit by left) before bs = drop 1 bs
-levels_by state (Enable by changed) before bs = if same_state state changed then true ∷ drop 1 bs else bs
-levels_by state (Disable by changed) before bs = if same_state state changed then false ∷ drop 1 bs else bs
-levels_by state other before bs = bs
-
-pub levels-own : (past : List PlainEvent) (e : PlainEvent) (state : State) → is_bad_exit past e ≡ false → levels (past ++ e ∷ []) (task_of e) state ≡ levels_by state e (flag past (task_of e) state) (levels past (task_of e) state)
-levels-own past (Acquire t l) state good = levels-quiet past (Acquire t l) t state refl
-levels-own past (Try t l) state good = levels-quiet past (Try t l) t state refl
-levels-own past (Release t l) state good = levels-quiet past (Release t l) t state refl
-levels-own past (Enter t s) state good = levels-enter past t s state
-levels-own past (Exit t s) state good = levels-exit_good past t s state good
-levels-own past (Enable t s) state good = levels-enable past t s state
-levels-own past (Disable t s) state good = levels-disable past t s state
 
 -- the flag and what it enables, after an event of another task
 
@@ -423,9 +370,6 @@ flag-enter past task entered state = flag-levels (past ++ Enter task entered ∷
 first_set : (past : List PlainEvent) (task : List ℕ) (state : State) (to c : Bool) → get_or (if c then to ∷ drop 1 (levels past task state) else levels past task state) 0 true ≡ (if c then to else flag past task state)
 first_set past task state to true = refl
 first_set past task state to false = sym (flag-levels past task state)
-
-pub flag-enable : (past : List PlainEvent) (task : List ℕ) (changed state : State) → flag (past ++ Enable task changed ∷ []) task state ≡ (if same_state state changed then true else flag past task state)
-flag-enable past task changed state = flag-levels (past ++ Enable task changed ∷ []) task state ∙ ap (λ bs. get_or bs 0 true) (levels-enable past task changed state) ∙ first_set past task state true (same_state state changed)
 
 pub flag-disable : (past : List PlainEvent) (task : List ℕ) (changed state : State) → flag (past ++ Disable task changed ∷ []) task state ≡ (if same_state state changed then false else flag past task state)
 flag-disable past task changed state = flag-levels (past ++ Disable task changed ∷ []) task state ∙ ap (λ bs. get_or bs 0 true) (levels-disable past task changed state) ∙ first_set past task state false (same_state state changed)

@@ -1,28 +1,24 @@
 -- The locks of a task, frame by frame, and what stood just before the enter of a frame.
-use Rattle.std.proofs.Common.{◌≡◌, ◌≤◌, ◌+◌, ◌++◌, ◌∷◌, [], List, ℕ, Bool, true, false, ◌&&◌, ◌||◌, not, cond, length, filter, take, drop, get_or, Some, None, refl, ap, sym, subst, ◌∙◌, arith, if◌then◌else◌, append_assoc, length-append}
+use Rattle.std.proofs.Common.{◌≡◌, ◌≤◌, ◌++◌, ◌∷◌, [], List, ℕ, Bool, true, false, ◌&&◌, ◌||◌, not, cond, length, filter, take, drop, get_or, Some, None, refl, ap, sym, subst, ◌∙◌, arith, if◌then◌else◌, append_assoc, length-append}
 use Rattle.std.proofs.lemmas.Bool.{true≢false, and_parts, and_from, ne_eqb}
 use Rattle.std.proofs.lemmas.List.{append-nil, take-append-le, take_at, drop_at}
 use Rattle.std.proofs.lemmas.List.Elements.{filter-append}
 use Rattle.std.proofs.lemmas.List.Folds.{list_all-append}
 use Rattle.std.proofs.lemmas.Slice.Eq.{bytes_eq-Decides}
 use Rattle.std.specs.List.{list_all, list_any}
-use Rattle.std.specs.Option.{unwrap_or}
 use Rattle.std.specs.Str.{bytes_eq}
 use Rattle.ld_trace.specs.declared.event.State.{State}
 use Rattle.ld_trace.specs.Events.{PlainEvent, PlainLock}
 use Rattle.ld_trace.specs.Events.PlainEvent.{Acquire, Try, Release, Enter, Exit, Enable, Disable}
-use Rattle.ld_facts.specs.Open.{is_some_and}
-use Rattle.ld_facts.specs.Frames.{Frame, frame_of, task_of, enters, exits, state_entered}
+use Rattle.ld_facts.specs.Frames.{Frame, frame_of, task_of, enters, exits}
 use Rattle.ld_facts.specs.Held.{Key, same_frame, same_key, lock_acquired, held_by, held_in}
-use Rattle.ld_facts.specs.Flags.{same_state, last_said, flag_in, flag}
 use Rattle.ld_facts.specs.Outcome.{is_held_at_exit}
 use Rattle.ld_facts.specs.Open.{remove_last}
 use Rattle.ld_facts.proofs.OpenLemmas.{remove_last-skip}
 use Rattle.ld_facts.proofs.RemoveLemmas.{list_all-remove_last}
-use Rattle.ld_facts.proofs.PlaceLemmas.{by_pushes}
 use Rattle.ld_facts.proofs.HeldLemmas.{Decides-same_frame, Decides-same_key, held_by-acquires, held_by-releases, held_by-releases_other, held_by-other}
 use Rattle.ld_facts.specs.Levels.{stack, starts, starts_in}
-use Rattle.ld_facts.proofs.FlagLemmas.{stack-enter_own, stack-exit, stack-quiet, stack-other, innermost, frame_of_stack, Falls, falls_below, falls_rest, stack_follows, stack_falls}
+use Rattle.ld_facts.proofs.FlagLemmas.{stack-enter_own, stack-exit, stack-quiet, stack-other, innermost, frame_of_stack, Falls, falls_rest, stack_falls}
 use Rattle.ld_facts.proofs.UsageLemmas.{list_all_mono}
 
 starts_in-push : (past : List PlainEvent) (e : PlainEvent) (task : List ℕ) (n : ℕ) (fs : List Frame) → n ≤ length past → Falls n fs → starts_in (past ++ e ∷ []) task fs ≡ starts_in past task fs

@@ -7,26 +7,25 @@ use Rattle.std.proofs.lemmas.Grind.{reverse_onto}
 use Rattle.std.proofs.lemmas.List.{drop-map, length-map}
 use Rattle.std.proofs.lemmas.List.Folds.{list_any-append}
 use Rattle.std.specs.Prelude.{reverse}
+use Rattle.std.proofs.lemmas.Simd.{map-map}
 use Rattle.ld_trace.specs.declared.event.LineFault.{LineFault}
 use Rattle.ld_trace.specs.declared.event.State.{State}
 use Rattle.ld_trace.specs.declared.event.State.TheVariants.{Hard, Soft}
 use Rattle.ld_trace.specs.Events.{PlainEvent, PlainLock, Position}
-use Rattle.ld_facts.specs.declared.fault.TraceFault.{TraceFault}
 use Rattle.ld_facts.specs.declared.interrupts.Interrupts.{Interrupts}
 use Rattle.ld_facts.specs.Flags.{flag, is_enabled}
 use Rattle.ld_facts.specs.Frames.{contexts, frame_of}
 use Rattle.ld_facts.specs.Held.{Key, held_by, held_in}
 use Rattle.ld_facts.specs.Interrupts.{enabled_now, flag_now, start_now, states_of}
-use Rattle.ld_facts.specs.Levels.{starts, states}
+use Rattle.ld_facts.specs.Levels.{starts}
 use Rattle.ld_facts.specs.Locks.{Hold}
-use Rattle.ld_facts.specs.Outcome.{FaultyLine, event_fault, event_said, events, faulty_lines, said_fault}
+use Rattle.ld_facts.specs.Outcome.{event_said, events, faulty_lines, said_fault}
 use Rattle.ld_facts.specs.Reading.{IsTask}
 use Rattle.ld_facts.proofs.FlagLemmas.{contexts-states, flag-levels, no_fault_parts}
 use Rattle.ld_facts.proofs.GroupLemmas.{IsGrouped, grouped-empty, grouped-push, held_in-innermost}
 use Rattle.ld_facts.proofs.NamedLemmas.{holds-names}
-use Rattle.ld_facts.proofs.UsageLemmas.{map-map}
 use Rattle.ld_facts.proofs.OutcomeLemmas.{events-push, faulty, faulty_lines-push}
-use Rattle.ld_facts.proofs.PlaceLemmas.{by_pushes}
+use Rattle.ld_facts.proofs.PlaceLemmas.{by_pushes, last_or-push}
 
 both_empty : {X : Type 0} (xs ys : List X) → xs ++ ys ≡ [] → (xs ≡ []) × (ys ≡ [])
 both_empty [] ys none = (refl, none)
@@ -58,10 +57,6 @@ any_reverse p (x ∷ xs) = ap (list_any p) (reverse_onto xs x []) ∙ list_any-a
     turned true false = refl
     turned false true = refl
     turned false false = refl
-
-last_or-push : {X : Type 0} (o : Option X) (xs : List X) (x : X) → last_or o (xs ++ x ∷ []) ≡ Some x
-last_or-push o [] x = refl
-last_or-push o (y ∷ xs) x = last_or-push (Some y) xs x
 
 last-reverse : {X : Type 0} (xs : List X) → last_or None (reverse xs) ≡ slice_get xs 0
 last-reverse [] = refl

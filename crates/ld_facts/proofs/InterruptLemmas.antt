@@ -1,5 +1,5 @@
 -- The interrupt verbs, seen through what the scan keeps of their task.
-use Rattle.std.proofs.Common.{◌≡◌, ◌≢◌, ◌<◌, ◌≤◌, ◌-◌, ◌++◌, ◌∷◌, [], ◌∙◌, Bool, true, false, not, ℕ, List, Option, None, Some, fold, length, map, drop, get_or, refl, ap, sym, subst, arith, if◌then◌else◌, All}
+use Rattle.std.proofs.Common.{◌≡◌, ◌≢◌, ◌<◌, ◌≤◌, ◌-◌, ◌++◌, ◌∷◌, [], ◌∙◌, Bool, true, false, not, ℕ, List, None, Some, fold, length, map, drop, get_or, refl, ap, sym, subst, arith, if◌then◌else◌, All}
 use Rattle.std.specs.Prelude.{slice_get}
 use Rattle.std.specs.List.{list_any}
 use Rattle.std.proofs.lemmas.List.{length-drop, length-map}
@@ -35,7 +35,7 @@ use Rattle.ld_facts.proofs.MovedLemmas.{Changed, own-before, shallow-before, tas
 use Rattle.ld_facts.proofs.NamedLemmas.{distinct-classes, holds-within}
 use Rattle.ld_facts.proofs.PlaceLemmas.{with_new}
 use Rattle.ld_facts.proofs.ReleaseLemmas.{uses-uncounted}
-use Rattle.ld_facts.proofs.UsageLemmas.{at_line, new_keys, new_uses_at, on_use, uses_in, uses_once, uses_once-push_new, waits_for, with_uses}
+use Rattle.ld_facts.proofs.UsageLemmas.{new_keys, on_use, uses_in, uses_once, uses_once-push_new, waits_for, with_uses}
 use Rattle.ld_facts.proofs.UseLemmas.{on_facts-named, on_facts-within, uses-named, uses-within}
 
 not_not : (b : Bool) → b ≡ not (not b)

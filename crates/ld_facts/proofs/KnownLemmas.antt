@@ -2,7 +2,6 @@
 use Rattle.std.proofs.Common.{◌≡◌, ◌+◌, ◌<◌, ◌++◌, ◌∷◌, [], ◌||◌, List, ℕ, Bool, true, false, length, map, filter_map, get_or, Some, None, Ok, Err, refl, ap, sym, subst, ◌∙◌, arith, if◌then◌else◌, append_assoc, length-append}
 use Rattle.std.specs.Prelude.{AllPairs, slice_get}
 use Rattle.std.specs.List.{cons_option, enumerate_from, list_any}
-use Rattle.std.specs.Option.{option_map}
 use Rattle.std.proofs.lemmas.Bool.{true≢false}
 use Rattle.std.proofs.lemmas.List.{append-nil, get_or-map, length-map}
 use Rattle.std.proofs.lemmas.List.Quantifiers.{all_pairs_push}
@@ -16,7 +15,7 @@ use Rattle.ld_facts.specs.declared.fault.TraceFault.{TraceFault}
 use Rattle.ld_facts.specs.declared.outcome.Outcome.TheVariants.{Read, Refused}
 use Rattle.ld_facts.specs.declared.scan.Scan.{Scan}
 use Rattle.ld_facts.specs.Outcome.{each_once, classes, event_fault, events, faulty_lines, outcome, outcome_by, of_line, said_fault}
-use Rattle.ld_facts.specs.Dependency.{Dependency, Seen, dependencies_at, first_line, same_dependency, seen}
+use Rattle.ld_facts.specs.Dependency.{Dependency, Seen, dependencies_at, least_line, same_dependency, seen}
 use Rattle.ld_facts.specs.Union.{if_read}
 use Rattle.ld_facts.specs.Facts.{IsKnown, named, named_use}
 use Rattle.ld_facts.specs.Usage.{Use, bit_of, same_use, uses_at}
@@ -24,9 +23,11 @@ use Rattle.ld_facts.specs.Uses.{same_what}
 use Rattle.ld_facts.specs.declared.uses.UsageFact.{UsageFact}
 use Rattle.ld_facts.specs.Reading.{IsAt, IsReadTo, happens, positions_from, same_seen}
 use Rattle.ld_facts.proofs.OutcomeLemmas.{first_fault}
-use Rattle.ld_facts.proofs.PlaceLemmas.{alike_from_decides, by_pushes, each_once-more, find_each_once}
+use Rattle.ld_facts.proofs.PlaceLemmas.{alike_from_decides, by_pushes, each_once-more}
 use Rattle.ld_facts.proofs.StepLemmas.{Decides-same_dependency}
-use Rattle.ld_facts.proofs.UsageLemmas.{Decides-same_use, first_line-once, same_what-alike}
+use Rattle.ld_facts.proofs.UsageLemmas.{Decides-same_use, same_what-alike}
+use Rattle.ld_facts.proofs.LeastLemmas.{least_once, seen-Ascend}
+use Rattle.ld_trace.proofs.PositionLemmas.{positions-ascend}
 
 -- the positions of lines, by the first of them
 positions-first : (line : ℕ) (rest first others : List ℕ) (said : Said) → lines rest ≡ first ∷ lines others → said_by (text_of first) ≡ said → positions_from line rest ≡ cons_option (position_of line said) (positions_from (line + 1) others)
@@ -72,11 +73,6 @@ module _ (names : List (List ℕ)) (edges : List EdgeFact) (shown : List (Seen D
       let there : get_or (map (named names) edges) j (named names d) ≡ named names (get_or edges j d) = get_or-map (named names) edges j d (named names d) below in
       let alike : (named names (get_or edges j d)).what ≡ (named names (get_or edges i d)).what = (λ k. record { from = get_or names (sym both.0 k) []; to = get_or names (sym both.1 k) [] }) in
       true≢false (sym ((Decides-same_dependency (named names (get_or edges j d)).what (named names (get_or edges i d)).what).1 alike) ∙ (λ k. same_seen (sym there k) (sym here k)) ∙ differ)
-
-  least_named : (what : Dependency) → first_line same_dependency (map (named names) edges) what ≡ first_line same_dependency shown what
-  least_named what =
-      ap (λ xs. first_line same_dependency xs what) is
-      ∙ ap (option_map (λ s. s.line)) (find_each_once same_seen alike_seen (record { what = what; line = 0 }) shown)
 
 -- numbered usage bits that are these by name, each once
 once_used : (names : List (List ℕ)) (uses : List UsageFact) (shown : List (Seen Use)) → map (named_use names) uses ≡ each_once same_what shown → AllPairs (λ u v. (u.class ≡ v.class) × (u.bit ≡ v.bit) → ⊥) uses
@@ -131,6 +127,7 @@ module _ (source : PlainSource) (line : ℕ) (rest : List ℕ) (scan : Scan) (co
 pub read-known : (source : PlainSource) (line : ℕ) (rest : List ℕ) (scan : Scan) (count : ℕ) → Fits source → IsReadTo source line rest scan count → rest ≡ [] → IsKnown (record { source = source; outcome = Read count; classes = scan.classes; edges = scan.locks.edges; usage = scan.uses })
 read-known source line rest scan count fits read ended =
     let all : positions source ≡ read.before = read.whole ∙ ap (λ bytes. read.before ++ positions_from line bytes) ended ∙ append-nil read.before in
+    let ascend : AllPairs (λ p q. p.line < q.line) read.before = subst (AllPairs (λ p q. p.line < q.line)) all (positions-ascend source) in
     let is : outcome source ≡ Read count =
     (λ i. outcome_by (length (all i)) (slice_get (faulty_lines (all i)) 0)) ∙ (λ i. outcome_by (sym read.counted i) (slice_get (read.scanned.clean i) 0)) in
     record {
@@ -141,14 +138,15 @@ read-known source line rest scan count fits read ended =
       within = read.scanned.within;
       once = once_named scan.classes scan.locks.edges (seen dependencies_at read.before) read.scanned.edges;
       edges = λ what.
-          least_named scan.classes scan.locks.edges (seen dependencies_at read.before) read.scanned.edges what
-          ∙ (λ i. first_line same_dependency (if_read (sym is i) (seen dependencies_at (sym all i))) what);
+          ap (λ es. least_line same_dependency es what) read.scanned.edges
+          ∙ least_once same_dependency (alike_from_decides same_dependency Decides-same_dependency) (seen dependencies_at read.before) (seen-Ascend dependencies_at read.before ascend) what
+          ∙ (λ i. least_line same_dependency (if_read (sym is i) (seen dependencies_at (sym all i))) what);
       used_within = read.scanned.used;
       used_once = once_used scan.classes scan.uses (seen uses_at read.before) read.scanned.uses;
       usage = λ what.
-          ap (λ us. first_line same_use us what) read.scanned.uses
-          ∙ first_line-once read.before what
-          ∙ (λ i. first_line same_use (if_read (sym is i) (seen uses_at (sym all i))) what);
+          ap (λ us. least_line same_use us what) read.scanned.uses
+          ∙ least_once same_use (alike_from_decides same_use Decides-same_use) (seen uses_at read.before) (seen-Ascend uses_at read.before ascend) what
+          ∙ (λ i. least_line same_use (if_read (sym is i) (seen uses_at (sym all i))) what);
     }
 
 -- before the first line

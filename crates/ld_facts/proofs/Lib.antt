@@ -19,5 +19,6 @@ pub mod StepLemmas
 pub mod TaskLemmas
 pub mod UsageLemmas
 pub mod UseLemmas
+pub mod LeastLemmas
 pub mod KnownLemmas
 pub mod ReleaseLemmas

@@ -6,6 +6,7 @@ use Rattle.std.proofs.Math.Seq.{take-add}
 use Rattle.std.proofs.lemmas.List.{append-nil, map-append, length-map, length-set, length_push, get_or_push, get_or_append_left, drop-append-le, take-append-le, take-append-drop, take_all, length-append, length-take-le, append_assoc, length-drop, drop-drop, drop-map, drop-take, map_more, drop_all, get_or-take, take-take, take-map, set-get_or, set-set, map-set, get_or-set_same, get_or-set_other}
 use Rattle.std.proofs.lemmas.List.Folds.{list_any-append, Any-from_list_any}
 use Rattle.std.proofs.lemmas.List.Elements.{All-push, All-weaker}
+use Rattle.std.proofs.lemmas.Simd.{map-map}
 use Rattle.std.specs.List.{All, last_or, list_all, list_any}
 use Rattle.ld_facts.specs.declared.chains.Link.{Link}
 use Rattle.ld_facts.specs.declared.edges.EdgeFact.{EdgeFact}
@@ -21,8 +22,9 @@ use Rattle.ld_facts.specs.Open.{remove_last}
 use Rattle.ld_facts.specs.Locks.{Hold, Known, IsMoved, is_of, hold_of, holds_of, known_of, classes_held, chain_of, IsChain, AreChainedBelow, AreChained, AreChainedIn, IsExtended, IsTold, AreTied}
 use Rattle.ld_facts.proofs.OpenLemmas.{remove_last-none}
 use Rattle.ld_facts.proofs.RemoveLemmas.{list_any-map, map-remove_last}
-use Rattle.ld_facts.proofs.PlaceLemmas.{by_pushes}
+use Rattle.ld_facts.proofs.PlaceLemmas.{by_pushes, last_or-push}
 use Rattle.ld_facts.proofs.ChainLemmas.{same_link-≡}
+use Rattle.ld_facts.proofs.UsageLemmas.{list_all_mono}
 
 -- what is there stays as more are added
 
@@ -78,15 +80,7 @@ within_kept a b (Some n) h within = let x = h.more in omega arith
 pub IsTold-kept : (a b : List (List ℕ)) (edges : List EdgeFact) (link : Link) → IsExtended a b → IsTold a edges link → IsTold b edges link
 IsTold-kept a b edges link h is = record { known = within_kept a b link.before h is.known; told = ap (list_all (λ from. list_any (same_pair (edge_to link.class 0 from)) edges)) (before_kept a b link.before h is.known) ∙ is.told }
 
-all_more : (p q : ℕ → Bool) → ((n : ℕ) → p n ≡ true → q n ≡ true) → (xs : List ℕ) → list_all p xs ≡ true → list_all q xs ≡ true
-all_more p q more [] all = refl
-all_more p q more (x ∷ xs) all = let parts = and_parts (p x) (list_all p xs) all in and_from (q x) (list_all q xs) (more x parts.0) (all_more p q more xs parts.1)
-
 -- the chain of a stack
-
-last_or-push : {X : Type 0} (o : Option X) (xs : List X) (x : X) → last_or o (xs ++ x ∷ []) ≡ Some x
-last_or-push o [] x = refl
-last_or-push o (y ∷ xs) x = last_or-push (Some y) xs x
 
 chain_of-push : (stack : List PlainHeld) (held : PlainHeld) → chain_of (stack ++ held ∷ []) ≡ Some held.chain
 chain_of-push stack held = ap (last_or None) (map-append (λ h. h.chain) stack (held ∷ [])) ∙ last_or-push None (map (λ h. h.chain) stack) held.chain
@@ -211,10 +205,6 @@ get_or_push_same [] d (suc i) = refl
 get_or_push_same (x ∷ xs) d zero = refl
 get_or_push_same (x ∷ xs) d (suc i) = get_or_push_same xs d i
 
-pub map_map : {X Y Z : Type 0} (f : X → Y) (g : Y → Z) (xs : List X) → map g (map f xs) ≡ map (λ x. g (f x)) xs
-map_map f g [] = refl
-map_map f g (x ∷ xs) = ap (λ ys. g (f x) ∷ ys) (map_map f g xs)
-
 link_told : (P : Link → Type 0) (links : List Link) (link : Link) → All P links → list_any (same_link link) links ≡ true → P link
 link_told P links link all there =
     let found = Any-from_list_any (same_link link) links there in
@@ -251,7 +241,7 @@ module _ (stacks : List PlainStack) (chains : List (List ℕ)) (told : List Link
   pub tied_more : (new : List EdgeFact) → ((test : EdgeFact → Bool) → list_any test edges ≡ true → list_any test new ≡ true) → AreTied stacks chains told new
   tied_more new kept = record {
     chained = tied.chained;
-    complete = All-weaker (λ link. IsTold chains edges link) (λ link. IsTold chains new link) (λ link is. record { known = is.known; told = all_more (λ from. list_any (same_pair (edge_to link.class 0 from)) edges) (λ from. list_any (same_pair (edge_to link.class 0 from)) new) (λ from there. kept (same_pair (edge_to link.class 0 from)) there) (chain_before chains link.before) is.told }) told tied.complete;
+    complete = All-weaker (λ link. IsTold chains edges link) (λ link. IsTold chains new link) (λ link is. record { known = is.known; told = list_all_mono (λ from. list_any (same_pair (edge_to link.class 0 from)) edges) (λ from. list_any (same_pair (edge_to link.class 0 from)) new) (λ from there. kept (same_pair (edge_to link.class 0 from)) there) (chain_before chains link.before) is.told }) told tied.complete;
   }
 
   -- the innermost frame's locks are there
@@ -269,7 +259,7 @@ module _ (stacks : List PlainStack) (chains : List (List ℕ)) (told : List Link
       (λ i. record (known_of stacks edges) { edges = sym all i })
     where
       froms : map (λ (h : Hold). h.class) (drop (start_now (get_or (known_of stacks edges).interrupts task fresh)) (get_or (known_of stacks edges).stacks task [])) ≡ classes_held (inner (get_or stacks task empty_stack))
-      froms = ap (map (λ (h : Hold). h.class)) (inner_at stacks task) ∙ map_map hold_of (λ (h : Hold). h.class) (inner (get_or stacks task empty_stack))
+      froms = ap (map (λ (h : Hold). h.class)) (inner_at stacks task) ∙ map-map (λ (h : Hold). h.class) hold_of (inner (get_or stacks task empty_stack))
 
       is_told : IsTold chains edges (record { before = before; class = class })
       is_told = link_told (λ link. IsTold chains edges link) told (record { before = before; class = class }) tied.complete there
@@ -331,7 +321,7 @@ pub told_shown : {E : Type 0} (r : Result (Unit {0}) E) (stacks : List PlainStac
 told_shown r stacks edges known task class line new is told = by r
   where
     froms : map (λ (h : Hold). h.class) (drop (start_now (get_or (known_of stacks edges).interrupts task fresh)) (get_or (known_of stacks edges).stacks task [])) ≡ classes_held (inner (get_or stacks task empty_stack))
-    froms = ap (map (λ (h : Hold). h.class)) (inner_at stacks task) ∙ map_map hold_of (λ (h : Hold). h.class) (inner (get_or stacks task empty_stack))
+    froms = ap (map (λ (h : Hold). h.class)) (inner_at stacks task) ∙ map-map (λ (h : Hold). h.class) hold_of (inner (get_or stacks task empty_stack))
 
     edges_are : new ≡ fold with_edge edges (map (edge_to class line) (map (λ (h : Hold). h.class) (drop (start_now (get_or (known_of stacks edges).interrupts task fresh)) (get_or (known_of stacks edges).stacks task []))))
     edges_are = told ∙ ap (λ fs. fold with_edge edges (map (edge_to class line) fs)) (sym froms)
@@ -409,7 +399,7 @@ holds_shown stacks edges known task is = sym (holds_at stacks task) ∙ ap (λ (
 
 -- the locks that a task holds, as callers see them
 pub held_shown : (stacks : List PlainStack) (edges : List EdgeFact) (known : Known) (task : ℕ) → known_of stacks edges ≡ known → (held : List Held) → map plain_held held ≡ (get_or stacks task empty_stack).held → holds_of held ≡ get_or known.stacks task []
-held_shown stacks edges known task is held same = sym (map_map plain_held hold_of held) ∙ ap (map hold_of) same ∙ holds_shown stacks edges known task is
+held_shown stacks edges known task is held same = sym (map-map hold_of plain_held held) ∙ ap (map hold_of) same ∙ holds_shown stacks edges known task is
 
 -- what holds of the frames and flags that were read and written, as callers see them
 pub shown_as : (R : Interrupts → Interrupts → Type 0) (old before new after : Interrupts) → old ≡ before → after ≡ new → R old new → R before after

@@ -1,6 +1,6 @@
 -- One more event without a fault moves the scan one position further: its own task is as the event leaves
 -- it, and all other tasks stay.
-use Rattle.std.proofs.Common.{◌≡◌, ◌≢◌, ◌<◌, ◌≤◌, ◌++◌, ◌∷◌, [], ◌∙◌, ⊎_elim, eqb, Bool, true, false, ℕ, List, None, fold, length, map, ap, sym, subst, arith, get_or, All}
+use Rattle.std.proofs.Common.{◌≡◌, ◌≢◌, ◌<◌, ◌≤◌, ◌++◌, ◌∷◌, [], ◌∙◌, ⊎_elim, eqb, true, false, ℕ, List, None, fold, length, map, ap, sym, subst, get_or, All}
 use Rattle.std.proofs.lemmas.Bool.Decides.{eqb_tells}
 use Rattle.ld_class.specs.Names.{IsNameAt, place_of, with_name}
 use Rattle.ld_trace.specs.Events.{PlainEvent, Position}
@@ -18,7 +18,7 @@ use Rattle.ld_facts.specs.Uses.{same_what}
 use Rattle.ld_facts.proofs.OutcomeLemmas.{events-push, no_fault}
 use Rattle.ld_facts.proofs.PlaceLemmas.{with_new}
 use Rattle.ld_facts.proofs.StepLemmas.{classes-other, dependencies-push, tasks-push}
-use Rattle.ld_facts.proofs.TaskLemmas.{scan_not_too_many_tasks, task-at, task-distinct, task-other, task-unmoved, with_name-few}
+use Rattle.ld_facts.proofs.TaskLemmas.{scan_not_too_many_tasks, task-at, task-other, task-unmoved, with_name-few}
 
 pub record Moved (all : List Position) (old : Scan) (e : PlainEvent) (line id : ℕ) (new : Scan) : Type 0 where
   pub fault : event_fault (events all) e ≡ None

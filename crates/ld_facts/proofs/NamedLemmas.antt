@@ -13,7 +13,6 @@ use Rattle.ld_class.specs.Names.{AreDistinct, IsNameAt, place_of, with_name}
 use Rattle.ld_class.proofs.NameLemmas.{place_of-None, with_name-known, with_name-new}
 use Rattle.ld_trace.specs.Events.{PlainEvent}
 use Rattle.ld_facts.specs.declared.edges.EdgeFact.{EdgeFact}
-use Rattle.ld_facts.specs.Dependency.{Dependency}
 use Rattle.ld_facts.specs.Edges.{edge_to, same_pair, with_edge}
 use Rattle.ld_facts.specs.Locks.{Hold}
 use Rattle.ld_facts.specs.Outcome.{class_acquired, classes, each_once}

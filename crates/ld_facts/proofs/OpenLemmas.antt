@@ -1,5 +1,6 @@
 -- What is open of a list, one element at a time.
 use Rattle.std.proofs.Common.{◌≡◌, ◌≤◌, ◌<◌, ◌+◌, ◌-◌, ◌++◌, ◌∷◌, [], List, ℕ, zero, suc, Bool, true, false, ◌&&◌, ◌||◌, cond, eqb, leb, length, take, drop, Option, Some, None, refl, ap, sym, ◌∙◌, arith, append_assoc, length-append, count_by, filter_map, if◌then◌else◌}
+use Rattle.std.proofs.Math.Bool.{and-false}
 use Rattle.std.proofs.lemmas.Bool.Decides.{nat_tests}
 use Rattle.std.proofs.lemmas.Bool.{true≢false, or_parts, le-leb, lt-leb, ne_eqb, eqb-true}
 use Rattle.std.proofs.lemmas.List.{take-append-le, take_all, append-nil, drop_at}
@@ -163,10 +164,6 @@ and_true : (b : Bool) → (b && true) ≡ b
 and_true true = refl
 and_true false = refl
 
-and_false : (b : Bool) → (b && false) ≡ false
-and_false true = refl
-and_false false = refl
-
 -- what the laws below ask of keys: the test tells equal keys, and no element both opens and closes
 pub record HasKeys {X K : Type 0} (same : K → K → Bool) (opened closed : X → Option K) : Type 0 where
   pub decides : (a b : K) → Decides (same a b) (a ≡ b)
@@ -231,7 +228,7 @@ module _ {X K : Type 0} (same : K → K → Bool) (opened closed : X → Option 
       by : (b : Bool) → count_by (has same opened closed key) (cons_option (if b then Some (record { place = n; element = x; key = k }) else None) others) ≡ cond (same key k && b) 1 0 + count_by (has same opened closed key) others
       by true = sum_by-cons (λ o. cond (has same opened closed key o) 1 0) (record { place = n; element = x; key = k }) others ∙ ap (λ b. cond b 1 0 + count_by (has same opened closed key) others) (sym (and_true (same key k)))
       by false = let none : count_by (has same opened closed key) others ≡ 0 + count_by (has same opened closed key) others = omega arith in
-          none ∙ ap (λ b. cond b 1 0 + count_by (has same opened closed key) others) (sym (and_false (same key k)))
+          none ∙ ap (λ b. cond b 1 0 + count_by (has same opened closed key) others) (sym (and-false (same key k)))
 
   -- a key that is the same stays as long
   stays_same : (key k : K) (later : List X) → (same key k && stays (opens same opened closed k) (closes same opened closed k) later) ≡ (same key k && eqb (deficit (opens same opened closed key) (closes same opened closed key) later) 0)

@@ -5,7 +5,7 @@ use Rattle.std.proofs.lemmas.List.{take-append-le, take_at, append-nil}
 use Rattle.std.proofs.lemmas.List.Elements.{filter_map-append}
 use Rattle.std.proofs.lemmas.List.Folds.{list_any-append, find-append}
 use Rattle.std.specs.Bool.{Decides}
-use Rattle.std.specs.List.{cons_option, enumerate_from, find, fold, list_all, list_any}
+use Rattle.std.specs.List.{cons_option, enumerate_from, find, fold, last_or, list_all, list_any}
 use Rattle.std.specs.Option.{option_or}
 use Rattle.ld_facts.specs.Outcome.{each_once}
 
@@ -43,6 +43,11 @@ enumerate_push n [] x = let same : n ≡ n + 0 = omega arith in ap (λ m. (m, x)
 enumerate_push n (y ∷ xs) x =
     let next : (n + 1) + length xs ≡ n + suc (length xs) = omega arith in
     ap (λ ps. (n, y) ∷ ps) (enumerate_push (n + 1) xs x ∙ ap (λ m. enumerate_from (n + 1) xs ++ (m, x) ∷ []) next)
+
+-- the last element is the one at the end
+pub last_or-push : {X : Type 0} (o : Option X) (xs : List X) (x : X) → last_or o (xs ++ x ∷ []) ≡ Some x
+last_or-push o [] x = refl
+last_or-push o (y ∷ xs) x = last_or-push (Some y) xs x
 
 module _ {X Y : Type 0} where
   -- what agrees at each place below the end gives the same

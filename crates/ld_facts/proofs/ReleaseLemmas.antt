@@ -35,7 +35,7 @@ use Rattle.ld_facts.proofs.FlagLemmas.{levels-quiet, stack-quiet}
 use Rattle.ld_facts.proofs.GroupLemmas.{IsGrouped, held_in-innermost, outer_elsewhere, remove_last-append, starts-kept}
 use Rattle.ld_facts.proofs.InnerLemmas.{clean-grouped, inner-is, start-is}
 use Rattle.ld_facts.proofs.MovedLemmas.{own-before, shallow-before, tasks-fit, unacquired}
-use Rattle.ld_facts.proofs.UsageLemmas.{new_keys, new_uses, on_use, uses_in, uses_once, uses_once-push_new, waits_for, with_uses}
+use Rattle.ld_facts.proofs.UsageLemmas.{list_all-filter, list_all_mono, new_keys, new_uses, on_use, uses_in, uses_once, uses_once-push_new, waits_for, with_uses}
 
 -- two tests that agree at each element of which a third holds
 module _ {X : Type 0} (p q r : X → Bool) (same : (x : X) → r x ≡ true → p x ≡ q x) where
@@ -53,14 +53,11 @@ module _ {X : Type 0} (p q r : X → Bool) (same : (x : X) → r x ≡ true → 
 
 -- what passes a filter, and another test where all do
 all_both : {X : Type 0} (p q : X → Bool) (xs : List X) → list_all q xs ≡ true → list_all (λ x. p x && q x) (filter p xs) ≡ true
-all_both p q [] all = refl
-all_both p q (x ∷ xs) all =
-    let parts = and_parts (q x) (list_all q xs) all in
-    by (p x) refl parts.0 (all_both p q xs parts.1)
+all_both p q xs all = list_all-filter (λ x. p x && q x) p xs ∙ list_all_mono q (λ x. not (p x) || (p x && q x)) (λ x passes. by (p x) passes) xs all
   where
-    by : (b : Bool) → p x ≡ b → q x ≡ true → list_all (λ y. p y && q y) (filter p xs) ≡ true → list_all (λ y. p y && q y) (cond b (x ∷ filter p xs) (filter p xs)) ≡ true
-    by true is here rest = and_from (p x && q x) (list_all (λ y. p y && q y) (filter p xs)) (and_from (p x) (q x) is here) rest
-    by false is here rest = rest
+    by : (b : Bool) {c : Bool} → c ≡ true → (not b || (b && c)) ≡ true
+    by true passes = passes
+    by false passes = refl
 
 pub All-remove_last : {X : Type 0} (P : X → Type 0) (p : X → Bool) (xs : List X) → All P xs → All P (remove_last p xs)
 All-remove_last P p [] all = all

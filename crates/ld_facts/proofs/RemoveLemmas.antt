@@ -59,10 +59,6 @@ remove_last-push p (y ∷ xs) x passes =
     let found : list_any p (xs ++ x ∷ []) ≡ true = list_any-append p xs (x ∷ []) ∙ or_right (list_any p xs) (p x || false) (or_left (p x) false passes) in
     rw found (ap (λ ys. y ∷ ys) (remove_last-push p xs x passes))
 
--- two tests that agree at each element
-pub remove_last_agree : {X : Type 0} (p q : X → Bool) → ((x : X) → p x ≡ q x) → (xs : List X) → remove_last p xs ≡ remove_last q xs
-remove_last_agree {X} p q same xs = ap (λ (r : X → Bool). remove_last r xs) (λ i x. same x i)
-
 -- what holds of each element holds of each that is left
 pub list_all-remove_last : {X : Type 0} (p q : X → Bool) (xs : List X) → list_all q xs ≡ true → list_all q (remove_last p xs) ≡ true
 list_all-remove_last p q [] all = refl

@@ -1,5 +1,6 @@
 -- The tasks of a scan before and after the task of one more event, and what a task that is new to the trace holds.
-use Rattle.std.proofs.Common.{◌≡◌, ◌≢◌, ◌<◌, ◌≤◌, ◌++◌, ◌∷◌, [], ◌||◌, ◌&&◌, List, ℕ, Bool, true, false, not, length, map, get_or, Option, Some, None, refl, ap, sym, subst, ◌∙◌, ◌⊎◌, inl, inr, arith, if◌then◌else◌, eqb, length-append}
+use Rattle.std.proofs.Common.{◌≡◌, ◌≢◌, ◌<◌, ◌≤◌, ◌++◌, ◌∷◌, [], ◌||◌, ◌&&◌, List, ℕ, Bool, true, false, not, length, map, get_or, Option, Some, None, refl, ap, sym, subst, ◌∙◌, ◌⊎◌, inl, inr, arith, eqb, length-append}
+use Rattle.std.proofs.Math.Bool.{and-false}
 use Rattle.std.proofs.Math.Seq.{get_or-append_seam}
 use Rattle.std.proofs.lemmas.Bool.{or_parts, eq-eqb, ne_eqb, cases_lt}
 use Rattle.std.proofs.lemmas.List.{map-append, get_or_append_left, get_or_past}
@@ -30,10 +31,6 @@ use Rattle.ld_facts.proofs.FlagLemmas.{levels-other, stack-other, states-other}
 use Rattle.ld_facts.proofs.GroupLemmas.{held_by-other_task, starts-kept}
 use Rattle.ld_facts.proofs.StepLemmas.{tasks-push}
 
-and_false : (b : Bool) → (b && false) ≡ false
-and_false true = refl
-and_false false = refl
-
 -- the test whether a name is one too many
 module _ (most : ℕ) (names : List (List ℕ)) (name : List ℕ) where
   pub is_one_too_many-full : place_of names name ≡ None → most ≤ length names → length names ≤ most → is_one_too_many most names name ≡ true
@@ -42,7 +39,7 @@ module _ (most : ℕ) (names : List (List ℕ)) (name : List ℕ) where
       (λ i. eq-eqb (length names) most full i && not (list_any-new names name new i))
 
   pub is_one_too_many-known : (id : ℕ) → place_of names name ≡ Some id → is_one_too_many most names name ≡ false
-  is_one_too_many-known id known = ap (λ b. eqb (length names) most && not b) (list_any-known names name id known) ∙ and_false (eqb (length names) most)
+  is_one_too_many-known id known = ap (λ b. eqb (length names) most && not b) (list_any-known names name id known) ∙ and-false (eqb (length names) most)
 
   pub is_one_too_many-fits : (place_of names name ≡ None → length names < most) → is_one_too_many most names name ≡ false
   is_one_too_many-fits fits = by (place_of names name) refl

@@ -6,10 +6,10 @@ use Rattle.std.proofs.lemmas.List.{append-nil, map-append}
 use Rattle.std.proofs.lemmas.List.Elements.{filter-append}
 use Rattle.std.proofs.lemmas.List.Folds.{list_any-append, list_all-map}
 use Rattle.std.proofs.lemmas.List.Sums.{fold-append}
+use Rattle.std.proofs.lemmas.Simd.{map-map}
 use Rattle.std.proofs.lemmas.Slice.Eq.{bytes_eq-Decides}
 use Rattle.std.specs.Bool.{Decides}
 use Rattle.std.specs.List.{list_all, list_any}
-use Rattle.std.specs.Option.{option_map}
 use Rattle.std.specs.Str.{bytes_eq}
 use Rattle.ld_trace.specs.declared.event.LineFault.{LineFault}
 use Rattle.ld_trace.specs.declared.event.State.{State}
@@ -21,22 +21,18 @@ use Rattle.ld_facts.specs.Levels.{is_interrupt}
 use Rattle.ld_facts.specs.Held.{Key, held, held_by, lock_acquired, same_key}
 use Rattle.ld_facts.specs.Flags.{same_state, is_enabled}
 use Rattle.ld_facts.specs.Outcome.{each_once, events}
-use Rattle.ld_facts.specs.Dependency.{Seen, seen_at, seen, first_line}
+use Rattle.ld_facts.specs.Dependency.{Seen, seen_at, seen}
 use Rattle.ld_facts.specs.Usage.{Bit, same_bit, Use, same_use, in_uses, on_uses, uses_at}
 use Rattle.ld_facts.specs.Uses.{same_what}
 use Rattle.ld_facts.specs.Usage.Bit.{In, On}
 use Rattle.ld_facts.proofs.RemoveLemmas.{filter-remove_other, list_any-map, list_all-remove_last}
-use Rattle.ld_facts.proofs.PlaceLemmas.{with_new, all_known, by_pushes, each_once-append, find_each_once, any_each_once}
+use Rattle.ld_facts.proofs.PlaceLemmas.{with_new, all_known, by_pushes, each_once-append, any_each_once}
 use Rattle.ld_facts.proofs.FrameLemmas.{contexts-other}
 use Rattle.ld_facts.proofs.HeldLemmas.{Decides-same_key, held-acquires, held-releases, held-other, held_by-acquires, held_by-releases, held_by-other}
 use Rattle.ld_facts.proofs.OutcomeLemmas.{events-push, seen-push}
 use Rattle.ld_facts.proofs.FlagLemmas.{is_enabled-other, is_enabled-quiet, enabled_before_enter, enabled_before_disable}
 
 -- Lists.
-
-pub map-map : {X Y Z : Type 0} (g : Y → Z) (f : X → Y) (xs : List X) → map g (map f xs) ≡ map (λ x. g (f x)) xs
-map-map g f [] = refl
-map-map g f (x ∷ xs) = ap (λ ys. g (f x) ∷ ys) (map-map g f xs)
 
 pub list_all_mono : {X : Type 0} (p q : X → Bool) → ((x : X) → p x ≡ true → q x ≡ true) → (xs : List X) → list_all p xs ≡ true → list_all q xs ≡ true
 list_all_mono p q more [] all = refl
@@ -205,28 +201,6 @@ own_keys now task state = filter_where (λ key. bytes_eq task key.task) (λ key.
     by true = refl
     by false = refl
 
--- Each use after an event stood before it, or is one of what the event's task holds then.
-pub on_uses-kept : (p : Use → Bool) (past : List PlainEvent) (e : PlainEvent) (state : State) → list_all p (on_uses past state) ≡ true → list_all p (own_uses (past ++ e ∷ []) (task_of e) state) ≡ true → list_all p (on_uses (past ++ e ∷ []) state) ≡ true
-on_uses-kept p past e state before own =
-    list_all_on p (past ++ e ∷ []) state
-    ∙ both (λ key. is_enabled (past ++ e ∷ []) key.task state) (λ key. bytes_eq (task_of e) key.task) (λ key. p (on_use state key)) (held (past ++ e ∷ [])) (others_kept p past e state before)
-    (sym (list_all-filter (λ key. p (on_use state key)) (λ key. bytes_eq (task_of e) key.task && is_enabled (past ++ e ∷ []) key.task state) (held (past ++ e ∷ [])))
-    ∙ ap (list_all (λ key. p (on_use state key))) (own_keys (past ++ e ∷ []) (task_of e) state)
-    ∙ sym (list_all-map p (on_use state) (if is_enabled (past ++ e ∷ []) (task_of e) state then held_by (past ++ e ∷ []) (task_of e) else []))
-    ∙ own)
-  where
-    one : (q t r : Bool) → (not q || (t || r)) ≡ true → (not (t && q) || r) ≡ true → (not q || r) ≡ true
-    one true true r a b = b
-    one true false r a b = a
-    one false t r a b = refl
-
-    both : {X : Type 0} (q t r : X → Bool) (xs : List X) → list_all (λ x. not (q x) || (t x || r x)) xs ≡ true → list_all (λ x. not (t x && q x) || r x) xs ≡ true → list_all (λ x. not (q x) || r x) xs ≡ true
-    both q t r [] a b = refl
-    both q t r (x ∷ xs) a b =
-        let as_ = and_parts (not (q x) || (t x || r x)) (list_all (λ y. not (q y) || (t y || r y)) xs) a in
-        let bs = and_parts (not (t x && q x) || r x) (list_all (λ y. not (t y && q y) || r y) xs) b in
-        and_from (not (q x) || r x) (list_all (λ y. not (q y) || r y) xs) (one (q x) (t x) (r x) as_.0 bs.0) (both q t r xs as_.1 bs.1)
-
 -- The uses of what a task holds stand.
 pub own_uses-stand : (p : Use → Bool) (now : List PlainEvent) (task : List ℕ) (state : State) → list_all p (on_uses now state) ≡ true → list_all p (own_uses now task state) ≡ true
 own_uses-stand p now task state all =
@@ -305,13 +279,6 @@ with_uses_by past e line added law known all =
   where
     ins : List Use
     ins = uses_in (contexts past (task_of e)) (waits_for e)
-
--- The uses that stand at an event by what its own task does and holds.
-abbrev pub own_uses_at : List PlainEvent → PlainEvent → List Use
-own_uses_at past e = uses_with past e (own_uses (past ++ e ∷ []) (task_of e))
-
-pub with_uses_at : (past : List PlainEvent) (e : PlainEvent) (line : ℕ) (known : List (Seen Use)) → ((state : State) → list_all (is_known known) (on_uses past state) ≡ true) → with_uses line known (uses_at past e) ≡ with_uses line known (own_uses_at past e)
-with_uses_at past e line known all = with_uses_by past e line (own_uses (past ++ e ∷ []) (task_of e)) (λ state more there. with_on_uses past e state line more there) known all
 
 -- The keys that an event may newly count under a state: the one that it acquires, and at an `enable` or
 -- an `exit` all that its task holds.
@@ -433,22 +400,8 @@ uses_once all = each_once same_what (seen uses_at all)
 pub on_uses-once : (state : State) (all : List Position) → list_all (is_known (uses_once all)) (on_uses (events all) state) ≡ true
 on_uses-once state all = list_all_mono (is_known (seen uses_at all)) (is_known (uses_once all)) (λ u there. any_each_once same_what same_what-alike (at_line 0 u) (seen uses_at all) ∙ there) (on_uses (events all) state) (on_uses-seen state all)
 
--- What one more position adds: the uses by its own task that aren't there yet, with its line.
-abbrev pub with_said : List (Seen Use) → List PlainEvent → ℕ → Result PlainEvent LineFault → List (Seen Use)
-with_said known past line (Ok event) = with_uses line known (own_uses_at past event)
-with_said known past line (Err fault) = known
-
-pub uses_once-push : (all : List Position) (p : Position) → uses_once (all ++ p ∷ []) ≡ with_said (uses_once all) (events all) p.line p.says
-uses_once-push all p =
-    ap (each_once same_what) (seen-push uses_at all p)
-    ∙ each_once-append same_what same_what-alike (seen uses_at all) (seen_at uses_at (events all) p.line p.says)
-    ∙ by p.says
-  where
-    by : (says : Result PlainEvent LineFault) → fold (with_new same_what) (uses_once all) (seen_at uses_at (events all) p.line says) ≡ with_said (uses_once all) (events all) p.line says
-    by (Ok e) = with_uses_at (events all) e p.line (uses_once all) (λ state. on_uses-once state all)
-    by (Err fault) = refl
-
--- The same, where only what an event may newly show is looked at.
+-- What one more position adds: of the uses that it may newly show those that aren't there yet, with its
+-- line.
 abbrev pub with_said_new : List (Seen Use) → List PlainEvent → ℕ → Result PlainEvent LineFault → List (Seen Use)
 with_said_new known past line (Ok event) = with_uses line known (new_uses_at past event)
 with_said_new known past line (Err fault) = known
@@ -462,7 +415,3 @@ uses_once-push_new all p =
     by : (says : Result PlainEvent LineFault) → fold (with_new same_what) (uses_once all) (seen_at uses_at (events all) p.line says) ≡ with_said_new (uses_once all) (events all) p.line says
     by (Ok e) = with_new_uses_at (events all) e p.line (uses_once all) (λ state. on_uses-once state all)
     by (Err fault) = refl
-
--- each stands there with the least line at which it stands
-pub first_line-once : (all : List Position) (what : Use) → first_line same_use (uses_once all) what ≡ first_line same_use (seen uses_at all) what
-first_line-once all what = ap (option_map (λ s. s.line)) (find_each_once same_what same_what-alike (at_line 0 what) (seen uses_at all))

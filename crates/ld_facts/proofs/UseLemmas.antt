@@ -1,11 +1,12 @@
 -- Usage bits of numbered classes, read by the names of the classes: distinct names make equal names equal
 -- numbers, so a bit is new by the number of its class where it is new by its name.
-use Rattle.std.proofs.Common.{◌≡◌, ◌<◌, ◌++◌, ◌∷◌, [], ◌||◌, ◌&&◌, ◌==◌, List, ℕ, Bool, true, false, Some, All, length, map, fold, reverse, slice_index_or, refl, ap, sym, ◌∙◌, if◌then◌else◌}
+use Rattle.std.proofs.Common.{◌≡◌, ◌<◌, ◌++◌, ◌∷◌, [], ◌||◌, ◌==◌, List, ℕ, Bool, true, false, Some, All, length, map, fold, reverse, slice_index_or, refl, ap, sym, ◌∙◌, if◌then◌else◌}
 use Rattle.std.proofs.lemmas.Bool.Decides.{Decides-and, Decides-eqb, Decides-like, same_from_decides}
 use Rattle.std.proofs.lemmas.List.{map-append}
 use Rattle.std.proofs.lemmas.List.Elements.{All-nil, All-cons, All-head, All-tail, All-append, All-map, All-weaker}
 use Rattle.std.specs.Bool.{Decides}
 use Rattle.std.specs.List.{list_any}
+use Rattle.std.proofs.lemmas.Simd.{map-map}
 use Rattle.ld_class.specs.Names.{AreDistinct, IsNameAt, with_name}
 use Rattle.ld_trace.specs.declared.event.State.{State}
 use Rattle.ld_trace.specs.declared.event.State.TheVariants.{Hard, Soft}
@@ -22,7 +23,7 @@ use Rattle.ld_facts.specs.Facts.{IsUse}
 use Rattle.ld_facts.specs.Uses.{fact, in_facts, on_facts, same_fact, same_what, with_use}
 use Rattle.ld_facts.proofs.NamedLemmas.{name-more, number-more}
 use Rattle.ld_facts.proofs.PlaceLemmas.{with_new}
-use Rattle.ld_facts.proofs.UsageLemmas.{Decides-same_use, at_line, map-map, on_use, uses_in}
+use Rattle.ld_facts.proofs.UsageLemmas.{Decides-same_use, at_line, on_use, uses_in}
 
 -- usage bits of which the names are told apart, and one more
 module _ (names : List (List ℕ)) (distinct : AreDistinct names) where

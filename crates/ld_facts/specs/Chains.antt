@@ -1,5 +1,6 @@
 -- Chains of classes as the nodes of a tree. No public contract cites this file.
-use Rattle.std.specs.Prelude.{◌<◌, ℕ, Bool, ◌&&◌, ◌==◌, nat_eq, List, [], ◌∷◌, ◌++◌, Option, Some, None, length, slice_index_or, fold, IfSome, if◌then◌else◌}
+use Rattle.std.specs.Prelude.{◌<◌, ℕ, Bool, ◌&&◌, ◌==◌, nat_eq, List, [], ◌∷◌, ◌++◌, Option, Some}
+use Rattle.std.specs.Prelude.{None, length, slice_index_or, fold, IfSome, if◌then◌else◌}
 use Rattle.std.specs.List.{list_any}
 use Rattle.std.specs.Option.{option_eq}
 use Rattle.ld_facts.specs.declared.chains.Link.{Link}
@@ -11,11 +12,15 @@ chain_before chains (Some number) = slice_index_or chains number []
 
 -- the chains by their numbers: each is a chain before it with one more class
 abbrev pub chains_of : List Link → List (List ℕ)
-chains_of links = fold (λ chains link. chains ++ (chain_before chains link.before ++ link.class ∷ []) ∷ []) [] links
+chains_of links =
+    fold (λ chains link. chains ++ (chain_before chains link.before ++ link.class ∷ []) ∷ []) []
+    links
 
 -- each chain stands after the one before it
 abbrev pub IsTree : List Link → Type 0
-IsTree links = (n : ℕ) (link : Link) → n < length links → IfSome (slice_index_or links n link).before (λ m. m < n)
+IsTree links =
+    (n : ℕ) (link : Link) → n < length links
+    → IfSome (slice_index_or links n link).before (λ m. m < n)
 
 abbrev pub same_link : Link → Link → Bool
 same_link a b = option_eq nat_eq a.before b.before && a.class == b.class

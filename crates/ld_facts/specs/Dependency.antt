@@ -1,6 +1,7 @@
 -- *Dependency*.
-use Rattle.std.specs.Prelude.{ℕ, Bool, ◌&&◌, List, [], map, take, flat_map, find, Option, option_map, Result, Ok, Err}
-use Rattle.std.specs.List.{enumerate_from}
+use Rattle.std.specs.Prelude.{ℕ, Bool, ◌&&◌, List, [], map, min, take, filter, flat_map, Option}
+use Rattle.std.specs.Prelude.{Result, Ok, Err}
+use Rattle.std.specs.List.{enumerate_from, reduce}
 use Rattle.std.specs.Str.{bytes_eq}
 use Rattle.ld_trace.specs.declared.event.LineFault.{LineFault}
 use Rattle.ld_trace.specs.Events.{PlainEvent, Position}
@@ -21,7 +22,9 @@ same_dependency a b = bytes_eq a.from b.from && bytes_eq a.to b.to
 -- acquisition of class b by t and some acquisition of class a by t, of the same frame, is open just
 -- before p.
 abbrev pub dependencies_at : List PlainEvent → PlainEvent → List Dependency
-dependencies_at past (Acquire task lock) = map (λ key. record { from = key.lock.class; to = lock.class }) (held_in past task (frame_of past task))
+dependencies_at past (Acquire task lock) =
+    map (λ key. record { from = key.lock.class; to = lock.class })
+    (held_in past task (frame_of past task))
 dependencies_at past other = []
 
 -- something that stands at a line
@@ -30,15 +33,17 @@ pub record Seen (A : Type 0) : Type 0 where
   pub line : ℕ
 
 -- what stands at one position, where these events came before
-abbrev pub seen_at : {A : Type 0} → (List PlainEvent → PlainEvent → List A) → List PlainEvent → ℕ → Result PlainEvent LineFault → List (Seen A)
+abbrev pub seen_at : {A : Type 0} → (List PlainEvent → PlainEvent → List A) → List PlainEvent → ℕ
+    → Result PlainEvent LineFault → List (Seen A)
 seen_at at past line (Ok event) = map (λ what. record { what = what; line = line }) (at past event)
 seen_at at past line (Err fault) = []
 
 -- what stands at the positions, in order of line
-abbrev pub seen : {A : Type 0} → (List PlainEvent → PlainEvent → List A) → List Position → List (Seen A)
-seen at all = flat_map (λ p. seen_at at (events (take p.0 all)) p.1.line p.1.says) (enumerate_from 0 all)
+abbrev pub seen : {A : Type 0} → (List PlainEvent → PlainEvent → List A) → List Position
+    → List (Seen A)
+seen at all =
+    flat_map (λ p. seen_at at (events (take p.0 all)) p.1.line p.1.says) (enumerate_from 0 all)
 
--- the line of the first of these that is this; of what stands at positions, whose lines ascend, it is
--- the least line
-abbrev pub first_line : {A : Type 0} → (A → A → Bool) → List (Seen A) → A → Option ℕ
-first_line same all what = option_map (λ s. s.line) (find (λ s. same what s.what) all)
+-- the least of the lines at which this stands among these, and nothing where it doesn't stand there
+abbrev pub least_line : {A : Type 0} → (A → A → Bool) → List (Seen A) → A → Option ℕ
+least_line same all what = reduce min (map (λ s. s.line) (filter (λ s. same what s.what) all))

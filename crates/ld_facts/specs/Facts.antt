@@ -1,12 +1,13 @@
 -- What the facts of a trace are, without where they lie in memory.
-use Rattle.std.specs.Prelude.{◌≡◌, ℕ, ◌<◌, ◌≤◌, List, [], map, length, slice_index_or, All, AllPairs}
+use Rattle.std.specs.Prelude.{◌≡◌, ℕ, ◌<◌, ◌≤◌, List, [], map, length, slice_index_or, All}
+use Rattle.std.specs.Prelude.{AllPairs}
 use Rattle.ld_trace.specs.Sources.{Fits, PlainSource}
 use Rattle.ld_facts.specs.declared.outcome.Outcome.{Outcome}
 use Rattle.ld_facts.specs.declared.outcome.TheConstants.{MOST_CLASSES}
 use Rattle.ld_facts.specs.declared.edges.EdgeFact.{EdgeFact}
 use Rattle.ld_facts.specs.declared.uses.UsageFact.{UsageFact}
 use Rattle.ld_facts.specs.Outcome.{outcome}
-use Rattle.ld_facts.specs.Dependency.{Dependency, Seen, first_line, same_dependency}
+use Rattle.ld_facts.specs.Dependency.{Dependency, Seen, least_line, same_dependency}
 use Rattle.ld_facts.specs.Usage.{IsBit, Use, bit_of, same_use}
 use Rattle.ld_facts.specs.Union.{classes_of, dependencies_of, uses_of}
 
@@ -19,11 +20,20 @@ pub record Known : Type 0 where
 
 -- a dependency by the names of its classes, with its line
 abbrev pub named : List (List ℕ) → EdgeFact → Seen Dependency
-named classes edge = record { what = record { from = slice_index_or classes edge.from []; to = slice_index_or classes edge.to [] }; line = edge.line }
+named classes edge = record {
+  what = record {
+    from = slice_index_or classes edge.from [];
+    to = slice_index_or classes edge.to [];
+  };
+  line = edge.line;
+}
 
 -- a usage bit by the name of its class, with its line
 abbrev pub named_use : List (List ℕ) → UsageFact → Seen Use
-named_use classes fact = record { what = record { class = slice_index_or classes fact.class []; bit = bit_of fact.bit }; line = fact.line }
+named_use classes fact = record {
+  what = record { class = slice_index_or classes fact.class []; bit = bit_of fact.bit };
+  line = fact.line;
+}
 
 -- it is one bit of one of these classes
 abbrev pub IsUse : List (List ℕ) → UsageFact → Type 0
@@ -36,9 +46,14 @@ pub record IsKnown (known : Known) : Type 0 where
   pub outcome : known.outcome ≡ outcome known.source
   pub classes : known.classes ≡ classes_of known.source
   pub few : length known.classes ≤ MOST_CLASSES
-  pub within : All (λ e. (e.from < length known.classes) × (e.to < length known.classes)) known.edges
+  pub within :
+      All (λ e. (e.from < length known.classes) × (e.to < length known.classes)) known.edges
   pub once : AllPairs (λ d e. (d.from ≡ e.from) × (d.to ≡ e.to) → ⊥) known.edges
-  pub edges : (what : Dependency) → first_line same_dependency (map (named known.classes) known.edges) what ≡ first_line same_dependency (dependencies_of known.source) what
+  pub edges : (what : Dependency)
+      → least_line same_dependency (map (named known.classes) known.edges) what
+      ≡ least_line same_dependency (dependencies_of known.source) what
   pub used_within : All (IsUse known.classes) known.usage
   pub used_once : AllPairs (λ u v. (u.class ≡ v.class) × (u.bit ≡ v.bit) → ⊥) known.usage
-  pub usage : (what : Use) → first_line same_use (map (named_use known.classes) known.usage) what ≡ first_line same_use (uses_of known.source) what
+  pub usage : (what : Use)
+      → least_line same_use (map (named_use known.classes) known.usage) what
+      ≡ least_line same_use (uses_of known.source) what

@@ -1,5 +1,5 @@
--- *Frames*. A list of events is read here as a past: the events up to a position stand for "at" that
--- position, and the events before it for "just before" it.
+-- *Frames*. A list of events is read here as a past: the events up to a position stand for "at"
+-- that position, and the events before it for "just before" it.
 use Rattle.std.specs.Prelude.{ℕ, List, map, filter, filter_map, Option, Some, None}
 use Rattle.std.specs.List.{last_or}
 use Rattle.std.specs.Str.{bytes_eq}

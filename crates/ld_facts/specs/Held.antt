@@ -1,5 +1,6 @@
 -- *Held locks*.
-use Rattle.std.specs.Prelude.{ℕ, ◌+◌, Bool, true, false, ◌&&◌, ◌==◌, List, map, take, filter, Option, Some, None}
+use Rattle.std.specs.Prelude.{ℕ, ◌+◌, Bool, true, false, ◌&&◌, ◌==◌, List, map, take, filter}
+use Rattle.std.specs.Prelude.{Option, Some, None}
 use Rattle.std.specs.List.{enumerate_from}
 use Rattle.std.specs.Str.{bytes_eq}
 use Rattle.ld_trace.specs.Events.{PlainEvent, PlainLock}
@@ -14,7 +15,9 @@ pub record Placed : Type 0 where
 
 -- each event of a past with the frame of its task at its position
 abbrev pub placed : List PlainEvent → List Placed
-placed past = map (λ p. record { event = p.1; frame = frame_of (take (p.0 + 1) past) (task_of p.1) }) (enumerate_from 0 past)
+placed past =
+    map (λ p. record { event = p.1; frame = frame_of (take (p.0 + 1) past) (task_of p.1) })
+    (enumerate_from 0 past)
 
 -- the key of an acquisition or release: its task, that task's frame there, and its lock
 pub record Key : Type 0 where

@@ -1,6 +1,7 @@
 -- What the scan keeps of a task's frames and flags, read as lists: the innermost frame first.
 -- No public contract cites this file.
-use Rattle.std.specs.Prelude.{◌≡◌, ℕ, Bool, true, false, ◌&&◌, not, List, [], ◌∷◌, ◌++◌, map, drop, slice_index_or, Option, Some, None, if◌then◌else◌}
+use Rattle.std.specs.Prelude.{◌≡◌, ℕ, Bool, true, false, ◌&&◌, not, List, [], ◌∷◌, ◌++◌, map, drop}
+use Rattle.std.specs.Prelude.{slice_index_or, Option, Some, None, if◌then◌else◌}
 use Rattle.std.specs.List.{list_any}
 use Rattle.ld_trace.specs.declared.event.State.{State}
 use Rattle.ld_trace.specs.declared.event.State.TheVariants.{Hard, Soft}
@@ -10,24 +11,24 @@ use Rattle.ld_facts.specs.declared.interrupts.Interrupts.{Interrupts}
 use Rattle.ld_facts.specs.Flags.{same_state}
 
 -- an open frame with its state
-pub record Within : Type 0 where
+pub record FrameWithState : Type 0 where
   pub state : State
   pub frame : OpenFrame
 
 -- a frame of this state, if it is open, over those around it
-abbrev pub within : State → Option OpenFrame → List Within → List Within
-within state None around = around
-within state (Some frame) around = record { state = state; frame = frame } ∷ around
+abbrev pub with_frame : State → Option OpenFrame → List FrameWithState → List FrameWithState
+with_frame state None around = around
+with_frame state (Some frame) around = record { state = state; frame = frame } ∷ around
 
-abbrev pub frames_of : Interrupts → List Within
-frames_of interrupts = within Hard interrupts.hard (within Soft interrupts.soft [])
+abbrev pub frames_of : Interrupts → List FrameWithState
+frames_of interrupts = with_frame Hard interrupts.hard (with_frame Soft interrupts.soft [])
 
 abbrev pub states_of : Interrupts → List State
-states_of interrupts = map (λ w. w.state) (frames_of interrupts)
+states_of interrupts = map (λ f. f.state) (frames_of interrupts)
 
 -- where the locks of each frame begin
 abbrev pub starts_of : Interrupts → List ℕ
-starts_of interrupts = map (λ w. w.frame.start) (frames_of interrupts)
+starts_of interrupts = map (λ f. f.frame.start) (frames_of interrupts)
 
 abbrev pub flag_of : State → Flags → Bool
 flag_of Hard flags = flags.hard
@@ -35,7 +36,9 @@ flag_of Soft flags = flags.soft
 
 -- the flag in each frame, and last the one outside frames
 abbrev pub levels_of : State → Interrupts → List Bool
-levels_of state interrupts = map (λ w. flag_of state w.frame.flags) (frames_of interrupts) ++ flag_of state interrupts.outside ∷ []
+levels_of state interrupts =
+    map (λ f. flag_of state f.frame.flags) (frames_of interrupts)
+    ++ flag_of state interrupts.outside ∷ []
 
 -- in the innermost frame: the flag, what is enabled, and where the locks begin
 
@@ -58,12 +61,14 @@ nests_in states Soft = not (list_any (λ state. true) states)
 abbrev pub fresh : Interrupts
 fresh = record { outside = record { hard = true; soft = true }; soft = None; hard = None }
 
--- a frame of this state opened, whose locks begin here: the flag of its own state is off in it, and the
--- other as before
+-- a frame of this state opened, whose locks begin here: the flag of its own state is off in it, and
+-- the other as before
 pub record IsEntered (state : State) (start : ℕ) (old new : Interrupts) : Type 0 where
   pub states : states_of new ≡ state ∷ states_of old
   pub starts : starts_of new ≡ start ∷ starts_of old
-  pub levels : (of : State) → levels_of of new ≡ (if same_state of state then false else flag_now of old) ∷ levels_of of old
+  pub levels : (of : State)
+      → levels_of of new
+      ≡ (if same_state of state then false else flag_now of old) ∷ levels_of of old
 
 -- the innermost frame closed
 pub record IsLeft (old new : Interrupts) : Type 0 where
@@ -75,4 +80,6 @@ pub record IsLeft (old new : Interrupts) : Type 0 where
 pub record IsSet (state : State) (on : Bool) (old new : Interrupts) : Type 0 where
   pub states : states_of new ≡ states_of old
   pub starts : starts_of new ≡ starts_of old
-  pub levels : (of : State) → levels_of of new ≡ (if same_state of state then on ∷ drop 1 (levels_of of old) else levels_of of old)
+  pub levels : (of : State)
+      → levels_of of new
+      ≡ (if same_state of state then on ∷ drop 1 (levels_of of old) else levels_of of old)

@@ -1,5 +1,6 @@
 -- The open frames of a task as a stack, and what stands in each: its state, its flags, and how many
--- locks the task held before it. The innermost frame comes first. No public contract cites this file.
+-- locks the task held before it. The innermost frame comes first. No public contract cites this
+-- file.
 use Rattle.std.specs.Prelude.{ℕ, Bool, true, false, List, [], ◌∷◌, length, map, reverse, take}
 use Rattle.std.specs.Option.{unwrap_or}
 use Rattle.ld_trace.specs.declared.event.State.{State}
@@ -25,7 +26,8 @@ stack past task = reverse (frames past task)
 -- the flag in each of these frames, and last the one outside frames
 abbrev pub levels_in : List ℕ → State → List PlainEvent → List Frame → List Bool
 levels_in task state past [] = flag_in task state past [] ∷ []
-levels_in task state past (inner ∷ outer) = flag_in task state past (inner ∷ outer) ∷ levels_in task state past outer
+levels_in task state past (inner ∷ outer) =
+    flag_in task state past (inner ∷ outer) ∷ levels_in task state past outer
 
 abbrev pub levels : List PlainEvent → List ℕ → State → List Bool
 levels past task state = levels_in task state past (stack past task)

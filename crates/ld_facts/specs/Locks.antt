@@ -1,6 +1,7 @@
 -- What tasks hold and which dependencies were told, and what ties the cache of chains to them.
 -- No public contract cites this file.
-use Rattle.std.specs.Prelude.{◌≡◌, ◌<◌, ◌≤◌, ◌+◌, ℕ, Bool, true, List, [], ◌∷◌, map, length, take, drop, slice_index_or, Option, None, IfSome}
+use Rattle.std.specs.Prelude.{◌≡◌, ◌<◌, ◌≤◌, ◌+◌, ℕ, Bool, true, List, [], ◌∷◌, map, length, take}
+use Rattle.std.specs.Prelude.{drop, slice_index_or, Option, None, IfSome}
 use Rattle.std.specs.List.{last_or, list_all, list_any, All}
 use Rattle.ld_trace.specs.Events.{PlainLock}
 use Rattle.ld_facts.specs.declared.chains.Link.{Link}
@@ -29,21 +30,30 @@ pub record Known : Type 0 where
   pub edges : List EdgeFact
 
 abbrev pub known_of : List PlainStack → List EdgeFact → Known
-known_of stacks edges = record { stacks = map (λ stack. map hold_of stack.held) stacks; interrupts = map (λ stack. stack.interrupts) stacks; edges = edges }
+known_of stacks edges = record {
+  stacks = map (λ stack. map hold_of stack.held) stacks;
+  interrupts = map (λ stack. stack.interrupts) stacks;
+  edges = edges;
+}
 
 -- what the task holds in its innermost frame, and what it holds in the frames around it
 abbrev pub inner_of : Known → ℕ → List Hold
-inner_of known task = drop (start_now (slice_index_or known.interrupts task fresh)) (slice_index_or known.stacks task [])
+inner_of known task =
+    drop (start_now (slice_index_or known.interrupts task fresh))
+    (slice_index_or known.stacks task [])
 
 abbrev pub outer_of : Known → ℕ → List Hold
-outer_of known task = take (start_now (slice_index_or known.interrupts task fresh)) (slice_index_or known.stacks task [])
+outer_of known task =
+    take (start_now (slice_index_or known.interrupts task fresh))
+    (slice_index_or known.stacks task [])
 
 -- nothing but the frames and flags of this task changed
 pub record IsMoved (old new : Known) (task : ℕ) : Type 0 where
   pub stacks : new.stacks ≡ old.stacks
   pub edges : new.edges ≡ old.edges
   pub many : length new.interrupts ≡ length old.interrupts
-  pub others : (k : ℕ) → (k ≡ task → ⊥) → slice_index_or new.interrupts k fresh ≡ slice_index_or old.interrupts k fresh
+  pub others : (k : ℕ) → (k ≡ task → ⊥)
+      → slice_index_or new.interrupts k fresh ≡ slice_index_or old.interrupts k fresh
 
 abbrev pub classes_held : List PlainHeld → List ℕ
 classes_held stack = map (λ held. held.class) stack
@@ -58,16 +68,20 @@ IsChain chains number chain = (number < length chains) × (slice_index_or chains
 
 -- each of the first n locks carries the chain of the classes up to it
 abbrev pub AreChainedBelow : List (List ℕ) → List PlainHeld → ℕ → Type 0
-AreChainedBelow chains stack n = (i : ℕ) (d : PlainHeld) → i < n → i < length stack → IsChain chains (slice_index_or stack i d).chain (take (i + 1) (classes_held stack))
+AreChainedBelow chains stack n =
+    (i : ℕ) (d : PlainHeld) → i < n → i < length stack
+    → IsChain chains (slice_index_or stack i d).chain (take (i + 1) (classes_held stack))
 
 abbrev pub AreChained : List (List ℕ) → List PlainHeld → Type 0
 AreChained chains stack = AreChainedBelow chains stack (length stack)
 
--- the locks of each frame are chained by themselves, where the frames' locks begin at these places of
--- the stack, innermost first
+-- the locks of each frame are chained by themselves, where the frames' locks begin at these places
+-- of the stack, innermost first
 abbrev pub AreChainedIn : List (List ℕ) → List PlainHeld → List ℕ → Type 0
 AreChainedIn chains stack [] = AreChained chains stack
-AreChainedIn chains stack (start ∷ starts) = (start ≤ length stack) × (AreChained chains (drop start stack) × AreChainedIn chains (take start stack) starts)
+AreChainedIn chains stack (start ∷ starts) =
+    (start ≤ length stack)
+    × (AreChained chains (drop start stack) × AreChainedIn chains (take start stack) starts)
 
 -- chains keep their numbers as more are met
 pub record IsExtended (old new : List (List ℕ)) : Type 0 where
@@ -77,11 +91,17 @@ pub record IsExtended (old new : List (List ℕ)) : Type 0 where
 -- the dependencies of a waiting acquisition are there
 pub record IsTold (chains : List (List ℕ)) (edges : List EdgeFact) (link : Link) : Type 0 where
   pub known : IfSome link.before (λ n. n < length chains)
-  pub told : list_all (λ from. list_any (same_pair (edge_to link.class 0 from)) edges) (chain_before chains link.before) ≡ true
+  pub told :
+      list_all (λ from. list_any (same_pair (edge_to link.class 0 from)) edges)
+      (chain_before chains link.before)
+      ≡ true
 
 -- what ties stacks, chains and what was told
-pub record AreTied (stacks : List PlainStack) (chains : List (List ℕ)) (told : List Link) (edges : List EdgeFact) : Type 0 where
-  pub chained : (task : ℕ) → AreChainedIn chains (slice_index_or stacks task empty_stack).held (starts_of (slice_index_or stacks task empty_stack).interrupts)
+pub record AreTied (stacks : List PlainStack) (chains : List (List ℕ)) (told : List Link)
+    (edges : List EdgeFact) : Type 0 where
+  pub chained : (task : ℕ)
+      → AreChainedIn chains (slice_index_or stacks task empty_stack).held
+      (starts_of (slice_index_or stacks task empty_stack).interrupts)
   pub complete : All (λ link. IsTold chains edges link) told
 
 -- it is of this lock

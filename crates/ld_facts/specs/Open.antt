@@ -1,7 +1,8 @@
--- What is open of a list whose elements open and close something under keys. A place is a position in
--- the list, from 0. `same` tells whether two keys are the same; `opened` and `closed` give the key
--- under which an element opens or closes, if it does.
-use Rattle.std.specs.Prelude.{ℕ, ◌+◌, ◌-◌, Bool, false, nat_le, List, [], ◌∷◌, cond, length, take, drop, count_by, filter_map, Option, Some, None, if◌then◌else◌}
+-- What is open of a list whose elements open and close something under keys. A place is a position
+-- in the list, from 0. `same` tells whether two keys are the same; `opened` and `closed` give the
+-- key under which an element opens or closes, if it does.
+use Rattle.std.specs.Prelude.{ℕ, ◌+◌, ◌-◌, Bool, false, nat_le, List, [], ◌∷◌, cond, length, take}
+use Rattle.std.specs.Prelude.{drop, count_by, filter_map, Option, Some, None, if◌then◌else◌}
 use Rattle.std.specs.List.{enumerate_from, list_all, list_any, range_with_len}
 
 -- the test of what is there, and false where nothing is
@@ -31,12 +32,16 @@ module _ {X K : Type 0} (same : K → K → Bool) (opened closed : X → Option 
   -- what opened at place i under this key is open at the end of the list: for each place q after i,
   -- no more closes under the key in (i, q] than opens there
   abbrev pub is_open : List X → ℕ → K → Bool
-  is_open xs i key = list_all (λ q. nat_le (count_of same closed key (after_to xs i q)) (count_of same opened key (after_to xs i q))) (places_after xs i)
+  is_open xs i key =
+      list_all (λ q. nat_le (count_of same closed key (after_to xs i q))
+      (count_of same opened key (after_to xs i q)))
+      (places_after xs i)
 
   -- what the element x at place i opened, where it is open at the end of the list
   abbrev pub opening_at : List X → ℕ → X → Option K → Option (Opening X K)
   opening_at xs i x None = None
-  opening_at xs i x (Some key) = if is_open xs i key then Some (record { place = i; element = x; key = key }) else None
+  opening_at xs i x (Some key) =
+      if is_open xs i key then Some (record { place = i; element = x; key = key }) else None
 
   -- what is open at the end of the list, in order of place
   abbrev pub openings : List X → List (Opening X K)

@@ -1,5 +1,7 @@
 -- *Outcome*: the tasks and classes of a trace, its faults, and what became of it.
-use Rattle.std.specs.Prelude.{ℕ, Bool, true, false, ◌&&◌, ◌==◌, not, List, map, length, take, filter_map, slice_get, Option, Some, None, option_map, Result, Ok, Err, if◌then◌else◌, codes}
+use Rattle.std.specs.Prelude.{ℕ, Bool, true, false, ◌&&◌, ◌==◌, not, List, map, length, take}
+use Rattle.std.specs.Prelude.{filter_map, slice_get, Option, Some, None, option_map, Result, Ok}
+use Rattle.std.specs.Prelude.{Err, if◌then◌else◌, codes}
 use Rattle.std.specs.List.{enumerate_from, list_any, last_or}
 use Rattle.std.specs.Str.{bytes_eq}
 use Rattle.ld_trace.specs.declared.event.State.TheVariants.{Hard, Soft}
@@ -9,7 +11,11 @@ use Rattle.ld_trace.specs.Sources.{PlainSource}
 use Rattle.ld_trace.specs.Events.{PlainEvent, Position, positions}
 use Rattle.ld_trace.specs.Events.PlainEvent.{Release, Enter, Exit, Enable}
 use Rattle.ld_facts.specs.declared.fault.TraceFault.{TraceFault}
-use Rattle.ld_facts.specs.declared.fault.TraceFault.TheVariants.{BadVerb, BadCount, BadName, BadState, TooManyTasks, TooManyClasses, TooDeep, NotHeld, BadNest, Masked, BadExit, HeldAtExit, BadEnable}
+use Rattle.ld_facts.specs.declared.fault.TraceFault.TheVariants.{BadVerb, BadCount, BadName}
+use Rattle.ld_facts.specs.declared.fault.TraceFault.TheVariants.{BadState, TooManyTasks}
+use Rattle.ld_facts.specs.declared.fault.TraceFault.TheVariants.{TooManyClasses, TooDeep, NotHeld}
+use Rattle.ld_facts.specs.declared.fault.TraceFault.TheVariants.{BadNest, Masked, BadExit}
+use Rattle.ld_facts.specs.declared.fault.TraceFault.TheVariants.{HeldAtExit, BadEnable}
 use Rattle.ld_facts.specs.declared.outcome.Outcome.{Outcome}
 use Rattle.ld_facts.specs.declared.outcome.Outcome.TheVariants.{Read, Refused}
 use Rattle.ld_facts.specs.declared.outcome.TheConstants.{MOST_TASKS, MOST_CLASSES, MOST_HELD}
@@ -20,7 +26,9 @@ use Rattle.ld_facts.specs.Flags.{same_state, is_enabled}
 
 -- the elements without those that are the same as an earlier one
 abbrev pub each_once : {X : Type 0} → (X → X → Bool) → List X → List X
-each_once same xs = filter_map (λ p. if list_any (same p.1) (take p.0 xs) then None else Some p.1) (enumerate_from 0 xs)
+each_once same xs =
+    filter_map (λ p. if list_any (same p.1) (take p.0 xs) then None else Some p.1)
+    (enumerate_from 0 xs)
 
 -- the class that an event acquires
 abbrev pub class_acquired : PlainEvent → Option (List ℕ)
@@ -41,13 +49,17 @@ is_one_too_many most names name = length names == most && not (list_any (bytes_e
 -- the conditions of the faults that an event has by what came before it, each by its fault's name
 
 abbrev pub has_too_many_classes : List PlainEvent → PlainEvent → Bool
-has_too_many_classes past event = is_some_and (is_one_too_many MOST_CLASSES (classes past)) (class_acquired event)
+has_too_many_classes past event =
+    is_some_and (is_one_too_many MOST_CLASSES (classes past)) (class_acquired event)
 
 abbrev pub is_too_deep : List PlainEvent → PlainEvent → Bool
-is_too_deep past event = is_some_and (λ lock. length (held_by past (task_of event)) == MOST_HELD) (lock_acquired event)
+is_too_deep past event =
+    is_some_and (λ lock. length (held_by past (task_of event)) == MOST_HELD) (lock_acquired event)
 
 abbrev pub is_not_held : List PlainEvent → PlainEvent → Bool
-is_not_held past (Release task lock) = not (list_any (same_key (record { task = task; frame = frame_of past task; lock = lock })) (held past))
+is_not_held past (Release task lock) =
+    not (list_any (same_key (record { task = task; frame = frame_of past task; lock = lock }))
+    (held past))
 is_not_held past other = false
 
 abbrev pub is_badly_nested : List PlainEvent → PlainEvent → Bool
@@ -60,11 +72,13 @@ is_masked past (Enter task state) = not (is_enabled past task state)
 is_masked past other = false
 
 abbrev pub is_bad_exit : List PlainEvent → PlainEvent → Bool
-is_bad_exit past (Exit task state) = not (is_some_and (same_state state) (last_or None (contexts past task)))
+is_bad_exit past (Exit task state) =
+    not (is_some_and (same_state state) (last_or None (contexts past task)))
 is_bad_exit past other = false
 
 abbrev pub is_held_at_exit : List PlainEvent → PlainEvent → Bool
-is_held_at_exit past (Exit task state) = list_any (λ key. true) (held_in past task (frame_of past task))
+is_held_at_exit past (Exit task state) =
+    list_any (λ key. true) (held_in past task (frame_of past task))
 is_held_at_exit past other = false
 
 abbrev pub is_bad_enable : List PlainEvent → PlainEvent → Bool
@@ -113,7 +127,10 @@ pub record FaultyLine : Type 0 where
 
 -- the positions that have a fault, in order
 abbrev pub faulty_lines : List Position → List FaultyLine
-faulty_lines all = filter_map (λ p. option_map (λ fault. record { line = p.1.line; fault = fault }) (said_fault (events (take p.0 all)) p.1.says)) (enumerate_from 0 all)
+faulty_lines all =
+    filter_map (λ p. option_map (λ fault. record { line = p.1.line; fault = fault })
+    (said_fault (events (take p.0 all)) p.1.says))
+    (enumerate_from 0 all)
 
 -- refused at the first faulty position, or read with the number of positions
 abbrev pub outcome_by : ℕ → Option FaultyLine → Outcome
@@ -121,7 +138,8 @@ outcome_by count None = Read count
 outcome_by count (Some first) = Refused first.line first.fault
 
 abbrev pub outcome : PlainSource → Outcome
-outcome source = outcome_by (length (positions source)) (slice_get (faulty_lines (positions source)) 0)
+outcome source =
+    outcome_by (length (positions source)) (slice_get (faulty_lines (positions source)) 0)
 
 -- the name of a fault
 abbrev pub name_of : TraceFault → List ℕ

@@ -6,8 +6,8 @@ use Rattle.ld_facts.specs.declared.held.Held.{Held}
 use Rattle.ld_facts.specs.declared.interrupts.Interrupts.{Interrupts}
 use Rattle.ld_facts.specs.Interrupts.{fresh, start_now}
 
--- a lock that a task holds, without where its names lie in memory: the lock, the number of its class,
--- and the number of the chain of the classes that the task holds up to it
+-- a lock that a task holds, without where its names lie in memory: the lock, the number of its
+-- class, and the number of the chain of the classes that the task holds up to it
 pub record PlainHeld : Type 0 where
   pub lock : PlainLock
   pub class : ℕ

@@ -1,5 +1,6 @@
 -- *Union*: what the sources that are read show together, and where it was first seen.
-use Rattle.std.specs.Prelude.{ℕ, Bool, ◌&&◌, ◌||◌, ◌==◌, nat_lt, List, [], map, flat_map, filter_map, Option, option_map, if◌then◌else◌}
+use Rattle.std.specs.Prelude.{ℕ, Bool, ◌&&◌, ◌||◌, ◌==◌, nat_lt, List, [], map, flat_map}
+use Rattle.std.specs.Prelude.{filter_map, Option, option_map, if◌then◌else◌}
 use Rattle.std.specs.List.{reduce}
 use Rattle.std.specs.Str.{bytes_eq}
 use Rattle.ld_trace.specs.Sources.{PlainSource}
@@ -8,7 +9,8 @@ use Rattle.ld_facts.specs.declared.outcome.Outcome.{Outcome}
 use Rattle.ld_facts.specs.declared.outcome.Outcome.TheVariants.{Read, Refused}
 use Rattle.ld_facts.specs.declared.outcome.Witness.{Witness}
 use Rattle.ld_facts.specs.Outcome.{outcome, classes, events, each_once}
-use Rattle.ld_facts.specs.Dependency.{Dependency, Seen, dependencies_at, same_dependency, seen, first_line}
+use Rattle.ld_facts.specs.Dependency.{Dependency, Seen, dependencies_at, same_dependency, seen}
+use Rattle.ld_facts.specs.Dependency.{least_line}
 use Rattle.ld_facts.specs.Usage.{Use, uses_at, same_use}
 
 -- what a source shows, where it is read; nothing where it is refused
@@ -39,10 +41,15 @@ earlier a b = if is_before b a then b else a
 abbrev pub first_of : List Witness → Option Witness
 first_of witnesses = reduce earlier witnesses
 
--- the first witness, over these sources, of something that sources show: in each source the least line
-abbrev pub first_witness : {A : Type 0} → (A → A → Bool) → (PlainSource → List (Seen A)) → List PlainSource → A → Option Witness
+-- the first witness, over these sources, of something that sources show: in each source the least
+-- line
+abbrev pub first_witness : {A : Type 0} → (A → A → Bool) → (PlainSource → List (Seen A))
+    → List PlainSource → A → Option Witness
 first_witness same shown sources what =
-    first_of (filter_map (λ source. option_map (λ line. record { number = source.number; line = line }) (first_line same (shown source) what)) sources)
+    first_of (filter_map (λ source.
+    option_map (λ line. record { number = source.number; line = line })
+    (least_line same (shown source) what))
+    sources)
 
 -- the classes of the union, each once
 abbrev pub union_classes : List PlainSource → List (List ℕ)
@@ -50,11 +57,14 @@ union_classes sources = each_once bytes_eq (flat_map classes_of sources)
 
 -- the dependencies of the union, each once
 abbrev pub union_dependencies : List PlainSource → List Dependency
-union_dependencies sources = each_once same_dependency (flat_map (λ source. map (λ s. s.what) (dependencies_of source)) sources)
+union_dependencies sources =
+    each_once same_dependency
+    (flat_map (λ source. map (λ s. s.what) (dependencies_of source)) sources)
 
 -- the first witness of a dependency and of a use, and nothing where it isn't in the union
 abbrev pub dependency_witness : List PlainSource → Dependency → Option Witness
-dependency_witness sources dependency = first_witness same_dependency dependencies_of sources dependency
+dependency_witness sources dependency =
+    first_witness same_dependency dependencies_of sources dependency
 
 abbrev pub use_witness : List PlainSource → Use → Option Witness
 use_witness sources what = first_witness same_use uses_of sources what

@@ -1,5 +1,6 @@
 -- *Usage*.
-use Rattle.std.specs.Prelude.{◌≡◌, ℕ, Bool, false, ◌&&◌, List, [], ◌∷◌, ◌++◌, map, filter, if◌then◌else◌}
+use Rattle.std.specs.Prelude.{◌≡◌, ℕ, Bool, false, ◌&&◌, List, [], ◌∷◌, ◌++◌, map, filter}
+use Rattle.std.specs.Prelude.{if◌then◌else◌}
 use Rattle.std.specs.Str.{bytes_eq}
 use Rattle.ld_class.specs.declared.usage.Usage as sets
 use Rattle.ld_class.specs.Usage.{has_bit, in_hard, in_soft, on_hard, on_soft}
@@ -49,16 +50,19 @@ pub record Use : Type 0 where
 abbrev pub same_use : Use → Use → Bool
 same_use a b = bytes_eq a.class b.class && same_bit a.bit b.bit
 
--- IN_S of c stands at p if p is a waiting acquisition of c by a task with S among its contexts. Here
--- `now` is the past at p.
+-- IN_S of c stands at p if p is a waiting acquisition of c by a task with S among its contexts.
+-- Here `now` is the past at p.
 abbrev pub in_uses : List PlainEvent → PlainEvent → List Use
-in_uses now (Acquire task lock) = map (λ state. record { class = lock.class; bit = In state }) (contexts now task)
+in_uses now (Acquire task lock) =
+    map (λ state. record { class = lock.class; bit = In state }) (contexts now task)
 in_uses now other = []
 
--- ON_HARD of c stands at p if an acquisition of c, of any frame, is open at p and its task's hard flag
--- at p is on; ON_SOFT, where both its flags are on.
+-- ON_HARD of c stands at p if an acquisition of c, of any frame, is open at p and its task's hard
+-- flag at p is on; ON_SOFT, where both its flags are on.
 abbrev pub on_uses : List PlainEvent → State → List Use
-on_uses now state = map (λ key. record { class = key.lock.class; bit = On state }) (filter (λ key. is_enabled now key.task state) (held now))
+on_uses now state =
+    map (λ key. record { class = key.lock.class; bit = On state })
+    (filter (λ key. is_enabled now key.task state) (held now))
 
 -- the uses that stand at an event after these
 abbrev pub uses_at : List PlainEvent → PlainEvent → List Use

@@ -1,15 +1,15 @@
 -- The usage bits of numbered classes, as the scan keeps them. No public contract cites this file.
-use Rattle.std.specs.Prelude.{ℕ, Bool, ◌&&◌, ◌==◌, ◌<◌, length, List, [], ◌∷◌, ◌++◌, ◌≡◌, map, reverse, slice_index_or, if◌then◌else◌}
+use Rattle.std.specs.Prelude.{ℕ, Bool, ◌&&◌, ◌==◌, List, [], ◌∷◌, ◌++◌, ◌≡◌, map}
+use Rattle.std.specs.Prelude.{reverse, slice_index_or, if◌then◌else◌}
 use Rattle.std.specs.List.{list_any}
 use Rattle.ld_class.specs.declared.usage.Usage.{Usage}
 use Rattle.ld_class.specs.Usage.{has_bit}
-use Rattle.ld_trace.specs.declared.event.State.{State}
 use Rattle.ld_trace.specs.declared.event.State.TheVariants.{Hard, Soft}
 use Rattle.ld_facts.specs.declared.uses.UsageFact.{UsageFact}
 use Rattle.ld_facts.specs.declared.interrupts.Interrupts.{Interrupts}
 use Rattle.ld_facts.specs.Interrupts.{enabled_now, states_of}
 use Rattle.ld_facts.specs.Dependency.{Seen}
-use Rattle.ld_facts.specs.Usage.{Bit, Use, bit_of, same_use, usage_of}
+use Rattle.ld_facts.specs.Usage.{Bit, Use, same_use, usage_of}
 use Rattle.ld_facts.specs.Usage.Bit.{In, On}
 
 -- the same bit of the same class
@@ -30,7 +30,8 @@ fact bit line class = told (usage_of bit) line class
 
 -- those of a class that is waited for in these contexts: the outermost first
 abbrev pub in_facts : Interrupts → ℕ → ℕ → List UsageFact
-in_facts interrupts line class = map (λ state. fact (In state) line class) (reverse (states_of interrupts))
+in_facts interrupts line class =
+    map (λ state. fact (In state) line class) (reverse (states_of interrupts))
 
 -- those of classes that are held with these flags, hard ones first
 abbrev pub on_facts : Interrupts → ℕ → List ℕ → List UsageFact
@@ -44,7 +45,10 @@ none = record { 0 = 0 }
 
 -- for each class the set of the bits that stand there
 abbrev pub AreNoted : List UsageFact → List Usage → Type 0
-AreNoted facts known = (class : ℕ) (bit : Bit) → has_bit (slice_index_or known class none) (usage_of bit) ≡ list_any (same_fact (fact bit 0 class)) facts
+AreNoted facts known =
+    (class : ℕ) (bit : Bit)
+    → has_bit (slice_index_or known class none) (usage_of bit)
+    ≡ list_any (same_fact (fact bit 0 class)) facts
 
 -- of the same bit of the same class, at whatever line
 abbrev pub same_what : Seen Use → Seen Use → Bool

@@ -1,5 +1,6 @@
 //! Chains of classes: the lists of the classes that a task holds, in order of acquisition.
-ghost use Rattle.std.specs.Prelude.{◌≡◌, ◌<◌, ◌≤◌, ℕ, [], ◌∷◌, ◌++◌, length, slice_index_or, IfOk, IfSome, OnErr, OnOk};
+ghost use Rattle.std.specs.Prelude.{◌≡◌, ◌<◌, ◌≤◌, ℕ, [], ◌∷◌, ◌++◌, length, slice_index_or, IfOk};
+ghost use Rattle.std.specs.Prelude.{IfSome, OnErr, OnOk};
 ghost use Rattle.std.specs.List.{list_any};
 ghost use Rattle.ld_facts.specs.Chains.{chain_before, same_link, with_link};
 
@@ -44,10 +45,12 @@ impl Chains {
     /// The number of the chain with one more class.
     pub fn extend(&mut self, before: Option<usize>, class: u32) -> Result<usize, AllocError>
         requires { IfSome before (λ n. n < length self.old) }
-        ensures chain { IfOk result (λ n. slice_index_or self.new n [] ≡ chain_before self.old before ++ class ∷ []) }
+        ensures chain { IfOk result (λ n.
+            slice_index_or self.new n [] ≡ chain_before self.old before ++ class ∷ []) }
         ensures number { IfOk result (λ n. n < length self.new) }
         ensures more { length self.old ≤ length self.new }
-        ensures kept { (n : ℕ) → n < length self.old → slice_index_or self.new n [] ≡ slice_index_or self.old n [] }
+        ensures kept { (n : ℕ) → n < length self.old
+            → slice_index_or self.new n [] ≡ slice_index_or self.old n [] }
     {
         let (number, _) = self.links.insert_full(Link { before, class })?;
         Ok(number)

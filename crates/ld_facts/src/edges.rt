@@ -84,8 +84,10 @@ impl Edges {
 
     /// Adds the dependencies from the classes of these locks to the class.
     pub fn tell(&mut self, stack: &[Held<'_>], class: u32, line: u64) -> Result<(), AllocError>
-        ensures kept { (test : EdgeFact → Bool) → list_any test self.old ≡ true → list_any test self.new ≡ true }
-        ensures told { OnOk result (self.new ≡ fold with_edge self.old (map (edge_to class line) (map (λ held. held.class) stack.now))) }
+        ensures kept { (test : EdgeFact → Bool)
+            → list_any test self.old ≡ true → list_any test self.new ≡ true }
+        ensures told { OnOk result (self.new ≡ fold with_edge self.old
+            (map (edge_to class line) (map (λ held. held.class) stack.now))) }
     {
         for held in stack {
             let edge = EdgeFact {

@@ -1,5 +1,6 @@
 //! The locks that tasks hold, and the frames that they are in.
-ghost use Rattle.std.specs.Prelude.{◌≡◌, ◌<◌, ◌≤◌, ◌+◌, [], ◌∷◌, ◌++◌, length, false, map, remove, take, slice_index_or, slice_set, IfNone, IfSome, OnErr, OnOk};
+ghost use Rattle.std.specs.Prelude.{◌≡◌, ◌<◌, ◌≤◌, ◌+◌, [], ◌∷◌, ◌++◌, length, false, map, remove};
+ghost use Rattle.std.specs.Prelude.{take, slice_index_or, slice_set, IfNone, IfSome, OnErr, OnOk};
 ghost use Rattle.std.specs.List.{list_any};
 ghost use Rattle.ld_trace.specs.Events.{plain_lock};
 ghost use Rattle.ld_facts.specs.Held.{same_lock};
@@ -62,7 +63,10 @@ impl<'a> Model for Stacks<'a> {
 
     ghost use Rattle.ld_facts.specs.Scan.{plain_held};
 
-    ghost view = { λ s. map (λ stack. record { held = map plain_held stack.held.items; interrupts = stack.interrupts }) s.stacks.items };
+    ghost view = { λ s. map (λ stack. record {
+      held = map plain_held stack.held.items;
+      interrupts = stack.interrupts;
+    }) s.stacks.items };
 }
 
 impl<'a> Stacks<'a> {
@@ -99,8 +103,10 @@ impl<'a> Stacks<'a> {
     /// What the task holds in its innermost frame; outside frames, all that it holds.
     pub fn innermost(&self, task: u32) -> &[Held<'a>]
         requires task { task < length self.now }
-        requires start { start_now (slice_index_or self.now task empty_stack).interrupts ≤ length (slice_index_or self.now task empty_stack).held }
-        ensures held { map plain_held result.now ≡ inner (slice_index_or self.now task empty_stack) }
+        requires start { start_now (slice_index_or self.now task empty_stack).interrupts
+            ≤ length (slice_index_or self.now task empty_stack).held }
+        ensures held { map plain_held result.now
+            ≡ inner (slice_index_or self.now task empty_stack) }
         ensures depth { length result.now ≤ MOST_HELD }
     {
         let start = self.interrupts(task).start();
@@ -118,7 +124,11 @@ impl<'a> Stacks<'a> {
     pub fn push(&mut self, task: u32, held: Held<'a>)
         requires task { task < length self.old }
         requires room { length (slice_index_or self.old task empty_stack).held < MOST_HELD }
-        ensures { self.new ≡ slice_set self.old task (record (slice_index_or self.old task empty_stack) { held = (slice_index_or self.old task empty_stack).held ++ plain_held held.entry ∷ [] }) }
+        ensures { self.new ≡ slice_set self.old task
+            (record (slice_index_or self.old task empty_stack) {
+              held = (slice_index_or self.old task empty_stack).held
+                  ++ plain_held held.entry ∷ [];
+            }) }
     {
         self.stacks[task as usize].held.push(held);
     }
@@ -126,7 +136,10 @@ impl<'a> Stacks<'a> {
     /// Takes the locks from this place on from the task's stack.
     pub fn truncate(&mut self, task: u32, place: usize)
         requires { task < length self.old }
-        ensures { self.new ≡ slice_set self.old task (record (slice_index_or self.old task empty_stack) { held = take place (slice_index_or self.old task empty_stack).held }) }
+        ensures { self.new ≡ slice_set self.old task
+            (record (slice_index_or self.old task empty_stack) {
+              held = take place (slice_index_or self.old task empty_stack).held;
+            }) }
     {
         self.stacks[task as usize].held.truncate(place);
     }
@@ -134,7 +147,8 @@ impl<'a> Stacks<'a> {
     /// Puts these frames and flags in the place of the task's.
     pub fn set_interrupts(&mut self, task: u32, interrupts: Interrupts)
         requires { task < length self.old }
-        ensures { self.new ≡ slice_set self.old task (record (slice_index_or self.old task empty_stack) { interrupts = interrupts }) }
+        ensures { self.new ≡ slice_set self.old task
+            (record (slice_index_or self.old task empty_stack) { interrupts = interrupts }) }
     {
         self.stacks[task as usize].interrupts = interrupts;
     }
@@ -155,9 +169,11 @@ fn is_same(a: Lock<'_>, b: Lock<'_>) -> bool
 
 /// The place of the latest acquisition of the lock in a stack.
 pub fn latest(stack: &[Held<'_>], lock: Lock<'_>) -> Option<usize>
-    ensures none { IfNone result (list_any (holds (plain_lock lock.entry)) (map plain_held stack.now) ≡ false) }
+    ensures none { IfNone result
+        (list_any (holds (plain_lock lock.entry)) (map plain_held stack.now) ≡ false) }
     ensures place { IfSome result (λ i. i < length stack.now) }
-    ensures last { IfSome result (λ i. remove (map plain_held stack.now) i ≡ remove_last (holds (plain_lock lock.entry)) (map plain_held stack.now)) }
+    ensures last { IfSome result (λ i. remove (map plain_held stack.now) i
+        ≡ remove_last (holds (plain_lock lock.entry)) (map plain_held stack.now)) }
 {
     let mut place = stack.len();
     while place > 0 {

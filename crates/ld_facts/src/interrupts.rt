@@ -4,7 +4,8 @@ ghost use Rattle.std.specs.List.{list_any};
 ghost use Rattle.ld_trace.specs.declared.event.State.{State};
 ghost use Rattle.ld_facts.specs.Flags.{same_state};
 ghost use Rattle.ld_facts.specs.Open.{is_some_and};
-ghost use Rattle.ld_facts.specs.Interrupts.{IsEntered, IsLeft, IsSet, enabled_now, flag_now, fresh, nests_in, start_now, states_of};
+ghost use Rattle.ld_facts.specs.Interrupts.{IsEntered, IsLeft, IsSet, enabled_now, flag_now, fresh};
+ghost use Rattle.ld_facts.specs.Interrupts.{nests_in, start_now, states_of};
 
 use ld_trace::State;
 

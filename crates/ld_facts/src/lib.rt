@@ -1,5 +1,5 @@
-//! The facts of one trace: its outcome, its classes, the dependencies between them, and how they met
-//! interrupt handlers.
+//! The facts of one trace: its outcome, its classes, the dependencies between them, and how they
+//! met interrupt handlers.
 #![tactic(auto)]
 
 mod chains;

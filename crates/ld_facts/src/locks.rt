@@ -2,11 +2,13 @@
 //!
 //! Locks of outer frames stay held, but an acquisition and a release see those of the innermost
 //! frame alone.
-ghost use Rattle.std.specs.Prelude.{◌≡◌, ◌<◌, ◌≤◌, ◌+◌, true, [], ◌∷◌, ◌++◌, drop, fold, length, map, take, slice_index_or, slice_set, IfOk, OnOk};
+ghost use Rattle.std.specs.Prelude.{◌≡◌, ◌<◌, ◌≤◌, ◌+◌, true, [], ◌∷◌, ◌++◌, drop, fold, length};
+ghost use Rattle.std.specs.Prelude.{map, take, slice_index_or, slice_set, IfOk, OnOk};
 ghost use Rattle.std.specs.List.{list_any};
 ghost use Rattle.ld_trace.specs.Events.{plain_lock};
 ghost use Rattle.ld_facts.specs.Edges.{edge_to, with_edge};
-ghost use Rattle.ld_facts.specs.Interrupts.{IsEntered, IsLeft, IsSet, fresh, nests_in, start_now, states_of};
+ghost use Rattle.ld_facts.specs.Interrupts.{IsEntered, IsLeft, IsSet, fresh, nests_in, start_now};
+ghost use Rattle.ld_facts.specs.Interrupts.{states_of};
 ghost use Rattle.ld_facts.specs.Locks.{IsMoved, chain_of, holds_of, inner_of, is_of, outer_of};
 ghost use Rattle.ld_facts.specs.Scan.{plain_held};
 ghost use Rattle.ld_facts.specs.Open.{remove_last};
@@ -81,8 +83,8 @@ impl<'a> Locks<'a> {
         self.stacks.interrupts(task)
     }
 
-    /// Tells the dependencies of a waiting acquisition of the class, from what the task holds in its
-    /// innermost frame.
+    /// Tells the dependencies of a waiting acquisition of the class, from what the task holds in
+    /// its innermost frame.
     pub fn tell(&mut self, task: u32, class: u32, line: u64) -> Result<(), AllocError>
         requires { task < length self.old.stacks }
         ensures { OnOk result (self.new ≡ record self.old {
@@ -131,8 +133,8 @@ impl<'a> Locks<'a> {
         Ok(())
     }
 
-    /// The task released the lock: its latest acquisition in the innermost frame ends. Tells whether
-    /// there was one.
+    /// The task released the lock: its latest acquisition in the innermost frame ends. Tells
+    /// whether there was one.
     pub fn let_go(&mut self, task: u32, lock: Lock<'a>) -> Result<bool, AllocError>
         requires { task < length self.old.stacks }
         ensures held { IfOk result (λ was.

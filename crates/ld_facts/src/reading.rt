@@ -14,8 +14,8 @@ use ld_class::Classes;
 use ld_trace::{Source, next_line, read_event, text};
 use std::alloc::{AllocError, Global};
 
-/// The facts of a trace: what became of it and, where it was read to its end, what it shows. A trace
-/// with a fault is refused as a whole, and shows nothing of what stood before the fault.
+/// The facts of a trace: what became of it and, where it was read to its end, what it shows. A
+/// trace with a fault is refused as a whole, and shows nothing of what stood before the fault.
 ///
 /// `AllocError` where a growth of memory was refused, whatever the trace says.
 pub fn facts<'a>(alloc: Global, source: Source<'a>) -> Result<Facts<'a>, AllocError>

@@ -1,11 +1,13 @@
 //! The scan of a trace: what its events so far leave, one event at a time.
-ghost use Rattle.std.specs.Prelude.{◌≡◌, ◌<◌, ◌≤◌, ◌++◌, ◌∷◌, ℕ, List, [], None, Some, Err, fold, length, map, slice_index_or, IfOk, OnOk};
+ghost use Rattle.std.specs.Prelude.{◌≡◌, ◌<◌, ◌≤◌, ◌++◌, ◌∷◌, ℕ, List, [], None, Some, Err, fold};
+ghost use Rattle.std.specs.Prelude.{length, map, slice_index_or, IfOk, OnOk};
 ghost use Rattle.ld_class.specs.Names.{place_of, with_name, IsNameAt};
 ghost use Rattle.ld_trace.specs.Events.{Position, plain_event, plain_lock};
 ghost use Rattle.ld_trace.specs.Events.PlainEvent.{Disable, Enable, Enter, Exit, Release};
 ghost use Rattle.ld_facts.specs.Interrupts.{fresh};
 ghost use Rattle.ld_facts.specs.Outcome.{event_fault, events};
-ghost use Rattle.ld_facts.specs.Reading.{AreMany, HasTask, IsAt, acquisition, happens, taken, waited};
+ghost use Rattle.ld_facts.specs.Reading.{AreMany, HasTask, IsAt, acquisition, happens, taken};
+ghost use Rattle.ld_facts.specs.Reading.{waited};
 ghost use Rattle.ld_facts.specs.Uses.{on_facts, with_use};
 ghost use Rattle.ld_facts.specs.declared.fault.TraceFault.{TraceFault};
 ghost use Rattle.ld_facts.specs.declared.outcome.TheConstants.{MOST_CLASSES, MOST_HELD, MOST_TASKS};
@@ -100,7 +102,8 @@ impl<'a> Scan<'a> {
         requires many { AreMany self.old }
         ensures many { OnOk result (AreMany self.new) }
         ensures ok { OnOk result ((all : List Position) → IsAt all self.old →
-            IsAt (all ++ happens line (acquisition waits task.entry.now (plain_lock lock.entry)) ∷ [])
+            IsAt (all ++
+            happens line (acquisition waits task.entry.now (plain_lock lock.entry)) ∷ [])
             self.new) }
         ensures fault { (fault : TraceFault) → result ≡ Err (Stop.Fault fault) →
             (all : List Position) → IsAt all self.old →
@@ -141,11 +144,13 @@ impl<'a> Scan<'a> {
         self.uses.acquired(class, interrupts, line)
     }
 
+    /// A release: the latest acquisition of the lock in the task's innermost frame ends.
     fn release(&mut self, task: &'a [u8], lock: Lock<'a>) -> Result<(), Stop>
         requires many { AreMany self.old }
         ensures many { OnOk result (AreMany self.new) }
         ensures ok { OnOk result ((all : List Position) (line : ℕ) → IsAt all self.old →
-            IsAt (all ++ happens line (Release task.entry.now (plain_lock lock.entry)) ∷ []) self.new) }
+            IsAt (all ++ happens line (Release task.entry.now (plain_lock lock.entry)) ∷ [])
+            self.new) }
         ensures fault { (fault : TraceFault) → result ≡ Err (Stop.Fault fault) →
             (all : List Position) → IsAt all self.old →
             event_fault (events all) (Release task.entry.now (plain_lock lock.entry)) ≡ Some fault }
@@ -158,6 +163,7 @@ impl<'a> Scan<'a> {
         }
     }
 
+    /// A handler of this state begins: a frame opens within the others of the task.
     fn enter(&mut self, task: &'a [u8], state: State) -> Result<(), Stop>
         requires many { AreMany self.old }
         ensures many { OnOk result (AreMany self.new) }
@@ -179,6 +185,7 @@ impl<'a> Scan<'a> {
         Ok(())
     }
 
+    /// The innermost handler ends: its frame closes, and the flags around it count again.
     fn exit(&mut self, task: &'a [u8], state: State, line: u64) -> Result<(), Stop>
         requires many { AreMany self.old }
         ensures many { OnOk result (AreMany self.new) }
@@ -201,6 +208,7 @@ impl<'a> Scan<'a> {
         Ok(())
     }
 
+    /// The flag for this state goes on in the task's innermost frame.
     fn enable(&mut self, task: &'a [u8], state: State, line: u64) -> Result<(), Stop>
         requires many { AreMany self.old }
         ensures many { OnOk result (AreMany self.new) }
@@ -219,6 +227,7 @@ impl<'a> Scan<'a> {
         Ok(())
     }
 
+    /// The flag for this state goes off in the task's innermost frame.
     fn disable(&mut self, task: &'a [u8], state: State) -> Result<(), Stop>
         requires many { AreMany self.old }
         ensures many { OnOk result (AreMany self.new) }
@@ -268,7 +277,8 @@ impl<'a> Scan<'a> {
     /// The number of the class, which may be new.
     fn class(&mut self, name: &'a [u8]) -> Result<u32, Stop>
         ensures place { IfOk result (λ id. IsNameAt self.new.classes id name.entry.now) }
-        ensures classes { OnOk result (self.new.classes ≡ with_name self.old.classes name.entry.now) }
+        ensures classes { OnOk result
+            (self.new.classes ≡ with_name self.old.classes name.entry.now) }
         ensures fits { OnOk result (place_of self.old.classes name.entry.now ≡ None →
             length self.old.classes < MOST_CLASSES) }
         ensures others { (self.new.tasks ≡ self.old.tasks)

@@ -1,5 +1,6 @@
 //! The usage bits of a trace's numbered classes.
-ghost use Rattle.std.specs.Prelude.{◌≡◌, ◌<◌, ℕ, [], ◌∷◌, fold, map, slice_index_or, vec_len, OnErr, OnOk};
+ghost use Rattle.std.specs.Prelude.{◌≡◌, ◌<◌, ℕ, [], ◌∷◌, fold, map, slice_index_or, vec_len};
+ghost use Rattle.std.specs.Prelude.{OnErr, OnOk};
 ghost use Rattle.ld_facts.specs.Usage.{IsBit};
 ghost use Rattle.ld_facts.specs.Uses.{in_facts, none, on_facts, told, with_use};
 
@@ -88,7 +89,8 @@ impl Uses {
         interrupts: Interrupts,
         line: u64,
     ) -> Result<(), AllocError>
-        ensures { OnOk result (self.new ≡ fold with_use self.old (on_facts interrupts line (class ∷ []))) }
+        ensures { OnOk result
+            (self.new ≡ fold with_use self.old (on_facts interrupts line (class ∷ []))) }
     {
         if interrupts.is_enabled(State::Hard) {
             let bit = Usage::ON_HARD;
@@ -109,7 +111,8 @@ impl Uses {
         interrupts: Interrupts,
         line: u64,
     ) -> Result<(), AllocError>
-        ensures { OnOk result (self.new ≡ fold with_use self.old (on_facts interrupts line (map (λ held. held.class) stack.now))) }
+        ensures { OnOk result (self.new ≡ fold with_use self.old
+            (on_facts interrupts line (map (λ held. held.class) stack.now))) }
     {
         if interrupts.is_enabled(State::Hard) {
             self.add_each(stack, Usage::ON_HARD, line)?;
@@ -123,7 +126,8 @@ impl Uses {
     /// Adds a bit of the class of each lock, where it isn't there yet.
     fn add_each(&mut self, stack: &[Held<'_>], bit: Usage, line: u64) -> Result<(), AllocError>
         requires { IsBit bit }
-        ensures { OnOk result (self.new ≡ fold with_use self.old (map (told bit line) (map (λ held. held.class) stack.now))) }
+        ensures { OnOk result (self.new ≡ fold with_use self.old
+            (map (told bit line) (map (λ held. held.class) stack.now))) }
     {
         for held in stack {
             let class = held.class;
@@ -151,7 +155,8 @@ impl Uses {
 
 /// Gives the class a set, where it has none yet: it and those below it get empty ones.
 fn reach(known: &mut Vec<Usage>, class: u32) -> Result<(), AllocError>
-    ensures kept { (k : ℕ) → slice_index_or known.new.items k none ≡ slice_index_or known.old.items k none }
+    ensures kept { (k : ℕ)
+        → slice_index_or known.new.items k none ≡ slice_index_or known.old.items k none }
     ensures reached { OnOk result (class < vec_len known.new) }
 {
     let class = class as usize;

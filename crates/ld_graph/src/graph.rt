@@ -216,19 +216,48 @@ impl Graph {
             (λ w. IsShownWalk (IsEdge self.now.edges) (ComesBefore places.now) a b w.items)) }
     {
         let distances = self.distances(alloc, b)?;
+        self.walk_along(alloc, a, b, &distances, places)
+    }
+
+    /// The walk from `a` to `b` that `walk` gives, by the distances to `b` that `distances` gave. So
+    /// one search serves the walks from many classes to one.
+    ///
+    /// # Errors
+    ///
+    /// `AllocError` where memory was refused.
+    pub fn walk_along(
+        &self,
+        alloc: Global,
+        a: u32,
+        b: u32,
+        distances: &[Option<u64>],
+        places: &[u32],
+    ) -> Result<Option<Vec<u32>>, AllocError>
+        requires a { a < self.now.classes }
+        requires len { length distances.now ≡ self.now.classes }
+        requires each { (c : ℕ) →
+            DistanceIs (IsEdge self.now.edges) c b (slice_index_or distances.now c None) }
+        requires places { length places.now ≡ self.now.classes }
+        ensures { IfOk result (λ walk. MatchOption walk (¬ HasWalk (IsEdge self.now.edges) a b)
+            (λ w. IsShownWalk (IsEdge self.now.edges) (ComesBefore places.now) a b w.items)) }
+    {
         let Some(distance) = distances[a as usize] else {
             return Ok(None);
         };
-        let walk = show(alloc, &self.after, a, b, distance, &distances, places)?;
+        let walk = show(alloc, &self.after, a, b, distance, distances, places)?;
         Ok(Some(walk))
     }
 
-    /// Searches for the classes that walks from `from` lead to, which `found` then tells. Takes no
+    /// Searches for the classes that walks from `from` lead to, which `found` then tells. Where `from`
+    /// was searched from last, and no class or edge was added since, nothing is left to do. Takes no
     /// memory.
     pub fn search(&mut self, from: u32)
         requires { from < self.old.classes }
         ensures { self.new ≡ record self.old { searched = Some from } }
     {
+        if self.searched == Some(from) {
+            return;
+        }
         measure(&self.after, from, &mut self.levels, &mut self.queue);
         self.searched = Some(from);
     }

@@ -1,6 +1,10 @@
 //! Worked graphs. Each call that takes memory is made once more where it was refused, so these hold
 //! whichever allocation fails.
 
+ghost use Rattle.std.specs.Prelude.{◌≡◌, ℕ, length, slice_index_or, None};
+ghost use Rattle.ld_graph.specs.Edges.{IsEdge};
+ghost use Rattle.ld_graph.specs.Walks.{DistanceIs};
+
 use super::*;
 use std::alloc::Global;
 use std::process::Abort;
@@ -30,7 +34,11 @@ fn insert<R: Abort>(rt: &R, graph: &mut Graph, a: u32, b: u32) -> bool {
     graph.insert(a, b)
 }
 
-fn distances<R: Abort>(rt: &R, alloc: Global, graph: &Graph, to: u32) -> Vec<Option<u64>> {
+fn distances<R: Abort>(rt: &R, alloc: Global, graph: &Graph, to: u32) -> Vec<Option<u64>>
+    ensures len { length result.items ≡ graph.now.classes }
+    ensures each { (c : ℕ) →
+        DistanceIs (IsEdge graph.now.edges) c to (slice_index_or result.items c None) }
+{
     assert!(rt; (to as usize) < graph.len());
     match graph.distances(alloc, to) {
         Ok(distances) => distances,
@@ -71,6 +79,30 @@ fn expect_walk<R: Abort>(
     assert_eq!(rt; walk.as_slice(), wanted);
 }
 
+/// Asserts the walk to `to` from each class in turn, or that there is none, all by one search.
+fn expect_walks_along<R: Abort>(
+    rt: &R,
+    alloc: Global,
+    graph: &Graph,
+    to: u32,
+    places: &[u32],
+    wanted: &[Option<&[u32]>],
+) {
+    let distances = distances(rt, alloc, graph, to);
+    assert!(rt; places.len() == graph.len());
+    assert_eq!(rt; wanted.len(), graph.len());
+    for a in 0..graph.len() as u32 {
+        assert!(rt; (a as usize) < graph.len() && (a as usize) < wanted.len());
+        let walk = match graph.walk_along(alloc, a, to, &distances, places) {
+            Ok(walk) => walk,
+            Err(_) => graph
+                .walk_along(alloc, a, to, &distances, places)
+                .expect(rt, "walk made again"),
+        };
+        assert_eq!(rt; walk.as_deref(), wanted[a as usize], "{a} to {to}");
+    }
+}
+
 /// Asserts that what a search finds is what has a distance, for every pair of classes.
 fn expect_found<R: Abort>(rt: &R, alloc: Global, graph: &mut Graph) {
     for from in 0..graph.len() as u32 {
@@ -106,6 +138,8 @@ fn expect_circle<R: Abort>(rt: &R, alloc: Global, graph: &mut Graph) {
     expect_walk(rt, alloc, graph, (2, 1), &places, &[2, 0, 1]);
     expect_walk(rt, alloc, graph, (0, 0), &places, &[0, 1, 2, 0]);
     assert!(rt; walk(rt, alloc, graph, 3, 0, &places).is_none());
+    let wanted: [Option<&[u32]>; 4] = [Some(&[0, 1]), Some(&[1, 2, 0, 1]), Some(&[2, 0, 1]), None];
+    expect_walks_along(rt, alloc, graph, 1, &places, &wanted);
     expect_found(rt, alloc, graph);
 }
 

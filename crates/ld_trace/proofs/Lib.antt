@@ -3,3 +3,4 @@ pub mod FieldLemmas
 pub mod VerbLemmas
 pub mod SplitLemmas
 pub mod SectionLemmas
+pub mod PositionLemmas

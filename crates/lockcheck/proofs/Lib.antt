@@ -1,9 +1,7 @@
-pub mod Added
-pub mod Bounds
-pub mod Counted
-pub mod EachOnce
-pub mod Kept
-pub mod Names
-pub mod Pushed
+pub mod Numbered
+pub mod StreamFaults
 pub mod Texts
+pub mod TraceLemmas
 pub mod Transfers
+pub mod Unique
+pub mod Verdicts

@@ -7,12 +7,14 @@ ghost use Rattle.std.specs.Process.{exit_status};
 pub mod devices;
 #[cfg(test)]
 mod fakes;
+mod lines;
 mod report;
 pub mod run;
+#[cfg(test)]
+mod streams;
 mod text;
-mod totals;
+mod traces;
 mod transfer;
-mod union;
 mod verdict;
 
 use crate::devices::Std;

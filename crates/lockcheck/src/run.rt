@@ -1,11 +1,11 @@
 //! One run: reads a stream to its end, and writes its report.
-ghost use Rattle.std.specs.Prelude.{◌≡◌, ◌≢◌, ◌≤◌, ◌↔◌, false, true, IfOk, IsErr, OnOk};
+ghost use Rattle.std.specs.Prelude.{◌≡◌, ◌≢◌, ◌≤◌, ◌↔◌, ℕ, List, false, true, IfOk, IsErr, OnOk};
 ghost use Rattle.std.specs.Io.KnownBytes.{Appends};
 ghost use Rattle.ld_trace.specs.declared.source.StreamFault.{StreamFault};
-ghost use Rattle.lockcheck.specs.Report.{report_text};
+ghost use Rattle.lockcheck.specs.Report.{IsReport};
 ghost use Rattle.lockcheck.specs.Run.{Answers, Refuses};
 ghost use Rattle.lockcheck.specs.Transfer.{AppendsPart, ConsumesAtMost};
-ghost use Rattle.lockcheck.specs.Verdict.{verdict};
+ghost use Rattle.lockcheck.specs.Verdict.{VerdictIs};
 
 use crate::devices::{Input, Output};
 use crate::report::{ReportFault, report_of};
@@ -54,15 +54,17 @@ pub fn run<I: Input, O: Output>(
 
     ensures ok { IfOk result (λ answer.
         Answers (I.left input.old) (I.left input.new) (I.has_ended input.new) (λ traces.
-        Appends (O.held output.old) (O.held output.new) (report_text traces)
-        × (answer ≡ verdict traces))) }
+        ((text : List ℕ) × IsReport traces text
+        × Appends (O.held output.old) (O.held output.new) text)
+        × VerdictIs traces answer)) }
     ensures flushed { OnOk result (O.is_flushed output.new ≡ true) }
 
     ensures read { (result ≡ Err RunFault.Read) ↔ (I.read_failed input.new ≡ true) }
     ensures write { (result ≡ Err RunFault.Write) ↔ (O.write_failed output.new ≡ true) }
     ensures part { result ≡ Err RunFault.Write →
         Answers (I.left input.old) (I.left input.new) (I.has_ended input.new) (λ traces.
-        AppendsPart (O.held output.old) (O.held output.new) (report_text traces)) }
+        (text : List ℕ) × IsReport traces text
+        × AppendsPart (O.held output.old) (O.held output.new) text) }
     ensures stream { (fault : StreamFault) → result ≡ Err (RunFault.Stream fault) →
         Refuses (I.left input.old) (I.left input.new) (I.has_ended input.new) fault }
     ensures nothing { IsErr result → result ≢ Err RunFault.Write → output.new ≡ output.old }

@@ -1,62 +1,35 @@
-//! Writes the lines of a report.
-ghost use Rattle.std.specs.Prelude.{◌≡◌, ◌<◌, ◌^◌, ◌++◌, IfOk, OnOk, decimal};
-ghost use Rattle.ld_facts.specs.declared.outcome.Outcome.TheVariants.{Refused};
-ghost use Rattle.lockcheck.specs.Report.{refused_line, refused_lines, report_text, summary_line};
-ghost use Rattle.lockcheck.specs.Totals.{events};
-ghost use Rattle.lockcheck.specs.Union.{AreOutcomes, sources_of};
+//! The text of a report.
+ghost use Rattle.std.specs.Prelude.{◌≡◌, ◌++◌, IfOk, OnOk, flat_map, map};
+ghost use Rattle.ld_book.specs.Book.{AreOutcomes, sources_of};
+ghost use Rattle.ld_book.specs.Rows.{plain_conflict_row, plain_cycle_row, plain_findings};
+ghost use Rattle.ld_book.specs.Rows.{plain_forbidden_row};
+ghost use Rattle.lockcheck.specs.Report.{IsReport, conflict_line, cycle_line, forbidden_line};
+ghost use Rattle.lockcheck.specs.Report.{refused_lines, violation_lines, violations};
 
-use crate::totals::Totals;
-use crate::union::Union;
-use ld_facts::{Listed, Outcome, TraceFault};
+use crate::lines::{
+    write_conflict, write_cycle, write_forbidden, write_last, write_refused, write_summary,
+};
+use crate::traces::Traces;
+use ld_book::{Book, ConflictRow, CycleRow, Findings, ForbiddenRow};
+use ld_facts::{Listed, Outcome};
 use std::alloc::{AllocError, Global};
-use std::io::Write;
 
-/// The text of the report of some traces.
-pub fn text_of(alloc: Global, union: &Union<'_>) -> Result<Vec<u8>, AllocError>
-    requires { events union.now < 2 ^ 64 }
-    ensures { IfOk result (λ text. text.items ≡ report_text union.now) }
+/// The report of the traces that a book lists, in whatever order they came.
+///
+/// # Errors
+///
+/// `AllocError` where a growth of memory was refused.
+pub fn report(alloc: Global, book: &Book<'_>) -> Result<Vec<u8>, AllocError>
+    ensures { IfOk result (λ text. IsReport book.now text.items) }
 {
+    let traces = Traces::new(alloc, book)?;
+    let findings = book.findings(alloc)?;
     let mut text = Vec::new(alloc);
-    write_summary(&mut text, &union.totals())?;
-    write_all_refused(&mut text, union.listed())?;
-    text.extend_from_slice(b"unchecked\n")?;
+    write_summary(&mut text, &book.totals())?;
+    write_all_refused(&mut text, traces.listed())?;
+    write_violations(&mut text, &traces, &findings)?;
+    write_last(&mut text, count_of(&findings))?;
     Ok(text)
-}
-
-/// Writes a number behind these words.
-fn write_number(text: &mut Vec<u8>, words: &str, number: u64) -> Result<(), AllocError>
-    ensures { OnOk result (text.new.items ≡ text.old.items ++ words.now ++ decimal number) }
-{
-    write!(text, "{words}{number}").map_err(|_| AllocError)
-}
-
-/// Writes how much the traces are and show.
-fn write_summary(text: &mut Vec<u8>, totals: &Totals) -> Result<(), AllocError>
-    ensures { OnOk result (text.new.items ≡ text.old.items ++ summary_line totals.now) }
-{
-    write_number(text, "traces ", totals.traces)?;
-    write_number(text, " refused ", totals.refused)?;
-    write_number(text, " events ", totals.events)?;
-    write_number(text, " classes ", totals.classes)?;
-    write_number(text, " dependencies ", totals.dependencies)?;
-    text.push(b'\n')?;
-    Ok(())
-}
-
-/// Writes why a trace is refused.
-fn write_refused(
-    text: &mut Vec<u8>,
-    label: &[u8],
-    line: u64,
-    fault: TraceFault,
-) -> Result<(), AllocError>
-    ensures { OnOk result (text.new.items ≡ text.old.items ++
-        refused_line label.now (Refused line fault)) }
-{
-    text.extend_from_slice(b"refused ")?;
-    text.extend_from_slice(label)?;
-    let name = fault.name();
-    writeln!(text, " line {line} {name}").map_err(|_| AllocError)
 }
 
 /// Writes which traces are refused, and why.
@@ -72,3 +45,74 @@ fn write_all_refused(text: &mut Vec<u8>, listed: &[Listed<'_>]) -> Result<(), Al
     }
     Ok(())
 }
+
+/// Writes every violation.
+fn write_violations(
+    text: &mut Vec<u8>,
+    traces: &Traces<'_>,
+    findings: &Findings<'_>,
+) -> Result<(), AllocError>
+    ensures { OnOk result (text.new.items ≡ text.old.items ++
+        violation_lines traces.now (plain_findings findings.now)) }
+{
+    write_cycles(text, traces, findings.cycles.items())?;
+    write_conflicts(text, traces, findings.conflicts.items())?;
+    write_all_forbidden(text, traces, findings.forbidden.items())
+}
+
+/// Writes the dependencies on cycles.
+fn write_cycles(
+    text: &mut Vec<u8>,
+    traces: &Traces<'_>,
+    cycles: &[CycleRow<'_>],
+) -> Result<(), AllocError>
+    ensures { OnOk result (text.new.items ≡ text.old.items ++
+        flat_map (cycle_line traces.now) (map plain_cycle_row cycles.now)) }
+{
+    for cycle in cycles {
+        write_cycle(text, traces, cycle)?;
+    }
+    Ok(())
+}
+
+/// Writes the conflicts.
+fn write_conflicts(
+    text: &mut Vec<u8>,
+    traces: &Traces<'_>,
+    conflicts: &[ConflictRow<'_>],
+) -> Result<(), AllocError>
+    ensures { OnOk result (text.new.items ≡ text.old.items ++
+        flat_map (conflict_line traces.now) (map plain_conflict_row conflicts.now)) }
+{
+    for conflict in conflicts {
+        write_conflict(text, traces, conflict)?;
+    }
+    Ok(())
+}
+
+/// Writes the forbidden walks.
+fn write_all_forbidden(
+    text: &mut Vec<u8>,
+    traces: &Traces<'_>,
+    walks: &[ForbiddenRow<'_>],
+) -> Result<(), AllocError>
+    ensures { OnOk result (text.new.items ≡ text.old.items ++
+        flat_map (forbidden_line traces.now) (map plain_forbidden_row walks.now)) }
+{
+    for walk in walks {
+        write_forbidden(text, traces, walk)?;
+    }
+    Ok(())
+}
+
+/// How many violations there are.
+fn count_of(findings: &Findings<'_>) -> u64
+    ensures { result ≡ violations (plain_findings findings.now) }
+{
+    let conflicts = findings.conflicts.items().len();
+    let forbidden = findings.forbidden.items().len();
+    (findings.cycles.items().len() + conflicts + forbidden) as u64
+}
+
+#[cfg(test)]
+mod tests;

@@ -192,8 +192,8 @@ fn outer_flags_come_back_at_exit(rt: HostRuntime) -> Result<(), Fail> {
 
 #[test]
 fn frames_stand_apart(rt: HostRuntime) -> Result<(), Fail> {
-    let bytes =
-        b"enter t soft\nacquire t S\nenter t hard\nacquire t H\nrelease t H\nexit t hard\nrelease t S\nexit t soft\n";
+    let bytes = b"enter t soft\nacquire t S\nenter t hard\nacquire t H\nrelease t H\nexit t hard\n\
+        release t S\nexit t soft\n";
     let facts = told(&rt, bytes)?;
     assert_eq!(rt; facts.outcome(), Outcome::Read { events: 8 });
     assert_eq!(rt; facts.edges().len(), 0);

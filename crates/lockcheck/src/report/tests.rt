@@ -1,187 +1,97 @@
-use super::{ReportFault, report_of, union_of};
-use ld_facts::Witness;
-use ld_trace::{StreamFault, split};
+use super::{ReportFault, report_of};
+use crate::streams::{
+    APART, APART_REPORT, CONFLICT, CONFLICT_REPORT, CONFLICT_SOFT, CONFLICT_SOFT_REPORT,
+    ENABLE_WHILE_HELD, EVERY_KIND, EVERY_KIND_REPORT, FORBIDDEN, FORBIDDEN_REPORT,
+    FORBIDDEN_THROUGH, FORBIDDEN_THROUGH_REPORT, FRAMES_APART, INVERSION, INVERSION_REPORT,
+    MIXED_LINE_ENDS, ORDERS, ORDERS_REPORT, OUT_OF_ORDER_RELEASE, RECURSION, RECURSION_REPORT,
+    SAME_LABEL, THREE_TRACES, THREE_TRACES_REPORT, TRYLOCK_SOURCE, TRYLOCK_TARGET,
+};
+use ld_trace::StreamFault;
 use std::alloc::Global;
 use std::process::Abort;
 use std::test::Fail;
 
-/// Two traces that take the same locks in opposite orders.
-const INVERSION: &[u8] = b"trace ab
-acquire t A
-acquire t B
-release t B
-release t A
-trace ba
-acquire t B
-acquire t A
-release t A
-release t B
-";
-
-/// One trace whose first lock is released before its second.
-const OUT_OF_ORDER_RELEASE: &[u8] = b"trace o
-acquire t A
-acquire t B
-release t A
-acquire t C
-";
-
-/// One trace with CR LF, comments, empty lines, tabs, and a last line that ends with CR alone.
-const MIXED_LINE_ENDS: &[u8] = b"# run 7\r\n\ntrace k\r\nacquire\tt\tA\n  # held\nacquire t  B\r";
-
-/// Three traces whose orders close a circle of three classes.
-const THREE_TRACES: &[u8] = b"trace x
-acquire t A
-acquire t B
-trace y
-acquire t B
-acquire t C
-trace z
-acquire t C
-acquire t A
-";
-
-/// Two traces with opposite orders, of which one was taken by a trylock.
-const TRYLOCK_TARGET: &[u8] = b"trace p
-acquire t A
-try t B
-trace q
-acquire t B
-acquire t A
-";
-
-/// Two traces of one label and one order.
-const SAME_LABEL: &[u8] = b"trace d
-acquire t A
-acquire t B
-trace d
-acquire t A
-acquire t B
-";
-
-/// A path between two classes, and in two other traces what makes it unsafe.
-const APART: &[u8] = b"trace a
-disable t hard
-acquire t H
-acquire t U
-trace b
-acquire t U
-trace c
-enter t hard
-acquire t H
-";
-
-/// The body of a trace in which a hard handler acquires under a lock of a soft one.
-const FRAMES_APART: &str = "enter t soft
-acquire t S
-enter t hard
-acquire t H
-release t H
-exit t hard
-release t S
-exit t soft
-";
-
-/// The body of a trace with a class that is acquired outside handlers and in a hard one.
-const CONFLICT: &str = "acquire t A
-release t A
-enter t hard
-acquire t A
-release t A
-exit t hard
-";
-
-/// The body of a trace with a class that a hard handler uses, and under it one that is also held
-/// with the hard flag on.
-const FORBIDDEN: &str = "enter t hard
-acquire t H
-release t H
-exit t hard
-disable t hard
-acquire t H
-acquire t U
-release t U
-release t H
-enable t hard
-acquire t U
-release t U
-";
-
-/// The body of a trace with the same two classes and a third one between them.
-const FORBIDDEN_THROUGH: &str = "enter t hard
-acquire t H
-release t H
-exit t hard
-disable t hard
-acquire t H
-acquire t M
-release t M
-release t H
-acquire t M
-acquire t U
-release t U
-release t M
-enable t hard
-acquire t U
-";
-
-/// The body of a trace with two classes in both orders, and one of them under itself.
-const ORDERS: &str = "acquire t B
-acquire t A
-acquire t A@2
-release t A@2
-release t A
-release t B
-acquire t A
-acquire t B
-";
-
 #[test]
-fn reports_an_empty_stream(rt: HostRuntime) {
-    let report = report_of(rt.alloc(), b"").expect(&rt, "a report");
-    assert_eq!(rt;
-        report.text.as_slice(),
-        b"traces 0 refused 0 events 0 classes 0 dependencies 0\nunchecked\n".as_slice()
-    );
-    assert_eq!(rt; report.verdict.status(), 0);
-}
-
-#[test]
-fn reports_traces_that_are_read(rt: HostRuntime) {
-    for (stream, text) in [
+fn reports_streams_without_a_violation(rt: HostRuntime) -> Result<(), Fail> {
+    for (stream, counts) in [
         (
-            INVERSION,
-            b"traces 2 refused 0 events 8 classes 2 dependencies 2\nunchecked\n".as_slice(),
-        ),
-        (
-            OUT_OF_ORDER_RELEASE,
-            b"traces 1 refused 0 events 4 classes 3 dependencies 2\nunchecked\n",
-        ),
-        (
-            MIXED_LINE_ENDS,
-            b"traces 1 refused 0 events 2 classes 2 dependencies 1\nunchecked\n",
-        ),
-        (
-            THREE_TRACES,
-            b"traces 3 refused 0 events 6 classes 3 dependencies 3\nunchecked\n",
+            b"".as_slice(),
+            "traces 0 refused 0 events 0 classes 0 dependencies 0",
         ),
         (
             TRYLOCK_TARGET,
-            b"traces 2 refused 0 events 4 classes 2 dependencies 1\nunchecked\n",
+            "traces 2 refused 0 events 4 classes 2 dependencies 1",
+        ),
+        (
+            TRYLOCK_SOURCE,
+            "traces 1 refused 0 events 2 classes 2 dependencies 1",
+        ),
+        (
+            ENABLE_WHILE_HELD,
+            "traces 1 refused 0 events 4 classes 1 dependencies 0",
+        ),
+        (
+            FRAMES_APART,
+            "traces 1 refused 0 events 8 classes 2 dependencies 0",
+        ),
+        (
+            OUT_OF_ORDER_RELEASE,
+            "traces 1 refused 0 events 4 classes 3 dependencies 2",
         ),
         (
             SAME_LABEL,
-            b"traces 2 refused 0 events 4 classes 2 dependencies 1\nunchecked\n",
+            "traces 2 refused 0 events 4 classes 2 dependencies 1",
         ),
         (
-            APART,
-            b"traces 3 refused 0 events 6 classes 2 dependencies 1\nunchecked\n",
+            MIXED_LINE_ENDS,
+            "traces 1 refused 0 events 2 classes 2 dependencies 1",
         ),
     ] {
-        let report = report_of(rt.alloc(), stream).expect(&rt, "a report");
-        assert_eq!(rt; report.text.as_slice(), text);
-        assert_eq!(rt; report.verdict.status(), 0);
+        let text = format!(in rt.alloc(); "{counts}\nclean\n")?;
+        assert_report(&rt, rt.alloc(), stream, text.as_bytes(), 0);
     }
+    Ok(())
+}
+
+#[test]
+fn reports_each_violation(rt: HostRuntime) {
+    for (stream, text) in [
+        (INVERSION, INVERSION_REPORT),
+        (THREE_TRACES, THREE_TRACES_REPORT),
+        (RECURSION, RECURSION_REPORT),
+        (CONFLICT, CONFLICT_REPORT),
+        (CONFLICT_SOFT, CONFLICT_SOFT_REPORT),
+        (FORBIDDEN, FORBIDDEN_REPORT),
+        (FORBIDDEN_THROUGH, FORBIDDEN_THROUGH_REPORT),
+        (APART, APART_REPORT),
+        (ORDERS, ORDERS_REPORT),
+        (EVERY_KIND, EVERY_KIND_REPORT),
+    ] {
+        assert_report(&rt, rt.alloc(), stream, text, 1);
+    }
+}
+
+// A trace that is refused shows nothing, and a violation of the others is what the verdict tells.
+#[test]
+fn a_violation_beside_a_refused_trace_is_told(rt: HostRuntime) {
+    assert_report(
+        &rt,
+        rt.alloc(),
+        b"trace broken
+acquire t A@1
+acquire t A@2
+lock t A
+trace r
+acquire t A@1
+acquire t A@2
+",
+        b"traces 2 refused 1 events 2 classes 1 dependencies 1
+refused broken line 4 BadVerb
+recursion A at r:7
+violations 1
+",
+        1,
+    );
 }
 
 #[test]
@@ -192,24 +102,25 @@ fn a_refused_trace_gives_a_line_and_nothing_else(rt: HostRuntime) -> Result<(), 
     }
     let mut deep = stream.clone()?;
     deep.push_str("acquire t c49\ntrace ok\nacquire t A\n")?;
-    let report = report_of(rt.alloc(), deep.as_bytes()).expect(&rt, "a report");
-    assert_eq!(rt;
-        report.text.as_slice(),
+    assert_report(
+        &rt,
+        rt.alloc(),
+        deep.as_bytes(),
         b"traces 2 refused 1 events 1 classes 1 dependencies 0
 refused deep line 50 TooDeep
-unchecked
-"
-            .as_slice()
+clean
+",
+        3,
     );
-    assert_eq!(rt; report.verdict.status(), 3);
 
     stream.push_str("trace ok\nacquire t A\n")?;
-    let report = report_of(rt.alloc(), stream.as_bytes()).expect(&rt, "a report");
-    assert_eq!(rt;
-        report.text.as_slice(),
-        b"traces 2 refused 0 events 49 classes 49 dependencies 1128\nunchecked\n".as_slice()
+    assert_report(
+        &rt,
+        rt.alloc(),
+        stream.as_bytes(),
+        b"traces 2 refused 0 events 49 classes 49 dependencies 1128\nclean\n",
+        0,
     );
-    assert_eq!(rt; report.verdict.status(), 0);
     Ok(())
 }
 
@@ -217,27 +128,6 @@ unchecked
 fn a_stream_with_a_fault_has_no_report(rt: HostRuntime) {
     let fault = report_of(rt.alloc(), b"acquire t A\n").err();
     assert_eq!(rt; fault, Some(ReportFault::Stream(StreamFault::NoHeader(1))));
-}
-
-#[test]
-fn keeps_the_first_witness(rt: HostRuntime) -> Result<(), Fail> {
-    for (stream, from, to, witness) in [
-        (INVERSION, b"A".as_slice(), b"B".as_slice(), Some((0, 3))),
-        (INVERSION, b"B", b"A", Some((1, 8))),
-        (OUT_OF_ORDER_RELEASE, b"A", b"B", Some((0, 3))),
-        (OUT_OF_ORDER_RELEASE, b"B", b"C", Some((0, 5))),
-        (OUT_OF_ORDER_RELEASE, b"A", b"C", None),
-        (MIXED_LINE_ENDS, b"A", b"B", Some((0, 6))),
-        (SAME_LABEL, b"A", b"B", Some((0, 3))),
-        (TRYLOCK_TARGET, b"B", b"A", Some((1, 6))),
-        (TRYLOCK_TARGET, b"A", b"B", None),
-    ] {
-        let sources = split(rt.alloc(), stream)?;
-        let union = union_of(rt.alloc(), &sources)?;
-        let expected = witness.map(|(number, line)| Witness { number, line });
-        assert_eq!(rt; union.witness(from, to), expected);
-    }
-    Ok(())
 }
 
 #[test]
@@ -358,53 +248,9 @@ fn accepts_what_has_no_fault(rt: HostRuntime) -> Result<(), Fail> {
             "disable t soft\nacquire t A\nenter t hard\nexit t hard\nenable t soft\n",
             "events 5 classes 1 dependencies 0",
         ),
-    ] {
-        assert_accepted(&rt, rt.alloc(), body, counts)?;
-    }
-    Ok(())
-}
-
-#[test]
-fn counts_what_a_trace_shows(rt: HostRuntime) -> Result<(), Fail> {
-    for (body, counts) in [
         (
             "acquire t A@1\ntry t A@2\n",
             "events 2 classes 1 dependencies 0",
-        ),
-        (
-            "try t A\nacquire t B\n",
-            "events 2 classes 2 dependencies 1",
-        ),
-        (
-            "disable t hard\nacquire t A\nenable t hard\nrelease t A\n",
-            "events 4 classes 1 dependencies 0",
-        ),
-        (FRAMES_APART, "events 8 classes 2 dependencies 0"),
-    ] {
-        assert_accepted(&rt, rt.alloc(), body, counts)?;
-    }
-    Ok(())
-}
-
-// Each has a violation, of which the report says nothing yet.
-#[test]
-fn counts_what_a_trace_with_a_violation_shows(rt: HostRuntime) -> Result<(), Fail> {
-    for (body, counts) in [
-        (
-            "acquire t A@1\nacquire t A@2\n",
-            "events 2 classes 1 dependencies 1",
-        ),
-        (CONFLICT, "events 6 classes 1 dependencies 0"),
-        (
-            "enter t soft\nacquire t A\nrelease t A\nexit t soft\nacquire t A\n",
-            "events 5 classes 1 dependencies 0",
-        ),
-        (FORBIDDEN, "events 12 classes 2 dependencies 1"),
-        (FORBIDDEN_THROUGH, "events 15 classes 3 dependencies 2"),
-        (ORDERS, "events 8 classes 2 dependencies 3"),
-        (
-            "acquire t A\nrelease t A\nenter t hard\nacquire t A\nacquire t A@2\n",
-            "events 5 classes 1 dependencies 1",
         ),
     ] {
         assert_accepted(&rt, rt.alloc(), body, counts)?;
@@ -416,13 +262,17 @@ fn counts_what_a_trace_with_a_violation_shows(rt: HostRuntime) -> Result<(), Fai
 // text where none is.
 #[test]
 fn a_refused_growth_is_memory(rt: HostRuntime) {
-    match report_of(rt.alloc(), INVERSION) {
-        Ok(report) => assert_eq!(rt;
-            report.text.as_slice(),
-            b"traces 2 refused 0 events 8 classes 2 dependencies 2\nunchecked\n".as_slice()
-        ),
+    match report_of(rt.alloc(), EVERY_KIND) {
+        Ok(report) => assert_eq!(rt; report.text.as_slice(), EVERY_KIND_REPORT),
         Err(fault) => assert_eq!(rt; fault, ReportFault::Memory),
     }
+}
+
+/// Asserts that this stream has this report, which gives this exit status.
+fn assert_report(rt: &impl Abort, alloc: Global, stream: &[u8], text: &[u8], status: u8) {
+    let report = report_of(alloc, stream).expect(rt, "a report");
+    assert_eq!(rt; report.text.as_slice(), text);
+    assert_eq!(rt; report.verdict.status(), status);
 }
 
 /// Asserts that the trace `m` of this body is refused at this line with this fault.
@@ -435,20 +285,16 @@ fn assert_refused(
 ) -> Result<(), Fail> {
     let stream = format!(in alloc; "trace m\n{body}")?;
     let text = format!(in alloc;
-        "traces 1 refused 1 events 0 classes 0 dependencies 0\nrefused m line {line} {fault}\nunchecked\n"
+        "traces 1 refused 1 events 0 classes 0 dependencies 0\nrefused m line {line} {fault}\nclean\n"
     )?;
-    let report = report_of(alloc, stream.as_bytes()).expect(rt, "a report");
-    assert_eq!(rt; report.text.as_slice(), text.as_bytes(), "at {body}");
-    assert_eq!(rt; report.verdict.status(), 3);
+    assert_report(rt, alloc, stream.as_bytes(), text.as_bytes(), 3);
     Ok(())
 }
 
-/// Asserts that the trace of this body is read, and gives these numbers.
+/// Asserts that the trace of this body is read, gives these numbers, and shows no violation.
 fn assert_accepted(rt: &impl Abort, alloc: Global, body: &str, counts: &str) -> Result<(), Fail> {
     let stream = format!(in alloc; "trace m\n{body}")?;
-    let text = format!(in alloc; "traces 1 refused 0 {counts}\nunchecked\n")?;
-    let report = report_of(alloc, stream.as_bytes()).expect(rt, "a report");
-    assert_eq!(rt; report.text.as_slice(), text.as_bytes(), "at {body}");
-    assert_eq!(rt; report.verdict.status(), 0);
+    let text = format!(in alloc; "traces 1 refused 0 {counts}\nclean\n")?;
+    assert_report(rt, alloc, stream.as_bytes(), text.as_bytes(), 0);
     Ok(())
 }

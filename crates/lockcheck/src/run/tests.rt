@@ -3,24 +3,20 @@
 use super::{RunFault, run};
 use crate::devices::{Input, Output, Std};
 use crate::fakes::{FakeReader, FakeWriter, Mishap};
+use crate::streams::{INVERSION, INVERSION_REPORT};
 use crate::verdict::Verdict;
 use ld_trace::StreamFault;
 use std::io::Cursor;
 use std::test::Fail;
 
-const EMPTY: &[u8] = b"traces 0 refused 0 events 0 classes 0 dependencies 0\nunchecked\n";
-
-const INVERSION: &[u8] =
-    b"trace ab\nacquire t A\nacquire t B\nrelease t B\nrelease t A\ntrace ba\nacquire t B\nacquire t A\nrelease t A\nrelease t B\n";
-
-const INVERSION_REPORT: &[u8] =
-    b"traces 2 refused 0 events 8 classes 2 dependencies 2\nunchecked\n";
+const EMPTY_REPORT: &[u8] = b"traces 0 refused 0 events 0 classes 0 dependencies 0\nclean\n";
 
 #[test]
 fn a_read_that_fails_is_read(rt: HostRuntime) {
-    // The first read, and one in mid-stream, after which a further read would go well.
-    for failing in [0, 1] {
-        let mut input = FakeReader::new(INVERSION, 2, Some(failing));
+    // Each read in turn, the last of which finds the end.
+    let reads = INVERSION.len().div_ceil(7) + 1;
+    for failing in 0..reads {
+        let mut input = FakeReader::new(INVERSION, 7, Some(failing));
         let mut output = FakeWriter::new(rt.alloc(), 5, Mishap::Nothing);
         let outcome = run(rt.alloc(), &mut input, &mut output, 1);
         assert_eq!(rt; outcome, Err(RunFault::Read), "at read {failing}");
@@ -28,6 +24,10 @@ fn a_read_that_fails_is_read(rt: HostRuntime) {
         assert_eq!(rt; output.written(), b"".as_slice());
         assert!(rt; !output.failed());
     }
+    let mut input = FakeReader::new(INVERSION, 7, Some(reads));
+    let mut output = FakeWriter::new(rt.alloc(), 5, Mishap::Nothing);
+    let outcome = run(rt.alloc(), &mut input, &mut output, 1);
+    assert_eq!(rt; outcome, Ok(Verdict::Violations));
 }
 
 #[test]
@@ -35,29 +35,38 @@ fn a_report_is_written_in_parts(rt: HostRuntime) {
     let mut input = FakeReader::new(INVERSION, 7, None);
     let mut output = FakeWriter::new(rt.alloc(), 5, Mishap::Nothing);
     let outcome = run(rt.alloc(), &mut input, &mut output, 1);
-    assert_eq!(rt; outcome, Ok(Verdict::Clean));
+    assert_eq!(rt; outcome, Ok(Verdict::Violations));
     assert!(rt; input.ended() && !input.failed());
     assert_eq!(rt; output.written(), INVERSION_REPORT);
     assert!(rt; output.is_flushed() && !output.failed());
 }
 
 #[test]
-fn a_write_or_flush_that_fails_is_write(rt: HostRuntime) {
-    // What was written is the report of the empty input, up to the failure.
-    for (mishap, written) in [
-        (Mishap::WriteFails(0), b"".as_slice()),
-        (Mishap::WriteFails(1), b"trace".as_slice()),
-        (Mishap::WriteTakesNothing(0), b"".as_slice()),
-        (Mishap::WriteTakesNothing(1), b"trace".as_slice()),
-        (Mishap::FlushFails, EMPTY),
-    ] {
-        let mut input = FakeReader::new(b"", 1, None);
-        let mut output = FakeWriter::new(rt.alloc(), 5, mishap);
-        let outcome = run(rt.alloc(), &mut input, &mut output, 1);
-        assert_eq!(rt; outcome, Err(RunFault::Write));
-        assert_eq!(rt; output.written(), written);
-        assert!(rt; output.failed() && !output.is_flushed());
+fn a_write_that_fails_is_write(rt: HostRuntime) {
+    for failing in 0..INVERSION_REPORT.len().div_ceil(5) {
+        for mishap in [
+            Mishap::WriteFails(failing),
+            Mishap::WriteTakesNothing(failing),
+        ] {
+            let mut input = FakeReader::new(INVERSION, 40, None);
+            let mut output = FakeWriter::new(rt.alloc(), 5, mishap);
+            let outcome = run(rt.alloc(), &mut input, &mut output, 1);
+            assert_eq!(rt; outcome, Err(RunFault::Write), "at write {failing}");
+            assert_eq!(rt; output.written().len(), 5 * failing);
+            assert!(rt; INVERSION_REPORT.starts_with(output.written()));
+            assert!(rt; output.failed() && !output.is_flushed());
+        }
     }
+}
+
+#[test]
+fn a_flush_that_fails_is_write(rt: HostRuntime) {
+    let mut input = FakeReader::new(INVERSION, 40, None);
+    let mut output = FakeWriter::new(rt.alloc(), 5, Mishap::FlushFails);
+    let outcome = run(rt.alloc(), &mut input, &mut output, 1);
+    assert_eq!(rt; outcome, Err(RunFault::Write));
+    assert_eq!(rt; output.written(), INVERSION_REPORT);
+    assert!(rt; output.failed() && !output.is_flushed());
 }
 
 #[test]
@@ -77,16 +86,18 @@ fn std_readers_and_writers_are_devices(rt: HostRuntime) -> Result<(), Fail> {
         run(rt.alloc(), &mut slice, &mut Std::new(&mut text), 1)?,
         Verdict::Clean
     );
-    assert_eq!(rt; text.as_slice(), EMPTY);
+    assert_eq!(rt; text.as_slice(), EMPTY_REPORT);
     assert!(rt; slice.ended());
 
-    let mut text = Vec::new(rt.alloc());
-    let mut cursor = Std::new(Cursor::new(INVERSION));
-    assert_eq!(rt;
-        run(rt.alloc(), &mut cursor, &mut Std::new(&mut text), 1)?,
-        Verdict::Clean
-    );
-    assert_eq!(rt; text.as_slice(), INVERSION_REPORT);
+    for workers in [1, 2, 4, 16] {
+        let mut text = Vec::new(rt.alloc());
+        let mut cursor = Std::new(Cursor::new(INVERSION));
+        assert_eq!(rt;
+            run(rt.alloc(), &mut cursor, &mut Std::new(&mut text), workers)?,
+            Verdict::Violations
+        );
+        assert_eq!(rt; text.as_slice(), INVERSION_REPORT);
+    }
     Ok(())
 }
 
@@ -94,14 +105,14 @@ fn std_readers_and_writers_are_devices(rt: HostRuntime) -> Result<(), Fail> {
 // then `Memory` and nothing was written. Where N is past the last, it is the whole report.
 #[test]
 fn a_refused_growth_writes_nothing(rt: HostRuntime) {
-    let mut room = [b'-'; 128];
+    let mut room = [b'-'; 256];
     let mut input = FakeReader::new(INVERSION, 40, None);
     let mut output = Std::new(Cursor::new(room.as_mut_slice()));
     let outcome = run(rt.alloc(), &mut input, &mut output, 1);
     let count = INVERSION_REPORT.len();
     match outcome {
         Ok(verdict) => {
-            assert_eq!(rt; verdict, Verdict::Clean);
+            assert_eq!(rt; verdict, Verdict::Violations);
             assert!(rt; room.starts_with(INVERSION_REPORT));
             assert!(rt; room[count..].iter().all(|byte| *byte == b'-'));
         }

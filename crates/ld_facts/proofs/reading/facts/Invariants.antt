@@ -1,4 +1,4 @@
-use Rattle.std.proofs.Common.{◌≡◌, ◌+◌, ◌≤◌, length}
+use Rattle.std.proofs.Common.{◌+◌, ◌≤◌, length}
 use Rattle.ld_trace.specs.Sources.{plain}
 use Rattle.ld_facts.specs.Reading.{AreMany, IsReadTo}
 use Rattle.ld_facts.proofs.reading.facts.Given as goal

@@ -1,6 +1,6 @@
 use Rattle.std.proofs.Common.{◌≡◌, ◌++◌, take}
 use Rattle.lockcheck.specs.Report.{refused_lines}
-use Rattle.lockcheck.specs.Union.{sources_of}
+use Rattle.ld_book.specs.Book.{sources_of}
 use Rattle.lockcheck.proofs.text.write_all_refused.Given as goal
 
 abbrev pub invariant-loop-trace : goal.invariant-loop-trace

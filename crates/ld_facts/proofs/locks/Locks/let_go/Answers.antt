@@ -1,6 +1,7 @@
 use Rattle.std.proofs.Common.{◌≡◌, ℕ, ◌<◌, ◌≤◌, ◌+◌, ◌-◌, ◌++◌, suc, true, false, List, [], map, length, take, drop, get_or, remove, set, refl, sym, ap, subst, ◌∙◌, arith}
 use Rattle.std.proofs.lemmas.List.{append-nil, drop-map, drop_all, get_or-set_same, length-drop, length-map, length-take-le, take_rest}
 use Rattle.std.specs.List.{list_any}
+use Rattle.std.proofs.lemmas.Simd.{map-map}
 use Rattle.ld_trace.specs.Events.{PlainLock, plain_lock}
 use Rattle.ld_facts.specs.declared.edges.EdgeFact.{EdgeFact}
 use Rattle.ld_facts.specs.declared.held.Held.{Held}
@@ -9,7 +10,7 @@ use Rattle.ld_facts.specs.Locks.{AreTied, Known, hold_of, holds_of, is_of, known
 use Rattle.ld_facts.specs.Scan.{PlainStack, empty_stack, holds, inner, plain_held}
 use Rattle.ld_facts.specs.Open.{remove_last}
 use Rattle.ld_facts.proofs.StackLemmas.{part_is}
-use Rattle.ld_facts.proofs.LockLemmas.{any_shown, none_gone, removed_some, hold_gone, held_again, holds_at, holds_shown, interrupts_shown, map_map, shown_held, tied_cut, within_shown}
+use Rattle.ld_facts.proofs.LockLemmas.{any_shown, none_gone, removed_some, hold_gone, held_again, holds_at, holds_shown, interrupts_shown, shown_held, tied_cut, within_shown}
 use Rattle.ld_facts.proofs.locks.Locks.let_go.Goals as goal
 
 -- what the search says of the innermost frame, as the fields show it
@@ -64,7 +65,7 @@ module _ (stacks : List PlainStack) (edges : List EdgeFact) (known : Known) (tas
     later_are later are =
         let next : (start + place) + 1 ≡ suc (start + place) = omega arith in
         ap holds_of (are ∙ take_rest held ((start + place) + 1) ∙ ap (λ n. drop n held) next)
-        ∙ sym (map_map plain_held hold_of (drop (suc (start + place)) held))
+        ∙ sym (map-map hold_of plain_held (drop (suc (start + place)) held))
         ∙ ap (map hold_of) (sym (drop-map plain_held (suc (start + place)) held) ∙ ap (drop (suc (start + place))) same)
 
     -- and there is room for them

@@ -1,10 +1,11 @@
 use Rattle.std.proofs.Common.{◌≡◌, ℕ, List, get_or, sym, ap, ◌∙◌, map, fold}
+use Rattle.std.proofs.lemmas.Simd.{map-map}
 use Rattle.ld_facts.specs.Edges.{edge_to, with_edge}
 use Rattle.ld_facts.specs.declared.edges.EdgeFact.{EdgeFact}
 use Rattle.ld_facts.specs.declared.held.Held.{Held}
 use Rattle.ld_facts.specs.Scan.{PlainHeld, PlainStack, empty_stack, inner, plain_held}
 use Rattle.ld_facts.specs.Locks.{chain_of, classes_held}
-use Rattle.ld_facts.proofs.LockLemmas.{known_told, tied_more, tied_told, told_shown, map_map, start_within}
+use Rattle.ld_facts.proofs.LockLemmas.{known_told, tied_more, tied_told, told_shown, start_within}
 use Rattle.ld_facts.proofs.locks.Locks.tell.Goals as goal
 
 pub innermost-stack-requires-clause-start : goal.innermost-stack-requires-clause-start
@@ -20,7 +21,7 @@ invariant_of-self c = tied_more c.self.inside.stacks c.self.inside.chains c.self
 
 -- what is told, as the fields show it
 told_of : (class line : ℕ) (edges new : List EdgeFact) (stack : PlainStack) (held : List Held) → new ≡ fold with_edge edges (map (edge_to class line) (map (λ h. h.class) held)) → map plain_held held ≡ inner stack → new ≡ fold with_edge edges (map (edge_to class line) (classes_held (inner stack)))
-told_of class line edges new stack held is same = is ∙ ap (λ fs. fold with_edge edges (map (edge_to class line) fs)) (sym (map_map plain_held (λ (h : PlainHeld). h.class) held) ∙ ap classes_held same)
+told_of class line edges new stack held is same = is ∙ ap (λ fs. fold with_edge edges (map (edge_to class line) fs)) (sym (map-map (λ (h : PlainHeld). h.class) plain_held held) ∙ ap classes_held same)
 
 pub invariant_of-self-2 : goal.invariant_of-self-2
 invariant_of-self-2 c =

@@ -1,0 +1,89 @@
+-- What adding names to others keeps, and what it gives.
+use Rattle.std.proofs.Common.{◌≡◌, ◌+◌, ◌<◌, ◌≤◌, ◌||◌, ◌++◌, ◌∷◌, [], List, ℕ, Bool, true, false, Option, Some, None, is_some, length, take, get_or, refl, sym, ap, subst, ◌∙◌, if◌then◌else◌, arith, append_assoc, length-append}
+use Rattle.std.proofs.lemmas.List.{append-nil, take-append-le}
+use Rattle.std.proofs.lemmas.List.Elements.{All-more, All-weaker}
+use Rattle.std.proofs.lemmas.List.Folds.{list_any-append}
+use Rattle.std.proofs.lemmas.Slice.Eq.{bytes_eq-Decides}
+use Rattle.std.specs.List.{list_any}
+use Rattle.std.specs.Str.{bytes_eq}
+use Rattle.ld_class.specs.Names.{place_of, with_name}
+use Rattle.ld_class.proofs.NameLemmas.{IsNameAt-with_name, list_any-known, list_any-new, place_of-None, search_end}
+use Rattle.ld_facts.specs.Outcome.{each_once}
+use Rattle.ld_book.specs.Names.{AreAmong, IsLonger, with_names}
+use Rattle.ld_book.proofs.EachOnceLemmas.{alike_from_decides, each_once-more}
+
+-- one more name makes the list longer by at most one
+pub length-with_name : (names : List (List ℕ)) (name : List ℕ) → (length names ≤ length (with_name names name)) × (length (with_name names name) ≤ length names + 1)
+length-with_name names name = by (is_some (place_of names name))
+  where
+    by : (b : Bool) → (length names ≤ length (if b then names else names ++ name ∷ [])) × (length (if b then names else names ++ name ∷ []) ≤ length names + 1)
+    by true = (omega arith, omega arith)
+    by false = let longer = length-append names (name ∷ []) in (omega arith, omega arith)
+
+-- and keeps what stands before
+pub take-with_name : (names : List (List ℕ)) (name : List ℕ) (count : ℕ) → count ≤ length names → take count (with_name names name) ≡ take count names
+take-with_name names name count within = by (is_some (place_of names name))
+  where
+    by : (b : Bool) → take count (if b then names else names ++ name ∷ []) ≡ take count names
+    by true = refl
+    by false = take-append-le count names (name ∷ []) within
+
+-- a name is found where a test finds it
+pub place_of-any : (names : List (List ℕ)) (name : List ℕ) → is_some (place_of names name) ≡ list_any (bytes_eq name) names
+place_of-any names name = by (place_of names name) refl
+  where
+    by : (r : Option ℕ) → place_of names name ≡ r → is_some (place_of names name) ≡ list_any (bytes_eq name) names
+    by None is = ap is_some is ∙ sym (list_any-new names name is)
+    by (Some id) is = ap is_some is ∙ sym (list_any-known names name id is)
+
+-- a name that is added is there
+pub known-with_name : (names : List (List ℕ)) (name : List ℕ) → is_some (place_of (with_name names name) name) ≡ true
+known-with_name names name = by (place_of (with_name names name) name) refl
+  where
+    by : (r : Option ℕ) → place_of (with_name names name) name ≡ r → is_some (place_of (with_name names name) name) ≡ true
+    by None is = absurd (place_of-None (with_name names name) name (search_end names name) is (IsNameAt-with_name names name))
+    by (Some id) is = ap is_some is
+
+-- and one that was there stays
+pub kept-with_name : (names : List (List ℕ)) (name other : List ℕ) → is_some (place_of names other) ≡ true → is_some (place_of (with_name names name) other) ≡ true
+kept-with_name names name other known = place_of-any (with_name names name) other ∙ by (is_some (place_of names name))
+  where
+    by : (b : Bool) → list_any (bytes_eq other) (if b then names else names ++ name ∷ []) ≡ true
+    by true = sym (place_of-any names other) ∙ known
+    by false = list_any-append (bytes_eq other) names (name ∷ []) ∙ ap (λ b. b || (bytes_eq other name || false)) (sym (place_of-any names other) ∙ known)
+
+-- so all are there, once they were added in turn
+pub among_more : (names these : List (List ℕ)) (name : List ℕ) (i : ℕ) → i < length these → name ≡ get_or these i []
+    → AreAmong names (take i these) → AreAmong (with_name names name) (take (i + 1) these)
+among_more names these name i within is among =
+    All-more (λ other. is_some (place_of (with_name names name) other) ≡ true) these i [] within
+    (All-weaker (λ other. is_some (place_of names other) ≡ true) (λ other. is_some (place_of (with_name names name) other) ≡ true) (kept-with_name names name) (take i these) among)
+    (subst (λ other. is_some (place_of (with_name names name) other) ≡ true) is (known-with_name names name))
+
+-- the names that were there keep their places when one more is added
+pub longer_more : (old names : List (List ℕ)) (name : List ℕ) (more : ℕ) → IsLonger old names more → IsLonger old (with_name names name) (more + 1)
+longer_more old names name more is =
+    let length = length-with_name names name in
+    record {
+      front = take-with_name names name _ is.least ∙ is.front;
+      least = omega (arith, is.least);
+      most = omega (arith, is.most);
+    }
+
+-- a list's names, each once, with those of another list are the names of both, each once
+with_name-each_once : (all : List (List ℕ)) (name : List ℕ) → with_name (each_once bytes_eq all) name ≡ each_once bytes_eq (all ++ name ∷ [])
+with_name-each_once all name =
+    ap (λ (b : Bool). if b then each_once bytes_eq all else each_once bytes_eq all ++ name ∷ []) (place_of-any (each_once bytes_eq all) name)
+    ∙ by (list_any (bytes_eq name) (each_once bytes_eq all))
+    ∙ sym (each_once-more bytes_eq (alike_from_decides bytes_eq bytes_eq-Decides) all name)
+  where
+    by : (b : Bool) → (if b then each_once bytes_eq all else each_once bytes_eq all ++ name ∷ []) ≡ each_once bytes_eq all ++ (if b then [] else name ∷ [])
+    by true = sym (append-nil (each_once bytes_eq all))
+    by false = refl
+
+pub with_names-each_once : (all more : List (List ℕ)) → with_names (each_once bytes_eq all) more ≡ each_once bytes_eq (all ++ more)
+with_names-each_once all [] = ap (each_once bytes_eq) (sym (append-nil all))
+with_names-each_once all (name ∷ more) =
+    ap (λ names. with_names names more) (with_name-each_once all name)
+    ∙ with_names-each_once (all ++ name ∷ []) more
+    ∙ ap (each_once bytes_eq) (append_assoc all (name ∷ []) more)

@@ -1,0 +1,19 @@
+use Rattle.std.proofs.Common.{◌∙◌, ap, length, sym}
+use Rattle.std.proofs.lemmas.List.{length-map}
+use Rattle.ld_trace.specs.Sources.{plain}
+use Rattle.ld_book.specs.Book.{sources_of}
+use Rattle.ld_book.specs.Totals.{totals}
+use Rattle.ld_book.proofs.TotalLemmas.{length-rows}
+use Rattle.ld_book.proofs.book.Book.totals.Goals as goal
+
+pub returns : goal.returns
+returns c =
+    let listed = c.self.inside.listed.items in
+    let union = c.self.inside.union in
+    (λ i. record {
+      traces = (c.len.ensures ∙ c.self.inside.listed.ok.0 ∙ sym (length-map listed (λ l. plain l.source))) i;
+      refused = c.self.invariant.refused i;
+      events = c.self.invariant.events i;
+      classes = (c.len-2.ensures.len ∙ ap length c.self.invariant.classes) i;
+      dependencies = (c.edges.ensures.count ∙ length-rows union.classes union.graph union.dependencies.items (sources_of listed) c.self.invariant.numbered c.self.invariant.witnesses) i;
+    }) ∙ ap totals c.self.view_is

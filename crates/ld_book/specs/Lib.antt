@@ -1,0 +1,11 @@
+pub mod Totals
+pub mod Violations
+pub mod Alarms
+pub mod Names
+pub mod Usage
+pub mod Union
+pub mod Numbers
+pub mod Book
+pub mod Findings
+pub mod Order
+pub mod Rows

@@ -1,0 +1,177 @@
+//! `Book`, which keeps what many traces show together.
+ghost use Rattle.std.specs.Prelude.{◌≡◌, ◌≢◌, ◌++◌, ◌∷◌, [], All, AllPairs, Err, IfOk, OnErr, OnOk};
+ghost use Rattle.std.specs.Prelude.{true, false};
+ghost use Rattle.ld_facts.specs.Union.{dependency_witness};
+ghost use Rattle.ld_book.specs.Alarms.{AreExact, plain_alarms};
+ghost use Rattle.ld_book.specs.Findings.{AreFindings};
+ghost use Rattle.ld_book.specs.Rows.{plain_findings};
+ghost use Rattle.ld_book.specs.Book.{AreOutcomes, is_listed, sources_of};
+ghost use Rattle.ld_trace.specs.Sources.{Fits};
+ghost use Rattle.ld_book.specs.Totals.{totals};
+ghost use Rattle.ld_book.specs.Usage.{usage_row};
+
+use crate::alarms::{Alarms, Found};
+use crate::findings::{Findings, findings_of};
+use crate::totals::{Totals, events_of, refused_of};
+use crate::union::Union;
+use crate::usage::UsageRow;
+use indexmap::IndexSet;
+use ld_facts::{Facts, Listed, Witness};
+use std::alloc::{AllocError, Global};
+use std::marker::Model;
+
+/// Why a trace wasn't added. Its facts come back.
+#[derive(Drop)]
+pub enum Refusal<'a> {
+    /// A trace of its number is listed.
+    Twice(Facts<'a>),
+    /// A growth of memory was refused.
+    Memory(Facts<'a>),
+}
+
+/// What some traces show together, seen as the list of the traces, in order of arrival.
+///
+/// Each trace is listed with its outcome. A refused trace is counted, and shows nothing.
+#[derive(Drop)]
+pub struct Book<'a> {
+    listed: Vec<Listed<'a>>,
+    /// The numbers of the listed traces.
+    numbers: IndexSet<u64>,
+    /// How many events those traces have that are read.
+    events: u64,
+    /// How many traces are refused.
+    refused: u64,
+    union: Union<'a>,
+    /// A violation of each kind that the traces show.
+    found: Found,
+}
+
+impl<'a> Model for Book<'a> {
+    ghost use Rattle.std.specs.Prelude.{List};
+    ghost use Rattle.ld_trace.specs.Sources.{PlainSource};
+
+    ghost Value = { List PlainSource };
+
+    ghost use Rattle.ld_book.specs.Book.{IsKept, sources_of};
+
+    ghost view = { λ b. sources_of b.listed.items };
+
+    ghost invariant = { λ b. IsKept b.listed.items b.numbers.keys b.events b.refused b.union b.found };
+}
+
+impl<'a> Book<'a> {
+    /// A book that lists no trace. Takes no memory.
+    pub fn new(alloc: Global) -> Book<'a>
+        ensures { result ≡ [] }
+    {
+        Book {
+            listed: Vec::new(alloc),
+            numbers: IndexSet::new(alloc),
+            events: 0,
+            refused: 0,
+            union: Union::new(alloc),
+            found: Found::new(),
+        }
+    }
+
+    /// Lists one more trace, and adds what it shows. Traces may come in any order.
+    ///
+    /// # Errors
+    ///
+    /// The facts come back, and nothing has changed but spare memory: `Twice` where a trace of that
+    /// number is listed, which is tested first, and `Memory` where a growth of memory was refused.
+    pub fn add(&mut self, facts: Facts<'a>) -> Result<(), Refusal<'a>>
+        ensures ok { OnOk result (self.new ≡ self.old ++ facts.entry.source ∷ []) }
+        ensures err { OnErr result (self.new ≡ self.old) }
+        ensures twice { is_listed self.old facts.entry.source.number ≡ true
+            → result ≡ Err (Refusal.Twice facts.entry) }
+        ensures memory { is_listed self.old facts.entry.source.number ≡ false
+            → OnErr result (result ≡ Err (Refusal.Memory facts.entry)) }
+    {
+        let source = facts.source();
+        let outcome = facts.outcome();
+        if self.numbers.contains(&source.number) {
+            return Err(Refusal::Twice(facts));
+        }
+        if self.listed.reserve(1).is_err()
+            || self.numbers.reserve(1).is_err()
+            || self.union.add_classes(&facts).is_err()
+        {
+            return Err(Refusal::Memory(facts));
+        }
+        let known = self.union.dependencies.len();
+        self.union.add_dependencies(&facts);
+        let bits = self.union.add_usage(&facts);
+        self.found.look(&mut self.union, known, bits);
+        self.events += events_of(outcome);
+        self.refused += refused_of(outcome);
+        let Ok(_) = self.numbers.insert(source.number) else {
+            unreachable!()
+        };
+        let Ok(()) = self.listed.push(Listed { source, outcome }) else {
+            unreachable!()
+        };
+        Ok(())
+    }
+
+    /// The traces with their outcomes, in order of arrival. No two have one number. Takes no memory.
+    pub fn listed(&self) -> &[Listed<'a>]
+        ensures sources { sources_of result.now ≡ self.now }
+        ensures outcomes { AreOutcomes result.now }
+        ensures fit { All Fits self.now }
+        ensures distinct { AllPairs (λ a b. a.number ≢ b.number) self.now }
+    {
+        // What a set says of its keys, it says with its length.
+        let _ = self.numbers.len();
+        self.listed.as_slice()
+    }
+
+    /// How much the traces are and show. Takes no memory.
+    pub fn totals(&self) -> Totals
+        ensures { result ≡ totals self.now }
+    {
+        Totals {
+            traces: self.listed.len() as u64,
+            refused: self.refused,
+            events: self.events,
+            classes: self.union.classes.len() as u64,
+            dependencies: self.union.graph.edges(),
+        }
+    }
+
+    /// For each kind of violation one that the traces show, or none where they show none of the kind.
+    /// Which one it names is open. Takes no memory.
+    pub fn alarms(&self) -> Alarms<'a>
+        ensures { AreExact self.now (plain_alarms result) }
+    {
+        self.found.named(&self.union.classes)
+    }
+
+    /// Every violation that the traces show, in the order of the report, with the first witnesses and
+    /// the shown walks. Where there is no cycle, or no forbidden walk of a state, none is searched for.
+    ///
+    /// # Errors
+    ///
+    /// `AllocError` where a growth of memory was refused.
+    pub fn findings(&self, alloc: Global) -> Result<Findings<'a>, AllocError>
+        ensures { IfOk result (λ findings. AreFindings self.now (plain_findings findings)) }
+    {
+        findings_of(alloc, &self.union, &self.found)
+    }
+
+    /// Where the dependency between these two classes was first seen, the least trace number first,
+    /// or `None` where no trace shows it. Takes no memory.
+    pub fn edge(&self, from: &[u8], to: &[u8]) -> Option<Witness>
+        ensures { result ≡ dependency_witness self.now
+            (record { from = from.now; to = to.now }) }
+    {
+        self.union.witness(from, to)
+    }
+
+    /// The usage of a class over all traces, or `None` where no trace shows the class. Takes no memory.
+    pub fn usage(&self, name: &[u8]) -> Option<UsageRow>
+        ensures { result ≡ usage_row self.now name.now }
+    {
+        self.union.usage_row(name)
+    }
+}
