@@ -5,3 +5,4 @@ pub mod Run
 pub mod Sources
 pub mod Transfer
 pub mod Verdict
+pub mod Words
