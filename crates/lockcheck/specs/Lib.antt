@@ -5,4 +5,3 @@ pub mod Run
 pub mod Sources
 pub mod Transfer
 pub mod Verdict
-pub mod Words

@@ -1,2 +1,0 @@
-pub mod EvenLemmas
-pub mod OrderLemmas
