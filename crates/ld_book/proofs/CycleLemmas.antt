@@ -1,9 +1,8 @@
 -- Dependencies on cycles, by the numbers of their classes, and the walks that their rows show.
-use Rattle.std.proofs.Common.{◌≡◌, ◌≢◌, ◌<◌, All, List, ℕ, suc, false, [], ◌∷◌, Option, None, Some, is_some, length, refl, sym, ap, subst, ◌∙◌}
-use Rattle.std.proofs.lemmas.Bool.{true≢false}
-use Rattle.std.proofs.lemmas.List.Elements.{All-cons, All-nil}
+use Rattle.std.proofs.Common.{◌≡◌, ◌≢◌, ◌⊎◌, inl, inr, ◌<◌, List, ℕ, suc, false, [], ◌∷◌, Option, None, Some, is_some, length, refl, sym, ap, subst, ◌∙◌}
+use Rattle.std.proofs.lemmas.Bool.{true≢false, cases_eq}
 use Rattle.ld_graph.specs.Edges.{IsEdge, Seen}
-use Rattle.ld_graph.specs.Walks.{DistanceIs, HasWalk, IsShownWalk, ShownFrom}
+use Rattle.ld_graph.specs.Walks.{DistanceIs, HasWalk, IsShownWalk}
 use Rattle.ld_graph.proofs.WalkLemmas.{HasWalk-Far, IsWalk-Far}
 use Rattle.ld_trace.specs.Sources.{PlainSource}
 use Rattle.ld_facts.specs.Union.{dependency_witness}
@@ -12,7 +11,7 @@ use Rattle.ld_book.specs.Findings.{IsBefore, IsShown, PlainCycleRow}
 use Rattle.ld_book.specs.Order.{name_of}
 use Rattle.ld_book.specs.Rows.{IsCycleRowOf}
 use Rattle.ld_book.specs.Union.{AreNumbered, AreWitnessed}
-use Rattle.ld_book.specs.Violations.{Depends, IsCycle}
+use Rattle.ld_book.specs.Violations.{Depends, IsCycle, Leads}
 use Rattle.ld_book.proofs.NumberLemmas.{depends_from_edge, edge_from_named, walk_from_leads}
 
 module _ {A : Type 0} (step before : A → A → Type 0) where
@@ -22,17 +21,6 @@ module _ {A : Type 0} (step before : A → A → Type 0) where
   HasWalk-shown a b (x ∷ []) shown = absurd shown.1
   HasWalk-shown a b (x ∷ y ∷ []) shown = (shown.1.0.reached.0, shown.1.0.reached.1.0)
   HasWalk-shown a b (x ∷ y ∷ z ∷ more) shown = (shown.1.0.1.0.reached.0, shown.1.0.1.0.reached.1.0)
-
-  -- all of its classes are within what the steps lead to
-  module _ (Within : A → Type 0) (ends : (x y : A) → step x y → Within y) where
-    from_within : (a b : A) (walk : List A) → Within b → ShownFrom step before a b walk → All Within walk
-    from_within a b [] at_b shown = absurd shown
-    from_within a b (x ∷ []) at_b shown = All-cons Within x [] (subst Within (sym shown.1) at_b) (All-nil Within)
-    from_within a b (x ∷ y ∷ more) at_b shown = All-cons Within x (y ∷ more) (ends a x shown.0.1.1.successor) (from_within x b (y ∷ more) at_b shown.1)
-
-    pub shown_within : (a b : A) (walk : List A) → Within a → Within b → IsShownWalk step before a b walk → All Within walk
-    shown_within a b [] at_a at_b shown = absurd shown
-    shown_within a b (x ∷ more) at_a at_b shown = All-cons Within x more (subst Within (sym shown.0) at_a) (from_within a b more at_b shown.1)
 
 -- no walk, where there is no distance
 pub no_walk : {A : Type 0} (step : A → A → Type 0) (a b : A) (distance : Option ℕ) → DistanceIs step a b distance → is_some distance ≡ false → ¬ HasWalk step a b
@@ -58,19 +46,25 @@ module _ (classes : List (List ℕ)) (graph : Seen) (rows : List Witnessed) (is 
       none (walk_from_leads classes graph rows is sources witnessed a a (name_of classes a) (name_of classes a) (at_a, refl) (at_a, refl)
       (HasWalk-Far (Depends sources) (suc far.0) (name_of classes a) (name_of classes a) (to, (cycle.0, far.1.1))))
 
-  -- the row of an edge with a shown walk back
-  pub cycle-row : (a b : ℕ) (row : PlainCycleRow) (walk : List (List ℕ)) → a < length classes → b < length classes → IsEdge graph.edges a b
+  -- the row of an edge from a class to itself, or with a shown walk back
+  pub cycle-row : (a b : ℕ) (row : PlainCycleRow) → a < length classes → b < length classes → IsEdge graph.edges a b
       → row.from ≡ name_of classes a → row.to ≡ name_of classes b → dependency_witness sources (record { from = name_of classes a; to = name_of classes b }) ≡ Some row.at
-      → IsShown sources (name_of classes b) (name_of classes a) walk → (b ≡ a → row.via ≡ []) → (b ≢ a → row.via ≡ walk)
+      → (b ≡ a → row.via ≡ []) → (b ≢ a → IsShown sources (name_of classes b) (name_of classes a) row.via)
       → IsCycleRowOf sources (name_of classes a) (name_of classes b) row
-  cycle-row a b row walk at_a at_b there from to at shown none back = (
+  cycle-row a b row at_a at_b there from to at none shown = (
     record {
-      cycle = subst (λ n. IsCycle sources n row.to) (sym from) (subst (IsCycle sources (name_of classes a)) (sym to)
-          (depends_from_edge classes graph rows is sources witnessed a b there, HasWalk-shown (Depends sources) IsBefore (name_of classes b) (name_of classes a) walk shown));
+      cycle = subst (λ n. IsCycle sources n row.to) (sym from) (subst (IsCycle sources (name_of classes a)) (sym to) (depends, back (cases_eq b a)));
       at = ap (dependency_witness sources) (λ i. record { from = from i; to = to i }) ∙ at;
       recursion = λ same. none (is.distinct b a (name_of classes a) (at_b, sym to ∙ sym same ∙ from) (at_a, refl));
       shown = λ differs. subst (λ n. IsShown sources n row.from row.via) (sym to) (subst (λ n. IsShown sources (name_of classes b) n row.via) (sym from)
-          (subst (IsShown sources (name_of classes b) (name_of classes a)) (sym (back (λ same. differs (from ∙ ap (name_of classes) (sym same) ∙ sym to)))) shown));
+          (shown (λ same. differs (from ∙ ap (name_of classes) (sym same) ∙ sym to))));
     },
     λ i. (from i, to i),
   )
+    where
+      depends : Depends sources (name_of classes a) (name_of classes b)
+      depends = depends_from_edge classes graph rows is sources witnessed a b there
+
+      back : (b ≡ a) ⊎ (b ≢ a) → Leads sources (name_of classes b) (name_of classes a)
+      back (inl same) = HasWalk-Far (Depends sources) 0 (name_of classes b) (name_of classes a) (subst {A = List ℕ × List ℕ} (λ p. Depends sources p.0 p.1) (λ i. (name_of classes (sym same i), name_of classes (same i))) depends)
+      back (inr differs) = HasWalk-shown (Depends sources) IsBefore (name_of classes b) (name_of classes a) row.via (shown differs)

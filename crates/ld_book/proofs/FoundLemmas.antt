@@ -1,7 +1,7 @@
 -- What was found stays exact as edges and bits come.
-use Rattle.std.proofs.Common.{option_map, ◌≡◌, ◌<◌, ◌≤◌, ◌-◌, ◌++◌, ◌∙◌, [], arith, take-append-drop, MatchOption, List, ℕ, Bool, true, false, Option, Some, None, is_some, All, take, drop, length, map, get_or, sym, ap, subst}
+use Rattle.std.proofs.Common.{option_map, ◌≡◌, ◌<◌, ◌≤◌, ◌-◌, ◌++◌, ◌∙◌, [], arith, take-append-drop, MatchOption, List, ℕ, Bool, true, false, Option, Some, None, is_some, All, refl, take, drop, length, map, get_or, sym, ap, subst}
 use Rattle.std.proofs.lemmas.Bool.{true≢false}
-use Rattle.std.proofs.lemmas.List.{get_or-map, length-drop, length-map, take_all}
+use Rattle.std.proofs.lemmas.List.{length-drop, take_all}
 use Rattle.std.proofs.lemmas.List.Elements.{Contains-append_left}
 use Rattle.ld_class.specs.declared.usage.Usage.{Usage}
 use Rattle.ld_graph.specs.declared.Edge.{Edge}
@@ -22,6 +22,7 @@ use Rattle.ld_trace.specs.Sources.{PlainSource}
 use Rattle.ld_book.specs.Union.{AreNumbered}
 use Rattle.ld_book.proofs.AlarmLemmas.{no_cycle-rows}
 use Rattle.ld_book.proofs.NumberLemmas.{row_within}
+use Rattle.ld_book.proofs.UnionLemmas.{edge_of_row, ends_of_row}
 
 module _ {A : Type 0} (P Q : A → Type 0) (kept : (x : A) → P x → Q x) (found : Option A) (exact : IsExact P found) where
   -- one that was found stays
@@ -63,12 +64,9 @@ module _ (state : State) (usage more : List Usage) (came : Bool) (bits : BitsGro
 -- the rows of the graph's edges
 pub rows_of_graph : (classes : List (List ℕ)) (graph : Seen) (rows : List Witnessed) → AreNumbered classes graph rows → AreRowsOf graph rows
 rows_of_graph classes graph rows is = λ k d within.
-    let row : Witnessed = get_or rows k d in
-    let lengths : length rows ≡ length graph.edges = sym (length-map rows (λ (r : Witnessed). r.edge)) ∙ ap length is.edges in
-    let inside : k < length graph.edges = subst (λ n. k < n) lengths within in
-    let at : (e : Edge) → get_or graph.edges k e ≡ row.edge = λ e. ap (λ edges. get_or edges k e) (sym is.edges) ∙ get_or-map (λ (r : Witnessed). r.edge) rows k d e within in
-    let ends = subst (λ (e : Edge). (e.from < length classes) × (e.to < length classes)) (at row.edge) (is.ends k row.edge inside) in
-    ((k, inside, at (edge row.edge.from row.edge.to)), subst (λ n. row.edge.from < n) (sym is.count) ends.0, subst (λ n. row.edge.to < n) (sym is.count) ends.1)
+    let e : Edge = (get_or rows k d).edge in
+    let ends = ends_of_row classes graph rows is k d within in
+    (edge_of_row classes graph rows is e.from e.to k d within refl, subst (λ n. e.from < n) (sym is.count) ends.0, subst (λ n. e.to < n) (sym is.count) ends.1)
 
 -- edges that stand in front are still there
 pub edges_kept : (old new : List Edge) (n : ℕ) → take n new ≡ old → (a b : ℕ) → IsEdge old a b → IsEdge new a b

@@ -11,6 +11,7 @@ pub mod NameLemmas
 pub mod NumberLemmas
 pub mod OrderLemmas
 pub mod PassedLemmas
+pub mod PermutedLemmas
 pub mod RowLemmas
 pub mod SeenLemmas
 pub mod ShownLemmas

@@ -9,8 +9,8 @@ use Rattle.std.specs.Str.{bytes_eq}
 use Rattle.ld_class.specs.Names.{place_of, with_name}
 use Rattle.ld_class.proofs.NameLemmas.{IsNameAt-with_name, list_any-known, list_any-new, place_of-None, search_end}
 use Rattle.ld_facts.specs.Outcome.{each_once}
+use Rattle.ld_facts.proofs.PlaceLemmas.{alike_from_decides, each_once-more}
 use Rattle.ld_book.specs.Names.{AreAmong, IsLonger, with_names}
-use Rattle.ld_book.proofs.EachOnceLemmas.{alike_from_decides, each_once-more}
 
 -- one more name makes the list longer by at most one
 pub length-with_name : (names : List (List ℕ)) (name : List ℕ) → (length names ≤ length (with_name names name)) × (length (with_name names name) ≤ length names + 1)

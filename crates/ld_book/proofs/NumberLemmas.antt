@@ -1,7 +1,7 @@
 -- What violations by number say of the names.
 use Rattle.std.proofs.Common.{◌≡◌, ◌<◌, ◌≤◌, ◌⊎◌, inl, inr, true, false, arith, option_map, IfSome, List, ℕ, zero, suc, Option, Some, None, is_some, Any, [], length, get_or, refl, sym, ap, subst, ◌∙◌}
 use Rattle.std.proofs.lemmas.Bool.{cases_lt, true≢false}
-use Rattle.std.proofs.lemmas.List.{get_or-map, get_or_past, length-map}
+use Rattle.std.proofs.lemmas.List.{get_or_past, length-map}
 use Rattle.ld_class.specs.declared.usage.Usage.{Usage}
 use Rattle.ld_class.specs.Names.{IsNameAt, place_of}
 use Rattle.ld_class.specs.Usage.{has_bit}
@@ -26,6 +26,7 @@ use Rattle.ld_book.specs.Alarms.{AreExact, IsExact, state_place}
 use Rattle.ld_book.specs.Numbers.{AreBitsOf, AreFound, AreWithin, HasBitAt, IsConflictAt, IsCycleAt, IsForbiddenAt, bits_of, named_alarms, with_searched}
 use Rattle.ld_book.specs.Union.{AreNumbered, AreWitnessed, named_edge}
 use Rattle.ld_book.specs.Violations.{Depends, HasBit, IsConflict, IsCycle, IsForbidden, Leads}
+use Rattle.ld_book.proofs.UnionLemmas.{at_row, ends_of_edge, length_rows}
 
 -- a number that a name has
 abbrev pub Numbered : List (List ℕ) → List ℕ → Type 0
@@ -44,23 +45,12 @@ module _ (classes : List (List ℕ)) (graph : Seen) (rows : List Witnessed) (is 
   abbrev name : ℕ → List ℕ
   name c = get_or classes c []
 
-  length_rows : length rows ≡ length graph.edges
-  length_rows = sym (length-map rows (λ r. r.edge)) ∙ ap length is.edges
-
-  -- the edge of a row
-  edge_at : (k : ℕ) (d : Witnessed) (e : Edge) → k < length rows → get_or graph.edges k e ≡ (get_or rows k d).edge
-  edge_at k d e within = ap (λ edges. get_or edges k e) (sym is.edges) ∙ get_or-map (λ r. r.edge) rows k d e within
-
-  -- an edge lies between two classes
-  pub ends_of : (a b : ℕ) → IsEdge graph.edges a b → (a < length classes) × (b < length classes)
-  ends_of a b there = subst (λ (e : Edge). (e.from < length classes) × (e.to < length classes)) there.2 (is.ends there.0 (edge a b) there.1)
-
   -- an edge is a dependency of the names
   pub depends_from_edge : (a b : ℕ) → IsEdge graph.edges a b → Depends sources (name a) (name b)
   depends_from_edge a b there =
-      let within : there.0 < length rows = subst (λ n. there.0 < n) (sym length_rows) there.1 in
+      let within : there.0 < length rows = subst (λ n. there.0 < n) (sym (length_rows classes graph rows is)) there.1 in
       let row : Witnessed = record { edge = edge a b; first = record { number = 0; line = 0 } } in
-      ap (λ e. is_some (dependency_witness sources (named_edge classes e))) (sym (sym (edge_at there.0 row (edge a b) within) ∙ there.2))
+      ap (λ e. is_some (dependency_witness sources (named_edge classes e))) (sym (sym (at_row classes graph rows is there.0 row (edge a b) within) ∙ there.2))
       ∙ ap is_some (witnessed.each there.0 row within)
 
   -- a dependency is an edge of numbers that the names have
@@ -69,8 +59,8 @@ module _ (classes : List (List ℕ)) (graph : Seen) (rows : List Witnessed) (is 
       let at : Any (λ r. named_edge classes r.edge ≡ record { from = x; to = y }) rows = witnessed.all (record { from = x; to = y }) shown in
       let a = at.1.edge.from in
       let b = at.1.edge.to in
-      let there : IsEdge graph.edges a b = (at.0, subst (λ n. at.0 < n) length_rows at.2, edge_at at.0 at.1 (edge a b) at.2 ∙ ap (λ (r : Witnessed). r.edge) at.3) in
-      let ends = ends_of a b there in
+      let there : IsEdge graph.edges a b = (at.0, subst (λ n. at.0 < n) (length_rows classes graph rows is) at.2, at_row classes graph rows is at.0 at.1 (edge a b) at.2 ∙ ap (λ (r : Witnessed). r.edge) at.3) in
+      let ends = ends_of_edge classes graph rows is a b there in
       (a, (b, ((ends.0, ap (λ (d : Dependency). d.from) at.4), (ends.1, ap (λ (d : Dependency). d.to) at.4), there)))
 
   -- so it is an edge of any numbers that the names have
@@ -203,7 +193,7 @@ module _ (classes : List (List ℕ)) (usage : List Usage) (sources : List PlainS
 
         cycle : (o : Option Edge) → IsExact (IsCycleAt graph.edges) o → IfSome o (λ (e : Edge). (e.from < length classes) × (e.to < length classes))
         cycle None absent = tt
-        cycle (Some e) here = ends_of classes graph rows is sources witnessed e.from e.to here.0
+        cycle (Some e) here = ends_of_edge classes graph rows is e.from e.to here.0
 
         conflict : (state : State) (o : Option ℕ) → IsExact (IsConflictAt usage state) o → IfSome o (λ c. c < length classes)
         conflict state None absent = tt

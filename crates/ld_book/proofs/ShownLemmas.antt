@@ -11,8 +11,9 @@ use Rattle.ld_book.specs.Findings.{IsBefore, IsShown}
 use Rattle.ld_book.specs.Order.{IsOrder, name_of}
 use Rattle.ld_book.specs.Union.{AreNumbered, AreWitnessed}
 use Rattle.ld_book.specs.Violations.{Depends}
-use Rattle.ld_book.proofs.NumberLemmas.{depends_from_edge, edge_from_depends, ends_of}
+use Rattle.ld_book.proofs.NumberLemmas.{depends_from_edge, edge_from_depends}
 use Rattle.ld_book.proofs.OrderLemmas.{comes_before_from_before}
+use Rattle.ld_book.proofs.UnionLemmas.{ends_of_edge}
 
 -- a walk goes on by a step before it
 LeadsTo-cons : {A : Type 0} (s : A → A → Type 0) (a x b : A) (w : List A) → s a x → LeadsTo s x b w → LeadsTo s a b (x ∷ w)
@@ -26,7 +27,7 @@ module _ {A : Type 0} (s before : A → A → Type 0) (Within : A → Type 0) (e
   ShownFrom-within a b (x ∷ []) at_b h = All-cons Within x [] (subst Within (sym h.1) at_b) (All-nil Within)
   ShownFrom-within a b (x ∷ y ∷ more) at_b h = All-cons Within x (y ∷ more) (ends a x h.0.1.1.successor) (ShownFrom-within x b (y ∷ more) at_b h.1)
 
-  pub IsShownWalk-within : (a b : A) (w : List A) → Within a → Within b → IsShownWalk s before a b w → All Within w
+  IsShownWalk-within : (a b : A) (w : List A) → Within a → Within b → IsShownWalk s before a b w → All Within w
   IsShownWalk-within a b [] at_a at_b h = absurd h
   IsShownWalk-within a b (x ∷ more) at_a at_b h = All-cons Within x more (subst Within (sym h.0) at_a) (ShownFrom-within a b more at_b h.1)
 
@@ -110,36 +111,36 @@ module _ {A B : Type 0} (f : A → B) (Within : A → Type 0) (s : A → A → T
     IsShownWalk-map a b (x ∷ more) at_a at_b h = (ap f h.0, ShownFrom-map a b more at_a at_b h.1)
 
 -- names for numbers
-module _ (classes : List (List ℕ)) (graph : Seen) (rows : List Witnessed) (is : AreNumbered classes graph rows)
-    (sources : List PlainSource) (witnessed : AreWitnessed classes rows (dependency_witness sources)) where
+module _ (classes : List (List ℕ)) (graph : Seen) (rows : List Witnessed) (is : AreNumbered classes graph rows) where
   abbrev IsClass : ℕ → Type 0
   IsClass c = c < length classes
 
-  keeps : (x y : ℕ) → IsEdge graph.edges x y → Depends sources (name_of classes x) (name_of classes y)
-  keeps = depends_from_edge classes graph rows is sources witnessed
-
   ends : (x y : ℕ) → IsEdge graph.edges x y → IsClass y
-  ends x y edge = (ends_of classes graph rows is sources witnessed x y edge).1
+  ends x y there = (ends_of_edge classes graph rows is x y there).1
 
   -- two classes have two names
-  pub name-once : (x y : ℕ) → IsClass x → IsClass y → name_of classes x ≡ name_of classes y → x ≡ y
+  name-once : (x y : ℕ) → IsClass x → IsClass y → name_of classes x ≡ name_of classes y → x ≡ y
   name-once x y at_x at_y same = is.distinct x y (name_of classes y) (at_x, same) (at_y, refl)
-
-  -- each class on which a class's name depends has a number
-  comes : (x : ℕ) (q : List ℕ) → IsClass x → Depends sources (name_of classes x) q → (y : ℕ) × (IsEdge graph.edges x y × (name_of classes y ≡ q))
-  comes x q at_x depends =
-      let found = edge_from_depends classes graph rows is sources witnessed (name_of classes x) q depends in
-      let ends_there = found.1.1 in
-      let same : found.0 ≡ x = name-once found.0 x ends_there.0.0 at_x ends_there.0.1 in
-      (found.1.0, (subst (λ p. IsEdge graph.edges p found.1.0) same ends_there.2, ends_there.1.1))
 
   -- the numbers of a shown walk are classes
   pub shown_within : (places : List ℕ) (a b : ℕ) (walk : List ℕ) → IsClass a → IsClass b → IsShownWalk (IsEdge graph.edges) (ComesBefore places) a b walk → All IsClass walk
   shown_within places = IsShownWalk-within (IsEdge graph.edges) (ComesBefore places) IsClass ends
 
-  -- the shown walk of two numbers is that of their names
-  pub shown_named : (numbers places : List ℕ) → IsOrder classes numbers places → (a b : ℕ) (walk : List ℕ) → IsClass a → IsClass b
-      → IsShownWalk (IsEdge graph.edges) (ComesBefore places) a b walk → IsShown sources (name_of classes a) (name_of classes b) (map (name_of classes) walk)
-  shown_named numbers places order a b walk at_a at_b shown =
-      IsShownWalk-map (name_of classes) IsClass (IsEdge graph.edges) (Depends sources) keeps ends comes name-once (ComesBefore places) IsBefore
-      (comes_before_from_before classes numbers places order) a b walk at_a at_b shown
+  module _ (sources : List PlainSource) (witnessed : AreWitnessed classes rows (dependency_witness sources)) where
+    keeps : (x y : ℕ) → IsEdge graph.edges x y → Depends sources (name_of classes x) (name_of classes y)
+    keeps = depends_from_edge classes graph rows is sources witnessed
+
+    -- each class on which a class's name depends has a number
+    comes : (x : ℕ) (q : List ℕ) → IsClass x → Depends sources (name_of classes x) q → (y : ℕ) × (IsEdge graph.edges x y × (name_of classes y ≡ q))
+    comes x q at_x depends =
+        let found = edge_from_depends classes graph rows is sources witnessed (name_of classes x) q depends in
+        let ends_there = found.1.1 in
+        let same : found.0 ≡ x = name-once found.0 x ends_there.0.0 at_x ends_there.0.1 in
+        (found.1.0, (subst (λ p. IsEdge graph.edges p found.1.0) same ends_there.2, ends_there.1.1))
+
+    -- the shown walk of two numbers is that of their names
+    pub shown_named : (numbers places : List ℕ) → IsOrder classes numbers places → (a b : ℕ) (walk : List ℕ) → IsClass a → IsClass b
+        → IsShownWalk (IsEdge graph.edges) (ComesBefore places) a b walk → IsShown sources (name_of classes a) (name_of classes b) (map (name_of classes) walk)
+    shown_named numbers places order a b walk at_a at_b shown =
+        IsShownWalk-map (name_of classes) IsClass (IsEdge graph.edges) (Depends sources) keeps ends comes name-once (ComesBefore places) IsBefore
+        (comes_before_from_before classes numbers places order) a b walk at_a at_b shown

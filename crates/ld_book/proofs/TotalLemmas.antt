@@ -14,10 +14,11 @@ use Rattle.ld_facts.specs.declared.outcome.Witness.{Witness}
 use Rattle.ld_facts.specs.Dependency as dependencies
 use Rattle.ld_facts.specs.Dependency.{Dependency, least_line, same_dependency}
 use Rattle.ld_facts.specs.Union.{dependencies_of, dependency_witness, first_of, union_dependencies}
+use Rattle.ld_facts.proofs.PlaceLemmas.{alike_from_decides, any_each_once}
 use Rattle.ld_book.specs.declared.union.Witnessed.{Witnessed}
 use Rattle.ld_book.specs.Union.{AreNumbered, AreWitnessed, named_edge, seen_in}
-use Rattle.ld_book.proofs.EachOnceLemmas.{IsDistinct-each_once, IsEquivalence-from_decides, alike_from_decides, any_each_once}
-use Rattle.ld_book.proofs.UnionLemmas.{apart_rows, same_dependency-refl, same_dependency-true}
+use Rattle.ld_book.proofs.EachOnceLemmas.{IsDistinct-each_once, IsEquivalence-from_decides}
+use Rattle.ld_book.proofs.UnionLemmas.{apart_rows, length_rows, same_dependency-refl, same_dependency-true}
 
 same_dependency-decides : (a b : Dependency) → Decides (same_dependency a b) (a ≡ b)
 same_dependency-decides a b = (same_dependency-true a b, λ is. subst (λ c. same_dependency a c ≡ true) is (same_dependency-refl a))
@@ -62,12 +63,11 @@ rows_any classes rows first witnessed what = by (is_some (first what)) refl
         (ap (λ (r : Witnessed). same_dependency what (named_edge classes r.edge)) at.3 ∙ ap (same_dependency what) at.4 ∙ same_dependency-refl what)
     by false is = false_from_ne_true _ (absent is)
 
--- the rows are as many as the dependencies of the union
-pub length-rows : (classes : List (List ℕ)) (graph : Seen) (rows : List Witnessed) (sources : List PlainSource) → AreNumbered classes graph rows → AreWitnessed classes rows (dependency_witness sources)
+-- the edges are as many as the dependencies of the union
+pub length-edges : (classes : List (List ℕ)) (graph : Seen) (rows : List Witnessed) (sources : List PlainSource) → AreNumbered classes graph rows → AreWitnessed classes rows (dependency_witness sources)
     → length graph.edges ≡ length (union_dependencies sources)
-length-rows classes graph rows sources is witnessed =
-    ap length (sym is.edges)
-    ∙ length-map rows (λ r. r.edge)
+length-edges classes graph rows sources is witnessed =
+    sym (length_rows classes graph rows is)
     ∙ sym (length-map rows (λ r. named_edge classes r.edge))
     ∙ length-from_same_keys (IsEquivalence-from_decides same_dependency same_dependency-decides) (map (λ r. named_edge classes r.edge) rows) (union_dependencies sources)
     (IsDistinct-from_apart same_dependency (map (λ r. named_edge classes r.edge) rows) apart)

@@ -52,17 +52,22 @@ seen_cases None witness false h = absurd (true≢false (sym h))
 seen_cases (Some w) witness false h = inr refl
 
 module _ (classes : List (List ℕ)) (graph : Seen) (rows : List Witnessed) (is : AreNumbered classes graph rows) where
-  length_rows : length rows ≡ length graph.edges
+  -- a row for each edge
+  pub length_rows : length rows ≡ length graph.edges
   length_rows = sym (length-map rows (λ r. r.edge)) ∙ ap length is.edges
 
   -- the edge of a row
-  at_row : (k : ℕ) (d : Witnessed) (e : Edge) → k < length rows → get_or graph.edges k e ≡ (get_or rows k d).edge
+  pub at_row : (k : ℕ) (d : Witnessed) (e : Edge) → k < length rows → get_or graph.edges k e ≡ (get_or rows k d).edge
   at_row k d e within = ap (λ edges. get_or edges k e) (sym is.edges) ∙ get_or-map (λ r. r.edge) rows k d e within
 
-  ends_of_row : (k : ℕ) (d : Witnessed) → k < length rows → ((get_or rows k d).edge.from < length classes) × ((get_or rows k d).edge.to < length classes)
+  -- an edge lies between two classes
+  pub ends_of_edge : (a b : ℕ) → IsEdge graph.edges a b → (a < length classes) × (b < length classes)
+  ends_of_edge a b there = subst (λ (e : Edge). (e.from < length classes) × (e.to < length classes)) there.2 (is.ends there.0 (edge a b) there.1)
+
+  -- and so does that of a row
+  pub ends_of_row : (k : ℕ) (d : Witnessed) → k < length rows → ((get_or rows k d).edge.from < length classes) × ((get_or rows k d).edge.to < length classes)
   ends_of_row k d within =
-      subst (λ (e : Edge). (e.from < length classes) × (e.to < length classes)) (at_row k d d.edge within)
-      (is.ends k d.edge (subst (λ m. k < m) length_rows within))
+      ends_of_edge (get_or rows k d).edge.from (get_or rows k d).edge.to (k, subst (λ m. k < m) length_rows within, at_row k d (get_or rows k d).edge within)
 
   -- edges that stand for the same dependency are the same
   edge_from_named : (e f : Edge) → (e.from < length classes) × (e.to < length classes) → (f.from < length classes) × (f.to < length classes)

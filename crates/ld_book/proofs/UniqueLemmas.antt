@@ -63,8 +63,8 @@ module _ {Row Key : Type 0} (key : Row → Key) (IsRow : Row → Type 0) (IsOwed
       let other : IsRow found.1 = subst IsRow found.3 (q.each found.0 found.1 found.2) in
       subst (Contains ss) (same found.1 r other row found.4) (found.0, found.2, found.3)
 
-  pub rows-same : (rs ss : List Row) → AreRows key IsRow IsOwed before rs → AreRows key IsRow IsOwed before ss → rs ≡ ss
-  rows-same rs ss p q = ordered-same (λ r s. before (key r) (key s)) (λ r s. apart (key r) (key s)) rs ss p.ordered q.ordered (there rs ss p q) (there ss rs q p)
+  pub rows-unique : (rs ss : List Row) → AreRows key IsRow IsOwed before rs → AreRows key IsRow IsOwed before ss → rs ≡ ss
+  rows-unique rs ss p q = ordered-same (λ r s. before (key r) (key s)) (λ r s. apart (key r) (key s)) rs ss p.ordered q.ordered (there rs ss p q) (there ss rs q p)
 
 -- of two in turn at most one comes before the other
 in_turn-apart : {A B : Type 0} (first : A → A → Type 0) (second : B → B → Type 0) → ((a b : A) → first a b → ¬ first b a) → ((a b : B) → second a b → ¬ second b a)
@@ -196,10 +196,10 @@ module _ (sources : List PlainSource) where
   findings-same f g p q = λ i. record { cycles = cycles i; conflicts = conflicts i; forbidden = forbidden i }
     where
       cycles : f.cycles ≡ g.cycles
-      cycles = rows-same cycle_key (IsCycleRow sources) (λ k. IsCycle sources k.0 k.1) IsPairBefore pair-apart (λ r row. row.cycle) cycle-same f.cycles g.cycles p.cycles q.cycles
+      cycles = rows-unique cycle_key (IsCycleRow sources) (λ k. IsCycle sources k.0 k.1) IsPairBefore pair-apart (λ r row. row.cycle) cycle-same f.cycles g.cycles p.cycles q.cycles
 
       conflicts : f.conflicts ≡ g.conflicts
-      conflicts = rows-same conflict_key (IsConflictRow sources) (λ k. IsConflict sources k.0 k.1) (InTurn IsHarder IsBefore) (in_turn-apart IsHarder IsBefore harder-apart not_before_both) (λ r row. row.conflict) conflict-same f.conflicts g.conflicts p.conflicts q.conflicts
+      conflicts = rows-unique conflict_key (IsConflictRow sources) (λ k. IsConflict sources k.0 k.1) (InTurn IsHarder IsBefore) (in_turn-apart IsHarder IsBefore harder-apart not_before_both) (λ r row. row.conflict) conflict-same f.conflicts g.conflicts p.conflicts q.conflicts
 
       forbidden : f.forbidden ≡ g.forbidden
-      forbidden = rows-same forbidden_key (IsForbiddenRow sources) (λ k. IsForbidden sources k.0 k.1.0 k.1.1) (InTurn IsHarder IsPairBefore) (in_turn-apart IsHarder IsPairBefore harder-apart pair-apart) (λ r row. row.forbidden) forbidden-same f.forbidden g.forbidden p.forbidden q.forbidden
+      forbidden = rows-unique forbidden_key (IsForbiddenRow sources) (λ k. IsForbidden sources k.0 k.1.0 k.1.1) (InTurn IsHarder IsPairBefore) (in_turn-apart IsHarder IsPairBefore harder-apart pair-apart) (λ r row. row.forbidden) forbidden-same f.forbidden g.forbidden p.forbidden q.forbidden

@@ -1,5 +1,6 @@
 -- Every violation of some traces: which rows there are, what each says, and in which order they stand.
-use Rattle.std.specs.Prelude.{◌≡◌, ◌≢◌, ◌⊎◌, ◌<◌, ℕ, List, [], All, AllPairs, Any, Some}
+use Rattle.std.specs.Prelude.{◌≡◌, ◌≢◌, ◌⊎◌, ◌<◌, ℕ, List, [], All, AllPairs, Any, Some, map}
+use Rattle.std.specs.Borrow.{Bor}
 use Rattle.std.specs.Cmp.Lexicographic.{slice_cmp}
 use Rattle.std.specs.Ordering.{nat_cmp}
 use Rattle.std.specs.declared.cmp.Ordering.TheVariants.{Less}
@@ -10,6 +11,10 @@ use Rattle.ld_graph.specs.Walks.{IsShownWalk}
 use Rattle.ld_facts.specs.declared.outcome.Witness.{Witness}
 use Rattle.ld_facts.specs.Union.{dependency_witness, use_witness}
 use Rattle.ld_facts.specs.Usage.Bit.{In, On}
+use Rattle.ld_book.specs.declared.findings.conflicts.ConflictRow.{ConflictRow}
+use Rattle.ld_book.specs.declared.findings.cycles.CycleRow.{CycleRow}
+use Rattle.ld_book.specs.declared.findings.Findings.{Findings}
+use Rattle.ld_book.specs.declared.findings.forbidden.ForbiddenRow.{ForbiddenRow}
 use Rattle.ld_book.specs.Alarms.{state_place}
 use Rattle.ld_book.specs.Usage.{witnessed_bits}
 use Rattle.ld_book.specs.Violations.{Depends, IsConflict, IsCycle, IsForbidden}
@@ -71,6 +76,50 @@ pub record PlainFindings : Type 0 where
   pub cycles : List PlainCycleRow
   pub conflicts : List PlainConflictRow
   pub forbidden : List PlainForbiddenRow
+
+-- names, without where they lie in memory
+abbrev pub plain_names : List (Bor (List ℕ)) → List (List ℕ)
+plain_names names = map (λ name. name.now) names
+
+-- a cycle's row
+abbrev pub plain_cycle_row : CycleRow → PlainCycleRow
+plain_cycle_row row = record {
+  from = row.from.now;
+  to = row.to.now;
+  at = row.at;
+  via = plain_names row.via;
+}
+
+-- a conflict's row
+abbrev pub plain_conflict_row : ConflictRow → PlainConflictRow
+plain_conflict_row row = record {
+  state = row.state;
+  class = row.class.now;
+  marks = row.marks;
+  safe_at = row.safe_at;
+  unsafe_at = row.unsafe_at;
+}
+
+-- a forbidden walk's row
+abbrev pub plain_forbidden_row : ForbiddenRow → PlainForbiddenRow
+plain_forbidden_row row = record {
+  state = row.state;
+  from = row.from.now;
+  from_marks = row.from_marks;
+  safe_at = row.safe_at;
+  to = row.to.now;
+  to_marks = row.to_marks;
+  unsafe_at = row.unsafe_at;
+  via = plain_names row.via;
+}
+
+-- the rows of the three kinds
+abbrev pub plain_findings : Findings → PlainFindings
+plain_findings findings = record {
+  cycles = map plain_cycle_row findings.cycles;
+  conflicts = map plain_conflict_row findings.conflicts;
+  forbidden = map plain_forbidden_row findings.forbidden;
+}
 
 -- what a row says of a dependency on a cycle; one of a class on itself shows no walk
 pub record IsCycleRow (sources : List PlainSource) (row : PlainCycleRow) : Type 0 where

@@ -1,7 +1,5 @@
--- The rows of violations as their makers give them. No public contract cites this file but for the
--- plain forms of rows.
-use Rattle.std.specs.Prelude.{◌≡◌, ◌<◌, ℕ, List, length, map, slice_index_or, Option, None, Some}
-use Rattle.std.specs.Borrow.{Bor}
+-- The rows of violations as their makers give them. No public contract cites this file.
+use Rattle.std.specs.Prelude.{◌≡◌, ◌<◌, ℕ, List, length, slice_index_or, Option, None, Some}
 use Rattle.ld_graph.specs.Edges.{IsEdge, Seen}
 use Rattle.ld_graph.specs.Walks.{DistanceIs}
 use Rattle.ld_trace.specs.declared.event.State.{State}
@@ -9,59 +7,11 @@ use Rattle.ld_trace.specs.Sources.{PlainSource}
 use Rattle.ld_facts.specs.declared.outcome.Witness.{Witness}
 use Rattle.ld_facts.specs.Union.{use_witness}
 use Rattle.ld_facts.specs.Usage.{Bit}
-use Rattle.ld_book.specs.declared.findings.ConflictRow.{ConflictRow}
 use Rattle.ld_book.specs.declared.alarms.Found.{Found}
-use Rattle.ld_book.specs.declared.findings.CycleRow.{CycleRow}
-use Rattle.ld_book.specs.declared.findings.Findings.{Findings}
 use Rattle.ld_book.specs.Alarms.{state_place}
-use Rattle.ld_book.specs.declared.findings.ForbiddenRow.{ForbiddenRow}
-use Rattle.ld_book.specs.Findings.{AreRows, InTurn, IsBefore, IsConflictRow, IsCycleRow, IsForbiddenRow, IsHarder, IsPairBefore, PlainConflictRow, PlainCycleRow, PlainFindings, PlainForbiddenRow, conflict_key, cycle_key, forbidden_key, shown_marks}
+use Rattle.ld_book.specs.Findings.{AreRows, InTurn, IsBefore, IsConflictRow, IsCycleRow, IsForbiddenRow, IsHarder, IsPairBefore, PlainConflictRow, PlainCycleRow, PlainForbiddenRow, conflict_key, cycle_key, forbidden_key, shown_marks}
 use Rattle.ld_book.specs.Order.{class_at, name_of}
 use Rattle.ld_book.specs.Violations.{IsConflict, IsCycle, IsForbidden}
-
--- names, without where they lie in memory
-abbrev pub plain_names : List (Bor (List ℕ)) → List (List ℕ)
-plain_names names = map (λ name. name.now) names
-
--- a cycle's row
-abbrev pub plain_cycle_row : CycleRow → PlainCycleRow
-plain_cycle_row row = record {
-  from = row.from.now;
-  to = row.to.now;
-  at = row.at;
-  via = plain_names row.via;
-}
-
--- a conflict's row
-abbrev pub plain_conflict_row : ConflictRow → PlainConflictRow
-plain_conflict_row row = record {
-  state = row.state;
-  class = row.class.now;
-  marks = row.marks;
-  safe_at = row.safe_at;
-  unsafe_at = row.unsafe_at;
-}
-
--- a forbidden walk's row
-abbrev pub plain_forbidden_row : ForbiddenRow → PlainForbiddenRow
-plain_forbidden_row row = record {
-  state = row.state;
-  from = row.from.now;
-  from_marks = row.from_marks;
-  safe_at = row.safe_at;
-  to = row.to.now;
-  to_marks = row.to_marks;
-  unsafe_at = row.unsafe_at;
-  via = plain_names row.via;
-}
-
--- the rows of the three kinds
-abbrev pub plain_findings : Findings → PlainFindings
-plain_findings findings = record {
-  cycles = map plain_cycle_row findings.cycles;
-  conflicts = map plain_conflict_row findings.conflicts;
-  forbidden = map plain_forbidden_row findings.forbidden;
-}
 
 -- where none of a kind was found, there is none
 pub record IsOfEach (sources : List PlainSource) (found : Found) : Type 0 where

@@ -78,16 +78,16 @@ impl Found {
     }
 
     /// Looks for each kind of which nothing was found yet, after edges from number `known` on came to
-    /// the union, and also bits where `bits` says so. What was found stays: nothing that traces show
-    /// is taken back. Where nothing came, nothing is looked for. Takes no memory.
-    pub(crate) fn look(&mut self, union: &mut Union<'_>, known: usize, bits: bool)
+    /// the union, and also bits where `bits_came` holds. What was found stays: nothing that traces
+    /// show is taken back. Where nothing came, nothing is looked for. Takes no memory.
+    pub(crate) fn look(&mut self, union: &mut Union<'_>, known: usize, bits_came: bool)
         requires numbered { IsNumbered union.old }
         requires rows { HasRows union.old }
         requires few { length union.old.classes ≤ MAX_NAMES }
         requires known { known ≤ length union.old.graph.edges }
         ensures found { (edges : List Edge) (usage : List Usage)
             → take known union.old.graph.edges ≡ edges
-            → BitsGrow usage (bits_of union.old.usage.items) bits
+            → BitsGrow usage (bits_of union.old.usage.items) bits_came
             → AreFound edges usage self.old
             → AreFound union.old.graph.edges (bits_of union.old.usage.items) self.new }
         ensures same { union.new ≡ searched_union union.old union.new.graph.searched }
@@ -95,13 +95,13 @@ impl Found {
         let rows = union.dependencies.as_slice();
         let usage = union.usage.as_slice();
         let graph = &mut union.graph;
-        let edges = known < rows.len();
-        let came = edges || bits;
+        let edges_came = known < rows.len();
+        let came = edges_came || bits_came;
         self.cycle = cycle_then(self.cycle, graph, rows, known);
         let [hard, soft] = self.conflict;
         self.conflict = [
-            conflict_then(hard, usage, State::Hard, bits),
-            conflict_then(soft, usage, State::Soft, bits),
+            conflict_then(hard, usage, State::Hard, bits_came),
+            conflict_then(soft, usage, State::Soft, bits_came),
         ];
         let [hard, soft] = self.forbidden;
         self.forbidden = [
@@ -124,8 +124,8 @@ impl Found {
                 name_of(classes, soft_conflict),
             ],
             forbidden: [
-                walk_names(classes, hard_forbidden),
-                walk_names(classes, soft_forbidden),
+                end_names(classes, hard_forbidden),
+                end_names(classes, soft_forbidden),
             ],
         }
     }
@@ -210,7 +210,7 @@ fn name_of<'a>(classes: &Classes<'a>, class: Option<u32>) -> Option<&'a [u8]>
 }
 
 /// The names of the ends of the walk, if there is one.
-fn walk_names<'a>(classes: &Classes<'a>, walk: Option<Forbidden>) -> Option<(&'a [u8], &'a [u8])>
+fn end_names<'a>(classes: &Classes<'a>, walk: Option<Forbidden>) -> Option<(&'a [u8], &'a [u8])>
     requires { IfSome walk (λ w. (w.from < length classes.now) × (w.to < length classes.now)) }
     ensures { option_map {U = List ℕ × List ℕ} (λ p. (p.0.now, p.1.now)) result
         ≡ option_map (λ w. named_pair classes.now w.from w.to) walk }
@@ -220,7 +220,7 @@ fn walk_names<'a>(classes: &Classes<'a>, walk: Option<Forbidden>) -> Option<(&'a
 }
 
 /// A dependency of these that is on a cycle, or `None` where none is. Takes no memory.
-pub(crate) fn cycle_among(graph: &mut Graph, rows: &[Witnessed]) -> Option<Edge>
+fn cycle_among(graph: &mut Graph, rows: &[Witnessed]) -> Option<Edge>
     requires { AreRowsOf graph.old rows.now }
     ensures cycle { MatchOption result (All (λ r. ¬ IsCycleAt graph.old.edges r.edge) rows.now)
         (IsCycleAt graph.old.edges) }
@@ -237,7 +237,7 @@ pub(crate) fn cycle_among(graph: &mut Graph, rows: &[Witnessed]) -> Option<Edge>
 }
 
 /// A class that has both bits of the state, or `None` where none has.
-pub(crate) fn conflict_among(rows: &[UsageRow], state: State) -> Option<u32>
+fn conflict_among(rows: &[UsageRow], state: State) -> Option<u32>
     requires { length rows.now ≤ MAX_NAMES }
     ensures { IsExact (IsConflictAt (bits_of rows.now) state) result }
 {
@@ -250,7 +250,7 @@ pub(crate) fn conflict_among(rows: &[UsageRow], state: State) -> Option<u32>
 }
 
 /// Whether the class has both bits of the state.
-pub(crate) fn conflict_at(rows: &[UsageRow], class: usize, state: State) -> bool
+fn conflict_at(rows: &[UsageRow], class: usize, state: State) -> bool
     requires { class < length rows.now }
     ensures { IsTrue result ↔ IsConflictAt (bits_of rows.now) state class }
 {
@@ -259,11 +259,7 @@ pub(crate) fn conflict_at(rows: &[UsageRow], class: usize, state: State) -> bool
 
 /// Two classes with a forbidden walk of the state from one to the other, or `None` where there are
 /// none. Takes no memory.
-pub(crate) fn forbidden_walk(
-    graph: &mut Graph,
-    rows: &[UsageRow],
-    state: State,
-) -> Option<Forbidden>
+fn forbidden_walk(graph: &mut Graph, rows: &[UsageRow], state: State) -> Option<Forbidden>
     requires classes { length rows.now ≤ graph.old.classes }
     requires few { length rows.now ≤ MAX_NAMES }
     ensures found { IsExact (λ w. IsForbiddenAt graph.old.edges (bits_of rows.now) state w.from w.to)
@@ -303,7 +299,7 @@ fn first_found(graph: &Graph, rows: &[UsageRow], state: State) -> Option<u32>
 }
 
 /// Whether a class has the bit.
-pub(crate) fn any_has(rows: &[UsageRow], bit: Usage) -> bool
+fn any_has(rows: &[UsageRow], bit: Usage) -> bool
     ensures { (c : ℕ) → c < length rows.now
         → has_bit (slice_index_or (bits_of rows.now) c none) bit ≡ true → IsTrue result }
 {

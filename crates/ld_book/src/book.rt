@@ -3,8 +3,7 @@ ghost use Rattle.std.specs.Prelude.{◌≡◌, ◌≢◌, ◌++◌, ◌∷◌, [
 ghost use Rattle.std.specs.Prelude.{true, false};
 ghost use Rattle.ld_facts.specs.Union.{dependency_witness};
 ghost use Rattle.ld_book.specs.Alarms.{AreExact, plain_alarms};
-ghost use Rattle.ld_book.specs.Findings.{AreFindings};
-ghost use Rattle.ld_book.specs.Rows.{plain_findings};
+ghost use Rattle.ld_book.specs.Findings.{AreFindings, plain_findings};
 ghost use Rattle.ld_book.specs.Book.{AreOutcomes, is_listed, sources_of};
 ghost use Rattle.ld_trace.specs.Sources.{Fits};
 ghost use Rattle.ld_book.specs.Totals.{totals};
@@ -101,8 +100,8 @@ impl<'a> Book<'a> {
         }
         let known = self.union.dependencies.len();
         self.union.add_dependencies(&facts);
-        let bits = self.union.add_usage(&facts);
-        self.found.look(&mut self.union, known, bits);
+        let bits_came = self.union.add_usage(&facts);
+        self.found.look(&mut self.union, known, bits_came);
         self.events += events_of(outcome);
         self.refused += refused_of(outcome);
         let Ok(_) = self.numbers.insert(source.number) else {

@@ -2,10 +2,10 @@
 use Rattle.std.proofs.Common.{◌≡◌, ◌+◌, ◌∷◌, [], ◌++◌, ◌&&◌, List, Bool, true, false, nat_eq, not, ap, ◌∙◌, sym, refl, arith, length, map, if◌then◌else◌, length-append}
 use Rattle.std.proofs.lemmas.List.{append-nil}
 use Rattle.std.specs.List.{list_any}
+use Rattle.ld_class.proofs.Mapped.{list_any-map}
 use Rattle.ld_facts.specs.declared.edges.EdgeFact.{EdgeFact}
 use Rattle.ld_facts.specs.declared.edges.Pair.{Pair}
 use Rattle.ld_facts.specs.Edges.{pair_of, same_pair, with_edge}
-use Rattle.ld_facts.proofs.RemoveLemmas.{list_any-map}
 
 -- what `==` computes
 abbrev pub same_classes : Pair → Pair → Bool

@@ -8,6 +8,7 @@ use Rattle.std.proofs.lemmas.List.Folds.{list_any-append, Any-from_list_any}
 use Rattle.std.proofs.lemmas.List.Elements.{All-push, All-weaker}
 use Rattle.std.proofs.lemmas.Simd.{map-map}
 use Rattle.std.specs.List.{All, last_or, list_all, list_any}
+use Rattle.ld_class.proofs.Mapped.{list_any-map}
 use Rattle.ld_facts.specs.declared.chains.Link.{Link}
 use Rattle.ld_facts.specs.declared.edges.EdgeFact.{EdgeFact}
 use Rattle.ld_facts.specs.Chains.{chain_before, same_link, with_link}
@@ -21,7 +22,7 @@ use Rattle.ld_facts.specs.Scan.{PlainHeld, PlainStack, empty_stack, inner, plain
 use Rattle.ld_facts.specs.Open.{remove_last}
 use Rattle.ld_facts.specs.Locks.{Hold, Known, IsMoved, is_of, hold_of, holds_of, known_of, classes_held, chain_of, IsChain, AreChainedBelow, AreChained, AreChainedIn, IsExtended, IsTold, AreTied}
 use Rattle.ld_facts.proofs.OpenLemmas.{remove_last-none}
-use Rattle.ld_facts.proofs.RemoveLemmas.{list_any-map, map-remove_last}
+use Rattle.ld_facts.proofs.RemoveLemmas.{map-remove_last}
 use Rattle.ld_facts.proofs.PlaceLemmas.{by_pushes, last_or-push}
 use Rattle.ld_facts.proofs.ChainLemmas.{same_link-≡}
 use Rattle.ld_facts.proofs.UsageLemmas.{list_all_mono}

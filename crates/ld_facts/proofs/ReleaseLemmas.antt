@@ -7,6 +7,7 @@ use Rattle.std.proofs.lemmas.List.Elements.{All-append, All-cons, All-drop, All-
 use Rattle.std.specs.List.{All, list_all, list_any}
 use Rattle.std.specs.Str.{bytes_eq}
 use Rattle.ld_class.specs.Names.{IsNameAt}
+use Rattle.ld_class.proofs.Mapped.{list_any-map}
 use Rattle.ld_trace.specs.declared.event.State.{State}
 use Rattle.ld_trace.specs.declared.event.State.TheVariants.{Hard, Soft}
 use Rattle.ld_trace.specs.Events.{PlainEvent, PlainLock, Position}
@@ -29,7 +30,7 @@ use Rattle.ld_facts.specs.Reading.{HasTask, IsAt, IsTask, happens}
 use Rattle.ld_facts.specs.Usage.{uses_at}
 use Rattle.ld_facts.specs.Facts.{IsUse}
 use Rattle.ld_facts.specs.Uses.{same_what}
-use Rattle.ld_facts.proofs.RemoveLemmas.{list_any-filter, list_any-map, map-remove_last}
+use Rattle.ld_facts.proofs.RemoveLemmas.{list_any-filter, map-remove_last}
 use Rattle.ld_facts.proofs.HeldLemmas.{Decides-same_frame, Decides-same_key, any_held_by, held_by-releases}
 use Rattle.ld_facts.proofs.FlagLemmas.{levels-quiet, stack-quiet}
 use Rattle.ld_facts.proofs.GroupLemmas.{IsGrouped, held_in-innermost, outer_elsewhere, remove_last-append, starts-kept}

@@ -3,12 +3,9 @@ use Rattle.std.proofs.Common.{◌≡◌, ◌++◌, ◌∷◌, [], List, Bool, tr
 use Rattle.std.proofs.lemmas.Bool.{true≢false, and_parts, and_from, or_left, or_right}
 use Rattle.std.proofs.lemmas.List.Folds.{list_any-append}
 use Rattle.std.specs.List.{list_all, list_any}
+use Rattle.ld_class.proofs.Mapped.{list_any-map}
 use Rattle.ld_facts.specs.Open.{remove_last}
 use Rattle.ld_facts.proofs.OpenLemmas.{remove_last-none}
-
-pub list_any-map : {X Y : Type 0} (f : X → Y) (p : Y → Bool) (xs : List X) → list_any p (map f xs) ≡ list_any (λ x. p (f x)) xs
-list_any-map f p [] = refl
-list_any-map f p (x ∷ xs) = ap (λ b. p (f x) || b) (list_any-map f p xs)
 
 -- the last of a mapped list
 pub map-remove_last : {X Y : Type 0} (f : X → Y) (p : Y → Bool) (xs : List X) → map f (remove_last (λ x. p (f x)) xs) ≡ remove_last p (map f xs)

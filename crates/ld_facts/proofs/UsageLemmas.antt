@@ -11,6 +11,7 @@ use Rattle.std.proofs.lemmas.Slice.Eq.{bytes_eq-Decides}
 use Rattle.std.specs.Bool.{Decides}
 use Rattle.std.specs.List.{list_all, list_any}
 use Rattle.std.specs.Str.{bytes_eq}
+use Rattle.ld_class.proofs.Mapped.{list_any-map}
 use Rattle.ld_trace.specs.declared.event.LineFault.{LineFault}
 use Rattle.ld_trace.specs.declared.event.State.{State}
 use Rattle.ld_trace.specs.declared.event.State.TheVariants.{Hard, Soft}
@@ -25,7 +26,7 @@ use Rattle.ld_facts.specs.Dependency.{Seen, seen_at, seen}
 use Rattle.ld_facts.specs.Usage.{Bit, same_bit, Use, same_use, in_uses, on_uses, uses_at}
 use Rattle.ld_facts.specs.Uses.{same_what}
 use Rattle.ld_facts.specs.Usage.Bit.{In, On}
-use Rattle.ld_facts.proofs.RemoveLemmas.{filter-remove_other, list_any-map, list_all-remove_last}
+use Rattle.ld_facts.proofs.RemoveLemmas.{filter-remove_other, list_all-remove_last}
 use Rattle.ld_facts.proofs.PlaceLemmas.{with_new, all_known, by_pushes, each_once-append, any_each_once}
 use Rattle.ld_facts.proofs.FrameLemmas.{contexts-other}
 use Rattle.ld_facts.proofs.HeldLemmas.{Decides-same_key, held-acquires, held-releases, held-other, held_by-acquires, held_by-releases, held_by-other}

@@ -2,5 +2,6 @@ pub mod LineLemmas
 pub mod FieldLemmas
 pub mod VerbLemmas
 pub mod SplitLemmas
+pub mod NumberLemmas
 pub mod SectionLemmas
 pub mod PositionLemmas

@@ -1,5 +1,5 @@
 -- The sections of a stream, and its fault.
-use Rattle.std.specs.Prelude.{ℕ, ◌+◌, ◌<◌, ◌≤◌, Bool, false, not, ◌==◌, nat_lt, List, [], ◌∷◌, length, take, drop, count_by, slice_get, slice_index_or, Option, Some, None, is_some, unwrap_or, if◌then◌else◌, codes, IsTrue}
+use Rattle.std.specs.Prelude.{◌≡◌, ℕ, ◌+◌, ◌<◌, ◌≤◌, Bool, false, not, ◌==◌, nat_lt, List, [], ◌∷◌, length, take, drop, count_by, slice_get, slice_index_or, Option, Some, None, is_some, unwrap_or, if◌then◌else◌, codes, IsTrue}
 use Rattle.std.specs.List.{concat, filter_map, enumerate_from, take_while}
 use Rattle.std.specs.Str.{bytes_eq}
 use Rattle.ld_trace.specs.declared.source.Source.{Source}
@@ -85,6 +85,10 @@ line_faults all = filter_map (λ p. fault_at all p.0 p.1) (enumerate_from 0 all)
 -- the stream's fault: `TooLong`, else that of the least line that has one
 abbrev pub stream_fault : List ℕ → Option StreamFault
 stream_fault bytes = if nat_lt LONGEST_STREAM (length bytes) then Some TooLong else slice_get (line_faults (lines bytes)) 0
+
+-- each has its place as its number
+abbrev pub AreNumbered : List PlainSource → Type 0
+AreNumbered sources = (k : ℕ) (d : PlainSource) → k < length sources → (slice_index_or sources k d).number ≡ k
 
 -- what each source of a stream meets
 pub record Fits (source : PlainSource) : Type 0 where

@@ -3,7 +3,7 @@ ghost use Rattle.std.specs.Prelude.{◌≡◌, ◌+◌, ◌≤◌, All, Err, IfE
 ghost use Rattle.std.specs.List.{concat, prefix_len, take_while};
 ghost use Rattle.std.specs.Option.{option_map};
 ghost use Rattle.ld_trace.specs.Lines.{lines, says_nothing};
-ghost use Rattle.ld_trace.specs.Sources.{Fits, fields_of, headers_before, is_header, is_other, label_of, line_faults, opened_at, plain, sections, sources, stream_fault};
+ghost use Rattle.ld_trace.specs.Sources.{AreNumbered, Fits, fields_of, headers_before, is_header, is_other, label_of, line_faults, opened_at, plain, sections, sources, stream_fault};
 ghost use Rattle.ld_trace.specs.Splitting.{IsCutAt, given_from};
 
 use crate::line::{begins_comment, is_word, next_field, next_line, text};
@@ -114,7 +114,9 @@ pub fn split<'a>(alloc: Global, bytes: &'a [u8]) -> Result<Vec<Source<'a>>, Stre
     ensures memory { stream_fault bytes.entry.now ≡ None →
         OnErr result (result ≡ Err StreamFault.Memory) }
     ensures sources { IfOk result (λ all. map plain all.items ≡ sources bytes.entry.now) }
+    ensures numbered { IfOk result (λ all. AreNumbered (map plain all.items)) }
     ensures fit { IfOk result (λ all. All (λ source. Fits (plain source)) all.items) }
+    ensures few { IfOk result (λ all. length all.items ≤ MOST_TRACES) }
 {
     if bytes.len() > LONGEST_STREAM {
         return Err(StreamFault::TooLong);

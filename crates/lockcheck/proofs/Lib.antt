@@ -1,4 +1,4 @@
-pub mod Numbered
+pub mod Permuted
 pub mod StreamFaults
 pub mod Texts
 pub mod TraceLemmas

@@ -1,15 +1,14 @@
 -- What the fault of a stream never is.
-use Rattle.std.proofs.Common.{◌≡◌, ◌+◌, ◌==◌, ◌∷◌, [], List, ℕ, Bool, true, false, Option, Some, None, IfSome, Result, Err, is_some, length, filter_map, nat_lt, slice_get, refl, ap, ◌∙◌, if◌then◌else◌}
+use Rattle.std.proofs.Common.{◌≡◌, ◌+◌, ◌==◌, ◌∷◌, [], List, ℕ, Bool, true, false, Option, Some, None, IfSome, Result, Ok, Err, is_some, length, filter_map, nat_lt, slice_get, refl, ap, ◌∙◌, if◌then◌else◌}
 use Rattle.std.specs.List.{cons_option, enumerate_from}
 use Rattle.ld_trace.specs.declared.source.TheConstants.{LONGEST_STREAM, MOST_TRACES}
 use Rattle.ld_trace.specs.declared.source.StreamFault.{StreamFault}
 use Rattle.ld_trace.specs.declared.source.StreamFault.TheVariants.{BadHeader, Memory, NoHeader, TooLong, TooManyTraces}
 use Rattle.ld_trace.specs.Lines.{lines, says_nothing}
 use Rattle.ld_trace.specs.Sources.{fault_at, fields_of, headers_before, is_header, label_of, line_faults, stream_fault}
-use Rattle.lockcheck.specs.declared.report.Report.{Report}
-use Rattle.lockcheck.specs.declared.report.ReportFault.{ReportFault}
-use Rattle.lockcheck.specs.declared.report.ReportFault.TheVariants.{Stream}
-use Rattle.lockcheck.specs.Faults.{report_fault}
+use Rattle.lockcheck.specs.declared.check.CheckFault.{CheckFault}
+use Rattle.lockcheck.specs.declared.check.CheckFault.TheVariants.{Stream}
+use Rattle.lockcheck.specs.Faults.{check_fault_of_stream}
 
 -- no line has want of memory as its fault
 by_line : (silent header well_formed too_many early : Bool) (line : ℕ)
@@ -38,11 +37,11 @@ never_memory bytes h = by (nat_lt LONGEST_STREAM (length bytes)) h
     by false is = first_never (λ p. fault_at (lines bytes) p.0 p.1) (enumerate_from 0 (lines bytes)) (λ p. by_line (says_nothing (fields_of p.1)) (is_header p.1) (is_some (label_of (fields_of p.1))) (headers_before (lines bytes) p.0 == MOST_TRACES) (headers_before (lines bytes) p.0 == 0) (p.0 + 1)) is
 
 -- so a stream's fault is told as it is
-pub told_as_it_is : {T : Type 0} (bytes : List ℕ) (fault : StreamFault) (cut : Result T StreamFault) (told : Result Report ReportFault) → IfSome (stream_fault bytes) (λ f. cut ≡ Err f) → cut ≡ Err fault → told ≡ Err (report_fault fault)
+pub told_as_it_is : {T U : Type 0} (bytes : List ℕ) (fault : StreamFault) (cut : Result T StreamFault) (told : Result U CheckFault) → IfSome (stream_fault bytes) (λ f. cut ≡ Err f) → cut ≡ Err fault → told ≡ Err (check_fault_of_stream fault)
     → IfSome (stream_fault bytes) (λ f. told ≡ Err (Stream f))
 told_as_it_is bytes fault cut told is failed answered = by (stream_fault bytes) (never_memory bytes) is
   where
-    told_of : (f : StreamFault) → (Some f ≡ Some Memory → ⊥) → report_fault f ≡ Stream f
+    told_of : (f : StreamFault) → (Some f ≡ Some Memory → ⊥) → check_fault_of_stream f ≡ Stream f
     told_of TooLong never = refl
     told_of (NoHeader line) never = refl
     told_of (BadHeader line) never = refl
@@ -51,4 +50,9 @@ told_as_it_is bytes fault cut told is failed answered = by (stream_fault bytes) 
 
     by : (found : Option StreamFault) → (found ≡ Some Memory → ⊥) → IfSome found (λ f. cut ≡ Err f) → IfSome found (λ f. told ≡ Err (Stream f))
     by None never same = tt
-    by (Some f) never same = let here : fault ≡ f = cc in answered ∙ ap Err (ap report_fault here ∙ told_of f never)
+    by (Some f) never same = let here : fault ≡ f = cc in answered ∙ ap Err (ap check_fault_of_stream here ∙ told_of f never)
+
+-- a stream that was checked has none
+pub none_where_checked : {T : Type 0} (found : Option StreamFault) (told : Result T CheckFault) (checked : T) → IfSome found (λ f. told ≡ Err (Stream f)) → told ≡ Ok checked → found ≡ None
+none_where_checked None told checked is ok = refl
+none_where_checked (Some f) told checked is ok = cc

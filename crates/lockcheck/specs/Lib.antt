@@ -2,6 +2,6 @@ pub mod Devices
 pub mod Faults
 pub mod Report
 pub mod Run
-pub mod Sources
 pub mod Transfer
 pub mod Verdict
+pub mod Words

@@ -1,5 +1,5 @@
 -- *Report text*. Each line ends with LF.
-use Rattle.std.specs.Prelude.{◌≡◌, ◌≢◌, ◌<◌, ℕ, ◌+◌, ◌==◌, List, [], ◌∷◌, ◌++◌, length, flat_map, codes, decimal, AllPairs, if◌then◌else◌}
+use Rattle.std.specs.Prelude.{◌≡◌, ℕ, ◌+◌, ◌==◌, List, [], ◌∷◌, ◌++◌, length, flat_map, codes, decimal, if◌then◌else◌}
 use Rattle.std.specs.List.Sorted.{IsPermutation}
 use Rattle.std.specs.Str.{bytes_eq}
 use Rattle.ld_trace.specs.declared.event.State.{State}
@@ -12,6 +12,7 @@ use Rattle.ld_facts.specs.Outcome.{name_of, outcome}
 use Rattle.ld_book.specs.declared.totals.Totals.{Totals}
 use Rattle.ld_book.specs.Findings.{AreFindings, PlainConflictRow, PlainCycleRow, PlainFindings, PlainForbiddenRow}
 use Rattle.ld_book.specs.Totals.{totals}
+use Rattle.ld_work.specs.Work.{AreRising}
 
 -- group 1: `traces N refused R events E classes C dependencies D`
 abbrev pub summary_line : Totals → List ℕ
@@ -116,14 +117,6 @@ abbrev pub report_text : (sources in_order : List PlainSource) → PlainFindings
 report_text sources in_order findings =
     summary_line (totals sources) ++ refused_lines in_order ++ violation_lines in_order findings
     ++ last_line (violations findings)
-
--- no two have one number
-abbrev pub AreApart : List PlainSource → Type 0
-AreApart sources = AllPairs (λ a b. a.number ≢ b.number) sources
-
--- the numbers rise
-abbrev pub AreRising : List PlainSource → Type 0
-AreRising sources = AllPairs (λ a b. a.number < b.number) sources
 
 -- This is the report of these sources, which may stand in any order.
 pub record IsReport (sources : List PlainSource) (text : List ℕ) : Type 0 where

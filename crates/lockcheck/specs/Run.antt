@@ -6,10 +6,10 @@ use Rattle.ld_trace.specs.declared.source.StreamFault.{StreamFault}
 use Rattle.lockcheck.specs.Transfer.{ReadsWhole}
 use Rattle.lockcheck.specs.declared.transfer.ReadFault.{ReadFault}
 use Rattle.lockcheck.specs.declared.transfer.ReadFault.TheVariants as read_fault
-use Rattle.lockcheck.specs.declared.report.ReportFault.{ReportFault}
-use Rattle.lockcheck.specs.declared.report.ReportFault.TheVariants as report_fault
+use Rattle.lockcheck.specs.declared.check.CheckFault.{CheckFault}
+use Rattle.lockcheck.specs.declared.check.CheckFault.TheVariants as check_fault
 use Rattle.lockcheck.specs.declared.run.RunFault.{RunFault}
-use Rattle.lockcheck.specs.declared.run.RunFault.TheVariants.{Read, Stream, Memory}
+use Rattle.lockcheck.specs.declared.run.RunFault.TheVariants.{Read, Stream, Memory, Uneven}
 
 -- bytes without a fault were read whole, and of their sources this holds
 pub record Answers (left left' : Option (List ℕ)) (has_ended : Bool)
@@ -30,7 +30,8 @@ abbrev pub run_fault_of_read : ReadFault → RunFault
 run_fault_of_read read_fault.Read = Read
 run_fault_of_read read_fault.Memory = Memory
 
--- a fault of the report, as the run answers it
-abbrev pub run_fault_of_report : ReportFault → RunFault
-run_fault_of_report (report_fault.Stream fault) = Stream fault
-run_fault_of_report report_fault.Memory = Memory
+-- a fault of the check, as the run answers it
+abbrev pub run_fault_of_check : CheckFault → RunFault
+run_fault_of_check (check_fault.Stream fault) = Stream fault
+run_fault_of_check check_fault.Memory = Memory
+run_fault_of_check (check_fault.Uneven number) = Uneven number

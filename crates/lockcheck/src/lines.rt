@@ -1,8 +1,8 @@
 //! Writes the lines of a report.
 ghost use Rattle.std.specs.Prelude.{◌≡◌, ◌++◌, OnOk, decimal};
 ghost use Rattle.ld_facts.specs.declared.outcome.Outcome.TheVariants.{Refused};
-ghost use Rattle.ld_book.specs.Rows.{plain_conflict_row, plain_cycle_row, plain_forbidden_row};
-ghost use Rattle.ld_book.specs.Rows.{plain_names};
+ghost use Rattle.ld_book.specs.Findings.{plain_conflict_row, plain_cycle_row, plain_forbidden_row};
+ghost use Rattle.ld_book.specs.Findings.{plain_names};
 ghost use Rattle.lockcheck.specs.Report.{conflict_line, cycle_line, forbidden_line};
 ghost use Rattle.lockcheck.specs.Report.{inversion_line, last_line, marked, place};
 ghost use Rattle.lockcheck.specs.Report.{recursion_line, refused_line, state_name, steps};

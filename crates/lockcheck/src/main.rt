@@ -1,9 +1,12 @@
 //! Checks the order of locks in recorded traces.
 #![tactic(auto)]
 
-ghost use Rattle.std.specs.Prelude.{◌≡◌};
+ghost use Rattle.std.specs.Prelude.{◌≡◌, ◌≢◌};
 ghost use Rattle.std.specs.Process.{exit_status};
+ghost use Rattle.clap.specs.Values.{kind_of};
+ghost use Rattle.clap.specs.declared.error.kind.ErrorKind.{ErrorKind};
 
+pub mod check;
 pub mod devices;
 #[cfg(test)]
 mod fakes;
@@ -16,33 +19,55 @@ mod text;
 mod traces;
 mod transfer;
 mod verdict;
+mod words;
 
 use crate::devices::Std;
 use crate::run::run;
-use std::env::FillError;
+use crate::words::workers;
 use std::fmt::Display;
-use std::io;
 use std::process::ExitCode;
 use std::rt::Env;
+use std::{env, io};
 
 /// The exit status where there is no report.
 const NO_REPORT: u8 = 2;
 
 fn main(rt: HostRuntime) -> ExitCode {
-    if has_words(&rt) {
-        return refuse(&rt, "unexpected argument");
-    }
+    let words = match given_words(&rt) {
+        Ok(words) => words,
+        Err(error) if error.kind() == io::ErrorKind::InvalidData => {
+            return refuse(&rt, "a word of the command line is not UTF-8");
+        }
+        Err(error) => return refuse(&rt, error),
+    };
+    let workers = match workers(rt.alloc(), words.as_slice()) {
+        Ok(workers) => workers,
+        Err(error) => return answer(&rt, error),
+    };
     let mut input = Std::new(rt.reader());
     let mut output = Std::new(io::writer(&rt));
-    match run(rt.alloc(), &mut input, &mut output, 1) {
+    match run(&rt, rt.alloc(), &mut input, &mut output, workers) {
         Ok(verdict) => ExitCode::from(verdict.status()),
         Err(fault) => refuse(&rt, fault),
     }
 }
 
-// Whether a word follows the program's name. A word that doesn't fit the empty buffer is one too.
-fn has_words(rt: &impl Env) -> bool {
-    !matches!(rt.arg(1, &mut []), Err(FillError::NotPresent))
+// The words of the command line, the program's name first.
+fn given_words<R: Env + AllocGlobal>(rt: &R) -> io::Result<Vec<String>> {
+    Ok(env::args(rt)?.collect(rt.alloc())?)
+}
+
+// Prints clap's text: the help on standard output, or what is wrong with the words on standard
+// error.
+fn answer<R: Print + Eprint>(rt: &R, error: clap::Error) -> ExitCode
+    ensures { (kind_of error ≢ ErrorKind.DisplayHelp)
+        → (kind_of error ≢ ErrorKind.DisplayVersion) → exit_status result ≡ NO_REPORT }
+{
+    match error.print(rt) {
+        Ok(()) if error.use_stderr() => ExitCode::from(NO_REPORT),
+        Ok(()) => ExitCode::SUCCESS,
+        Err(fault) => refuse(rt, fault),
+    }
 }
 
 // Says on standard error why there is no report. Where that fails too, the status alone says so.
@@ -51,40 +76,4 @@ fn refuse<D: Display + Drop>(rt: &impl Eprint, reason: D) -> ExitCode
 {
     let _ = eprintln!(rt; "lockcheck: {reason}");
     ExitCode::from(NO_REPORT)
-}
-
-#[cfg(test)]
-mod tests {
-    use super::*;
-
-    // So many words, the program's name among them, and no environment.
-    #[derive(Drop)]
-    struct Words(usize);
-
-    impl Env for Words {
-        fn arg(&self, i: usize, buf: &mut [u8]) -> Result<usize, FillError> {
-            if i >= self.0 {
-                Err(FillError::NotPresent)
-            } else if buf.is_empty() {
-                Err(FillError::TooLong)
-            } else {
-                Ok(0)
-            }
-        }
-
-        fn var(&self, _name: &str, _buf: &mut [u8]) -> Result<usize, FillError> {
-            Err(FillError::NotPresent)
-        }
-
-        fn var_at(&self, _i: usize, _buf: &mut [u8]) -> Result<usize, FillError> {
-            Err(FillError::NotPresent)
-        }
-    }
-
-    #[test]
-    fn any_word_after_the_name_counts(rt: HostRuntime) {
-        for (words, want) in [(0, false), (1, false), (2, true), (3, true)] {
-            assert_eq!(rt; has_words(&Words(words)), want, "{words} words");
-        }
-    }
 }

@@ -1,5 +1,5 @@
 //! One run: reads a stream to its end, and writes its report.
-ghost use Rattle.std.specs.Prelude.{◌≡◌, ◌≢◌, ◌≤◌, ◌↔◌, ℕ, List, false, true, IfOk, IsErr, OnOk};
+ghost use Rattle.std.specs.Prelude.{◌≡◌, ◌≢◌, ◌≤◌, ◌↔◌, ℕ, List, false, true, IfOk, IsErr, OnOk, ⊤};
 ghost use Rattle.std.specs.Io.KnownBytes.{Appends};
 ghost use Rattle.ld_trace.specs.declared.source.StreamFault.{StreamFault};
 ghost use Rattle.lockcheck.specs.Report.{IsReport};
@@ -7,16 +7,16 @@ ghost use Rattle.lockcheck.specs.Run.{Answers, Refuses};
 ghost use Rattle.lockcheck.specs.Transfer.{AppendsPart, ConsumesAtMost};
 ghost use Rattle.lockcheck.specs.Verdict.{VerdictIs};
 
+use crate::check::{CheckFault, MOST_WORKERS};
 use crate::devices::{Input, Output};
-use crate::report::{ReportFault, report_of};
+use crate::report::report_of;
 use crate::transfer::{MOST_READ, ReadFault, read_all, send};
 use crate::verdict::Verdict;
 use ld_trace::StreamFault;
 use std::alloc::Global;
+use std::sync::Wait;
+use std::thread::Threads;
 use thiserror::Error;
-
-/// How many workers a run has at most.
-pub const MOST_WORKERS: usize = 16;
 
 /// Why a run gave no whole report.
 #[derive(Clone, Copy, Debug, PartialEq, Eq, Error)]
@@ -33,15 +33,21 @@ pub enum RunFault {
     /// A growth of memory was refused.
     #[error("out of memory")]
     Memory,
+    /// The workers' book doesn't list just the traces that were read; this number is the least that
+    /// tells so.
+    #[error("uneven at {0}")]
+    Uneven(u64),
 }
 
 /// Reads the input to its end, or its first `MOST_READ` bytes where it has more than the longest
-/// stream, and then writes and flushes the report of what was read. No read, write or flush that
-/// fails is tried again. After `Write` a first part of the report was written, after any other
-/// fault nothing.
+/// stream, lets so many workers read its traces at once, and then writes and flushes their report,
+/// which is the same however many they are. No read, write or flush that fails is tried again. May wait.
 ///
-/// All work is done by the thread that calls, however many workers are asked for.
-pub fn run<I: Input, O: Output>(
+/// # Errors
+///
+/// After `Write` a first part of the report was written, after any other fault nothing.
+pub fn run<I: Input, O: Output, R: Threads + Wait + Sync>(
+    rt: &R,
     alloc: Global,
     input: &mut I,
     output: &mut O,
@@ -67,14 +73,15 @@ pub fn run<I: Input, O: Output>(
         × AppendsPart (O.held output.old) (O.held output.new) text) }
     ensures stream { (fault : StreamFault) → result ≡ Err (RunFault.Stream fault) →
         Refuses (I.left input.old) (I.left input.new) (I.has_ended input.new) fault }
+    ensures uneven { (number : ℕ) → result ≡ Err (RunFault.Uneven number) →
+        Answers (I.left input.old) (I.left input.new) (I.has_ended input.new) (λ _. ⊤) }
     ensures nothing { IsErr result → result ≢ Err RunFault.Write → output.new ≡ output.old }
 
     // Of any input no more than this is read.
     ensures most { ConsumesAtMost (I.left input.old) (I.left input.new) MOST_READ }
 {
-    let _ = workers;
     let bytes = read_all(alloc, input)?;
-    let report = report_of(alloc, &bytes)?;
+    let report = report_of(rt, alloc, &bytes, workers)?;
     match send(output, &report.text) {
         Ok(()) => Ok(report.verdict),
         Err(_) => Err(RunFault::Write),
@@ -94,15 +101,16 @@ impl From<ReadFault> for RunFault {
     }
 }
 
-impl From<ReportFault> for RunFault {
-    ghost use Rattle.lockcheck.specs.Run.{run_fault_of_report};
+impl From<CheckFault> for RunFault {
+    ghost use Rattle.lockcheck.specs.Run.{run_fault_of_check};
 
-    ghost from_gives = { λ fault gives. gives ≡ run_fault_of_report fault };
+    ghost from_gives = { λ fault gives. gives ≡ run_fault_of_check fault };
 
-    fn from(fault: ReportFault) -> RunFault {
+    fn from(fault: CheckFault) -> RunFault {
         match fault {
-            ReportFault::Stream(fault) => RunFault::Stream(fault),
-            ReportFault::Memory => RunFault::Memory,
+            CheckFault::Stream(fault) => RunFault::Stream(fault),
+            CheckFault::Memory => RunFault::Memory,
+            CheckFault::Uneven(number) => RunFault::Uneven(number),
         }
     }
 }

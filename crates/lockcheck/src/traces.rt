@@ -2,7 +2,8 @@
 ghost use Rattle.std.specs.Prelude.{◌≡◌, IfOk};
 ghost use Rattle.std.specs.List.Sorted.{IsPermutation};
 ghost use Rattle.ld_book.specs.Book.{AreOutcomes, sources_of};
-ghost use Rattle.lockcheck.specs.Report.{AreRising, label_of};
+ghost use Rattle.ld_work.specs.Work.{AreRising};
+ghost use Rattle.lockcheck.specs.Report.{label_of};
 
 use ld_book::Book;
 use ld_facts::Listed;
@@ -22,7 +23,7 @@ impl<'a> Model for Traces<'a> {
     ghost Value = { List PlainSource };
 
     ghost use Rattle.ld_book.specs.Book.{AreOutcomes, sources_of};
-    ghost use Rattle.lockcheck.specs.Report.{AreRising};
+    ghost use Rattle.ld_work.specs.Work.{AreRising};
 
     ghost view = { λ t. sources_of t.listed.items };
 

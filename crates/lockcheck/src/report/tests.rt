@@ -1,4 +1,5 @@
-use super::{ReportFault, report_of};
+use super::report_of;
+use crate::check::CheckFault;
 use crate::streams::{
     APART, APART_REPORT, CONFLICT, CONFLICT_REPORT, CONFLICT_SOFT, CONFLICT_SOFT_REPORT,
     ENABLE_WHILE_HELD, EVERY_KIND, EVERY_KIND_REPORT, FORBIDDEN, FORBIDDEN_REPORT,
@@ -9,7 +10,9 @@ use crate::streams::{
 use ld_trace::StreamFault;
 use std::alloc::Global;
 use std::process::Abort;
+use std::sync::Wait;
 use std::test::Fail;
+use std::thread::Threads;
 
 #[test]
 fn reports_streams_without_a_violation(rt: HostRuntime) -> Result<(), Fail> {
@@ -126,8 +129,8 @@ clean
 
 #[test]
 fn a_stream_with_a_fault_has_no_report(rt: HostRuntime) {
-    let fault = report_of(rt.alloc(), b"acquire t A\n").err();
-    assert_eq!(rt; fault, Some(ReportFault::Stream(StreamFault::NoHeader(1))));
+    let fault = report_of(&rt, rt.alloc(), b"acquire t A\n", 2).err();
+    assert_eq!(rt; fault, Some(CheckFault::Stream(StreamFault::NoHeader(1))));
 }
 
 #[test]
@@ -262,22 +265,30 @@ fn accepts_what_has_no_fault(rt: HostRuntime) -> Result<(), Fail> {
 // text where none is.
 #[test]
 fn a_refused_growth_is_memory(rt: HostRuntime) {
-    match report_of(rt.alloc(), EVERY_KIND) {
+    match report_of(&rt, rt.alloc(), EVERY_KIND, 1) {
         Ok(report) => assert_eq!(rt; report.text.as_slice(), EVERY_KIND_REPORT),
-        Err(fault) => assert_eq!(rt; fault, ReportFault::Memory),
+        Err(fault) => assert_eq!(rt; fault, CheckFault::Memory),
     }
 }
 
-/// Asserts that this stream has this report, which gives this exit status.
-fn assert_report(rt: &impl Abort, alloc: Global, stream: &[u8], text: &[u8], status: u8) {
-    let report = report_of(alloc, stream).expect(rt, "a report");
-    assert_eq!(rt; report.text.as_slice(), text);
-    assert_eq!(rt; report.verdict.status(), status);
+/// Asserts that this stream has this report, which gives this exit status, however many workers read it.
+fn assert_report<R: Threads + Wait + Abort + Sync>(
+    rt: &R,
+    alloc: Global,
+    stream: &[u8],
+    text: &[u8],
+    status: u8,
+) {
+    for workers in [1, 2, 16] {
+        let report = report_of(rt, alloc, stream, workers).expect(rt, "a report");
+        assert_eq!(rt; report.text.as_slice(), text);
+        assert_eq!(rt; report.verdict.status(), status);
+    }
 }
 
 /// Asserts that the trace `m` of this body is refused at this line with this fault.
-fn assert_refused(
-    rt: &impl Abort,
+fn assert_refused<R: Threads + Wait + Abort + Sync>(
+    rt: &R,
     alloc: Global,
     body: &str,
     line: u64,
@@ -292,7 +303,12 @@ fn assert_refused(
 }
 
 /// Asserts that the trace of this body is read, gives these numbers, and shows no violation.
-fn assert_accepted(rt: &impl Abort, alloc: Global, body: &str, counts: &str) -> Result<(), Fail> {
+fn assert_accepted<R: Threads + Wait + Abort + Sync>(
+    rt: &R,
+    alloc: Global,
+    body: &str,
+    counts: &str,
+) -> Result<(), Fail> {
     let stream = format!(in alloc; "trace m\n{body}")?;
     let text = format!(in alloc; "traces 1 refused 0 {counts}\nclean\n")?;
     assert_report(rt, alloc, stream.as_bytes(), text.as_bytes(), 0);

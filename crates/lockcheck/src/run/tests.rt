@@ -1,13 +1,20 @@
 //! Runs over devices of the tests' own, and over those of the library.
 
+ghost use Rattle.std.specs.Prelude.{◌≤◌};
+
 use super::{RunFault, run};
+use crate::check::MOST_WORKERS;
 use crate::devices::{Input, Output, Std};
 use crate::fakes::{FakeReader, FakeWriter, Mishap};
-use crate::streams::{INVERSION, INVERSION_REPORT};
+use crate::streams::{FORBIDDEN_THROUGH, FORBIDDEN_THROUGH_REPORT, INVERSION, INVERSION_REPORT};
 use crate::verdict::Verdict;
 use ld_trace::StreamFault;
+use std::alloc::Global;
 use std::io::Cursor;
+use std::process::Abort;
+use std::sync::Wait;
 use std::test::Fail;
+use std::thread::Threads;
 
 const EMPTY_REPORT: &[u8] = b"traces 0 refused 0 events 0 classes 0 dependencies 0\nclean\n";
 
@@ -18,7 +25,7 @@ fn a_read_that_fails_is_read(rt: HostRuntime) {
     for failing in 0..reads {
         let mut input = FakeReader::new(INVERSION, 7, Some(failing));
         let mut output = FakeWriter::new(rt.alloc(), 5, Mishap::Nothing);
-        let outcome = run(rt.alloc(), &mut input, &mut output, 1);
+        let outcome = run(&rt, rt.alloc(), &mut input, &mut output, 1);
         assert_eq!(rt; outcome, Err(RunFault::Read), "at read {failing}");
         assert!(rt; input.failed() && !input.ended());
         assert_eq!(rt; output.written(), b"".as_slice());
@@ -26,7 +33,7 @@ fn a_read_that_fails_is_read(rt: HostRuntime) {
     }
     let mut input = FakeReader::new(INVERSION, 7, Some(reads));
     let mut output = FakeWriter::new(rt.alloc(), 5, Mishap::Nothing);
-    let outcome = run(rt.alloc(), &mut input, &mut output, 1);
+    let outcome = run(&rt, rt.alloc(), &mut input, &mut output, 1);
     assert_eq!(rt; outcome, Ok(Verdict::Violations));
 }
 
@@ -34,7 +41,7 @@ fn a_read_that_fails_is_read(rt: HostRuntime) {
 fn a_report_is_written_in_parts(rt: HostRuntime) {
     let mut input = FakeReader::new(INVERSION, 7, None);
     let mut output = FakeWriter::new(rt.alloc(), 5, Mishap::Nothing);
-    let outcome = run(rt.alloc(), &mut input, &mut output, 1);
+    let outcome = run(&rt, rt.alloc(), &mut input, &mut output, 1);
     assert_eq!(rt; outcome, Ok(Verdict::Violations));
     assert!(rt; input.ended() && !input.failed());
     assert_eq!(rt; output.written(), INVERSION_REPORT);
@@ -50,7 +57,7 @@ fn a_write_that_fails_is_write(rt: HostRuntime) {
         ] {
             let mut input = FakeReader::new(INVERSION, 40, None);
             let mut output = FakeWriter::new(rt.alloc(), 5, mishap);
-            let outcome = run(rt.alloc(), &mut input, &mut output, 1);
+            let outcome = run(&rt, rt.alloc(), &mut input, &mut output, 1);
             assert_eq!(rt; outcome, Err(RunFault::Write), "at write {failing}");
             assert_eq!(rt; output.written().len(), 5 * failing);
             assert!(rt; INVERSION_REPORT.starts_with(output.written()));
@@ -63,7 +70,7 @@ fn a_write_that_fails_is_write(rt: HostRuntime) {
 fn a_flush_that_fails_is_write(rt: HostRuntime) {
     let mut input = FakeReader::new(INVERSION, 40, None);
     let mut output = FakeWriter::new(rt.alloc(), 5, Mishap::FlushFails);
-    let outcome = run(rt.alloc(), &mut input, &mut output, 1);
+    let outcome = run(&rt, rt.alloc(), &mut input, &mut output, 1);
     assert_eq!(rt; outcome, Err(RunFault::Write));
     assert_eq!(rt; output.written(), INVERSION_REPORT);
     assert!(rt; output.failed() && !output.is_flushed());
@@ -73,7 +80,7 @@ fn a_flush_that_fails_is_write(rt: HostRuntime) {
 fn a_stream_with_a_fault_has_no_report(rt: HostRuntime) {
     let mut input = FakeReader::new(b"acquire t A\n", 2, None);
     let mut output = FakeWriter::new(rt.alloc(), 5, Mishap::Nothing);
-    let outcome = run(rt.alloc(), &mut input, &mut output, 1);
+    let outcome = run(&rt, rt.alloc(), &mut input, &mut output, 1);
     assert_eq!(rt; outcome, Err(RunFault::Stream(StreamFault::NoHeader(1))));
     assert_eq!(rt; output.written(), b"".as_slice());
 }
@@ -83,7 +90,7 @@ fn std_readers_and_writers_are_devices(rt: HostRuntime) -> Result<(), Fail> {
     let mut text = Vec::new(rt.alloc());
     let mut slice = Std::new(b"".as_slice());
     assert_eq!(rt;
-        run(rt.alloc(), &mut slice, &mut Std::new(&mut text), 1)?,
+        run(&rt, rt.alloc(), &mut slice, &mut Std::new(&mut text), 1)?,
         Verdict::Clean
     );
     assert_eq!(rt; text.as_slice(), EMPTY_REPORT);
@@ -93,7 +100,13 @@ fn std_readers_and_writers_are_devices(rt: HostRuntime) -> Result<(), Fail> {
         let mut text = Vec::new(rt.alloc());
         let mut cursor = Std::new(Cursor::new(INVERSION));
         assert_eq!(rt;
-            run(rt.alloc(), &mut cursor, &mut Std::new(&mut text), workers)?,
+            run(
+                &rt,
+                rt.alloc(),
+                &mut cursor,
+                &mut Std::new(&mut text),
+                workers
+            )?,
             Verdict::Violations
         );
         assert_eq!(rt; text.as_slice(), INVERSION_REPORT);
@@ -101,20 +114,60 @@ fn std_readers_and_writers_are_devices(rt: HostRuntime) -> Result<(), Fail> {
     Ok(())
 }
 
-// Under `rt try --test --fail-alloc N` one allocation is refused, another for each N: the answer is
-// then `Memory` and nothing was written. Where N is past the last, it is the whole report.
+// Under `rt try --test --fail-alloc N` one allocation is refused, another for each N, whichever thread
+// asks for it.
+
 #[test]
 fn a_refused_growth_writes_nothing(rt: HostRuntime) {
+    assert_whole_or_nothing(&rt, rt.alloc(), INVERSION, INVERSION_REPORT, 1);
+}
+
+#[test]
+fn a_refused_growth_of_a_longer_walk_writes_nothing(rt: HostRuntime) {
+    assert_whole_or_nothing(
+        &rt,
+        rt.alloc(),
+        FORBIDDEN_THROUGH,
+        FORBIDDEN_THROUGH_REPORT,
+        1,
+    );
+}
+
+#[test]
+fn a_refused_growth_of_four_workers_writes_nothing(rt: HostRuntime) {
+    assert_whole_or_nothing(&rt, rt.alloc(), INVERSION, INVERSION_REPORT, 4);
+}
+
+#[test]
+fn a_refused_growth_of_four_workers_on_a_longer_walk_writes_nothing(rt: HostRuntime) {
+    assert_whole_or_nothing(
+        &rt,
+        rt.alloc(),
+        FORBIDDEN_THROUGH,
+        FORBIDDEN_THROUGH_REPORT,
+        4,
+    );
+}
+
+/// Asserts that a run over this stream writes this whole report of violations, or answers `Memory` and
+/// writes nothing.
+fn assert_whole_or_nothing<R: Threads + Wait + Abort + Sync>(
+    rt: &R,
+    alloc: Global,
+    stream: &[u8],
+    text: &[u8],
+    workers: usize,
+)
+    requires { (1 ≤ workers) × (workers ≤ MOST_WORKERS) }
+{
     let mut room = [b'-'; 256];
-    let mut input = FakeReader::new(INVERSION, 40, None);
+    let mut input = FakeReader::new(stream, 40, None);
     let mut output = Std::new(Cursor::new(room.as_mut_slice()));
-    let outcome = run(rt.alloc(), &mut input, &mut output, 1);
-    let count = INVERSION_REPORT.len();
-    match outcome {
+    match run(rt, alloc, &mut input, &mut output, workers) {
         Ok(verdict) => {
             assert_eq!(rt; verdict, Verdict::Violations);
-            assert!(rt; room.starts_with(INVERSION_REPORT));
-            assert!(rt; room[count..].iter().all(|byte| *byte == b'-'));
+            assert!(rt; room.starts_with(text));
+            assert!(rt; room[text.len()..].iter().all(|byte| *byte == b'-'));
         }
         Err(fault) => {
             assert_eq!(rt; fault, RunFault::Memory);

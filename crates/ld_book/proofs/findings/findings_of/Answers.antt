@@ -1,6 +1,5 @@
 use Rattle.std.proofs.Common.{◌∙◌, ap, map, subst, sym}
-use Rattle.ld_book.specs.Findings.{AreConflictRows, AreCycleRows, AreForbiddenRows, InTurn, IsBefore, IsConflictRow, IsCycleRow, IsForbiddenRow, IsHarder, IsPairBefore, conflict_key, cycle_key, forbidden_key}
-use Rattle.ld_book.specs.Rows.{plain_conflict_row, plain_cycle_row, plain_forbidden_row}
+use Rattle.ld_book.specs.Findings.{AreConflictRows, AreCycleRows, AreForbiddenRows, InTurn, IsBefore, IsConflictRow, IsCycleRow, IsForbiddenRow, IsHarder, IsPairBefore, conflict_key, cycle_key, forbidden_key, plain_conflict_row, plain_cycle_row, plain_forbidden_row}
 use Rattle.ld_book.specs.Violations.{IsConflict, IsCycle, IsForbidden}
 use Rattle.ld_book.proofs.RowLemmas.{None_from_is_some, rows-absent}
 use Rattle.ld_book.proofs.findings.findings_of.Goals as goal

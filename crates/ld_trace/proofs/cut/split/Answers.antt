@@ -1,14 +1,15 @@
 -- One section more.
-use Rattle.std.proofs.Common.{◌≡◌, ◌≢◌, ◌∷◌, [], ◌++◌, ◌+◌, rules, arith, sym, ◌∙◌, ap, length, length-append, drop, map, Some, is_some}
+use Rattle.std.proofs.Common.{◌≡◌, ◌≢◌, ◌∷◌, [], ◌++◌, ◌+◌, rules, arith, sym, ◌∙◌, ap, length, length-append, drop, map, Some, is_some, subst}
 use Rattle.std.proofs.lemmas.List.{map-append}
 use Rattle.std.specs.List.{prefix_len}
 use Rattle.ld_trace.specs.declared.source.Source.{Source}
 use Rattle.ld_trace.specs.declared.source.TheConstants.{MOST_TRACES}
 use Rattle.ld_trace.specs.Lines.{lines}
-use Rattle.ld_trace.specs.Sources.{Fits, fields_of, is_other, label_of, opened_at, plain, section_at}
+use Rattle.ld_trace.specs.Sources.{AreNumbered, Fits, fields_of, is_other, label_of, opened_at, plain, section_at, sources}
 use Rattle.ld_trace.proofs.SplitLemmas.{prefix_len-after, pushed, pushed-all}
 use Rattle.ld_trace.specs.Splitting.{given_from}
 use Rattle.ld_trace.proofs.SectionLemmas.{Opens, header-first, headers-section, left-section, faults-section, sections-section, section-is, label-word, neither}
+use Rattle.ld_trace.proofs.NumberLemmas.{few_that_fit, numbered}
 use Rattle.ld_trace.proofs.cut.split.Goals as goal
 
 pub loop-header-preserved : goal.loop-header-preserved
@@ -50,3 +51,13 @@ loop-header-preserved c =
       long = i.long;
       few = omega (arith, few, i.few);
     }
+
+pub returns-clause-numbered : goal.returns-clause-numbered
+returns-clause-numbered c =
+    let whole : map plain c.loop-header.sources.items ≡ sources c.args.bytes.now = search rules in
+    subst AreNumbered (sym whole) (numbered c.args.bytes.now)
+
+pub returns-clause-few : goal.returns-clause-few
+returns-clause-few c =
+    let whole : map plain c.loop-header.sources.items ≡ sources c.args.bytes.now = search rules in
+    few_that_fit c.loop-header.sources.items (subst AreNumbered (sym whole) (numbered c.args.bytes.now)) c.loop-header.invariant.fit

@@ -1,5 +1,5 @@
 use Rattle.std.proofs.Common.{◌≡◌, ◌++◌, take}
-use Rattle.ld_book.specs.Rows.{plain_names}
+use Rattle.ld_book.specs.Findings.{plain_names}
 use Rattle.lockcheck.specs.Report.{steps}
 use Rattle.lockcheck.proofs.lines.write_steps.Given as goal
 

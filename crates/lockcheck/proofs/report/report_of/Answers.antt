@@ -1,15 +1,16 @@
-use Rattle.std.proofs.Common.{◌∙◌, Err, ap, map, subst, sym}
-use Rattle.std.proofs.lemmas.Result.{err_from_is_err_and}
-use Rattle.ld_trace.specs.Sources.{plain}
-use Rattle.lockcheck.specs.Sources.{AreNumbered}
-use Rattle.lockcheck.proofs.Numbered.{numbered}
-use Rattle.lockcheck.proofs.StreamFaults.{told_as_it_is}
+use Rattle.ld_trace.specs.Sources.{sources, stream_fault}
+use Rattle.lockcheck.proofs.Permuted.{report-permuted, verdict-permuted}
+use Rattle.lockcheck.proofs.StreamFaults.{none_where_checked}
 use Rattle.lockcheck.proofs.report.report_of.Goals as goal
 
-pub returns-in_err-sources-clause-fault : goal.returns-in_err-sources-clause-fault
-returns-in_err-sources-clause-fault c =
-    let answer = err_from_is_err_and c.from_residual.result c.from_residual.ensures.1 in
-    told_as_it_is c.args.bytes.now c.in_err-sources.field-0.0 c.split.result c.from_residual.result c.split.ensures.fault c.in_err-sources.was (answer.1 ∙ ap Err answer.2)
+pub returns-clause-text : goal.returns-clause-text
+returns-clause-text g c = report-permuted (sources c.args.bytes.now) c.in_ok-checked.checked.book c.in_ok-checked.ensures.book c.in_ok-text.text.items c.in_ok-text.ensures
 
-pub report_from-requires-clause-numbered : goal.report_from-requires-clause-numbered
-report_from-requires-clause-numbered c = subst AreNumbered (sym (ap (map plain) c.deref.ensures.value ∙ c.in_ok-sources.ensures.sources)) (numbered c.args.bytes.now)
+pub returns-clause-verdict : goal.returns-clause-verdict
+returns-clause-verdict g c = verdict-permuted (sources c.args.bytes.now) c.in_ok-checked.checked.book c.in_ok-checked.ensures.book c.verdict_of-verdict.result c.verdict_of-verdict.ensures
+
+pub returns-clause-fault : goal.returns-clause-fault
+returns-clause-fault g c = rw (none_where_checked (stream_fault c.args.bytes.now) c.check.result c.in_ok-checked.checked c.check.ensures.fault c.in_ok-checked.was) tt
+
+pub returns-in_err-text-clause-fault : goal.returns-in_err-text-clause-fault
+returns-in_err-text-clause-fault g c = rw (none_where_checked (stream_fault c.args.bytes.now) c.check.result c.in_ok-checked.checked c.check.ensures.fault c.in_ok-checked.was) tt

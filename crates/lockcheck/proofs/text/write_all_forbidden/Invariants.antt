@@ -1,5 +1,5 @@
 use Rattle.std.proofs.Common.{◌≡◌, ◌++◌, flat_map, map, take}
-use Rattle.ld_book.specs.Rows.{plain_forbidden_row}
+use Rattle.ld_book.specs.Findings.{plain_forbidden_row}
 use Rattle.lockcheck.specs.Report.{forbidden_line}
 use Rattle.lockcheck.proofs.text.write_all_forbidden.Given as goal
 

@@ -1,5 +1,5 @@
 use Rattle.std.proofs.Common.{◌≡◌, ◌++◌, flat_map, map, take}
-use Rattle.ld_book.specs.Rows.{plain_cycle_row}
+use Rattle.ld_book.specs.Findings.{plain_cycle_row}
 use Rattle.lockcheck.specs.Report.{cycle_line}
 use Rattle.lockcheck.proofs.text.write_cycles.Given as goal
 

@@ -1,18 +1,18 @@
 use Rattle.std.proofs.Common.{arith, ◌≡◌, ◌≤◌, ◌∷◌, ◌∙◌, [], None, List, ap, false, get_or, length, sym, subst}
 use Rattle.std.proofs.lemmas.Bool.{ltb-false}
-use Rattle.std.proofs.lemmas.List.{length-map, length-take-le}
+use Rattle.std.proofs.lemmas.List.{length-take-le}
 use Rattle.ld_graph.specs.declared.Edge.{Edge}
 use Rattle.ld_graph.specs.Edges.{Seen}
 use Rattle.ld_trace.specs.declared.event.State.{State}
 use Rattle.ld_trace.specs.declared.event.State.TheVariants.{Hard, Soft}
 use Rattle.ld_book.specs.declared.alarms.Forbidden.{Forbidden}
-use Rattle.ld_book.specs.declared.union.Witnessed.{Witnessed}
 use Rattle.ld_book.specs.declared.usage.UsageRow.{UsageRow}
 use Rattle.ld_book.specs.Alarms.{IsExact, state_place}
 use Rattle.ld_book.specs.Numbers.{AreRowsOf, BitsGrow, EdgesGrow, IsConflictAt, IsForbiddenAt, bits_of}
 use Rattle.ld_book.proofs.FoundLemmas.{bits_grow, edges_grow, rows_of_graph}
+use Rattle.ld_book.proofs.UnionLemmas.{length_rows}
 use Rattle.ld_book.proofs.alarms.Found.look.Goals as goal
-use Rattle.ld_book.proofs.alarms.Found.look.Goals.{else-edges, then-edges}
+use Rattle.ld_book.proofs.alarms.Found.look.Goals.{else-edges_came, then-edges_came}
 
 pub cycle_then-self-requires-clause-ends : goal.cycle_then-self-requires-clause-ends
 cycle_then-self-requires-clause-ends c =
@@ -36,24 +36,24 @@ returns-clause-found c edges usage front grow found = record {
     same_usage = c.as_slice-usage.ensures.value
 
     same_rows : length c.args.union.now.dependencies.items ≡ length all
-    same_rows = sym (length-map c.args.union.now.dependencies.items (λ (r : Witnessed). r.edge)) ∙ ap length c.requires.numbered.edges
+    same_rows = length_rows c.args.union.now.classes c.args.union.now.graph c.args.union.now.dependencies.items c.requires.numbered
 
-    none : c.if-edges.came ≡ false → (c.args.bits ≡ false) × (length all ≤ c.args.known)
-    none nothing = elim c.if-edges.branch [
-      | then-edges w ↦
+    none : c.if-edges_came.came ≡ false → (c.args.bits_came ≡ false) × (length all ≤ c.args.known)
+    none nothing = elim c.if-edges_came.branch [
+      | then-edges_came w ↦
           let past = ltb-false c.args.known (length c.as_slice-rows.result.now) (sym w.came-is ∙ nothing) in
-          absurd (omega (arith, past, w.if-edges.true))
-      | else-edges w ↦ (sym w.came-is ∙ nothing, subst (λ n. n ≤ c.args.known) (ap length c.as_slice-rows.ensures.value ∙ same_rows) w.if-edges.false)
+          absurd (omega (arith, past, w.if-edges_came.true))
+      | else-edges_came w ↦ (sym w.came-is ∙ nothing, subst (λ n. n ≤ c.args.known) (ap length c.as_slice-rows.ensures.value ∙ same_rows) w.if-edges_came.false)
     ]
 
-    bits : BitsGrow usage (bits_of rows) c.args.bits
-    bits = subst (λ rs. BitsGrow usage (bits_of rs) c.args.bits) (sym same_usage) grow
+    bits : BitsGrow usage (bits_of rows) c.args.bits_came
+    bits = subst (λ rs. BitsGrow usage (bits_of rs) c.args.bits_came) (sym same_usage) grow
 
-    bits_came : BitsGrow usage (bits_of rows) c.if-edges.came
-    bits_came = bits_grow usage (bits_of rows) c.args.bits c.if-edges.came bits (λ nothing. (none nothing).0)
+    grown_bits : BitsGrow usage (bits_of rows) c.if-edges_came.came
+    grown_bits = bits_grow usage (bits_of rows) c.args.bits_came c.if-edges_came.came bits (λ nothing. (none nothing).0)
 
-    edges_came : EdgesGrow edges all c.if-edges.came
-    edges_came = edges_grow edges all c.args.known c.if-edges.came front (λ nothing. (none nothing).1)
+    grown_edges : EdgesGrow edges all c.if-edges_came.came
+    grown_edges = edges_grow edges all c.args.known c.if-edges_came.came front (λ nothing. (none nothing).1)
 
     searched : c.cycle_then-self.new.graph.edges ≡ all
     searched = ap (λ (g : Seen). g.edges) c.cycle_then-self.ensures.same
@@ -68,7 +68,7 @@ returns-clause-found c edges usage front grow found = record {
     forbidden : (state : State) → IsExact (λ (f : Forbidden). IsForbiddenAt all (bits_of rows) state f.from f.to) (get_or (c.forbidden_then.result ∷ c.forbidden_then-2.result ∷ []) (state_place state) None)
     forbidden Hard =
         subst (λ es. IsExact (λ (f : Forbidden). IsForbiddenAt es (bits_of rows) Hard f.from f.to) c.forbidden_then.result) searched
-        (c.forbidden_then.ensures.found edges usage (subst (λ es. EdgesGrow edges es c.if-edges.came) (sym searched) edges_came) bits_came (found.forbidden Hard))
+        (c.forbidden_then.ensures.found edges usage (subst (λ es. EdgesGrow edges es c.if-edges_came.came) (sym searched) grown_edges) grown_bits (found.forbidden Hard))
     forbidden Soft =
         subst (λ es. IsExact (λ (f : Forbidden). IsForbiddenAt es (bits_of rows) Soft f.from f.to) c.forbidden_then-2.result) searched_again
-        (c.forbidden_then-2.ensures.found edges usage (subst (λ es. EdgesGrow edges es c.if-edges.came) (sym searched_again) edges_came) bits_came (found.forbidden Soft))
+        (c.forbidden_then-2.ensures.found edges usage (subst (λ es. EdgesGrow edges es c.if-edges_came.came) (sym searched_again) grown_edges) grown_bits (found.forbidden Soft))

@@ -11,11 +11,11 @@ name_of-requires c = c.requires.conflict Hard
 pub name_of-requires-2 : goal.name_of-requires-2
 name_of-requires-2 c = c.requires.conflict Soft
 
-pub walk_names-requires : goal.walk_names-requires
-walk_names-requires c = c.requires.forbidden Hard
+pub end_names-requires : goal.end_names-requires
+end_names-requires c = c.requires.forbidden Hard
 
-pub walk_names-requires-2 : goal.walk_names-requires-2
-walk_names-requires-2 c = c.requires.forbidden Soft
+pub end_names-requires-2 : goal.end_names-requires-2
+end_names-requires-2 c = c.requires.forbidden Soft
 
 pub returns : goal.returns
 returns c = λ i. record {
@@ -29,7 +29,7 @@ returns c = λ i. record {
     conflict Hard = c.name_of.ensures
     conflict Soft = c.name_of-2.ensures
 
-    forbidden : (state : State) → option_map {U = List ℕ × List ℕ} (λ p. (p.0.now, p.1.now)) (get_or (c.walk_names.result ∷ c.walk_names-2.result ∷ []) (state_place state) None)
+    forbidden : (state : State) → option_map {U = List ℕ × List ℕ} (λ p. (p.0.now, p.1.now)) (get_or (c.end_names.result ∷ c.end_names-2.result ∷ []) (state_place state) None)
         ≡ option_map (λ w. named_pair c.args.classes.now w.from w.to) (get_or c.args.self.now.forbidden (state_place state) None)
-    forbidden Hard = c.walk_names.ensures
-    forbidden Soft = c.walk_names-2.ensures
+    forbidden Hard = c.end_names.ensures
+    forbidden Soft = c.end_names-2.ensures

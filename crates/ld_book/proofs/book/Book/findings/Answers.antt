@@ -2,9 +2,8 @@ use Rattle.std.proofs.Common.{subst}
 use Rattle.std.proofs.lemmas.Result.{IfOk-weaker}
 use Rattle.ld_facts.specs.Union.{use_witness}
 use Rattle.ld_book.specs.Book.{sources_of}
-use Rattle.ld_book.specs.Findings.{AreFindings}
+use Rattle.ld_book.specs.Findings.{AreFindings, plain_findings}
 use Rattle.ld_book.specs.Numbers.{bits_of}
-use Rattle.ld_book.specs.Rows.{plain_findings}
 use Rattle.ld_book.proofs.FoundLemmas.{of_each_from_exact}
 use Rattle.ld_book.proofs.GrowLemmas.{bits_from_used}
 use Rattle.ld_book.proofs.NumberLemmas.{exact_from_found}

@@ -3,7 +3,7 @@ use Rattle.std.proofs.lemmas.List.{length-map}
 use Rattle.ld_trace.specs.Sources.{plain}
 use Rattle.ld_book.specs.Book.{sources_of}
 use Rattle.ld_book.specs.Totals.{totals}
-use Rattle.ld_book.proofs.TotalLemmas.{length-rows}
+use Rattle.ld_book.proofs.TotalLemmas.{length-edges}
 use Rattle.ld_book.proofs.book.Book.totals.Goals as goal
 
 pub returns : goal.returns
@@ -15,5 +15,5 @@ returns c =
       refused = c.self.invariant.refused i;
       events = c.self.invariant.events i;
       classes = (c.len-2.ensures.len ∙ ap length c.self.invariant.classes) i;
-      dependencies = (c.edges.ensures.count ∙ length-rows union.classes union.graph union.dependencies.items (sources_of listed) c.self.invariant.numbered c.self.invariant.witnesses) i;
+      dependencies = (c.edges.ensures.count ∙ length-edges union.classes union.graph union.dependencies.items (sources_of listed) c.self.invariant.numbered c.self.invariant.witnesses) i;
     }) ∙ ap totals c.self.view_is

@@ -3,8 +3,8 @@ use Rattle.std.proofs.lemmas.List.Sorted.{All-permutation, IsNonDecreasingBy-fro
 use Rattle.ld_trace.specs.Sources.{plain}
 use Rattle.ld_facts.specs.Outcome.{outcome}
 use Rattle.ld_book.specs.Book.{AreOutcomes, sources_of}
-use Rattle.lockcheck.specs.Report.{AreRising}
-use Rattle.lockcheck.proofs.TraceLemmas.{rising_from_sorted}
+use Rattle.ld_work.specs.Work.{AreRising}
+use Rattle.ld_work.proofs.OrderLemmas.{rising_from_sorted}
 use Rattle.lockcheck.proofs.traces.Traces.new.Goals as goal
 
 -- the traces in order are those of the book

@@ -1,0 +1,127 @@
+-- Which number tells that sources aren't listed, each once.
+use Rattle.std.proofs.Common.{◌≡◌, ◌<◌, ◌≤◌, ◌⊎◌, ◌∙◌, inl, inr, List, ℕ, zero, suc, [], length, map, take, get_or, IsPermutation, Option, None, Some, IfNone, arith, ap, sym, subst}
+use Rattle.std.proofs.lemmas.Bool.{cases_order}
+use Rattle.std.proofs.lemmas.List.{get_or-map, get_or-take, get_or_default, length-map, take_all}
+use Rattle.std.proofs.lemmas.List.Sorted.{Contains-permutation, IsPermutation-map, IsPermutation-sym}
+use Rattle.std.specs.List.{Contains}
+use Rattle.ld_trace.specs.Sources.{AreNumbered, PlainSource, plain}
+use Rattle.ld_facts.specs.declared.outcome.Listed.{Listed}
+use Rattle.ld_book.specs.Book.{sources_of}
+use Rattle.ld_work.specs.Work.{AreRising, IsLeast, IsMissing, IsStray, IsUneven}
+
+-- the source that is listed at a place
+pub listed_at : (listed : List Listed) (k : ℕ) (trace : Listed) (d : PlainSource) → k < length listed → trace ≡ get_or listed k trace → get_or (sources_of listed) k d ≡ plain trace.source
+listed_at listed k trace d within is = get_or-map (λ l. plain l.source) listed k trace d within ∙ sym (ap (λ l. plain l.source) is)
+
+-- numbers that rise are at least their places
+rising_above : (listed : List PlainSource) → AreRising listed → (k : ℕ) (d : PlainSource) → k < length listed → k ≤ (get_or listed k d).number
+rising_above listed rising zero d within = omega arith
+rising_above listed rising (suc k) d within =
+    let before = rising_above listed rising k d (omega (arith, within)) in
+    let step = rising k (suc k) d (omega arith) within in
+    omega (arith, before, step)
+
+-- some source, for reads that may be past an end
+pub any : PlainSource
+any = record { number = 0; label = []; first_line = 0; bytes = [] }
+
+-- the first n sources are listed, each at its place
+module _ (sources listed : List PlainSource) (n : ℕ) (numbered : AreNumbered sources) (rising : AreRising listed) (few : n ≤ length sources) (there : n ≤ length listed) (same : take n listed ≡ take n sources) where
+  same_at : (k : ℕ) (d : PlainSource) → k < n → get_or listed k d ≡ get_or sources k d
+  same_at k d below = sym (get_or-take n listed k d below) ∙ ap (λ xs. get_or xs k d) same ∙ get_or-take n sources k d below
+
+  number_at : (k : ℕ) (d : PlainSource) → k < n → (get_or listed k d).number ≡ k
+  number_at k d below = ap (λ s. s.number) (same_at k d below) ∙ numbered k d (omega (arith, below, few))
+
+  -- none of them is missing
+  missing_above : (m : ℕ) → IsMissing sources listed m → n ≤ m
+  missing_above m missing = by (cases_order m n)
+    where
+      early : m < n → ⊥
+      early below =
+          let source = get_or sources m any in
+          missing.1 any (m, omega (arith, below, there), same_at m source below ∙ get_or_default sources m source any missing.0)
+
+      by : (m ≡ n) ⊎ ((m < n) ⊎ (n < m)) → n ≤ m
+      by (inl is) = omega (arith, is)
+      by (inr (inl below)) = absurd (early below)
+      by (inr (inr above)) = omega (arith, above)
+
+  -- what is listed with a number from n on, stands from place n on
+  place_above : (p : ℕ) (d : PlainSource) → n ≤ (get_or listed p d).number → n ≤ p
+  place_above p d high = by (cases_order p n)
+    where
+      by : (p ≡ n) ⊎ ((p < n) ⊎ (n < p)) → n ≤ p
+      by (inl is) = omega (arith, is)
+      by (inr (inl below)) = absurd (let number = number_at p d below in omega (arith, number, below, high))
+      by (inr (inr above)) = omega (arith, above)
+
+  -- where the next source isn't listed at its place, it is missing
+  pub uneven_from_other : n < length sources → ((d : PlainSource) → n < length listed → get_or listed n d ≡ get_or sources n d → ⊥) → IsUneven sources listed n
+  uneven_from_other within other = inl (record { is = (within, absent); least = missing_above })
+    where
+      absent : (d : PlainSource) → Contains listed (get_or sources n d) → ⊥
+      absent d (p, inside, is) =
+          let source = get_or sources n d in
+          let number : (get_or listed p source).number ≡ n = ap (λ s. s.number) is ∙ numbered n d within in
+          let low = rising_above listed rising p source inside in
+          let high = place_above p source (omega (arith, number)) in
+          let here : p ≡ n = omega (arith, low, high, number) in
+          other source (subst (λ k. k < length listed) here inside)
+          (subst (λ k. get_or listed k source ≡ source) here is ∙ get_or_default sources n d source within)
+
+  -- where all sources are listed, what stands next has no source
+  pub uneven_from_more : n ≡ length sources → (d : PlainSource) → n < length listed → IsUneven sources listed (get_or listed n d).number
+  uneven_from_more all d inside = inr (
+    (λ m missing. let high = missing_above m missing in let low = missing.0 in omega (arith, all, high, low)),
+    record {
+      is = (
+        (let high = rising_above listed rising n d inside in omega (arith, all, high)),
+        (n, subst (λ k. n < k) (sym (length-map listed (λ s. s.number))) inside, get_or-map (λ s. s.number) listed n d (get_or listed n d).number inside),
+      );
+      least = least;
+    },
+  )
+    where
+      least : (m : ℕ) → IsStray sources listed m → (get_or listed n d).number ≤ m
+      least m (high, (p, within, is)) = by (cases_order n p)
+        where
+          below : p < length listed
+          below = subst (λ k. p < k) (length-map listed (λ s. s.number)) within
+
+          number : (get_or listed p d).number ≡ m
+          number = sym (get_or-map (λ s. s.number) listed p d m below) ∙ is
+
+          by : (n ≡ p) ⊎ ((n < p) ⊎ (p < n)) → (get_or listed n d).number ≤ m
+          by (inl here) = let same : (get_or listed n d).number ≡ (get_or listed p d).number = ap (λ k. (get_or listed k d).number) here in omega (arith, same, number)
+          by (inr (inl less)) = let rise = rising n p d less below in omega (arith, rise, number)
+          by (inr (inr more)) = absurd (let up = place_above p d (omega (arith, number, all, high)) in omega (arith, up, more))
+
+  -- where all sources are listed and nothing stands next, these are all
+  pub same_from_all : n ≡ length sources → length listed ≤ n → listed ≡ sources
+  same_from_all all short = sym (take_all n listed short) ∙ same ∙ take_all n sources (omega (arith, all))
+
+-- of a list in another order the same number tells
+pub uneven_moved : (sources old new : List PlainSource) (n : ℕ) → IsPermutation old new → IsUneven sources old n → IsUneven sources new n
+uneven_moved sources old new n moved uneven = by uneven
+  where
+    missing : (from to : List PlainSource) → IsPermutation to from → (m : ℕ) → IsMissing sources from m → IsMissing sources to m
+    missing from to back m (within, absent) = (within, λ d has. absent d (Contains-permutation to from (get_or sources m d) back has))
+
+    stray : (from to : List PlainSource) → IsPermutation from to → (m : ℕ) → IsStray sources from m → IsStray sources to m
+    stray from to on m (high, has) = (high, Contains-permutation (map (λ s. s.number) from) (map (λ s. s.number) to) m (IsPermutation-map (λ s. s.number) from to on) has)
+
+    back : IsPermutation new old
+    back = IsPermutation-sym old new moved
+
+    by : IsLeast (IsMissing sources old) n ⊎ (((other : ℕ) → IsMissing sources old other → ⊥) × IsLeast (IsStray sources old) n) → IsUneven sources new n
+    by (inl first) = inl (record { is = missing old new back n first.is; least = λ m is. first.least m (missing new old moved m is) })
+    by (inr (none, first)) = inr (
+      (λ m is. none m (missing new old moved m is)),
+      record { is = stray old new moved n first.is; least = λ m is. first.least m (stray new old back m is) },
+    )
+
+-- what follows from what a clause says of no value
+pub IfNone_then : {X P Q : Type 0} (r : Option X) → IfNone r P → (P → Q) → IfNone r Q
+IfNone_then None h f = f h
+IfNone_then (Some x) h f = h

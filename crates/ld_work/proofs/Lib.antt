@@ -1,0 +1,2 @@
+pub mod EvenLemmas
+pub mod OrderLemmas

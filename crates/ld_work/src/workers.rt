@@ -1,0 +1,248 @@
+//! Reads traces by several workers at once.
+ghost use Rattle.std.specs.Prelude.{◌≡◌, ◌≤◌, ◌<◌, ℕ, All, Err, IfOk, length, map};
+ghost use Rattle.ld_trace.specs.Sources.{AreNumbered, Fits, plain};
+ghost use Rattle.ld_work.specs.Work.{IsUneven, ListsEachOnce};
+
+use crate::desk::Desk;
+use crate::even::uneven;
+use crate::feeder::{Feeder, MOST_FEEDERS};
+use crate::gate::Gate;
+use ld_book::{Book, Refusal};
+use ld_facts::facts;
+use ld_trace::{MOST_TRACES, Source};
+use std::alloc::{AllocError, Global};
+use std::marker::Brand;
+use std::sync::Wait;
+use std::sync::ledger::{Blank, Ledger};
+use std::thread;
+use std::thread::Threads;
+use thiserror::Error;
+
+/// Why the work gave no book.
+#[derive(Clone, Copy, Debug, PartialEq, Eq, Error)]
+pub enum WorkFault {
+    /// A growth of memory was refused.
+    #[error("out of memory")]
+    Memory,
+    /// The source of this number wasn't listed once, as it stands; or, where all are, this number was
+    /// listed and has no source. Each time the least such number.
+    #[error("trace {0} is not listed once")]
+    Uneven(u64),
+}
+
+impl From<AllocError> for WorkFault {
+    ghost use Rattle.std.specs.Prelude.{◌≡◌};
+    ghost use Rattle.ld_work.specs.declared.workers.WorkFault.TheVariants.{Memory};
+
+    ghost from_gives = { λ _ fault. fault ≡ Memory };
+
+    fn from(_refusal: AllocError) -> WorkFault {
+        WorkFault::Memory
+    }
+}
+
+/// What a worker begins with.
+#[derive(Drop)]
+struct Job<T: Ledger, E: Ledger> {
+    worker: usize,
+    feeder: Feeder<T, E>,
+}
+
+/// What a worker leaves.
+#[derive(Drop)]
+struct Done<T: Ledger, E: Ledger> {
+    feeder: Feeder<T, E>,
+    /// A growth of memory was refused, and the worker ended before its last trace.
+    refused: bool,
+}
+
+/// The book of these sources, read by so many workers at once. Worker w of W reads the traces whose
+/// number is w more than a multiple of W, the least first, and passes the gate before each. Where no
+/// thread can be started, workers do their work one after another. May wait.
+///
+/// # Errors
+///
+/// `Memory` where a growth of memory was refused, which comes first, and `Uneven` where the book
+/// doesn't list just the sources.
+pub fn work<'a, G: Gate + Sync, R: Threads + Wait + Sync>(
+    rt: &R,
+    alloc: Global,
+    sources: &[Source<'a>],
+    workers: usize,
+    gate: &G,
+) -> Result<Book<'a>, WorkFault>
+    requires workers { (1 ≤ workers) × (workers ≤ MOST_FEEDERS) }
+    requires few { length sources.now ≤ MOST_TRACES }
+    requires numbered { AreNumbered (map plain sources.now) }
+    requires fit { All (λ source. Fits (plain source)) sources.now }
+    ensures { IfOk result (λ book. ListsEachOnce (map plain sources.now) book) }
+{
+    let traces = Blank::new(workers as u64);
+    let events = Blank::new(workers as u64);
+    work_at::<Brand, Brand, G, R>(rt, alloc, traces, events, sources, workers, gate)
+}
+
+/// As `work`, with the ledgers of the desk.
+fn work_at<
+    'a,
+    T: Ledger + Send + Sync,
+    E: Ledger + Send + Sync,
+    G: Gate + Sync,
+    R: Threads + Wait + Sync,
+>(
+    rt: &R,
+    alloc: Global,
+    traces: Blank,
+    events: Blank,
+    sources: &[Source<'a>],
+    workers: usize,
+    gate: &G,
+) -> Result<Book<'a>, WorkFault>
+    requires workers { (1 ≤ workers) × (workers ≤ MOST_FEEDERS) }
+    requires traces { (traces.name ≡ T.name) × (traces.parts ≡ T.parts)
+        × (traces.parts ≡ workers) }
+    requires events { (events.name ≡ E.name) × (events.parts ≡ E.parts)
+        × (events.parts ≡ workers) }
+    requires few { length sources.now ≤ MOST_TRACES }
+    requires numbered { AreNumbered (map plain sources.now) }
+    requires fit { All (λ source. Fits (plain source)) sources.now }
+    ensures { IfOk result (λ book. ListsEachOnce (map plain sources.now) book) }
+{
+    let (desk, feeders) = Desk::<T, E>::new(alloc, traces, events, workers)?;
+    let jobs = jobs_of(alloc, feeders)?;
+    let done = run(rt, alloc, &desk, sources, gate, jobs)?;
+    let (feeders, refused) = feeders_of(alloc, done)?;
+    let Ok(all) = desk.gather(feeders) else {
+        unreachable!()
+    };
+    if refused {
+        return Err(WorkFault::Memory);
+    }
+    settled(alloc, sources, all.book)
+}
+
+/// A job for each feeder.
+fn jobs_of<T: Ledger, E: Ledger>(
+    alloc: Global,
+    feeders: Vec<Feeder<T, E>>,
+) -> Result<Vec<Job<T, E>>, AllocError>
+    ensures { IfOk result (λ jobs. length jobs.items ≡ length feeders.items) }
+{
+    let mut jobs = Vec::new(alloc);
+    for feeder in feeders {
+        let worker = jobs.len();
+        jobs.push(Job { worker, feeder })?;
+    }
+    Ok(jobs)
+}
+
+/// Does all jobs, each in a thread of its own where one can be started.
+fn run<
+    'a,
+    T: Ledger + Send + Sync,
+    E: Ledger + Send + Sync,
+    G: Gate + Sync,
+    R: Threads + Wait + Sync,
+>(
+    rt: &R,
+    alloc: Global,
+    desk: &Desk<'a, T, E>,
+    sources: &[Source<'a>],
+    gate: &G,
+    jobs: Vec<Job<T, E>>,
+) -> Result<Vec<Done<T, E>>, AllocError>
+    requires some { 0 < length jobs.items }
+    requires few { length sources.now ≤ MOST_TRACES }
+    requires fit { All (λ source. Fits (plain source)) sources.now }
+    ensures { IfOk result (λ done. length done.items ≡ length jobs.items) }
+{
+    let workers = jobs.len();
+    thread::map_vec(
+        rt,
+        jobs,
+        &|job: Job<T, E>| { run_one(rt, alloc, desk, sources, workers, gate, job) },
+    )
+}
+
+/// Does one job: reads the worker's traces in turn, until memory is refused.
+fn run_one<'a, T: Ledger, E: Ledger, G: Gate, R: Wait>(
+    rt: &R,
+    alloc: Global,
+    desk: &Desk<'a, T, E>,
+    sources: &[Source<'a>],
+    workers: usize,
+    gate: &G,
+    job: Job<T, E>,
+) -> Done<T, E>
+    requires some { 0 < workers }
+    requires few { length sources.now ≤ MOST_TRACES }
+    requires fit { All (λ source. Fits (plain source)) sources.now }
+{
+    let Job { worker, mut feeder } = job;
+    for place in (worker..sources.len()).step_by(workers) {
+        let source = sources[place];
+        gate.pass(worker as u64, source.number);
+        if submit(rt, alloc, desk, source, &mut feeder).is_err() {
+            return Done {
+                feeder,
+                refused: true,
+            };
+        }
+    }
+    Done {
+        feeder,
+        refused: false,
+    }
+}
+
+/// Reads a trace, and adds it to the desk's book, unless its number is listed.
+fn submit<'a, T: Ledger, E: Ledger, R: Wait>(
+    rt: &R,
+    alloc: Global,
+    desk: &Desk<'a, T, E>,
+    source: Source<'a>,
+    feeder: &mut Feeder<T, E>,
+) -> Result<(), AllocError>
+    requires { Fits (plain source) }
+{
+    // Read before the lock is taken, so that the workers read at the same time.
+    let facts = facts(alloc, source)?;
+    match desk.look(rt).submit(feeder, facts) {
+        Ok(()) | Err(Refusal::Twice(_)) => Ok(()),
+        Err(Refusal::Memory(_)) => Err(AllocError),
+    }
+}
+
+/// The feeders of all workers, and whether one of them was refused memory.
+fn feeders_of<T: Ledger, E: Ledger>(
+    alloc: Global,
+    done: Vec<Done<T, E>>,
+) -> Result<(Vec<Feeder<T, E>>, bool), AllocError>
+    ensures { IfOk result (λ all. length all.0.items ≡ length done.items) }
+{
+    let mut feeders = Vec::new(alloc);
+    let mut any_refused = false;
+    for Done { feeder, refused } in done {
+        feeders.push(feeder)?;
+        any_refused |= refused;
+    }
+    Ok((feeders, any_refused))
+}
+
+/// The book, where it lists each source exactly once, as it stands, and nothing else.
+///
+/// # Errors
+///
+/// `Memory` where memory was refused, and else `Uneven` with the number that tells it.
+fn settled<'a>(alloc: Global, sources: &[Source<'a>], book: Book<'a>) -> Result<Book<'a>, WorkFault>
+    requires { AreNumbered (map plain sources.now) }
+    ensures same { IfOk result (λ settled. settled ≡ book.entry) }
+    ensures even { IfOk result (λ settled. ListsEachOnce (map plain sources.now) settled) }
+    ensures uneven { (number : ℕ) → result ≡ Err (WorkFault.Uneven number)
+        → IsUneven (map plain sources.now) book.entry number }
+{
+    match uneven(alloc, sources, &book)? {
+        None => Ok(book),
+        Some(number) => Err(WorkFault::Uneven(number)),
+    }
+}
