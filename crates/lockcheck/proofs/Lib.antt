@@ -1,4 +1,3 @@
-pub mod CleanLemmas
 pub mod Permuted
 pub mod StreamFaults
 pub mod Texts

@@ -1,4 +1,3 @@
-pub mod Alarms
 pub mod Devices
 pub mod Faults
 pub mod Report
