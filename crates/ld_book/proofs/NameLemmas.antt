@@ -1,16 +1,16 @@
 -- What adding names to others keeps, and what it gives.
-use Rattle.std.proofs.Common.{◌≡◌, ◌+◌, ◌<◌, ◌≤◌, ◌||◌, ◌++◌, ◌∷◌, [], List, ℕ, Bool, true, false, Option, Some, None, is_some, length, take, get_or, refl, sym, ap, subst, ◌∙◌, if◌then◌else◌, arith, append_assoc, length-append}
-use Rattle.std.proofs.lemmas.List.{append-nil, take-append-le}
-use Rattle.std.proofs.lemmas.List.Elements.{All-more, All-weaker}
-use Rattle.std.proofs.lemmas.List.Folds.{list_any-append}
+use Rattle.std.proofs.Common.{◌≡◌, ◌+◌, ◌<◌, ◌≤◌, ◌⊎◌, inl, inr, ◌++◌, ◌∷◌, [], List, ℕ, Bool, true, false, Option, Some, None, is_some, length, take, get_or, refl, sym, ap, subst, ◌∙◌, if◌then◌else◌, arith, append_assoc, length-append}
+use Rattle.std.proofs.lemmas.Bool.{cases_order}
+use Rattle.std.proofs.lemmas.Grind.{get_or_default_zero}
+use Rattle.std.proofs.lemmas.List.{append-nil, get_or_append_left, get_or_push, length_push, take-append-le}
 use Rattle.std.proofs.lemmas.Slice.Eq.{bytes_eq-Decides}
 use Rattle.std.specs.List.{list_any}
 use Rattle.std.specs.Str.{bytes_eq}
-use Rattle.ld_class.specs.Names.{place_of, with_name}
-use Rattle.ld_class.proofs.NameLemmas.{IsNameAt-with_name, list_any-known, list_any-new, place_of-None, search_end}
+use Rattle.ld_class.specs.Names.{IsNameAt, place_of, with_name}
+use Rattle.ld_class.proofs.NameLemmas.{list_any-known, list_any-new}
 use Rattle.ld_facts.specs.Outcome.{each_once}
 use Rattle.ld_facts.proofs.PlaceLemmas.{alike_from_decides, each_once-more}
-use Rattle.ld_book.specs.Names.{AreAmong, IsLonger, with_names}
+use Rattle.ld_book.specs.Names.{ArePlaces, IsLonger, with_names}
 
 -- one more name makes the list longer by at most one
 pub length-with_name : (names : List (List ℕ)) (name : List ℕ) → (length names ≤ length (with_name names name)) × (length (with_name names name) ≤ length names + 1)
@@ -36,29 +36,29 @@ place_of-any names name = by (place_of names name) refl
     by None is = ap is_some is ∙ sym (list_any-new names name is)
     by (Some id) is = ap is_some is ∙ sym (list_any-known names name id is)
 
--- a name that is added is there
-pub known-with_name : (names : List (List ℕ)) (name : List ℕ) → is_some (place_of (with_name names name) name) ≡ true
-known-with_name names name = by (place_of (with_name names name) name) refl
+-- the places of names and of one more, where no place lost its name
+pub places_more : (names more these : List (List ℕ)) (name : List ℕ) (places : List ℕ) (place : ℕ) → ArePlaces names these places
+    → ((id : ℕ) → id < length names → IsNameAt more id (get_or names id [])) → IsNameAt more place name
+    → ArePlaces more (these ++ name ∷ []) (places ++ place ∷ [])
+places_more names more these name places place are kept at = record {
+  count = length_push places place ∙ ap (λ n. n + 1) are.count ∙ sym (length_push these name);
+  each = λ i within. by i (cases_order i (length these)) within;
+}
   where
-    by : (r : Option ℕ) → place_of (with_name names name) name ≡ r → is_some (place_of (with_name names name) name) ≡ true
-    by None is = absurd (place_of-None (with_name names name) name (search_end names name) is (IsNameAt-with_name names name))
-    by (Some id) is = ap is_some is
+    by : (i : ℕ) → (i ≡ length these) ⊎ ((i < length these) ⊎ (length these < i)) → i < length (these ++ name ∷ [])
+        → IsNameAt more (get_or (places ++ place ∷ []) i 0) (get_or (these ++ name ∷ []) i [])
+    by i (inl same) within = rw (get_or_push places place 0 i (are.count ∙ sym same), get_or_push these name [] i (sym same)) at
+    by i (inr (inl before)) within =
+        let was = are.each i before in
+        rw (get_or_append_left places (place ∷ []) 0 i (omega (arith, before, are.count)), get_or_append_left these (name ∷ []) [] i before)
+        (subst (IsNameAt more (get_or places i 0)) was.1 (kept (get_or places i 0) was.0))
+    by i (inr (inr after)) within = absurd (omega (arith, after, within, length_push these name))
 
--- and one that was there stays
-pub kept-with_name : (names : List (List ℕ)) (name other : List ℕ) → is_some (place_of names other) ≡ true → is_some (place_of (with_name names name) other) ≡ true
-kept-with_name names name other known = place_of-any (with_name names name) other ∙ by (is_some (place_of names name))
-  where
-    by : (b : Bool) → list_any (bytes_eq other) (if b then names else names ++ name ∷ []) ≡ true
-    by true = sym (place_of-any names other) ∙ known
-    by false = list_any-append (bytes_eq other) names (name ∷ []) ∙ ap (λ b. b || (bytes_eq other name || false)) (sym (place_of-any names other) ∙ known)
-
--- so all are there, once they were added in turn
-pub among_more : (names these : List (List ℕ)) (name : List ℕ) (i : ℕ) → i < length these → name ≡ get_or these i []
-    → AreAmong names (take i these) → AreAmong (with_name names name) (take (i + 1) these)
-among_more names these name i within is among =
-    All-more (λ other. is_some (place_of (with_name names name) other) ≡ true) these i [] within
-    (All-weaker (λ other. is_some (place_of names other) ≡ true) (λ other. is_some (place_of (with_name names name) other) ≡ true) (kept-with_name names name) (take i these) among)
-    (subst (λ other. is_some (place_of (with_name names name) other) ≡ true) is (known-with_name names name))
+-- a place that is read has the name
+pub place_read : (names these : List (List ℕ)) (places : List ℕ) → ArePlaces names these places → (i place : ℕ) → i < length these → place ≡ get_or places i place
+    → IsNameAt names place (get_or these i [])
+place_read names these places are i place within is =
+    subst (λ p. IsNameAt names p (get_or these i [])) (sym (is ∙ get_or_default_zero places i place (omega (arith, within, are.count)))) (are.each i within)
 
 -- the names that were there keep their places when one more is added
 pub longer_more : (old names : List (List ℕ)) (name : List ℕ) (more : ℕ) → IsLonger old names more → IsLonger old (with_name names name) (more + 1)

@@ -1,12 +1,12 @@
 -- What a trace shows, as it is noted fact after fact.
-use Rattle.std.proofs.Common.{◌≡◌, ◌≢◌, ◌+◌, ◌<◌, ◌≤◌, ◌∷◌, [], AllPairs, List, ℕ, zero, suc, Bool, true, false, cond, Option, Some, None, is_some, length, map, take, get_or, refl, sym, ap, subst, ◌∙◌, if◌then◌else◌, arith}
+use Rattle.std.proofs.Common.{◌≡◌, ◌≢◌, ◌+◌, ◌<◌, ◌≤◌, ◌∷◌, [], AllPairs, List, ℕ, zero, suc, Bool, true, false, cond, Option, Some, None, length, map, take, get_or, refl, sym, ap, subst, ◌∙◌, if◌then◌else◌, arith}
 use Rattle.std.proofs.lemmas.Bool.{false_from_ne_true}
 use Rattle.std.proofs.lemmas.List.{map-append, take_all, take_more}
 use Rattle.std.proofs.lemmas.Slice.Eq.{bytes_eq-Decides}
 use Rattle.std.specs.List.{IsDistinct, filter_map, find}
 use Rattle.std.specs.Option.{option_or}
 use Rattle.std.specs.Str.{bytes_eq}
-use Rattle.ld_class.specs.Names.{AreDistinct, place_of}
+use Rattle.ld_class.specs.Names.{AreDistinct}
 use Rattle.ld_class.proofs.NameLemmas.{AreDistinct-from_IsDistinct}
 use Rattle.ld_trace.specs.Events.{positions}
 use Rattle.ld_facts.specs.declared.outcome.Outcome.{Outcome}
@@ -19,7 +19,6 @@ use Rattle.ld_facts.specs.Union.{classes_of, if_read}
 use Rattle.ld_facts.specs.Usage.{Use, same_use, usage_of}
 use Rattle.ld_facts.proofs.LeastLemmas.{least_line-none, least_line-push}
 use Rattle.ld_facts.proofs.UsageLemmas.{Decides-same_use}
-use Rattle.ld_book.specs.Names.{AreAmong}
 use Rattle.ld_book.specs.Union.{earlier_of, seen_in}
 use Rattle.ld_book.proofs.EachOnceLemmas.{IsDistinct-each_once}
 use Rattle.ld_book.proofs.UnionLemmas.{earlier_of-none}
@@ -114,9 +113,3 @@ module _ (known : Known) (is : IsKnown known) where
         known_distinct known is (get_or known.usage i d).class (get_or known.usage j d).class (named_use known.classes (get_or known.usage j d)).what.class (a.0, ap (λ x. x.class) same) (b.0, refl),
         a.1 ∙ ap (λ x. usage_of x.bit) same ∙ sym b.1,
       )
-
--- a class of the trace is among the book's
-pub known_name : (known : Known) (old now names : List (List ℕ)) (id : ℕ) (name : List ℕ) → AreAmong old known.classes → now ≡ old → names ≡ known.classes → id < length known.classes → name ≡ get_or names id []
-    → is_some (place_of now name) ≡ true
-known_name known old now names id name among same_now same_names within is =
-    (λ i. is_some (place_of (same_now i) ((is ∙ ap (λ all. get_or all id []) same_names) i))) ∙ among id [] within

@@ -1,6 +1,6 @@
 -- Names of one list that are added to another. No public contract cites this file.
-use Rattle.std.specs.Prelude.{◌≡◌, ℕ, ◌+◌, ◌≤◌, List, length, take, fold, All, IsSome}
-use Rattle.ld_class.specs.Names.{place_of, with_name}
+use Rattle.std.specs.Prelude.{◌≡◌, ℕ, ◌+◌, ◌<◌, ◌≤◌, List, [], length, take, fold, slice_index_or}
+use Rattle.ld_class.specs.Names.{IsNameAt, with_name}
 
 -- the names with all of these among them
 abbrev pub with_names : List (List ℕ) → List (List ℕ) → List (List ℕ)
@@ -12,6 +12,7 @@ pub record IsLonger (old new : List (List ℕ)) (more : ℕ) : Type 0 where
   pub least : length old ≤ length new
   pub most : length new ≤ length old + more
 
--- each of these is among the names
-abbrev pub AreAmong : List (List ℕ) → List (List ℕ) → Type 0
-AreAmong names these = All (λ name. IsSome (place_of names name)) these
+-- these are, in turn, the names at the places
+pub record ArePlaces (names these : List (List ℕ)) (places : List ℕ) : Type 0 where
+  pub count : length places ≡ length these
+  pub each : (i : ℕ) → i < length these → IsNameAt names (slice_index_or places i 0) (slice_index_or these i [])

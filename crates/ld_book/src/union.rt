@@ -1,15 +1,15 @@
 //! What some traces show together, with numbers for their classes.
-ghost use Rattle.std.specs.Prelude.{◌≡◌, ℕ, ◌+◌, ◌<◌, ◌≤◌, [], IsSome, Option, OnErr, OnOk};
+ghost use Rattle.std.specs.Prelude.{◌≡◌, ℕ, ◌+◌, ◌<◌, ◌≤◌, [], Option, OnErr, OnOk};
 ghost use Rattle.std.specs.Prelude.{length, take};
 ghost use Rattle.std.specs.Bool.{OnFalse};
 ghost use Rattle.ld_class.specs.declared.names.TheConstants.{MAX_NAMES};
-ghost use Rattle.ld_class.specs.Names.{AreDistinct, IsNameAt, place_of};
+ghost use Rattle.ld_class.specs.Names.{AreDistinct};
 ghost use Rattle.ld_facts.specs.Dependency.{Dependency, least_line, same_dependency};
 ghost use Rattle.ld_facts.specs.Union.{dependencies_of};
 ghost use Rattle.ld_facts.specs.Union.{uses_of};
 ghost use Rattle.ld_facts.specs.Usage.{Use, same_use};
 ghost use Rattle.ld_book.specs.Union.{AreUsed, AreWitnessed, HasRoom, HasRows, IsNumbered, Notes};
-ghost use Rattle.ld_book.specs.Names.{AreAmong, IsLonger, with_names};
+ghost use Rattle.ld_book.specs.Names.{ArePlaces, IsLonger, with_names};
 ghost use Rattle.ld_book.specs.Numbers.{bits_of};
 ghost use Rattle.ld_book.specs.Union.{earlier_of, known_row, seen_in};
 
@@ -37,6 +37,9 @@ pub(crate) struct Union<'a> {
     pub(crate) dependencies: Vec<Witnessed>,
     /// The usage of the classes, by their numbers.
     pub(crate) usage: Vec<UsageRow>,
+    /// The numbers of the classes of the trace that is being added, by their places in it. Between
+    /// calls a spare.
+    pub(crate) places: Vec<u32>,
 }
 
 impl<'a> Union<'a> {
@@ -52,6 +55,7 @@ impl<'a> Union<'a> {
             graph: Graph::new(alloc),
             dependencies: Vec::new(alloc),
             usage: Vec::new(alloc),
+            places: Vec::new(alloc),
         }
     }
 
@@ -79,7 +83,7 @@ impl<'a> Union<'a> {
         Some(self.usage[class as usize])
     }
 
-    /// Adds the classes of a trace, and takes the memory for its dependencies.
+    /// Adds the classes of a trace, keeps their numbers, and takes the memory for its dependencies.
     ///
     /// `AllocError` where memory was refused. Nothing has changed then but spares.
     pub(crate) fn add_classes(&mut self, facts: &Facts<'a>) -> Result<(), AllocError>
@@ -92,7 +96,8 @@ impl<'a> Union<'a> {
             (self.new.classes ≡ with_names self.old.classes facts.now.classes) }
         ensures longer { OnOk result
             (IsLonger self.old.classes self.new.classes (length facts.now.classes)) }
-        ensures among { OnOk result (AreAmong self.new.classes facts.now.classes) }
+        ensures places { OnOk result
+            (ArePlaces self.new.classes facts.now.classes self.new.places.items) }
         ensures kept { (first : Dependency → Option Witness)
             → AreWitnessed self.old.classes self.old.dependencies.items first
             → AreWitnessed self.new.classes self.new.dependencies.items first }
@@ -108,7 +113,7 @@ impl<'a> Union<'a> {
         self.dependencies.reserve(edges)?;
         self.usage.reserve(facts.classes().len())?;
         self.graph.room(facts.classes().len(), edges)?;
-        intern_all(&mut self.classes, facts.classes())?;
+        intern_all(&mut self.classes, facts.classes(), &mut self.places)?;
         enter_classes(&mut self.graph, self.classes.len());
         let Ok(()) = self.usage.resize(self.classes.len(), UsageRow::unused()) else {
             unreachable!()
@@ -116,14 +121,16 @@ impl<'a> Union<'a> {
         Ok(())
     }
 
-    /// Notes the dependencies of a trace, each where it was seen first.
+    /// Notes the dependencies of the trace whose classes were added last, each where it was seen
+    /// first.
     pub(crate) fn add_dependencies(&mut self, facts: &Facts<'a>)
         requires numbered { IsNumbered self.old }
-        requires among { AreAmong self.old.classes facts.now.classes }
+        requires places { ArePlaces self.old.classes facts.now.classes self.old.places.items }
         requires room { HasRoom self.old (length facts.now.edges) }
         ensures numbered { IsNumbered self.new }
         ensures classes { self.new.classes ≡ self.old.classes }
         ensures usage { self.new.usage ≡ self.old.usage }
+        ensures places { self.new.places ≡ self.old.places }
         ensures dependencies { (first : Dependency → Option Witness)
             → AreWitnessed self.old.classes self.old.dependencies.items first
             → AreWitnessed self.new.classes self.new.dependencies.items
@@ -133,11 +140,10 @@ impl<'a> Union<'a> {
             ≡ self.old.graph.edges }
     {
         let number = facts.source().number;
-        let names = facts.classes();
         for seen in facts.edges() {
             let edge = Edge {
-                from: number_of(&self.classes, names.name(seen.from)),
-                to: number_of(&self.classes, names.name(seen.to)),
+                from: self.places[seen.from as usize],
+                to: self.places[seen.to as usize],
             };
             let witness = Witness {
                 number,
@@ -147,12 +153,12 @@ impl<'a> Union<'a> {
         }
     }
 
-    /// Notes the usage of a trace, each bit of a class where it was seen first, and answers whether
-    /// a bit is new.
+    /// Notes the usage of the trace whose classes were added last, each bit of a class where it was
+    /// seen first, and answers whether a bit is new.
     pub(crate) fn add_usage(&mut self, facts: &Facts<'a>) -> bool
         requires rows { HasRows self.old }
         requires distinct { AreDistinct self.old.classes }
-        requires among { AreAmong self.old.classes facts.now.classes }
+        requires places { ArePlaces self.old.classes facts.now.classes self.old.places.items }
         ensures classes { self.new.classes ≡ self.old.classes }
         ensures graph { self.new.graph ≡ self.old.graph }
         ensures dependencies { self.new.dependencies ≡ self.old.dependencies }
@@ -166,9 +172,8 @@ impl<'a> Union<'a> {
     {
         let mut came = false;
         let number = facts.source().number;
-        let names = facts.classes();
         for seen in facts.usage() {
-            let class = number_of(&self.classes, names.name(seen.class));
+            let class = self.places[seen.class as usize];
             let witness = Witness {
                 number,
                 line: seen.line,
@@ -188,6 +193,7 @@ impl<'a> Union<'a> {
         ensures numbered { IsNumbered self.new }
         ensures classes { self.new.classes ≡ self.old.classes }
         ensures usage { self.new.usage ≡ self.old.usage }
+        ensures places { self.new.places ≡ self.old.places }
         ensures room { (n : ℕ) → HasRoom self.old (n + 1) → HasRoom self.new n }
         ensures front { (n : ℕ) → n ≤ length self.old.graph.edges
             → take n self.new.graph.edges ≡ take n self.old.graph.edges }
@@ -210,17 +216,6 @@ impl<'a> Union<'a> {
             }
         }
     }
-}
-
-/// The number of a class that is there.
-fn number_of(classes: &Classes<'_>, name: &[u8]) -> u32
-    requires { IsSome (place_of classes.now name.now) }
-    ensures { IsNameAt classes.now result name.now }
-{
-    let Some(number) = classes.find(name) else {
-        unreachable!()
-    };
-    number
 }
 
 /// Adds classes until there are so many.

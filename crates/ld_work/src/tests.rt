@@ -23,27 +23,15 @@ const THREE_TRACES: &[u8] = b"trace x\nacquire t A\nacquire t B\n\
     trace y\nacquire t B\nacquire t C\ntrace z\nacquire t C\nacquire t A\n";
 
 /// The traces of a stream, whichever allocation is refused, as long as it is one alone.
-fn split_again<'a>(alloc: Global, bytes: &'a [u8]) -> Result<Vec<Source<'a>>, Fail>
-    ensures { IfOk result (λ sources. All (λ source. Fits (plain source)) sources.items) }
+fn sources_of<'a>(alloc: Global, bytes: &'a [u8]) -> Result<Vec<Source<'a>>, Fail>
+    ensures few { IfOk result (λ sources. length sources.items ≤ MOST_TRACES) }
+    ensures numbered { IfOk result (λ sources. AreNumbered (map plain sources.items)) }
+    ensures fit { IfOk result (λ sources. All (λ source. Fits (plain source)) sources.items) }
 {
     match split(alloc, bytes) {
         Ok(sources) => Ok(sources),
         Err(_) => Ok(split(alloc, bytes)?),
     }
-}
-
-/// The traces of a stream, each with its place as its number.
-fn sources_of<'a, R: Abort>(rt: &R, alloc: Global, bytes: &'a [u8]) -> Result<Vec<Source<'a>>, Fail>
-    ensures few { IfOk result (λ sources. length sources.items ≤ MOST_TRACES) }
-    ensures numbered { IfOk result (λ sources. AreNumbered (map plain sources.items)) }
-    ensures fit { IfOk result (λ sources. All (λ source. Fits (plain source)) sources.items) }
-{
-    let sources = split_again(alloc, bytes)?;
-    assert!(rt; sources.len() as u64 <= MOST_TRACES);
-    for place in 0..sources.len() {
-        assert_eq!(rt; sources[place].number, place as u64);
-    }
-    Ok(sources)
 }
 
 fn witness(number: u64, line: u64) -> Option<Witness> {
@@ -94,7 +82,7 @@ where
     requires traces { (traces.name ≡ T.name) × (traces.parts ≡ T.parts) × (traces.parts ≡ 2) }
     requires events { (events.name ≡ E.name) × (events.parts ≡ E.parts) × (events.parts ≡ 2) }
 {
-    let sources = sources_of(rt, alloc, INVERSION)?;
+    let sources = sources_of(alloc, INVERSION)?;
     assert_eq!(rt; sources.len(), 2);
     let (ab, ba) = (sources[0], sources[1]);
     let (desk, mut feeders) = Desk::<T, E>::new(alloc, traces, events, 2)?;
@@ -136,7 +124,7 @@ fn two_threads_feed_a_desk(rt: HostRuntime) -> Result<(), Fail> {
 
 #[test]
 fn any_number_of_workers_gives_the_same(rt: HostRuntime) -> Result<(), Fail> {
-    let sources = sources_of(&rt, rt.alloc(), INVERSION)?;
+    let sources = sources_of(rt.alloc(), INVERSION)?;
     for workers in [1, 2, 16] {
         let book = work(&rt, rt.alloc(), &sources, workers, &NoGate).expect(&rt, "a book");
         expect_inversion(&rt, &book);
@@ -146,7 +134,7 @@ fn any_number_of_workers_gives_the_same(rt: HostRuntime) -> Result<(), Fail> {
 
 #[test]
 fn workers_read_several_traces(rt: HostRuntime) -> Result<(), Fail> {
-    let sources = sources_of(&rt, rt.alloc(), THREE_TRACES)?;
+    let sources = sources_of(rt.alloc(), THREE_TRACES)?;
     for workers in [1, 2, 16] {
         let book = work(&rt, rt.alloc(), &sources, workers, &NoGate).expect(&rt, "a book");
         let totals = book.totals();
@@ -162,7 +150,7 @@ fn workers_read_several_traces(rt: HostRuntime) -> Result<(), Fail> {
     Ok(())
 }
 
-/// Asserts that so many workers give the book of `INVERSION`, or that memory was refused.
+/// Asserts that this many workers give the book of `INVERSION`, or that memory was refused.
 ///
 /// Under `rt try --test --fail-alloc N` one allocation is refused, in whichever thread takes it, and
 /// another for each N. Where N is past the last, there is the book.
@@ -171,7 +159,7 @@ where
     R: Threads + Wait + Abort + Sync,
     requires { (1 ≤ workers) × (workers ≤ MOST_FEEDERS) }
 {
-    let sources = sources_of(rt, alloc, INVERSION)?;
+    let sources = sources_of(alloc, INVERSION)?;
     match work(rt, alloc, &sources, workers, &NoGate) {
         Ok(book) => expect_inversion(rt, &book),
         Err(fault) => assert_eq!(rt; fault, WorkFault::Memory),
@@ -187,6 +175,58 @@ fn a_refused_growth_is_memory(rt: HostRuntime) -> Result<(), Fail> {
 #[test]
 fn a_refused_growth_in_any_worker_is_memory(rt: HostRuntime) -> Result<(), Fail> {
     expect_inversion_or_memory(&rt, rt.alloc(), 4)
+}
+
+/// Sees whether each worker passes with its own numbers, the least first.
+#[derive(Drop)]
+struct Shares {
+    workers: u64,
+    /// How often each number passed.
+    passed: [AtomicU64; 3],
+    wrong: AtomicU64,
+}
+
+impl Gate for Shares {
+    fn pass(&self, worker: u64, number: u64) {
+        let is_own = number.checked_rem(self.workers) == Some(worker);
+        let is_next = match number.checked_sub(self.workers) {
+            Some(before) => self.times(before) == 1,
+            None => true,
+        };
+        if !is_own || !is_next {
+            self.wrong.fetch_add(1, Ordering::SeqCst);
+        }
+        if let Some(times) = self.passed.get(number as usize) {
+            times.fetch_add(1, Ordering::SeqCst);
+        }
+    }
+}
+
+impl Shares {
+    fn times(&self, number: u64) -> u64 {
+        match self.passed.get(number as usize) {
+            Some(times) => times.load(Ordering::SeqCst),
+            None => 0,
+        }
+    }
+}
+
+#[test]
+fn each_worker_passes_with_its_share(rt: HostRuntime) -> Result<(), Fail> {
+    let sources = sources_of(rt.alloc(), THREE_TRACES)?;
+    for workers in [1usize, 2, 3, 16] {
+        let gate = Shares {
+            workers: workers as u64,
+            passed: [AtomicU64::new(0), AtomicU64::new(0), AtomicU64::new(0)],
+            wrong: AtomicU64::new(0),
+        };
+        work(&rt, rt.alloc(), &sources, workers, &gate).expect(&rt, "a book");
+        assert_eq!(rt; gate.wrong.load(Ordering::SeqCst), 0);
+        for number in 0..3u64 {
+            assert_eq!(rt; gate.times(number), 1);
+        }
+    }
+    Ok(())
 }
 
 /// Holds the worker of number 0 until number 1 came, for a while, and records whether it did.
@@ -215,7 +255,7 @@ impl Gate for Meeting {
 
 #[test]
 fn two_workers_meet(rt: HostRuntime) -> Result<(), Fail> {
-    let sources = sources_of(&rt, rt.alloc(), INVERSION)?;
+    let sources = sources_of(rt.alloc(), INVERSION)?;
     let gate = Meeting {
         came: AtomicU64::new(0),
         met: AtomicU64::new(0),

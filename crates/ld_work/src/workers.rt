@@ -26,7 +26,7 @@ pub enum WorkFault {
     Memory,
     /// The source of this number wasn't listed once, as it stands; or, where all are, this number was
     /// listed and has no source. Each time the least such number.
-    #[error("trace {0} is not listed once")]
+    #[error("uneven at {0}")]
     Uneven(u64),
 }
 
@@ -56,7 +56,7 @@ struct Done<T: Ledger, E: Ledger> {
     refused: bool,
 }
 
-/// The book of these sources, read by so many workers at once. Worker w of W reads the traces whose
+/// The book of these sources, read by that many workers at once. Worker w of W reads the traces whose
 /// number is w more than a multiple of W, the least first, and passes the gate before each. Where no
 /// thread can be started, workers do their work one after another. May wait.
 ///
@@ -179,20 +179,16 @@ fn run_one<'a, T: Ledger, E: Ledger, G: Gate, R: Wait>(
     requires fit { All (λ source. Fits (plain source)) sources.now }
 {
     let Job { worker, mut feeder } = job;
+    let mut refused = false;
     for place in (worker..sources.len()).step_by(workers) {
         let source = sources[place];
         gate.pass(worker as u64, source.number);
-        if submit(rt, alloc, desk, source, &mut feeder).is_err() {
-            return Done {
-                feeder,
-                refused: true,
-            };
+        refused = submit(rt, alloc, desk, source, &mut feeder).is_err();
+        if refused {
+            break;
         }
     }
-    Done {
-        feeder,
-        refused: false,
-    }
+    Done { feeder, refused }
 }
 
 /// Reads a trace, and adds it to the desk's book, unless its number is listed.

@@ -1,3 +1,4 @@
+pub mod CleanLemmas
 pub mod Permuted
 pub mod StreamFaults
 pub mod Texts

@@ -10,7 +10,7 @@ use Rattle.ld_trace.specs.Sources.{plain}
 use Rattle.ld_facts.specs.declared.outcome.Listed.{Listed}
 use Rattle.ld_book.specs.Book.{sources_of}
 use Rattle.ld_work.specs.Work.{AreRising}
-use Rattle.lockcheck.specs.Report.{label_of}
+use Rattle.lockcheck.specs.Report.{label_of_number}
 
 -- the numbers of all but the first rise
 rising-tail : (l : Listed) (listed : List Listed) → AreRising (sources_of (l ∷ listed)) → AreRising (sources_of listed)
@@ -18,11 +18,11 @@ rising-tail l listed rising i j d lower within = rising (suc i) (suc j) d (omega
 
 -- the label of a source that is there
 pub label-found : (listed : List Listed) → AreRising (sources_of listed) → (number at : ℕ) (d : Listed) → at < length listed → (get_or listed at d).source.number ≡ number
-    → (get_or listed at d).source.name.now ≡ label_of (sources_of listed) number
+    → (get_or listed at d).source.name.now ≡ label_of_number (sources_of listed) number
 label-found [] rising number at d within same = absurd (omega (arith, within))
 label-found (l ∷ listed) rising number zero d within same = by (l.source.number == number) refl
   where
-    by : (b : Bool) → (l.source.number == number) ≡ b → l.source.name.now ≡ (if b then l.source.name.now else label_of (sources_of listed) number)
+    by : (b : Bool) → (l.source.number == number) ≡ b → l.source.name.now ≡ (if b then l.source.name.now else label_of_number (sources_of listed) number)
     by true is = refl
     by false is = grind (arith, same, is)
 label-found (l ∷ listed) rising number (suc at) d within same = by (l.source.number == number) refl (label-found listed (rising-tail l listed rising) number at d there same)
@@ -36,24 +36,24 @@ label-found (l ∷ listed) rising number (suc at) d within same = by (l.source.n
         let is = ap (λ s. s.number) (get_or-map (λ l. plain l.source) listed at d (plain d.source) there) in
         omega (arith, first, is, same)
 
-    by : (b : Bool) → (l.source.number == number) ≡ b → (get_or listed at d).source.name.now ≡ label_of (sources_of listed) number
-        → (get_or listed at d).source.name.now ≡ (if b then l.source.name.now else label_of (sources_of listed) number)
+    by : (b : Bool) → (l.source.number == number) ≡ b → (get_or listed at d).source.name.now ≡ label_of_number (sources_of listed) number
+        → (get_or listed at d).source.name.now ≡ (if b then l.source.name.now else label_of_number (sources_of listed) number)
     by true is others = grind (arith, higher, is)
     by false is others = others
 
 -- where no source has the number there is no label
-label-none : (listed : List Listed) (number : ℕ) → ((k : ℕ) (d : Listed) → k < length listed → (get_or listed k d).source.number ≢ number) → [] ≡ label_of (sources_of listed) number
+label-none : (listed : List Listed) (number : ℕ) → ((k : ℕ) (d : Listed) → k < length listed → (get_or listed k d).source.number ≢ number) → [] ≡ label_of_number (sources_of listed) number
 label-none [] number none = refl
 label-none (l ∷ listed) number none = by (l.source.number == number) refl (label-none listed number (λ k d within. none (suc k) d (omega (arith, within))))
   where
-    by : (b : Bool) → (l.source.number == number) ≡ b → [] ≡ label_of (sources_of listed) number → [] ≡ (if b then l.source.name.now else label_of (sources_of listed) number)
+    by : (b : Bool) → (l.source.number == number) ≡ b → [] ≡ label_of_number (sources_of listed) number → [] ≡ (if b then l.source.name.now else label_of_number (sources_of listed) number)
     by true is others = absurd (none 0 l (omega arith) (grind (arith, is)))
     by false is others = others
 
 -- what a search for a number finds nowhere
 pub label-absent : (listed : List Listed) → AreRising (sources_of listed) → (number at : ℕ)
     → (IsNonDecreasingBy (λ l. ordering_index (nat_cmp l.source.number number)) listed → IsPartitionPoint (λ l. nat_cmp l.source.number number ≡ Less) (λ l. nat_cmp l.source.number number ≡ Greater) listed at)
-    → [] ≡ label_of (sources_of listed) number
+    → [] ≡ label_of_number (sources_of listed) number
 label-absent listed rising number at parted = label-none listed number none
   where
     in_order : (i j : ℕ) (d : Listed) → i ≤ j → j < length listed → (get_or listed i d).source.number ≤ (get_or listed j d).source.number

@@ -1,3 +1,4 @@
+pub mod Alarms
 pub mod Devices
 pub mod Faults
 pub mod Report

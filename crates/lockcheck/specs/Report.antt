@@ -36,13 +36,13 @@ abbrev pub refused_lines : List PlainSource → List ℕ
 refused_lines sources = flat_map (λ source. refused_line source.label (outcome source)) sources
 
 -- the label of the source that has this number, the first if there are several
-abbrev pub label_of : List PlainSource → ℕ → List ℕ
-label_of [] number = []
-label_of (source ∷ others) number = if source.number == number then source.label else label_of others number
+abbrev pub label_of_number : List PlainSource → ℕ → List ℕ
+label_of_number [] number = []
+label_of_number (source ∷ others) number = if source.number == number then source.label else label_of_number others number
 
 -- where something was seen: `T:L`
 abbrev pub place : List PlainSource → Witness → List ℕ
-place sources at = label_of sources at.number ++ codes ":" ++ decimal at.line
+place sources at = label_of_number sources at.number ++ codes ":" ++ decimal at.line
 
 -- names behind others, each with ` -> ` before it
 abbrev pub steps : List (List ℕ) → List ℕ
@@ -126,3 +126,7 @@ pub record IsReport (sources : List PlainSource) (text : List ℕ) : Type 0 wher
   pub findings : PlainFindings
   pub found : AreFindings sources findings
   pub lines : text ≡ report_text sources in_order findings
+
+-- the last line of the text is `clean`
+abbrev pub SaysClean : List ℕ → Type 0
+SaysClean text = (before : List ℕ) × (text ≡ before ++ codes "\nclean\n")

@@ -2,7 +2,7 @@
 use Rattle.std.specs.Prelude.{[], ◌∷◌, Some, codes}
 use Rattle.clap.specs.Words.{App, Rule, new_app, new_rule, with_rule}
 use Rattle.clap.specs.declared.builder.action.ArgAction.TheVariants.{Set}
-use Rattle.clap.specs.declared.builder.value_parser.ValueParser.TheVariants as vp
+use Rattle.clap.specs.declared.builder.value_parser.ValueParser.TheVariants as value_parsers
 
 -- `--workers N`, where N is a number from 1 to 16; without it, 4.
 abbrev pub workers_argument : Rule
@@ -11,7 +11,7 @@ workers_argument = record (new_rule (codes "workers")) {
   value_names = 1;
   action = Some Set;
   defaults = codes "4" ∷ [];
-  parser = Some (vp.Unsigned 1 16);
+  parser = Some (value_parsers.Unsigned 1 16);
 }
 
 -- That and nothing else.

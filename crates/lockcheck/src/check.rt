@@ -34,7 +34,7 @@ pub enum CheckFault {
     Uneven(u64),
 }
 
-/// The book of a stream, by so many workers at once, each of which passes the gate before it reads a
+/// The book of a stream, by that many workers at once, each of which passes the gate before it reads a
 /// trace. May wait.
 ///
 /// # Errors

@@ -24,18 +24,22 @@ pub trait Input {
     ghost has_ended: { Self → Bool };
 
     /// Reads into the front of the buffer, and answers how many bytes it gave. It gives 0 bytes
-    /// into a buffer with room only at the end of the input.
+    /// into a buffer with room only at the end of the input. May wait.
+    ///
+    /// # Errors
+    ///
+    /// Where the device failed, or was interrupted.
     fn read(&mut self, buffer: &mut [u8]) -> Result<usize, DeviceFault>
         ensures within { IfOk result (λ n. n ≤ length buffer.new) }
         ensures bytes { ReadConsumes (left self.old) (left self.new) result buffer.new }
         ensures failed { read_failed self.new ≡ (read_failed self.old || is_err result) }
         ensures ended { has_ended self.new ≡ (has_ended self.old || finds_end result buffer.new) };
 
-    /// Whether some read failed.
+    /// Whether some read failed. Takes no memory.
     fn failed(&self) -> bool
         ensures { result ≡ read_failed self.now };
 
-    /// Whether some read into a buffer with room answered 0.
+    /// Whether some read into a buffer with room answered 0. Takes no memory.
     fn ended(&self) -> bool
         ensures { result ≡ has_ended self.now };
 }
@@ -52,7 +56,11 @@ pub trait Output {
     ghost is_flushed: { Self → Bool };
 
     /// Takes bytes from the front of the buffer, and answers how many. To take none of a buffer
-    /// that has some counts as a failure.
+    /// that has some counts as a failure. May wait.
+    ///
+    /// # Errors
+    ///
+    /// Where the device failed, or was interrupted.
     fn write(&mut self, buffer: &[u8]) -> Result<usize, DeviceFault>
         ensures within { IfOk result (λ n. n ≤ length buffer.now) }
         ensures bytes { WriteAppends (held self.old) (held self.new) result buffer.now }
@@ -60,13 +68,17 @@ pub trait Output {
             (write_failed self.old || fails_to_write result buffer.now) }
         ensures flushed { is_flushed self.new ≡ false };
 
-    /// Passes on what was written so far.
+    /// Passes on what was written so far. May wait.
+    ///
+    /// # Errors
+    ///
+    /// Where the device failed, or was interrupted.
     fn flush(&mut self) -> Result<(), DeviceFault>
         ensures bytes { Keeps (held self.old) (held self.new) }
         ensures failed { write_failed self.new ≡ (write_failed self.old || is_err result) }
         ensures flushed { is_flushed self.new ≡ is_ok result };
 
-    /// Whether some write or flush failed.
+    /// Whether some write or flush failed. Takes no memory.
     fn failed(&self) -> bool
         ensures { result ≡ write_failed self.now };
 }
@@ -99,7 +111,7 @@ impl<T> Model for Std<T> {
 impl<T> Std<T> {
     ghost use Rattle.lockcheck.specs.Devices.{IsFresh};
 
-    /// The device over this reader or writer. It has not failed and has not ended.
+    /// The device over this reader or writer. It has not failed and has not ended. Takes no memory.
     pub fn new(inner: T) -> Std<T>
         ensures inner { result.inner ≡ inner }
         ensures fresh { IsFresh result }

@@ -1,4 +1,4 @@
-//! Writes the lines of a report.
+//! Writes the lines of a report. Each call answers `AllocError` where memory for its text was refused.
 ghost use Rattle.std.specs.Prelude.{◌≡◌, ◌++◌, OnOk, decimal};
 ghost use Rattle.ld_facts.specs.declared.outcome.Outcome.TheVariants.{Refused};
 ghost use Rattle.ld_book.specs.Findings.{plain_conflict_row, plain_cycle_row, plain_forbidden_row};

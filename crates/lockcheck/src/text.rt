@@ -1,10 +1,11 @@
 //! The text of a report.
-ghost use Rattle.std.specs.Prelude.{◌≡◌, ◌++◌, IfOk, OnOk, flat_map, map};
+ghost use Rattle.std.specs.Prelude.{◌≡◌, ◌++◌, ◌↔◌, IfOk, OnOk, flat_map, map};
 ghost use Rattle.ld_book.specs.Book.{AreOutcomes, sources_of};
 ghost use Rattle.ld_book.specs.Findings.{plain_conflict_row, plain_cycle_row, plain_findings};
 ghost use Rattle.ld_book.specs.Findings.{plain_forbidden_row};
-ghost use Rattle.lockcheck.specs.Report.{IsReport, conflict_line, cycle_line, forbidden_line};
-ghost use Rattle.lockcheck.specs.Report.{refused_lines, violation_lines, violations};
+ghost use Rattle.ld_book.specs.Violations.{HasViolation};
+ghost use Rattle.lockcheck.specs.Report.{IsReport, SaysClean, conflict_line, cycle_line};
+ghost use Rattle.lockcheck.specs.Report.{forbidden_line, refused_lines, violation_lines, violations};
 
 use crate::lines::{
     write_conflict, write_cycle, write_forbidden, write_last, write_refused, write_summary,
@@ -20,7 +21,8 @@ use std::alloc::{AllocError, Global};
 ///
 /// `AllocError` where a growth of memory was refused.
 pub fn report(alloc: Global, book: &Book<'_>) -> Result<Vec<u8>, AllocError>
-    ensures { IfOk result (λ text. IsReport book.now text.items) }
+    ensures text { IfOk result (λ text. IsReport book.now text.items) }
+    ensures clean { IfOk result (λ text. SaysClean text.items ↔ (¬ HasViolation book.now)) }
 {
     let traces = Traces::new(alloc, book)?;
     let findings = book.findings(alloc)?;

@@ -3,7 +3,7 @@ ghost use Rattle.std.specs.Prelude.{◌≡◌, IfOk};
 ghost use Rattle.std.specs.List.Sorted.{IsPermutation};
 ghost use Rattle.ld_book.specs.Book.{AreOutcomes, sources_of};
 ghost use Rattle.ld_work.specs.Work.{AreRising};
-ghost use Rattle.lockcheck.specs.Report.{label_of};
+ghost use Rattle.lockcheck.specs.Report.{label_of_number};
 
 use ld_book::Book;
 use ld_facts::Listed;
@@ -55,7 +55,7 @@ impl<'a> Traces<'a> {
 
     /// The label of the trace of this number. It is empty where there is no such trace.
     pub fn label(&self, number: u64) -> &'a [u8]
-        ensures { result.now ≡ label_of self.now number }
+        ensures { result.now ≡ label_of_number self.now number }
     {
         let found = self
             .listed

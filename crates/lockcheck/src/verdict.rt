@@ -1,4 +1,4 @@
-//! What a report comes to.
+//! What the traces of a stream come to, and the exit status that says so.
 ghost use Rattle.std.specs.Prelude.{◌≡◌};
 
 /// What a report comes to.
@@ -14,7 +14,7 @@ pub enum Verdict {
 
 impl Verdict {
     /// The program's exit status: 0 where it is clean, 1 where there is a violation, 3 where there is
-    /// none and a trace was refused.
+    /// none and a trace was refused. Takes no memory.
     pub fn status(self) -> u8
         ensures clean { self ≡ Verdict.Clean → result ≡ 0 }
         ensures violations { self ≡ Verdict.Violations → result ≡ 1 }

@@ -10,11 +10,28 @@ use crate::streams::{FORBIDDEN_THROUGH, FORBIDDEN_THROUGH_REPORT, INVERSION, INV
 use crate::verdict::Verdict;
 use ld_trace::StreamFault;
 use std::alloc::Global;
+use std::io;
 use std::io::Cursor;
 use std::process::Abort;
 use std::sync::Wait;
 use std::test::Fail;
 use std::thread::Threads;
+
+/// A std reader without bytes, whose first read is interrupted.
+#[derive(Drop)]
+struct Interrupted {
+    was: bool,
+}
+
+impl io::Read for Interrupted {
+    fn read(&mut self, _buffer: &mut [u8]) -> io::Result<usize> {
+        if self.was {
+            return Ok(0);
+        }
+        self.was = true;
+        Err(io::ErrorKind::Interrupted.into())
+    }
+}
 
 const EMPTY_REPORT: &[u8] = b"traces 0 refused 0 events 0 classes 0 dependencies 0\nclean\n";
 
@@ -83,6 +100,59 @@ fn a_stream_with_a_fault_has_no_report(rt: HostRuntime) {
     let outcome = run(&rt, rt.alloc(), &mut input, &mut output, 1);
     assert_eq!(rt; outcome, Err(RunFault::Stream(StreamFault::NoHeader(1))));
     assert_eq!(rt; output.written(), b"".as_slice());
+}
+
+#[test]
+fn a_write_that_fails_after_a_first_part_leaves_it(rt: HostRuntime) {
+    let mut input = FakeReader::new(b"", 7, None);
+    let mut output = FakeWriter::new(rt.alloc(), 5, Mishap::WriteFails(1));
+    let outcome = run(&rt, rt.alloc(), &mut input, &mut output, 2);
+    assert_eq!(rt; outcome, Err(RunFault::Write));
+    assert_eq!(rt; output.written(), b"trace".as_slice());
+}
+
+#[test]
+fn an_interrupted_read_is_read(rt: HostRuntime) {
+    let mut input = Std::new(Interrupted { was: false });
+    let mut output = FakeWriter::new(rt.alloc(), 5, Mishap::Nothing);
+    let outcome = run(&rt, rt.alloc(), &mut input, &mut output, 2);
+    assert_eq!(rt; outcome, Err(RunFault::Read));
+    assert_eq!(rt; output.written(), b"".as_slice());
+}
+
+#[test]
+fn a_refused_trace_gives_its_verdict(rt: HostRuntime) {
+    let mut input = FakeReader::new(b"trace m\nrelease t A\n", 7, None);
+    let mut output = FakeWriter::new(rt.alloc(), 5, Mishap::Nothing);
+    let outcome = run(&rt, rt.alloc(), &mut input, &mut output, 4);
+    assert_eq!(rt; outcome, Ok(Verdict::Refused));
+}
+
+#[test]
+fn each_fault_has_its_text(rt: HostRuntime) -> Result<(), Fail> {
+    for (fault, text) in [
+        (RunFault::Read, "read failed"),
+        (RunFault::Write, "write failed"),
+        (
+            RunFault::Stream(StreamFault::NoHeader(7)),
+            "line 7: NoHeader",
+        ),
+        (
+            RunFault::Stream(StreamFault::BadHeader(12)),
+            "line 12: BadHeader",
+        ),
+        (
+            RunFault::Stream(StreamFault::TooManyTraces),
+            "TooManyTraces",
+        ),
+        (RunFault::Stream(StreamFault::TooLong), "TooLong"),
+        (RunFault::Memory, "out of memory"),
+        (RunFault::Uneven(3), "uneven at 3"),
+    ] {
+        let told = format!(in rt.alloc(); "{fault}")?;
+        assert_eq!(rt; told.as_str(), text);
+    }
+    Ok(())
 }
 
 #[test]

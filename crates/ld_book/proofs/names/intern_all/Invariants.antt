@@ -1,5 +1,5 @@
-use Rattle.std.proofs.Common.{◌≡◌, length, take}
-use Rattle.ld_book.specs.Names.{AreAmong, IsLonger, with_names}
+use Rattle.std.proofs.Common.{◌≡◌, ◌≤◌, length, take, vec_capacity}
+use Rattle.ld_book.specs.Names.{ArePlaces, IsLonger, with_names}
 use Rattle.ld_book.proofs.names.intern_all.Given as goal
 
 abbrev pub invariant-loop-id : goal.invariant-loop-id
@@ -7,5 +7,6 @@ invariant-loop-id l = record {
   made : l.names ≡ with_names l.fn.names (take l.id l.more);
   counted : l.count ≡ length l.fn.names;
   longer : IsLonger l.fn.names l.names l.id;
-  among : AreAmong l.names (take l.id l.more);
+  places : ArePlaces l.names (take l.id l.more) l.places.items;
+  room : length l.more ≤ vec_capacity l.places;
 }

@@ -1,13 +1,13 @@
 use Rattle.std.proofs.Common.{◌≡◌, ◌-◌, ◌++◌, ◌∙◌, None, ap, length, replicate, subst, sym, take}
-use Rattle.ld_book.specs.Names.{AreAmong}
+use Rattle.ld_book.specs.Names.{ArePlaces}
 use Rattle.ld_book.specs.Union.{AreUsed, AreWitnessed}
 use Rattle.ld_book.specs.Usage.{row_of}
 use Rattle.ld_book.proofs.UnionLemmas.{witnessed-longer}
 use Rattle.ld_book.proofs.UsageLemmas.{used-longer}
 use Rattle.ld_book.proofs.union.Union.add_classes.Goals as goal
 
-pub returns-clause-among : goal.returns-clause-among
-returns-clause-among c = subst (AreAmong c.intern_all.new.names) c.classes-3.ensures c.in_ok-intern_all.ensures.among
+pub returns-clause-places : goal.returns-clause-places
+returns-clause-places c = subst (λ these. ArePlaces c.intern_all.new.names these c.intern_all.new.places.items) c.classes-3.ensures c.in_ok-intern_all.ensures.places
 
 pub returns-clause-kept : goal.returns-clause-kept
 returns-clause-kept c first witnessed =

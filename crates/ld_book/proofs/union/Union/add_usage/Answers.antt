@@ -1,7 +1,7 @@
 use Rattle.std.proofs.Common.{rules, arith, ◌≡◌, ◌<◌, ◌≤◌, ◌∙◌, List, [], Option, ap, get_or, length, map, refl, set, subst, sym, take}
 use Rattle.std.proofs.lemmas.Bool.{OnFalse_at, or_parts}
 use Rattle.std.proofs.lemmas.List.{length-set}
-use Rattle.ld_class.specs.Names.{AreDistinct}
+use Rattle.ld_class.specs.Names.{AreDistinct, IsNameAt}
 use Rattle.ld_facts.specs.declared.outcome.Witness.{Witness}
 use Rattle.ld_facts.specs.declared.uses.UsageFact.{UsageFact}
 use Rattle.ld_facts.specs.Dependency.{least_line}
@@ -9,8 +9,10 @@ use Rattle.ld_facts.specs.Facts.{named_use}
 use Rattle.ld_facts.specs.Union.{uses_of}
 use Rattle.ld_facts.specs.Usage.{Use, bit_of, same_use}
 use Rattle.ld_book.specs.declared.usage.UsageRow.{UsageRow}
+use Rattle.ld_book.specs.Names.{ArePlaces}
 use Rattle.ld_book.specs.Union.{AreUsed, earlier_of, of_class, seen_in}
-use Rattle.ld_book.proofs.SeenLemmas.{all_noted, known_name, none_noted, one_noted, same_use-true, uses_once}
+use Rattle.ld_book.proofs.NameLemmas.{place_read}
+use Rattle.ld_book.proofs.SeenLemmas.{all_noted, none_noted, one_noted, same_use-true, uses_once}
 use Rattle.ld_book.proofs.UsageLemmas.{bits_kept, row_at, used-seen}
 use Rattle.ld_book.proofs.union.Union.add_usage.Goals as goal
 
@@ -22,19 +24,11 @@ loop-seen-init c = record {
   classes = search rules;
   graph = search rules;
   dependencies = search rules;
+  places = search rules;
   rows = search rules;
   known = λ same. refl;
   used = λ first used. subst (AreUsed c.args.self.now.classes c.args.self.now.usage.items) (λ i what. none_noted same_use same_use-true (named_use c.args.facts.now.classes) c.args.facts.now.usage (first what) c.source-number.result.number what i) used;
 }
-
-pub number_of-class-requires : goal.number_of-class-requires
-number_of-class-requires c =
-    let facts = c.args.facts.now in
-    let i = c.loop-seen.seen-index in
-    let here : i < length facts.usage = subst (λ (usage : List UsageFact). i < length usage) c.usage-seen-items.ensures c.loop-seen-test.true in
-    known_name facts c.args.self.now.classes c.loop-seen.self.classes c.classes-names.result.now (get_or c.usage-seen-items.result.now i no_fact).class c.name.result.now c.requires.among c.loop-seen.invariant.classes c.classes-names.ensures
-    (subst (λ (usage : List UsageFact). (get_or usage i no_fact).class < length facts.classes) (sym c.usage-seen-items.ensures) (c.source-number.ensures.known.used_within i no_fact here).0)
-    c.name.ensures.name
 
 pub loop-seen-preserved : goal.loop-seen-preserved
 loop-seen-preserved c =
@@ -45,10 +39,14 @@ loop-seen-preserved c =
     let here : i < length facts.usage = subst (λ (usage : List UsageFact). i < length usage) c.usage-seen-items.ensures c.loop-seen-test.true in
     let told : UsageFact = get_or c.usage-seen-items.result.now i no_fact in
     let same_told : told ≡ get_or facts.usage i no_fact = ap (λ (usage : List UsageFact). get_or usage i no_fact) c.usage-seen-items.ensures in
-    let class = c.number_of-class.result in
+    let places = c.loop-seen.self.places.items in
+    let are : ArePlaces union.classes facts.classes places = rw (c.loop-seen.invariant.classes, c.loop-seen.invariant.places) c.requires.places in
+    let within : told.class < length facts.classes = subst (λ (fact : UsageFact). fact.class < length facts.classes) (sym same_told) (c.source-number.ensures.known.used_within i no_fact here).0 in
+    let class = c.index-class.result.now in
+    let at : IsNameAt union.classes class (get_or facts.classes told.class []) = place_read union.classes facts.classes places are told.class class within c.index-class.ensures in
     let seen : Use = record { class = get_or union.classes class []; bit = bit_of told.bit } in
     let same : seen ≡ (named_use facts.classes (get_or facts.usage i no_fact)).what = λ j. record {
-      class = (c.number_of-class.ensures.1 ∙ c.name.ensures.name ∙ (λ k. get_or (c.classes-names.ensures k) (same_told k).class [])) j;
+      class = (at.1 ∙ ap (λ (fact : UsageFact). get_or facts.classes fact.class []) same_told) j;
       bit = bit_of (same_told j).bit;
     } in
     let distinct : AreDistinct union.classes = subst AreDistinct (sym c.loop-seen.invariant.classes) c.requires.distinct in
@@ -56,10 +54,11 @@ loop-seen-preserved c =
       classes = search rules;
       graph = search rules;
       dependencies = search rules;
+      places = search rules;
       known = λ none.
           let parts = or_parts c.loop-seen.came c.note-came.result none in
           let row = c.index_mut-row.result.now in
-          bits_kept union.usage.items class row c.note-came.new.self (omega (arith, c.number_of-class.ensures.0, c.loop-seen.invariant.rows)) (OnFalse_at parts.1 c.note-came.ensures.known ∙ ap (λ (r : UsageRow). r.bits) c.index_mut-row.ensures.value)
+          bits_kept union.usage.items class row c.note-came.new.self (omega (arith, at.0, c.loop-seen.invariant.rows)) (OnFalse_at parts.1 c.note-came.ensures.known ∙ ap (λ (r : UsageRow). r.bits) c.index_mut-row.ensures.value)
           ∙ c.loop-seen.invariant.known parts.0;
       rows = length-set union.usage.items class c.note-came.new.self ∙ c.loop-seen.invariant.rows;
       used = λ first used.
@@ -67,8 +66,8 @@ loop-seen-preserved c =
           let kept : AreUsed union.classes union.usage.items so_far = c.loop-seen.invariant.used first used in
           subst (AreUsed union.classes (set union.usage.items class c.note-came.new.self))
           (λ j what. one_noted same_use same_use-true (named_use facts.classes) facts.usage (uses_once facts c.source-number.ensures.known) i no_fact here (first what) number told.line what seen (ap (λ (fact : UsageFact). fact.line) same_told) same j)
-          (used-seen union.classes union.usage.items so_far kept distinct class c.number_of-class.ensures.0 (bit_of told.bit) (record { number = number; line = told.line }) c.note-came.new.self
-          (c.note-came.ensures.noted (of_class so_far seen.class) (c.index_mut-row.ensures.value ∙ row_at union.classes union.usage.items so_far kept class c.index_mut-row.result.now c.number_of-class.ensures.0)));
+          (used-seen union.classes union.usage.items so_far kept distinct class at.0 (bit_of told.bit) (record { number = number; line = told.line }) c.note-came.new.self
+          (c.note-came.ensures.noted (of_class so_far seen.class) (c.index_mut-row.ensures.value ∙ row_at union.classes union.usage.items so_far kept class c.index_mut-row.result.now at.0)));
     }
 
 pub returns-clause-used : goal.returns-clause-used

@@ -3,7 +3,7 @@ use Rattle.std.proofs.lemmas.Cmp.{ranked}
 use Rattle.std.proofs.lemmas.List.Sorted.{answers_always}
 use Rattle.std.specs.List.Sorted.{IsBinarySearchResult}
 use Rattle.ld_facts.specs.declared.outcome.Listed.{Listed}
-use Rattle.lockcheck.specs.Report.{label_of}
+use Rattle.lockcheck.specs.Report.{label_of_number}
 use Rattle.lockcheck.proofs.TraceLemmas.{label-absent, label-found}
 use Rattle.lockcheck.proofs.traces.Traces.label.Goals as goal
 
@@ -18,7 +18,7 @@ returns-in-Ok c =
     let within : at < length listed = subst (λ all. at < length all) c.deref.ensures.value c.in-Ok.ensures.bound in
     ap (λ l. l.source.name.now) c.index.ensures
     ∙ label-found listed c.self.invariant.1 number at there within (ranked (get_or listed at there).source.number number Equal (sym equal))
-    ∙ ap (λ sources. label_of sources number) c.self.view_is
+    ∙ ap (λ sources. label_of_number sources number) c.self.view_is
 
 pub returns-in-Err : goal.returns-in-Err
 returns-in-Err c =
@@ -27,4 +27,4 @@ returns-in-Err c =
     let parted : IsBinarySearchResult (λ l. nat_cmp l.source.number number) listed (Err c.in-Err.field-0) =
     subst (λ all. IsBinarySearchResult (λ l. nat_cmp l.source.number number) all (Err c.in-Err.field-0)) c.deref.ensures.value
     (c.in-Err.ensures.position (λ l. l.source.number) (answers_always _ _ _ (λ f a r g called. search rules))) in
-    label-absent listed c.self.invariant.1 number c.in-Err.field-0 parted ∙ ap (λ sources. label_of sources number) c.self.view_is
+    label-absent listed c.self.invariant.1 number c.in-Err.field-0 parted ∙ ap (λ sources. label_of_number sources number) c.self.view_is
