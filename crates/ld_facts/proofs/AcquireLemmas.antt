@@ -12,36 +12,36 @@ use Rattle.ld_trace.specs.declared.event.State.{State}
 use Rattle.ld_trace.specs.declared.event.State.TheVariants.{Hard, Soft}
 use Rattle.ld_trace.specs.Events.{PlainEvent, PlainLock, Position}
 use Rattle.ld_trace.specs.Events.PlainEvent.{Acquire, Try}
-use Rattle.ld_facts.specs.declared.fault.TraceFault.TheVariants.{TooManyClasses, TooDeep}
-use Rattle.ld_facts.specs.declared.interrupts.Interrupts.{Interrupts}
-use Rattle.ld_facts.specs.declared.outcome.TheConstants.{MOST_CLASSES, MOST_HELD, MOST_TASKS}
-use Rattle.ld_facts.specs.declared.edges.EdgeFact.{EdgeFact}
+use Rattle.ld_rules.specs.declared.fault.TraceFault.TheVariants.{TooManyClasses, TooDeep}
+use Rattle.ld_held.specs.declared.interrupts.Interrupts.{Interrupts}
+use Rattle.ld_rules.specs.declared.outcome.TheConstants.{MOST_CLASSES, MOST_HELD, MOST_TASKS}
+use Rattle.ld_held.specs.declared.edges.EdgeFact.{EdgeFact}
 use Rattle.ld_facts.specs.declared.scan.Scan.{Scan}
-use Rattle.ld_facts.specs.declared.uses.UsageFact.{UsageFact}
-use Rattle.ld_facts.specs.Edges.{edge_to, with_edge}
-use Rattle.ld_facts.specs.Flags.{is_enabled}
-use Rattle.ld_facts.specs.Frames.{contexts, frame_of, task_of}
-use Rattle.ld_facts.specs.Held.{Key, held_by, held_in, lock_acquired}
-use Rattle.ld_facts.specs.Dependency.{Dependency, Seen, dependencies_at, seen, seen_at}
-use Rattle.ld_facts.specs.Interrupts.{enabled_now, fresh, start_now}
-use Rattle.ld_facts.specs.Levels.{is_interrupt, stack, state_of}
-use Rattle.ld_facts.specs.Locks.{Hold}
-use Rattle.ld_facts.specs.Outcome.{class_acquired, classes, each_once, event_fault, events, is_bad_enable, is_bad_exit, is_badly_nested, is_held_at_exit, is_masked, is_not_held, is_one_too_many, tasks}
-use Rattle.ld_facts.specs.Reading.{AreMany, HasTask, IsAt, IsTask, IsWithin, acquisition, happens, same_seen}
+use Rattle.ld_held.specs.declared.uses.UsageFact.{UsageFact}
+use Rattle.ld_held.specs.Edges.{edge_to, with_edge}
+use Rattle.ld_rules.specs.Flags.{is_enabled}
+use Rattle.ld_rules.specs.Frames.{contexts, frame_of, task_of}
+use Rattle.ld_rules.specs.Held.{Key, held_by, held_in, lock_acquired}
+use Rattle.ld_rules.specs.Dependency.{Dependency, Seen, dependencies_at, seen, seen_at, same_seen}
+use Rattle.ld_held.specs.Interrupts.{enabled_now, fresh, start_now}
+use Rattle.ld_rules.specs.Levels.{is_interrupt, stack, state_of}
+use Rattle.ld_held.specs.Locks.{Hold}
+use Rattle.ld_rules.specs.Outcome.{class_acquired, classes, each_once, event_fault, events, is_bad_enable, is_bad_exit, is_badly_nested, is_held_at_exit, is_masked, is_not_held, is_one_too_many, tasks}
+use Rattle.ld_facts.specs.Reading.{AreMany, HasTask, IsAt, IsTask, IsWithin, acquisition, happens}
 use Rattle.ld_facts.specs.Facts.{named, named_use}
-use Rattle.ld_facts.specs.Usage.{uses_at}
+use Rattle.ld_rules.specs.Usage.{uses_at, same_what}
 use Rattle.ld_facts.specs.Facts.{IsUse}
-use Rattle.ld_facts.specs.Uses.{in_facts, on_facts, same_what, with_use}
-use Rattle.ld_facts.proofs.FlagLemmas.{is_enabled-quiet, levels-quiet, stack-quiet}
-use Rattle.ld_facts.proofs.GroupLemmas.{starts-kept}
-use Rattle.ld_facts.proofs.HeldLemmas.{enters_none, held_by-acquires}
+use Rattle.ld_held.specs.Uses.{in_facts, on_facts, with_use}
+use Rattle.ld_rules.proofs.FlagLemmas.{is_enabled-quiet, levels-quiet, stack-quiet}
+use Rattle.ld_rules.proofs.GroupLemmas.{starts-kept}
+use Rattle.ld_rules.proofs.HeldLemmas.{enters_none, held_by-acquires}
 use Rattle.ld_facts.proofs.InnerLemmas.{clean-grouped, contexts-are, enabled-is, inner-is, length-is}
 use Rattle.ld_facts.proofs.MovedLemmas.{moved-at}
 use Rattle.ld_facts.proofs.NamedLemmas.{IsNameAt-more, distinct-classes, holds-more, holds-names, holds-within, named-more, tell-named, within-more, within-tell}
-use Rattle.ld_facts.proofs.PlaceLemmas.{with_new}
-use Rattle.ld_facts.proofs.StepLemmas.{classes-acquires, dependencies-push}
+use Rattle.ld_rules.proofs.PlaceLemmas.{with_new}
+use Rattle.ld_rules.proofs.StepLemmas.{classes-acquires, dependencies-push}
 use Rattle.ld_facts.proofs.TaskLemmas.{is_one_too_many-fits, is_one_too_many-full, task-at, with_name-few}
-use Rattle.ld_facts.proofs.UsageLemmas.{at_line, on_use, uses_in, uses_once, uses_once-push_new, with_uses-append}
+use Rattle.ld_rules.proofs.UsageLemmas.{at_line, on_use, uses_in, uses_once, uses_once-push_new, with_uses-append}
 use Rattle.ld_facts.proofs.UseLemmas.{in_facts-named, in_facts-within, named_use-more, on_facts-named, on_facts-within, uses-named, uses-within, within_use-more}
 
 -- an acquisition is of its task and its lock
@@ -276,7 +276,7 @@ module _ (all : List Position) (old : Scan) (is : IsAt all old) (name : List ℕ
     levels = λ state. before.levels state ∙ sym (levels-quiet (events all) (acquisition waits name lock) name state (calm name lock waits));
   }
     where
-      none_entered : (Rattle.ld_facts.specs.Frames.enters (acquisition waits name lock) ≡ None) × (Rattle.ld_facts.specs.Frames.exits (acquisition waits name lock) ≡ None)
+      none_entered : (Rattle.ld_rules.specs.Frames.enters (acquisition waits name lock) ≡ None) × (Rattle.ld_rules.specs.Frames.exits (acquisition waits name lock) ≡ None)
       none_entered = enters_none (acquisition waits name lock) lock (acquired name lock waits)
 
       quiet : stack (events all ++ (acquisition waits name lock) ∷ []) name ≡ stack (events all) name

@@ -8,34 +8,34 @@ use Rattle.ld_trace.specs.declared.event.State.{State}
 use Rattle.ld_trace.specs.declared.event.State.TheVariants.{Hard, Soft}
 use Rattle.ld_trace.specs.Events.{PlainEvent, Position}
 use Rattle.ld_trace.specs.Events.PlainEvent.{Enter, Exit, Enable, Disable}
-use Rattle.ld_facts.specs.declared.fault.TraceFault.TheVariants.{BadEnable, BadExit, BadNest, HeldAtExit, Masked}
-use Rattle.ld_facts.specs.declared.interrupts.Interrupts.{Interrupts}
-use Rattle.ld_facts.specs.declared.outcome.TheConstants.{MOST_HELD, MOST_TASKS}
+use Rattle.ld_rules.specs.declared.fault.TraceFault.TheVariants.{BadEnable, BadExit, BadNest, HeldAtExit, Masked}
+use Rattle.ld_held.specs.declared.interrupts.Interrupts.{Interrupts}
+use Rattle.ld_rules.specs.declared.outcome.TheConstants.{MOST_HELD, MOST_TASKS}
 use Rattle.ld_facts.specs.declared.scan.Scan.{Scan}
-use Rattle.ld_facts.specs.declared.uses.UsageFact.{UsageFact}
-use Rattle.ld_facts.specs.Dependency.{dependencies_at, seen}
+use Rattle.ld_held.specs.declared.uses.UsageFact.{UsageFact}
+use Rattle.ld_rules.specs.Dependency.{dependencies_at, seen}
 use Rattle.ld_facts.specs.Facts.{named_use}
-use Rattle.ld_facts.specs.Flags.{is_enabled, same_state}
-use Rattle.ld_facts.specs.Frames.{contexts, frame_of, task_of}
-use Rattle.ld_facts.specs.Held.{held_by, held_in}
-use Rattle.ld_facts.specs.Interrupts.{IsEntered, IsLeft, IsSet, enabled_now, fresh, nests_in, start_now, states_of}
-use Rattle.ld_facts.specs.Levels.{stack, state_of}
-use Rattle.ld_facts.specs.Locks.{Hold, IsMoved, Known}
-use Rattle.ld_facts.specs.Open.{is_some_and}
-use Rattle.ld_facts.specs.Outcome.{class_acquired, each_once, event_fault, events, is_bad_enable, is_bad_exit, is_badly_nested, is_held_at_exit, is_masked, is_one_too_many, tasks}
+use Rattle.ld_rules.specs.Flags.{is_enabled, same_state}
+use Rattle.ld_rules.specs.Frames.{contexts, frame_of, task_of}
+use Rattle.ld_rules.specs.Held.{held_by, held_in}
+use Rattle.ld_held.specs.Interrupts.{IsEntered, IsLeft, IsSet, enabled_now, fresh, nests_in, start_now, states_of}
+use Rattle.ld_rules.specs.Levels.{stack, state_of}
+use Rattle.ld_held.specs.Locks.{Hold, IsMoved, Known}
+use Rattle.ld_rules.specs.Open.{is_some_and}
+use Rattle.ld_rules.specs.Outcome.{class_acquired, each_once, event_fault, events, is_bad_enable, is_bad_exit, is_badly_nested, is_held_at_exit, is_masked, is_one_too_many, tasks}
 use Rattle.ld_facts.specs.Reading.{HasTask, IsAt, IsTask, happens}
-use Rattle.ld_facts.specs.Usage.{uses_at}
+use Rattle.ld_rules.specs.Usage.{uses_at, same_what}
 use Rattle.ld_facts.specs.Facts.{IsUse}
-use Rattle.ld_facts.specs.Uses.{on_facts, same_what, with_use}
-use Rattle.ld_facts.proofs.FlagLemmas.{levels-disable, levels-enable, levels-enter, levels-exit_good, stack-quiet, states-enter, states-exit}
-use Rattle.ld_facts.proofs.GroupLemmas.{IsGrouped, start-within, starts-enter, starts-exit, starts-kept}
-use Rattle.ld_facts.proofs.HeldLemmas.{held_by-other}
+use Rattle.ld_held.specs.Uses.{on_facts, with_use}
+use Rattle.ld_rules.proofs.FlagLemmas.{levels-disable, levels-enable, levels-enter, levels-exit_good, stack-quiet, states-enter, states-exit}
+use Rattle.ld_rules.proofs.GroupLemmas.{IsGrouped, start-within, starts-enter, starts-exit, starts-kept}
+use Rattle.ld_rules.proofs.HeldLemmas.{held_by-other}
 use Rattle.ld_facts.proofs.InnerLemmas.{any-context, classes-are, clean-grouped, enabled-is, flag-is, inner-is, last-context, length-is, start-is}
 use Rattle.ld_facts.proofs.MovedLemmas.{Changed, own-before, shallow-before, tasks-fit, unacquired}
 use Rattle.ld_facts.proofs.NamedLemmas.{distinct-classes, holds-within}
-use Rattle.ld_facts.proofs.PlaceLemmas.{with_new}
+use Rattle.ld_rules.proofs.PlaceLemmas.{with_new}
 use Rattle.ld_facts.proofs.ReleaseLemmas.{uses-uncounted}
-use Rattle.ld_facts.proofs.UsageLemmas.{new_keys, on_use, uses_in, uses_once, uses_once-push_new, waits_for, with_uses}
+use Rattle.ld_rules.proofs.UsageLemmas.{new_keys, on_use, uses_in, uses_once, uses_once-push_new, waits_for, with_uses}
 use Rattle.ld_facts.proofs.UseLemmas.{on_facts-named, on_facts-within, uses-named, uses-within}
 
 not_not : (b : Bool) → b ≡ not (not b)

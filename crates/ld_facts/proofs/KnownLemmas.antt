@@ -10,23 +10,22 @@ use Rattle.ld_trace.specs.declared.event.LineFault.{LineFault}
 use Rattle.ld_trace.specs.Lines.{lines, text_of}
 use Rattle.ld_trace.specs.Sources.{Fits, PlainSource}
 use Rattle.ld_trace.specs.Events.{PlainEvent, Position, Said, plain_event, position_of, positions, said_by}
-use Rattle.ld_facts.specs.declared.edges.EdgeFact.{EdgeFact}
-use Rattle.ld_facts.specs.declared.fault.TraceFault.{TraceFault}
-use Rattle.ld_facts.specs.declared.outcome.Outcome.TheVariants.{Read, Refused}
+use Rattle.ld_held.specs.declared.edges.EdgeFact.{EdgeFact}
+use Rattle.ld_rules.specs.declared.fault.TraceFault.{TraceFault}
+use Rattle.ld_rules.specs.declared.outcome.Outcome.TheVariants.{Read, Refused}
 use Rattle.ld_facts.specs.declared.scan.Scan.{Scan}
-use Rattle.ld_facts.specs.Outcome.{each_once, classes, event_fault, events, faulty_lines, outcome, outcome_by, of_line, said_fault}
-use Rattle.ld_facts.specs.Dependency.{Dependency, Seen, dependencies_at, least_line, same_dependency, seen}
-use Rattle.ld_facts.specs.Union.{if_read}
+use Rattle.ld_rules.specs.Outcome.{each_once, classes, event_fault, events, faulty_lines, outcome, outcome_by, of_line, said_fault}
+use Rattle.ld_rules.specs.Dependency.{Dependency, Seen, dependencies_at, least_line, same_dependency, seen, same_seen}
+use Rattle.ld_rules.specs.Union.{if_read}
 use Rattle.ld_facts.specs.Facts.{IsKnown, named, named_use}
-use Rattle.ld_facts.specs.Usage.{Use, bit_of, same_use, uses_at}
-use Rattle.ld_facts.specs.Uses.{same_what}
-use Rattle.ld_facts.specs.declared.uses.UsageFact.{UsageFact}
-use Rattle.ld_facts.specs.Reading.{IsAt, IsReadTo, happens, positions_from, same_seen}
-use Rattle.ld_facts.proofs.OutcomeLemmas.{first_fault}
-use Rattle.ld_facts.proofs.PlaceLemmas.{alike_from_decides, by_pushes, each_once-more}
-use Rattle.ld_facts.proofs.StepLemmas.{Decides-same_dependency}
-use Rattle.ld_facts.proofs.UsageLemmas.{Decides-same_use, same_what-alike}
-use Rattle.ld_facts.proofs.LeastLemmas.{least_once, seen-Ascend}
+use Rattle.ld_rules.specs.Usage.{Use, bit_of, same_use, uses_at, same_what}
+use Rattle.ld_held.specs.declared.uses.UsageFact.{UsageFact}
+use Rattle.ld_facts.specs.Reading.{IsAt, IsReadTo, happens, positions_from}
+use Rattle.ld_rules.proofs.OutcomeLemmas.{first_fault}
+use Rattle.ld_rules.proofs.PlaceLemmas.{alike_from_decides, by_pushes, each_once-more}
+use Rattle.ld_rules.proofs.StepLemmas.{Decides-same_dependency}
+use Rattle.ld_rules.proofs.UsageLemmas.{Decides-same_use, same_what-alike}
+use Rattle.ld_rules.proofs.LeastLemmas.{least_once, seen-Ascend}
 use Rattle.ld_trace.proofs.PositionLemmas.{positions-ascend}
 
 -- the positions of lines, by the first of them

@@ -4,20 +4,19 @@ use Rattle.std.proofs.Common.{◌≡◌, ◌≢◌, ◌<◌, ◌≤◌, ◌++◌
 use Rattle.std.proofs.lemmas.Bool.Decides.{eqb_tells}
 use Rattle.ld_class.specs.Names.{IsNameAt, place_of, with_name}
 use Rattle.ld_trace.specs.Events.{PlainEvent, Position}
-use Rattle.ld_facts.specs.declared.outcome.TheConstants.{MOST_CLASSES, MOST_HELD, MOST_TASKS}
+use Rattle.ld_rules.specs.declared.outcome.TheConstants.{MOST_CLASSES, MOST_HELD, MOST_TASKS}
 use Rattle.ld_facts.specs.declared.scan.Scan.{Scan}
-use Rattle.ld_facts.specs.Frames.{task_of}
-use Rattle.ld_facts.specs.Dependency.{Dependency, dependencies_at, seen}
+use Rattle.ld_rules.specs.Frames.{task_of}
+use Rattle.ld_rules.specs.Dependency.{Dependency, dependencies_at, seen, same_seen}
 use Rattle.ld_facts.specs.Facts.{named, named_use}
-use Rattle.ld_facts.specs.Interrupts.{fresh}
-use Rattle.ld_facts.specs.Outcome.{class_acquired, classes, each_once, event_fault, events, is_one_too_many, tasks}
-use Rattle.ld_facts.specs.Reading.{AreMany, HasTask, IsAt, IsTask, IsWithin, happens, same_seen}
-use Rattle.ld_facts.specs.Usage.{uses_at}
+use Rattle.ld_held.specs.Interrupts.{fresh}
+use Rattle.ld_rules.specs.Outcome.{class_acquired, classes, each_once, event_fault, events, is_one_too_many, tasks}
+use Rattle.ld_facts.specs.Reading.{AreMany, HasTask, IsAt, IsTask, IsWithin, happens}
+use Rattle.ld_rules.specs.Usage.{uses_at, same_what}
 use Rattle.ld_facts.specs.Facts.{IsUse}
-use Rattle.ld_facts.specs.Uses.{same_what}
-use Rattle.ld_facts.proofs.OutcomeLemmas.{events-push, no_fault}
-use Rattle.ld_facts.proofs.PlaceLemmas.{with_new}
-use Rattle.ld_facts.proofs.StepLemmas.{classes-other, dependencies-push, tasks-push}
+use Rattle.ld_rules.proofs.OutcomeLemmas.{events-push, no_fault}
+use Rattle.ld_rules.proofs.PlaceLemmas.{with_new}
+use Rattle.ld_rules.proofs.StepLemmas.{classes-other, dependencies-push, tasks-push}
 use Rattle.ld_facts.proofs.TaskLemmas.{scan_not_too_many_tasks, task-at, task-other, task-unmoved, with_name-few}
 
 pub record Moved (all : List Position) (old : Scan) (e : PlainEvent) (line id : ℕ) (new : Scan) : Type 0 where

@@ -12,14 +12,15 @@ use Rattle.std.specs.Str.{bytes_eq}
 use Rattle.ld_class.specs.Names.{AreDistinct, IsNameAt, place_of, with_name}
 use Rattle.ld_class.proofs.NameLemmas.{place_of-None, with_name-known, with_name-new}
 use Rattle.ld_trace.specs.Events.{PlainEvent}
-use Rattle.ld_facts.specs.declared.edges.EdgeFact.{EdgeFact}
-use Rattle.ld_facts.specs.Edges.{edge_to, same_pair, with_edge}
-use Rattle.ld_facts.specs.Locks.{Hold}
-use Rattle.ld_facts.specs.Outcome.{class_acquired, classes, each_once}
-use Rattle.ld_facts.specs.Reading.{IsWithin, same_seen}
+use Rattle.ld_held.specs.declared.edges.EdgeFact.{EdgeFact}
+use Rattle.ld_held.specs.Edges.{edge_to, same_pair, with_edge}
+use Rattle.ld_held.specs.Locks.{Hold}
+use Rattle.ld_rules.specs.Outcome.{class_acquired, classes, each_once}
+use Rattle.ld_rules.specs.Dependency.{same_seen}
+use Rattle.ld_facts.specs.Reading.{IsWithin}
 use Rattle.ld_facts.specs.Facts.{named}
-use Rattle.ld_facts.proofs.PlaceLemmas.{by_pushes, with_new}
-use Rattle.ld_facts.proofs.StepLemmas.{names-more}
+use Rattle.ld_rules.proofs.PlaceLemmas.{by_pushes, with_new}
+use Rattle.ld_rules.proofs.StepLemmas.{names-more}
 
 -- two tests that pass together are one
 same_test : (a b : Bool) → (a ≡ true → b ≡ true) → (b ≡ true → a ≡ true) → a ≡ b

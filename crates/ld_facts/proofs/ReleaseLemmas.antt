@@ -12,31 +12,30 @@ use Rattle.ld_trace.specs.declared.event.State.{State}
 use Rattle.ld_trace.specs.declared.event.State.TheVariants.{Hard, Soft}
 use Rattle.ld_trace.specs.Events.{PlainEvent, PlainLock, Position}
 use Rattle.ld_trace.specs.Events.PlainEvent.{Release}
-use Rattle.ld_facts.specs.declared.fault.TraceFault.TheVariants.{NotHeld}
-use Rattle.ld_facts.specs.declared.interrupts.Interrupts.{Interrupts}
-use Rattle.ld_facts.specs.declared.outcome.TheConstants.{MOST_HELD, MOST_TASKS}
+use Rattle.ld_rules.specs.declared.fault.TraceFault.TheVariants.{NotHeld}
+use Rattle.ld_held.specs.declared.interrupts.Interrupts.{Interrupts}
+use Rattle.ld_rules.specs.declared.outcome.TheConstants.{MOST_HELD, MOST_TASKS}
 use Rattle.ld_facts.specs.declared.scan.Scan.{Scan}
-use Rattle.ld_facts.specs.Open.{remove_last}
-use Rattle.ld_facts.specs.Dependency.{seen}
+use Rattle.ld_rules.specs.Open.{remove_last}
+use Rattle.ld_rules.specs.Dependency.{seen}
 use Rattle.ld_facts.specs.Facts.{named_use}
-use Rattle.ld_facts.specs.Flags.{is_enabled}
-use Rattle.ld_facts.specs.Frames.{contexts, frame_of, task_of}
-use Rattle.ld_facts.specs.Held.{Key, same_frame, same_key, same_lock, held, held_by, held_in}
-use Rattle.ld_facts.specs.Interrupts.{fresh, start_now}
-use Rattle.ld_facts.specs.Levels.{stack, starts, state_of}
-use Rattle.ld_facts.specs.Locks.{Hold, is_of}
-use Rattle.ld_facts.specs.Outcome.{each_once, event_fault, events, is_not_held, is_one_too_many, tasks}
+use Rattle.ld_rules.specs.Flags.{is_enabled}
+use Rattle.ld_rules.specs.Frames.{contexts, frame_of, task_of}
+use Rattle.ld_rules.specs.Held.{Key, same_frame, same_key, same_lock, held, held_by, held_in}
+use Rattle.ld_held.specs.Interrupts.{fresh, start_now}
+use Rattle.ld_rules.specs.Levels.{stack, starts, state_of}
+use Rattle.ld_held.specs.Locks.{Hold, is_of}
+use Rattle.ld_rules.specs.Outcome.{each_once, event_fault, events, is_not_held, is_one_too_many, tasks}
 use Rattle.ld_facts.specs.Reading.{HasTask, IsAt, IsTask, happens}
-use Rattle.ld_facts.specs.Usage.{uses_at}
+use Rattle.ld_rules.specs.Usage.{same_what, uses_at}
 use Rattle.ld_facts.specs.Facts.{IsUse}
-use Rattle.ld_facts.specs.Uses.{same_what}
-use Rattle.ld_facts.proofs.RemoveLemmas.{list_any-filter, map-remove_last}
-use Rattle.ld_facts.proofs.HeldLemmas.{Decides-same_frame, Decides-same_key, any_held_by, held_by-releases}
-use Rattle.ld_facts.proofs.FlagLemmas.{levels-quiet, stack-quiet}
-use Rattle.ld_facts.proofs.GroupLemmas.{IsGrouped, held_in-innermost, outer_elsewhere, remove_last-append, starts-kept}
+use Rattle.ld_rules.proofs.RemoveLemmas.{list_any-filter, map-remove_last}
+use Rattle.ld_rules.proofs.HeldLemmas.{Decides-same_frame, Decides-same_key, any_held_by, held_by-releases}
+use Rattle.ld_rules.proofs.FlagLemmas.{levels-quiet, stack-quiet}
+use Rattle.ld_rules.proofs.GroupLemmas.{IsGrouped, held_in-innermost, outer_elsewhere, remove_last-append, starts-kept}
 use Rattle.ld_facts.proofs.InnerLemmas.{clean-grouped, inner-is, start-is}
 use Rattle.ld_facts.proofs.MovedLemmas.{own-before, shallow-before, tasks-fit, unacquired}
-use Rattle.ld_facts.proofs.UsageLemmas.{list_all-filter, list_all_mono, new_keys, new_uses, on_use, uses_in, uses_once, uses_once-push_new, waits_for, with_uses}
+use Rattle.ld_rules.proofs.UsageLemmas.{list_all-filter, list_all_mono, new_keys, new_uses, on_use, uses_in, uses_once, uses_once-push_new, waits_for, with_uses}
 
 -- two tests that agree at each element of which a third holds
 module _ {X : Type 0} (p q r : X → Bool) (same : (x : X) → r x ≡ true → p x ≡ q x) where

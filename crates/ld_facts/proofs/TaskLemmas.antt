@@ -15,21 +15,21 @@ use Rattle.ld_trace.specs.Events.{PlainEvent, PlainLock, Position}
 use Rattle.ld_trace.specs.Events.PlainEvent.{Acquire, Try}
 use Rattle.ld_trace.specs.declared.event.State.{State}
 use Rattle.ld_trace.specs.declared.event.State.TheVariants.{Hard, Soft}
-use Rattle.ld_facts.specs.declared.fault.TraceFault.TheVariants.{TooManyTasks}
-use Rattle.ld_facts.specs.declared.outcome.TheConstants.{MOST_TASKS}
+use Rattle.ld_rules.specs.declared.fault.TraceFault.TheVariants.{TooManyTasks}
+use Rattle.ld_rules.specs.declared.outcome.TheConstants.{MOST_TASKS}
 use Rattle.ld_facts.specs.declared.scan.Scan.{Scan}
-use Rattle.ld_facts.specs.declared.interrupts.Interrupts.{Interrupts}
-use Rattle.ld_facts.specs.Frames.{task_of}
-use Rattle.ld_facts.specs.Held.{held_by}
-use Rattle.ld_facts.specs.Interrupts.{fresh, levels_of, starts_of, states_of}
-use Rattle.ld_facts.specs.Levels.{levels, stack, starts_in, state_of}
-use Rattle.ld_facts.specs.Locks.{Hold}
-use Rattle.ld_facts.specs.Outcome.{is_one_too_many, event_fault, events, tasks}
+use Rattle.ld_held.specs.declared.interrupts.Interrupts.{Interrupts}
+use Rattle.ld_rules.specs.Frames.{task_of}
+use Rattle.ld_rules.specs.Held.{held_by}
+use Rattle.ld_held.specs.Interrupts.{fresh, levels_of, starts_of, states_of}
+use Rattle.ld_rules.specs.Levels.{levels, stack, starts_in, state_of}
+use Rattle.ld_held.specs.Locks.{Hold}
+use Rattle.ld_rules.specs.Outcome.{is_one_too_many, event_fault, events, tasks}
 use Rattle.ld_facts.specs.Reading.{IsAt, IsTask, acquisition}
-use Rattle.ld_facts.proofs.PlaceLemmas.{alike_from_decides, any_each_once, by_pushes}
-use Rattle.ld_facts.proofs.FlagLemmas.{levels-other, stack-other, states-other}
-use Rattle.ld_facts.proofs.GroupLemmas.{held_by-other_task, starts-kept}
-use Rattle.ld_facts.proofs.StepLemmas.{tasks-push}
+use Rattle.ld_rules.proofs.PlaceLemmas.{alike_from_decides, any_each_once, by_pushes}
+use Rattle.ld_rules.proofs.FlagLemmas.{levels-other, stack-other, states-other}
+use Rattle.ld_rules.proofs.GroupLemmas.{held_by-other_task, starts-kept}
+use Rattle.ld_rules.proofs.StepLemmas.{tasks-push}
 
 -- the test whether a name is one too many
 module _ (most : ℕ) (names : List (List ℕ)) (name : List ℕ) where

@@ -11,19 +11,19 @@ use Rattle.ld_class.specs.Names.{AreDistinct, IsNameAt, with_name}
 use Rattle.ld_trace.specs.declared.event.State.{State}
 use Rattle.ld_trace.specs.declared.event.State.TheVariants.{Hard, Soft}
 use Rattle.ld_trace.specs.Events.{PlainLock}
-use Rattle.ld_facts.specs.declared.uses.UsageFact.{UsageFact}
-use Rattle.ld_facts.specs.declared.interrupts.Interrupts.{Interrupts}
-use Rattle.ld_facts.specs.Dependency.{Seen}
+use Rattle.ld_held.specs.declared.uses.UsageFact.{UsageFact}
+use Rattle.ld_held.specs.declared.interrupts.Interrupts.{Interrupts}
+use Rattle.ld_rules.specs.Dependency.{Seen}
 use Rattle.ld_facts.specs.Facts.{named_use}
-use Rattle.ld_facts.specs.Held.{Key}
-use Rattle.ld_facts.specs.Interrupts.{enabled_now, states_of}
-use Rattle.ld_facts.specs.Usage.{Bit, Use, bit_of, usage_of}
-use Rattle.ld_facts.specs.Usage.Bit.{In, On}
+use Rattle.ld_rules.specs.Held.{Key}
+use Rattle.ld_held.specs.Interrupts.{enabled_now, states_of}
+use Rattle.ld_rules.specs.Usage.{Bit, Use, same_what, bit_of, usage_of}
+use Rattle.ld_rules.specs.Usage.Bit.{In, On}
 use Rattle.ld_facts.specs.Facts.{IsUse}
-use Rattle.ld_facts.specs.Uses.{fact, in_facts, on_facts, same_fact, same_what, with_use}
+use Rattle.ld_held.specs.Uses.{fact, in_facts, on_facts, same_fact, with_use}
 use Rattle.ld_facts.proofs.NamedLemmas.{name-more, number-more}
-use Rattle.ld_facts.proofs.PlaceLemmas.{with_new}
-use Rattle.ld_facts.proofs.UsageLemmas.{Decides-same_use, at_line, on_use, uses_in}
+use Rattle.ld_rules.proofs.PlaceLemmas.{with_new}
+use Rattle.ld_rules.proofs.UsageLemmas.{Decides-same_use, at_line, on_use, uses_in}
 
 -- usage bits of which the names are told apart, and one more
 module _ (names : List (List ℕ)) (distinct : AreDistinct names) where

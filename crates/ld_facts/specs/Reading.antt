@@ -8,29 +8,25 @@ use Rattle.ld_trace.specs.Lines.{lines, text_of}
 use Rattle.ld_trace.specs.Sources.{PlainSource}
 use Rattle.ld_trace.specs.Events.{PlainEvent, PlainLock, Position, position_of, positions, said_by}
 use Rattle.ld_trace.specs.Events.PlainEvent.{Acquire, Try}
-use Rattle.ld_facts.specs.declared.edges.EdgeFact.{EdgeFact}
-use Rattle.ld_facts.specs.declared.outcome.TheConstants.{MOST_CLASSES, MOST_HELD, MOST_TASKS}
-use Rattle.ld_facts.specs.declared.interrupts.Interrupts.{Interrupts}
+use Rattle.ld_held.specs.declared.edges.EdgeFact.{EdgeFact}
+use Rattle.ld_rules.specs.declared.outcome.TheConstants.{MOST_CLASSES, MOST_HELD, MOST_TASKS}
+use Rattle.ld_held.specs.declared.interrupts.Interrupts.{Interrupts}
 use Rattle.ld_facts.specs.declared.scan.Scan.{Scan}
 use Rattle.ld_facts.specs.Facts.{named, named_use}
-use Rattle.ld_facts.specs.Edges.{edge_to, with_edge}
-use Rattle.ld_facts.specs.Interrupts.{fresh, levels_of, start_now, starts_of, states_of}
-use Rattle.ld_facts.specs.Levels.{levels, starts, states}
+use Rattle.ld_held.specs.Edges.{edge_to, with_edge}
+use Rattle.ld_held.specs.Interrupts.{fresh, levels_of, start_now, starts_of, states_of}
+use Rattle.ld_rules.specs.Levels.{levels, starts, states}
 use Rattle.ld_facts.specs.Facts.{IsUse}
-use Rattle.ld_facts.specs.Uses.{in_facts, on_facts, same_what, with_use}
-use Rattle.ld_facts.specs.Usage.{uses_at}
-use Rattle.ld_facts.specs.Held.{held_by}
-use Rattle.ld_facts.specs.Locks.{Hold}
-use Rattle.ld_facts.specs.Outcome.{classes, each_once, events, faulty_lines, tasks}
-use Rattle.ld_facts.specs.Dependency.{Dependency, Seen, dependencies_at, same_dependency, seen}
+use Rattle.ld_held.specs.Uses.{in_facts, on_facts, with_use}
+use Rattle.ld_rules.specs.Usage.{same_what, uses_at}
+use Rattle.ld_rules.specs.Held.{held_by}
+use Rattle.ld_held.specs.Locks.{Hold}
+use Rattle.ld_rules.specs.Outcome.{classes, each_once, events, faulty_lines, tasks}
+use Rattle.ld_rules.specs.Dependency.{dependencies_at, same_seen, seen}
 
 -- the numbers of a dependency's classes are numbers of classes
 abbrev pub IsWithin : List (List ℕ) → EdgeFact → Type 0
 IsWithin classes edge = (edge.from < length classes) × (edge.to < length classes)
-
--- of the same two classes, at whatever line
-abbrev pub same_seen : Seen Dependency → Seen Dependency → Bool
-same_seen a b = same_dependency a.what b.what
 
 -- what the scan keeps of a task: what it holds, and its frames and flags
 pub record IsTask (names : List (List ℕ)) (stack : List Hold) (interrupts : Interrupts)

@@ -1,16 +1,14 @@
 //! Reads the facts of a trace.
 ghost use Rattle.std.specs.Prelude.{◌≡◌, IfOk};
 ghost use Rattle.ld_trace.specs.Sources.{plain, Fits};
-ghost use Rattle.ld_facts.specs.Outcome.{outcome};
-ghost use Rattle.ld_facts.specs.declared.outcome.Outcome.TheVariants.{Refused};
+ghost use Rattle.ld_rules.specs.Outcome.{outcome};
+ghost use Rattle.ld_rules.specs.declared.outcome.Outcome.TheVariants.{Refused};
 
-use crate::edges::Edges;
-use crate::fault::TraceFault;
 use crate::known::Facts;
-use crate::outcome::Outcome;
 use crate::scan::{Scan, Stop};
-use crate::uses::Uses;
 use ld_class::Classes;
+use ld_held::{Edges, Uses};
+use ld_rules::{Outcome, TraceFault};
 use ld_trace::{Source, next_line, read_event, text};
 use std::alloc::{AllocError, Global};
 

@@ -1,8 +1,7 @@
 //! Rows of streams, by what is told of their one trace.
 use super::*;
-use crate::edges::EdgeFact;
-use crate::uses::UsageFact;
 use ld_class::Usage;
+use ld_held::{EdgeFact, UsageFact};
 use std::test::Fail;
 
 fn source(bytes: &[u8]) -> Source<'_> {

@@ -4,7 +4,7 @@ use Rattle.std.specs.Option.{option_map}
 use Rattle.ld_trace.specs.Sources.{plain}
 use Rattle.ld_trace.specs.Events.{plain_event, said_by}
 use Rattle.ld_facts.specs.Facts.{IsKnown}
-use Rattle.ld_facts.specs.declared.outcome.Outcome.TheVariants.{Read, Refused}
+use Rattle.ld_rules.specs.declared.outcome.Outcome.TheVariants.{Read, Refused}
 use Rattle.ld_facts.proofs.KnownLemmas.{moved, read-none, read-known, read-nothing, read-event, refused-event, refused-line}
 use Rattle.ld_facts.proofs.reading.facts.Goals as goal
 use Rattle.ld_facts.proofs.reading.facts.Goals.{in-Ok-None, in-Ok-Some+in-Ok}

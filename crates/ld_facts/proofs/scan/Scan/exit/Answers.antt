@@ -6,14 +6,14 @@ use Rattle.ld_facts.proofs.TaskLemmas.{scan_too_many_tasks}
 use Rattle.std.proofs.Common.{◌≢◌, true, false, get_or, length, subst, ◌++◌, ◌∷◌, []}
 use Rattle.std.proofs.lemmas.List.{length-map}
 use Rattle.std.specs.Prelude.{slice_get}
-use Rattle.ld_facts.specs.declared.fault.TraceFault.TheVariants.{BadExit, HeldAtExit}
-use Rattle.ld_facts.specs.declared.held.Held.{Held}
-use Rattle.ld_facts.specs.Flags.{same_state}
-use Rattle.ld_facts.specs.Interrupts.{fresh, start_now, states_of}
-use Rattle.ld_facts.specs.Locks.{hold_of}
-use Rattle.ld_facts.specs.Open.{is_some_and}
+use Rattle.ld_rules.specs.declared.fault.TraceFault.TheVariants.{BadExit, HeldAtExit}
+use Rattle.ld_held.specs.declared.held.Held.{Held}
+use Rattle.ld_rules.specs.Flags.{same_state}
+use Rattle.ld_held.specs.Interrupts.{fresh, start_now, states_of}
+use Rattle.ld_held.specs.Locks.{hold_of}
+use Rattle.ld_rules.specs.Open.{is_some_and}
 use Rattle.ld_facts.specs.Reading.{IsAt, happens}
-use Rattle.ld_facts.specs.Scan.{plain_held}
+use Rattle.ld_held.specs.Stacks.{plain_held}
 use Rattle.ld_facts.proofs.InterruptLemmas.{exit-bad, exit-held, exited-at}
 use Rattle.ld_facts.proofs.scan.Scan.exit.Goals as goal
 
