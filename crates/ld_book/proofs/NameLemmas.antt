@@ -1,7 +1,6 @@
 -- What adding names to others keeps, and what it gives.
 use Rattle.std.proofs.Common.{◌≡◌, ◌+◌, ◌<◌, ◌≤◌, ◌⊎◌, inl, inr, ◌++◌, ◌∷◌, [], List, ℕ, Bool, true, false, Option, Some, None, is_some, length, take, get_or, refl, sym, ap, subst, ◌∙◌, if◌then◌else◌, arith, append_assoc, length-append}
 use Rattle.std.proofs.lemmas.Bool.{cases_order}
-use Rattle.std.proofs.lemmas.Grind.{get_or_default_zero}
 use Rattle.std.proofs.lemmas.List.{append-nil, get_or_append_left, get_or_push, length_push, take-append-le}
 use Rattle.std.proofs.lemmas.Slice.Eq.{bytes_eq-Decides}
 use Rattle.std.specs.List.{list_any}
@@ -53,12 +52,6 @@ places_more names more these name places place are kept at = record {
         rw (get_or_append_left places (place ∷ []) 0 i (omega (arith, before, are.count)), get_or_append_left these (name ∷ []) [] i before)
         (subst (IsNameAt more (get_or places i 0)) was.1 (kept (get_or places i 0) was.0))
     by i (inr (inr after)) within = absurd (omega (arith, after, within, length_push these name))
-
--- a place that is read has the name
-pub place_read : (names these : List (List ℕ)) (places : List ℕ) → ArePlaces names these places → (i place : ℕ) → i < length these → place ≡ get_or places i place
-    → IsNameAt names place (get_or these i [])
-place_read names these places are i place within is =
-    subst (λ p. IsNameAt names p (get_or these i [])) (sym (is ∙ get_or_default_zero places i place (omega (arith, within, are.count)))) (are.each i within)
 
 -- the names that were there keep their places when one more is added
 pub longer_more : (old names : List (List ℕ)) (name : List ℕ) (more : ℕ) → IsLonger old names more → IsLonger old (with_name names name) (more + 1)

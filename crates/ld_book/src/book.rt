@@ -43,6 +43,8 @@ pub struct Book<'a> {
     union: Union<'a>,
     /// A violation of each kind that the traces show.
     found: Found,
+    /// The numbers of the classes of the trace that was added last. A spare for the next one.
+    places: Vec<u32>,
 }
 
 impl<'a> Model for Book<'a> {
@@ -70,6 +72,7 @@ impl<'a> Book<'a> {
             refused: 0,
             union: Union::new(alloc),
             found: Found::new(),
+            places: Vec::new(alloc),
         }
     }
 
@@ -94,13 +97,13 @@ impl<'a> Book<'a> {
         }
         if self.listed.reserve(1).is_err()
             || self.numbers.reserve(1).is_err()
-            || self.union.add_classes(&facts).is_err()
+            || self.union.add_classes(&facts, &mut self.places).is_err()
         {
             return Err(Refusal::Memory(facts));
         }
         let known = self.union.dependencies.len();
-        self.union.add_dependencies(&facts);
-        let bits_came = self.union.add_usage(&facts);
+        self.union.add_dependencies(&facts, &self.places);
+        let bits_came = self.union.add_usage(&facts, &self.places);
         self.found.look(&mut self.union, known, bits_came);
         self.events += events_of(outcome);
         self.refused += refused_of(outcome);

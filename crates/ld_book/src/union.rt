@@ -37,9 +37,6 @@ pub(crate) struct Union<'a> {
     pub(crate) dependencies: Vec<Witnessed>,
     /// The usage of the classes, by their numbers.
     pub(crate) usage: Vec<UsageRow>,
-    /// The numbers of the classes of the trace that is being added, by their places in it. Between
-    /// calls a spare.
-    pub(crate) places: Vec<u32>,
 }
 
 impl<'a> Union<'a> {
@@ -55,7 +52,6 @@ impl<'a> Union<'a> {
             graph: Graph::new(alloc),
             dependencies: Vec::new(alloc),
             usage: Vec::new(alloc),
-            places: Vec::new(alloc),
         }
     }
 
@@ -83,10 +79,15 @@ impl<'a> Union<'a> {
         Some(self.usage[class as usize])
     }
 
-    /// Adds the classes of a trace, keeps their numbers, and takes the memory for its dependencies.
+    /// Adds the classes of a trace, writes their numbers over `places`, by their places in the trace,
+    /// and takes the memory for its dependencies.
     ///
-    /// `AllocError` where memory was refused. Nothing has changed then but spares.
-    pub(crate) fn add_classes(&mut self, facts: &Facts<'a>) -> Result<(), AllocError>
+    /// `AllocError` where memory was refused. Nothing has changed then but spares and `places`.
+    pub(crate) fn add_classes(
+        &mut self,
+        facts: &Facts<'a>,
+        places: &mut Vec<u32>,
+    ) -> Result<(), AllocError>
         requires numbered { IsNumbered self.old }
         requires rows { HasRows self.old }
         requires few { length self.old.classes + length facts.now.classes ≤ MAX_NAMES }
@@ -97,7 +98,7 @@ impl<'a> Union<'a> {
         ensures longer { OnOk result
             (IsLonger self.old.classes self.new.classes (length facts.now.classes)) }
         ensures places { OnOk result
-            (ArePlaces self.new.classes facts.now.classes self.new.places.items) }
+            (ArePlaces self.new.classes facts.now.classes places.new.items) }
         ensures kept { (first : Dependency → Option Witness)
             → AreWitnessed self.old.classes self.old.dependencies.items first
             → AreWitnessed self.new.classes self.new.dependencies.items first }
@@ -113,7 +114,7 @@ impl<'a> Union<'a> {
         self.dependencies.reserve(edges)?;
         self.usage.reserve(facts.classes().len())?;
         self.graph.room(facts.classes().len(), edges)?;
-        intern_all(&mut self.classes, facts.classes(), &mut self.places)?;
+        intern_all(&mut self.classes, facts.classes(), places)?;
         enter_classes(&mut self.graph, self.classes.len());
         let Ok(()) = self.usage.resize(self.classes.len(), UsageRow::unused()) else {
             unreachable!()
@@ -121,16 +122,15 @@ impl<'a> Union<'a> {
         Ok(())
     }
 
-    /// Notes the dependencies of the trace whose classes were added last, each where it was seen
+    /// Notes the dependencies of a trace whose classes have these numbers, each where it was seen
     /// first.
-    pub(crate) fn add_dependencies(&mut self, facts: &Facts<'a>)
+    pub(crate) fn add_dependencies(&mut self, facts: &Facts<'a>, places: &[u32])
         requires numbered { IsNumbered self.old }
-        requires places { ArePlaces self.old.classes facts.now.classes self.old.places.items }
+        requires places { ArePlaces self.old.classes facts.now.classes places.now }
         requires room { HasRoom self.old (length facts.now.edges) }
         ensures numbered { IsNumbered self.new }
         ensures classes { self.new.classes ≡ self.old.classes }
         ensures usage { self.new.usage ≡ self.old.usage }
-        ensures places { self.new.places ≡ self.old.places }
         ensures dependencies { (first : Dependency → Option Witness)
             → AreWitnessed self.old.classes self.old.dependencies.items first
             → AreWitnessed self.new.classes self.new.dependencies.items
@@ -142,8 +142,8 @@ impl<'a> Union<'a> {
         let number = facts.source().number;
         for seen in facts.edges() {
             let edge = Edge {
-                from: self.places[seen.from as usize],
-                to: self.places[seen.to as usize],
+                from: places[seen.from as usize],
+                to: places[seen.to as usize],
             };
             let witness = Witness {
                 number,
@@ -153,12 +153,12 @@ impl<'a> Union<'a> {
         }
     }
 
-    /// Notes the usage of the trace whose classes were added last, each bit of a class where it was
+    /// Notes the usage of a trace whose classes have these numbers, each bit of a class where it was
     /// seen first, and answers whether a bit is new.
-    pub(crate) fn add_usage(&mut self, facts: &Facts<'a>) -> bool
+    pub(crate) fn add_usage(&mut self, facts: &Facts<'a>, places: &[u32]) -> bool
         requires rows { HasRows self.old }
         requires distinct { AreDistinct self.old.classes }
-        requires places { ArePlaces self.old.classes facts.now.classes self.old.places.items }
+        requires places { ArePlaces self.old.classes facts.now.classes places.now }
         ensures classes { self.new.classes ≡ self.old.classes }
         ensures graph { self.new.graph ≡ self.old.graph }
         ensures dependencies { self.new.dependencies ≡ self.old.dependencies }
@@ -173,7 +173,7 @@ impl<'a> Union<'a> {
         let mut came = false;
         let number = facts.source().number;
         for seen in facts.usage() {
-            let class = self.places[seen.class as usize];
+            let class = places[seen.class as usize];
             let witness = Witness {
                 number,
                 line: seen.line,
@@ -193,7 +193,6 @@ impl<'a> Union<'a> {
         ensures numbered { IsNumbered self.new }
         ensures classes { self.new.classes ≡ self.old.classes }
         ensures usage { self.new.usage ≡ self.old.usage }
-        ensures places { self.new.places ≡ self.old.places }
         ensures room { (n : ℕ) → HasRoom self.old (n + 1) → HasRoom self.new n }
         ensures front { (n : ℕ) → n ≤ length self.old.graph.edges
             → take n self.new.graph.edges ≡ take n self.old.graph.edges }

@@ -7,7 +7,6 @@ use Rattle.ld_facts.specs.Facts.{named}
 use Rattle.ld_facts.specs.Union.{dependencies_of}
 use Rattle.ld_book.specs.Names.{ArePlaces}
 use Rattle.ld_book.specs.Union.{AreWitnessed, HasRoom, earlier_of, named_edge, seen_in}
-use Rattle.ld_book.proofs.NameLemmas.{place_read}
 use Rattle.ld_book.proofs.SeenLemmas.{all_noted, dependencies_once, none_noted, one_noted}
 use Rattle.ld_book.proofs.UnionLemmas.{same_dependency-true}
 use Rattle.ld_book.proofs.union.Union.add_dependencies.Goals as goal
@@ -20,7 +19,6 @@ loop-seen-init c = record {
   numbered = search rules;
   classes = search rules;
   usage = search rules;
-  places = search rules;
   front = take-length c.args.self.now.graph.edges;
   room = search rules;
   dependencies = λ first witnessed. subst (AreWitnessed c.args.self.now.classes c.args.self.now.dependencies.items) (λ i what. none_noted same_dependency same_dependency-true (named c.args.facts.now.classes) c.args.facts.now.edges (first what) c.source-number.result.number what i) witnessed;
@@ -32,23 +30,22 @@ loop-seen-preserved c =
     let i = c.loop-seen.seen-index in
     let here : i < length facts.edges = subst (λ (edges : List EdgeFact). i < length edges) c.edges-seen-items.ensures c.loop-seen-test.true in
     let classes = c.loop-seen.self.classes in
-    let places = c.loop-seen.self.places.items in
-    let are : ArePlaces classes facts.classes places = rw (c.loop-seen.invariant.classes, c.loop-seen.invariant.places) c.requires.places in
+    let places = c.args.places.now in
+    let are : ArePlaces classes facts.classes places = rw c.loop-seen.invariant.classes c.requires.places in
     let told : EdgeFact = get_or c.edges-seen-items.result.now i no_fact in
     let same_told : told ≡ get_or facts.edges i no_fact = ap (λ (edges : List EdgeFact). get_or edges i no_fact) c.edges-seen-items.ensures in
     let within : (told.from < length facts.classes) × (told.to < length facts.classes) =
     subst (λ (edge : EdgeFact). (edge.from < length facts.classes) × (edge.to < length facts.classes)) (sym same_told) (c.source-number.ensures.known.within i no_fact here) in
-    let seen : Dependency = named_edge classes (record { from = c.index.result.now; to = c.index-in-loop-seen.result.now }) in
+    let seen : Dependency = named_edge classes (record { from = get_or places told.from 0; to = get_or places told.to 0 }) in
     let same : seen ≡ (named facts.classes (get_or facts.edges i no_fact)).what = λ j. record {
-      from = ((place_read classes facts.classes places are told.from c.index.result.now within.0 c.index.ensures).1 ∙ ap (λ (edge : EdgeFact). get_or facts.classes edge.from []) same_told) j;
-      to = ((place_read classes facts.classes places are told.to c.index-in-loop-seen.result.now within.1 c.index-in-loop-seen.ensures).1 ∙ ap (λ (edge : EdgeFact). get_or facts.classes edge.to []) same_told) j;
+      from = ((are.each told.from within.0).1 ∙ ap (λ (edge : EdgeFact). get_or facts.classes edge.from []) same_told) j;
+      to = ((are.each told.to within.1).1 ∙ ap (λ (edge : EdgeFact). get_or facts.classes edge.to []) same_told) j;
     } in
     let left : length facts.edges - i ≡ (length facts.edges - (i + 1)) + 1 = omega arith in
     record {
       numbered = search rules;
       classes = search rules;
       usage = search rules;
-      places = search rules;
       front =
           let old = c.args.self.now.graph.edges in
           c.note.ensures.front (length old) (omega (arith, ap length c.loop-seen.invariant.front, length-take (length old) c.loop-seen.self.graph.edges)) ∙ c.loop-seen.invariant.front;

@@ -10,7 +10,6 @@ invariant-loop-seen l = record {
   numbered : IsNumbered l.self;
   classes : l.self.classes ≡ l.fn.self.classes;
   usage : l.self.usage ≡ l.fn.self.usage;
-  places : l.self.places ≡ l.fn.self.places;
   front : take (length l.fn.self.graph.edges) l.self.graph.edges ≡ l.fn.self.graph.edges;
   room : HasRoom l.self (length l.facts.edges - l.seen-index);
   dependencies : (first : Dependency → Option Witness) → AreWitnessed l.fn.self.classes l.fn.self.dependencies.items first

@@ -11,7 +11,6 @@ use Rattle.ld_facts.specs.Usage.{Use, bit_of, same_use}
 use Rattle.ld_book.specs.declared.usage.UsageRow.{UsageRow}
 use Rattle.ld_book.specs.Names.{ArePlaces}
 use Rattle.ld_book.specs.Union.{AreUsed, earlier_of, of_class, seen_in}
-use Rattle.ld_book.proofs.NameLemmas.{place_read}
 use Rattle.ld_book.proofs.SeenLemmas.{all_noted, none_noted, one_noted, same_use-true, uses_once}
 use Rattle.ld_book.proofs.UsageLemmas.{bits_kept, row_at, used-seen}
 use Rattle.ld_book.proofs.union.Union.add_usage.Goals as goal
@@ -24,7 +23,6 @@ loop-seen-init c = record {
   classes = search rules;
   graph = search rules;
   dependencies = search rules;
-  places = search rules;
   rows = search rules;
   known = λ same. refl;
   used = λ first used. subst (AreUsed c.args.self.now.classes c.args.self.now.usage.items) (λ i what. none_noted same_use same_use-true (named_use c.args.facts.now.classes) c.args.facts.now.usage (first what) c.source-number.result.number what i) used;
@@ -39,11 +37,11 @@ loop-seen-preserved c =
     let here : i < length facts.usage = subst (λ (usage : List UsageFact). i < length usage) c.usage-seen-items.ensures c.loop-seen-test.true in
     let told : UsageFact = get_or c.usage-seen-items.result.now i no_fact in
     let same_told : told ≡ get_or facts.usage i no_fact = ap (λ (usage : List UsageFact). get_or usage i no_fact) c.usage-seen-items.ensures in
-    let places = c.loop-seen.self.places.items in
-    let are : ArePlaces union.classes facts.classes places = rw (c.loop-seen.invariant.classes, c.loop-seen.invariant.places) c.requires.places in
+    let places = c.args.places.now in
+    let are : ArePlaces union.classes facts.classes places = rw c.loop-seen.invariant.classes c.requires.places in
     let within : told.class < length facts.classes = subst (λ (fact : UsageFact). fact.class < length facts.classes) (sym same_told) (c.source-number.ensures.known.used_within i no_fact here).0 in
-    let class = c.index-class.result.now in
-    let at : IsNameAt union.classes class (get_or facts.classes told.class []) = place_read union.classes facts.classes places are told.class class within c.index-class.ensures in
+    let class = get_or places told.class 0 in
+    let at : IsNameAt union.classes class (get_or facts.classes told.class []) = are.each told.class within in
     let seen : Use = record { class = get_or union.classes class []; bit = bit_of told.bit } in
     let same : seen ≡ (named_use facts.classes (get_or facts.usage i no_fact)).what = λ j. record {
       class = (at.1 ∙ ap (λ (fact : UsageFact). get_or facts.classes fact.class []) same_told) j;
@@ -54,7 +52,6 @@ loop-seen-preserved c =
       classes = search rules;
       graph = search rules;
       dependencies = search rules;
-      places = search rules;
       known = λ none.
           let parts = or_parts c.loop-seen.came c.note-came.result none in
           let row = c.index_mut-row.result.now in

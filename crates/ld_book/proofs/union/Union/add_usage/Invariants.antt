@@ -12,7 +12,6 @@ invariant-loop-seen l = record {
   classes : l.self.classes ≡ l.fn.self.classes;
   graph : l.self.graph ≡ l.fn.self.graph;
   dependencies : l.self.dependencies ≡ l.fn.self.dependencies;
-  places : l.self.places ≡ l.fn.self.places;
   rows : HasRows l.self;
   known : l.came ≡ false → bits_of l.self.usage.items ≡ bits_of l.fn.self.usage.items;
   used : (first : Use → Option Witness) → AreUsed l.fn.self.classes l.fn.self.usage.items first
