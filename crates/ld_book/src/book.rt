@@ -2,20 +2,18 @@
 ghost use Rattle.std.specs.Prelude.{◌≡◌, ◌≢◌, ◌++◌, ◌∷◌, [], All, AllPairs, Err, IfOk, OnErr, OnOk};
 ghost use Rattle.std.specs.Prelude.{true, false};
 ghost use Rattle.ld_facts.specs.Union.{dependency_witness};
-ghost use Rattle.ld_book.specs.Alarms.{AreExact, plain_alarms};
-ghost use Rattle.ld_book.specs.Findings.{AreFindings, plain_findings};
+ghost use Rattle.ld_find.specs.Alarms.{AreExact, plain_alarms};
+ghost use Rattle.ld_find.specs.Findings.{AreFindings, plain_findings};
 ghost use Rattle.ld_book.specs.Book.{AreOutcomes, is_listed, sources_of};
 ghost use Rattle.ld_trace.specs.Sources.{Fits};
 ghost use Rattle.ld_book.specs.Totals.{totals};
-ghost use Rattle.ld_book.specs.Usage.{usage_row};
+ghost use Rattle.ld_union.specs.Usage.{usage_row};
 
-use crate::alarms::{Alarms, Found};
-use crate::findings::{Findings, findings_of};
 use crate::totals::{Totals, events_of, refused_of};
-use crate::union::Union;
-use crate::usage::UsageRow;
 use indexmap::IndexSet;
 use ld_facts::{Facts, Listed, Witness};
+use ld_find::{Alarms, Findings, Found, findings_of};
+use ld_union::{Union, UsageRow};
 use std::alloc::{AllocError, Global};
 use std::marker::Model;
 

@@ -6,17 +6,18 @@ use Rattle.ld_facts.specs.declared.outcome.Listed.{Listed}
 use Rattle.ld_facts.specs.Dependency.{least_line}
 use Rattle.ld_facts.specs.Union.{dependency_witness, use_witness, uses_of}
 use Rattle.ld_facts.specs.Usage.{same_use}
-use Rattle.ld_book.specs.declared.union.Union.{Union}
+use Rattle.ld_union.specs.declared.union.Union.{Union}
 use Rattle.ld_book.specs.Book.{IsKept, is_listed, sources_of}
-use Rattle.ld_book.specs.Names.{IsLonger, with_names}
-use Rattle.ld_book.specs.Numbers.{AreFound, BitsGrow, bits_of}
+use Rattle.ld_union.specs.Names.{IsLonger, with_names}
+use Rattle.ld_find.specs.Numbers.{AreFound, BitsGrow}
+use Rattle.ld_union.specs.Usage.{bits_of}
 use Rattle.ld_book.specs.Totals.{events_read}
-use Rattle.ld_book.specs.Union.{AreUsed, IsNumbered, seen_in}
+use Rattle.ld_union.specs.Union.{AreUsed, IsNumbered, seen_in}
 use Rattle.ld_book.proofs.BookLemmas.{OnOk_at, kept-push, kept-same, kept-searched, listed_any}
 use Rattle.ld_book.proofs.BoundLemmas.{events_fit, few_listed}
-use Rattle.ld_book.proofs.GrowLemmas.{bits_grown}
-use Rattle.ld_book.proofs.UnionLemmas.{earlier_of-some, length_rows}
-use Rattle.ld_book.proofs.UsageLemmas.{length_used}
+use Rattle.ld_find.proofs.GrowLemmas.{bits_grown}
+use Rattle.ld_union.proofs.UnionLemmas.{earlier_of-some, length_rows}
+use Rattle.ld_union.proofs.UsageLemmas.{length_used}
 use Rattle.ld_book.proofs.book.Book.add.Goals as goal
 
 pub returns-then-contains-clause-memory : goal.returns-then-contains-clause-memory
