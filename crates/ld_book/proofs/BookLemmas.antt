@@ -16,16 +16,17 @@ use Rattle.ld_facts.specs.Facts.{IsKnown, Known}
 use Rattle.ld_facts.specs.Outcome.{each_once, outcome}
 use Rattle.ld_facts.specs.Union.{classes_of, dependencies_of, dependency_witness, earlier, first_of, first_witness, union_classes, use_witness, uses_of}
 use Rattle.ld_facts.specs.Usage.{Use, same_use}
-use Rattle.ld_book.specs.declared.alarms.Found.{Found}
-use Rattle.ld_book.specs.declared.union.Union.{Union}
+use Rattle.ld_find.specs.declared.alarms.Found.{Found}
+use Rattle.ld_union.specs.declared.union.Union.{Union}
 use Rattle.ld_book.specs.Book.{IsKept, is_listed, sources_of}
-use Rattle.ld_book.specs.Names.{IsLonger, with_names}
+use Rattle.ld_union.specs.Names.{IsLonger, with_names}
 use Rattle.ld_book.specs.Totals.{events, events_read, is_refused, refused}
-use Rattle.ld_book.specs.Numbers.{AreFound, bits_of, searched_union}
-use Rattle.ld_book.specs.Union.{AreUsed, AreWitnessed, IsNumbered, earlier_of, of_class, seen_in}
-use Rattle.ld_book.specs.Usage.{row_of}
-use Rattle.ld_book.proofs.NameLemmas.{with_names-each_once}
-use Rattle.ld_book.proofs.UnionLemmas.{earlier_of-none}
+use Rattle.ld_find.specs.Numbers.{AreFound, searched_union}
+use Rattle.ld_union.specs.Usage.{bits_of}
+use Rattle.ld_union.specs.Union.{AreUsed, AreWitnessed, IsNumbered, earlier_of, of_class, seen_in}
+use Rattle.ld_union.specs.Usage.{row_of}
+use Rattle.ld_union.proofs.NameLemmas.{with_names-each_once}
+use Rattle.ld_union.proofs.UnionLemmas.{earlier_of-none}
 
 -- what is said where a call answers `Ok`
 pub OnOk_at : {T E P : Type 0} (r : Result T E) → is_err r ≡ false → OnOk r P → P

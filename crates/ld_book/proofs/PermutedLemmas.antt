@@ -21,13 +21,13 @@ use Rattle.ld_facts.specs.Usage.{Bit, Use, same_use}
 use Rattle.ld_facts.specs.Usage.Bit.{In, On}
 use Rattle.ld_facts.proofs.PlaceLemmas.{alike_from_decides, any_each_once}
 use Rattle.ld_facts.proofs.StepLemmas.{Decides-same_dependency}
-use Rattle.ld_book.specs.Findings.{AreFindings, AreRows, InTurn, IsBefore, IsConflictRow, IsCycleRow, IsForbiddenRow, IsHarder, IsPairBefore, PlainConflictRow, PlainCycleRow, PlainFindings, PlainForbiddenRow, conflict_key, cycle_key, forbidden_key, shown_marks}
+use Rattle.ld_find.specs.Findings.{AreFindings, AreRows, InTurn, IsBefore, IsConflictRow, IsCycleRow, IsForbiddenRow, IsHarder, IsPairBefore, PlainConflictRow, PlainCycleRow, PlainFindings, PlainForbiddenRow, conflict_key, cycle_key, forbidden_key, shown_marks}
 use Rattle.ld_book.specs.Totals.{events_read, is_refused, totals}
-use Rattle.ld_book.specs.Union.{seen_in}
-use Rattle.ld_book.specs.Usage.{witnessed_bits}
-use Rattle.ld_book.specs.Violations.{Depends, HasBit, HasViolation, IsConflict, IsCycle, IsForbidden, IsViolation, Violation}
-use Rattle.ld_book.specs.Violations.Violation.{Conflict, Cycle, Forbidden}
-use Rattle.ld_book.proofs.EachOnceLemmas.{IsDistinct-each_once, IsEquivalence-from_decides}
+use Rattle.ld_union.specs.Union.{seen_in}
+use Rattle.ld_union.specs.Usage.{witnessed_bits}
+use Rattle.ld_find.specs.Violations.{Depends, HasBit, HasViolation, IsConflict, IsCycle, IsForbidden, IsViolation, Violation}
+use Rattle.ld_find.specs.Violations.Violation.{Conflict, Cycle, Forbidden}
+use Rattle.ld_union.proofs.EachOnceLemmas.{IsDistinct-each_once, IsEquivalence-from_decides}
 
 -- there is a witness, and it isn't later than this bound
 abbrev is_by : Witness → Option Witness → Bool

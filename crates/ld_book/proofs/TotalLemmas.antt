@@ -15,10 +15,10 @@ use Rattle.ld_facts.specs.Dependency as dependencies
 use Rattle.ld_facts.specs.Dependency.{Dependency, least_line, same_dependency}
 use Rattle.ld_facts.specs.Union.{dependencies_of, dependency_witness, first_of, union_dependencies}
 use Rattle.ld_facts.proofs.PlaceLemmas.{alike_from_decides, any_each_once}
-use Rattle.ld_book.specs.declared.union.Witnessed.{Witnessed}
-use Rattle.ld_book.specs.Union.{AreNumbered, AreWitnessed, named_edge, seen_in}
-use Rattle.ld_book.proofs.EachOnceLemmas.{IsDistinct-each_once, IsEquivalence-from_decides}
-use Rattle.ld_book.proofs.UnionLemmas.{apart_rows, length_rows, same_dependency-refl, same_dependency-true}
+use Rattle.ld_union.specs.declared.union.Witnessed.{Witnessed}
+use Rattle.ld_union.specs.Union.{AreNumbered, AreWitnessed, named_edge, seen_in}
+use Rattle.ld_union.proofs.EachOnceLemmas.{IsDistinct-each_once, IsEquivalence-from_decides}
+use Rattle.ld_union.proofs.UnionLemmas.{apart_rows, length_rows, same_dependency-refl, same_dependency-true}
 
 same_dependency-decides : (a b : Dependency) → Decides (same_dependency a b) (a ≡ b)
 same_dependency-decides a b = (same_dependency-true a b, λ is. subst (λ c. same_dependency a c ≡ true) is (same_dependency-refl a))

@@ -6,11 +6,12 @@ use Rattle.ld_facts.specs.declared.outcome.Listed.{Listed}
 use Rattle.ld_facts.specs.declared.outcome.TheConstants.{MOST_CLASSES}
 use Rattle.ld_facts.specs.Outcome.{outcome}
 use Rattle.ld_facts.specs.Union.{dependency_witness, union_classes, use_witness}
-use Rattle.ld_book.specs.declared.alarms.Found.{Found}
-use Rattle.ld_book.specs.declared.union.Union.{Union}
-use Rattle.ld_book.specs.Numbers.{AreFound, bits_of}
+use Rattle.ld_find.specs.declared.alarms.Found.{Found}
+use Rattle.ld_union.specs.declared.union.Union.{Union}
+use Rattle.ld_find.specs.Numbers.{AreFound}
+use Rattle.ld_union.specs.Usage.{bits_of}
 use Rattle.ld_book.specs.Totals.{events, refused}
-use Rattle.ld_book.specs.Union.{AreUsed, AreWitnessed, IsNumbered}
+use Rattle.ld_union.specs.Union.{AreUsed, AreWitnessed, IsNumbered}
 
 -- the sources of a list
 abbrev pub sources_of : List Listed → List PlainSource

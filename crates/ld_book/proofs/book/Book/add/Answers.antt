@@ -6,17 +6,18 @@ use Rattle.ld_facts.specs.declared.outcome.Listed.{Listed}
 use Rattle.ld_facts.specs.Dependency.{least_line}
 use Rattle.ld_facts.specs.Union.{dependency_witness, use_witness, uses_of}
 use Rattle.ld_facts.specs.Usage.{same_use}
-use Rattle.ld_book.specs.declared.union.Union.{Union}
+use Rattle.ld_union.specs.declared.union.Union.{Union}
 use Rattle.ld_book.specs.Book.{IsKept, is_listed, sources_of}
-use Rattle.ld_book.specs.Names.{ArePlaces, IsLonger, with_names}
-use Rattle.ld_book.specs.Numbers.{AreFound, BitsGrow, bits_of}
+use Rattle.ld_union.specs.Names.{IsLonger, with_names}
+use Rattle.ld_find.specs.Numbers.{AreFound, BitsGrow}
+use Rattle.ld_union.specs.Usage.{bits_of}
 use Rattle.ld_book.specs.Totals.{events_read}
-use Rattle.ld_book.specs.Union.{AreUsed, IsNumbered, seen_in}
+use Rattle.ld_union.specs.Union.{AreUsed, IsNumbered, seen_in}
 use Rattle.ld_book.proofs.BookLemmas.{OnOk_at, kept-push, kept-same, kept-searched, listed_any}
 use Rattle.ld_book.proofs.BoundLemmas.{events_fit, few_listed}
-use Rattle.ld_book.proofs.GrowLemmas.{bits_grown}
-use Rattle.ld_book.proofs.UnionLemmas.{earlier_of-some, length_rows}
-use Rattle.ld_book.proofs.UsageLemmas.{length_used}
+use Rattle.ld_find.proofs.GrowLemmas.{bits_grown}
+use Rattle.ld_union.proofs.UnionLemmas.{earlier_of-some, length_rows}
+use Rattle.ld_union.proofs.UsageLemmas.{length_used}
 use Rattle.ld_book.proofs.book.Book.add.Goals as goal
 
 pub returns-then-contains-clause-memory : goal.returns-then-contains-clause-memory
@@ -46,11 +47,6 @@ add_usage-bits_came-requires-clause-rows c =
     let first = use_witness (sources_of c.self.inside.listed.items) in
     rw (c.add_dependencies.ensures.classes, c.add_dependencies.ensures.usage)
     (length_used union.classes union.usage.items first (c.add_classes.ensures.used first c.self.invariant.used))
-
-pub add_usage-bits_came-requires-clause-places : goal.add_usage-bits_came-requires-clause-places
-add_usage-bits_came-requires-clause-places c =
-    let places : ArePlaces c.add_classes.new.self.classes c.args.facts.classes c.add_classes.new.self.places.items = search rules in
-    rw (c.add_dependencies.ensures.classes, c.add_dependencies.ensures.places) places
 
 pub invariant_of-self-then-is_err-3 : goal.invariant_of-self-then-is_err-3
 invariant_of-self-then-is_err-3 c =

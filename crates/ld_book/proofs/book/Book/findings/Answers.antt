@@ -2,12 +2,12 @@ use Rattle.std.proofs.Common.{subst}
 use Rattle.std.proofs.lemmas.Result.{IfOk-weaker}
 use Rattle.ld_facts.specs.Union.{use_witness}
 use Rattle.ld_book.specs.Book.{sources_of}
-use Rattle.ld_book.specs.Findings.{AreFindings, plain_findings}
-use Rattle.ld_book.specs.Numbers.{bits_of}
-use Rattle.ld_book.proofs.FoundLemmas.{of_each_from_exact}
-use Rattle.ld_book.proofs.GrowLemmas.{bits_from_used}
-use Rattle.ld_book.proofs.NumberLemmas.{exact_from_found}
-use Rattle.ld_book.proofs.UsageLemmas.{length_used}
+use Rattle.ld_find.specs.Findings.{AreFindings, plain_findings}
+use Rattle.ld_union.specs.Usage.{bits_of}
+use Rattle.ld_find.proofs.FoundLemmas.{of_each_from_exact}
+use Rattle.ld_find.proofs.GrowLemmas.{bits_from_used}
+use Rattle.ld_find.proofs.NumberLemmas.{exact_from_found}
+use Rattle.ld_union.proofs.UsageLemmas.{length_used}
 use Rattle.ld_book.proofs.book.Book.findings.Goals as goal
 
 pub findings_of-requires-clause-rows : goal.findings_of-requires-clause-rows

@@ -1,0 +1,3 @@
+pub mod Names
+pub mod Usage
+pub mod Union
