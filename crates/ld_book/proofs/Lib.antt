@@ -12,6 +12,7 @@ pub mod NumberLemmas
 pub mod OrderLemmas
 pub mod PassedLemmas
 pub mod PermutedLemmas
+pub mod RisingLemmas
 pub mod RowLemmas
 pub mod SeenLemmas
 pub mod ShownLemmas

@@ -9,3 +9,4 @@ pub mod Book
 pub mod Findings
 pub mod Order
 pub mod Rows
+pub mod Rising
