@@ -63,9 +63,14 @@ pub fn run<I: Input, O: Output, R: Threads + Wait + Sync>(
 
     ensures ok { IfOk result (λ answer.
         Answers (I.left input.old) (I.left input.new) (I.has_ended input.new) (λ traces.
-        ((text : List ℕ) × IsReport traces text × (SaysClean text ↔ (¬ HasViolation traces))
+        ((text : List ℕ) × IsReport traces text
         × Appends (O.held output.old) (O.held output.new) text)
         × VerdictIs traces answer)) }
+    ensures clean { OnOk result (
+        Answers (I.left input.old) (I.left input.new) (I.has_ended input.new) (λ traces.
+        (text : List ℕ) × IsReport traces text
+        × Appends (O.held output.old) (O.held output.new) text
+        × (SaysClean text ↔ (¬ HasViolation traces)))) }
     ensures flushed { OnOk result (O.is_flushed output.new ≡ true) }
 
     ensures read { (result ≡ Err RunFault.Read) ↔ (I.read_failed input.new ≡ true) }
