@@ -2,4 +2,5 @@ pub mod BookLemmas
 pub mod BoundLemmas
 pub mod ListedLemmas
 pub mod PermutedLemmas
+pub mod RisingLemmas
 pub mod TotalLemmas

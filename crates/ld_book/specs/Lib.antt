@@ -1,5 +1,6 @@
 pub mod Totals
 pub mod Book
+pub mod Rising
 pub use Rattle.ld_find.specs.Violations
 pub use Rattle.ld_find.specs.Alarms
 pub use Rattle.ld_find.specs.Findings

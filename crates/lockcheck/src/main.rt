@@ -7,23 +7,19 @@ ghost use Rattle.clap.specs.Values.{kind_of};
 ghost use Rattle.clap.specs.declared.error.kind.ErrorKind.{ErrorKind};
 
 pub mod check;
-pub mod devices;
 #[cfg(test)]
 mod fakes;
-mod lines;
-mod report;
+pub mod report;
 pub mod run;
 #[cfg(test)]
 mod streams;
-mod text;
-mod traces;
-mod transfer;
-mod verdict;
-mod words;
+
+pub use ld_device as devices;
+pub use ld_words as words;
 
 use crate::devices::Std;
+use crate::report::Verdict;
 use crate::run::{RunFault, run};
-use crate::verdict::Verdict;
 use crate::words::workers;
 use std::fmt::Display;
 use std::process::ExitCode;

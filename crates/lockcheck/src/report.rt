@@ -1,16 +1,16 @@
 //! The report of a stream.
-ghost use Rattle.std.specs.Prelude.{◌≡◌, ◌≤◌, ◌↔◌, Err, IfOk, IfSome, Some};
+ghost use Rattle.std.specs.Prelude.{◌≡◌, ◌≤◌, ◌↔◌, Err, IfErr, IfOk, IfSome, Some};
 ghost use Rattle.ld_trace.specs.declared.source.StreamFault.{StreamFault};
 ghost use Rattle.ld_trace.specs.Sources.{sources, stream_fault};
 ghost use Rattle.ld_book.specs.Violations.{HasViolation};
-ghost use Rattle.lockcheck.specs.Alarms.{any_stands, either_stands};
-ghost use Rattle.lockcheck.specs.Report.{IsReport, SaysClean};
-ghost use Rattle.lockcheck.specs.Verdict.{VerdictIs};
+ghost use Rattle.ld_report.specs.Report.{IsReport, SaysClean};
+ghost use Rattle.ld_report.specs.Verdict.{VerdictIs};
+
+pub use ld_report::{Verdict, report};
 
 use crate::check::{CheckFault, MOST_WORKERS, check};
-use crate::text::report;
-use crate::verdict::Verdict;
-use ld_book::{Alarms, Book};
+use ld_book::Book;
+use ld_report::verdict_of;
 use ld_work::Gate;
 use std::alloc::Global;
 use std::sync::Wait;
@@ -50,36 +50,18 @@ pub fn report_of<G: Gate + Sync, R: Threads + Wait + Sync>(
         stream_fault bytes.now ≡ Some fault }
 {
     let checked = check(rt, alloc, bytes, workers, gate)?;
-    let text = report(alloc, &checked.book)?;
-    let verdict = verdict_of(&checked.book);
+    report_on(alloc, &checked.book)
+}
+
+/// The report of the traces that a book lists, with what it comes to.
+fn report_on(alloc: Global, book: &Book<'_>) -> Result<Report, CheckFault>
+    ensures text { IfOk result (λ report. IsReport book.now report.text.items) }
+    ensures verdict { IfOk result (λ report. VerdictIs book.now report.verdict) }
+    ensures memory { IfErr result (λ fault. fault ≡ CheckFault.Memory) }
+{
+    let text = report(alloc, book)?;
+    let verdict = verdict_of(book);
     Ok(Report { text, verdict })
-}
-
-/// What a report of the traces that a book lists comes to.
-fn verdict_of(book: &Book<'_>) -> Verdict
-    ensures { VerdictIs book.now result }
-{
-    if has_violation(&book.alarms()) {
-        Verdict::Violations
-    } else if book.totals().refused > 0 {
-        Verdict::Refused
-    } else {
-        Verdict::Clean
-    }
-}
-
-/// Whether one of the alarms stands.
-fn has_violation(alarms: &Alarms<'_>) -> bool
-    ensures { result ≡ any_stands alarms.now }
-{
-    alarms.cycle.is_some() || stands_either(alarms.conflict) || stands_either(alarms.forbidden)
-}
-
-/// Whether one of the two stands.
-fn stands_either<T: Drop>(alarms: [Option<T>; 2]) -> bool
-    ensures { result ≡ either_stands alarms }
-{
-    alarms[0].is_some() || alarms[1].is_some()
 }
 
 #[cfg(test)]

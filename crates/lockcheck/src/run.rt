@@ -3,16 +3,14 @@ ghost use Rattle.std.specs.Prelude.{◌≡◌, ◌≢◌, ◌≤◌, ◌↔◌, 
 ghost use Rattle.std.specs.Io.KnownBytes.{Appends};
 ghost use Rattle.ld_trace.specs.declared.source.StreamFault.{StreamFault};
 ghost use Rattle.ld_book.specs.Violations.{HasViolation};
-ghost use Rattle.lockcheck.specs.Report.{IsReport, SaysClean};
+ghost use Rattle.ld_device.specs.Transfer.{AppendsPart, ConsumesAtMost};
+ghost use Rattle.ld_report.specs.Report.{IsReport, SaysClean};
+ghost use Rattle.ld_report.specs.Verdict.{VerdictIs};
 ghost use Rattle.lockcheck.specs.Run.{Answers, Refuses};
-ghost use Rattle.lockcheck.specs.Transfer.{AppendsPart, ConsumesAtMost};
-ghost use Rattle.lockcheck.specs.Verdict.{VerdictIs};
 
 use crate::check::{CheckFault, MOST_WORKERS};
-use crate::devices::{Input, Output};
-use crate::report::report_of;
-use crate::transfer::{MOST_READ, ReadFault, read_all, send};
-use crate::verdict::Verdict;
+use crate::report::{Verdict, report_of};
+use ld_device::{Input, MOST_READ, Output, ReadFault, read_all, send};
 use ld_trace::StreamFault;
 use ld_work::NoGate;
 use std::alloc::Global;
@@ -65,9 +63,14 @@ pub fn run<I: Input, O: Output, R: Threads + Wait + Sync>(
 
     ensures ok { IfOk result (λ answer.
         Answers (I.left input.old) (I.left input.new) (I.has_ended input.new) (λ traces.
-        ((text : List ℕ) × IsReport traces text × (SaysClean text ↔ (¬ HasViolation traces))
+        ((text : List ℕ) × IsReport traces text
         × Appends (O.held output.old) (O.held output.new) text)
         × VerdictIs traces answer)) }
+    ensures clean { OnOk result (
+        Answers (I.left input.old) (I.left input.new) (I.has_ended input.new) (λ traces.
+        (text : List ℕ) × IsReport traces text
+        × Appends (O.held output.old) (O.held output.new) text
+        × (SaysClean text ↔ (¬ HasViolation traces)))) }
     ensures flushed { OnOk result (O.is_flushed output.new ≡ true) }
 
     ensures read { (result ≡ Err RunFault.Read) ↔ (I.read_failed input.new ≡ true) }

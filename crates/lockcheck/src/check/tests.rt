@@ -3,7 +3,7 @@
 use super::{CheckFault, check};
 use crate::fakes::Meeting;
 use crate::streams::{INVERSION, INVERSION_REPORT};
-use crate::text::report;
+use crate::report::report;
 use ld_trace::StreamFault;
 use ld_work::NoGate;
 use std::test::Fail;

@@ -7,7 +7,7 @@ use crate::check::MOST_WORKERS;
 use crate::devices::{Input, Output, Std};
 use crate::fakes::{FakeReader, FakeWriter, Mishap};
 use crate::streams::{FORBIDDEN_THROUGH, FORBIDDEN_THROUGH_REPORT, INVERSION, INVERSION_REPORT};
-use crate::verdict::Verdict;
+use crate::report::Verdict;
 use ld_trace::StreamFault;
 use std::alloc::Global;
 use std::io;

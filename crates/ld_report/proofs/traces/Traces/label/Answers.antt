@@ -1,0 +1,30 @@
+use Rattle.std.proofs.Common.{rules, ◌≡◌, ◌<◌, ◌∙◌, ap, sym, subst, get_or, length, nat_cmp, Equal, Err}
+use Rattle.std.proofs.lemmas.Cmp.{ranked}
+use Rattle.std.proofs.lemmas.List.Sorted.{answers_always}
+use Rattle.std.specs.List.Sorted.{IsBinarySearchResult}
+use Rattle.ld_facts.specs.declared.outcome.Listed.{Listed}
+use Rattle.ld_report.specs.Report.{label_of_number}
+use Rattle.ld_report.proofs.TraceLemmas.{label-absent, label-found}
+use Rattle.ld_report.proofs.traces.Traces.label.Goals as goal
+
+pub returns-in-Ok : goal.returns-in-Ok
+returns-in-Ok c =
+    let listed = c.self.inside.listed.items in
+    let number = c.args.number in
+    let at = c.in-Ok.at in
+    let there = c.index.result.now in
+    let found : (d : Listed) → nat_cmp (get_or c.deref.result.now at d).source.number number ≡ Equal = c.in-Ok.ensures.position (λ l. l.source.number) (answers_always _ _ _ (λ f a r g called. search rules)) in
+    let equal : nat_cmp (get_or listed at there).source.number number ≡ Equal = subst (λ all. nat_cmp (get_or all at there).source.number number ≡ Equal) c.deref.ensures.value (found there) in
+    let within : at < length listed = subst (λ all. at < length all) c.deref.ensures.value c.in-Ok.ensures.bound in
+    ap (λ l. l.source.name.now) c.index.ensures
+    ∙ label-found listed c.self.invariant.1 number at there within (ranked (get_or listed at there).source.number number Equal (sym equal))
+    ∙ ap (λ sources. label_of_number sources number) c.self.view_is
+
+pub returns-in-Err : goal.returns-in-Err
+returns-in-Err c =
+    let listed = c.self.inside.listed.items in
+    let number = c.args.number in
+    let parted : IsBinarySearchResult (λ l. nat_cmp l.source.number number) listed (Err c.in-Err.field-0) =
+    subst (λ all. IsBinarySearchResult (λ l. nat_cmp l.source.number number) all (Err c.in-Err.field-0)) c.deref.ensures.value
+    (c.in-Err.ensures.position (λ l. l.source.number) (answers_always _ _ _ (λ f a r g called. search rules))) in
+    label-absent listed c.self.invariant.1 number c.in-Err.field-0 parted ∙ ap (λ sources. label_of_number sources number) c.self.view_is

@@ -1,0 +1,3 @@
+pub mod Alarms
+pub mod Report
+pub mod Verdict
