@@ -11,6 +11,9 @@ use std::marker::Model;
 /// enough that each place fits a `u32`.
 pub const MAX_NAMES: usize = 1 << 30;
 
+// Clauses cite the constant, so they would hold with any other number that fits.
+const _: () = prove!(MAX_NAMES == 1_073_741_824);
+
 /// Distinct names in the order in which each was first interned. A name's place in that order,
 /// counted from 0, is its number.
 ///

@@ -128,12 +128,11 @@ fn jobs_of<T: Ledger, E: Ledger>(
 ) -> Result<Vec<Job<T, E>>, AllocError>
     ensures { IfOk result (λ jobs. length jobs.items ≡ length feeders.items) }
 {
-    let mut jobs = Vec::new(alloc);
-    for feeder in feeders {
-        let worker = jobs.len();
-        jobs.push(Job { worker, feeder })?;
-    }
-    Ok(jobs)
+    feeders
+        .into_iter()
+        .enumerate()
+        .map(|(worker, feeder)| Job { worker, feeder })
+        .collect(alloc)
 }
 
 /// Does all jobs, each in a thread of its own where one can be started.
@@ -203,10 +202,10 @@ fn submit<'a, T: Ledger, E: Ledger, R: Wait>(
 {
     // Read before the lock is taken, so that the workers read at the same time.
     let facts = facts(alloc, source)?;
-    match desk.look(rt).submit(feeder, facts) {
-        Ok(()) | Err(Refusal::Twice(_)) => Ok(()),
-        Err(Refusal::Memory(_)) => Err(AllocError),
-    }
+    let answer = desk.look(rt).submit(feeder, facts);
+    let is_refused = matches!(answer, Err(Refusal::Memory(_)));
+    drop(answer);
+    if is_refused { Err(AllocError) } else { Ok(()) }
 }
 
 /// The feeders of all workers, and whether one of them was refused memory.
