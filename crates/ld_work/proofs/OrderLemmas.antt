@@ -2,7 +2,7 @@
 use Rattle.std.proofs.Common.{◌≡◌, ◌∙◌, List, IsPermutation, sym, ap, subst}
 use Rattle.std.proofs.lemmas.List.Sorted.{IsPermutation-map, IsPermutation-sym}
 use Rattle.ld_trace.specs.Sources.{PlainSource, plain}
-use Rattle.ld_facts.specs.declared.outcome.Listed.{Listed}
+use Rattle.ld_rules.specs.declared.outcome.Listed.{Listed}
 use Rattle.ld_book.specs.Book.{sources_of}
 pub use Rattle.ld_book.proofs.RisingLemmas.{rising_from_sorted}
 
