@@ -8,9 +8,9 @@ use Rattle.std.specs.List.{cons_option, list_any}
 use Rattle.std.specs.Str.{bytes_eq}
 use Rattle.ld_class.proofs.Mapped.{list_any-map}
 use Rattle.ld_trace.specs.Sources.{Fits, PlainSource, plain}
-use Rattle.ld_facts.specs.declared.outcome.Listed.{Listed}
-use Rattle.ld_facts.specs.declared.outcome.TheConstants.{MOST_CLASSES}
-use Rattle.ld_facts.specs.declared.outcome.Witness.{Witness}
+use Rattle.ld_rules.specs.declared.outcome.Listed.{Listed}
+use Rattle.ld_rules.specs.declared.outcome.TheConstants.{MOST_CLASSES}
+use Rattle.ld_rules.specs.declared.outcome.Witness.{Witness}
 use Rattle.ld_facts.specs.Dependency.{Dependency, Seen, least_line, same_dependency}
 use Rattle.ld_facts.specs.Facts.{IsKnown, Known}
 use Rattle.ld_facts.specs.Outcome.{each_once, outcome}

@@ -11,7 +11,7 @@ use Rattle.ld_trace.specs.declared.source.TheConstants.{LONGEST_STREAM, MOST_TRA
 use Rattle.ld_trace.specs.Lines.{lines, text_of}
 use Rattle.ld_trace.specs.Sources.{Fits, PlainSource, plain}
 use Rattle.ld_trace.specs.Events.{position_of, positions, said_by}
-use Rattle.ld_facts.specs.declared.outcome.Listed.{Listed}
+use Rattle.ld_rules.specs.declared.outcome.Listed.{Listed}
 use Rattle.ld_facts.specs.Outcome.{FaultyLine, faulty_lines, outcome, outcome_by}
 use Rattle.ld_book.specs.Book.{sources_of}
 use Rattle.ld_book.specs.Totals.{events, events_read}

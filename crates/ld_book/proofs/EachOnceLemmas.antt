@@ -7,7 +7,7 @@ use Rattle.std.specs.Bool.{Decides}
 use Rattle.std.specs.Cmp.{IsEquivalence}
 use Rattle.std.specs.List.{IsDistinct, list_any}
 use Rattle.ld_facts.specs.Outcome.{each_once}
-use Rattle.ld_facts.proofs.PlaceLemmas.{alike_from_decides, by_pushes, each_once-more}
+use Rattle.ld_rules.proofs.PlaceLemmas.{alike_from_decides, by_pushes, each_once-more}
 
 -- a test that tells equal elements is an equivalence
 pub IsEquivalence-from_decides : {X : Type 0} (same : X → X → Bool) → ((a b : X) → Decides (same a b) (a ≡ b)) → IsEquivalence same

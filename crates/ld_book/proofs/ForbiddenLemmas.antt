@@ -4,7 +4,7 @@ use Rattle.ld_graph.specs.Edges.{IsEdge, Seen}
 use Rattle.ld_graph.specs.Walks.{HasWalk}
 use Rattle.ld_trace.specs.declared.event.State.{State}
 use Rattle.ld_trace.specs.Sources.{PlainSource}
-use Rattle.ld_facts.specs.declared.outcome.Witness.{Witness}
+use Rattle.ld_rules.specs.declared.outcome.Witness.{Witness}
 use Rattle.ld_facts.specs.Union.{dependency_witness, use_witness}
 use Rattle.ld_facts.specs.Usage.{Bit}
 use Rattle.ld_facts.specs.Usage.Bit.{In, On}

@@ -4,7 +4,7 @@ use Rattle.std.proofs.lemmas.List.{get_or-map, length-map}
 use Rattle.ld_class.specs.Names.{AreDistinct}
 use Rattle.ld_class.specs.Usage.{has_bit}
 use Rattle.ld_trace.specs.Sources.{PlainSource}
-use Rattle.ld_facts.specs.declared.outcome.Witness.{Witness}
+use Rattle.ld_rules.specs.declared.outcome.Witness.{Witness}
 use Rattle.ld_facts.specs.Union.{use_witness}
 use Rattle.ld_facts.specs.Usage.{Bit, Use, usage_of}
 use Rattle.ld_facts.specs.Uses.{none}

@@ -9,7 +9,7 @@ use Rattle.std.specs.Str.{bytes_eq}
 use Rattle.ld_class.specs.Names.{IsNameAt, place_of, with_name}
 use Rattle.ld_class.proofs.NameLemmas.{list_any-known, list_any-new}
 use Rattle.ld_facts.specs.Outcome.{each_once}
-use Rattle.ld_facts.proofs.PlaceLemmas.{alike_from_decides, each_once-more}
+use Rattle.ld_rules.proofs.PlaceLemmas.{alike_from_decides, each_once-more}
 use Rattle.ld_book.specs.Names.{ArePlaces, IsLonger, with_names}
 
 -- one more name makes the list longer by at most one

@@ -13,14 +13,14 @@ use Rattle.std.specs.Str.{bytes_eq}
 use Rattle.ld_class.specs.Usage.{marks_of}
 use Rattle.ld_trace.specs.Sources.{PlainSource}
 use Rattle.ld_graph.specs.Walks.{HasWalk, IsShownWalk}
-use Rattle.ld_facts.specs.declared.outcome.Witness.{Witness}
+use Rattle.ld_rules.specs.declared.outcome.Witness.{Witness}
 use Rattle.ld_facts.specs.Dependency.{Dependency, Seen, least_line, same_dependency}
 use Rattle.ld_facts.specs.Outcome.{each_once, outcome}
 use Rattle.ld_facts.specs.Union.{classes_of, dependencies_of, dependency_witness, earlier, first_of, first_witness, is_before, use_witness, uses_of}
 use Rattle.ld_facts.specs.Usage.{Bit, Use, same_use}
 use Rattle.ld_facts.specs.Usage.Bit.{In, On}
-use Rattle.ld_facts.proofs.PlaceLemmas.{alike_from_decides, any_each_once}
-use Rattle.ld_facts.proofs.StepLemmas.{Decides-same_dependency}
+use Rattle.ld_rules.proofs.PlaceLemmas.{alike_from_decides, any_each_once}
+use Rattle.ld_rules.proofs.StepLemmas.{Decides-same_dependency}
 use Rattle.ld_book.specs.Findings.{AreFindings, AreRows, InTurn, IsBefore, IsConflictRow, IsCycleRow, IsForbiddenRow, IsHarder, IsPairBefore, PlainConflictRow, PlainCycleRow, PlainFindings, PlainForbiddenRow, conflict_key, cycle_key, forbidden_key, shown_marks}
 use Rattle.ld_book.specs.Totals.{events_read, is_refused, totals}
 use Rattle.ld_book.specs.Union.{seen_in}

@@ -9,16 +9,16 @@ use Rattle.std.specs.Str.{bytes_eq}
 use Rattle.ld_class.specs.Names.{AreDistinct}
 use Rattle.ld_class.proofs.NameLemmas.{AreDistinct-from_IsDistinct}
 use Rattle.ld_trace.specs.Events.{positions}
-use Rattle.ld_facts.specs.declared.outcome.Outcome.{Outcome}
-use Rattle.ld_facts.specs.declared.outcome.Outcome.TheVariants.{Read, Refused}
-use Rattle.ld_facts.specs.declared.outcome.Witness.{Witness}
+use Rattle.ld_rules.specs.declared.outcome.Outcome.{Outcome}
+use Rattle.ld_rules.specs.declared.outcome.Outcome.TheVariants.{Read, Refused}
+use Rattle.ld_rules.specs.declared.outcome.Witness.{Witness}
 use Rattle.ld_facts.specs.Outcome.{class_acquired, classes, events, outcome}
 use Rattle.ld_facts.specs.Dependency.{Seen, least_line}
 use Rattle.ld_facts.specs.Facts.{Known, IsKnown, named, named_use}
 use Rattle.ld_facts.specs.Union.{classes_of, if_read}
 use Rattle.ld_facts.specs.Usage.{Use, same_use, usage_of}
-use Rattle.ld_facts.proofs.LeastLemmas.{least_line-none, least_line-push}
-use Rattle.ld_facts.proofs.UsageLemmas.{Decides-same_use}
+use Rattle.ld_rules.proofs.LeastLemmas.{least_line-none, least_line-push}
+use Rattle.ld_rules.proofs.UsageLemmas.{Decides-same_use}
 use Rattle.ld_book.specs.Union.{earlier_of, seen_in}
 use Rattle.ld_book.proofs.EachOnceLemmas.{IsDistinct-each_once}
 use Rattle.ld_book.proofs.UnionLemmas.{earlier_of-none}

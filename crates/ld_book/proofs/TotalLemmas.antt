@@ -10,11 +10,11 @@ use Rattle.std.specs.List.{cons_option, list_any, reduce}
 use Rattle.ld_class.proofs.Mapped.{list_any-map}
 use Rattle.ld_graph.specs.Edges.{Seen, edge}
 use Rattle.ld_trace.specs.Sources.{PlainSource}
-use Rattle.ld_facts.specs.declared.outcome.Witness.{Witness}
+use Rattle.ld_rules.specs.declared.outcome.Witness.{Witness}
 use Rattle.ld_facts.specs.Dependency as dependencies
 use Rattle.ld_facts.specs.Dependency.{Dependency, least_line, same_dependency}
 use Rattle.ld_facts.specs.Union.{dependencies_of, dependency_witness, first_of, union_dependencies}
-use Rattle.ld_facts.proofs.PlaceLemmas.{alike_from_decides, any_each_once}
+use Rattle.ld_rules.proofs.PlaceLemmas.{alike_from_decides, any_each_once}
 use Rattle.ld_book.specs.declared.union.Witnessed.{Witnessed}
 use Rattle.ld_book.specs.Union.{AreNumbered, AreWitnessed, named_edge, seen_in}
 use Rattle.ld_book.proofs.EachOnceLemmas.{IsDistinct-each_once, IsEquivalence-from_decides}

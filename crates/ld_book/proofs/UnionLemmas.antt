@@ -13,8 +13,8 @@ use Rattle.ld_class.specs.Names.{IsNameAt, place_of}
 use Rattle.ld_class.proofs.NameLemmas.{place_of-None}
 use Rattle.ld_graph.specs.declared.Edge.{Edge}
 use Rattle.ld_graph.specs.Edges.{IsEdge, IsFirstPlace, Seen, edge}
-use Rattle.ld_facts.specs.declared.outcome.Witness.{Witness}
-use Rattle.ld_facts.specs.contracts.outcome.WitnessOrd.TheImpl.{cmp-value}
+use Rattle.ld_rules.specs.declared.outcome.Witness.{Witness}
+use Rattle.ld_rules.specs.contracts.outcome.WitnessOrd.TheImpl.{cmp-value}
 use Rattle.ld_facts.specs.Dependency.{Dependency, same_dependency}
 use Rattle.ld_facts.specs.Union.{earlier, is_before}
 use Rattle.ld_book.specs.declared.union.Witnessed.{Witnessed}

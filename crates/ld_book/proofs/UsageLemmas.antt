@@ -11,7 +11,7 @@ use Rattle.ld_class.specs.Names.{AreDistinct, IsNameAt, place_of}
 use Rattle.ld_class.specs.Usage.{has_bit, in_hard, in_soft, on_hard, on_soft, union}
 use Rattle.ld_class.proofs.NameLemmas.{place_of-at, place_of-Some}
 use Rattle.ld_trace.specs.declared.event.State.TheVariants.{Hard, Soft}
-use Rattle.ld_facts.specs.declared.outcome.Witness.{Witness}
+use Rattle.ld_rules.specs.declared.outcome.Witness.{Witness}
 use Rattle.ld_facts.specs.Usage.{Bit, Use, same_bit, same_use, usage_of}
 use Rattle.ld_facts.specs.Usage.Bit.{In, On}
 use Rattle.ld_book.specs.declared.usage.UsageRow.{UsageRow}

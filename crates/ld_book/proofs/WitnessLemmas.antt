@@ -5,7 +5,7 @@ use Rattle.std.proofs.lemmas.List.{get_or-map}
 use Rattle.ld_class.specs.declared.usage.Usage.{Usage}
 use Rattle.ld_class.specs.Usage.{has_bit}
 use Rattle.ld_trace.specs.declared.event.State.TheVariants.{Hard, Soft}
-use Rattle.ld_facts.specs.declared.outcome.Witness.{Witness}
+use Rattle.ld_rules.specs.declared.outcome.Witness.{Witness}
 use Rattle.ld_facts.specs.Usage.{Bit, Use, bit_of, usage_of}
 use Rattle.ld_facts.specs.Usage.Bit.{In, On}
 use Rattle.ld_facts.specs.Uses.{none}

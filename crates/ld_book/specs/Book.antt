@@ -2,8 +2,8 @@
 use Rattle.std.specs.Prelude.{◌≡◌, ℕ, ◌*◌, ◌≤◌, Bool, ◌==◌, List, length, map, All}
 use Rattle.std.specs.List.{list_any}
 use Rattle.ld_trace.specs.Sources.{Fits, PlainSource, plain}
-use Rattle.ld_facts.specs.declared.outcome.Listed.{Listed}
-use Rattle.ld_facts.specs.declared.outcome.TheConstants.{MOST_CLASSES}
+use Rattle.ld_rules.specs.declared.outcome.Listed.{Listed}
+use Rattle.ld_rules.specs.declared.outcome.TheConstants.{MOST_CLASSES}
 use Rattle.ld_facts.specs.Outcome.{outcome}
 use Rattle.ld_facts.specs.Union.{dependency_witness, union_classes, use_witness}
 use Rattle.ld_book.specs.declared.alarms.Found.{Found}

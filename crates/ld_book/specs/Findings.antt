@@ -8,7 +8,7 @@ use Rattle.ld_class.specs.Usage.{marks_of}
 use Rattle.ld_trace.specs.declared.event.State.{State}
 use Rattle.ld_trace.specs.Sources.{PlainSource}
 use Rattle.ld_graph.specs.Walks.{IsShownWalk}
-use Rattle.ld_facts.specs.declared.outcome.Witness.{Witness}
+use Rattle.ld_rules.specs.declared.outcome.Witness.{Witness}
 use Rattle.ld_facts.specs.Union.{dependency_witness, use_witness}
 use Rattle.ld_facts.specs.Usage.Bit.{In, On}
 use Rattle.ld_book.specs.declared.findings.conflicts.ConflictRow.{ConflictRow}

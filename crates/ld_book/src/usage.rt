@@ -2,7 +2,7 @@
 ghost use Rattle.std.specs.Prelude.{◌≡◌, None, Option};
 ghost use Rattle.std.specs.Bool.{OnFalse};
 ghost use Rattle.std.specs.List.{position_or_len};
-ghost use Rattle.ld_facts.specs.declared.outcome.Witness.{Witness};
+ghost use Rattle.ld_rules.specs.declared.outcome.Witness.{Witness};
 ghost use Rattle.ld_facts.specs.Usage.{Bit, IsBit, bit_of, same_bit};
 ghost use Rattle.ld_book.specs.Union.{with_bit};
 ghost use Rattle.ld_book.specs.Usage.{bits, row_of};

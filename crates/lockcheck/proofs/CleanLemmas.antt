@@ -6,8 +6,8 @@ use Rattle.std.proofs.lemmas.List.{reverse-append}
 use Rattle.std.proofs.lemmas.Nat.{mod_below}
 use Rattle.std.specs.Fmt.{digit_glyph, digits, digits_onto}
 use Rattle.ld_trace.specs.Sources.{PlainSource}
-use Rattle.ld_facts.specs.declared.outcome.Outcome.{Outcome}
-use Rattle.ld_facts.specs.declared.outcome.Outcome.TheVariants.{Read, Refused}
+use Rattle.ld_rules.specs.declared.outcome.Outcome.{Outcome}
+use Rattle.ld_rules.specs.declared.outcome.Outcome.TheVariants.{Read, Refused}
 use Rattle.ld_facts.specs.Outcome.{name_of, outcome}
 use Rattle.ld_book.specs.declared.totals.Totals.{Totals}
 use Rattle.ld_book.specs.Findings.{AreFindings, IsConflictRow, IsCycleRow, IsForbiddenRow, PlainFindings}

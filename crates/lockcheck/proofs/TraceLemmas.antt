@@ -7,7 +7,7 @@ use Rattle.std.proofs.lemmas.Bool.Decides.{nat_tests}
 use Rattle.std.specs.List.Sorted.{IsNonDecreasingBy, IsPartitionPoint}
 use Rattle.std.specs.Ordering.{ordering_index}
 use Rattle.ld_trace.specs.Sources.{plain}
-use Rattle.ld_facts.specs.declared.outcome.Listed.{Listed}
+use Rattle.ld_rules.specs.declared.outcome.Listed.{Listed}
 use Rattle.ld_book.specs.Book.{sources_of}
 use Rattle.ld_work.specs.Work.{AreRising}
 use Rattle.lockcheck.specs.Report.{label_of_number}

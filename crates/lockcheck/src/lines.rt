@@ -1,6 +1,6 @@
 //! Writes the lines of a report. Each call answers `AllocError` where memory for its text was refused.
 ghost use Rattle.std.specs.Prelude.{◌≡◌, ◌++◌, OnOk, decimal};
-ghost use Rattle.ld_facts.specs.declared.outcome.Outcome.TheVariants.{Refused};
+ghost use Rattle.ld_rules.specs.declared.outcome.Outcome.TheVariants.{Refused};
 ghost use Rattle.ld_book.specs.Findings.{plain_conflict_row, plain_cycle_row, plain_forbidden_row};
 ghost use Rattle.ld_book.specs.Findings.{plain_names};
 ghost use Rattle.lockcheck.specs.Report.{conflict_line, cycle_line, forbidden_line};

@@ -1,7 +1,7 @@
 use Rattle.std.proofs.Common.{rules, ◌≡◌, ◌+◌, ◌-◌, ◌<◌, ◌≤◌, ◌∙◌, List, [], ap, arith, get_or, length, subst, sym}
 use Rattle.std.proofs.lemmas.List.{length-take}
 use Rattle.std.proofs.Math.Seq.{take-length}
-use Rattle.ld_facts.specs.declared.edges.EdgeFact.{EdgeFact}
+use Rattle.ld_held.specs.declared.edges.EdgeFact.{EdgeFact}
 use Rattle.ld_facts.specs.Dependency.{Dependency, least_line, same_dependency}
 use Rattle.ld_facts.specs.Facts.{named}
 use Rattle.ld_facts.specs.Union.{dependencies_of}

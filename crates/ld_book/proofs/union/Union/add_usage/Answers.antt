@@ -2,8 +2,8 @@ use Rattle.std.proofs.Common.{rules, arith, ◌≡◌, ◌<◌, ◌≤◌, ◌�
 use Rattle.std.proofs.lemmas.Bool.{OnFalse_at, or_parts}
 use Rattle.std.proofs.lemmas.List.{length-set}
 use Rattle.ld_class.specs.Names.{AreDistinct, IsNameAt}
-use Rattle.ld_facts.specs.declared.outcome.Witness.{Witness}
-use Rattle.ld_facts.specs.declared.uses.UsageFact.{UsageFact}
+use Rattle.ld_rules.specs.declared.outcome.Witness.{Witness}
+use Rattle.ld_held.specs.declared.uses.UsageFact.{UsageFact}
 use Rattle.ld_facts.specs.Dependency.{least_line}
 use Rattle.ld_facts.specs.Facts.{named_use}
 use Rattle.ld_facts.specs.Union.{uses_of}

@@ -1,5 +1,5 @@
 use Rattle.std.proofs.Common.{◌≡◌, Option, false, map, take}
-use Rattle.ld_facts.specs.declared.outcome.Witness.{Witness}
+use Rattle.ld_rules.specs.declared.outcome.Witness.{Witness}
 use Rattle.ld_facts.specs.Dependency.{least_line}
 use Rattle.ld_facts.specs.Facts.{named_use}
 use Rattle.ld_facts.specs.Usage.{Use, same_use}

@@ -2,7 +2,7 @@ use Rattle.std.proofs.Common.{rules, ◌≡◌, ◌<◌, ◌∙◌, ap, sym, sub
 use Rattle.std.proofs.lemmas.Cmp.{ranked}
 use Rattle.std.proofs.lemmas.List.Sorted.{answers_always}
 use Rattle.std.specs.List.Sorted.{IsBinarySearchResult}
-use Rattle.ld_facts.specs.declared.outcome.Listed.{Listed}
+use Rattle.ld_rules.specs.declared.outcome.Listed.{Listed}
 use Rattle.lockcheck.specs.Report.{label_of_number}
 use Rattle.lockcheck.proofs.TraceLemmas.{label-absent, label-found}
 use Rattle.lockcheck.proofs.traces.Traces.label.Goals as goal
