@@ -9,3 +9,4 @@ pub mod StepLemmas
 pub mod UsageLemmas
 pub mod GroupLemmas
 pub mod LeastLemmas
+pub mod BeforeLemmas

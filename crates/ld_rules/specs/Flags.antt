@@ -38,7 +38,8 @@ last_said past task state frame =
 
 -- The flag of a task whose open enters are these, innermost first. Where nothing was said in its
 -- frame, it is on outside frames, off in a frame of the state itself, and else as just before the
--- enter of that frame: the frames around it are those that were open then.
+-- enter of that frame: the frames around it are those that were open then (`flag-before` in
+-- proofs/BeforeLemmas.antt).
 abbrev pub flag_in : List ℕ → State → List PlainEvent → List Frame → Bool
 flag_in task state past [] = unwrap_or (last_said past task state None) true
 flag_in task state past (inner ∷ outer) =

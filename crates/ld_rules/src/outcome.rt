@@ -1,4 +1,6 @@
 //! What became of a trace, and where a fact was first seen.
+ghost use Rattle.std.specs.Prelude.{◌≡◌};
+ghost use Rattle.ld_rules.specs.Union.{earlier};
 
 use crate::fault::TraceFault;
 use ld_trace::Source;
@@ -6,11 +8,17 @@ use ld_trace::Source;
 /// How many tasks a trace has at most.
 pub const MOST_TASKS: usize = 1_024;
 
+const _: () = prove!(MOST_TASKS == 1 << 10);
+
 /// How many classes a trace has at most.
 pub const MOST_CLASSES: usize = 8_191;
 
+const _: () = prove!(MOST_CLASSES == (1 << 13) - 1);
+
 /// How many locks a task holds at most, over all its frames.
 pub const MOST_HELD: usize = 48;
+
+const _: () = prove!(MOST_HELD == 3 * 16);
 
 /// What became of a trace.
 #[derive(Clone, Copy, Debug, PartialEq, Eq)]
@@ -36,16 +44,11 @@ pub struct Witness {
     pub line: u64,
 }
 
-#[cfg(test)]
-mod tests {
-    use super::*;
-
-    #[test]
-    fn witnesses_are_ordered_by_trace_then_line(rt: HostRuntime) {
-        let middle = Witness { number: 1, line: 5 };
-        assert!(rt; Witness { number: 0, line: 9 } < middle);
-        assert!(rt; Witness { number: 1, line: 4 } < middle);
-        assert!(rt; middle < Witness { number: 1, line: 6 });
-        assert!(rt; middle < Witness { number: 2, line: 1 });
+impl Witness {
+    /// The first of the two: that of the lower trace number and, in one trace, of the lower line.
+    pub fn earlier(self, other: Witness) -> Witness
+        ensures { result ≡ earlier self other }
+    {
+        self.min(other)
     }
 }

@@ -23,7 +23,7 @@ pub refused-requires-in-Err-clause-outcome : goal.refused-requires-in-Err-clause
 refused-requires-in-Err-clause-outcome c =
     refused-line (plain c.args.source) c.loop-first.line c.loop-first.rest.now c.loop-first.scan c.loop-first.events c.loop-first.invariant.read c.in-Some.first.now c.in-Some.others.now c.in-Some.ensures.first
     c.in-Err.fault (ap said_by (sym c.text.ensures) ∙ sym c.in-Err.ensures)
-    ∙ ap (Refused c.loop-first.line) (sym c.from.ensures)
+    ∙ ap (Refused c.loop-first.line) (sym c.from-fault.ensures)
 
 pub loop-first-preserved : goal.loop-first-preserved
 loop-first-preserved c = elim c.match-read_event-2.branch [

@@ -9,6 +9,7 @@ use Rattle.ld_held.specs.Interrupts.{fresh, start_now}
 use Rattle.ld_held.specs.Locks.{AreTied, Known, hold_of, holds_of, is_of, known_of}
 use Rattle.ld_held.specs.Stacks.{PlainStack, empty_stack, holds, inner, plain_held}
 use Rattle.ld_rules.specs.Open.{remove_last}
+use Rattle.ld_rules.specs.declared.outcome.TheConstants.{MOST_HELD}
 use Rattle.ld_held.proofs.StackLemmas.{part_is}
 use Rattle.ld_held.proofs.LockLemmas.{any_shown, none_gone, removed_some, hold_gone, held_again, holds_at, holds_shown, interrupts_shown, shown_held, tied_cut, within_shown}
 use Rattle.ld_held.proofs.locks.Locks.let_go.Goals as goal
@@ -104,7 +105,7 @@ invariant_of-self-else-place-held c =
 pub hold_all-requires-clause-room : goal.hold_all-requires-clause-room
 hold_all-requires-clause-room c =
     room c.self.inside.stacks c.self.inside.edges c.args.self.now c.args.task (plain_lock c.args.lock) c.held-held.result.now c.start-start.result c.self.view_is c.held-held.ensures.held (c.start-start.ensures ∙ ap start_now c.interrupts.ensures) c.in-Some.place c.in-Some.ensures.place c.in-Some.ensures.last
-    c.truncate-else-place-held.new.self c.as_slice.result.now 48 c.truncate-else-place-held.ensures (c.as_slice.ensures.value ∙ c.copied-later.ensures)
+    c.truncate-else-place-held.new.self c.as_slice.result.now MOST_HELD c.truncate-else-place-held.ensures (c.as_slice.ensures.value ∙ c.copied-later.ensures)
     (within_shown c.self.inside.stacks c.self.inside.edges c.args.self.now c.args.task c.self.view_is c.requires) c.held-held.ensures.depth
 
 pub returns-then-place-held-clause-held : goal.returns-then-place-held-clause-held

@@ -1,7 +1,8 @@
 //! Rows of streams, by what is told of their one trace.
-use super::*;
 use ld_class::Usage;
-use ld_held::{EdgeFact, UsageFact};
+use ld_facts::{EdgeFact, Facts, Outcome, TraceFault, UsageFact, Witness, facts};
+use ld_trace::Source;
+use std::alloc::AllocError;
 use std::test::Fail;
 
 fn source(bytes: &[u8]) -> Source<'_> {
@@ -295,4 +296,48 @@ fn a_task_holds_48_locks_at_most(rt: HostRuntime) -> Result<(), Fail> {
         refused_at(50, TraceFault::TooDeep)
     );
     Ok(())
+}
+
+#[test]
+fn a_trace_of_more_than_a_million_bytes_is_read(rt: HostRuntime) -> Result<(), Fail> {
+    let mut text = String::new(rt.alloc());
+    for _ in 0..42_000 {
+        text.push_str("acquire t A\nrelease t A\n")?;
+    }
+    assert!(rt; text.len() > 1_000_000);
+    assert_eq!(rt;
+        outcome(&rt, text.as_bytes())?,
+        Outcome::Read { events: 84_000 }
+    );
+    Ok(())
+}
+
+/// A trace in which a lock is taken in each kind of frame, and one is released below another.
+const NESTED: &[u8] = b"acquire t A\nacquire t B\nrelease t A\nenter t soft\nacquire t S\n\
+    enter t hard\nacquire t H\nrelease t H\nexit t hard\nrelease t S\nexit t soft\n";
+
+#[test]
+fn a_refused_growth_is_told(rt: HostRuntime) -> Result<(), Fail> {
+    let source = source(NESTED);
+    assert!(rt; source.fits());
+    let facts = match facts(rt.alloc(), source) {
+        Ok(facts) => facts,
+        Err(_) => facts(rt.alloc(), source)?,
+    };
+    assert_eq!(rt; facts.outcome(), Outcome::Read { events: 11 });
+    assert_eq!(rt; facts.classes().len(), 4);
+    assert_eq!(rt; facts.edges().len(), 1);
+    assert!(rt; has_edge(facts.edges(), 0, 1, 3));
+    assert_eq!(rt; facts.usage().len(), 8);
+    Ok(())
+}
+
+#[test]
+fn witnesses_are_ordered_by_trace_then_line(rt: HostRuntime) {
+    let middle = Witness { number: 1, line: 5 };
+    assert!(rt; Witness { number: 0, line: 9 } < middle);
+    assert!(rt; Witness { number: 1, line: 4 } < middle);
+    assert!(rt; middle < Witness { number: 1, line: 6 });
+    assert!(rt; middle < Witness { number: 2, line: 1 });
+    assert_eq!(rt; middle.earlier(Witness { number: 0, line: 9 }).line, 9);
 }
