@@ -152,6 +152,3 @@ pub fn split<'a>(alloc: Global, bytes: &'a [u8]) -> Result<Vec<Source<'a>>, Stre
     }
     Ok(sources)
 }
-
-#[cfg(test)]
-mod tests;

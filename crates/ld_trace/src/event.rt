@@ -272,6 +272,3 @@ fn read_state(field: &[u8]) -> Option<State>
         None
     }
 }
-
-#[cfg(test)]
-mod tests;

@@ -5,9 +5,10 @@ ghost use Rattle.std.specs.Prelude.{◌≡◌, ℕ, length, slice_index_or, None
 ghost use Rattle.ld_graph.specs.Edges.{IsEdge};
 ghost use Rattle.ld_graph.specs.Walks.{DistanceIs};
 
-use super::*;
+use ld_graph::{Graph, MOST_CLASSES};
 use std::alloc::Global;
 use std::process::Abort;
+use std::test::Fail;
 
 /// Makes room. Where memory is refused nothing else changes, and the call made again answers `Ok`.
 fn make_room<R: Abort>(rt: &R, graph: &mut Graph, classes: usize, edges: usize) {
@@ -180,4 +181,24 @@ fn two_ways(rt: HostRuntime) {
     expect_walk(&rt, alloc, &graph, (0, 3), &[0, 1, 2, 3], &[0, 1, 3]);
     expect_walk(&rt, alloc, &graph, (0, 3), &[0, 2, 1, 3], &[0, 2, 3]);
     expect_found(&rt, alloc, &mut graph);
+}
+
+// A search that answered `AllocError` for many classes would meet every contract.
+#[test]
+fn a_long_way(rt: HostRuntime) -> Result<(), Fail> {
+    let alloc = rt.alloc();
+    let mut graph = Graph::new(alloc);
+    make_room(&rt, &mut graph, 2_000, 2_000);
+    add_classes(&rt, &mut graph, 2_000);
+    for a in 0..1_999 {
+        assert!(rt; insert(&rt, &mut graph, a, a + 1));
+    }
+    let distances = distances(&rt, alloc, &graph, 1_999);
+    assert!(rt; !distances.is_empty());
+    assert_eq!(rt; distances[0], Some(1_999));
+    let mut places = Vec::new(alloc);
+    places.resize(2_000, 0)?;
+    let walk = walk(&rt, alloc, &graph, 0, 1_999, &places).expect(&rt, "a walk");
+    assert_eq!(rt; walk.len(), 2_000);
+    Ok(())
 }

@@ -2,10 +2,10 @@
 ghost use Rattle.std.specs.Prelude.{◌≡◌, ◌≤◌, All, IfOk, length, map};
 ghost use Rattle.ld_trace.specs.Sources.{AreNumbered, Fits, plain};
 
-use super::*;
 use ld_book::{Book, Refusal};
 use ld_facts::{Witness, facts};
 use ld_trace::{MOST_TRACES, Source, split};
+use ld_work::{Back, Desk, Feeder, Gate, MOST_FEEDERS, NoGate, Tally, WorkFault, work};
 use std::alloc::{AllocError, Global};
 use std::marker::Brand;
 use std::process::Abort;
@@ -148,6 +148,43 @@ fn workers_read_several_traces(rt: HostRuntime) -> Result<(), Fail> {
         assert_eq!(rt; book.edge(b"C", b"A"), witness(2, 9));
     }
     Ok(())
+}
+
+/// Asserts that two workers give a book of so many traces and events.
+fn expect_totals<R>(
+    rt: &R,
+    alloc: Global,
+    stream: &[u8],
+    traces: u64,
+    events: u64,
+) -> Result<(), Fail>
+where
+    R: Threads + Wait + Abort + Sync,
+{
+    let sources = sources_of(alloc, stream)?;
+    let book = work(rt, alloc, &sources, 2, &NoGate).expect(rt, "a book");
+    assert_eq!(rt; book.totals().traces, traces);
+    assert_eq!(rt; book.totals().events, events);
+    Ok(())
+}
+
+// Work that answered `Memory` where there is much to do would meet every contract.
+#[test]
+fn many_traces_are_read(rt: HostRuntime) -> Result<(), Fail> {
+    let mut stream = Vec::new(rt.alloc());
+    for _ in 0..2_000 {
+        stream.extend_from_slice(b"trace x\nacquire t A\nacquire t B\n")?;
+    }
+    expect_totals(&rt, rt.alloc(), &stream, 2_000, 4_000)
+}
+
+#[test]
+fn a_long_trace_is_read(rt: HostRuntime) -> Result<(), Fail> {
+    let mut stream = b"trace x\n".to_vec(rt.alloc())?;
+    for _ in 0..50_000 {
+        stream.extend_from_slice(b"acquire t A\nrelease t A\n")?;
+    }
+    expect_totals(&rt, rt.alloc(), &stream, 1, 100_000)
 }
 
 /// Asserts that this many workers give the book of `INVERSION`, or that memory was refused.

@@ -1,6 +1,7 @@
 //! The rows of `split`.
 
-use super::*;
+use ld_trace::{StreamFault, split};
+use std::alloc::Global;
 use std::test::Fail;
 
 /// Whether a stream is refused with this fault.

@@ -1,6 +1,6 @@
 //! The rows of `read_event`.
 
-use super::*;
+use ld_trace::{Event, LineFault, State, read_event};
 use std::alloc::Global;
 use std::test::Fail;
 
