@@ -88,20 +88,31 @@ impl<'a> Book<'a> {
         ensures memory { is_listed self.old facts.entry.source.number ≡ false
             → OnErr result (result ≡ Err (Refusal.Memory facts.entry)) }
     {
-        let source = facts.source();
-        let outcome = facts.outcome();
-        if self.numbers.contains(&source.number) {
+        if self.numbers.contains(&facts.source().number) {
             return Err(Refusal::Twice(facts));
         }
-        if self.listed.reserve(1).is_err()
-            || self.numbers.reserve(1).is_err()
-            || self.union.add_classes(&facts, &mut self.places).is_err()
-        {
-            return Err(Refusal::Memory(facts));
+        match self.enter(&facts) {
+            Ok(()) => Ok(()),
+            Err(AllocError) => Err(Refusal::Memory(facts)),
         }
+    }
+
+    /// Lists one more trace, whose number isn't listed, and adds what it shows.
+    ///
+    /// `AllocError` where a growth of memory was refused. Nothing has changed then but spare memory.
+    fn enter(&mut self, facts: &Facts<'a>) -> Result<(), AllocError>
+        requires { is_listed self.old facts.now.source.number ≡ false }
+        ensures ok { OnOk result (self.new ≡ self.old ++ facts.now.source ∷ []) }
+        ensures err { OnErr result (self.new ≡ self.old) }
+    {
+        let source = facts.source();
+        let outcome = facts.outcome();
+        self.listed.reserve(1)?;
+        self.numbers.reserve(1)?;
+        self.union.add_classes(facts, &mut self.places)?;
         let known = self.union.dependencies.len();
-        self.union.add_dependencies(&facts, &self.places);
-        let bits_came = self.union.add_usage(&facts, &self.places);
+        self.union.add_dependencies(facts, &self.places);
+        let bits_came = self.union.add_usage(facts, &self.places);
         self.found.look(&mut self.union, known, bits_came);
         self.events += events_of(outcome);
         self.refused += refused_of(outcome);
