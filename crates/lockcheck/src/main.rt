@@ -14,13 +14,12 @@ pub mod run;
 #[cfg(test)]
 mod streams;
 
-pub use ld_device as devices;
-pub use ld_words as words;
-
 use crate::devices::Std;
 use crate::report::Verdict;
 use crate::run::{RunFault, run};
 use crate::words::workers;
+pub use ld_device as devices;
+pub use ld_words as words;
 use std::fmt::Display;
 use std::process::ExitCode;
 use std::rt::Env;

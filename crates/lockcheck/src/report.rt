@@ -6,11 +6,10 @@ ghost use Rattle.ld_book.specs.Violations.{HasViolation};
 ghost use Rattle.ld_report.specs.Report.{IsReport, SaysClean};
 ghost use Rattle.ld_report.specs.Verdict.{VerdictIs};
 
-pub use ld_report::{Verdict, report};
-
 use crate::check::{CheckFault, MOST_WORKERS, check};
 use ld_book::Book;
 use ld_report::verdict_of;
+pub use ld_report::{Verdict, report};
 use ld_work::Gate;
 use std::alloc::Global;
 use std::sync::Wait;

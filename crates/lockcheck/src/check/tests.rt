@@ -2,8 +2,8 @@
 
 use super::{CheckFault, check};
 use crate::fakes::Meeting;
-use crate::streams::{INVERSION, INVERSION_REPORT};
 use crate::report::report;
+use crate::streams::{INVERSION, INVERSION_REPORT};
 use ld_trace::StreamFault;
 use ld_work::NoGate;
 use std::test::Fail;
