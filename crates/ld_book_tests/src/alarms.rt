@@ -4,7 +4,6 @@ use crate::books::{NONE, THREE_TRACES, book_of};
 use ld_book::Alarms;
 use std::alloc::Global;
 use std::process::Abort;
-use std::test::Fail;
 
 const INVERSION: &[u8] = b"trace ab\nacquire t A\nacquire t B\nrelease t B\nrelease t A\n\
     trace ba\nacquire t B\nacquire t A\nrelease t A\nrelease t B\n";
@@ -28,18 +27,12 @@ const APART: &[u8] = b"trace a\ndisable t hard\nacquire t H\nacquire t U\n\
     trace b\nacquire t U\ntrace c\nenter t hard\nacquire t H\n";
 
 /// The alarms of the book of a stream, whose traces are added in this order.
-fn alarms_of<'a, R: Abort>(
-    rt: &R,
-    alloc: Global,
-    bytes: &'a [u8],
-    order: &[usize],
-) -> Result<Alarms<'a>, Fail> {
-    let book = book_of(rt, alloc, bytes, order)?;
-    Ok(book.alarms())
+fn alarms_of<'a, R: Abort>(rt: &R, alloc: Global, bytes: &'a [u8], order: &[usize]) -> Alarms<'a> {
+    book_of(rt, alloc, bytes, order).alarms()
 }
 
 #[test]
-fn no_alarm_without_a_violation(rt: HostRuntime) -> Result<(), Fail> {
+fn no_alarm_without_a_violation(rt: HostRuntime) {
     let clean: [(&[u8], &[usize]); 8] = [
         (b"", &[]),
         (b"trace r\nacquire t A@1\ntry t A@2\n", &[0]),
@@ -67,13 +60,12 @@ fn no_alarm_without_a_violation(rt: HostRuntime) -> Result<(), Fail> {
         ),
     ];
     for (bytes, order) in clean {
-        assert_eq!(rt; alarms_of(&rt, rt.alloc(), bytes, order)?, NONE);
+        assert_eq!(rt; alarms_of(&rt, rt.alloc(), bytes, order), NONE);
     }
-    Ok(())
 }
 
 #[test]
-fn a_dependency_on_a_cycle_is_an_alarm(rt: HostRuntime) -> Result<(), Fail> {
+fn a_dependency_on_a_cycle_is_an_alarm(rt: HostRuntime) {
     let recursion = b"trace r\nacquire t A@1\nacquire t A@2\n";
     let cycles: [(&[u8], &[usize], &[(&[u8], &[u8])]); 3] = [
         (INVERSION, &[0, 1], &[(b"A", b"B"), (b"B", b"A")]),
@@ -85,7 +77,7 @@ fn a_dependency_on_a_cycle_is_an_alarm(rt: HostRuntime) -> Result<(), Fail> {
         (recursion, &[0], &[(b"A", b"A")]),
     ];
     for (bytes, order, wanted) in cycles {
-        let alarms = alarms_of(&rt, rt.alloc(), bytes, order)?;
+        let alarms = alarms_of(&rt, rt.alloc(), bytes, order);
         let cycle = alarms.cycle.expect(&rt, "a dependency on a cycle");
         assert!(rt; wanted.contains(&cycle));
         let others = Alarms {
@@ -94,11 +86,10 @@ fn a_dependency_on_a_cycle_is_an_alarm(rt: HostRuntime) -> Result<(), Fail> {
         };
         assert_eq!(rt; others, NONE);
     }
-    Ok(())
 }
 
 #[test]
-fn the_other_kinds_are_alarms_of_their_state(rt: HostRuntime) -> Result<(), Fail> {
+fn the_other_kinds_are_alarms_of_their_state(rt: HostRuntime) {
     let a = b"A".as_slice();
     let walk = (b"H".as_slice(), b"U".as_slice());
     let hard_walk = Alarms {
@@ -124,25 +115,23 @@ fn the_other_kinds_are_alarms_of_their_state(rt: HostRuntime) -> Result<(), Fail
         (FORBIDDEN_THROUGH, hard_walk),
     ];
     for (bytes, wanted) in rows {
-        assert_eq!(rt; alarms_of(&rt, rt.alloc(), bytes, &[0])?, wanted);
+        assert_eq!(rt; alarms_of(&rt, rt.alloc(), bytes, &[0]), wanted);
     }
-    Ok(())
 }
 
 #[test]
-fn a_new_bit_makes_a_forbidden_walk(rt: HostRuntime) -> Result<(), Fail> {
+fn a_new_bit_makes_a_forbidden_walk(rt: HostRuntime) {
     let bytes = b"trace f\nenter t hard\nacquire t H\nrelease t H\nexit t hard\ndisable t hard\n\
         acquire t H\nacquire t U\nrelease t U\nrelease t H\nenable t hard\n\
         trace u\nacquire t U\n";
-    assert_eq!(rt; alarms_of(&rt, rt.alloc(), bytes, &[0])?, NONE);
-    let alarms = alarms_of(&rt, rt.alloc(), bytes, &[0, 1])?;
+    assert_eq!(rt; alarms_of(&rt, rt.alloc(), bytes, &[0]), NONE);
+    let alarms = alarms_of(&rt, rt.alloc(), bytes, &[0, 1]);
     let walk = (b"H".as_slice(), b"U".as_slice());
     assert_eq!(rt; alarms.forbidden, [Some(walk), None]);
-    Ok(())
 }
 
 #[test]
-fn a_forbidden_walk_comes_with_the_last_trace_in_any_order(rt: HostRuntime) -> Result<(), Fail> {
+fn a_forbidden_walk_comes_with_the_last_trace_in_any_order(rt: HostRuntime) {
     let orders = [
         [0, 1, 2],
         [0, 2, 1],
@@ -157,8 +146,7 @@ fn a_forbidden_walk_comes_with_the_last_trace_in_any_order(rt: HostRuntime) -> R
         ..NONE
     };
     for order in orders {
-        assert_eq!(rt; alarms_of(&rt, rt.alloc(), APART, &order[..2])?, NONE);
-        assert_eq!(rt; alarms_of(&rt, rt.alloc(), APART, &order)?, wanted);
+        assert_eq!(rt; alarms_of(&rt, rt.alloc(), APART, &order[..2]), NONE);
+        assert_eq!(rt; alarms_of(&rt, rt.alloc(), APART, &order), wanted);
     }
-    Ok(())
 }

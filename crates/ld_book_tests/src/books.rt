@@ -6,7 +6,6 @@ use ld_facts::{Facts, Witness, facts};
 use ld_trace::{Source, split};
 use std::alloc::{AllocError, Global};
 use std::process::Abort;
-use std::test::Fail;
 
 /// The alarms of a book without a violation.
 pub(crate) const NONE: Alarms<'static> = Alarms {
@@ -20,10 +19,10 @@ pub(crate) const THREE_TRACES: &[u8] = b"trace x\nacquire t A\nacquire t B\n\
     trace y\nacquire t B\nacquire t C\ntrace z\nacquire t C\nacquire t A\n";
 
 /// The sources of a stream.
-fn sources_of(alloc: Global, bytes: &[u8]) -> Result<Vec<Source<'_>>, Fail> {
+fn sources_of<'a, R: Abort>(rt: &R, alloc: Global, bytes: &'a [u8]) -> Vec<Source<'a>> {
     match split(alloc, bytes) {
-        Ok(sources) => Ok(sources),
-        Err(_) => Ok(split(alloc, bytes)?),
+        Ok(sources) => sources,
+        Err(_) => split(alloc, bytes).expect(rt, "the sources of a stream"),
     }
 }
 
@@ -33,27 +32,21 @@ pub(crate) fn facts_of<'a, R: Abort>(
     alloc: Global,
     bytes: &'a [u8],
     number: usize,
-) -> Result<Facts<'a>, Fail> {
-    let sources = sources_of(alloc, bytes)?;
+) -> Facts<'a> {
+    let sources = sources_of(rt, alloc, bytes);
     assert!(rt; number < sources.len());
     let source = sources[number];
     assert!(rt; source.fits());
     match facts(alloc, source) {
-        Ok(facts) => Ok(facts),
-        Err(AllocError) => Ok(facts(alloc, source)?),
+        Ok(facts) => facts,
+        Err(AllocError) => facts(alloc, source).expect(rt, "the facts of a trace"),
     }
 }
 
 /// Adds the trace of that number. Where memory is refused the facts come back, the book is as
 /// before, and the call made again answers `Ok`.
-fn add<'a, R: Abort>(
-    rt: &R,
-    alloc: Global,
-    book: &mut Book<'a>,
-    bytes: &'a [u8],
-    number: usize,
-) -> Result<(), Fail> {
-    let facts = facts_of(rt, alloc, bytes, number)?;
+fn add<'a, R: Abort>(rt: &R, alloc: Global, book: &mut Book<'a>, bytes: &'a [u8], number: usize) {
+    let facts = facts_of(rt, alloc, bytes, number);
     let before = book.totals();
     let listed = book.listed().len();
     match book.add(facts) {
@@ -65,7 +58,6 @@ fn add<'a, R: Abort>(
         }
         Err(Refusal::Twice(_facts)) => assert!(rt; false),
     }
-    Ok(())
 }
 
 /// The book of a stream, whose traces are added in this order.
@@ -74,12 +66,12 @@ pub(crate) fn book_of<'a, R: Abort>(
     alloc: Global,
     bytes: &'a [u8],
     order: &[usize],
-) -> Result<Book<'a>, Fail> {
+) -> Book<'a> {
     let mut book = Book::new(alloc);
     for number in order {
-        add(rt, alloc, &mut book, bytes, *number)?;
+        add(rt, alloc, &mut book, bytes, *number);
     }
-    Ok(book)
+    book
 }
 
 pub(crate) fn witness(number: u64, line: u64) -> Option<Witness> {

@@ -5,7 +5,6 @@ use ld_book::{CycleRow, Findings};
 use ld_facts::Witness;
 use std::alloc::AllocError;
 use std::process::Abort;
-use std::test::Fail;
 
 /// Asserts what a row says of a dependency on a cycle.
 fn expect_cycle<R: Abort>(
@@ -50,22 +49,21 @@ fn expect_three_cycles<R: Abort>(rt: &R, findings: &Findings<'_>) {
 }
 
 #[test]
-fn findings_are_refused_or_whole(rt: HostRuntime) -> Result<(), Fail> {
-    let book = book_of(&rt, rt.alloc(), THREE_TRACES, &[2, 0, 1])?;
+fn findings_are_refused_or_whole(rt: HostRuntime) {
+    let book = book_of(&rt, rt.alloc(), THREE_TRACES, &[2, 0, 1]);
     let findings = match book.findings(rt.alloc()) {
         Ok(findings) => findings,
         Err(AllocError) => {
             assert_eq!(rt; book.totals(), totals(3, 0, 6, 3, 3));
-            book.findings(rt.alloc())?
+            book.findings(rt.alloc()).expect(&rt, "the findings")
         }
     };
     expect_three_cycles(&rt, &findings);
     assert_eq!(rt; book.totals(), totals(3, 0, 6, 3, 3));
-    Ok(())
 }
 
 #[test]
-fn orders_classes_by_the_bytes_of_their_names(rt: HostRuntime) -> Result<(), Fail> {
+fn orders_classes_by_the_bytes_of_their_names(rt: HostRuntime) {
     let bytes = b"trace a\nacquire t a@1\nacquire t a@2\ntrace B\nacquire t B@1\nacquire t B@2\n\
         trace AA\nacquire t AA@1\nacquire t AA@2\ntrace A\nacquire t A@1\nacquire t A@2\n\
         trace AB\nacquire t AB@1\nacquire t AB@2\n";
@@ -74,13 +72,12 @@ fn orders_classes_by_the_bytes_of_their_names(rt: HostRuntime) -> Result<(), Fai
         (&[0, 1, 2, 3, 4], &[b"A", b"AA", b"AB", b"B", b"a"]),
     ];
     for (order, wanted) in orders {
-        let book = book_of(&rt, rt.alloc(), bytes, order)?;
-        let findings = book.findings(rt.alloc())?;
+        let book = book_of(&rt, rt.alloc(), bytes, order);
+        let findings = book.findings(rt.alloc()).expect(&rt, "the findings");
         let cycles = findings.cycles.items();
         assert_eq!(rt; cycles.len(), wanted.len());
         for (row, name) in cycles.iter().zip(wanted) {
             assert_eq!(rt; (row.from, row.to), (*name, *name));
         }
     }
-    Ok(())
 }

@@ -5,7 +5,6 @@ use ld_book::UsageRow;
 use ld_facts::Witness;
 use std::alloc::Global;
 use std::process::Abort;
-use std::test::Fail;
 
 /// The usage of a class: its marks, and where each bit was first seen, in the order of a row.
 type Told = ([u8; 4], [Option<Witness>; 4]);
@@ -24,27 +23,26 @@ fn expect_usage<'a, R: Abort>(
     bytes: &'a [u8],
     order: &[usize],
     usage: &[(&[u8], Option<Told>)],
-) -> Result<(), Fail> {
-    let book = book_of(rt, alloc, bytes, order)?;
+) {
+    let book = book_of(rt, alloc, bytes, order);
     for (name, wanted) in usage {
         assert_eq!(rt; told(book.usage(name)), *wanted);
     }
-    Ok(())
 }
 
 #[test]
-fn interrupts_enabled_while_held_are_usage(rt: HostRuntime) -> Result<(), Fail> {
+fn interrupts_enabled_while_held_are_usage(rt: HostRuntime) {
     let bytes = b"trace e\ndisable t hard\nacquire t A\nenable t hard\nrelease t A\n";
     let first = [None, witness(0, 4), None, witness(0, 4)];
     let usage = [
         (b"A".as_slice(), Some((*b"+.+.", first))),
         (b"B".as_slice(), None),
     ];
-    expect_usage(&rt, rt.alloc(), bytes, &[0], &usage)
+    expect_usage(&rt, rt.alloc(), bytes, &[0], &usage);
 }
 
 #[test]
-fn frames_are_told_apart(rt: HostRuntime) -> Result<(), Fail> {
+fn frames_are_told_apart(rt: HostRuntime) {
     let bytes = b"trace i\nenter t soft\nacquire t S\nenter t hard\nacquire t H\nrelease t H\n\
         exit t hard\nrelease t S\nexit t soft\n";
     let outer = [None, witness(0, 3), witness(0, 3), None];
@@ -53,11 +51,11 @@ fn frames_are_told_apart(rt: HostRuntime) -> Result<(), Fail> {
         (b"S".as_slice(), Some((*b"+.-.", outer))),
         (b"H".as_slice(), Some((*b"-.-.", inner))),
     ];
-    expect_usage(&rt, rt.alloc(), bytes, &[0], &usage)
+    expect_usage(&rt, rt.alloc(), bytes, &[0], &usage);
 }
 
 #[test]
-fn the_least_witness_of_a_bit_stands_in_either_order(rt: HostRuntime) -> Result<(), Fail> {
+fn the_least_witness_of_a_bit_stands_in_either_order(rt: HostRuntime) {
     let bytes = b"trace a\nacquire t A\ntrace b\nacquire t A\nenter t hard\nacquire t B\n\
         release t B\nexit t hard\n";
     let held = [None, witness(0, 2), None, witness(0, 2)];
@@ -66,13 +64,13 @@ fn the_least_witness_of_a_bit_stands_in_either_order(rt: HostRuntime) -> Result<
         (b"A".as_slice(), Some((*b"+.+.", held))),
         (b"B".as_slice(), Some((*b"-...", handled))),
     ];
-    expect_usage(&rt, rt.alloc(), bytes, &[0, 1], &usage)?;
-    expect_usage(&rt, rt.alloc(), bytes, &[1, 0], &usage)
+    expect_usage(&rt, rt.alloc(), bytes, &[0, 1], &usage);
+    expect_usage(&rt, rt.alloc(), bytes, &[1, 0], &usage);
 }
 
 #[test]
-fn a_class_can_be_without_usage(rt: HostRuntime) -> Result<(), Fail> {
+fn a_class_can_be_without_usage(rt: HostRuntime) {
     let bytes = b"trace c\ndisable t hard\nacquire t A\nrelease t A\n";
     let usage = [(b"A".as_slice(), Some((*b"....", [None; 4])))];
-    expect_usage(&rt, rt.alloc(), bytes, &[0], &usage)
+    expect_usage(&rt, rt.alloc(), bytes, &[0], &usage);
 }

@@ -61,7 +61,7 @@ clean
 ";
 
 #[test]
-fn traces_may_arrive_in_any_order(rt: HostRuntime) -> Result<(), Fail> {
+fn traces_may_arrive_in_any_order(rt: HostRuntime) {
     for (stream, text, verdict) in [
         (APART, APART_REPORT, Verdict::Violations),
         (CIRCLE, CIRCLE_REPORT, Verdict::Violations),
@@ -75,23 +75,23 @@ fn traces_may_arrive_in_any_order(rt: HostRuntime) -> Result<(), Fail> {
             [2, 0, 1],
             [2, 1, 0],
         ] {
-            let book = book_of(&rt, rt.alloc(), stream, &order)?;
-            assert_eq!(rt; report(rt.alloc(), &book)?.as_slice(), text, "in {order:?}");
+            let book = book_of(&rt, rt.alloc(), stream, &order);
+            let told = report(rt.alloc(), &book).expect(&rt, "a report");
+            assert_eq!(rt; told.as_slice(), text, "in {order:?}");
             assert_eq!(rt; verdict_of(&book), verdict);
         }
     }
-    Ok(())
 }
 
 #[test]
-fn a_book_without_traces_is_clean(rt: HostRuntime) -> Result<(), Fail> {
+fn a_book_without_traces_is_clean(rt: HostRuntime) {
     let book = Book::new(rt.alloc());
+    let told = report(rt.alloc(), &book).expect(&rt, "a report");
     assert_eq!(rt;
-        report(rt.alloc(), &book)?.as_slice(),
+        told.as_slice(),
         b"traces 0 refused 0 events 0 classes 0 dependencies 0\nclean\n".as_slice()
     );
     assert_eq!(rt; verdict_of(&book), Verdict::Clean);
-    Ok(())
 }
 
 // Where memory is, a report of thousands of bytes is told as well as a short one.
@@ -108,26 +108,22 @@ fn a_long_report_is_told(rt: HostRuntime) -> Result<(), Fail> {
     }
     text.push_str("clean\n")?;
     let order: Vec<usize> = (0..100usize).rev().collect(rt.alloc())?;
-    let book = book_of(&rt, rt.alloc(), stream.as_bytes(), &order)?;
-    assert_eq!(rt; report(rt.alloc(), &book)?.as_slice(), text.as_bytes());
+    let book = book_of(&rt, rt.alloc(), stream.as_bytes(), &order);
+    let told = report(rt.alloc(), &book).expect(&rt, "a report");
+    assert_eq!(rt; told.as_slice(), text.as_bytes());
     Ok(())
 }
 
 /// The book of a stream whose traces come in this order.
-fn book_of<'a, R: Abort>(
-    rt: &R,
-    alloc: Global,
-    stream: &'a [u8],
-    order: &[usize],
-) -> Result<Book<'a>, Fail> {
-    let sources = split(alloc, stream)?;
+fn book_of<'a, R: Abort>(rt: &R, alloc: Global, stream: &'a [u8], order: &[usize]) -> Book<'a> {
+    let sources = split(alloc, stream).expect(rt, "the sources of a stream");
     let mut book = Book::new(alloc);
     for number in order {
         assert!(rt; *number < sources.len());
         let source = sources[*number];
         assert!(rt; source.fits());
-        let shown = facts(alloc, source)?;
+        let shown = facts(alloc, source).expect(rt, "the facts of a trace");
         assert!(rt; book.add(shown).is_ok());
     }
-    Ok(book)
+    book
 }

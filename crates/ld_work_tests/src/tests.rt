@@ -85,7 +85,8 @@ where
     let sources = sources_of(alloc, INVERSION)?;
     assert_eq!(rt; sources.len(), 2);
     let (ab, ba) = (sources[0], sources[1]);
-    let (desk, mut feeders) = Desk::<T, E>::new(alloc, traces, events, 2)?;
+    let made = Desk::<T, E>::new(alloc, traces, events, 2);
+    let (desk, mut feeders) = made.expect(rt, "a desk");
     let second = feeders.pop().expect(rt, "a second feeder");
     let first = feeders.pop().expect(rt, "a first feeder");
     let shared = &desk;
@@ -98,14 +99,15 @@ where
         traces: 1,
         events: 4,
     };
-    let (first, second) = (first?, second?);
+    let first = first.expect(rt, "the first feeder");
+    let second = second.expect(rt, "the second feeder");
     assert_eq!(rt; first.tally(), one);
     assert_eq!(rt; second.tally(), one);
-    feeders.push(first)?;
+    assert!(rt; feeders.push(first).is_ok());
     let back = desk.gather(feeders).err().expect(rt, "one feeder back");
     let Back { desk, mut feeders } = back;
     assert_eq!(rt; feeders.len(), 1);
-    feeders.push(second)?;
+    assert!(rt; feeders.push(second).is_ok());
     let all = desk.gather(feeders).ok().expect(rt, "both feeders");
     assert_eq!(rt; all.tally.traces, 2);
     assert_eq!(rt; all.tally.events, 8);

@@ -1,0 +1,277 @@
+"""From the events of a recording to the stream: what is kept, under which class, and what is not."""
+import re
+from collections import Counter
+
+from classes import SPECIAL_OF_TASK, escape, fitted
+from stream import Held, Task, forget
+from text import COLUMNS_INSIDE, EVENT, NMI, Contexts, Damaged, Header, fault, fault_at_end, quote
+
+MOST_PLACES = 500000  # remembered at once
+ADDRESS = re.compile(r'[0-9a-f]{8}(?:[0-9a-f]{8})?').fullmatch
+CALLER = re.compile(r'caller=\S+(?: \[\S+\])? parent=\S+(?: \[\S+\])?\n').fullmatch
+MODULE_SITE = re.compile(r'k=([0-9a-f]+) s=(\d+) t=([01]) r=([0-2]) c=([01]) n=([0-9a-f]+) '
+                         r'i=\S+(?: \[[^\s\]]+\])? (.+)\n').fullmatch
+STOCK_SITE = re.compile(r'(try )?(read )?(.+)\n').fullmatch
+
+
+class Site:
+    """What acquisitions with the same text after the lock's address have in common."""
+    __slots__ = ('verb', 'left_out', 'lock_class', 'subclass', 'text', 'nest')
+
+    def __init__(self, text, trylock, left_out, subclass=0, nest=None):
+        self.verb = 'try' if trylock else 'acquire'
+        self.left_out = left_out  # None, or why the stream doesn't have it
+        self.text = text          # the lock's name in the event
+        self.subclass = subclass
+        self.nest = nest          # the address of a lock under which many of a class may be held
+        self.lock_class = None    # None where the class is the lock's own address
+
+
+class Events:
+    """Takes the lines of a recording, and gives what they say to a stream."""
+
+    def __init__(self, stream, classes, split):
+        self.stream = stream
+        self.classes = classes
+        self.split = split      # recursions of a class into classes of their own
+        self.levels = {}        # such a class to the class that it was split from, and its level
+        self.header = Header()
+        self.contexts = Contexts()
+        self.width = 0          # of what stands before the time in a line
+        self.places = {}        # text before the time to task and context
+        self.tasks = {}         # by pid, or for the idle tasks by processor
+        self.sites = {}         # by the text of the event after the lock's address
+        self.instances = {}     # address to its shortest form
+        self.digits = None      # of each address, by the first one
+        self.texts = set()      # the rests of releases and irq events that were looked at
+        self.time = ''          # the latest, as text and as a number
+        self.seconds = 0.0
+        self.asides = 0         # lines that are no event's
+        self.counts = Counter()
+        self.kinds = set()      # whose lock events there are: the module's, or the kernel's own
+        self.handlers = {
+            'acquire': self.module_acquire, 'release': self.module_release,
+            'lock_acquire': self.stock_acquire, 'lock_release': self.stock_release,
+            'irq_enable': self.irq_enable, 'irq_disable': self.irq_disable}
+
+    def take(self, lines):
+        """Takes lines of the text, and gives way after each. Damaged where one can't be read."""
+        places, handlers, width = self.places, self.handlers, self.width
+        for line in lines:
+            place = places.get(line[:width])
+            if place is None:
+                yield from self.take_new(line)
+                width = self.width
+                continue
+            try:
+                time, event, rest = line[width:].split(': ', 2)
+            except ValueError:
+                time, event, rest = self.time, None, None
+            if time != self.time:
+                self.proceed(time, line)
+            handle = handlers.get(event)
+            task, context = place
+            if handle is None:
+                self.other(line)
+            elif context is NMI:
+                self.counts['in NMI'] += 1
+            else:
+                handle(task, context, rest)
+            yield
+
+    def take_new(self, line):
+        """Takes a line whose columns, up to its time, were not seen before."""
+        match = EVENT(line)
+        if match is None:
+            self.beside(line)
+            yield
+            return
+        comm, pid, processor, columns = match.groups()[:4]
+        if len(self.places) == MOST_PLACES:
+            self.places.clear()
+        self.width = match.end(4)
+        self.places[line[:self.width]] = self.task(comm, pid, processor), self.contexts[columns]
+        yield from self.take((line,))
+
+    def beside(self, line):
+        """A line that is no event's: of the header, or where events are missing."""
+        self.asides += 1
+        if self.header.read(line):
+            self.counts['losses'] += 1
+            self.stream.lose(self.tasks.values())
+
+    def proceed(self, time, line):
+        """The time of the lines goes on; it may not go back."""
+        try:
+            seconds = float(time)
+        except ValueError:
+            raise Damaged(fault(line)) from None
+        if not seconds >= self.seconds:
+            raise Damaged(f'time goes back from {self.time.strip()} to {time.strip()}: lines out of '
+                          'order, or a clock that processors do not share (trace_clock wants global)')
+        self.time, self.seconds = time, seconds
+
+    def other(self, line):
+        """An event of no interest, unless it is damaged or has the rest of another line in it."""
+        if EVENT(line) is None:
+            raise Damaged(fault(line))
+        if COLUMNS_INSIDE(line, self.width):
+            raise Damaged('two lines in one: bytes between them are missing')
+        self.counts['other events'] += 1
+
+    def task(self, comm, pid, processor):
+        """A task that is new, or the idle task of a processor."""
+        key = pid if pid != '0' else 'idle/%d' % int(processor)
+        task = self.tasks.get(key)
+        if task is None:
+            name = key if pid == '0' else escape(f'{comm.lstrip()}-{pid}', SPECIAL_OF_TASK)
+            task = self.tasks[key] = Task(name)
+        return task
+
+    def instance(self, address):
+        """The shortest form of an address, which is looked at when it is new."""
+        if not ADDRESS(address) or len(address) != (self.digits or len(address)):
+            hint = ' (boot with no_hash_pointers)' if 'ptrval' in address else ''
+            raise Damaged(f'no address of a lock: {quote(address)}{hint}')
+        self.digits = len(address)
+        short = self.instances[address] = address.lstrip('0') or '0'
+        return short
+
+    # Acquisitions
+
+    def module_acquire(self, task, context, rest):
+        address, _, tail = rest.partition(' ')
+        site = self.sites.get(tail) or self.module_site(tail)
+        if site.left_out:
+            self.leave_out(task, context, address, site.left_out)
+            return
+        lock_class = site.lock_class
+        if lock_class is None:  # a static lock's first acquisition
+            self.instance(address)
+            lock_class = self.classes.name(int(address, 16) + site.subclass, site.subclass, site.text)
+        verb = site.verb
+        if site.nest and is_nested(task, site.nest, lock_class):
+            verb = 'try'
+        self.keep(task, context, verb, address, lock_class)
+
+    def module_site(self, tail):
+        match = MODULE_SITE(tail)
+        if match is None or COLUMNS_INSIDE(tail):
+            raise Damaged(f'not what the module writes of an acquisition: {quote(tail)}')
+        key, subclass, trylock, read, check, nest, text = match.groups()
+        left_out = 'readers' if read != '0' else 'unchecked' if check == '0' else None
+        site = Site(text, trylock == '1', left_out, int(subclass), nest if int(nest, 16) else None)
+        if not left_out and int(key, 16):
+            site.lock_class = self.classes.name(int(key, 16), site.subclass, text)
+        self.sites[tail] = site
+        self.kinds.add('module')
+        return site
+
+    def stock_acquire(self, task, context, rest):
+        address, _, tail = rest.partition(' ')
+        site = self.sites.get(tail) or self.stock_site(tail)
+        if site.left_out:
+            self.leave_out(task, context, address, site.left_out)
+            return
+        lock_class = site.lock_class
+        if self.split and task.kept:
+            self.stream.observe(task, context)
+            lock_class = self.split_class(task, lock_class, address)
+        self.keep(task, context, site.verb, address, lock_class)
+
+    def stock_site(self, tail):
+        match = STOCK_SITE(tail)
+        if match is None or COLUMNS_INSIDE(tail):
+            raise Damaged(f'not what lock_acquire writes: {quote(tail)}')
+        trylock, read, text = match.groups()
+        site = self.sites[tail] = Site(text, trylock, 'readers' if read else None)
+        site.lock_class = fitted(escape(text))
+        self.kinds.add('stock')
+        return site
+
+    def split_class(self, task, lock_class, address):
+        """A class one level above every lock of the class that the present handler holds.
+
+        The class itself where there is none, or where the lock is one of them: then it is a recursion.
+        """
+        level = 0
+        for held in task.held:
+            base, its_level = self.levels.get(held.lock_class, (held.lock_class, 0))
+            if base == lock_class and held.depth == len(task.frames):
+                if held.address == address:
+                    return lock_class
+                level = max(level, its_level + 1)
+        if level == 0:
+            return lock_class
+        self.counts['split recursions'] += 1
+        name = fitted(f'{lock_class}!{level}')
+        self.levels[name] = lock_class, level
+        return name
+
+    def keep(self, task, context, verb, address, lock_class):
+        instance = self.instances.get(address) or self.instance(address)
+        self.stream.acquire(task, verb, Held(address, f'{lock_class}@{instance}', lock_class), context)
+
+    def leave_out(self, task, context, address, why):
+        """Remembers a lock that the stream doesn't have, so that its release is left out too."""
+        if address not in self.instances:
+            self.instance(address)
+        if task.kept:
+            self.stream.observe(task, context)
+        task.held.append(Held(address))
+        self.counts[why] += 1
+
+    # Releases, and flags of interrupts
+
+    def module_release(self, task, context, rest):
+        """Closes the task's latest acquisition of this address."""
+        address = rest[:-1]
+        for held in reversed(task.held):
+            if held.address == address:
+                break
+        else:
+            self.unseen(task, context, address)
+            return
+        if held.name is not None:
+            self.stream.release(task, held, context)
+            return
+        forget(task.held, held)
+        self.counts['released of these'] += 1
+        if task.kept:
+            self.stream.observe(task, context)
+
+    def stock_release(self, task, context, rest):
+        address, _, text = rest.partition(' ')
+        if text not in self.texts:
+            if not text.strip() or COLUMNS_INSIDE(text):
+                raise Damaged(f'not what lock_release writes: {quote(rest)}')
+            self.texts.add(text)
+        self.module_release(task, context, address + '\n')
+
+    def unseen(self, task, context, address):
+        """A release whose acquisition isn't in the recording."""
+        if address not in self.instances:
+            self.instance(address)
+        if task.kept:
+            self.stream.observe(task, context)
+        self.counts['unseen'] += 1
+
+    def irq_enable(self, task, context, rest):
+        """The columns show the state before it."""
+        self.irq_disable(task, context, rest)
+        if task.kept:
+            self.stream.enable_hard(task)
+
+    def irq_disable(self, task, context, rest):
+        if rest not in self.texts:
+            if not CALLER(rest):
+                raise Damaged(f'not what irq_enable and irq_disable write: {quote(rest)}')
+            self.texts.add(rest)
+        if task.kept:
+            self.stream.observe(task, context)
+
+
+def is_nested(task, nest, lock_class):
+    """Whether the task holds the lock that orders many of a class, and one of the class."""
+    return (any(held.address == nest for held in task.held)
+            and any(held.lock_class == lock_class for held in task.held))

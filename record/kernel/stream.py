@@ -1,0 +1,218 @@
+"""The stream of traces: tasks with their handlers, flags and held locks, and the lines about them.
+
+Whatever this writes is a trace without fault by the trace format: what an `enter` needs is enabled
+before it, a release stands in the handler that acquired, a handler ends with nothing held, and a new
+trace begins before a limit would be passed.
+"""
+from text import Damaged
+
+MOST_TASKS = 1024    # of one trace
+MOST_CLASSES = 8191  # of one trace
+MOST_HELD = 48       # of one task
+MOST_TRACES = 65535  # of one stream
+
+
+class Frame:
+    """A handler that runs over a task, or (of kind None) what runs outside any; and its flags."""
+    __slots__ = ('kind', 'hard', 'soft')
+
+    def __init__(self, kind, hard, soft):
+        self.kind = kind
+        self.hard = hard
+        self.soft = soft
+
+
+class Held:
+    """A lock that is held; one without a name is left out of the stream, its release too."""
+    __slots__ = ('address', 'name', 'lock_class', 'depth')
+
+    def __init__(self, address, name=None, lock_class=None):
+        self.address = address
+        self.name = name
+        self.lock_class = lock_class
+        self.depth = 0  # of the frame that acquired it: 1 outside handlers
+
+
+class Task:
+    """One task as the trace has it so far."""
+    __slots__ = ('name', 'trace', 'context', 'kinds', 'frames', 'held', 'kept')
+
+    def __init__(self, name):
+        self.name = name
+        self.trace = 0       # the number of the trace that it was last in
+        self.forget()
+
+    def forget(self):
+        """As a task is at the begin of a trace: outside handlers, both flags on, nothing held."""
+        self.context = None  # the one that frames and flags were last made to agree with
+        self.kinds = ()      # of the handlers that run, the outer one first
+        self.frames = [Frame(None, True, True)]
+        self.held = []
+        self.kept = 0        # how many of the held locks are in the stream
+
+
+def forget(locks, held):
+    """Takes a lock out of those held: mostly it is the last one."""
+    if locks[-1] is held:
+        locks.pop()
+    else:
+        locks.remove(held)
+
+
+class Stream:
+    """The lines of the stream, and the state that makes the next one right."""
+
+    def __init__(self, label):
+        self.label = label
+        self.lines = []       # not yet taken by the caller
+        self.trace = 0        # the number of the present trace, from 1
+        self.tasks = 0        # in the present trace
+        self.classes = set()  # of the present trace
+        self.left_held = 0    # locks that a handler still held when it ended
+        self.too_deep = 0     # acquisitions left out since the task held as many as a trace may
+        self.begin()
+
+    def begin(self):
+        """Begins a trace, unless the present one has no line yet."""
+        if self.trace and not self.tasks:
+            return
+        if self.trace == MOST_TRACES:
+            raise Damaged(f'a stream may not have more than {MOST_TRACES} traces')
+        self.trace += 1
+        self.tasks = 0
+        self.classes = set()
+        label = self.label if self.trace == 1 else f'{self.label}.{self.trace}'
+        self.lines.append(f'trace {label}\n')
+
+    def lose(self, tasks):
+        """Events are missing here: begins a trace in which no task holds or runs anything."""
+        for task in tasks:
+            task.forget()
+        self.begin()
+
+    # What happens to a task
+
+    def acquire(self, task, verb, held, context):
+        """Writes that a task acquired what `held` is, unless it holds too many locks already."""
+        if task.kept == MOST_HELD:
+            self.too_deep += 1
+            task.held.append(Held(held.address))
+            return
+        if task.trace != self.trace or held.lock_class not in self.classes:
+            self.admit(task, held.lock_class)
+        if task.context is not context:
+            self.settle(task, context)
+        held.depth = len(task.frames)
+        task.held.append(held)
+        task.kept += 1
+        self.lines.append(f'{verb} {task.name} {held.name}\n')
+
+    def release(self, task, held, context):
+        """Writes that a task released one of its locks, in the handler that acquired it."""
+        if task.trace != self.trace or task.context is not context:
+            self.observe(task, context)
+        while len(task.frames) > held.depth:
+            self.leave(task)
+            task.context = None
+        # A lock that a handler left held was written as released where the handler ended.
+        if held.name is not None:
+            task.kept -= 1
+            self.lines.append(f'release {task.name} {held.name}\n')
+        forget(task.held, held)
+
+    def observe(self, task, context):
+        """Writes how handlers and flags have changed up to this event of a task that holds locks."""
+        if task.trace != self.trace:
+            self.admit(task)
+        if task.context is not context:
+            self.settle(task, context)
+
+    def enable_hard(self, task):
+        """Writes that a task enables interrupts, which no event's columns need ever show."""
+        if task.frames[-1].kind != 'hard':
+            self.flag(task, 'hard', True)
+            task.context = None
+
+    # Handlers and flags
+
+    def settle(self, task, context):
+        """Makes the task's handlers and flags what an event's columns say."""
+        if task.kinds != context.kinds:
+            while task.kinds != context.kinds[:len(task.kinds)]:
+                self.leave(task)
+            for kind in context.kinds[len(task.kinds):]:
+                self.enter(task, kind)
+        frame = task.frames[-1]
+        # In a hard handler both flags are without effect; in a soft one softirqs stay disabled.
+        if frame.hard != context.hard and frame.kind != 'hard':
+            self.flag(task, 'hard', context.hard)
+        if frame.soft != context.soft and frame.kind is None:
+            self.flag(task, 'soft', context.soft)
+        task.context = context
+
+    def flag(self, task, state, value):
+        """Writes that a flag of the task changes, where it does."""
+        frame = task.frames[-1]
+        if getattr(frame, state) != value:
+            setattr(frame, state, value)
+            self.lines.append(f'{"enable" if value else "disable"} {task.name} {state}\n')
+
+    def enter(self, task, kind):
+        """A handler begins: what can't be while its interrupts are disabled, so they are enabled."""
+        self.flag(task, 'hard', True)
+        if kind == 'soft':
+            self.flag(task, 'soft', True)
+        outer = task.frames[-1]
+        task.frames.append(Frame(kind, kind != 'hard', outer.soft and kind != 'soft'))
+        task.kinds += (kind,)
+        self.lines.append(f'enter {task.name} {kind}\n')
+
+    def leave(self, task):
+        """The innermost handler ends; what it still holds is released, and left out from here on."""
+        depth = len(task.frames)
+        for held in reversed(task.held):
+            if held.depth == depth and held.name is not None:
+                self.left_held += 1
+                self.lines.append(f'release {task.name} {held.name}\n')
+                held.name = held.lock_class = None
+                task.kept -= 1
+        kind = task.frames.pop().kind
+        task.kinds = task.kinds[:-1]
+        self.lines.append(f'exit {task.name} {kind}\n')
+
+    # The limits of a trace
+
+    def admit(self, task, lock_class=None):
+        """Makes the task part of the present trace, or where it has no room left, of the next."""
+        if not self.has_room(task, lock_class):
+            self.begin()
+        if task.trace != self.trace:
+            task.trace = self.trace
+            self.tasks += 1
+            self.carry(task)
+        if lock_class is not None:
+            self.classes.add(lock_class)
+
+    def has_room(self, task, lock_class):
+        if task.trace == self.trace:
+            return len(self.classes) < MOST_CLASSES  # the class is new
+        wanted = {held.lock_class for held in task.held} | {lock_class}
+        wanted.discard(None)
+        return self.tasks < MOST_TASKS and len(self.classes | wanted) <= MOST_CLASSES
+
+    def carry(self, task):
+        """Takes over from an earlier trace what the task's handlers, flags and held locks are."""
+        frames = task.frames
+        task.frames, task.kinds = [Frame(None, True, True)], ()
+        if not task.kept:
+            task.context = None  # nothing is held: the next event's columns say the rest
+            return
+        for depth, frame in enumerate(frames, 1):
+            if depth > 1:
+                self.enter(task, frame.kind)
+            self.flag(task, 'hard', frame.hard)
+            self.flag(task, 'soft', frame.soft)
+            for held in task.held:
+                if held.depth == depth and held.name is not None:
+                    self.classes.add(held.lock_class)
+                    self.lines.append(f'try {task.name} {held.name}\n')

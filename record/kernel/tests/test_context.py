@@ -1,0 +1,242 @@
+"""Handlers, flags and the limits of a trace."""
+import unittest
+
+from texts import acquire, file_with, irq, line, release, run, stream
+
+A, B, C = 0x1000, 0x2000, 0x3000  # addresses of locks
+
+
+class Handlers(unittest.TestCase):
+
+    def at(self, columns):
+        """What a task's first acquisition writes under these columns."""
+        return stream(acquire('a', A, columns=columns))[:-1]
+
+    def test_none(self):
+        self.assertEqual(self.at('.....'), [])
+        self.assertEqual(self.at('.n.2f'), [])
+
+    def test_soft(self):
+        self.assertEqual(self.at('..s..'), ['enter t-1 soft'])
+
+    def test_hard(self):
+        self.assertEqual(self.at('d.h1.'), ['enter t-1 hard'])
+
+    def test_hard_over_soft(self):
+        self.assertEqual(self.at('d.H..'), ['enter t-1 soft', 'enter t-1 hard'])
+
+    def test_ends_before_the_next_event(self):
+        self.assertEqual(
+            stream(acquire('a', A, columns='d.H..'), release(A, columns='d.H..'), acquire('b', B)),
+            ['enter t-1 soft', 'enter t-1 hard', 'acquire t-1 a@1000', 'release t-1 a@1000',
+             'exit t-1 hard', 'exit t-1 soft', 'acquire t-1 b@2000'])
+
+    def test_hard_after_soft(self):
+        self.assertEqual(stream(acquire('a', A, columns='..s..'), release(A, columns='..s..'),
+                                acquire('b', B, columns='d.h..'))[3:],
+                         ['exit t-1 soft', 'enter t-1 hard', 'acquire t-1 b@2000'])
+
+    def test_soft_over_hard_is_hard_over_soft(self):
+        self.assertEqual(stream(acquire('a', A, columns='d.h..'), release(A, columns='d.h..'),
+                                acquire('b', B, columns='d.H..'))[3:],
+                         ['exit t-1 hard', 'enter t-1 soft', 'enter t-1 hard', 'acquire t-1 b@2000'])
+
+    def test_each_task_has_its_own(self):
+        self.assertEqual(stream(acquire('a', A, columns='d.h..'), acquire('b', B, task='u-2')),
+                         ['enter t-1 hard', 'acquire t-1 a@1000', 'acquire u-2 b@2000'])
+
+    def test_nmi_is_dropped_and_counted(self):
+        for columns in ('d.z..', 'd.Z..'):
+            with self.subTest(columns=columns):
+                result = run(acquire('a', A) + acquire('b', B, columns=columns) + release(B, columns=columns)
+                             + release(A))
+                self.assertEqual(result.stream[1:], ['acquire t-1 a@1000', 'release t-1 a@1000'])
+                self.assertIn('2 events in NMI context', result.errors)
+
+    def test_a_lock_that_a_handler_leaves_held_is_released_at_its_end(self):
+        result = run(acquire('a', A, columns='d.h..') + acquire('b', B) + release(A))
+        self.assertEqual(result.stream[1:], ['enter t-1 hard', 'acquire t-1 a@1000', 'release t-1 a@1000',
+                                             'exit t-1 hard', 'acquire t-1 b@2000'])
+        self.assertIn('1 locks were still held where a handler ended', result.errors)
+        self.assertIn('dropped: 0 releases', result.errors)
+
+    def test_a_release_in_a_handler_over_the_one_that_acquired_ends_the_handler(self):
+        self.assertEqual(
+            stream(acquire('a', A), acquire('b', B, columns='d.h..'), release(B, columns='d.h..'),
+                   release(A, columns='d.h..'), acquire('b', B, columns='d.h..')),
+            ['acquire t-1 a@1000', 'enter t-1 hard', 'acquire t-1 b@2000', 'release t-1 b@2000', 'exit t-1 hard',
+             'release t-1 a@1000', 'enter t-1 hard', 'acquire t-1 b@2000'])
+
+
+class Flags(unittest.TestCase):
+
+    def test_are_written_before_the_event(self):
+        self.assertEqual(stream(acquire('a', A, columns='d....'))[0], 'disable t-1 hard')
+        self.assertEqual(stream(acquire('a', A, columns='b....'))[0], 'disable t-1 soft')
+        self.assertEqual(stream(acquire('a', A, columns='D....'))[:2], ['disable t-1 hard', 'disable t-1 soft'])
+
+    def test_only_where_they_differ(self):
+        self.assertEqual(
+            stream(acquire('a', A, columns='d....'), acquire('b', B, columns='d....'),
+                   release(B, columns='b....'), release(A)),
+            ['disable t-1 hard', 'acquire t-1 a@1000', 'acquire t-1 b@2000', 'enable t-1 hard', 'disable t-1 soft',
+             'release t-1 b@2000', 'enable t-1 soft', 'release t-1 a@1000'])
+
+    def test_what_an_enter_needs_is_enabled_first(self):
+        self.assertEqual(
+            stream(acquire('a', A, columns='D....'), release(A, columns='D....'), acquire('b', B, columns='d.h..'))[4:],
+            ['enable t-1 hard', 'enter t-1 hard', 'acquire t-1 b@2000'])
+        self.assertEqual(
+            stream(acquire('a', A, columns='D....'), release(A, columns='D....'), acquire('b', B, columns='..s..'))[4:],
+            ['enable t-1 hard', 'enable t-1 soft', 'enter t-1 soft', 'acquire t-1 b@2000'])
+        self.assertEqual(
+            stream(acquire('a', A, columns='d.s..'), release(A, columns='d.s..'), acquire('b', B, columns='d.H..'))[4:],
+            ['enable t-1 hard', 'enter t-1 hard', 'acquire t-1 b@2000'])
+
+    def test_in_a_hard_handler_no_flag_is_written(self):
+        for columns in ('..h..', 'b.h..', 'D.h..'):
+            with self.subTest(columns=columns):
+                self.assertEqual(stream(acquire('a', A, columns='d.h..'), acquire('b', B, columns=columns))[2:],
+                                 ['acquire t-1 b@2000'])
+
+    def test_in_a_soft_handler_the_hard_flag_alone_is_written(self):
+        self.assertEqual(
+            stream(acquire('a', A, columns='b.s..'), acquire('b', B, columns='D.s..'), release(B, columns='..s..')),
+            ['enter t-1 soft', 'acquire t-1 a@1000', 'disable t-1 hard', 'acquire t-1 b@2000', 'enable t-1 hard',
+             'release t-1 b@2000'])
+
+    def test_are_again_after_a_handler_what_they_were_before(self):
+        self.assertEqual(
+            stream(acquire('a', A, columns='b....'), acquire('b', B, columns='D.h..'), release(B, columns='D.h..'),
+                   release(A, columns='b....'))[2:],
+            ['enter t-1 hard', 'acquire t-1 b@2000', 'release t-1 b@2000', 'exit t-1 hard', 'release t-1 a@1000'])
+
+    def test_an_event_that_is_left_out_shows_them_too_where_a_lock_is_held(self):
+        self.assertEqual(stream(acquire('a', A, columns='d....'), acquire('b', B, read=1), release(A))[2:],
+                         ['enable t-1 hard', 'release t-1 a@1000'])
+        self.assertEqual(stream(acquire('b', B, read=1, columns='d....'), acquire('a', A)), ['acquire t-1 a@1000'])
+
+
+class IrqEvents(unittest.TestCase):
+
+    def test_irq_enable_shows_the_state_before_it(self):
+        # Between two events that show interrupts disabled they were enabled, with the lock held.
+        self.assertEqual(
+            stream(acquire('a', A, columns='d....'), irq('irq_enable', columns='d....'),
+                   irq('irq_disable', columns='d....'), release(A, columns='d....')),
+            ['disable t-1 hard', 'acquire t-1 a@1000', 'enable t-1 hard', 'disable t-1 hard', 'release t-1 a@1000'])
+
+    def test_write_nothing_where_no_lock_is_held(self):
+        self.assertEqual(
+            stream(irq('irq_disable', columns='d....'), irq('irq_enable', columns='d....'), acquire('b', B, read=1),
+                   irq('irq_disable', columns='d....'), irq('irq_disable', columns='d.s..'), acquire('a', A)),
+            ['acquire t-1 a@1000'])
+
+    def test_no_enable_inside_a_hard_handler(self):
+        self.assertEqual(stream(acquire('a', A, columns='d.h..'), irq('irq_enable', columns='d.h..'))[2:], [])
+
+    def test_an_enable_inside_a_soft_handler(self):
+        self.assertEqual(stream(acquire('a', A, columns='d.s..'), irq('irq_enable', columns='d.s..'))[3:],
+                         ['enable t-1 hard'])
+
+    def test_show_handlers_where_a_lock_is_held(self):
+        self.assertEqual(stream(acquire('a', A), irq('irq_disable', columns='d.s..'), irq('irq_enable', columns='d....'))
+                         [1:], ['enter t-1 soft', 'disable t-1 hard', 'exit t-1 soft', 'disable t-1 hard',
+                                'enable t-1 hard'])
+
+
+class Limits(unittest.TestCase):
+
+    def test_a_trace_has_1024_tasks_at_most(self):
+        # The first task holds a lock in a soft handler with interrupts disabled, over one that it
+        # holds with softirqs enabled; the second task holds nothing.
+        lines = stream(acquire('a', A), acquire('b', B, columns='d.s..'),
+                       acquire('c', C, task='u-2'), release(C, task='u-2'),
+                       *[acquire('c', C, task='t-%d' % pid) for pid in range(3, 1026)],
+                       acquire('c', C, columns='d.s..'), acquire('a', A, task='u-2'), release(B, columns='d.s..'))
+        begin = lines.index('trace kernel.2')
+        self.assertEqual(len({text.split(' ')[1] for text in lines[:begin]}), 1024)
+        self.assertEqual(
+            lines[begin + 1:],
+            ['acquire t-1025 c@3000', 'try t-1 a@1000', 'enter t-1 soft', 'disable t-1 hard', 'try t-1 b@2000',
+             'acquire t-1 c@3000', 'acquire u-2 a@1000', 'release t-1 b@2000'])
+
+    def test_flags_go_over_before_the_locks(self):
+        lines = stream(acquire('a', A, columns='D....'),
+                       *[acquire('c', C, task='t-%d' % pid) for pid in range(2, 1026)],
+                       release(A, columns='D....'))
+        self.assertEqual(lines[-5:], ['acquire t-1025 c@3000', 'disable t-1 hard', 'disable t-1 soft',
+                                      'try t-1 a@1000', 'release t-1 a@1000'])
+
+    def test_a_trace_has_8191_classes_at_most(self):
+        lines = stream(acquire('a', A),
+                       *[text for key in range(8190)
+                         for text in (acquire('k%d' % key, B, key=0x100000 + key), release(B))],
+                       acquire('last', C))
+        begin = lines.index('trace kernel.2')
+        self.assertEqual(len({text.split(' ')[2] for text in lines[:begin]}), 8191)
+        self.assertEqual(lines[begin + 1:], ['try t-1 a@1000', 'acquire t-1 last@3000'])
+
+    def test_what_goes_over_counts_among_the_classes(self):
+        # A task with two classes comes back to a trace that has room for one of them.
+        other = [acquire('k%d' % key, C, key=0x100000 + key, task='u-2') + release(C, task='u-2')
+                 for key in range(8192)]
+        lines = stream(acquire('a', A), acquire('b', B), *other[:8190], *other[:8189], release(A))
+        self.assertEqual([text for text in lines if text.startswith('trace')], ['trace kernel.2', 'trace kernel.3'])
+        self.assertEqual(lines[-4:], ['trace kernel.3', 'try t-1 a@1000', 'try t-1 b@2000', 'release t-1 a@1000'])
+
+    def test_a_task_holds_48_locks_at_most(self):
+        result = run(''.join(acquire('a', 0x1000 + 16 * number) for number in range(50))
+                     + release(0x1000 + 16 * 49) + release(0x1000) + acquire('b', B))
+        self.assertEqual(len(result.stream), 1 + 48 + 2)
+        self.assertEqual(result.stream[-2:], ['release t-1 a@1000', 'acquire t-1 b@2000'])
+        self.assertIn('2 acquisitions by tasks that held 48 locks already were left out', result.errors)
+
+
+class Losses(unittest.TestCase):
+
+    def test_after_lost_events_nothing_is_held(self):
+        for loss in ('CPU:1 [LOST 12 EVENTS]\n', 'CPU:1 [LOST EVENTS]\n', '##### CPU 1 buffer started ####\n'):
+            with self.subTest(loss=loss):
+                result = run(acquire('a', A, columns='d.s..') + loss + release(A) + acquire('b', B), '--label', 'run')
+                self.assertEqual(result.stream, ['trace run', 'enter t-1 soft', 'disable t-1 hard', 'acquire t-1 a@1000',
+                                                 'trace run.2', 'acquire t-1 b@2000'])
+                self.assertIn('events are missing at 1 places', result.errors)
+                self.assertIn('dropped: 1 releases', result.errors)
+
+    def test_a_loss_before_the_first_event_begins_no_other_trace(self):
+        self.assertEqual(run('##### CPU 0 buffer started ####\n' + acquire('a', A)).stream,
+                         ['trace kernel', 'acquire t-1 a@1000'])
+
+    def test_dropped_events_end_the_stream(self):
+        stats = ('cpu0\nentries: 3\ndropped events: 0\ncpu1\nentries: 1\ndropped events: 7\n'
+                 'cpu2\noldest event ts:     1.000000\ndropped events: 5\n')
+        text = ''.join(acquire('a', 0x1000 + cpu, task='t-%d' % (cpu + 1), cpu=cpu) for cpu in (0, 1, 2, 2, 0, 1, 0))
+        with file_with(stats) as name:
+            result = run(text, '--stats', name)
+        # Processor 2 has its last line in line 4, and processor 1 in line 6.
+        self.assertEqual(len(result.stream), 1 + 4)
+        self.assertIn('12 events were dropped, by 2 processors: the stream stops at line 4', result.errors)
+
+    def test_without_dropped_events_the_stats_change_nothing(self):
+        with file_with('cpu0\nentries: 3\ndropped events: 0\n') as name:
+            self.assertEqual(stream(acquire('a', A), words=('--stats', name)), ['acquire t-1 a@1000'])
+
+
+class Map(unittest.TestCase):
+
+    def test_tells_the_input_line_of_each_output_line(self):
+        text = (acquire('a', A, columns='d....') + irq('irq_enable', columns='d....') + line('other: x')
+                + release(B) + release(A) + 'CPU:0 [LOST 1 EVENTS]\n' + acquire('b', B))
+        with file_with('') as name:
+            result = run(text, '--map', name)
+            with open(name) as file:
+                numbers = [int(number) for number in file]
+        self.assertEqual(
+            list(zip(numbers, result.stream)),
+            [(1, 'trace kernel'), (1, 'disable t-1 hard'), (1, 'acquire t-1 a@1000'), (2, 'enable t-1 hard'),
+             (5, 'release t-1 a@1000'), (6, 'trace kernel.2'), (7, 'acquire t-1 b@2000')])
+
+
+if __name__ == '__main__':
+    unittest.main()

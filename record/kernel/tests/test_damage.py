@@ -1,0 +1,170 @@
+"""Texts that can't be read: status 2, a message with the line's number, and nothing written."""
+import os
+import subprocess
+import tempfile
+import unittest
+
+from texts import FOLDER, HEADER, acquire, file_with, irq, line, release, run, stock
+
+A, B = 0x1000, 0x2000
+CONVERT = os.path.join(FOLDER, 'convert')
+GOOD = HEADER + acquire('a', A)  # the header has 12 lines
+
+
+class Refused(unittest.TestCase):
+
+    def refused(self, text, number, words):
+        """The text is refused at this line, in these words, and nothing is written."""
+        with tempfile.TemporaryDirectory() as folder:
+            result = run(text, '--map', os.path.join(folder, 'map'))
+            self.assertEqual(os.listdir(folder), [])
+        self.assertEqual((result.status, result.stream), (2, []), result.errors)
+        self.assertIn('convert: line %d: ' % number, result.errors)
+        self.assertIn(words, result.errors)
+
+    def test_cut_at_any_byte_of_the_last_line(self):
+        text = GOOD + acquire('b', B)
+        begin = len(GOOD)
+        for end in range(begin + 1, len(text)):
+            with self.subTest(end=end):
+                self.refused(text[:end], 14, 'cut')
+
+    def test_a_line_broken_at_any_byte(self):
+        lines = [acquire('two words', B), release(A), stock('acquire', A, 'a'), stock('release', A, 'a'),
+                 irq('irq_enable')]
+        for text in lines:
+            for place in range(1, len(text) - 1):
+                with self.subTest(text=text, place=place):
+                    result = run(GOOD + text[:place] + '\n' + text[place:])
+                    self.assertEqual((result.status, result.stream), (2, []))
+                    self.assertRegex(result.errors, 'line 1[45]: ')
+
+    def test_a_missing_end_of_a_line(self):
+        for text in (acquire('b', B), release(A), stock('acquire', B, 'b'), irq('irq_enable'), line('other: x')):
+            for length in range(1, len(text)):
+                with self.subTest(text=text[:length]):
+                    result = run(GOOD + text[:length] + release(B) + release(A))
+                    self.assertEqual((result.status, result.stream), (2, []))
+                    self.assertIn('line 14: ', result.errors)
+
+    def test_a_missing_part_of_an_address(self):
+        self.refused(GOOD + line('release: 00000000'), 14, 'no address of a lock')
+        self.refused(GOOD + acquire('b', B).replace('acquire: 0000', 'acquire: '), 14, 'no address of a lock')
+        self.refused(GOOD + line('lock_acquire: (____ptrval____) a'), 14, 'boot with no_hash_pointers')
+
+    def test_a_missing_part_of_an_event(self):
+        self.refused(GOOD + line('acquire: %016x k=0' % B), 14, 'the module')
+        self.refused(GOOD + line('lock_acquire: %016x ' % B), 14, 'lock_acquire')
+        self.refused(GOOD + line('lock_release: %016x ' % B), 14, 'lock_release')
+        self.refused(GOOD + line('irq_enable: caller=x'), 14, 'irq_enable')
+
+    def test_the_text_of_another_tracer(self):
+        self.refused('# tracer: function\n#\n' + line('schedule <-worker_thread'), 1, "tracer 'function'")
+        self.refused(line('schedule <-worker_thread'), 1, 'another tracer')
+        self.refused(' 0)   1.250 us    |  schedule();\n', 1, 'no line of a recording')
+        self.refused(GOOD + "t-1       0d.... 1us : schedule\n", 14, 'no line of a recording')
+
+    def test_no_column_of_flags(self):
+        self.refused(acquire('a', A).replace('] ..... ', '] '), 1, 'irq-info')
+
+    def test_a_column_of_another_width(self):
+        self.refused(acquire('a', A).replace(' ..... ', ' .... '), 1, 'flags of 4 characters')
+        self.refused(GOOD + acquire('a', A).replace(' ..... ', ' ...... '), 14, 'flags of 6 characters')
+
+    def test_flags_that_say_too_little(self):
+        self.refused(acquire('a', A, columns='X....'), 1, 'whether interrupts are enabled')
+        self.refused(HEADER.replace('irqs-off/BH-disabled', 'irqs-off'), 5, 'softirqs')
+
+    def test_flags_that_are_none(self):
+        for columns in ('q....', '..q..', '...q.', '....q'):
+            with self.subTest(columns=columns):
+                self.refused(acquire('a', A, columns=columns), 1, 'column of flags')
+
+    def test_lines_out_of_order(self):
+        self.refused(acquire('a', A, time=2.000001) + acquire('b', B, cpu=1, time=2.0), 2,
+                     'time goes back from 2.000001 to 2.000000')
+
+    def test_a_time_that_is_none(self):
+        self.refused(GOOD + acquire('b', B).replace('1.000000', '1.00x000'), 14, 'no line of a recording')
+        self.refused(GOOD + acquire('b', B).replace('1.000000', '     nan'), 14, 'time goes back')
+
+    def test_binary_garbage(self):
+        garbage = bytes(range(256)) * 4
+        for text in (garbage, GOOD.encode() + garbage + b'\n', b'\0' * 100 + b'\n'):
+            with self.subTest(text=text[:8]):
+                self.refused(text, 14 if text.startswith(b'#') else 1, '')
+
+    def test_an_empty_line(self):
+        self.refused(GOOD + '\n' + release(A), 14, 'empty line')
+
+    def test_nothing_was_recorded(self):
+        self.refused('', 1, 'empty')
+        self.refused(HEADER, 12, 'without an acquisition')
+        self.refused(HEADER + release(A), 13, 'without an acquisition')
+        self.refused(HEADER + line('sched_waking: comm=x'), 13, 'without an acquisition')
+
+    def test_both_kinds_of_lock_events(self):
+        self.refused(acquire('a', A) + stock('acquire', A, 'a'), 2, 'twice')
+
+
+class OtherFiles(unittest.TestCase):
+    """Files that options name, and words of the command line."""
+
+    def refused(self, words, *messages):
+        result = run(GOOD, *words)
+        self.assertEqual((result.status, result.stream), (2, []))
+        for message in messages:
+            self.assertIn(message, result.errors)
+
+    def test_lockdep_file(self):
+        for text in ('', 'all lock classes:\n', '0500 FD:    1 BD:    1 ....: a\nx\n', '0500 FD:    1 BD:  '):
+            with self.subTest(text=text), file_with(text) as name:
+                self.refused(('--lockdep', name), 'the file of --lockdep')
+        with file_with('0500 FD:    1 BD:    1 ....: a\nx\n') as name:
+            self.refused(('--lockdep', name), 'line 2')
+
+    def test_stats_file(self):
+        for text in ('', 'dropped events: 1\n', 'cpu0\nx\n', 'cpu0\ndropped events: 1'):
+            with self.subTest(text=text), file_with(text) as name:
+                self.refused(('--stats', name), 'the file of --stats')
+
+    def test_files_that_are_not_there(self):
+        for option in ('--lockdep', '--stats'):
+            with self.subTest(option=option):
+                self.refused((option, '/nowhere/file'), '/nowhere/file')
+        self.refused(('--map', '/nowhere/map'), '/nowhere/map')
+
+    def test_labels(self):
+        for label in ('', 'two words', 'x' * 59, 'é'):
+            with self.subTest(label=label):
+                self.refused(('--label', label), 'LABEL')
+        self.assertEqual(run(GOOD, '--label', 'x' * 58).status, 0)
+
+
+class Program(unittest.TestCase):
+    """The converter as a program of its own."""
+
+    def test_standard_input(self):
+        end = subprocess.run([CONVERT], input=GOOD.encode(), capture_output=True)
+        self.assertEqual((end.returncode, end.stdout), (0, b'trace kernel\nacquire t-1 a@1000\n'))
+
+    def test_dropped_events_want_a_file(self):
+        with file_with('cpu0\ndropped events: 1\n') as name:
+            end = subprocess.run([CONVERT, '--stats', name], input=GOOD.encode(), capture_output=True)
+        self.assertEqual((end.returncode, end.stdout), (2, b''))
+        self.assertIn(b'name its file', end.stderr)
+
+    def test_an_output_that_fails(self):
+        with open('/dev/full', 'wb') as full:
+            end = subprocess.run([CONVERT], input=GOOD.encode(), stdout=full, stderr=subprocess.PIPE)
+        self.assertEqual(end.returncode, 2)
+        self.assertIn(b'No space left', end.stderr)
+
+    def test_a_text_that_is_not_there(self):
+        end = subprocess.run([CONVERT, '/nowhere/trace'], capture_output=True)
+        self.assertEqual((end.returncode, end.stdout), (2, b''))
+        self.assertIn(b'/nowhere/trace', end.stderr)
+
+
+if __name__ == '__main__':
+    unittest.main()

@@ -1,0 +1,238 @@
+"""Which acquisitions and releases a stream has, and under which names."""
+import unittest
+import zlib
+
+from texts import HEADER, acquire, file_with, line, release, run, stock, stream
+
+A, B, C, N = 0x1000, 0x2000, 0x3000, 0x4000  # addresses of locks
+
+
+class Kept(unittest.TestCase):
+
+    def test_exclusive_acquisition_and_its_release(self):
+        self.assertEqual(stream(acquire('a', A), release(A)), ['acquire t-1 a@1000', 'release t-1 a@1000'])
+
+    def test_the_first_line_is_the_header_of_the_trace(self):
+        self.assertEqual(run(acquire('a', A)).stream[0], 'trace kernel')
+        self.assertEqual(run(acquire('a', A), '--label', 'run-7').stream[0], 'trace run-7')
+
+    def test_readers_and_their_releases_are_left_out(self):
+        for read in (1, 2):
+            with self.subTest(read=read):
+                result = run(acquire('a', A, read=read) + acquire('b', B) + release(B) + release(A))
+                self.assertEqual(result.stream[1:], ['acquire t-1 b@2000', 'release t-1 b@2000'])
+                self.assertIn('1 acquisitions by readers, 0 unchecked, and 1 releases of these', result.errors)
+                self.assertIn('dropped: 0 releases', result.errors)
+
+    def test_unchecked_acquisitions_and_their_releases_are_left_out(self):
+        result = run(acquire('a', A, check=0) + acquire('b', B) + release(A))
+        self.assertEqual(result.stream[1:], ['acquire t-1 b@2000'])
+        self.assertIn('0 acquisitions by readers, 1 unchecked, and 1 releases of these', result.errors)
+
+    def test_trylock_is_a_try(self):
+        self.assertEqual(stream(acquire('a', A, trylock=1)), ['try t-1 a@1000'])
+
+    def test_acquisition_that_fails_is_an_acquire_and_a_release(self):
+        self.assertEqual(stream(acquire('a', A), acquire('b', B), release(B), release(A)),
+                         ['acquire t-1 a@1000', 'acquire t-1 b@2000', 'release t-1 b@2000', 'release t-1 a@1000'])
+
+    def test_stock_events(self):
+        self.assertEqual(
+            stream(stock('acquire', A, 'a'), stock('acquire', B, 'b', 'try '), stock('acquire', C, 'c', 'read '),
+                   stock('acquire', N, 'c', 'try read '), stock('release', N, 'c'), stock('release', C, 'c'),
+                   stock('release', B, 'b'), stock('release', A, 'a')),
+            ['acquire t-1 a@1000', 'try t-1 b@2000', 'release t-1 b@2000', 'release t-1 a@1000'])
+
+
+class Nested(unittest.TestCase):
+    """A lock named by nest_lock orders the locks of a class that are held together."""
+
+    def outcome(self, *lines):
+        return stream(*lines, acquire('a', B, nest=N))[-1]
+
+    def test_nest_lock_held_and_one_of_the_class_held(self):
+        self.assertEqual(self.outcome(acquire('n', N), acquire('a', A)), 'try t-1 a@2000')
+
+    def test_nest_lock_held_by_a_reader(self):
+        self.assertEqual(self.outcome(acquire('n', N, read=1), acquire('a', A)), 'try t-1 a@2000')
+
+    def test_nest_lock_held_and_none_of_the_class(self):
+        self.assertEqual(self.outcome(acquire('n', N)), 'acquire t-1 a@2000')
+
+    def test_nest_lock_not_held(self):
+        self.assertEqual(self.outcome(acquire('a', A)), 'acquire t-1 a@2000')
+        self.assertEqual(self.outcome(acquire('n', N), acquire('a', A), release(N)), 'acquire t-1 a@2000')
+
+
+class Releases(unittest.TestCase):
+
+    def test_closes_the_latest_acquisition_of_the_address(self):
+        self.assertEqual(
+            stream(acquire('a', A, key=0x500), acquire('a', A, key=0x501, subclass=1), release(A), release(A)),
+            ['acquire t-1 a@1000', 'acquire t-1 a!1@1000', 'release t-1 a!1@1000', 'release t-1 a@1000'])
+
+    def test_closes_a_reader_where_that_came_last(self):
+        self.assertEqual(stream(acquire('a', A), acquire('a', A, read=2), release(A), acquire('b', B)),
+                         ['acquire t-1 a@1000', 'acquire t-1 b@2000'])
+
+    def test_goes_by_the_class_of_the_acquisition(self):
+        # A static lock's first acquisition shows no key, and the later ones the lock's address.
+        self.assertEqual(
+            stream(acquire('a', A, key=0), release(A), acquire('a', A, key=A), release(A)),
+            ['acquire t-1 a@1000', 'release t-1 a@1000', 'acquire t-1 a@1000', 'release t-1 a@1000'])
+        self.assertEqual(stream(stock('acquire', A, 'old'), stock('release', A, 'new')),
+                         ['acquire t-1 old@1000', 'release t-1 old@1000'])
+
+    def test_in_any_order(self):
+        self.assertEqual(stream(acquire('a', A), acquire('b', B), release(A), release(B))[2:],
+                         ['release t-1 a@1000', 'release t-1 b@2000'])
+
+    def test_never_seen_acquired(self):
+        result = run(release(A) + acquire('a', A, task='u-2') + release(A) + release(A, task='u-2'))
+        self.assertEqual(result.stream[1:], ['acquire u-2 a@1000', 'release u-2 a@1000'])
+        self.assertIn('dropped: 2 releases that were never seen acquired', result.errors)
+
+
+class Names(unittest.TestCase):
+
+    def name(self, text):
+        return stream(acquire(text, A))[0].split(' ', 2)[2]
+
+    def test_plain_bytes_stay(self):
+        self.assertEqual(self.name('(wq_completion)&(&x->lock)[i]~^'), '(wq_completion)&(&x->lock)[i]~^@1000')
+
+    def test_special_bytes(self):
+        self.assertEqual(self.name('a b@c/d%e!f#g\xe9\t'), 'a%20b%40c%2Fd%25e%21f%23g%E9%09@1000')
+
+    def test_name_of_64_bytes_stays(self):
+        self.assertEqual(self.name('n' * 64), 'n' * 64 + '@1000')
+
+    def test_longer_name_is_cut_and_has_a_checksum(self):
+        checksum = zlib.crc32(b'n' * 65)
+        self.assertEqual(self.name('n' * 65), 'n' * 55 + '~%08x@1000' % checksum)
+        self.assertNotEqual(self.name('n' * 65 + 'a'), self.name('n' * 65 + 'b'))
+        self.assertEqual(len(self.name('/' * 40)), 64 + len('@1000'))
+
+    def test_keys_of_one_name_are_numbered(self):
+        self.assertEqual(
+            stream(acquire('a', A, key=0x500), acquire('a', B, key=0x600), acquire('a', C, key=0x500)),
+            ['acquire t-1 a@1000', 'acquire t-1 a#2@2000', 'acquire t-1 a@3000'])
+
+    def test_subclasses(self):
+        # The key of a subclass is the key of the class and the number of the subclass.
+        self.assertEqual(
+            stream(acquire('a', A, key=0x500), acquire('a', B, key=0x601, subclass=1),
+                   acquire('a', C, key=0x501, subclass=1), acquire('a', N, key=0x600)),
+            ['acquire t-1 a@1000', 'acquire t-1 a#2!1@2000', 'acquire t-1 a!1@3000', 'acquire t-1 a#2@4000'])
+
+    def test_subclass_of_a_static_lock_that_has_no_key_yet(self):
+        self.assertEqual(
+            stream(acquire('a', A, key=0, subclass=1), release(A), acquire('a', A, key=A + 1, subclass=1), release(A),
+                   acquire('a', A, key=A))[::2],
+            ['acquire t-1 a!1@1000', 'acquire t-1 a!1@1000', 'acquire t-1 a@1000'])
+
+    def test_name_with_special_bytes_is_no_numbered_name(self):
+        self.assertEqual(stream(acquire('a', A, key=0x500), acquire('a', B, key=0x600), acquire('a#2', C, key=0x700)),
+                         ['acquire t-1 a@1000', 'acquire t-1 a#2@2000', 'acquire t-1 a%232@3000'])
+
+    def test_names_by_lockdep(self):
+        lockdep = '''\
+all lock classes:
+0000000000000500 FD:    1 BD:   12 ....: &a->lock#4
+
+0000000000000601 FD:  106 BD:    2 +.+.: &type->s_umount_key#2/1
+ -> [0000000000000500] &a->lock#4
+
+0000000000000700 OPS:      17 FD:    1 BD:    1 -.-.: two words
+0000000000000800: plain
+'''
+        with file_with(lockdep) as name:
+            result = run(acquire('a', A, key=0x500) + acquire('b', B, key=0x601, subclass=1)
+                         + acquire('c', C, key=0x700) + acquire('d', N, key=0x800)
+                         + acquire('plain', 0x5000, key=0x900), '--lockdep', name)
+        self.assertEqual([text.split(' ')[2] for text in result.stream[1:]],
+                         ['&a->lock#4@1000', '&type->s_umount_key#2!1@2000', 'two%20words@3000', 'plain@4000',
+                          'plain#2@5000'])
+        self.assertIn('1 classes are not in the file of --lockdep', result.errors)
+
+    def test_lockdep_never_gives_two_keys_one_name(self):
+        with file_with('0500 FD:    1 BD:    1 ....: a\n0600 FD:    1 BD:    1 ....: a\n') as name:
+            lines = stream(acquire('a', A, key=0x500), acquire('a', B, key=0x600), words=('--lockdep', name))
+        self.assertEqual(lines, ['acquire t-1 a@1000', 'acquire t-1 a#2@2000'])
+
+    def test_tasks(self):
+        self.assertEqual(
+            stream(acquire('a', A, task='kworker/0:1-8'), release(A, task='renamed-8'),
+                   acquire('a', A, task='two words-9'), acquire('a', B, task='x-1] [000]-10'),
+                   acquire('a', C, task='<...>-4194304')),
+            ['acquire kworker/0:1-8 a@1000', 'release kworker/0:1-8 a@1000', 'acquire two%20words-9 a@1000',
+             'acquire x-1]%20[000]-10 a@2000', 'acquire <...>-4194304 a@3000'])
+
+    def test_idle_tasks_are_one_for_each_processor(self):
+        self.assertEqual(
+            stream(acquire('a', A, task='<idle>-0', cpu=0), acquire('a', B, task='<idle>-0', cpu=12),
+                   release(A, task='<idle>-0', cpu=0)),
+            ['acquire idle/0 a@1000', 'acquire idle/12 a@2000', 'release idle/0 a@1000'])
+
+    def test_addresses_are_written_short(self):
+        self.assertEqual(stream(acquire('a', 0xffff888012345678)), ['acquire t-1 a@ffff888012345678'])
+
+
+class SplitRecursion(unittest.TestCase):
+
+    def split(self, *lines):
+        return stream(*lines, words=('--split-recursion',))
+
+    def test_another_instance_of_the_class_gets_a_class_by_its_level(self):
+        self.assertEqual(
+            self.split(stock('acquire', A, 'a'), stock('acquire', B, 'a'), stock('acquire', C, 'a', 'try '),
+                       stock('release', B, 'a')),
+            ['acquire t-1 a@1000', 'acquire t-1 a!1@2000', 'try t-1 a!2@3000', 'release t-1 a!1@2000'])
+
+    def test_a_level_is_above_every_one_that_is_held(self):
+        self.assertEqual(
+            self.split(stock('acquire', A, 'a'), stock('acquire', B, 'a'), stock('release', A, 'a'),
+                       stock('acquire', C, 'a'))[-1], 'acquire t-1 a!2@3000')
+
+    def test_the_same_instance_stays_a_recursion(self):
+        self.assertEqual(self.split(stock('acquire', A, 'a'), stock('acquire', A, 'a'))[-1], 'acquire t-1 a@1000')
+
+    def test_other_classes_and_other_handlers_stay(self):
+        self.assertEqual(
+            self.split(stock('acquire', A, 'a'), stock('acquire', B, 'b'), stock('acquire', C, 'a', columns='d.h..')),
+            ['acquire t-1 a@1000', 'acquire t-1 b@2000', 'enter t-1 hard', 'acquire t-1 a@3000'])
+
+    def test_it_says_what_it_hides(self):
+        text = stock('acquire', A, 'a') + stock('acquire', B, 'a')
+        self.assertIn('1 acquisitions under another lock of their class became a class of their own; a real recursion '
+                      'between two locks of one class is hidden', run(text, '--split-recursion').errors)
+
+    def test_without_it_the_classes_are_the_names(self):
+        result = run(stock('acquire', A, 'a') + stock('acquire', B, 'a'))
+        self.assertEqual(result.stream[1:], ['acquire t-1 a@1000', 'acquire t-1 a@2000'])
+        self.assertIn('locks of one name count as one class', result.errors)
+
+    def test_it_leaves_the_events_of_the_module_alone(self):
+        result = run(acquire('a', A) + acquire('a', B), '--split-recursion')
+        self.assertEqual(result.stream[1:], ['acquire t-1 a@1000', 'acquire t-1 a@2000'])
+        self.assertIn('--split-recursion has no effect', result.errors)
+
+
+class OtherLines(unittest.TestCase):
+
+    def test_other_events_are_counted(self):
+        result = run(HEADER + line('sched_waking: comm=x pid=1') + acquire('a', A)
+                     + line('tracing_mark_write: ' + 'a: b') + line('<stack trace>') + ' => schedule\n')
+        self.assertEqual(result.stream[1:], ['acquire t-1 a@1000'])
+        self.assertIn('3 other events', result.errors)
+
+    def test_column_of_the_thread_group(self):
+        text = acquire('a', A).replace(' [000]', ' (     12) [000]')
+        self.assertEqual(stream(text), ['acquire t-1 a@1000'])
+
+    def test_a_header_that_tells_of_more_events(self):
+        self.assertIn("header tells of 2 events, and 1 were read", run(HEADER + acquire('a', A)).errors)
+
+
+if __name__ == '__main__':
+    unittest.main()

@@ -1,0 +1,123 @@
+"""The recording script, over a folder of plain files in the place of tracefs."""
+import os
+import shutil
+import subprocess
+import tempfile
+import unittest
+
+from texts import FOLDER
+
+RECORD = os.path.join(FOLDER, 'record')
+FILES = ('trace', 'tracing_on', 'current_tracer', 'set_event', 'trace_clock', 'saved_cmdlines_size', 'buffer_size_kb',
+         'options/overwrite', 'options/irq-info', 'options/context-info', 'options/hash-ptr', 'options/latency-format')
+STOCK = ('lock/lock_acquire', 'lock/lock_release')
+MODULE = ('lockcheck/acquire', 'lockcheck/release')
+IRQ = ('preemptirq/irq_enable', 'preemptirq/irq_disable')
+
+
+class Record(unittest.TestCase):
+
+    def setUp(self):
+        self.folder = tempfile.mkdtemp()
+        self.addCleanup(shutil.rmtree, self.folder)
+        for name in FILES:
+            self.write('tracefs/' + name, 'old\n')
+
+    def write(self, name, text):
+        path = os.path.join(self.folder, name)
+        os.makedirs(os.path.dirname(path), exist_ok=True)
+        with open(path, 'w') as file:
+            file.write(text)
+
+    def read(self, name):
+        with open(os.path.join(self.folder, name)) as file:
+            return file.read()
+
+    def events(self, *names):
+        for name in names:
+            self.write('tracefs/events/%s/enable' % name, '0\n')
+
+    def record(self, *words):
+        end = subprocess.run(
+            [RECORD, *words], capture_output=True, text=True,
+            env={**os.environ, 'TRACEFS': self.folder + '/tracefs', 'PROC': self.folder + '/proc'})
+        return end.returncode, end.stderr
+
+    def enabled(self):
+        return {name for name in (*STOCK, *MODULE, *IRQ)
+                if os.path.exists('%s/tracefs/events/%s/enable' % (self.folder, name))
+                and self.read('tracefs/events/%s/enable' % name) == '1\n'}
+
+    def test_start_prepares_the_ring_and_begins(self):
+        self.events(*STOCK, *IRQ)
+        status, said = self.record('start', '123')
+        self.assertEqual(status, 0)
+        for name, text in (('options/overwrite', '0'), ('options/irq-info', '1'), ('trace_clock', 'global'),
+                           ('saved_cmdlines_size', '4096'), ('buffer_size_kb', '123'), ('current_tracer', 'nop'),
+                           ('tracing_on', '1'), ('trace', ''), ('options/hash-ptr', 'old')):
+            with self.subTest(name=name):
+                self.assertEqual(self.read('tracefs/' + name), text + '\n')
+        self.assertEqual(self.enabled(), {*STOCK, *IRQ})
+        self.assertIn('locks of one name count as one class', said)
+
+    def test_start_takes_the_events_of_the_module_where_it_is_loaded(self):
+        self.events(*STOCK, *MODULE, *IRQ)
+        status, said = self.record('start')
+        self.assertEqual((status, self.enabled()), (0, {*MODULE, *IRQ}))
+        self.assertIn('each acquisition shows its lockdep class', said)
+
+    def test_start_says_what_the_kernel_has_not(self):
+        status, said = self.record('start')
+        self.assertEqual(status, 2)
+        for option in ('CONFIG_LOCKDEP', 'CONFIG_PROVE_LOCKING', 'CONFIG_LOCK_STAT', 'CONFIG_DEBUG_LOCK_ALLOC'):
+            self.assertIn(option, said)
+        self.events(*STOCK)
+        status, said = self.record('start')
+        self.assertEqual(status, 0)
+        self.assertIn('no irq events', said)
+        self.assertIn('/proc/lockdep', said)
+
+    def test_start_without_tracefs(self):
+        os.remove(self.folder + '/tracefs/trace')
+        status, said = self.record('start')
+        self.assertEqual(status, 2)
+        self.assertIn('no tracefs', said)
+
+    def stop(self, dropped):
+        self.write('tracefs/trace', 'the text\n')
+        for cpu in (0, 1):
+            self.write('tracefs/per_cpu/cpu%d/stats' % cpu, 'entries: 1\ndropped events: %d\n' % dropped)
+        self.write('proc/lockdep', 'all lock classes:\n')
+        return self.record('stop', self.folder + '/out')
+
+    def test_stop_writes_the_recording(self):
+        status, said = self.stop(0)
+        self.assertEqual(status, 0)
+        self.assertEqual(self.read('tracefs/tracing_on'), '0\n')
+        self.assertEqual(self.read('out/trace'), 'the text\n')
+        self.assertEqual(self.read('out/stats'),
+                         'cpu0\nentries: 1\ndropped events: 0\ncpu1\nentries: 1\ndropped events: 0\n')
+        self.assertEqual(self.read('out/lockdep'), 'all lock classes:\n')
+        self.assertNotIn('dropped', said)
+
+    def test_stop_says_that_events_were_dropped(self):
+        status, said = self.stop(4)
+        self.assertEqual(status, 0)
+        self.assertIn('8 events were dropped', said)
+
+    def test_stop_overwrites_no_recording(self):
+        self.write('out/trace', 'another\n')
+        status, said = self.stop(0)
+        self.assertEqual((status, self.read('out/trace')), (2, 'another\n'))
+        self.assertIn('another folder', said)
+
+    def test_other_words(self):
+        for words in ((), ('begin',), ('start', 'x'), ('start', '1', '2'), ('stop',), ('stop', ''), ('stop', 'a', 'b')):
+            with self.subTest(words=words):
+                status, said = self.record(*words)
+                self.assertEqual(status, 2)
+                self.assertIn('usage', said)
+
+
+if __name__ == '__main__':
+    unittest.main()

@@ -1,0 +1,136 @@
+/* Writes the records. */
+#define _GNU_SOURCE
+#include <string.h>
+
+#include "recorder.h"
+
+/* The locks that were told: an address whose place here holds another one is told again. */
+#define KNOWN_PLACES 65536
+static uint64_t known[KNOWN_PLACES];
+
+static uint64_t *place_of(uint64_t lock)
+{
+    return &known[lock * UINT64_C(0x9e3779b97f4a7c15) >> 48];
+}
+
+static bool can_record(void)
+{
+    struct life *now = __atomic_load_n(&life, __ATOMIC_ACQUIRE);
+    uint64_t state = now ? __atomic_load_n(&now->state, __ATOMIC_ACQUIRE) : STATE_NEW;
+    if (state == STATE_OFF)
+        return false;
+    if (state == STATE_RECORDING && self.generation == now->generation)
+        return true;
+    return begin();
+}
+
+/* `inside` is seen by a signal handler on this thread, so its writes stay where they stand. */
+static bool enter(void)
+{
+    if (!can_record())
+        return false;
+    self.inside++;
+    __atomic_signal_fence(__ATOMIC_SEQ_CST);
+    return true;
+}
+
+static void leave(void)
+{
+    __atomic_signal_fence(__ATOMIC_SEQ_CST);
+    self.inside--;
+}
+
+static void finish(struct unit *first, enum operation operation, unsigned following, uint64_t value)
+{
+    uint64_t number = __atomic_fetch_add(&life->numbers, 1, __ATOMIC_ACQ_REL);
+    self.last_number = number + 1;
+    first->value = value;
+    __atomic_store_n(&first->head, HEAD_OF(operation, following, number), __ATOMIC_RELEASE);
+}
+
+static void write_module(uint64_t address)
+{
+    uint64_t range[3];
+    const char *path;
+    if (!must_tell_module(address, range, &path))
+        return;
+    size_t length = strlen(path);
+    size_t most = 250 * sizeof(struct unit);
+    if (length > most)
+        length = most;
+    /* One more byte, so that the path ends in 0: the file's units are 0 before they are written. */
+    unsigned path_units = (unsigned)(length / sizeof(struct unit)) + 1;
+    struct unit *first = take_units(2 + path_units);
+    if (!first)
+        return;
+    first[1] = (struct unit){range[1], range[2]};
+    memcpy(&first[2], path, length);
+    finish(first, RECORD_MODULE, 1 + path_units, range[0]);
+}
+
+/* Writes a record on a lock with the calls that led to it. A lock of a module, which wasn't
+   initialised by a call, is named by itself. */
+static void write_place(enum operation operation, uint64_t lock)
+{
+    uint64_t places[MOST_DEPTH + 1] = {0};
+    unsigned count = 0;
+    if (operation == RECORD_FIRST && is_in_module(lock))
+        write_module(lock);
+    else
+        count = callers(places, depth);
+    for (unsigned caller = 0; caller < count; caller++)
+        write_module(places[caller]);
+    unsigned following = (count + 1) / 2;
+    struct unit *first = take_units(1 + following);
+    if (!first)
+        return;
+    memcpy(&first[1], places, following * sizeof *first);
+    finish(first, operation, following, lock);
+}
+
+static void write_one(enum operation operation, uint64_t lock)
+{
+    struct unit *unit = take_units(1);
+    if (unit)
+        finish(unit, operation, 0, lock);
+}
+
+void record(enum operation operation, const void *lock)
+{
+    if (!enter())
+        return;
+    write_one(operation, (uint64_t)lock);
+    leave();
+}
+
+void record_init(const void *lock)
+{
+    if (!enter())
+        return;
+    write_place(RECORD_INIT, (uint64_t)lock);
+    __atomic_store_n(place_of((uint64_t)lock), (uint64_t)lock, __ATOMIC_RELAXED);
+    leave();
+}
+
+void record_destroy(const void *lock)
+{
+    if (!enter())
+        return;
+    uint64_t told = (uint64_t)lock;
+    __atomic_compare_exchange_n(place_of(told), &told, 0, false, __ATOMIC_RELAXED, __ATOMIC_RELAXED);
+    write_one(RECORD_DESTROY, (uint64_t)lock);
+    leave();
+}
+
+void record_got(enum operation operation, const void *lock)
+{
+    if (!enter())
+        return;
+    uint64_t *place = place_of((uint64_t)lock);
+    if (__atomic_load_n(place, __ATOMIC_RELAXED) != (uint64_t)lock) {
+        write_place(RECORD_FIRST, (uint64_t)lock);
+        __atomic_store_n(place, (uint64_t)lock, __ATOMIC_RELAXED);
+    }
+    write_one(operation, (uint64_t)lock);
+    leave();
+}

@@ -1,0 +1,186 @@
+/* Mutexes of pthread and of C11, and the waits on conditions that give them back. */
+#define _GNU_SOURCE
+#include <errno.h>
+#include <pthread.h>
+#include <threads.h>
+
+#include "next.h"
+#include "recorder.h"
+
+/* A robust mutex whose owner died is held all the same. */
+static int got(enum operation operation, const void *lock, int answer)
+{
+    if (answer == 0 || answer == EOWNERDEAD)
+        record_got(operation, lock);
+    return answer;
+}
+
+EXPORTED int pthread_mutex_init(pthread_mutex_t *mutex, const pthread_mutexattr_t *attributes)
+{
+    int answer = NEXT(pthread_mutex_init)(mutex, attributes);
+    if (answer == 0)
+        record_init(mutex);
+    return answer;
+}
+
+EXPORTED int pthread_mutex_destroy(pthread_mutex_t *mutex)
+{
+    int answer = NEXT(pthread_mutex_destroy)(mutex);
+    if (answer == 0)
+        record_destroy(mutex);
+    return answer;
+}
+
+EXPORTED int pthread_mutex_lock(pthread_mutex_t *mutex)
+{
+    return got(RECORD_ACQUIRE, mutex, NEXT(pthread_mutex_lock)(mutex));
+}
+
+EXPORTED int pthread_mutex_trylock(pthread_mutex_t *mutex)
+{
+    return got(RECORD_TRY, mutex, NEXT(pthread_mutex_trylock)(mutex));
+}
+
+EXPORTED int pthread_mutex_timedlock(pthread_mutex_t *mutex, const struct timespec *until)
+{
+    return got(RECORD_ACQUIRE, mutex, NEXT(pthread_mutex_timedlock)(mutex, until));
+}
+
+EXPORTED int pthread_mutex_clocklock(pthread_mutex_t *mutex, clockid_t clock,
+                                     const struct timespec *until)
+{
+    return got(RECORD_ACQUIRE, mutex, NEXT(pthread_mutex_clocklock)(mutex, clock, until));
+}
+
+EXPORTED int pthread_mutex_unlock(pthread_mutex_t *mutex)
+{
+    record(RECORD_RELEASE, mutex);
+    int answer = NEXT(pthread_mutex_unlock)(mutex);
+    if (answer != 0)
+        record(RECORD_UNDO, mutex);
+    return answer;
+}
+
+/* A thread that is cancelled while it waits has the mutex again when its cleanup begins. */
+static void cancelled(void *mutex)
+{
+    record_got(RECORD_ACQUIRE, mutex);
+}
+
+/* After a wait, in whatever way it ended, the mutex is held again, unless it can't be recovered; where
+   the call was refused it never was given back. */
+static int waited(const void *mutex, int answer)
+{
+    if (answer == EPERM || answer == EINVAL)
+        record(RECORD_UNDO, mutex);
+    else if (answer != ENOTRECOVERABLE)
+        record_got(RECORD_ACQUIRE, mutex);
+    return answer;
+}
+
+EXPORTED int pthread_cond_wait(pthread_cond_t *condition, pthread_mutex_t *mutex)
+{
+    int answer;
+    record(RECORD_RELEASE, mutex);
+    pthread_cleanup_push(cancelled, mutex);
+    answer = NEXT(pthread_cond_wait)(condition, mutex);
+    pthread_cleanup_pop(0);
+    return waited(mutex, answer);
+}
+
+EXPORTED int pthread_cond_timedwait(pthread_cond_t *condition, pthread_mutex_t *mutex,
+                                    const struct timespec *until)
+{
+    int answer;
+    record(RECORD_RELEASE, mutex);
+    pthread_cleanup_push(cancelled, mutex);
+    answer = NEXT(pthread_cond_timedwait)(condition, mutex, until);
+    pthread_cleanup_pop(0);
+    return waited(mutex, answer);
+}
+
+EXPORTED int pthread_cond_clockwait(pthread_cond_t *condition, pthread_mutex_t *mutex,
+                                    clockid_t clock, const struct timespec *until)
+{
+    int answer;
+    record(RECORD_RELEASE, mutex);
+    pthread_cleanup_push(cancelled, mutex);
+    answer = NEXT(pthread_cond_clockwait)(condition, mutex, clock, until);
+    pthread_cleanup_pop(0);
+    return waited(mutex, answer);
+}
+
+EXPORTED int mtx_init(mtx_t *mutex, int type)
+{
+    int answer = NEXT(mtx_init)(mutex, type);
+    if (answer == thrd_success)
+        record_init(mutex);
+    return answer;
+}
+
+EXPORTED void mtx_destroy(mtx_t *mutex)
+{
+    NEXT(mtx_destroy)(mutex);
+    record_destroy(mutex);
+}
+
+static int got_c11(enum operation operation, const void *mutex, int answer)
+{
+    if (answer == thrd_success)
+        record_got(operation, mutex);
+    return answer;
+}
+
+EXPORTED int mtx_lock(mtx_t *mutex)
+{
+    return got_c11(RECORD_ACQUIRE, mutex, NEXT(mtx_lock)(mutex));
+}
+
+EXPORTED int mtx_trylock(mtx_t *mutex)
+{
+    return got_c11(RECORD_TRY, mutex, NEXT(mtx_trylock)(mutex));
+}
+
+EXPORTED int mtx_timedlock(mtx_t *restrict mutex, const struct timespec *restrict until)
+{
+    return got_c11(RECORD_ACQUIRE, mutex, NEXT(mtx_timedlock)(mutex, until));
+}
+
+EXPORTED int mtx_unlock(mtx_t *mutex)
+{
+    record(RECORD_RELEASE, mutex);
+    int answer = NEXT(mtx_unlock)(mutex);
+    if (answer != thrd_success)
+        record(RECORD_UNDO, mutex);
+    return answer;
+}
+
+static int waited_c11(const void *mutex, int answer)
+{
+    if (answer == thrd_success || answer == thrd_timedout)
+        record_got(RECORD_ACQUIRE, mutex);
+    else
+        record(RECORD_UNDO, mutex);
+    return answer;
+}
+
+EXPORTED int cnd_wait(cnd_t *condition, mtx_t *mutex)
+{
+    int answer;
+    record(RECORD_RELEASE, mutex);
+    pthread_cleanup_push(cancelled, mutex);
+    answer = NEXT(cnd_wait)(condition, mutex);
+    pthread_cleanup_pop(0);
+    return waited_c11(mutex, answer);
+}
+
+EXPORTED int cnd_timedwait(cnd_t *restrict condition, mtx_t *restrict mutex,
+                           const struct timespec *restrict until)
+{
+    int answer;
+    record(RECORD_RELEASE, mutex);
+    pthread_cleanup_push(cancelled, mutex);
+    answer = NEXT(cnd_timedwait)(condition, mutex, until);
+    pthread_cleanup_pop(0);
+    return waited_c11(mutex, answer);
+}

@@ -1,0 +1,47 @@
+/* The calls as libc has them. NEXT(pthread_mutex_lock)(mutex) is libc's own pthread_mutex_lock. */
+#ifndef NEXT_H
+#define NEXT_H
+
+#define NEXT_CALLS(each)            \
+    each(pthread_mutex_init)        \
+    each(pthread_mutex_destroy)     \
+    each(pthread_mutex_lock)        \
+    each(pthread_mutex_trylock)     \
+    each(pthread_mutex_timedlock)   \
+    each(pthread_mutex_clocklock)   \
+    each(pthread_mutex_unlock)      \
+    each(pthread_cond_wait)         \
+    each(pthread_cond_timedwait)    \
+    each(pthread_cond_clockwait)    \
+    each(pthread_spin_init)         \
+    each(pthread_spin_destroy)      \
+    each(pthread_spin_lock)         \
+    each(pthread_spin_trylock)      \
+    each(pthread_spin_unlock)       \
+    each(pthread_rwlock_init)       \
+    each(pthread_rwlock_destroy)    \
+    each(pthread_rwlock_wrlock)     \
+    each(pthread_rwlock_trywrlock)  \
+    each(pthread_rwlock_timedwrlock) \
+    each(pthread_rwlock_clockwrlock) \
+    each(pthread_rwlock_unlock)     \
+    each(mtx_init)                  \
+    each(mtx_destroy)               \
+    each(mtx_lock)                  \
+    each(mtx_trylock)               \
+    each(mtx_timedlock)             \
+    each(mtx_unlock)                \
+    each(cnd_wait)                  \
+    each(cnd_timedwait)
+
+enum next {
+#define NUMBER(call) NEXT_##call,
+    NEXT_CALLS(NUMBER)
+#undef NUMBER
+};
+
+void *next_call(enum next which);
+
+#define NEXT(call) ((__typeof__(&call))next_call(NEXT_##call))
+
+#endif

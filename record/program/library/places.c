@@ -1,0 +1,90 @@
+/* Which calls led to a place in the program, and the modules in which they are. Nothing here takes a
+   lock or memory: the loader's table of modules is read without one. */
+#define _GNU_SOURCE
+#include <dlfcn.h>
+#include <link.h>
+#include <string.h>
+#include <unistd.h>
+#include <unwind.h>
+
+#include "recorder.h"
+
+/* The modules that were told; one whose place here holds another is told again. */
+#define TOLD_PLACES 1024
+struct told {
+    uint64_t start;
+    uint64_t end_and_map;
+};
+static struct told told[TOLD_PLACES];
+
+static char program[2048];
+static struct dl_find_object own;
+
+const char *program_path(void)
+{
+    return program;
+}
+
+void find_own_place(void)
+{
+    memset(told, 0, sizeof told);
+    if (own.dlfo_map_start)
+        return;
+    ssize_t length = readlink("/proc/self/exe", program, sizeof program - 1);
+    program[length > 0 ? length : 0] = 0;
+    _dl_find_object((void *)find_own_place, &own);
+}
+
+struct walk {
+    uint64_t *places;
+    unsigned count;
+    unsigned most;
+};
+
+static _Unwind_Reason_Code step(struct _Unwind_Context *context, void *argument)
+{
+    struct walk *walk = argument;
+    uint64_t place = _Unwind_GetIP(context);
+    if (place >= (uint64_t)own.dlfo_map_start && place < (uint64_t)own.dlfo_map_end)
+        return _URC_NO_REASON;
+    if (place == 0)
+        return _URC_NORMAL_STOP;
+    walk->places[walk->count++] = place;
+    return walk->count < walk->most ? _URC_NO_REASON : _URC_NORMAL_STOP;
+}
+
+/* Gives the return addresses of the calls that led into the library, the innermost first. */
+unsigned callers(uint64_t *places, unsigned most)
+{
+    struct walk walk = {places, 0, most};
+    _Unwind_Backtrace(step, &walk);
+    return walk.count;
+}
+
+bool is_in_module(uint64_t address)
+{
+    struct dl_find_object object;
+    return _dl_find_object((void *)address, &object) == 0;
+}
+
+/* Gives the module of an address where it has one that wasn't told: its first and last address, where
+   it was loaded, and its path. */
+bool must_tell_module(uint64_t address, uint64_t range[3], const char **path)
+{
+    struct dl_find_object object;
+    if (_dl_find_object((void *)address, &object) != 0)
+        return false;
+    const struct link_map *map = object.dlfo_link_map;
+    range[0] = (uint64_t)object.dlfo_map_start;
+    range[1] = (uint64_t)object.dlfo_map_end - 1;
+    range[2] = map->l_addr;
+    *path = map->l_name && map->l_name[0] ? map->l_name : program;
+    struct told *place = &told[range[0] * UINT64_C(0x9e3779b97f4a7c15) >> 54];
+    uint64_t end_and_map = range[1] ^ (uint64_t)map << 16;
+    if (__atomic_load_n(&place->start, __ATOMIC_RELAXED) == range[0] &&
+        __atomic_load_n(&place->end_and_map, __ATOMIC_RELAXED) == end_and_map)
+        return false;
+    __atomic_store_n(&place->start, range[0], __ATOMIC_RELAXED);
+    __atomic_store_n(&place->end_and_map, end_and_map, __ATOMIC_RELAXED);
+    return true;
+}

@@ -1,0 +1,69 @@
+/* What the parts of the library know of each other. */
+#ifndef RECORDER_H
+#define RECORDER_H
+
+#include <stdbool.h>
+#include <stdint.h>
+
+#include "recording.h"
+
+#define EXPORTED __attribute__((visibility("default")))
+
+/* The most callers that a class can be told by. */
+#define MOST_DEPTH 8
+
+/*
+ * What this process has of its own. It lies in a page that the kernel clears in a child of a fork,
+ * however that child was made, so a child finds out by its first look that it has no recording yet.
+ */
+struct life {
+    uint64_t state;      /* enum state */
+    uint64_t generation; /* how many recordings this process and those it was forked from began */
+    uint64_t tasks;
+    struct process *process;
+    /* The counter of events is on a line of the cache of its own: all threads write it. */
+    _Alignas(64) uint64_t numbers;
+};
+
+enum state { STATE_NEW, STATE_BEGINNING, STATE_RECORDING, STATE_OFF };
+
+/* What a thread has of its own. `inside` counts calls of the recorder that run: more than one of
+   them where a signal handler that takes locks interrupted another. */
+struct self {
+    uint64_t generation; /* that of the recording for which the rest holds */
+    uint64_t task;
+    uint64_t last_number;
+    struct chunk *chunk;
+    unsigned inside;
+};
+
+extern struct life *life;
+extern __thread struct self self __attribute__((tls_model("initial-exec")));
+extern unsigned depth;
+
+/* begin.c */
+bool begin(void);
+void end_recording(enum ended why);
+
+/* chunks.c */
+void keep_chunks(void);
+void forget_chunks(void);
+struct unit *take_units(unsigned count);
+
+/* log.c */
+void record(enum operation operation, const void *lock);
+void record_init(const void *lock);
+void record_destroy(const void *lock);
+void record_got(enum operation operation, const void *lock);
+
+/* places.c */
+void find_own_place(void);
+unsigned callers(uint64_t *places, unsigned most);
+bool is_in_module(uint64_t address);
+bool must_tell_module(uint64_t address, uint64_t range[3], const char **path);
+const char *program_path(void);
+
+/* next.c */
+void find_all_next(void);
+
+#endif

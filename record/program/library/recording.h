@@ -1,0 +1,74 @@
+/*
+ * The file that the recorder leaves of each process, as the library writes it and the merger reads it.
+ *
+ * The file begins with a `struct process`. At each further multiple of CHUNK_BYTES that was given out
+ * there is a `struct chunk`, which one thread at a time writes. A chunk is a row of units of 16
+ * bytes; a record is one unit and those that follow it. The head of a record is written last, so a
+ * record whose head is 0 was never finished, and is skipped: a process can be killed at any moment.
+ */
+#ifndef RECORDING_H
+#define RECORDING_H
+
+#include <stdint.h>
+
+#define PROCESS_MAGIC UINT64_C(0x31636f72706b636c)
+#define CHUNK_BYTES ((uint64_t)128 * 1024)
+#define UNITS_OF_CHUNK (CHUNK_BYTES / sizeof(struct unit) - 1)
+
+/* What a record says. `value` of its first unit is what stands in brackets. */
+enum operation {
+    RECORD_NOTHING,
+    RECORD_TASK,    /* [number] from here on the chunk is written by this task */
+    RECORD_MODULE,  /* [first address] last address and load address, then the path in 0 bytes */
+    RECORD_INIT,    /* [lock] was initialised; the calls that led there follow */
+    RECORD_FIRST,   /* [lock] is about to be taken for the first time, as far as is known; likewise */
+    RECORD_DESTROY, /* [lock] is no lock any more */
+    RECORD_ACQUIRE, /* [lock] was got by a call that may have waited */
+    RECORD_TRY,     /* [lock] was got by a call that couldn't wait */
+    RECORD_RELEASE, /* [lock] is about to be given back */
+    RECORD_UNDO,    /* [lock] wasn't given back: the call for it failed */
+};
+
+/* In `head`: the operation (8 bits), the number of units that follow (8), the event's number (48). */
+struct unit {
+    uint64_t head;
+    uint64_t value;
+};
+
+#define HEAD_OPERATION(head) ((enum operation)((head) & 0xff))
+#define HEAD_FOLLOWING(head) ((unsigned)((head) >> 8 & 0xff))
+#define HEAD_NUMBER(head) ((head) >> 16)
+#define HEAD_OF(operation, following, number) \
+    ((uint64_t)(number) << 16 | (uint64_t)(following) << 8 | (uint64_t)(operation))
+
+struct chunk {
+    uint64_t used; /* units that were asked for, maybe more than there are */
+    uint64_t unused;
+    struct unit units[UNITS_OF_CHUNK];
+};
+
+/* Why the recording of a process ended before the process did. */
+enum ended { ENDED_NOT, ENDED_NO_SPACE, ENDED_NO_MEMORY };
+
+struct process {
+    uint64_t magic;
+    uint64_t pid;
+    uint64_t started; /* nanoseconds of the system's clock that never steps back */
+    /* Of a child of a fork: who forked it, and the number of the parent's next event then. */
+    uint64_t parent_pid;
+    uint64_t parent_started;
+    uint64_t parent_task;
+    uint64_t parent_number;
+    uint64_t chunks;        /* chunks that were given out; the first is at CHUNK_BYTES */
+    uint64_t ended;         /* enum ended */
+    uint64_t lost_children; /* children of forks for which no file could be made */
+    char program[2048];
+};
+
+#define PROCESS_BYTES 4096
+
+_Static_assert(sizeof(struct unit) == 16, "a unit is 16 bytes");
+_Static_assert(sizeof(struct chunk) == CHUNK_BYTES, "a chunk is whole");
+_Static_assert(sizeof(struct process) <= PROCESS_BYTES, "the first page holds the process");
+
+#endif

@@ -1,0 +1,56 @@
+/* Memory, and names as the trace format has them. */
+#include <stdlib.h>
+#include <string.h>
+
+#include "merger.h"
+
+void *must(void *memory)
+{
+    if (!memory) {
+        fputs("record/program/run: no memory for the stream\n", stderr);
+        exit(2);
+    }
+    return memory;
+}
+
+/* Makes room for one more. */
+void *grown(void *all, size_t count, size_t *room, size_t size)
+{
+    if (count < *room)
+        return all;
+    *room = *room ? 2 * *room : 16;
+    return must(realloc(all, *room * size));
+}
+
+/* FNV-1a of 32 bits. */
+uint32_t checksum(const char *text)
+{
+    uint32_t sum = 2166136261u;
+    for (; *text; text++)
+        sum = (sum ^ (unsigned char)*text) * 16777619u;
+    return sum;
+}
+
+/* Appends bytes, those that can't stand in a name, or are in `without`, as % and their number. */
+void append_clean(char *text, size_t size, const char *bytes, const char *without)
+{
+    size_t length = strlen(text);
+    for (; *bytes && length + 4 < size; bytes++) {
+        unsigned char byte = (unsigned char)*bytes;
+        if (byte > ' ' && byte <= '~' && byte != '%' && !strchr(without, byte))
+            text[length++] = *bytes;
+        else
+            length += (size_t)snprintf(text + length, size - length, "%%%02X", byte);
+    }
+    text[length] = 0;
+}
+
+/* Cuts a name that is too long, to its first bytes, `~` and the checksum of the whole. */
+void cut_name(char *text, size_t most)
+{
+    char sum[16];
+    if (strlen(text) <= most)
+        return;
+    snprintf(sum, sizeof sum, "~%08x", checksum(text));
+    strcpy(text + most - strlen(sum), sum);
+}

@@ -1,0 +1,104 @@
+/*
+ * merge DIRECTORY STREAM LABEL: puts the files of a recording together as one stream of traces, and
+ * says on standard error how much it was. The status is 0 where the stream was written.
+ */
+#define _GNU_SOURCE
+#include <errno.h>
+#include <inttypes.h>
+#include <signal.h>
+#include <stdarg.h>
+#include <stdlib.h>
+#include <string.h>
+#include <sys/mman.h>
+
+#include "merger.h"
+
+FILE *stream;
+struct totals totals;
+
+__attribute__((format(printf, 1, 2))) static void say(const char *format, ...)
+{
+    va_list arguments;
+    va_start(arguments, format);
+    fputs("record/program/run: ", stderr);
+    vfprintf(stderr, format, arguments);
+    fputc('\n', stderr);
+    va_end(arguments);
+}
+
+static void say_ends(const struct recording *all, size_t count)
+{
+    for (size_t number = 0; number < count; number++) {
+        const struct process *process = all[number].process;
+        if (process->ended == ENDED_NO_SPACE)
+            say("process %zu: recording ended before it did: no space on the disk", number + 1);
+        if (process->ended == ENDED_NO_MEMORY)
+            say("process %zu: recording ended before it did: no address space", number + 1);
+        if (process->lost_children)
+            say("process %zu: %" PRIu64 " of its children couldn't be recorded", number + 1,
+                process->lost_children);
+        bool is_latest = true;
+        for (size_t later = number + 1; later < count; later++)
+            is_latest = is_latest && all[later].process->pid != process->pid;
+        if (is_latest && (kill((pid_t)process->pid, 0) == 0 || errno == EPERM))
+            say("process %zu still runs: its trace ends here", number + 1);
+    }
+}
+
+static void say_limits(int64_t bytes)
+{
+    if (totals.too_deep)
+        say("%" PRIu64 " locks were left out: their task held 48 already", totals.too_deep);
+    if (totals.not_taken_up)
+        say("%" PRIu64 " held locks were left out where a new trace began", totals.not_taken_up);
+    if (totals.damaged)
+        say("%" PRIu64 " records were damaged and left out", totals.damaged);
+    if (totals.traces > MOST_TRACES)
+        say("the stream has %" PRIu64 " traces, and lockcheck reads no more than 65535",
+            totals.traces);
+    if (bytes > MOST_STREAM_BYTES)
+        say("the stream has more than 2147483648 bytes, and lockcheck reads no more");
+}
+
+static void replay_all(struct recording *all, size_t count, const char *label)
+{
+    char clean[256] = "";
+    append_clean(clean, sizeof clean, label, "");
+    for (size_t number = 0; number < count; number++) {
+        char program[4096] = "";
+        append_clean(program, sizeof program, all[number].process->program, "");
+        fprintf(stream, "# process %zu %s\n", number + 1, program);
+        replay(all, count, number, clean);
+    }
+    write_classes();
+}
+
+int main(int argument_count, char **arguments)
+{
+    struct recording *all;
+    if (argument_count != 4)
+        return 2;
+    size_t count = read_recordings(arguments[1], &all);
+    if (count == 0) {
+        say("no process was recorded");
+        return 1;
+    }
+    stream = fopen(arguments[2], "we");
+    if (!stream) {
+        say("%s: %s", arguments[2], strerror(errno));
+        return 2;
+    }
+    setvbuf(stream, NULL, _IOFBF, 1 << 20);
+    replay_all(all, count, arguments[3]);
+    int64_t bytes = ftello(stream);
+    bool whole = !ferror(stream);
+    if (fclose(stream) != 0 || !whole) {
+        say("%s: the stream couldn't be written", arguments[2]);
+        return 2;
+    }
+    say_ends(all, count);
+    say_limits(bytes);
+    say("%s: %" PRIu64 " events, %zu classes, %zu processes, %" PRIu64 " traces", arguments[2],
+        totals.events, class_count(), count, totals.traces);
+    return 0;
+}

@@ -1,0 +1,196 @@
+/* Goes over the records of one process in the order of their numbers. */
+#include <stdlib.h>
+
+#include "merger.h"
+
+static struct locks locks;
+static struct modules modules;
+
+/* A lock begins anew at its address. What was held there before is no more. */
+static void begin_lock(struct lock *lock, struct class *class)
+{
+    if (lock->holder)
+        write_released(lock, &locks);
+    lock->class = class;
+    lock->instance = class ? ++class->instances : 0;
+    lock->undo = UNDO_NOTHING;
+}
+
+static void on_first(uint64_t address, const struct unit *first, unsigned following)
+{
+    struct lock *lock = find_lock(&locks, address, true);
+    if (lock->class)
+        return;
+    struct class *class = following ? NULL : class_of_static(&modules, address);
+    if (!class)
+        class = class_of_calls(&modules, "first", first, following);
+    begin_lock(lock, class);
+}
+
+/* A lock that someone else is seen to get was given back by a call that wasn't seen, or by the end of
+   its holder. Inner levels of a recursive mutex aren't written. */
+static void on_got(const char *verb, uint32_t task, uint64_t address, const struct unit *first)
+{
+    struct lock *lock = find_lock(&locks, address, true);
+    if (!lock->class)
+        begin_lock(lock, class_of_calls(&modules, "first", first, 0));
+    if (lock->holder == task) {
+        lock->level++;
+        return;
+    }
+    if (lock->holder)
+        write_released(lock, &locks);
+    write_got(verb, task, &locks, lock);
+}
+
+/* Whoever gives the lock back: it is its holder's no more. */
+static void on_release(uint64_t address)
+{
+    struct lock *lock = find_lock(&locks, address, false);
+    if (!lock || !lock->holder)
+        return;
+    if (lock->level > 1) {
+        lock->level--;
+        lock->undo = UNDO_LEVEL;
+    } else {
+        write_released(lock, &locks);
+        lock->undo = UNDO_HOLD;
+    }
+}
+
+static void on_undo(uint64_t address)
+{
+    struct lock *lock = find_lock(&locks, address, false);
+    if (!lock)
+        return;
+    if (lock->undo == UNDO_LEVEL && lock->holder)
+        lock->level++;
+    if (lock->undo == UNDO_HOLD && !lock->holder)
+        write_got("try", lock->last_holder, &locks, lock);
+    lock->undo = UNDO_NOTHING;
+}
+
+static void on_destroy(uint64_t address)
+{
+    struct lock *lock = find_lock(&locks, address, false);
+    if (lock)
+        begin_lock(lock, NULL);
+}
+
+static void step(const struct unit *first, uint32_t task)
+{
+    uint64_t value = first->value;
+    unsigned following = HEAD_FOLLOWING(first->head);
+    switch (HEAD_OPERATION(first->head)) {
+    case RECORD_MODULE:
+        add_module(&modules, first, following);
+        break;
+    case RECORD_INIT:
+        begin_lock(find_lock(&locks, value, true),
+                   class_of_calls(&modules, "init", first, following));
+        break;
+    case RECORD_FIRST:
+        on_first(value, first, following);
+        break;
+    case RECORD_DESTROY:
+        on_destroy(value);
+        break;
+    case RECORD_ACQUIRE:
+        on_got("acquire", task, value, first);
+        break;
+    case RECORD_TRY:
+        on_got("try", task, value, first);
+        break;
+    case RECORD_RELEASE:
+        on_release(value);
+        break;
+    case RECORD_UNDO:
+        on_undo(value);
+        break;
+    default:
+        totals.damaged++;
+    }
+}
+
+/* Keeps what a child of a fork begins with. */
+static void keep_start(struct recording *child)
+{
+    const uint32_t *held;
+    size_t count = held_by((uint32_t)child->process->parent_task, &held);
+    struct start *start = &child->start;
+    copy_locks(&start->locks, &locks);
+    start->modules = (struct modules){.count = modules.count, .room = modules.count};
+    start->modules.all = must(malloc((modules.count + 1) * sizeof *modules.all));
+    for (size_t module = 0; module < modules.count; module++)
+        start->modules.all[module] = modules.all[module];
+    start->held = must(malloc((count + 1) * sizeof *held));
+    for (size_t lock = 0; lock < count; lock++)
+        start->held[lock] = held[lock];
+    start->held_count = count;
+}
+
+static bool is_child(const struct process *child, const struct process *parent)
+{
+    return child->parent_started != 0 && child->parent_pid == parent->pid &&
+           child->parent_started == parent->started;
+}
+
+/* Keeps the starts of the children that were forked before an event. A child began after its parent,
+   so it stands behind it. */
+static void keep_starts(struct recording *all, size_t count, size_t which, uint64_t number,
+                        bool *is_kept)
+{
+    for (size_t child = which + 1; child < count; child++) {
+        const struct process *process = all[child].process;
+        if (!is_kept[child] && is_child(process, all[which].process) &&
+            process->parent_number <= number) {
+            is_kept[child] = true;
+            keep_start(&all[child]);
+        }
+    }
+}
+
+/* Gives the number of the event before which the next child was forked. */
+static uint64_t next_fork(struct recording *all, size_t count, size_t which, const bool *is_kept)
+{
+    uint64_t next = UINT64_MAX;
+    for (size_t child = which + 1; child < count; child++)
+        if (!is_kept[child] && is_child(all[child].process, all[which].process) &&
+            all[child].process->parent_number < next)
+            next = all[child].process->parent_number;
+    return next;
+}
+
+static void begin_replay(struct start *start)
+{
+    locks = start->locks;
+    modules = start->modules;
+    for (size_t held = 0; held < start->held_count; held++)
+        hold_from_start(1, &locks, start->held[held]);
+    free(start->held);
+}
+
+void replay(struct recording *all, size_t count, size_t which, const char *label)
+{
+    struct recording *recording = &all[which];
+    bool *is_kept = must(calloc(count, sizeof *is_kept));
+    begin_writer(label, which + 1);
+    begin_replay(&recording->start);
+    place_records(recording);
+    uint64_t fork = next_fork(all, count, which, is_kept);
+    for (uint64_t number = 0; number < recording->place_count; number++) {
+        struct place place = recording->places[number];
+        if (number >= fork) {
+            keep_starts(all, count, which, number, is_kept);
+            fork = next_fork(all, count, which, is_kept);
+        }
+        if (place.unit)
+            step(unit_at(recording, place.unit), place.task);
+    }
+    keep_starts(all, count, which, UINT64_MAX, is_kept);
+    end_writer();
+    free_locks(&locks);
+    free(modules.all);
+    free(recording->places);
+    free(is_kept);
+}
