@@ -14,6 +14,19 @@ pub const MOST_WORKERS: usize = 16;
 /// How many workers there are where no word says it.
 const DEFAULT_WORKERS: usize = 4;
 
+/// What the help says behind the words that may be given.
+const AFTER_HELP: &str = "\
+Reads one stream of traces from standard input, to its end, and writes the report to standard output.
+
+Exit status:
+  0  no violation, and no trace is refused
+  1  violations
+  2  no whole report; standard error says why
+  3  no violation, and a trace is refused
+
+Example:
+  lockcheck --workers 8 < run.trace";
+
 /// How many workers there are by these words of the command line, the first of which is the program's
 /// name.
 ///
@@ -40,7 +53,8 @@ fn command_line<'a>(alloc: Global) -> Result<Command<'a>, AllocError>
     ensures { IfOk result (λ command. app_of command ≡ told_by_words) }
 {
     Command::new(alloc, "lockcheck")
-        .about("Checks the order of locks in the recorded traces on standard input")
+        .about("Checks the order of locks in recorded traces")
+        .after_help(AFTER_HELP)
         .arg(count_of_workers(alloc))
 }
 

@@ -6,5 +6,5 @@ use Rattle.ld_words.proofs.words.command_line.Goals as goal
 
 pub returns : goal.returns
 returns c =
-    let about_is : app_of c.about.result ≡ new_app (codes "lockcheck") = search rules in
-    IfOk-weaker c.arg.result _ _ (λ command added. added.shape (search rules) ∙ ap₂ with_rule about_is c.count_of_workers.ensures.rule) c.arg.ensures
+    let told : app_of c.after_help.result ≡ new_app (codes "lockcheck") = search rules in
+    IfOk-weaker c.arg.result _ _ (λ command added. added.shape (search rules) ∙ ap₂ with_rule told c.count_of_workers.ensures.rule) c.arg.ensures
