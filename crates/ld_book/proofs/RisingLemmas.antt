@@ -35,7 +35,8 @@ apart-moved old new moved apart =
     (apart-numbers (λ s. s.number) old (record { number = 0; label = []; first_line = 0; bytes = [] }) apart))))
 
 -- of these, numbers that don't fall rise
-pub rising_from_sorted : (old : List PlainSource) (listed : List Listed) → IsPermutation old (sources_of listed) → AreApart old → IsNonDecreasingBy (λ l. l.source.number) listed → AreRising (sources_of listed)
+pub rising_from_sorted : (old : List PlainSource) (listed : List Listed) → IsPermutation old (sources_of listed) → AreApart old → IsNonDecreasingBy
+    (λ l. l.source.number) listed → AreRising (sources_of listed)
 rising_from_sorted old listed moved apart sorted i j d lower within = by (cases_order (number i) (number j))
   where
     number : ℕ → ℕ

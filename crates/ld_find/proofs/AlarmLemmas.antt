@@ -62,7 +62,8 @@ pub no_cycle-rows : (old new : List Edge) (rows : List Witnessed) → map (λ r.
     → All (λ r. ¬ IsCycleAt new r.edge) (drop (length old) rows) → (e : Edge) → ¬ IsCycleAt new e
 no_cycle-rows old new rows edges front none none_more =
     subst (λ all. (e : Edge) → ¬ IsCycleAt all e) (sym is)
-    (no_cycle-more old more none (All-map (λ e. ¬ IsCycleAt (old ++ more) e) (λ r. r.edge) (drop (length old) rows) (subst (λ all. All (λ r. ¬ IsCycleAt all r.edge) (drop (length old) rows)) is none_more)))
+    (no_cycle-more old more none (All-map (λ e. ¬ IsCycleAt (old ++ more) e) (λ r. r.edge) (drop (length old) rows)
+    (subst (λ all. All (λ r. ¬ IsCycleAt all r.edge) (drop (length old) rows)) is none_more)))
   where
     more : List Edge
     more = map (λ r. r.edge) (drop (length old) rows)

@@ -66,5 +66,6 @@ module _ (classes : List (List ℕ)) (graph : Seen) (rows : List Witnessed) (is 
       depends = depends_from_edge classes graph rows is sources witnessed a b there
 
       back : (b ≡ a) ⊎ (b ≢ a) → Leads sources (name_of classes b) (name_of classes a)
-      back (inl same) = HasWalk-Far (Depends sources) 0 (name_of classes b) (name_of classes a) (subst {A = List ℕ × List ℕ} (λ p. Depends sources p.0 p.1) (λ i. (name_of classes (sym same i), name_of classes (same i))) depends)
+      back (inl same) = HasWalk-Far (Depends sources) 0 (name_of classes b) (name_of classes a)
+          (subst {A = List ℕ × List ℕ} (λ p. Depends sources p.0 p.1) (λ i. (name_of classes (sym same i), name_of classes (same i))) depends)
       back (inr differs) = HasWalk-shown (Depends sources) IsBefore (name_of classes b) (name_of classes a) row.via (shown differs)

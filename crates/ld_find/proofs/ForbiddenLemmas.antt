@@ -30,12 +30,18 @@ module _ (sources : List PlainSource) where
     noted_marks = is.shown ∙ ap (shown_marks sources) (sym is.same)
 
   -- a row of two classes that are noted, with a shown walk from one to the other
-  pub forbidden-row : (x y : List ℕ) (row : PlainForbiddenRow) → IsNoted sources x (In row.state) row.from row.from_marks row.safe_at → IsNoted sources y (On row.state) row.to row.to_marks row.unsafe_at
+  pub forbidden-row : (x y : List ℕ) (row : PlainForbiddenRow) → IsNoted sources x (In row.state) row.from row.from_marks row.safe_at → IsNoted
+      sources y (On row.state) row.to row.to_marks row.unsafe_at
       → IsShown sources x y row.via → IsTurnedRowOf sources row.state y x row
   forbidden-row x y row from to shown = (
     (
       record {
-        forbidden = (noted_bit x (In row.state) row.from row.from_marks row.safe_at from, noted_bit y (On row.state) row.to row.to_marks row.unsafe_at to, HasWalk-shown (Depends sources) IsBefore row.from row.to row.via walk);
+        forbidden = (
+          noted_bit x (In row.state) row.from row.from_marks row.safe_at from,
+          noted_bit y (On row.state) row.to row.to_marks row.unsafe_at
+              to,
+          HasWalk-shown (Depends sources) IsBefore row.from row.to row.via walk,
+        );
         from_marks = noted_marks x (In row.state) row.from row.from_marks row.safe_at from;
         safe_at = noted_at x (In row.state) row.from row.from_marks row.safe_at from ∙ from.first;
         to_marks = noted_marks y (On row.state) row.to row.to_marks row.unsafe_at to;
@@ -51,7 +57,8 @@ module _ (sources : List PlainSource) where
       walk = subst (λ n. IsShown sources n row.to row.via) (sym from.same) (subst (λ n. IsShown sources x n row.via) (sym to.same) shown)
 
 -- no forbidden walk, where there is no walk
-pub no_forbidden-walk : (classes : List (List ℕ)) (graph : Seen) (rows : List Witnessed) → AreNumbered classes graph rows → (sources : List PlainSource) → AreWitnessed classes rows (dependency_witness sources)
+pub no_forbidden-walk : (classes : List (List ℕ)) (graph : Seen) (rows : List Witnessed) → AreNumbered classes graph rows →
+    (sources : List PlainSource) → AreWitnessed classes rows (dependency_witness sources)
     → (state : State) (a b : ℕ) → a < length classes → b < length classes → ¬ HasWalk (IsEdge graph.edges) a b → ¬ IsForbidden sources state (name_of classes a) (name_of classes b)
 no_forbidden-walk classes graph rows is sources witnessed state a b at_a at_b none forbidden =
     none (walk_from_leads classes graph rows is sources witnessed a b (name_of classes a) (name_of classes b) (at_a, refl) (at_b, refl) forbidden.2)

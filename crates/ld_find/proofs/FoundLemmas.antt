@@ -1,5 +1,6 @@
 -- What was found stays exact as edges and bits come.
-use Rattle.std.proofs.Common.{option_map, ◌≡◌, ◌<◌, ◌≤◌, ◌-◌, ◌++◌, ◌∙◌, [], arith, take-append-drop, MatchOption, List, ℕ, Bool, true, false, Option, Some, None, is_some, All, refl, take, drop, length, map, get_or, sym, ap, subst}
+use Rattle.std.proofs.Common.{option_map, ◌≡◌, ◌<◌, ◌≤◌, ◌-◌, ◌++◌, ◌∙◌, [], arith, take-append-drop, MatchOption, List, ℕ, Bool, true, false, Option}
+use Rattle.std.proofs.Common.{Some, None, is_some, All, refl, take, drop, length, map, get_or, sym, ap, subst}
 use Rattle.std.proofs.lemmas.Bool.{true≢false}
 use Rattle.std.proofs.lemmas.List.{length-drop, take_all}
 use Rattle.std.proofs.lemmas.List.Elements.{Contains-append_left}
@@ -98,7 +99,8 @@ bits_grow usage now bits came grow none = record {
 }
 
 -- no classes have nothing
-pub nothing_found : (found : Found) → found.cycle ≡ None → ((state : State) → get_or found.conflict (state_place state) None ≡ None) → ((state : State) → get_or found.forbidden (state_place state) None ≡ None) → AreFound [] [] found
+pub nothing_found : (found : Found) → found.cycle ≡ None → ((state : State) → get_or found.conflict (state_place state) None ≡ None) →
+    ((state : State) → get_or found.forbidden (state_place state) None ≡ None) → AreFound [] [] found
 nothing_found found cycle conflict forbidden = record {
   cycle = subst (IsExact (IsCycleAt [])) (sym cycle) (λ any. no_edge any.0.from any.0.to any.1.0);
   conflict = λ state. subst (IsExact (IsConflictAt [] state)) (sym (conflict state)) (λ any. no_bits any.0 (In state) any.1.0);
@@ -116,5 +118,6 @@ pub of_each_from_exact : (sources : List PlainSource) (classes : List (List ℕ)
 of_each_from_exact sources classes found exact = record {
   cycle = λ none a b cycle. subst (λ o. IsExact {A = List ℕ × List ℕ} (λ p. IsCycle sources p.0 p.1) (option_map (λ (e : Edge). named_pair classes e.from e.to) o)) none exact.cycle ((a, b), cycle);
   conflict = λ state none class conflict. subst (λ o. IsExact (IsConflict sources state) (option_map (λ c. get_or classes c []) o)) none (exact.conflict state) (class, conflict);
-  forbidden = λ state none a b walk. subst (λ o. IsExact {A = List ℕ × List ℕ} (λ p. IsForbidden sources state p.0 p.1) (option_map (λ (f : Forbidden). named_pair classes f.from f.to) o)) none (exact.forbidden state) ((a, b), walk);
+  forbidden = λ state none a b walk. subst (λ o. IsExact {A = List ℕ × List ℕ} (λ p. IsForbidden sources state p.0 p.1)
+      (option_map (λ (f : Forbidden). named_pair classes f.from f.to) o)) none (exact.forbidden state) ((a, b), walk);
 }

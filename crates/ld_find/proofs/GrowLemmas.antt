@@ -40,7 +40,8 @@ bits_from_used classes rows sources used = record {
   known = λ name bit has. used.known (record { class = name; bit = bit }) has;
 }
 
-module _ (classes more : List (List ℕ)) (count : ℕ) (distinct : AreDistinct more) (longer : IsLonger classes more count) (rows : List UsageRow) (first : Use → Option Witness) (used : AreUsed classes rows first) where
+module _ (classes more : List (List ℕ)) (count : ℕ) (distinct : AreDistinct more) (longer : IsLonger classes more count) (rows : List UsageRow)
+    (first : Use → Option Witness) (used : AreUsed classes rows first) where
   -- bits that were seen are still seen
   bits_still : (all : List UsageRow) (then_first : Use → Option Witness) → AreUsed more all then_first → ((what : Use) → is_some (first what) ≡ true → is_some (then_first what) ≡ true)
       → (c : ℕ) (bit : Bit) → HasBitAt (bits_of rows) c bit → HasBitAt (bits_of all) c bit

@@ -60,7 +60,12 @@ module _ (classes : List (List ℕ)) (graph : Seen) (rows : List Witnessed) (is 
       let at : Any (λ r. named_edge classes r.edge ≡ record { from = x; to = y }) rows = witnessed.all (record { from = x; to = y }) shown in
       let a = at.1.edge.from in
       let b = at.1.edge.to in
-      let there : IsEdge graph.edges a b = (at.0, subst (λ n. at.0 < n) (length_rows classes graph rows is) at.2, at_row classes graph rows is at.0 at.1 (edge a b) at.2 ∙ ap (λ (r : Witnessed). r.edge) at.3) in
+      let there : IsEdge graph.edges a b = (
+        at.0,
+        subst (λ n. at.0 < n) (length_rows classes graph rows is) at.2,
+        at_row classes graph rows is at.0
+            at.1 (edge a b) at.2 ∙ ap (λ (r : Witnessed). r.edge) at.3,
+      ) in
       let ends = ends_of_edge classes graph rows is a b there in
       (a, (b, ((ends.0, ap (λ (d : Dependency). d.from) at.4), (ends.1, ap (λ (d : Dependency). d.to) at.4), there)))
 
@@ -158,7 +163,8 @@ module _ (classes : List (List ℕ)) (usage : List Usage) (sources : List PlainS
   conflict_exact state (Some c) is = (bit_named c (In state) is.0, bit_named c (On state) is.1)
 
   module _ (graph : Seen) (rows : List Witnessed) (is : AreNumbered classes graph rows) (witnessed : AreWitnessed classes rows (dependency_witness sources)) where
-    cycle_exact : (found : Option Edge) → IsExact (IsCycleAt graph.edges) found → IsExact {A = List ℕ × List ℕ} (λ p. IsCycle sources p.0 p.1) (option_map (λ (e : Edge). (get_or classes e.from [], get_or classes e.to [])) found)
+    cycle_exact : (found : Option Edge) → IsExact (IsCycleAt graph.edges) found → IsExact {A = List ℕ × List ℕ} (λ p. IsCycle sources p.0 p.1)
+        (option_map (λ (e : Edge). (get_or classes e.from [], get_or classes e.to [])) found)
     cycle_exact None absent = λ any. absent (cycle_numbered classes graph rows is sources witnessed any.0.0 any.0.1 any.1)
     cycle_exact (Some e) cycle = cycle_named classes graph rows is sources witnessed e cycle
 
@@ -168,7 +174,17 @@ module _ (classes : List (List ℕ)) (usage : List Usage) (sources : List PlainS
         let from = number_of_bit any.0.0 (In state) any.1.0 in
         let to = number_of_bit any.0.1 (On state) any.1.1 in
         let two : Forbidden = record { from = from.0; to = to.0 } in
-        absent (two, (bit_numbered from.0 any.0.0 (In state) from.1 any.1.0, (bit_numbered to.0 any.0.1 (On state) to.1 any.1.1, walk_from_leads classes graph rows is sources witnessed from.0 to.0 any.0.0 any.0.1 from.1 to.1 any.1.2)))
+        absent (
+          two,
+          (
+            bit_numbered from.0 any.0.0 (In state) from.1 any.1.0,
+            (
+              bit_numbered to.0 any.0.1 (On state) to.1 any.1.1,
+              walk_from_leads
+                  classes graph rows is sources witnessed from.0 to.0 any.0.0 any.0.1 from.1 to.1 any.1.2,
+            ),
+          ),
+        )
     forbidden_exact state (Some f) here = (bit_named f.from (In state) here.0, bit_named f.to (On state) here.1.0, leads_from_walk classes graph rows is sources witnessed f.from f.to here.1.1)
 
     -- what was found by number is exact by name
@@ -200,6 +216,7 @@ module _ (classes : List (List ℕ)) (usage : List Usage) (sources : List PlainS
         conflict state None absent = tt
         conflict state (Some c) here = of_bit c (In state) here.0
 
-        forbidden : (state : State) (o : Option Forbidden) → IsExact (λ (f : Forbidden). IsForbiddenAt graph.edges usage state f.from f.to) o → IfSome o (λ (f : Forbidden). (f.from < length classes) × (f.to < length classes))
+        forbidden : (state : State) (o : Option Forbidden) → IsExact (λ (f : Forbidden). IsForbiddenAt graph.edges usage state f.from f.to) o → IfSome
+            o (λ (f : Forbidden). (f.from < length classes) × (f.to < length classes))
         forbidden state None absent = tt
         forbidden state (Some f) here = (of_bit f.from (In state) here.0, of_bit f.to (On state) here.1.0)

@@ -1,5 +1,7 @@
 -- The order of names, and the places of the classes in it.
-use Rattle.std.proofs.Common.{◌≡◌, ◌≢◌, ◌<◌, ◌+◌, ◌⊎◌, inl, inr, false, List, ℕ, [], ◌∷◌, ◌++◌, length, map, get_or, All, AllPairs, Bor, Contains, IsPermutation, IsSorted, Ordering, Less, Equal, Greater, is_eq, is_lt, nat_cmp, nat_eq, arith, refl, sym, ap, subst, ◌∙◌}
+use Rattle.std.proofs.Common.{◌≡◌, ◌≢◌, ◌<◌, ◌+◌, ◌⊎◌, inl, inr, false, List, ℕ, [], ◌∷◌, ◌++◌, length, map, get_or, All, AllPairs, Bor, Contains}
+use Rattle.std.proofs.Common.{IsPermutation, IsSorted, Ordering, Less, Equal, Greater, is_eq, is_lt, nat_cmp, nat_eq, arith, refl, sym, ap, subst}
+use Rattle.std.proofs.Common.{◌∙◌}
 use Rattle.std.proofs.lemmas.Bool.{cases_order, true≢false}
 use Rattle.std.proofs.lemmas.Bool.Decides.{Decides-eqb}
 use Rattle.std.proofs.lemmas.Cmp.{nat_cmp_total, nat_eq_equiv, nat_list_cmp_total, on_total, then_total, tied_itself}

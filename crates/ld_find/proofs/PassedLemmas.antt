@@ -50,7 +50,8 @@ module _ (classes : List (List ℕ)) (numbers : List ℕ) where
           (λ k there. (ap (λ p. p.0) there, passed_last i k.1 (ap (λ p. p.1) there)))
           (λ k owed both. cases k both (passed_cases i k.1 both.1))
         where
-          cases : (k : A × List ℕ) → (k.0 ≡ a) × IsPassed classes numbers (i + 1) k.1 → IsPassed classes numbers i k.1 ⊎ (k.1 ≡ name_at i) → ((k.0 ≡ a) × IsPassed classes numbers i k.1) ⊎ (k ≡ (a, name_at i))
+          cases : (k : A × List ℕ) → (k.0 ≡ a) × IsPassed classes numbers (i + 1) k.1 → IsPassed classes numbers i k.1 ⊎ (k.1 ≡ name_at i) →
+              ((k.0 ≡ a) × IsPassed classes numbers i k.1) ⊎ (k ≡ (a, name_at i))
           cases k both (inl passed) = inl (both.0, passed)
           cases k both (inr last) = inr (λ i. (both.0 i, last i))
 

@@ -1,5 +1,6 @@
 -- Rows that are collected, some keys at a time.
-use Rattle.std.proofs.Common.{Option, Some, None, is_some, false, ◌≡◌, ◌⊎◌, inl, inr, ◌+◌, ◌-◌, ◌<◌, ◌≤◌, ◌++◌, ◌∷◌, [], List, ℕ, All, AllPairs, Any, length, get_or, refl, sym, ap, subst, ◌∙◌, arith, length-append}
+use Rattle.std.proofs.Common.{Option, Some, None, is_some, false, ◌≡◌, ◌⊎◌, inl, inr, ◌+◌, ◌-◌, ◌<◌, ◌≤◌, ◌++◌, ◌∷◌, [], List, ℕ, All, AllPairs, Any}
+use Rattle.std.proofs.Common.{length, get_or, refl, sym, ap, subst, ◌∙◌, arith, length-append}
 use Rattle.std.proofs.lemmas.Bool.{cases_lt, true≢false}
 use Rattle.std.proofs.lemmas.List.{get_or_append_left, get_or-append_right}
 use Rattle.std.proofs.lemmas.List.Elements.{All-append, All-cons, All-nil, All-weaker}
@@ -81,7 +82,8 @@ module _ {Row Key : Type 0} (key : Row → Key) (IsRow : Row → Type 0) (IsOwed
         (All-weaker (λ r. IsRow r × these (key r)) (λ r. IsRow r × both (key r)) (λ r h. (h.0, front (key r) h.1)) xs first.each)
         (All-weaker (λ r. IsRow r × those (key r)) (λ r. IsRow r × both (key r)) (λ r h. (h.0, back (key r) h.1)) ys second.each);
     all = λ k owed. by k owed.0 (cases k owed.0 owed.1);
-    ordered = AllPairs-append (λ r s. before (key r) (key s)) xs ys first.ordered second.ordered (λ i d low j e below. across (key (get_or xs i d)) (key (get_or ys j e)) (first.each i d low).1 (second.each j e below).1);
+    ordered = AllPairs-append (λ r s. before (key r) (key s)) xs ys first.ordered second.ordered
+        (λ i d low j e below. across (key (get_or xs i d)) (key (get_or ys j e)) (first.each i d low).1 (second.each j e below).1);
   }
     where
       by : (k : Key) → IsOwed k → these k ⊎ those k → Any (λ row. key row ≡ k) (xs ++ ys)

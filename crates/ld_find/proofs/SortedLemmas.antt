@@ -1,5 +1,6 @@
 -- Rows that are put in order by their keys.
-use Rattle.std.proofs.Common.{◌≡◌, ◌≢◌, inl, inr, ◌<◌, List, ℕ, true, false, [], ◌∷◌, All, AllPairs, Any, Decides, IsPermutation, IsSortedByKey, Less, Equal, Greater, Ordering, is_eq, is_lt, length, map, get_or, refl, sym, ap, subst, ◌∙◌, arith}
+use Rattle.std.proofs.Common.{◌≡◌, ◌≢◌, inl, inr, ◌<◌, List, ℕ, true, false, [], ◌∷◌, All, AllPairs, Any, Decides, IsPermutation, IsSortedByKey, Less}
+use Rattle.std.proofs.Common.{Equal, Greater, Ordering, is_eq, is_lt, length, map, get_or, refl, sym, ap, subst, ◌∙◌, arith}
 use Rattle.std.proofs.lemmas.Bool.{true≢false}
 use Rattle.std.proofs.lemmas.Cmp.{nat_list_cmp_total, on_total, then_total, tied_itself}
 use Rattle.std.proofs.lemmas.List.{get_or-map, length-map}
@@ -131,6 +132,7 @@ module _ {X : Type 0} (plain : X → PlainForbiddenRow) (sources : List PlainSou
         let at_i : i < length (map plain ys) = omega (arith, before, within) in
         inr (
           (each i d at_i).1 ∙ sym (each j d within).1,
-          AllPairs-map (λ r s. IsPairBefore (ends_of r) (ends_of s)) plain ys (λ m n e lower below. before_from_less (ends_of (plain (get_or ys m e))) (ends_of (plain (get_or ys n e))) (rising pair_cmp pair_cmp_total pair_cmp-Decides (λ x. ends_of (plain x)) xs ys moved apart sorted m n e lower below)) i j d before within,
+          AllPairs-map (λ r s. IsPairBefore (ends_of r) (ends_of s)) plain ys (λ m n e lower below. before_from_less (ends_of (plain (get_or ys m e)))
+              (ends_of (plain (get_or ys n e))) (rising pair_cmp pair_cmp_total pair_cmp-Decides (λ x. ends_of (plain x)) xs ys moved apart sorted m n e lower below)) i j d before within,
         );
   }

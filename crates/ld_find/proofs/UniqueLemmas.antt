@@ -1,5 +1,6 @@
 -- Sources have one list of findings.
-use Rattle.std.proofs.Common.{◌≡◌, ◌≢◌, ◌+◌, ◌∙◌, ◌⊎◌, inl, inr, true, false, Bool, List, ℕ, zero, suc, [], ◌∷◌, AllPairs, Contains, Ordering, Less, Equal, Greater, Some, Option, nat_cmp, is_eq, unwrap_or, arith, refl, sym, ap, subst}
+use Rattle.std.proofs.Common.{◌≡◌, ◌≢◌, ◌+◌, ◌∙◌, ◌⊎◌, inl, inr, true, false, Bool, List, ℕ, zero, suc, [], ◌∷◌, AllPairs, Contains, Ordering, Less}
+use Rattle.std.proofs.Common.{Equal, Greater, Some, Option, nat_cmp, is_eq, unwrap_or, arith, refl, sym, ap, subst}
 use Rattle.std.proofs.lemmas.Bool.{true≢false}
 use Rattle.std.proofs.lemmas.Cmp.{nat_list_cmp_total}
 use Rattle.std.proofs.lemmas.Map.Text.{is_eq-slice_cmp}
@@ -12,7 +13,9 @@ use Rattle.ld_trace.specs.Sources.{PlainSource}
 use Rattle.ld_graph.specs.Walks.{IsDistance, IsShownWalk, ShownFrom}
 use Rattle.ld_facts.specs.Union.{dependency_witness, use_witness}
 use Rattle.ld_facts.specs.Usage.Bit.{In, On}
-use Rattle.ld_find.specs.Findings.{AreFindings, AreRows, InTurn, IsBefore, IsConflictRow, IsCycleRow, IsForbiddenRow, IsHarder, IsPairBefore, IsShown, PlainConflictRow, PlainCycleRow, PlainFindings, PlainForbiddenRow, conflict_key, cycle_key, forbidden_key, shown_marks}
+use Rattle.ld_find.specs.Findings.{AreFindings, AreRows, InTurn, IsBefore, IsConflictRow, IsCycleRow, IsForbiddenRow, IsHarder, IsPairBefore, IsShown}
+use Rattle.ld_find.specs.Findings.{PlainConflictRow, PlainCycleRow, PlainFindings, PlainForbiddenRow, conflict_key, cycle_key, forbidden_key}
+use Rattle.ld_find.specs.Findings.{shown_marks}
 use Rattle.ld_find.specs.Violations.{Depends, IsConflict, IsCycle, IsForbidden}
 use Rattle.ld_find.proofs.OrderLemmas.{not_before_both}
 
@@ -199,7 +202,9 @@ module _ (sources : List PlainSource) where
       cycles = rows-unique cycle_key (IsCycleRow sources) (λ k. IsCycle sources k.0 k.1) IsPairBefore pair-apart (λ r row. row.cycle) cycle-same f.cycles g.cycles p.cycles q.cycles
 
       conflicts : f.conflicts ≡ g.conflicts
-      conflicts = rows-unique conflict_key (IsConflictRow sources) (λ k. IsConflict sources k.0 k.1) (InTurn IsHarder IsBefore) (in_turn-apart IsHarder IsBefore harder-apart not_before_both) (λ r row. row.conflict) conflict-same f.conflicts g.conflicts p.conflicts q.conflicts
+      conflicts = rows-unique conflict_key (IsConflictRow sources) (λ k. IsConflict sources k.0 k.1) (InTurn IsHarder IsBefore)
+          (in_turn-apart IsHarder IsBefore harder-apart not_before_both) (λ r row. row.conflict) conflict-same f.conflicts g.conflicts p.conflicts q.conflicts
 
       forbidden : f.forbidden ≡ g.forbidden
-      forbidden = rows-unique forbidden_key (IsForbiddenRow sources) (λ k. IsForbidden sources k.0 k.1.0 k.1.1) (InTurn IsHarder IsPairBefore) (in_turn-apart IsHarder IsPairBefore harder-apart pair-apart) (λ r row. row.forbidden) forbidden-same f.forbidden g.forbidden p.forbidden q.forbidden
+      forbidden = rows-unique forbidden_key (IsForbiddenRow sources) (λ k. IsForbidden sources k.0 k.1.0 k.1.1) (InTurn IsHarder IsPairBefore)
+          (in_turn-apart IsHarder IsPairBefore harder-apart pair-apart) (λ r row. row.forbidden) forbidden-same f.forbidden g.forbidden p.forbidden q.forbidden

@@ -35,5 +35,6 @@ pub has_bit-at : (classes : List (List ℕ)) (rows : List UsageRow) (first : Use
 has_bit-at classes rows first used c bit within =
     let unused : UsageRow = row_of (λ _. None) in
     let in_rows : c < length rows = subst (λ n. c < n) (sym (length_used classes rows first used)) within in
-    ap (λ usage. has_bit usage (usage_of bit)) (get_or-map (λ (row : UsageRow). row.bits) rows c unused none in_rows ∙ ap (λ (row : UsageRow). row.bits) (row_at classes rows first used c unused within))
+    ap (λ usage. has_bit usage (usage_of bit)) (get_or-map (λ (row : UsageRow). row.bits) rows c unused none in_rows ∙ ap
+    (λ (row : UsageRow). row.bits) (row_at classes rows first used c unused within))
     ∙ has_bit-row_of (of_class first (get_or classes c [])) bit

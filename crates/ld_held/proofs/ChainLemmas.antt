@@ -1,5 +1,6 @@
 -- Chains by their numbers.
-use Rattle.std.proofs.Common.{◌≡◌, ◌⊎◌, inl, inr, ◌<◌, ◌≤◌, ◌+◌, ◌∷◌, [], ◌++◌, List, ℕ, Bool, true, false, true≢false, nat_eq, Option, Some, None, ap, ◌∙◌, sym, subst, arith, refl, length, get_or, if◌then◌else◌, IfSome}
+use Rattle.std.proofs.Common.{◌≡◌, ◌⊎◌, inl, inr, ◌<◌, ◌≤◌, ◌+◌, ◌∷◌, [], ◌++◌, List, ℕ, Bool, true, false, true≢false, nat_eq, Option, Some, None}
+use Rattle.std.proofs.Common.{ap, ◌∙◌, sym, subst, arith, refl, length, get_or, if◌then◌else◌, IfSome}
 use Rattle.std.proofs.lemmas.Bool.{eqb-true, and_parts, cases_lt}
 use Rattle.std.proofs.lemmas.List.{get_or_push, get_or_append_left, length_push}
 use Rattle.std.proofs.lemmas.List.Sums.{fold_push}
@@ -52,26 +53,33 @@ before-push chains chain (Some m) within = get_or_append_left chains (chain ∷ 
 
 -- one more chain leaves the others
 pub chains_kept : (links : List Link) (link : Link) (n : ℕ) → n < length (chains_of links) → get_or (chains_of (links ++ link ∷ [])) n [] ≡ get_or (chains_of links) n []
-chains_kept links link n within = ap (λ cs. get_or cs n []) (chains-push links link) ∙ get_or_append_left (chains_of links) ((chain_before (chains_of links) link.before ++ link.class ∷ []) ∷ []) [] n within
+chains_kept links link n within = ap (λ cs. get_or cs n []) (chains-push links link) ∙ get_or_append_left (chains_of links)
+    ((chain_before (chains_of links) link.before ++ link.class ∷ []) ∷ []) [] n within
 
 -- each chain is the one before it with its class
-pub chain_at : (links : List Link) → IsTree links → (n : ℕ) (d : Link) → n < length links → get_or (chains_of links) n [] ≡ chain_before (chains_of links) (get_or links n d).before ++ (get_or links n d).class ∷ []
-chain_at links = by_pushes (λ xs. IsTree xs → (n : ℕ) (d : Link) → n < length xs → get_or (chains_of xs) n [] ≡ chain_before (chains_of xs) (get_or xs n d).before ++ (get_or xs n d).class ∷ []) (λ _ n d within. absurd (omega arith)) step links
+pub chain_at : (links : List Link) → IsTree links → (n : ℕ) (d : Link) → n < length links → get_or (chains_of links) n [] ≡ chain_before
+    (chains_of links) (get_or links n d).before ++ (get_or links n d).class ∷ []
+chain_at links = by_pushes (λ xs. IsTree xs → (n : ℕ) (d : Link) → n < length xs → get_or (chains_of xs) n [] ≡ chain_before (chains_of xs)
+    (get_or xs n d).before ++ (get_or xs n d).class ∷ []) (λ _ n d within. absurd (omega arith)) step links
   where
     within_some : (o : Option ℕ) (a b : ℕ) → a ≤ b → IfSome o (λ m. m < a) → IfSome o (λ m. m < b)
     within_some None a b le h = h
     within_some (Some m) a b le h = omega arith
 
-    step : (xs : List Link) (x : Link) → (IsTree xs → (n : ℕ) (d : Link) → n < length xs → get_or (chains_of xs) n [] ≡ chain_before (chains_of xs) (get_or xs n d).before ++ (get_or xs n d).class ∷ []) → IsTree (xs ++ x ∷ []) → (n : ℕ) (d : Link) → n < length (xs ++ x ∷ []) → get_or (chains_of (xs ++ x ∷ [])) n [] ≡ chain_before (chains_of (xs ++ x ∷ [])) (get_or (xs ++ x ∷ []) n d).before ++ (get_or (xs ++ x ∷ []) n d).class ∷ []
+    step : (xs : List Link) (x : Link) → (IsTree xs → (n : ℕ) (d : Link) → n < length xs → get_or (chains_of xs) n [] ≡ chain_before (chains_of xs)
+        (get_or xs n d).before ++ (get_or xs n d).class ∷ []) → IsTree (xs ++ x ∷ []) → (n : ℕ) (d : Link) → n < length (xs ++ x ∷ []) → get_or
+        (chains_of (xs ++ x ∷ [])) n [] ≡ chain_before (chains_of (xs ++ x ∷ [])) (get_or (xs ++ x ∷ []) n d).before ++ (get_or (xs ++ x ∷ []) n d).class ∷ []
     step xs x h tree n d within = by (cases_lt n (length xs))
       where
         many : length (chains_of xs) ≡ length xs
         many = length-chains_of xs
 
-        by : (n < length xs) ⊎ (length xs ≤ n) → get_or (chains_of (xs ++ x ∷ [])) n [] ≡ chain_before (chains_of (xs ++ x ∷ [])) (get_or (xs ++ x ∷ []) n d).before ++ (get_or (xs ++ x ∷ []) n d).class ∷ []
+        by : (n < length xs) ⊎ (length xs ≤ n) → get_or (chains_of (xs ++ x ∷ [])) n [] ≡ chain_before (chains_of (xs ++ x ∷ []))
+            (get_or (xs ++ x ∷ []) n d).before ++ (get_or (xs ++ x ∷ []) n d).class ∷ []
         by (inl below) =
             let here : get_or (xs ++ x ∷ []) n d ≡ get_or xs n d = get_or_append_left xs (x ∷ []) d n below in
-            let old : IfSome (get_or xs n d).before (λ m. m < length (chains_of xs)) = within_some (get_or xs n d).before n (length (chains_of xs)) (omega (arith, many, below)) (IsTree-front xs x tree n d below) in
+            let old : IfSome (get_or xs n d).before (λ m. m < length (chains_of xs)) = within_some (get_or xs n d).before n (length (chains_of xs))
+            (omega (arith, many, below)) (IsTree-front xs x tree n d below) in
             let same : chain_before (chains_of (xs ++ x ∷ [])) (get_or xs n d).before ≡ chain_before (chains_of xs) (get_or xs n d).before =
             ap (λ cs. chain_before cs (get_or xs n d).before) (chains-push xs x) ∙ before-push (chains_of xs) (chain_before (chains_of xs) x.before ++ x.class ∷ []) (get_or xs n d).before old in
             chains_kept xs x n (omega (arith, many, below)) ∙ h (IsTree-front xs x tree) n d below
@@ -80,7 +88,8 @@ chain_at links = by_pushes (λ xs. IsTree xs → (n : ℕ) (d : Link) → n < le
         by (inr past) =
             let end : length xs ≡ n = omega (arith, within, past, length_push xs x) in
             let here : get_or (xs ++ x ∷ []) n d ≡ x = get_or_push xs x d n end in
-            let old : IfSome x.before (λ m. m < length (chains_of xs)) = within_some x.before n (length (chains_of xs)) (omega (arith, many, end)) (subst (λ (l : Link). IfSome l.before (λ m. m < n)) here (tree n d within)) in
+            let old : IfSome x.before (λ m. m < length (chains_of xs)) = within_some x.before n (length (chains_of xs)) (omega (arith, many, end))
+            (subst (λ (l : Link). IfSome l.before (λ m. m < n)) here (tree n d within)) in
             let same : chain_before (chains_of (xs ++ x ∷ [])) x.before ≡ chain_before (chains_of xs) x.before =
             ap (λ cs. chain_before cs x.before) (chains-push xs x) ∙ before-push (chains_of xs) (chain_before (chains_of xs) x.before ++ x.class ∷ []) x.before old in
             ap (λ cs. get_or cs n []) (chains-push xs x)
@@ -97,14 +106,17 @@ IsTree-with_link links link tree within = by (list_any (same_link link) links)
     by false = IsTree-push links link tree within
 
 -- what is there already, or is added, stands at the place that is found
-before-with_link : (links : List Link) (link : Link) → IfSome link.before (λ m. m < length (chains_of links)) → chain_before (chains_of (with_link links link)) link.before ≡ chain_before (chains_of links) link.before
+before-with_link : (links : List Link) (link : Link) → IfSome link.before (λ m. m < length (chains_of links)) → chain_before
+    (chains_of (with_link links link)) link.before ≡ chain_before (chains_of links) link.before
 before-with_link links link within = by (list_any (same_link link) links)
   where
     by : (b : Bool) → chain_before (chains_of (if b then links else links ++ link ∷ [])) link.before ≡ chain_before (chains_of links) link.before
     by true = refl
     by false = ap (λ cs. chain_before cs link.before) (chains-push links link) ∙ before-push (chains_of links) (chain_before (chains_of links) link.before ++ link.class ∷ []) link.before within
 
-pub chain_found : (links : List Link) (link found : Link) (n : ℕ) → IsTree links → IfSome link.before (λ m. m < length (chains_of links)) → slice_get (with_link links link) n ≡ Some found → same_link link found ≡ true → n < length (with_link links link) → get_or (chains_of (with_link links link)) n [] ≡ chain_before (chains_of links) link.before ++ link.class ∷ []
+pub chain_found : (links : List Link) (link found : Link) (n : ℕ) → IsTree links → IfSome link.before (λ m. m < length (chains_of links)) → slice_get
+    (with_link links link) n ≡ Some found → same_link link found ≡ true → n < length (with_link links link) → get_or
+    (chains_of (with_link links link)) n [] ≡ chain_before (chains_of links) link.before ++ link.class ∷ []
 chain_found links link found n tree within is same inside =
     let number : IfSome link.before (λ m. m < length links) = subst (λ k. IfSome link.before (λ m. m < k)) (length-chains_of links) within in
     let here : get_or (with_link links link) n link ≡ link = get_or_from_slice_get (with_link links link) n found link is ∙ sym (same_link-≡ link found same) in

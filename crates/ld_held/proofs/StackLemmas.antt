@@ -21,13 +21,15 @@ seen_at view stacks i old is inside read =
     ap (λ v. get_or v i empty_stack) (sym is) ∙ get_or-map shown stacks i old empty_stack within ∙ ap shown (sym read)
 
 -- one stack is put in another's place
-pub put : (view : List PlainStack) (stacks : List Stack) (i : ℕ) (old new : Stack) (after : PlainStack → PlainStack) → map shown stacks ≡ view → i < length view → old ≡ get_or stacks i old → shown new ≡ after (shown old) → map shown (set stacks i new) ≡ set view i (after (get_or view i empty_stack))
+pub put : (view : List PlainStack) (stacks : List Stack) (i : ℕ) (old new : Stack) (after : PlainStack → PlainStack) → map shown stacks ≡ view → i <
+    length view → old ≡ get_or stacks i old → shown new ≡ after (shown old) → map shown (set stacks i new) ≡ set view i (after (get_or view i empty_stack))
 put view stacks i old new after is inside read changed =
     let here = seen_at view stacks i old is inside read in
     map-set shown stacks i new ∙ (λ k. set (is k) i (changed k)) ∙ ap (λ s. set view i (after s)) (sym here)
 
 -- the locks from a place of a stack on, as plain data
-pub part_is : (stack : PlainStack) (held : List Held) (start : ℕ) → map plain_held held ≡ stack.held → start ≡ start_now stack.interrupts → map plain_held (take (length held - start) (drop start held)) ≡ inner stack
+pub part_is : (stack : PlainStack) (held : List Held) (start : ℕ) → map plain_held held ≡ stack.held → start ≡ start_now stack.interrupts → map
+    plain_held (take (length held - start) (drop start held)) ≡ inner stack
 part_is stack held start is starts =
     ap (map plain_held) (take_rest held start) ∙ sym (drop-map plain_held start held) ∙ (λ i. drop (starts i) (is i))
 
@@ -41,14 +43,18 @@ removed_is p (x ∷ xs) (suc i) d within passes none =
 
 -- a stack that is searched from its end
 
-pub removed_at : (lock : PlainLock) (stack : List Held) (place : ℕ) (d : Held) → 0 < place → place ≤ length stack → same_lock lock (plain_lock (get_or stack (place - 1) d).lock) ≡ true → list_any (holds lock) (drop place (map plain_held stack)) ≡ false → remove (map plain_held stack) (place - 1) ≡ remove_last (holds lock) (map plain_held stack)
+pub removed_at : (lock : PlainLock) (stack : List Held) (place : ℕ) (d : Held) → 0 < place → place ≤ length stack → same_lock lock
+    (plain_lock (get_or stack (place - 1) d).lock) ≡ true → list_any (holds lock) (drop place (map plain_held stack)) ≡ false → remove
+    (map plain_held stack) (place - 1) ≡ remove_last (holds lock) (map plain_held stack)
 removed_at lock stack zero d some within passes none = absurd (omega arith)
 removed_at lock stack (suc p) d some within passes none =
     let less : suc p - 1 ≡ p = omega arith in
     let here : get_or (map plain_held stack) p (plain_held d) ≡ plain_held (get_or stack p d) = get_or-map plain_held stack p d (plain_held d) (omega arith) in
-    rw less (removed_is (holds lock) (map plain_held stack) p (plain_held d) (omega (arith, within, length-map stack plain_held)) (ap (holds lock) here ∙ ap (λ n. same_lock lock (plain_lock (get_or stack n d).lock)) (sym less) ∙ passes) none)
+    rw less (removed_is (holds lock) (map plain_held stack) p (plain_held d) (omega (arith, within, length-map stack plain_held))
+    (ap (holds lock) here ∙ ap (λ n. same_lock lock (plain_lock (get_or stack n d).lock)) (sym less) ∙ passes) none)
 
-pub none_before : (lock : PlainLock) (stack : List Held) (place : ℕ) (d : Held) → 0 < place → place ≤ length stack → same_lock lock (plain_lock (get_or stack (place - 1) d).lock) ≡ false → list_any (holds lock) (drop place (map plain_held stack)) ≡ false → list_any (holds lock) (drop (place - 1) (map plain_held stack)) ≡ false
+pub none_before : (lock : PlainLock) (stack : List Held) (place : ℕ) (d : Held) → 0 < place → place ≤ length stack → same_lock lock
+    (plain_lock (get_or stack (place - 1) d).lock) ≡ false → list_any (holds lock) (drop place (map plain_held stack)) ≡ false → list_any (holds lock) (drop (place - 1) (map plain_held stack)) ≡ false
 none_before lock stack zero d some within fails none = absurd (omega arith)
 none_before lock stack (suc p) d some within fails none =
     let less : suc p - 1 ≡ p = omega arith in

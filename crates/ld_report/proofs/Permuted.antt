@@ -21,7 +21,8 @@ module _ (sources listed : List PlainSource) (moved : IsPermutation sources list
     rising = is.rising;
     findings = is.findings;
     found = findings-permuted sources listed moved is.findings is.found;
-    lines = is.lines ∙ ap (λ (t : Totals). summary_line t ++ refused_lines is.in_order ++ violation_lines is.in_order is.findings ++ last_line (violations is.findings)) (totals-permuted sources listed moved);
+    lines = is.lines ∙ ap (λ (t : Totals). summary_line t ++ refused_lines is.in_order ++ violation_lines is.in_order is.findings ++ last_line
+        (violations is.findings)) (totals-permuted sources listed moved);
   }
 
   -- where there is no violation in one order, there is none in another

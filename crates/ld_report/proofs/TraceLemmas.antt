@@ -1,5 +1,6 @@
 -- Traces in the order of their numbers.
-use Rattle.std.proofs.Common.{◌≡◌, ◌≢◌, ◌<◌, ◌≤◌, ◌==◌, ◌⊎◌, inl, inr, true, false, Bool, List, ℕ, zero, suc, [], ◌∷◌, length, get_or, Less, Greater, nat_cmp, if◌then◌else◌, arith, refl, sym, ap, subst}
+use Rattle.std.proofs.Common.{◌≡◌, ◌≢◌, ◌<◌, ◌≤◌, ◌==◌, ◌⊎◌, inl, inr, true, false, Bool, List, ℕ, zero, suc, [], ◌∷◌, length, get_or, Less, Greater}
+use Rattle.std.proofs.Common.{nat_cmp, if◌then◌else◌, arith, refl, sym, ap, subst}
 use Rattle.std.proofs.lemmas.Bool.{cases_order}
 use Rattle.std.proofs.lemmas.Cmp.{ranked}
 use Rattle.std.proofs.lemmas.List.{get_or-map, length-map}
@@ -52,7 +53,8 @@ label-none (l ∷ listed) number none = by (l.source.number == number) refl (lab
 
 -- what a search for a number finds nowhere
 pub label-absent : (listed : List Listed) → AreRising (sources_of listed) → (number at : ℕ)
-    → (IsNonDecreasingBy (λ l. ordering_index (nat_cmp l.source.number number)) listed → IsPartitionPoint (λ l. nat_cmp l.source.number number ≡ Less) (λ l. nat_cmp l.source.number number ≡ Greater) listed at)
+    → (IsNonDecreasingBy (λ l. ordering_index (nat_cmp l.source.number number)) listed → IsPartitionPoint (λ l. nat_cmp l.source.number number ≡ Less)
+    (λ l. nat_cmp l.source.number number ≡ Greater) listed at)
     → [] ≡ label_of_number (sources_of listed) number
 label-absent listed rising number at parted = label-none listed number none
   where

@@ -22,7 +22,8 @@ rests IsOne f (Some y) exact none x one = absurd (true≢false none)
 module _ (sources : List PlainSource) (alarms : Alarms) (exact : AreExact sources (plain_alarms alarms)) where
   -- an alarm that stands is of a violation
   pub violation_from_alarm : any_stands alarms ≡ true → HasViolation sources
-  violation_from_alarm = by (is_some alarms.cycle) (is_some (slice_index_or alarms.conflict 0 None)) (is_some (slice_index_or alarms.conflict 1 None)) (is_some (slice_index_or alarms.forbidden 0 None)) (is_some (slice_index_or alarms.forbidden 1 None)) refl refl refl refl refl
+  violation_from_alarm = by (is_some alarms.cycle) (is_some (slice_index_or alarms.conflict 0 None)) (is_some (slice_index_or alarms.conflict 1 None))
+      (is_some (slice_index_or alarms.forbidden 0 None)) (is_some (slice_index_or alarms.forbidden 1 None)) refl refl refl refl refl
     where
       by : (a b c d e : Bool) → is_some alarms.cycle ≡ a → is_some (slice_index_or alarms.conflict 0 None) ≡ b → is_some (slice_index_or alarms.conflict 1 None) ≡ c
           → is_some (slice_index_or alarms.forbidden 0 None) ≡ d → is_some (slice_index_or alarms.forbidden 1 None) ≡ e → (a || ((b || c) || (d || e))) ≡ true → HasViolation sources
@@ -35,7 +36,8 @@ module _ (sources : List PlainSource) (alarms : Alarms) (exact : AreExact source
 
   -- where none stands there is no violation
   pub no_violation_from_alarms : any_stands alarms ≡ false → ¬ HasViolation sources
-  no_violation_from_alarms = by (is_some alarms.cycle) (is_some (slice_index_or alarms.conflict 0 None)) (is_some (slice_index_or alarms.conflict 1 None)) (is_some (slice_index_or alarms.forbidden 0 None)) (is_some (slice_index_or alarms.forbidden 1 None)) refl refl refl refl refl
+  no_violation_from_alarms = by (is_some alarms.cycle) (is_some (slice_index_or alarms.conflict 0 None))
+      (is_some (slice_index_or alarms.conflict 1 None)) (is_some (slice_index_or alarms.forbidden 0 None)) (is_some (slice_index_or alarms.forbidden 1 None)) refl refl refl refl refl
     where
       none : is_some alarms.cycle ≡ false → is_some (slice_index_or alarms.conflict 0 None) ≡ false → is_some (slice_index_or alarms.conflict 1 None) ≡ false
           → is_some (slice_index_or alarms.forbidden 0 None) ≡ false → is_some (slice_index_or alarms.forbidden 1 None) ≡ false → (v : Violation) → ¬ IsViolation sources v

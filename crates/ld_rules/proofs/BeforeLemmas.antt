@@ -31,9 +31,13 @@ around_rest past task (f ∷ fs) (low, before, rest) = rest
 stack_around : (task : List ℕ) (past : List PlainEvent) → AreAround past task (stack past task)
 stack_around task past = stack_follows task (λ xs fs. AreAround xs task fs) tt (λ xs e fs around. around_later xs e task fs around) opened (λ xs fs around. around_rest xs task fs around) past
   where
-    opened : (xs : List PlainEvent) (state : State) → AreAround xs task (stack xs task) → AreAround (xs ++ Enter task state ∷ []) task (record { place = length xs; element = Enter task state; key = task } ∷ stack xs task)
-    opened xs state around =
-        (omega (arith, length_push xs (Enter task state)), ap (λ ys. stack ys task) (take_at xs (Enter task state ∷ []) (length xs) refl), around_later xs (Enter task state) task (stack xs task) around)
+    opened : (xs : List PlainEvent) (state : State) → AreAround xs task (stack xs task) → AreAround (xs ++ Enter task state ∷ []) task
+        (record { place = length xs; element = Enter task state; key = task } ∷ stack xs task)
+    opened xs state around = (
+      omega (arith, length_push xs (Enter task state)),
+      ap (λ ys. stack ys task) (take_at xs (Enter task state ∷ []) (length xs) refl),
+      around_later xs (Enter task state) task (stack xs task) around,
+    )
 
 -- The frames around the innermost one are those that were open just before its enter.
 pub frames-before : (past : List PlainEvent) (task : List ℕ) (inner : Frame) (outer : List Frame) → stack past task ≡ inner ∷ outer → stack (take inner.place past) task ≡ outer
@@ -41,7 +45,10 @@ frames-before past task inner outer is = (subst (AreAround past task) is (stack_
 
 -- So the flag in the innermost frame, where nothing was said there and the frame isn't one of the
 -- state, is the flag just before the enter.
-pub flag-before : (past : List PlainEvent) (task : List ℕ) (state : State) (inner : Frame) (outer : List Frame) → stack past task ≡ inner ∷ outer → flag past task state ≡ unwrap_or (last_said past task state (Some inner.place)) (if is_some_and (same_state state) (state_entered inner.element) then false else flag (take inner.place past) task state)
+pub flag-before : (past : List PlainEvent) (task : List ℕ) (state : State) (inner : Frame) (outer : List Frame) → stack past task ≡ inner ∷ outer →
+    flag past task state ≡ unwrap_or (last_said past task state (Some inner.place))
+    (if is_some_and (same_state state) (state_entered inner.element) then false else flag (take inner.place past) task state)
 flag-before past task state inner outer is =
     ap (flag_in task state past) is
-    ∙ (λ i. unwrap_or (last_said past task state (Some inner.place)) (if is_some_and (same_state state) (state_entered inner.element) then false else flag_in task state (take inner.place past) (sym (frames-before past task inner outer is) i)))
+    ∙ (λ i. unwrap_or (last_said past task state (Some inner.place)) (if is_some_and (same_state state) (state_entered inner.element) then false else
+    flag_in task state (take inner.place past) (sym (frames-before past task inner outer is) i)))

@@ -1,5 +1,6 @@
 -- The flags of a task, frame by frame, after one more event.
-use Rattle.std.proofs.Common.{◌≡◌, ◌<◌, ◌≤◌, ◌++◌, ◌∷◌, [], List, ℕ, Bool, true, false, ◌&&◌, not, length, map, filter_map, take, drop, reverse, get_or, Option, Some, None, refl, ap, sym, subst, ◌∙◌, arith, if◌then◌else◌, length-append}
+use Rattle.std.proofs.Common.{◌≡◌, ◌<◌, ◌≤◌, ◌++◌, ◌∷◌, [], List, ℕ, Bool, true, false, ◌&&◌, not, length, map, filter_map, take, drop, reverse}
+use Rattle.std.proofs.Common.{get_or, Option, Some, None, refl, ap, sym, subst, ◌∙◌, arith, if◌then◌else◌, length-append}
 use Rattle.std.proofs.lemmas.Bool.{true≢false, ne_eqb, eq-eqb, and_parts, and_from}
 use Rattle.std.proofs.lemmas.List.{append-nil, drop-map, map-append, length_push, reverse-append, reverse-reverse, take-append-le, take_at}
 use Rattle.std.proofs.lemmas.List.Elements.{filter_map-append}
@@ -28,15 +29,19 @@ reverse-push xs x = reverse-append xs (x ∷ [])
 
 -- the stack after one more event
 
-pub stack-enter : (past : List PlainEvent) (task by : List ℕ) (state : State) → stack (past ++ Enter by state ∷ []) task ≡ (if bytes_eq task by then record { place = length past; element = Enter by state; key = by } ∷ stack past task else stack past task)
+pub stack-enter : (past : List PlainEvent) (task by : List ℕ) (state : State) → stack (past ++ Enter by state ∷ []) task ≡
+    (if bytes_eq task by then record { place = length past; element = Enter by state; key = by } ∷ stack past task else stack past task)
 stack-enter past task by state = ap reverse (frames-enter past task by state) ∙ each (bytes_eq task by)
   where
-    each : (b : Bool) → reverse (frames past task ++ (if b then record { place = length past; element = Enter by state; key = by } ∷ [] else [])) ≡ (if b then record { place = length past; element = Enter by state; key = by } ∷ stack past task else stack past task)
+    each : (b : Bool) → reverse (frames past task ++ (if b then record { place = length past; element = Enter by state; key = by } ∷ [] else [])) ≡
+        (if b then record { place = length past; element = Enter by state; key = by } ∷ stack past task else stack past task)
     each true = reverse-push (frames past task) (record { place = length past; element = Enter by state; key = by })
     each false = ap reverse (append-nil (frames past task))
 
-pub stack-enter_own : (past : List PlainEvent) (task : List ℕ) (state : State) → stack (past ++ Enter task state ∷ []) task ≡ record { place = length past; element = Enter task state; key = task } ∷ stack past task
-stack-enter_own past task state = stack-enter past task task state ∙ ap (λ (b : Bool). if b then record { place = length past; element = Enter task state; key = task } ∷ stack past task else stack past task) ((bytes_eq-Decides task task).1 refl)
+pub stack-enter_own : (past : List PlainEvent) (task : List ℕ) (state : State) → stack (past ++ Enter task state ∷ []) task ≡
+    record { place = length past; element = Enter task state; key = task } ∷ stack past task
+stack-enter_own past task state = stack-enter past task task state ∙ ap (λ (b : Bool). if b then
+    record { place = length past; element = Enter task state; key = task } ∷ stack past task else stack past task) ((bytes_eq-Decides task task).1 refl)
 
 -- the frames are the stack from its end
 frames_of_stack : (past : List PlainEvent) (task : List ℕ) (fs : List Frame) → stack past task ≡ fs → frames past task ≡ reverse fs
@@ -60,7 +65,8 @@ pub stack-other : (past : List PlainEvent) (task : List ℕ) (e : PlainEvent) �
 stack-other past task (Acquire t l) other = stack-quiet past task (Acquire t l) refl refl
 stack-other past task (Try t l) other = stack-quiet past task (Try t l) refl refl
 stack-other past task (Release t l) other = stack-quiet past task (Release t l) refl refl
-stack-other past task (Enter t s) other = stack-enter past task t s ∙ ap (λ (b : Bool). if b then record { place = length past; element = Enter t s; key = t } ∷ stack past task else stack past task) other
+stack-other past task (Enter t s) other = stack-enter past task t s ∙ ap (λ (b : Bool). if b then
+    record { place = length past; element = Enter t s; key = t } ∷ stack past task else stack past task) other
 stack-other past task (Exit t s) other = ap reverse (frames-exit_other past task t s other)
 stack-other past task (Enable t s) other = stack-quiet past task (Enable t s) refl refl
 stack-other past task (Disable t s) other = stack-quiet past task (Disable t s) refl refl
@@ -91,7 +97,11 @@ falls_rest n (f ∷ fs) falls = falls_below f.place n fs (omega (arith, falls.0)
 
 -- What holds of no frames before the first event, still holds one event later, holds with a frame that
 -- opens there, and holds without the innermost frame, holds of the frames of each past.
-pub stack_follows : (task : List ℕ) (P : List PlainEvent → List Frame → Type 0) → P [] [] → ((xs : List PlainEvent) (e : PlainEvent) (fs : List Frame) → P xs fs → P (xs ++ e ∷ []) fs) → ((xs : List PlainEvent) (state : State) → P xs (stack xs task) → P (xs ++ Enter task state ∷ []) (record { place = length xs; element = Enter task state; key = task } ∷ stack xs task)) → ((xs : List PlainEvent) (fs : List Frame) → P xs fs → P xs (drop 1 fs)) → (past : List PlainEvent) → P past (stack past task)
+pub stack_follows : (task : List ℕ) (P : List PlainEvent → List Frame → Type 0) → P [] [] →
+    ((xs : List PlainEvent) (e : PlainEvent) (fs : List Frame) → P xs fs → P (xs ++ e ∷ []) fs) →
+    ((xs : List PlainEvent) (state : State) → P xs (stack xs task) → P (xs ++ Enter task state ∷ [])
+    (record { place = length xs; element = Enter task state; key = task } ∷ stack xs task)) →
+    ((xs : List PlainEvent) (fs : List Frame) → P xs fs → P xs (drop 1 fs)) → (past : List PlainEvent) → P past (stack past task)
 stack_follows task P none later opens closes past = by_pushes (λ xs. P xs (stack xs task)) none step past
   where
     kept : (xs : List PlainEvent) (e : PlainEvent) → stack (xs ++ e ∷ []) task ≡ stack xs task → P xs (stack xs task) → P (xs ++ e ∷ []) (stack (xs ++ e ∷ []) task)
@@ -127,18 +137,21 @@ abbrev placed_last : List PlainEvent → PlainEvent → Placed
 placed_last past e = record { event = e; frame = frame_of (past ++ e ∷ []) (task_of e) }
 
 -- what was said last, after one more event
-last_said-push : (past : List PlainEvent) (e : PlainEvent) (task : List ℕ) (state : State) (frame : Option ℕ) → last_said (past ++ e ∷ []) task state frame ≡ last_or None (filter_map (says_flag_in task state frame) (placed past) ++ cons_option (says_flag_in task state frame (placed_last past e)) [])
+last_said-push : (past : List PlainEvent) (e : PlainEvent) (task : List ℕ) (state : State) (frame : Option ℕ) → last_said (past ++ e ∷ []) task state
+    frame ≡ last_or None (filter_map (says_flag_in task state frame) (placed past) ++ cons_option (says_flag_in task state frame (placed_last past e)) [])
 last_said-push past e task state frame =
     ap (λ xs. last_or None (filter_map (says_flag_in task state frame) xs)) (placed-push past e)
     ∙ ap (last_or None) (filter_map-append (says_flag_in task state frame) (placed past) (placed_last past e ∷ []))
 
-last_said-none : (past : List PlainEvent) (e : PlainEvent) (task : List ℕ) (state : State) (frame : Option ℕ) → says_flag_in task state frame (placed_last past e) ≡ None → last_said (past ++ e ∷ []) task state frame ≡ last_said past task state frame
+last_said-none : (past : List PlainEvent) (e : PlainEvent) (task : List ℕ) (state : State) (frame : Option ℕ) → says_flag_in task state frame
+    (placed_last past e) ≡ None → last_said (past ++ e ∷ []) task state frame ≡ last_said past task state frame
 last_said-none past e task state frame none =
     last_said-push past e task state frame
     ∙ ap (λ o. last_or None (filter_map (says_flag_in task state frame) (placed past) ++ cons_option o [])) none
     ∙ ap (last_or None) (append-nil (filter_map (says_flag_in task state frame) (placed past)))
 
-last_said-some : (past : List PlainEvent) (e : PlainEvent) (task : List ℕ) (state : State) (frame : Option ℕ) (b : Bool) → says_flag_in task state frame (placed_last past e) ≡ Some b → last_said (past ++ e ∷ []) task state frame ≡ Some b
+last_said-some : (past : List PlainEvent) (e : PlainEvent) (task : List ℕ) (state : State) (frame : Option ℕ) (b : Bool) → says_flag_in task state
+    frame (placed_last past e) ≡ Some b → last_said (past ++ e ∷ []) task state frame ≡ Some b
 last_said-some past e task state frame b some =
     last_said-push past e task state frame
     ∙ ap (λ o. last_or None (filter_map (says_flag_in task state frame) (placed past) ++ cons_option o [])) some
@@ -153,7 +166,8 @@ says_nothing past e task state frame none = by (same_frame frame (frame_of (past
     by false = refl
 
 -- what is said in one frame is said in no other
-says_elsewhere : (past : List PlainEvent) (e : PlainEvent) (task : List ℕ) (state : State) (frame : Option ℕ) → same_frame frame (frame_of (past ++ e ∷ []) (task_of e)) ≡ false → says_flag_in task state frame (placed_last past e) ≡ None
+says_elsewhere : (past : List PlainEvent) (e : PlainEvent) (task : List ℕ) (state : State) (frame : Option ℕ) → same_frame frame
+    (frame_of (past ++ e ∷ []) (task_of e)) ≡ false → says_flag_in task state frame (placed_last past e) ≡ None
 says_elsewhere past e task state frame other = ap (λ (b : Bool). if b then says_flag task state e else None) other
 
 not_innermost : (n m : ℕ) (fs : List Frame) → Falls m fs → m ≤ n → same_frame (Some n) (innermost fs) ≡ false
@@ -167,7 +181,8 @@ last_said-new task state n past = by_pushes (λ xs. length xs ≤ n → last_sai
     step : (xs : List PlainEvent) (e : PlainEvent) → (length xs ≤ n → last_said xs task state (Some n) ≡ None) → length (xs ++ e ∷ []) ≤ n → last_said (xs ++ e ∷ []) task state (Some n) ≡ None
     step xs e rest le =
         last_said-none xs e task state (Some n)
-        (says_elsewhere xs e task state (Some n) (ap (same_frame (Some n)) (frame_of_stack (xs ++ e ∷ []) (task_of e)) ∙ not_innermost n (length (xs ++ e ∷ [])) (stack (xs ++ e ∷ []) (task_of e)) (stack_falls (task_of e) (xs ++ e ∷ [])) le))
+        (says_elsewhere xs e task state (Some n) (ap (same_frame (Some n)) (frame_of_stack (xs ++ e ∷ []) (task_of e)) ∙ not_innermost n
+        (length (xs ++ e ∷ [])) (stack (xs ++ e ∷ []) (task_of e)) (stack_falls (task_of e) (xs ++ e ∷ [])) le))
         ∙ rest (omega (arith, le, length-append xs (e ∷ [])))
 
 levels_in-head : (task : List ℕ) (state : State) (past : List PlainEvent) (fs : List Frame) → levels_in task state past fs ≡ flag_in task state past fs ∷ drop 1 (levels_in task state past fs)
@@ -183,13 +198,15 @@ flag-levels past task state = sym (ap (λ bs. get_or bs 0 true) (levels-head pas
 
 -- what an event doesn't say in these frames, or outside frames, it doesn't change there
 module _ (past : List PlainEvent) (e : PlainEvent) (task : List ℕ) (state : State) (outside : last_said (past ++ e ∷ []) task state None ≡ last_said past task state None) where
-  flag_in-kept : (n : ℕ) (fs : List Frame) → ((k : ℕ) → k < n → last_said (past ++ e ∷ []) task state (Some k) ≡ last_said past task state (Some k)) → n ≤ length past → Falls n fs → flag_in task state (past ++ e ∷ []) fs ≡ flag_in task state past fs
+  flag_in-kept : (n : ℕ) (fs : List Frame) → ((k : ℕ) → k < n → last_said (past ++ e ∷ []) task state (Some k) ≡ last_said past task state (Some k)) →
+      n ≤ length past → Falls n fs → flag_in task state (past ++ e ∷ []) fs ≡ flag_in task state past fs
   flag_in-kept n [] inside le falls = ap (λ o. unwrap_or o true) outside
   flag_in-kept n (f ∷ fs) inside le falls =
       let cut : take f.place (past ++ e ∷ []) ≡ take f.place past = take-append-le f.place past (e ∷ []) (omega (arith, falls.0)) in
       (λ i. unwrap_or (inside f.place falls.0 i) (if is_some_and (same_state state) (state_entered f.element) then false else flag_in task state (cut i) fs))
 
-  levels_in-kept : (n : ℕ) (fs : List Frame) → ((k : ℕ) → k < n → last_said (past ++ e ∷ []) task state (Some k) ≡ last_said past task state (Some k)) → n ≤ length past → Falls n fs → levels_in task state (past ++ e ∷ []) fs ≡ levels_in task state past fs
+  levels_in-kept : (n : ℕ) (fs : List Frame) → ((k : ℕ) → k < n → last_said (past ++ e ∷ []) task state (Some k) ≡ last_said past task state (Some k))
+      → n ≤ length past → Falls n fs → levels_in task state (past ++ e ∷ []) fs ≡ levels_in task state past fs
   levels_in-kept n [] inside le falls = ap (λ b. b ∷ []) (flag_in-kept n [] inside le falls)
   levels_in-kept n (f ∷ fs) inside le falls =
       let here = flag_in-kept n (f ∷ fs) inside le falls in
@@ -197,18 +214,22 @@ module _ (past : List PlainEvent) (e : PlainEvent) (task : List ℕ) (state : St
       (λ i. here i ∷ rest i)
 
 -- an event that says nothing of the flag
-levels_in-quiet : (past : List PlainEvent) (e : PlainEvent) (task : List ℕ) (state : State) (fs : List Frame) → says_flag task state e ≡ None → Falls (length past) fs → levels_in task state (past ++ e ∷ []) fs ≡ levels_in task state past fs
+levels_in-quiet : (past : List PlainEvent) (e : PlainEvent) (task : List ℕ) (state : State) (fs : List Frame) → says_flag task state e ≡ None → Falls
+    (length past) fs → levels_in task state (past ++ e ∷ []) fs ≡ levels_in task state past fs
 levels_in-quiet past e task state fs none falls =
     levels_in-kept past e task state (last_said-none past e task state None (says_nothing past e task state None none)) (length past) fs
     (λ k low. last_said-none past e task state (Some k) (says_nothing past e task state (Some k) none)) (omega arith) falls
 
 -- an event that says nothing of the flag and leaves the frames leaves the levels
-levels-kept : (past : List PlainEvent) (e : PlainEvent) (task : List ℕ) (state : State) → stack (past ++ e ∷ []) task ≡ stack past task → says_flag task state e ≡ None → levels (past ++ e ∷ []) task state ≡ levels past task state
+levels-kept : (past : List PlainEvent) (e : PlainEvent) (task : List ℕ) (state : State) → stack (past ++ e ∷ []) task ≡ stack past task → says_flag
+    task state e ≡ None → levels (past ++ e ∷ []) task state ≡ levels past task state
 levels-kept past e task state same none = ap (levels_in task state (past ++ e ∷ [])) same ∙ levels_in-quiet past e task state (stack past task) none (stack_falls task past)
 
 -- an event that says it, and leaves the frames, sets the first level
-levels-said : (past : List PlainEvent) (e : PlainEvent) (state : State) (b : Bool) → stack (past ++ e ∷ []) (task_of e) ≡ stack past (task_of e) → says_flag (task_of e) state e ≡ Some b → levels (past ++ e ∷ []) (task_of e) state ≡ b ∷ drop 1 (levels past (task_of e) state)
-levels-said past e state b same says = ap (levels_in (task_of e) state (past ++ e ∷ [])) same ∙ each (stack past (task_of e)) (frame_of_stack (past ++ e ∷ []) (task_of e) ∙ ap innermost same) (stack_falls (task_of e) past)
+levels-said : (past : List PlainEvent) (e : PlainEvent) (state : State) (b : Bool) → stack (past ++ e ∷ []) (task_of e) ≡ stack past (task_of e) →
+    says_flag (task_of e) state e ≡ Some b → levels (past ++ e ∷ []) (task_of e) state ≡ b ∷ drop 1 (levels past (task_of e) state)
+levels-said past e state b same says = ap (levels_in (task_of e) state (past ++ e ∷ [])) same ∙ each (stack past (task_of e))
+    (frame_of_stack (past ++ e ∷ []) (task_of e) ∙ ap innermost same) (stack_falls (task_of e) past)
   where
     here : (frame : Option ℕ) → same_frame frame (frame_of (past ++ e ∷ []) (task_of e)) ≡ true → last_said (past ++ e ∷ []) (task_of e) state frame ≡ Some b
     here frame is = last_said-some past e (task_of e) state frame b (ap (λ (b : Bool). if b then says_flag (task_of e) state e else None) is ∙ says)
@@ -216,7 +237,8 @@ levels-said past e state b same says = ap (levels_in (task_of e) state (past ++ 
     elsewhere : (frame : Option ℕ) → same_frame frame (frame_of (past ++ e ∷ []) (task_of e)) ≡ false → last_said (past ++ e ∷ []) (task_of e) state frame ≡ last_said past (task_of e) state frame
     elsewhere frame is = last_said-none past e (task_of e) state frame (says_elsewhere past e (task_of e) state frame is)
 
-    each : (fs : List Frame) → frame_of (past ++ e ∷ []) (task_of e) ≡ innermost fs → Falls (length past) fs → levels_in (task_of e) state (past ++ e ∷ []) fs ≡ b ∷ drop 1 (levels_in (task_of e) state past fs)
+    each : (fs : List Frame) → frame_of (past ++ e ∷ []) (task_of e) ≡ innermost fs → Falls (length past) fs → levels_in (task_of e) state
+        (past ++ e ∷ []) fs ≡ b ∷ drop 1 (levels_in (task_of e) state past fs)
     each [] frame falls = ap (λ o. unwrap_or o true ∷ []) (here None (ap (same_frame None) frame))
     each (f ∷ fs) frame falls =
         let own = here (Some f.place) (ap (same_frame (Some f.place)) frame ∙ eq-eqb f.place f.place refl) in
@@ -253,7 +275,8 @@ pub levels-quiet : (past : List PlainEvent) (e : PlainEvent) (task : List ℕ) (
 levels-quiet past e task state quiet = let says = quiet_says e task state quiet in levels-kept past e task state (stack-quiet past task e says.0 says.1) says.2
 
 -- `enable` and `disable` set the flag of the innermost frame for their state, and no other
-pub levels-enable : (past : List PlainEvent) (task : List ℕ) (changed state : State) → levels (past ++ Enable task changed ∷ []) task state ≡ (if same_state state changed then true ∷ drop 1 (levels past task state) else levels past task state)
+pub levels-enable : (past : List PlainEvent) (task : List ℕ) (changed state : State) → levels (past ++ Enable task changed ∷ []) task state ≡
+    (if same_state state changed then true ∷ drop 1 (levels past task state) else levels past task state)
 levels-enable past task changed state = by (same_state state changed) refl
   where
     says : (b : Bool) → same_state state changed ≡ b → says_flag task state (Enable task changed) ≡ (if b then Some true else None)
@@ -263,7 +286,8 @@ levels-enable past task changed state = by (same_state state changed) refl
     by true is = levels-said past (Enable task changed) state true (stack-quiet past task (Enable task changed) refl refl) (says true is)
     by false is = levels-kept past (Enable task changed) task state (stack-quiet past task (Enable task changed) refl refl) (says false is)
 
-pub levels-disable : (past : List PlainEvent) (task : List ℕ) (changed state : State) → levels (past ++ Disable task changed ∷ []) task state ≡ (if same_state state changed then false ∷ drop 1 (levels past task state) else levels past task state)
+pub levels-disable : (past : List PlainEvent) (task : List ℕ) (changed state : State) → levels (past ++ Disable task changed ∷ []) task state ≡
+    (if same_state state changed then false ∷ drop 1 (levels past task state) else levels past task state)
 levels-disable past task changed state = by (same_state state changed) refl
   where
     says : (b : Bool) → same_state state changed ≡ b → says_flag task state (Disable task changed) ≡ (if b then Some false else None)
@@ -274,14 +298,16 @@ levels-disable past task changed state = by (same_state state changed) refl
     by false is = levels-kept past (Disable task changed) task state (stack-quiet past task (Disable task changed) refl refl) (says false is)
 
 -- A frame begins with the flag of its own state off and the other as before; the flags around it stay.
-pub levels-enter : (past : List PlainEvent) (task : List ℕ) (entered state : State) → levels (past ++ Enter task entered ∷ []) task state ≡ (if same_state state entered then false else flag past task state) ∷ levels past task state
+pub levels-enter : (past : List PlainEvent) (task : List ℕ) (entered state : State) → levels (past ++ Enter task entered ∷ []) task state ≡
+    (if same_state state entered then false else flag past task state) ∷ levels past task state
 levels-enter past task entered state =
     ap (levels_in task state (past ++ Enter task entered ∷ []))
     (stack-enter_own past task entered)
     ∙ (λ i. unwrap_or (unsaid i) (if same_state state entered then false else flag_in task state (before i) (stack past task)) ∷ rest i)
   where
     unsaid : last_said (past ++ Enter task entered ∷ []) task state (Some (length past)) ≡ None
-    unsaid = last_said-none past (Enter task entered) task state (Some (length past)) (says_nothing past (Enter task entered) task state (Some (length past)) refl) ∙ last_said-new task state (length past) past (omega arith)
+    unsaid = last_said-none past (Enter task entered) task state (Some (length past))
+        (says_nothing past (Enter task entered) task state (Some (length past)) refl) ∙ last_said-new task state (length past) past (omega arith)
 
     before : take (length past) (past ++ Enter task entered ∷ []) ≡ past
     before = take_at past (Enter task entered ∷ []) (length past) refl
@@ -290,7 +316,8 @@ levels-enter past task entered state =
     rest = levels_in-quiet past (Enter task entered) task state (stack past task) refl (stack_falls task past)
 
 -- Where a frame is open, an exit gives back the flags around it.
-pub levels-exit : (past : List PlainEvent) (task : List ℕ) (left state : State) (inner : Frame) (outer : List Frame) → stack past task ≡ inner ∷ outer → levels (past ++ Exit task left ∷ []) task state ≡ drop 1 (levels past task state)
+pub levels-exit : (past : List PlainEvent) (task : List ℕ) (left state : State) (inner : Frame) (outer : List Frame) → stack past task ≡ inner ∷ outer
+    → levels (past ++ Exit task left ∷ []) task state ≡ drop 1 (levels past task state)
 levels-exit past task left state inner outer is =
     let falls : Falls (length past) (inner ∷ outer) = subst (Falls (length past)) is (stack_falls task past) in
     ap (levels_in task state (past ++ Exit task left ∷ [])) (stack-exit past task left ∙ ap (drop 1) is)
@@ -333,7 +360,8 @@ contexts-states past task = ap (filter_map (λ o. state_entered o.element)) (fra
         ∙ sym (reverse_onto (map state_of fs) (state_of f) [])
 
 -- an exit that is no fault closes a frame
-pub levels-exit_good : (past : List PlainEvent) (task : List ℕ) (left state : State) → is_bad_exit past (Exit task left) ≡ false → levels (past ++ Exit task left ∷ []) task state ≡ drop 1 (levels past task state)
+pub levels-exit_good : (past : List PlainEvent) (task : List ℕ) (left state : State) → is_bad_exit past (Exit task left) ≡ false → levels
+    (past ++ Exit task left ∷ []) task state ≡ drop 1 (levels past task state)
 levels-exit_good past task left state good = each (stack past task) refl
   where
     each : (fs : List Frame) → stack past task ≡ fs → levels (past ++ Exit task left ∷ []) task state ≡ drop 1 (levels past task state)
@@ -347,7 +375,8 @@ levels-exit_good past task left state good = each (stack past task) refl
 pub flag-other : (past : List PlainEvent) (e : PlainEvent) (task : List ℕ) (state : State) → bytes_eq task (task_of e) ≡ false → flag (past ++ e ∷ []) task state ≡ flag past task state
 flag-other past e task state other = flag-levels (past ++ e ∷ []) task state ∙ ap (λ bs. get_or bs 0 true) (levels-other past e task state other) ∙ sym (flag-levels past task state)
 
-pub is_enabled-other : (past : List PlainEvent) (e : PlainEvent) (task : List ℕ) (state : State) → bytes_eq task (task_of e) ≡ false → is_enabled (past ++ e ∷ []) task state ≡ is_enabled past task state
+pub is_enabled-other : (past : List PlainEvent) (e : PlainEvent) (task : List ℕ) (state : State) → bytes_eq task (task_of e) ≡ false → is_enabled
+    (past ++ e ∷ []) task state ≡ is_enabled past task state
 is_enabled-other past e task Hard other = flag-other past e task Hard other
 is_enabled-other past e task Soft other = (λ i. flag-other past e task Hard other i && flag-other past e task Soft other i)
 
@@ -363,16 +392,20 @@ is_enabled-quiet past e task state quiet = each state
 
 -- the flag after an event of its own task
 
-pub flag-enter : (past : List PlainEvent) (task : List ℕ) (entered state : State) → flag (past ++ Enter task entered ∷ []) task state ≡ (if same_state state entered then false else flag past task state)
+pub flag-enter : (past : List PlainEvent) (task : List ℕ) (entered state : State) → flag (past ++ Enter task entered ∷ []) task state ≡
+    (if same_state state entered then false else flag past task state)
 flag-enter past task entered state = flag-levels (past ++ Enter task entered ∷ []) task state ∙ ap (λ bs. get_or bs 0 true) (levels-enter past task entered state)
 
 -- the first of the levels, set or not
-first_set : (past : List PlainEvent) (task : List ℕ) (state : State) (to c : Bool) → get_or (if c then to ∷ drop 1 (levels past task state) else levels past task state) 0 true ≡ (if c then to else flag past task state)
+first_set : (past : List PlainEvent) (task : List ℕ) (state : State) (to c : Bool) → get_or
+    (if c then to ∷ drop 1 (levels past task state) else levels past task state) 0 true ≡ (if c then to else flag past task state)
 first_set past task state to true = refl
 first_set past task state to false = sym (flag-levels past task state)
 
-pub flag-disable : (past : List PlainEvent) (task : List ℕ) (changed state : State) → flag (past ++ Disable task changed ∷ []) task state ≡ (if same_state state changed then false else flag past task state)
-flag-disable past task changed state = flag-levels (past ++ Disable task changed ∷ []) task state ∙ ap (λ bs. get_or bs 0 true) (levels-disable past task changed state) ∙ first_set past task state false (same_state state changed)
+pub flag-disable : (past : List PlainEvent) (task : List ℕ) (changed state : State) → flag (past ++ Disable task changed ∷ []) task state ≡
+    (if same_state state changed then false else flag past task state)
+flag-disable past task changed state = flag-levels (past ++ Disable task changed ∷ []) task state ∙ ap (λ bs. get_or bs 0 true)
+    (levels-disable past task changed state) ∙ first_set past task state false (same_state state changed)
 
 -- what is off, or as before, is on where it was on
 off_or : (c b : Bool) → (if c then false else b) ≡ true → b ≡ true
@@ -380,7 +413,8 @@ off_or true b h = absurd (true≢false (sym h))
 off_or false b h = h
 
 -- `enter` and `disable` enable nothing
-module _ (past : List PlainEvent) (e : PlainEvent) (changed : State) (flags : (state : State) → flag (past ++ e ∷ []) (task_of e) state ≡ (if same_state state changed then false else flag past (task_of e) state)) where
+module _ (past : List PlainEvent) (e : PlainEvent) (changed : State) (flags : (state : State) → flag (past ++ e ∷ []) (task_of e) state ≡
+    (if same_state state changed then false else flag past (task_of e) state)) where
   was_on : (state : State) → flag (past ++ e ∷ []) (task_of e) state ≡ true → flag past (task_of e) state ≡ true
   was_on state on = off_or (same_state state changed) (flag past (task_of e) state) (sym (flags state) ∙ on)
 

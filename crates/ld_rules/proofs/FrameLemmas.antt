@@ -34,13 +34,15 @@ last_passes p xs rest x is =
     ap p (sym here) ∙ filter_passes p xs (length rest) x long
 
 -- a frame opens
-pub frames-enter : (past : List PlainEvent) (task by : List ℕ) (state : State) → frames (past ++ Enter by state ∷ []) task ≡ frames past task ++ (if bytes_eq task by then record { place = length past; element = Enter by state; key = by } ∷ [] else [])
+pub frames-enter : (past : List PlainEvent) (task by : List ℕ) (state : State) → frames (past ++ Enter by state ∷ []) task ≡ frames past task ++
+    (if bytes_eq task by then record { place = length past; element = Enter by state; key = by } ∷ [] else [])
 frames-enter past task by state =
     ap (filter (λ o. bytes_eq task o.key)) (openings-opens bytes_eq enters exits frame_keys past (Enter by state) by refl)
     ∙ filter-append (λ o. bytes_eq task o.key) (openings bytes_eq enters exits past) (record { place = length past; element = Enter by state; key = by } ∷ [])
 
 -- the innermost frame closes
-pub frames-exit : (past : List PlainEvent) (task : List ℕ) (state : State) (outer : List Frame) (inner : Frame) → frames past task ≡ outer ++ inner ∷ [] → frames (past ++ Exit task state ∷ []) task ≡ outer
+pub frames-exit : (past : List PlainEvent) (task : List ℕ) (state : State) (outer : List Frame) (inner : Frame) → frames past task ≡ outer ++ inner ∷
+    [] → frames (past ++ Exit task state ∷ []) task ≡ outer
 frames-exit past task state outer inner is =
     ap (filter (λ o. bytes_eq task o.key)) (openings-closes bytes_eq enters exits frame_keys past (Exit task state) task refl)
     ∙ filter-remove_last (λ o. bytes_eq task o.key) (λ o. bytes_eq task o.key) (λ o h. h) (openings bytes_eq enters exits past)

@@ -1,5 +1,6 @@
 -- The locks of a task, frame by frame, and what stood just before the enter of a frame.
-use Rattle.std.proofs.Common.{◌≡◌, ◌≤◌, ◌++◌, ◌∷◌, [], List, ℕ, Bool, true, false, ◌&&◌, ◌||◌, not, cond, length, filter, take, drop, get_or, Some, None, refl, ap, sym, subst, ◌∙◌, arith, if◌then◌else◌, append_assoc, length-append}
+use Rattle.std.proofs.Common.{◌≡◌, ◌≤◌, ◌++◌, ◌∷◌, [], List, ℕ, Bool, true, false, ◌&&◌, ◌||◌, not, cond, length, filter, take, drop, get_or, Some}
+use Rattle.std.proofs.Common.{None, refl, ap, sym, subst, ◌∙◌, arith, if◌then◌else◌, append_assoc, length-append}
 use Rattle.std.proofs.lemmas.Bool.{true≢false, and_parts, and_from, ne_eqb}
 use Rattle.std.proofs.lemmas.List.{append-nil, take-append-le, take_at, drop_at}
 use Rattle.std.proofs.lemmas.List.Elements.{filter-append}
@@ -34,7 +35,8 @@ starts-kept past e task same = ap (starts_in (past ++ e ∷ []) task) same ∙ s
 pub starts-enter : (past : List PlainEvent) (task : List ℕ) (state : State) → starts (past ++ Enter task state ∷ []) task ≡ length (held_by past task) ∷ starts past task
 starts-enter past task state =
     ap (starts_in (past ++ Enter task state ∷ []) task) (stack-enter_own past task state)
-    ∙ (λ i. length (held_by (take_at past (Enter task state ∷ []) (length past) refl i) task) ∷ starts_in-push past (Enter task state) task (length past) (stack past task) (omega arith) (stack_falls task past) i)
+    ∙ (λ i. length (held_by (take_at past (Enter task state ∷ []) (length past) refl i) task) ∷ starts_in-push past (Enter task state) task
+    (length past) (stack past task) (omega arith) (stack_falls task past) i)
 
 pub starts-exit : (past : List PlainEvent) (task : List ℕ) (state : State) → starts (past ++ Exit task state ∷ []) task ≡ drop 1 (starts past task)
 starts-exit past task state =
@@ -50,12 +52,14 @@ starts-exit past task state =
 -- innermost frame.
 abbrev pub Grouped : List Frame → List ℕ → List Key → Type 0
 Grouped [] ss keys = list_all (λ key. same_frame None key.frame) keys ≡ true
-Grouped (f ∷ fs) ss keys = (outer : List Key) × ((own : List Key) × ((keys ≡ outer ++ own) × (length outer ≡ get_or ss 0 0) × (list_all (λ key. same_frame (Some f.place) key.frame) own ≡ true) × Grouped fs (drop 1 ss) outer))
+Grouped (f ∷ fs) ss keys = (outer : List Key) × ((own : List Key) ×
+    ((keys ≡ outer ++ own) × (length outer ≡ get_or ss 0 0) × (list_all (λ key. same_frame (Some f.place) key.frame) own ≡ true) × Grouped fs (drop 1 ss) outer))
 
 -- keys grouped by frames are in none of a later place
 grouped_elsewhere : (n m : ℕ) (fs : List Frame) (ss : List ℕ) (keys : List Key) → m ≤ n → Falls m fs → Grouped fs ss keys → list_all (λ key. not (same_frame (Some n) key.frame)) keys ≡ true
 grouped_elsewhere n m [] ss keys le falls h =
-    list_all_mono (λ key. same_frame None key.frame) (λ key. not (same_frame (Some n) key.frame)) (λ key is. ap (λ frame. not (same_frame (Some n) frame)) (sym ((Decides-same_frame None key.frame).0 is))) keys h
+    list_all_mono (λ key. same_frame None key.frame) (λ key. not (same_frame (Some n) key.frame))
+    (λ key is. ap (λ frame. not (same_frame (Some n) frame)) (sym ((Decides-same_frame None key.frame).0 is))) keys h
 grouped_elsewhere n m (f ∷ fs) ss keys le falls h =
     ap (list_all (λ key. not (same_frame (Some n) key.frame))) h.1.1.0
     ∙ list_all-append (λ key. not (same_frame (Some n) key.frame)) h.0 h.1.0
@@ -104,11 +108,13 @@ remove_last-append p (x ∷ xs) ys none = by (p x) refl (remove_last-append p xs
     by false is rest = remove_last-skip p x (xs ++ ys) is ∙ ap (λ zs. x ∷ zs) (rest (ap (λ b. b || list_any p xs) (sym is) ∙ none))
 
 -- a key released in the innermost frame
-grouped_releases : (m : ℕ) (fs : List Frame) (ss : List ℕ) (keys : List Key) (p : Key → Bool) → Falls m fs → ((key : Key) → p key ≡ true → innermost fs ≡ key.frame) → Grouped fs ss keys → Grouped fs ss (remove_last p keys)
+grouped_releases : (m : ℕ) (fs : List Frame) (ss : List ℕ) (keys : List Key) (p : Key → Bool) → Falls m fs →
+    ((key : Key) → p key ≡ true → innermost fs ≡ key.frame) → Grouped fs ss keys → Grouped fs ss (remove_last p keys)
 grouped_releases m [] ss keys p falls frame h = list_all-remove_last p (λ k. same_frame None k.frame) keys h
 grouped_releases m (f ∷ fs) ss keys p falls frame h =
     let none : list_any p h.0 ≡ false =
-    any_none p (λ key. not (same_frame (Some f.place) key.frame)) (λ key is. ap not ((Decides-same_frame (Some f.place) key.frame).1 (frame key is))) h.0 (grouped_elsewhere f.place f.place fs (drop 1 ss) h.0 (omega arith) falls.1 h.1.1.3) in (
+    any_none p (λ key. not (same_frame (Some f.place) key.frame)) (λ key is. ap not ((Decides-same_frame (Some f.place) key.frame).1 (frame key is)))
+    h.0 (grouped_elsewhere f.place f.place fs (drop 1 ss) h.0 (omega arith) falls.1 h.1.1.3) in (
       h.0,
       (
         remove_last p h.1.0,
@@ -133,11 +139,13 @@ filter_none q (x ∷ xs) all =
     by false fails rest = rest
 
 -- those of the innermost frame
-grouped_own : (m : ℕ) (f : Frame) (fs : List Frame) (ss : List ℕ) (keys : List Key) → Falls m (f ∷ fs) → (h : Grouped (f ∷ fs) ss keys) → filter (λ key. same_frame (Some f.place) key.frame) keys ≡ h.1.0
+grouped_own : (m : ℕ) (f : Frame) (fs : List Frame) (ss : List ℕ) (keys : List Key) → Falls m (f ∷ fs) → (h : Grouped (f ∷ fs) ss keys) → filter
+    (λ key. same_frame (Some f.place) key.frame) keys ≡ h.1.0
 grouped_own m f fs ss keys falls h =
     ap (filter (λ key. same_frame (Some f.place) key.frame)) h.1.1.0
     ∙ filter-append (λ key. same_frame (Some f.place) key.frame) h.0 h.1.0
-    ∙ (λ i. filter_none (λ key. same_frame (Some f.place) key.frame) h.0 (grouped_elsewhere f.place f.place fs (drop 1 ss) h.0 (omega arith) falls.1 h.1.1.3) i ++ filter_all (λ key. same_frame (Some f.place) key.frame) h.1.0 h.1.1.2 i)
+    ∙ (λ i. filter_none (λ key. same_frame (Some f.place) key.frame) h.0 (grouped_elsewhere f.place f.place fs (drop 1 ss) h.0 (omega arith) falls.1
+    h.1.1.3) i ++ filter_all (λ key. same_frame (Some f.place) key.frame) h.1.0 h.1.1.2 i)
 
 -- What a task holds is grouped by its open frames.
 abbrev pub IsGrouped : List PlainEvent → List ℕ → Type 0
@@ -163,8 +171,10 @@ held_by-other_task past task e other = by e other
     by (Disable t s) other = held_by-other past task (Disable t s) refl refl
 
 module _ (past : List PlainEvent) where
-  moved : (task : List ℕ) (e : PlainEvent) → stack (past ++ e ∷ []) task ≡ stack past task → Grouped (stack past task) (starts past task) (held_by (past ++ e ∷ []) task) → IsGrouped (past ++ e ∷ []) task
-  moved task e same h = subst (λ fs. Grouped fs (starts (past ++ e ∷ []) task) (held_by (past ++ e ∷ []) task)) (sym same) (subst (λ ss. Grouped (stack past task) ss (held_by (past ++ e ∷ []) task)) (sym (starts-kept past e task same)) h)
+  moved : (task : List ℕ) (e : PlainEvent) → stack (past ++ e ∷ []) task ≡ stack past task → Grouped (stack past task) (starts past task)
+      (held_by (past ++ e ∷ []) task) → IsGrouped (past ++ e ∷ []) task
+  moved task e same h = subst (λ fs. Grouped fs (starts (past ++ e ∷ []) task) (held_by (past ++ e ∷ []) task)) (sym same)
+      (subst (λ ss. Grouped (stack past task) ss (held_by (past ++ e ∷ []) task)) (sym (starts-kept past e task same)) h)
 
   unmoved : (task : List ℕ) (e : PlainEvent) → stack (past ++ e ∷ []) task ≡ stack past task → held_by (past ++ e ∷ []) task ≡ held_by past task → IsGrouped past task → IsGrouped (past ++ e ∷ []) task
   unmoved task e same held h = moved task e same (subst (Grouped (stack past task) (starts past task)) (sym held) h)
@@ -173,8 +183,10 @@ module _ (past : List PlainEvent) where
   acquired e lock is no_enter no_exit h =
       moved (task_of e) e (stack-quiet past (task_of e) e no_enter no_exit)
       (subst (Grouped (stack past (task_of e)) (starts past (task_of e)))
-      (sym (held_by-acquires past (task_of e) e lock is ∙ ap (λ (b : Bool). held_by past (task_of e) ++ (if b then record { task = task_of e; frame = frame_of past (task_of e); lock = lock } ∷ [] else [])) ((bytes_eq-Decides (task_of e) (task_of e)).1 refl)))
-      (grouped_acquires (stack past (task_of e)) (starts past (task_of e)) (held_by past (task_of e)) (record { task = task_of e; frame = frame_of past (task_of e); lock = lock }) (frame_of_stack past (task_of e)) h))
+      (sym (held_by-acquires past (task_of e) e lock is ∙ ap (λ (b : Bool). held_by past (task_of e) ++
+      (if b then record { task = task_of e; frame = frame_of past (task_of e); lock = lock } ∷ [] else [])) ((bytes_eq-Decides (task_of e) (task_of e)).1 refl)))
+      (grouped_acquires (stack past (task_of e)) (starts past (task_of e)) (held_by past (task_of e))
+      (record { task = task_of e; frame = frame_of past (task_of e); lock = lock }) (frame_of_stack past (task_of e)) h))
 
   released : (task : List ℕ) (lock : PlainLock) → IsGrouped past task → IsGrouped (past ++ Release task lock ∷ []) task
   released task lock h =
@@ -186,7 +198,8 @@ module _ (past : List PlainEvent) where
   entered : (task : List ℕ) (state : State) → IsGrouped past task → IsGrouped (past ++ Enter task state ∷ []) task
   entered task state h =
       subst (λ fs. Grouped fs (starts (past ++ Enter task state ∷ []) task) (held_by (past ++ Enter task state ∷ []) task)) (sym (stack-enter_own past task state))
-      (subst (λ ss. Grouped (record { place = length past; element = Enter task state; key = task } ∷ stack past task) ss (held_by (past ++ Enter task state ∷ []) task)) (sym (starts-enter past task state))
+      (subst (λ ss. Grouped (record { place = length past; element = Enter task state; key = task } ∷ stack past task) ss
+      (held_by (past ++ Enter task state ∷ []) task)) (sym (starts-enter past task state))
       (held_by past task, ([], (held_by-other past task (Enter task state) refl refl ∙ sym (append-nil (held_by past task)), refl, refl, h))))
 
   exited : (task : List ℕ) (state : State) → is_held_at_exit past (Exit task state) ≡ false → IsGrouped past task → IsGrouped (past ++ Exit task state ∷ []) task
@@ -200,10 +213,12 @@ module _ (past : List PlainEvent) where
       no_elements [] none = refl
       no_elements (k ∷ keys) none = absurd (true≢false none)
 
-      each : (fs : List Frame) (ss : List ℕ) (keys : List Key) → frame_of past task ≡ innermost fs → Falls (length past) fs → list_any (λ key. true) (filter (λ key. same_frame (frame_of past task) key.frame) keys) ≡ false → Grouped fs ss keys → Grouped (drop 1 fs) (drop 1 ss) keys
+      each : (fs : List Frame) (ss : List ℕ) (keys : List Key) → frame_of past task ≡ innermost fs → Falls (length past) fs → list_any (λ key. true)
+          (filter (λ key. same_frame (frame_of past task) key.frame) keys) ≡ false → Grouped fs ss keys → Grouped (drop 1 fs) (drop 1 ss) keys
       each [] ss keys frame falls none h = h
       each (f ∷ fs) ss keys frame falls none h =
-          let gone : h.1.0 ≡ [] = sym (grouped_own (length past) f fs ss keys falls h) ∙ ap (λ o. filter (λ key. same_frame o key.frame) keys) (sym frame) ∙ no_elements (filter (λ key. same_frame (frame_of past task) key.frame) keys) none in
+          let gone : h.1.0 ≡ [] = sym (grouped_own (length past) f fs ss keys falls h) ∙ ap (λ o. filter (λ key. same_frame o key.frame) keys)
+          (sym frame) ∙ no_elements (filter (λ key. same_frame (frame_of past task) key.frame) keys) none in
           subst (Grouped fs (drop 1 ss)) (sym (h.1.1.0 ∙ ap (λ own. h.0 ++ own) gone ∙ append-nil h.0)) h.1.1.3
 
   -- one more event keeps it, unless a lock is held in a frame that closes
@@ -230,7 +245,8 @@ grouped-empty task = refl
 pub held_in-innermost : (past : List PlainEvent) (task : List ℕ) → IsGrouped past task → held_in past task (frame_of past task) ≡ drop (get_or (starts past task) 0 0) (held_by past task)
 held_in-innermost past task h = each (stack past task) refl (stack_falls task past) h
   where
-    each : (fs : List Frame) → stack past task ≡ fs → Falls (length past) fs → Grouped fs (starts_in past task fs) (held_by past task) → held_in past task (frame_of past task) ≡ drop (get_or (starts_in past task fs) 0 0) (held_by past task)
+    each : (fs : List Frame) → stack past task ≡ fs → Falls (length past) fs → Grouped fs (starts_in past task fs) (held_by past task) → held_in past
+        task (frame_of past task) ≡ drop (get_or (starts_in past task fs) 0 0) (held_by past task)
     each [] is falls h = ap (held_in past task) (frame_of_stack past task ∙ ap innermost is) ∙ filter_all (λ key. same_frame None key.frame) (held_by past task) h
     each (f ∷ fs) is falls h =
         ap (held_in past task) (frame_of_stack past task ∙ ap innermost is)
@@ -238,13 +254,16 @@ held_in-innermost past task h = each (stack past task) refl (stack_falls task pa
         ∙ sym (ap (drop (length (held_by (take f.place past) task))) h.1.1.0 ∙ drop_at h.0 h.1.0 (length (held_by (take f.place past) task)) h.1.1.1)
 
 -- and what it holds below that start it holds in other frames
-pub outer_elsewhere : (past : List PlainEvent) (task : List ℕ) → IsGrouped past task → list_any (λ key. same_frame (frame_of past task) key.frame) (take (get_or (starts past task) 0 0) (held_by past task)) ≡ false
+pub outer_elsewhere : (past : List PlainEvent) (task : List ℕ) → IsGrouped past task → list_any (λ key. same_frame (frame_of past task) key.frame)
+    (take (get_or (starts past task) 0 0) (held_by past task)) ≡ false
 outer_elsewhere past task h = each (stack past task) refl (stack_falls task past) h
   where
-    each : (fs : List Frame) → stack past task ≡ fs → Falls (length past) fs → Grouped fs (starts_in past task fs) (held_by past task) → list_any (λ key. same_frame (frame_of past task) key.frame) (take (get_or (starts_in past task fs) 0 0) (held_by past task)) ≡ false
+    each : (fs : List Frame) → stack past task ≡ fs → Falls (length past) fs → Grouped fs (starts_in past task fs) (held_by past task) → list_any
+        (λ key. same_frame (frame_of past task) key.frame) (take (get_or (starts_in past task fs) 0 0) (held_by past task)) ≡ false
     each [] is falls h = refl
     each (f ∷ fs) is falls h =
-        let outer : take (length (held_by (take f.place past) task)) (held_by past task) ≡ h.0 = ap (take (length (held_by (take f.place past) task))) h.1.1.0 ∙ take_at h.0 h.1.0 (length (held_by (take f.place past) task)) h.1.1.1 in
+        let outer : take (length (held_by (take f.place past) task)) (held_by past task) ≡ h.0 = ap (take (length (held_by (take f.place past) task)))
+        h.1.1.0 ∙ take_at h.0 h.1.0 (length (held_by (take f.place past) task)) h.1.1.1 in
         let frame : frame_of past task ≡ Some f.place = frame_of_stack past task ∙ ap innermost is in
         ap (list_any (λ key. same_frame (frame_of past task) key.frame)) outer
         ∙ any_none (λ key. same_frame (frame_of past task) key.frame) (λ key. not (same_frame (Some f.place) key.frame))

@@ -78,31 +78,42 @@ place_in past p = record { event = p.1; frame = frame_of (take (p.0 + 1) past) (
 pub placed-push : (past : List PlainEvent) (e : PlainEvent) → placed (past ++ e ∷ []) ≡ placed past ++ record { event = e; frame = frame_of (past ++ e ∷ []) (task_of e) } ∷ []
 placed-push past e =
     let kept : map (place_in (past ++ e ∷ [])) (enumerate_from 0 past) ≡ placed past =
-    map_along (place_in (past ++ e ∷ [])) (place_in past) 0 past (λ n x low high. ap (λ ys. record { event = x; frame = frame_of ys (task_of x) }) (take-append-le (n + 1) past (e ∷ []) (omega arith))) in
+    map_along (place_in (past ++ e ∷ [])) (place_in past) 0 past (λ n x low high. ap (λ ys. record { event = x; frame = frame_of ys (task_of x) })
+    (take-append-le (n + 1) past (e ∷ []) (omega arith))) in
     let whole : take ((0 + length past) + 1) (past ++ e ∷ []) ≡ past ++ e ∷ [] = take_all ((0 + length past) + 1) (past ++ e ∷ []) (omega (arith, length-append past (e ∷ []))) in
     ap (map (place_in (past ++ e ∷ []))) (enumerate_push 0 past e)
     ∙ map-append (place_in (past ++ e ∷ [])) (enumerate_from 0 past) ((0 + length past, e) ∷ [])
     ∙ (λ i. kept i ++ record { event = e; frame = frame_of (whole i) (task_of e) } ∷ [])
 
 -- an acquisition is open from its position on, and every other stays
-pub held-acquires : (past : List PlainEvent) (e : PlainEvent) (lock : PlainLock) → lock_acquired e ≡ Some lock → held (past ++ e ∷ []) ≡ held past ++ record { task = task_of e; frame = frame_of past (task_of e); lock = lock } ∷ []
+pub held-acquires : (past : List PlainEvent) (e : PlainEvent) (lock : PlainLock) → lock_acquired e ≡ Some lock → held (past ++ e ∷ []) ≡ held past ++
+    record { task = task_of e; frame = frame_of past (task_of e); lock = lock } ∷ []
 held-acquires past e lock is =
     let quiet = enters_none e lock is in
     let frame : frame_of (past ++ e ∷ []) (task_of e) ≡ frame_of past (task_of e) = frame_of-other past (task_of e) e quiet.0 quiet.1 in
     let key : acquires (record { event = e; frame = frame_of (past ++ e ∷ []) (task_of e) }) ≡ Some (record { task = task_of e; frame = frame_of past (task_of e); lock = lock }) =
     (λ i. key_with (record { event = e; frame = frame i }) (is i)) in
     ap (λ xs. map (λ o. o.key) (openings same_key acquires releases xs)) (placed-push past e)
-    ∙ ap (map (λ o. o.key)) (openings-opens same_key acquires releases lock_keys (placed past) (record { event = e; frame = frame_of (past ++ e ∷ []) (task_of e) }) (record { task = task_of e; frame = frame_of past (task_of e); lock = lock }) key)
-    ∙ map-append (λ o. o.key) (openings same_key acquires releases (placed past)) (record { place = length (placed past); element = record { event = e; frame = frame_of (past ++ e ∷ []) (task_of e) }; key = record { task = task_of e; frame = frame_of past (task_of e); lock = lock } } ∷ [])
+    ∙ ap (map (λ o. o.key)) (openings-opens same_key acquires releases lock_keys (placed past)
+    (record { event = e; frame = frame_of (past ++ e ∷ []) (task_of e) }) (record { task = task_of e; frame = frame_of past (task_of e); lock = lock }) key)
+    ∙ map-append (λ o. o.key) (openings same_key acquires releases (placed past))
+    (record {
+      place = length (placed past);
+      element = record { event = e; frame = frame_of (past ++ e ∷ []) (task_of e) };
+      key =
+          record { task = task_of e; frame = frame_of past (task_of e); lock = lock };
+    } ∷ [])
 
 -- a release ends the latest open acquisition of its key, and every other stays
-pub held-releases : (past : List PlainEvent) (task : List ℕ) (lock : PlainLock) → held (past ++ Release task lock ∷ []) ≡ remove_last (same_key (record { task = task; frame = frame_of past task; lock = lock })) (held past)
+pub held-releases : (past : List PlainEvent) (task : List ℕ) (lock : PlainLock) → held (past ++ Release task lock ∷ []) ≡ remove_last
+    (same_key (record { task = task; frame = frame_of past task; lock = lock })) (held past)
 held-releases past task lock =
     let frame : frame_of (past ++ Release task lock ∷ []) task ≡ frame_of past task = frame_of-other past task (Release task lock) refl refl in
     let key : releases (record { event = Release task lock; frame = frame_of (past ++ Release task lock ∷ []) task }) ≡ Some (record { task = task; frame = frame_of past task; lock = lock }) =
     (λ i. key_with (record { event = Release task lock; frame = frame i }) (Some lock)) in
     ap (λ xs. map (λ o. o.key) (openings same_key acquires releases xs)) (placed-push past (Release task lock))
-    ∙ ap (map (λ o. o.key)) (openings-closes same_key acquires releases lock_keys (placed past) (record { event = Release task lock; frame = frame_of (past ++ Release task lock ∷ []) task }) (record { task = task; frame = frame_of past task; lock = lock }) key)
+    ∙ ap (map (λ o. o.key)) (openings-closes same_key acquires releases lock_keys (placed past)
+    (record { event = Release task lock; frame = frame_of (past ++ Release task lock ∷ []) task }) (record { task = task; frame = frame_of past task; lock = lock }) key)
     ∙ map-remove_last (λ o. o.key) (same_key (record { task = task; frame = frame_of past task; lock = lock })) (openings same_key acquires releases (placed past))
 
 -- no other event changes what is held
@@ -110,11 +121,13 @@ pub held-other : (past : List PlainEvent) (e : PlainEvent) → lock_acquired e �
 held-other past e not_acquired not_released =
     ap (λ xs. map (λ o. o.key) (openings same_key acquires releases xs)) (placed-push past e)
     ∙ ap (map (λ o. o.key)) (openings-neither same_key acquires releases lock_keys (placed past) (record { event = e; frame = frame_of (past ++ e ∷ []) (task_of e) })
-    (ap (key_with (record { event = e; frame = frame_of (past ++ e ∷ []) (task_of e) })) not_acquired) (ap (key_with (record { event = e; frame = frame_of (past ++ e ∷ []) (task_of e) })) not_released))
+    (ap (key_with (record { event = e; frame = frame_of (past ++ e ∷ []) (task_of e) })) not_acquired)
+    (ap (key_with (record { event = e; frame = frame_of (past ++ e ∷ []) (task_of e) })) not_released))
 
 -- the same of the locks of one task
 
-pub held_by-acquires : (past : List PlainEvent) (task : List ℕ) (e : PlainEvent) (lock : PlainLock) → lock_acquired e ≡ Some lock → held_by (past ++ e ∷ []) task ≡ held_by past task ++ (if bytes_eq task (task_of e) then record { task = task_of e; frame = frame_of past (task_of e); lock = lock } ∷ [] else [])
+pub held_by-acquires : (past : List PlainEvent) (task : List ℕ) (e : PlainEvent) (lock : PlainLock) → lock_acquired e ≡ Some lock → held_by
+    (past ++ e ∷ []) task ≡ held_by past task ++ (if bytes_eq task (task_of e) then record { task = task_of e; frame = frame_of past (task_of e); lock = lock } ∷ [] else [])
 held_by-acquires past task e lock is =
     ap (filter (λ key. bytes_eq task key.task)) (held-acquires past e lock is)
     ∙ filter-append (λ key. bytes_eq task key.task) (held past) (record { task = task_of e; frame = frame_of past (task_of e); lock = lock } ∷ [])
@@ -123,7 +136,8 @@ held_by-acquires past task e lock is =
 same_task : (key other : Key) → same_key key other ≡ true → key.task ≡ other.task
 same_task key other is = ap (λ k. k.task) ((Decides-same_key key other).0 is)
 
-pub held_by-releases : (past : List PlainEvent) (task : List ℕ) (lock : PlainLock) → held_by (past ++ Release task lock ∷ []) task ≡ remove_last (same_key (record { task = task; frame = frame_of past task; lock = lock })) (held_by past task)
+pub held_by-releases : (past : List PlainEvent) (task : List ℕ) (lock : PlainLock) → held_by (past ++ Release task lock ∷ []) task ≡ remove_last
+    (same_key (record { task = task; frame = frame_of past task; lock = lock })) (held_by past task)
 held_by-releases past task lock =
     ap (filter (λ key. bytes_eq task key.task)) (held-releases past task lock)
     ∙ filter-remove_last (same_key (record { task = task; frame = frame_of past task; lock = lock })) (λ key. bytes_eq task key.task)

@@ -1,5 +1,6 @@
 -- The least line of what stands at positions: it is that of the first occurrence, since lines ascend.
-use Rattle.std.proofs.Common.{◌≡◌, ◌+◌, ◌<◌, ◌≤◌, ◌++◌, ◌∷◌, [], List, ℕ, suc, Bool, true, false, cond, min, map, filter, fold, flat_map, filter_map, take, Option, Some, None, Result, Ok, Err, refl, ap, sym, ◌∙◌, arith, if◌then◌else◌, option_map}
+use Rattle.std.proofs.Common.{◌≡◌, ◌+◌, ◌<◌, ◌≤◌, ◌++◌, ◌∷◌, [], List, ℕ, suc, Bool, true, false, cond, min, map, filter, fold, flat_map, filter_map}
+use Rattle.std.proofs.Common.{take, Option, Some, None, Result, Ok, Err, refl, ap, sym, ◌∙◌, arith, if◌then◌else◌, option_map}
 use Rattle.std.specs.Prelude.{All, AllPairs}
 use Rattle.std.specs.List.{cons_option, enumerate_from, find, list_any, reduce}
 use Rattle.std.specs.Option.{option_or}
@@ -52,7 +53,8 @@ module _ {A : Type 0} where
   Ascend all = AllPairs (λ s t. s.line ≤ t.line) all
 
   -- what stands at one line, before others
-  at_one-All : (m line : ℕ) (whats : List A) (others : List (Seen A)) → m ≤ line → All (λ s. m ≤ s.line) others → All (λ s. m ≤ s.line) (map (λ what. record { what = what; line = line }) whats ++ others)
+  at_one-All : (m line : ℕ) (whats : List A) (others : List (Seen A)) → m ≤ line → All (λ s. m ≤ s.line) others → All (λ s. m ≤ s.line)
+      (map (λ what. record { what = what; line = line }) whats ++ others)
   at_one-All m line [] others low above = above
   at_one-All m line (what ∷ whats) others low above =
       All-cons (λ s. m ≤ s.line) (record { what = what; line = line }) (map (λ what. record { what = what; line = line }) whats ++ others) low (at_one-All m line whats others low above)
@@ -113,7 +115,8 @@ module _ {A : Type 0} (same : A → A → Bool) where
   least_is_first (s ∷ all) ascend what = by (same what s.what) (least_is_first all (later_pairs (λ t u. t.line ≤ u.line) s all ascend) what)
     where
       by : (b : Bool) → least_line same all what ≡ first_line all what
-          → reduce min (map (λ t. t.line) (cond b (s ∷ filter (λ t. same what t.what) all) (filter (λ t. same what t.what) all))) ≡ option_map (λ t. t.line) (cond b (Some s) (find (λ t. same what t.what) all))
+          → reduce min (map (λ t. t.line) (cond b (s ∷ filter (λ t. same what t.what) all) (filter (λ t. same what t.what) all))) ≡ option_map
+          (λ t. t.line) (cond b (Some s) (find (λ t. same what t.what) all))
       by true rest = ap Some (none_lesser s.line all what (first_pairs (λ t u. t.line ≤ u.line) s all ascend))
       by false rest = rest
 
@@ -126,7 +129,8 @@ module _ {A : Type 0} (same : A → A → Bool) where
   same_seen s t = same s.what t.what
 
   -- What is left with each once has the same least lines.
-  pub least_once : ((x y : A) → same x y ≡ true → (z : A) → same x z ≡ same y z) → (all : List (Seen A)) → Ascend all → (what : A) → least_line same (each_once same_seen all) what ≡ least_line same all what
+  pub least_once : ((x y : A) → same x y ≡ true → (z : A) → same x z ≡ same y z) → (all : List (Seen A)) → Ascend all → (what : A) → least_line same
+      (each_once same_seen all) what ≡ least_line same all what
   least_once alike all ascend what =
       least_is_first (each_once same_seen all) (rest-AllPairs (λ n s. list_any (same_seen s) (take n all)) (λ s t. s.line ≤ t.line) 0 all ascend) what
       ∙ ap (option_map (λ s. s.line)) (find_each_once same_seen (λ s t is u. alike s.what t.what is u.what) (record { what = what; line = 0 }) all)
@@ -150,7 +154,8 @@ module _ {A : Type 0} (same : A → A → Bool) where
       ∙ ap (reduce min) (map-append (λ s. s.line) (filter (λ s. same what s.what) all) (filter (λ s. same what s.what) (last ∷ [])))
       ∙ by (lines_of all what) (same what last.what) new
     where
-      by : (known : List ℕ) (b : Bool) → (b ≡ true → reduce min known ≡ None) → reduce min (known ++ map (λ s. s.line) (cond b (last ∷ []) [])) ≡ option_or (reduce min known) (if b then Some last.line else None)
+      by : (known : List ℕ) (b : Bool) → (b ≡ true → reduce min known ≡ None) → reduce min (known ++ map (λ s. s.line) (cond b (last ∷ []) [])) ≡
+          option_or (reduce min known) (if b then Some last.line else None)
       by [] true none = refl
       by [] false none = refl
       by (line ∷ known) true none = let found : Some (fold min line known) ≡ None = none refl in cc

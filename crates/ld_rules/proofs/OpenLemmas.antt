@@ -1,5 +1,6 @@
 -- What is open of a list, one element at a time.
-use Rattle.std.proofs.Common.{◌≡◌, ◌≤◌, ◌<◌, ◌+◌, ◌-◌, ◌++◌, ◌∷◌, [], List, ℕ, zero, suc, Bool, true, false, ◌&&◌, ◌||◌, cond, eqb, leb, length, take, drop, Option, Some, None, refl, ap, sym, ◌∙◌, arith, append_assoc, length-append, count_by, filter_map, if◌then◌else◌}
+use Rattle.std.proofs.Common.{◌≡◌, ◌≤◌, ◌<◌, ◌+◌, ◌-◌, ◌++◌, ◌∷◌, [], List, ℕ, zero, suc, Bool, true, false, ◌&&◌, ◌||◌, cond, eqb, leb, length, take}
+use Rattle.std.proofs.Common.{drop, Option, Some, None, refl, ap, sym, ◌∙◌, arith, append_assoc, length-append, count_by, filter_map, if◌then◌else◌}
 use Rattle.std.proofs.Math.Bool.{and-false}
 use Rattle.std.proofs.lemmas.Bool.Decides.{nat_tests}
 use Rattle.std.proofs.lemmas.Bool.{true≢false, or_parts, le-leb, lt-leb, ne_eqb, eqb-true}
@@ -69,23 +70,27 @@ module _ {X : Type 0} (opens closes : X → Bool) where
   abbrev slack_at : ℕ → ℕ → ℕ → List X → ℕ → Bool
   slack_at c o a later n = leb (c + count_by closes (take n later)) ((o + count_by opens (take n later)) + a)
 
-  within-cons_at : (a : ℕ) (x : X) (later : List X) (n : ℕ) → 2 ≤ n → leb (count_by closes (take n (x ∷ later))) (count_by opens (take n (x ∷ later)) + a) ≡ slack_at (cond (closes x) 1 0) (cond (opens x) 1 0) a later (n - 1)
+  within-cons_at : (a : ℕ) (x : X) (later : List X) (n : ℕ) → 2 ≤ n → leb (count_by closes (take n (x ∷ later)))
+      (count_by opens (take n (x ∷ later)) + a) ≡ slack_at (cond (closes x) 1 0) (cond (opens x) 1 0) a later (n - 1)
   within-cons_at a x later zero low = absurd (omega arith)
   within-cons_at a x later (suc n) low =
       let less : suc n - 1 ≡ n = omega arith in
       rw (less, sum_by-cons (λ y. cond (closes y) 1 0) x (take n later), sum_by-cons (λ y. cond (opens y) 1 0) x (take n later)) refl
 
-  within-cons : (a : ℕ) (x : X) (later : List X) → within a (x ∷ later) ≡ (leb (cond (closes x) 1 0) (cond (opens x) 1 0 + a) && list_all (slack_at (cond (closes x) 1 0) (cond (opens x) 1 0) a later) (range_with_len 1 (length later)))
+  within-cons : (a : ℕ) (x : X) (later : List X) → within a (x ∷ later) ≡ (leb (cond (closes x) 1 0) (cond (opens x) 1 0 + a) && list_all
+      (slack_at (cond (closes x) 1 0) (cond (opens x) 1 0) a later) (range_with_len 1 (length later)))
   within-cons a x later =
       let closing : 0 + cond (closes x) 1 0 ≡ cond (closes x) 1 0 = omega arith in
       let opening : 0 + cond (opens x) 1 0 ≡ cond (opens x) 1 0 = omega arith in
       let rest =
-      all_agree (λ n. leb (count_by closes (take n (x ∷ later))) (count_by opens (take n (x ∷ later)) + a)) (λ n. slack_at (cond (closes x) 1 0) (cond (opens x) 1 0) a later (n - 1)) 2 (length later) (λ n low high. within-cons_at a x later n low)
+      all_agree (λ n. leb (count_by closes (take n (x ∷ later))) (count_by opens (take n (x ∷ later)) + a))
+      (λ n. slack_at (cond (closes x) 1 0) (cond (opens x) 1 0) a later (n - 1)) 2 (length later) (λ n low high. within-cons_at a x later n low)
       ∙ all_shifted (slack_at (cond (closes x) 1 0) (cond (opens x) 1 0) a later) 1 1 (length later) in
       (λ i. leb (closing i) (opening i + a) && rest i)
 
   -- a first element that closes
-  within-closing : (later : List X) → ((b : ℕ) → within b later ≡ leb (deficit later) b) → (a : ℕ) → (leb 1 (0 + a) && list_all (slack_at 1 0 a later) (range_with_len 1 (length later))) ≡ leb (1 + deficit later) a
+  within-closing : (later : List X) → ((b : ℕ) → within b later ≡ leb (deficit later) b) → (a : ℕ) →
+      (leb 1 (0 + a) && list_all (slack_at 1 0 a later) (range_with_len 1 (length later))) ≡ leb (1 + deficit later) a
   within-closing later rest zero =
       let none : leb 1 (0 + 0) ≡ false = lt-leb 1 (0 + 0) (omega arith) in
       let short : leb (1 + deficit later) 0 ≡ false = lt-leb (1 + deficit later) 0 (omega arith) in
@@ -99,7 +104,9 @@ module _ {X : Type 0} (opens closes : X → Bool) where
   within_is [] apart a = sym (le-leb 0 a (omega arith))
   within_is (x ∷ later) apart a = within-cons a x later ∙ by (within_is later apart) (opens x) refl (closes x) refl
     where
-      by : ((b : ℕ) → within b later ≡ leb (deficit later) b) → (o : Bool) → opens x ≡ o → (c : Bool) → closes x ≡ c → (leb (cond c 1 0) (cond o 1 0 + a) && list_all (slack_at (cond c 1 0) (cond o 1 0) a later) (range_with_len 1 (length later))) ≡ leb (cond o (deficit later - 1) (cond c (1 + deficit later) (deficit later))) a
+      by : ((b : ℕ) → within b later ≡ leb (deficit later) b) → (o : Bool) → opens x ≡ o → (c : Bool) → closes x ≡ c →
+          (leb (cond c 1 0) (cond o 1 0 + a) && list_all (slack_at (cond c 1 0) (cond o 1 0) a later) (range_with_len 1 (length later))) ≡ leb
+          (cond o (deficit later - 1) (cond c (1 + deficit later) (deficit later))) a
       by rest true o true c = absurd (true≢false (sym c ∙ apart x o))
       by rest true o false c =
           let some : leb 0 (1 + a) ≡ true = le-leb 0 (1 + a) (omega arith) in
@@ -192,7 +199,8 @@ module _ {X K : Type 0} (same : K → K → Bool) (opened closed : X → Option 
   is_open_is : (front : List X) (x : X) (later : List X) (key : K) → is_open same opened closed (front ++ x ∷ later) (length front) key ≡ stays (opens key) (closes key) later
   is_open_is front x later key =
       let longer : length (front ++ x ∷ []) ≡ length front + 1 = omega (arith, length-append front (x ∷ [])) in
-      let rest : drop (length front + 1) (front ++ x ∷ later) ≡ later = ap (drop (length front + 1)) (sym (append_assoc front (x ∷ []) later)) ∙ drop_at (front ++ x ∷ []) later (length front + 1) longer in
+      let rest : drop (length front + 1) (front ++ x ∷ later) ≡ later = ap (drop (length front + 1)) (sym (append_assoc front (x ∷ []) later)) ∙
+      drop_at (front ++ x ∷ []) later (length front + 1) longer in
       let count : length (front ++ x ∷ later) - (length front + 1) ≡ length later = omega (arith, length-append front (x ∷ later)) in
       rw (rest, count) (all_shifted (λ n. leb (count_by (closes key) (take n later)) (count_by (opens key) (take n later))) (length front) 1 (length later))
 
@@ -222,69 +230,103 @@ module _ {X K : Type 0} (same : K → K → Bool) (opened closed : X → Option 
       by None is = absurd (true≢false (sym h ∙ ap (is_some_and (same key)) is))
       by (Some k) is = ap (is_some_and (same key)) (keys.apart x k is)
 
-  count_opening : (key : K) (n : ℕ) (x : X) (later : List X) (k : K) (others : List (Opening X K)) → count_by (has same opened closed key) (cons_option (opening_before same opened closed n x later (Some k)) others) ≡ cond (same key k && stays (opens same opened closed k) (closes same opened closed k) later) 1 0 + count_by (has same opened closed key) others
+  count_opening : (key : K) (n : ℕ) (x : X) (later : List X) (k : K) (others : List (Opening X K)) → count_by (has same opened closed key)
+      (cons_option (opening_before same opened closed n x later (Some k)) others) ≡ cond
+      (same key k && stays (opens same opened closed k) (closes same opened closed k) later) 1 0 + count_by (has same opened closed key) others
   count_opening key n x later k others = by (stays (opens same opened closed k) (closes same opened closed k) later)
     where
-      by : (b : Bool) → count_by (has same opened closed key) (cons_option (if b then Some (record { place = n; element = x; key = k }) else None) others) ≡ cond (same key k && b) 1 0 + count_by (has same opened closed key) others
-      by true = sum_by-cons (λ o. cond (has same opened closed key o) 1 0) (record { place = n; element = x; key = k }) others ∙ ap (λ b. cond b 1 0 + count_by (has same opened closed key) others) (sym (and_true (same key k)))
+      by : (b : Bool) → count_by (has same opened closed key) (cons_option (if b then Some (record { place = n; element = x; key = k }) else None)
+          others) ≡ cond (same key k && b) 1 0 + count_by (has same opened closed key) others
+      by true = sum_by-cons (λ o. cond (has same opened closed key o) 1 0) (record { place = n; element = x; key = k }) others ∙ ap
+          (λ b. cond b 1 0 + count_by (has same opened closed key) others) (sym (and_true (same key k)))
       by false = let none : count_by (has same opened closed key) others ≡ 0 + count_by (has same opened closed key) others = omega arith in
           none ∙ ap (λ b. cond b 1 0 + count_by (has same opened closed key) others) (sym (and-false (same key k)))
 
   -- a key that is the same stays as long
-  stays_same : (key k : K) (later : List X) → (same key k && stays (opens same opened closed k) (closes same opened closed k) later) ≡ (same key k && eqb (deficit (opens same opened closed key) (closes same opened closed key) later) 0)
+  stays_same : (key k : K) (later : List X) → (same key k && stays (opens same opened closed k) (closes same opened closed k) later) ≡
+      (same key k && eqb (deficit (opens same opened closed key) (closes same opened closed key) later) 0)
   stays_same key k later = by (same key k) refl
     where
-      by : (b : Bool) → same key k ≡ b → (b && stays (opens same opened closed k) (closes same opened closed k) later) ≡ (b && eqb (deficit (opens same opened closed key) (closes same opened closed key) later) 0)
-      by true is = ap (λ k. stays (opens same opened closed k) (closes same opened closed k) later) (sym ((keys.decides key k).0 is)) ∙ stays_is (opens same opened closed key) (closes same opened closed key) later (opens_apart key)
+      by : (b : Bool) → same key k ≡ b → (b && stays (opens same opened closed k) (closes same opened closed k) later) ≡
+          (b && eqb (deficit (opens same opened closed key) (closes same opened closed key) later) 0)
+      by true is = ap (λ k. stays (opens same opened closed k) (closes same opened closed k) later) (sym ((keys.decides key k).0 is)) ∙ stays_is
+          (opens same opened closed key) (closes same opened closed key) later (opens_apart key)
       by false is = refl
 
   -- the opens of what follows, but for its closings, are those that are still open
-  counted : (key : K) (n : ℕ) (later : List X) → count_by (has same opened closed key) (openings_from same opened closed n later) + count_by (closes same opened closed key) later ≡ count_by (opens same opened closed key) later + deficit (opens same opened closed key) (closes same opened closed key) later
+  counted : (key : K) (n : ℕ) (later : List X) → count_by (has same opened closed key) (openings_from same opened closed n later) + count_by
+      (closes same opened closed key) later ≡ count_by (opens same opened closed key) later + deficit (opens same opened closed key) (closes same opened closed key) later
   counted key n [] = refl
   counted key n (x ∷ later) =
       rw (sum_by-cons (λ y. cond (closes same opened closed key y) 1 0) x later, sum_by-cons (λ y. cond (opens same opened closed key y) 1 0) x later) (by (opened x) refl (counted key (n + 1) later))
     where
-      by : (o : Option K) → opened x ≡ o → (rest : count_by (has same opened closed key) (openings_from same opened closed (n + 1) later) + count_by (closes same opened closed key) later ≡ count_by (opens same opened closed key) later + deficit (opens same opened closed key) (closes same opened closed key) later) → count_by (has same opened closed key) (cons_option (opening_before same opened closed n x later o) (openings_from same opened closed (n + 1) later)) + (cond (closes same opened closed key x) 1 0 + count_by (closes same opened closed key) later) ≡ (cond (is_some_and (same key) o) 1 0 + count_by (opens same opened closed key) later) + cond (is_some_and (same key) o) (deficit (opens same opened closed key) (closes same opened closed key) later - 1) (cond (closes same opened closed key x) (1 + deficit (opens same opened closed key) (closes same opened closed key) later) (deficit (opens same opened closed key) (closes same opened closed key) later))
+      by : (o : Option K) → opened x ≡ o → (rest : count_by (has same opened closed key) (openings_from same opened closed (n + 1) later) + count_by
+          (closes same opened closed key) later ≡ count_by (opens same opened closed key) later + deficit (opens same opened closed key)
+          (closes same opened closed key) later) → count_by (has same opened closed key)
+          (cons_option (opening_before same opened closed n x later o) (openings_from same opened closed (n + 1) later)) +
+          (cond (closes same opened closed key x) 1 0 + count_by (closes same opened closed key) later) ≡
+          (cond (is_some_and (same key) o) 1 0 + count_by (opens same opened closed key) later) + cond (is_some_and (same key) o)
+          (deficit (opens same opened closed key) (closes same opened closed key) later - 1)
+          (cond (closes same opened closed key x) (1 + deficit (opens same opened closed key) (closes same opened closed key) later)
+          (deficit (opens same opened closed key) (closes same opened closed key) later))
       by None is rest = count_none _ _ _ _ (closes same opened closed key x) rest
       by (Some k) is rest =
           let shut : closes same opened closed key x ≡ false = ap (is_some_and (same key)) (keys.apart x k is) in
           rw (count_opening key n x later k (openings_from same opened closed (n + 1) later), stays_same key k later, shut) (count_some _ _ _ _ (same key k) rest)
 
   -- a key under which x doesn't close stays as long with x behind
-  stays_kept : (key : K) (later : List X) (x : X) → closes same opened closed key x ≡ false → stays (opens same opened closed key) (closes same opened closed key) (later ++ x ∷ []) ≡ stays (opens same opened closed key) (closes same opened closed key) later
+  stays_kept : (key : K) (later : List X) (x : X) → closes same opened closed key x ≡ false → stays (opens same opened closed key)
+      (closes same opened closed key) (later ++ x ∷ []) ≡ stays (opens same opened closed key) (closes same opened closed key) later
   stays_kept key later x shut = stays-push (opens same opened closed key) (closes same opened closed key) later x ∙ by (stays (opens same opened closed key) (closes same opened closed key) later) refl
     where
-      by : (b : Bool) → stays (opens same opened closed key) (closes same opened closed key) later ≡ b → (b && is_even (opens same opened closed key) (closes same opened closed key) (later ++ x ∷ [])) ≡ b
+      by : (b : Bool) → stays (opens same opened closed key) (closes same opened closed key) later ≡ b →
+          (b && is_even (opens same opened closed key) (closes same opened closed key) (later ++ x ∷ [])) ≡ b
       by true is =
           let all = counted key 0 later in
-          let none : deficit (opens same opened closed key) (closes same opened closed key) later ≡ 0 = eqb-true _ _ (sym (stays_is (opens same opened closed key) (closes same opened closed key) later (opens_apart key)) ∙ is) in
+          let none : deficit (opens same opened closed key) (closes same opened closed key) later ≡ 0 = eqb-true _ _
+          (sym (stays_is (opens same opened closed key) (closes same opened closed key) later (opens_apart key)) ∙ is) in
           rw (sum_by_push (λ y. cond (closes same opened closed key y) 1 0) later x, sum_by_push (λ y. cond (opens same opened closed key y) 1 0) later x, shut) (le-leb _ _ (omega arith))
       by false is = refl
 
   -- one under which x closes stays where it was opened again meanwhile
-  stays_where_again : (key : K) (n : ℕ) (later : List X) (x : X) → closes same opened closed key x ≡ true → opens same opened closed key x ≡ false → stays (opens same opened closed key) (closes same opened closed key) (later ++ x ∷ []) ≡ (stays (opens same opened closed key) (closes same opened closed key) later && list_any (has same opened closed key) (openings_from same opened closed n later))
-  stays_where_again key n later x shut not_opened = stays-push (opens same opened closed key) (closes same opened closed key) later x ∙ by (stays (opens same opened closed key) (closes same opened closed key) later) refl
+  stays_where_again : (key : K) (n : ℕ) (later : List X) (x : X) → closes same opened closed key x ≡ true → opens same opened closed key x ≡ false →
+      stays (opens same opened closed key) (closes same opened closed key) (later ++ x ∷ []) ≡
+      (stays (opens same opened closed key) (closes same opened closed key) later && list_any (has same opened closed key) (openings_from same opened closed n later))
+  stays_where_again key n later x shut not_opened = stays-push (opens same opened closed key) (closes same opened closed key) later x ∙ by
+      (stays (opens same opened closed key) (closes same opened closed key) later) refl
     where
-      by : (b : Bool) → stays (opens same opened closed key) (closes same opened closed key) later ≡ b → (b && is_even (opens same opened closed key) (closes same opened closed key) (later ++ x ∷ [])) ≡ (b && list_any (has same opened closed key) (openings_from same opened closed n later))
+      by : (b : Bool) → stays (opens same opened closed key) (closes same opened closed key) later ≡ b →
+          (b && is_even (opens same opened closed key) (closes same opened closed key) (later ++ x ∷ [])) ≡ (b && list_any (has same opened closed key) (openings_from same opened closed n later))
       by true is =
           let all = counted key n later in
-          let none : deficit (opens same opened closed key) (closes same opened closed key) later ≡ 0 = eqb-true _ _ (sym (stays_is (opens same opened closed key) (closes same opened closed key) later (opens_apart key)) ∙ is) in
-          rw (sum_by_push (λ y. cond (closes same opened closed key y) 1 0) later x, sum_by_push (λ y. cond (opens same opened closed key y) 1 0) later x, shut, not_opened, any_is_count (has same opened closed key) (openings_from same opened closed n later)) (grind (arith, nat_tests))
+          let none : deficit (opens same opened closed key) (closes same opened closed key) later ≡ 0 = eqb-true _ _
+          (sym (stays_is (opens same opened closed key) (closes same opened closed key) later (opens_apart key)) ∙ is) in
+          rw (
+            sum_by_push (λ y. cond (closes same opened closed key y) 1 0) later x,
+            sum_by_push (λ y. cond (opens same opened closed key y) 1 0)
+                later x,
+            shut,
+            not_opened,
+            any_is_count (has same opened closed key) (openings_from same opened closed n later),
+          ) (grind (arith, nat_tests))
       by false is = refl
 
-  opening_kept : (n : ℕ) (x : X) (later : List X) (e : X) (key : Option K) → closed e ≡ None → opening_before same opened closed n x (later ++ e ∷ []) key ≡ opening_before same opened closed n x later key
+  opening_kept : (n : ℕ) (x : X) (later : List X) (e : X) (key : Option K) → closed e ≡ None → opening_before same opened closed n x (later ++ e ∷ [])
+      key ≡ opening_before same opened closed n x later key
   opening_kept n x later e None shut = refl
   opening_kept n x later e (Some k) shut = rw (stays_kept k later e (ap (is_some_and (same k)) shut)) refl
 
   -- what doesn't close adds what it opens
-  openings_kept : (n : ℕ) (xs : List X) (e : X) → closed e ≡ None → openings_from same opened closed n (xs ++ e ∷ []) ≡ openings_from same opened closed n xs ++ openings_from same opened closed (n + length xs) (e ∷ [])
+  openings_kept : (n : ℕ) (xs : List X) (e : X) → closed e ≡ None → openings_from same opened closed n (xs ++ e ∷ []) ≡ openings_from same opened
+      closed n xs ++ openings_from same opened closed (n + length xs) (e ∷ [])
   openings_kept n [] e shut = let same_place : n + 0 ≡ n = omega arith in rw same_place refl
   openings_kept n (x ∷ later) e shut =
       let next : (n + 1) + length later ≡ n + suc (length later) = omega arith in
       let rest : openings_from same opened closed (n + 1) (later ++ e ∷ []) ≡ openings_from same opened closed (n + 1) later ++ openings_from same opened closed (n + suc (length later)) (e ∷ []) =
       openings_kept (n + 1) later e shut ∙ ap (λ m. openings_from same opened closed (n + 1) later ++ openings_from same opened closed m (e ∷ [])) next in
       (λ i. cons_option (opening_kept n x later e (opened x) shut i) (rest i))
-      ∙ sym (cons_option-append (opening_before same opened closed n x later (opened x)) (openings_from same opened closed (n + 1) later) (openings_from same opened closed (n + suc (length later)) (e ∷ [])))
+      ∙ sym (cons_option-append (opening_before same opened closed n x later (opened x)) (openings_from same opened closed (n + 1) later)
+      (openings_from same opened closed (n + suc (length later)) (e ∷ [])))
 
   -- what closes opens nothing
   closes_apart : (e : X) (k : K) → closed e ≡ Some k → opened e ≡ None
@@ -304,35 +346,54 @@ module _ {X K : Type 0} (same : K → K → Bool) (opened closed : X → Option 
       by true false h g = absurd (true≢false (sym ((keys.decides b a).1 (sym ((keys.decides a b).0 h))) ∙ g))
       by false true h g = absurd (true≢false (sym ((keys.decides a b).1 (sym ((keys.decides b a).0 g))) ∙ h))
 
-  opening_closed : (n : ℕ) (x : X) (later : List X) (e : X) (k key : K) → closed e ≡ Some k → openings_from same opened closed (n + 1) (later ++ e ∷ []) ≡ remove_last (has same opened closed k) (openings_from same opened closed (n + 1) later) → cons_option (opening_before same opened closed n x (later ++ e ∷ []) (Some key)) (openings_from same opened closed (n + 1) (later ++ e ∷ [])) ≡ remove_last (has same opened closed k) (cons_option (opening_before same opened closed n x later (Some key)) (openings_from same opened closed (n + 1) later))
+  opening_closed : (n : ℕ) (x : X) (later : List X) (e : X) (k key : K) → closed e ≡ Some k → openings_from same opened closed (n + 1)
+      (later ++ e ∷ []) ≡ remove_last (has same opened closed k) (openings_from same opened closed (n + 1) later) → cons_option
+      (opening_before same opened closed n x (later ++ e ∷ []) (Some key)) (openings_from same opened closed (n + 1) (later ++ e ∷ [])) ≡ remove_last
+      (has same opened closed k) (cons_option (opening_before same opened closed n x later (Some key)) (openings_from same opened closed (n + 1) later))
   opening_closed n x later e k key shut rest = ap (cons_option (opening_before same opened closed n x (later ++ e ∷ []) (Some key))) rest ∙ by (same k key) refl
     where
-      by : (b : Bool) → same k key ≡ b → cons_option (opening_before same opened closed n x (later ++ e ∷ []) (Some key)) (remove_last (has same opened closed k) (openings_from same opened closed (n + 1) later)) ≡ remove_last (has same opened closed k) (cons_option (opening_before same opened closed n x later (Some key)) (openings_from same opened closed (n + 1) later))
+      by : (b : Bool) → same k key ≡ b → cons_option (opening_before same opened closed n x (later ++ e ∷ []) (Some key))
+          (remove_last (has same opened closed k) (openings_from same opened closed (n + 1) later)) ≡ remove_last (has same opened closed k)
+          (cons_option (opening_before same opened closed n x later (Some key)) (openings_from same opened closed (n + 1) later))
       by false is = rw (stays_kept key later e (ap (is_some_and (same key)) shut ∙ same_swapped key k ∙ is)) (if_stays (stays (opens same opened closed key) (closes same opened closed key) later))
         where
-          if_stays : (b : Bool) → cons_option (if b then Some (record { place = n; element = x; key = key }) else None) (remove_last (has same opened closed k) (openings_from same opened closed (n + 1) later)) ≡ remove_last (has same opened closed k) (cons_option (if b then Some (record { place = n; element = x; key = key }) else None) (openings_from same opened closed (n + 1) later))
+          if_stays : (b : Bool) → cons_option (if b then Some (record { place = n; element = x; key = key }) else None)
+              (remove_last (has same opened closed k) (openings_from same opened closed (n + 1) later)) ≡ remove_last (has same opened closed k)
+              (cons_option (if b then Some (record { place = n; element = x; key = key }) else None) (openings_from same opened closed (n + 1) later))
           if_stays true = sym (remove_last-skip (has same opened closed k) (record { place = n; element = x; key = key }) (openings_from same opened closed (n + 1) later) is)
           if_stays false = refl
       by true is =
           let one : k ≡ key = (keys.decides k key).0 is in
-          rw (stays_where_again key (n + 1) later e (ap (is_some_and (same key)) shut ∙ same_swapped key k ∙ is) (ap (is_some_and (same key)) (closes_apart e k shut)), ← one) (if_stays (stays (opens same opened closed k) (closes same opened closed k) later))
+          rw (
+            stays_where_again key (n + 1) later e (ap (is_some_and (same key)) shut ∙ same_swapped key k ∙ is)
+                (ap (is_some_and (same key)) (closes_apart e k shut)),
+            ← one,
+          ) (if_stays (stays (opens same opened closed k) (closes same opened closed k) later))
         where
-          if_stays : (b : Bool) → cons_option (if b && list_any (has same opened closed k) (openings_from same opened closed (n + 1) later) then Some (record { place = n; element = x; key = k }) else None) (remove_last (has same opened closed k) (openings_from same opened closed (n + 1) later)) ≡ remove_last (has same opened closed k) (cons_option (if b then Some (record { place = n; element = x; key = k }) else None) (openings_from same opened closed (n + 1) later))
+          if_stays : (b : Bool) → cons_option (if b && list_any (has same opened closed k) (openings_from same opened closed (n + 1) later) then Some
+              (record { place = n; element = x; key = k }) else None) (remove_last (has same opened closed k)
+              (openings_from same opened closed (n + 1) later)) ≡ remove_last (has same opened closed k)
+              (cons_option (if b then Some (record { place = n; element = x; key = k }) else None) (openings_from same opened closed (n + 1) later))
           if_stays true = sym (remove_last-here (has same opened closed k) (record { place = n; element = x; key = k }) (openings_from same opened closed (n + 1) later) ((keys.decides k k).1 refl))
           if_stays false = refl
 
   -- what closes ends the latest that is open under its key
-  openings_closed : (n : ℕ) (xs : List X) (e : X) (k : K) → closed e ≡ Some k → openings_from same opened closed n (xs ++ e ∷ []) ≡ remove_last (has same opened closed k) (openings_from same opened closed n xs)
+  openings_closed : (n : ℕ) (xs : List X) (e : X) (k : K) → closed e ≡ Some k → openings_from same opened closed n (xs ++ e ∷ []) ≡ remove_last
+      (has same opened closed k) (openings_from same opened closed n xs)
   openings_closed n [] e k shut = rw (closes_apart e k shut) refl
   openings_closed n (x ∷ later) e k shut = by (opened x) (openings_closed (n + 1) later e k shut)
     where
-      by : (o : Option K) → openings_from same opened closed (n + 1) (later ++ e ∷ []) ≡ remove_last (has same opened closed k) (openings_from same opened closed (n + 1) later) → cons_option (opening_before same opened closed n x (later ++ e ∷ []) o) (openings_from same opened closed (n + 1) (later ++ e ∷ [])) ≡ remove_last (has same opened closed k) (cons_option (opening_before same opened closed n x later o) (openings_from same opened closed (n + 1) later))
+      by : (o : Option K) → openings_from same opened closed (n + 1) (later ++ e ∷ []) ≡ remove_last (has same opened closed k)
+          (openings_from same opened closed (n + 1) later) → cons_option (opening_before same opened closed n x (later ++ e ∷ []) o)
+          (openings_from same opened closed (n + 1) (later ++ e ∷ [])) ≡ remove_last (has same opened closed k)
+          (cons_option (opening_before same opened closed n x later o) (openings_from same opened closed (n + 1) later))
       by None rest = rest
       by (Some key) rest = opening_closed n x later e k key shut rest
 
   -- What is open once one more element stands behind: what it opens is added at the end, and what it
   -- closes is the latest under its key.
-  pub openings-opens : (xs : List X) (e : X) (k : K) → opened e ≡ Some k → openings same opened closed (xs ++ e ∷ []) ≡ openings same opened closed xs ++ record { place = length xs; element = e; key = k } ∷ []
+  pub openings-opens : (xs : List X) (e : X) (k : K) → opened e ≡ Some k → openings same opened closed (xs ++ e ∷ []) ≡ openings same opened closed xs
+      ++ record { place = length xs; element = e; key = k } ∷ []
   openings-opens xs e k is =
       let place : 0 + length xs ≡ length xs = omega arith in
       openings_is same opened closed (xs ++ e ∷ [])

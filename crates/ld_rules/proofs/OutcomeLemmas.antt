@@ -21,7 +21,8 @@ pub faulty_lines-push : (all : List Position) (p : Position) → faulty_lines (a
 faulty_lines-push all p =
     ap (filter_map (λ q. faulty (take q.0 (all ++ p ∷ [])) q.1)) (enumerate_push 0 all p)
     ∙ filter_map-append (λ q. faulty (take q.0 (all ++ p ∷ [])) q.1) (enumerate_from 0 all) ((0 + length all, p) ∷ [])
-    ∙ (λ i. filter_map_along (λ q. faulty (take q.0 (all ++ p ∷ [])) q.1) (λ q. faulty (take q.0 all) q.1) 0 all (λ n x low high. ap (λ ys. faulty ys x) (take-append-le n all (p ∷ []) (omega arith))) i
+    ∙ (λ i. filter_map_along (λ q. faulty (take q.0 (all ++ p ∷ [])) q.1) (λ q. faulty (take q.0 all) q.1) 0 all
+    (λ n x low high. ap (λ ys. faulty ys x) (take-append-le n all (p ∷ []) (omega arith))) i
     ++ cons_option (faulty (whole i) p) [])
   where
     whole : take (0 + length all) (all ++ p ∷ []) ≡ all
@@ -29,16 +30,20 @@ faulty_lines-push all p =
 
 -- what stands behind adds faulty lines at the end alone
 pub faulty_lines-append : (all more : List Position) → (later : List FaultyLine) × (faulty_lines (all ++ more) ≡ faulty_lines all ++ later)
-faulty_lines-append all more = by_pushes (λ ps. (later : List FaultyLine) × (faulty_lines (all ++ ps) ≡ faulty_lines all ++ later)) ([], ap faulty_lines (append-nil all) ∙ sym (append-nil (faulty_lines all))) step more
+faulty_lines-append all more = by_pushes (λ ps. (later : List FaultyLine) × (faulty_lines (all ++ ps) ≡ faulty_lines all ++ later))
+    ([], ap faulty_lines (append-nil all) ∙ sym (append-nil (faulty_lines all))) step more
   where
-    step : (ps : List Position) (p : Position) → (later : List FaultyLine) × (faulty_lines (all ++ ps) ≡ faulty_lines all ++ later) → (later : List FaultyLine) × (faulty_lines (all ++ (ps ++ p ∷ [])) ≡ faulty_lines all ++ later)
+    step : (ps : List Position) (p : Position) → (later : List FaultyLine) × (faulty_lines (all ++ ps) ≡ faulty_lines all ++ later) →
+        (later : List FaultyLine) × (faulty_lines (all ++ (ps ++ p ∷ [])) ≡ faulty_lines all ++ later)
     step ps p h = (
       h.0 ++ cons_option (faulty (all ++ ps) p) [],
-      ap faulty_lines (sym (append_assoc all ps (p ∷ []))) ∙ faulty_lines-push (all ++ ps) p ∙ ap (λ ls. ls ++ cons_option (faulty (all ++ ps) p) []) h.1 ∙ append_assoc (faulty_lines all) h.0 (cons_option (faulty (all ++ ps) p) []),
+      ap faulty_lines (sym (append_assoc all ps (p ∷ []))) ∙ faulty_lines-push (all ++ ps) p ∙ ap (λ ls. ls ++ cons_option (faulty (all ++ ps) p) [])
+          h.1 ∙ append_assoc (faulty_lines all) h.0 (cons_option (faulty (all ++ ps) p) []),
     )
 
 -- the first fault is that of the first position that has one
-pub first_fault : (all : List Position) (p : Position) (more : List Position) (fault : TraceFault) → faulty_lines all ≡ [] → said_fault (events all) p.says ≡ Some fault → slice_get (faulty_lines (all ++ p ∷ more)) 0 ≡ Some (record { line = p.line; fault = fault })
+pub first_fault : (all : List Position) (p : Position) (more : List Position) (fault : TraceFault) → faulty_lines all ≡ [] → said_fault (events all)
+    p.says ≡ Some fault → slice_get (faulty_lines (all ++ p ∷ more)) 0 ≡ Some (record { line = p.line; fault = fault })
 first_fault all p more fault clean is =
     let later = faulty_lines-append (all ++ p ∷ []) more in
     let here : faulty_lines (all ++ p ∷ []) ≡ record { line = p.line; fault = fault } ∷ [] =
@@ -55,7 +60,8 @@ pub seen-push : {A : Type 0} (at : List PlainEvent → PlainEvent → List A) (a
 seen-push at all p =
     ap (flat_map (λ q. seen_at at (events (take q.0 (all ++ p ∷ []))) q.1.line q.1.says)) (enumerate_push 0 all p)
     ∙ flat_map-append (λ q. seen_at at (events (take q.0 (all ++ p ∷ []))) q.1.line q.1.says) (enumerate_from 0 all) ((0 + length all, p) ∷ [])
-    ∙ (λ i. flat_map_along (λ q. seen_at at (events (take q.0 (all ++ p ∷ []))) q.1.line q.1.says) (λ q. seen_at at (events (take q.0 all)) q.1.line q.1.says) 0 all (λ n x low high. ap (λ ys. seen_at at (events ys) x.line x.says) (take-append-le n all (p ∷ []) (omega arith))) i
+    ∙ (λ i. flat_map_along (λ q. seen_at at (events (take q.0 (all ++ p ∷ []))) q.1.line q.1.says)
+    (λ q. seen_at at (events (take q.0 all)) q.1.line q.1.says) 0 all (λ n x low high. ap (λ ys. seen_at at (events ys) x.line x.says) (take-append-le n all (p ∷ []) (omega arith))) i
     ++ (seen_at at (events (whole i)) p.line p.says ++ []))
     ∙ ap (λ xs. seen at all ++ xs) (append-nil (seen_at at (events all) p.line p.says))
   where

@@ -1,5 +1,6 @@
 -- The elements of a list with their places, and the list with each element once.
-use Rattle.std.proofs.Common.{◌≡◌, ◌<◌, ◌≤◌, ◌+◌, ◌++◌, ◌∷◌, [], List, ℕ, suc, Bool, true, false, ◌||◌, cond, length, take, map, flat_map, filter_map, Option, Some, None, refl, ap, sym, subst, ◌∙◌, arith, if◌then◌else◌, append_assoc}
+use Rattle.std.proofs.Common.{◌≡◌, ◌<◌, ◌≤◌, ◌+◌, ◌++◌, ◌∷◌, [], List, ℕ, suc, Bool, true, false, ◌||◌, cond, length, take, map, flat_map, filter_map}
+use Rattle.std.proofs.Common.{Option, Some, None, refl, ap, sym, subst, ◌∙◌, arith, if◌then◌else◌, append_assoc}
 use Rattle.std.proofs.lemmas.Bool.{true≢false, and_parts}
 use Rattle.std.proofs.lemmas.List.{take-append-le, take_at, append-nil}
 use Rattle.std.proofs.lemmas.List.Elements.{filter_map-append}
@@ -58,14 +59,16 @@ module _ {X Y : Type 0} where
       let rest = map_along f g (n + 1) xs (λ i y low high. h i y (omega arith) (omega arith)) in
       (λ i. here i ∷ rest i)
 
-  pub filter_map_along : (f g : ℕ × X → Option Y) (n : ℕ) (xs : List X) → ((i : ℕ) (x : X) → n ≤ i → i < n + length xs → f (i, x) ≡ g (i, x)) → filter_map f (enumerate_from n xs) ≡ filter_map g (enumerate_from n xs)
+  pub filter_map_along : (f g : ℕ × X → Option Y) (n : ℕ) (xs : List X) → ((i : ℕ) (x : X) → n ≤ i → i < n + length xs → f (i, x) ≡ g (i, x)) →
+      filter_map f (enumerate_from n xs) ≡ filter_map g (enumerate_from n xs)
   filter_map_along f g n [] h = refl
   filter_map_along f g n (x ∷ xs) h =
       let here = h n x (omega arith) (omega arith) in
       let rest = filter_map_along f g (n + 1) xs (λ i y low high. h i y (omega arith) (omega arith)) in
       (λ i. cons_option (here i) (rest i))
 
-  pub flat_map_along : (f g : ℕ × X → List Y) (n : ℕ) (xs : List X) → ((i : ℕ) (x : X) → n ≤ i → i < n + length xs → f (i, x) ≡ g (i, x)) → flat_map f (enumerate_from n xs) ≡ flat_map g (enumerate_from n xs)
+  pub flat_map_along : (f g : ℕ × X → List Y) (n : ℕ) (xs : List X) → ((i : ℕ) (x : X) → n ≤ i → i < n + length xs → f (i, x) ≡ g (i, x)) → flat_map f
+      (enumerate_from n xs) ≡ flat_map g (enumerate_from n xs)
   flat_map_along f g n [] h = refl
   flat_map_along f g n (x ∷ xs) h =
       let here = h n x (omega arith) (omega arith) in
@@ -83,7 +86,9 @@ module _ {X : Type 0} (same : X → X → Bool) where
       let place : 0 + length xs ≡ length xs = omega arith in
       ap (filter_map (λ p. if list_any (same p.1) (take p.0 (xs ++ x ∷ [])) then None else Some p.1)) (enumerate_push 0 xs x)
       ∙ filter_map-append (λ p. if list_any (same p.1) (take p.0 (xs ++ x ∷ [])) then None else Some p.1) (enumerate_from 0 xs) ((0 + length xs, x) ∷ [])
-      ∙ (λ i. filter_map_along (λ p. if list_any (same p.1) (take p.0 (xs ++ x ∷ [])) then None else Some p.1) (λ p. if list_any (same p.1) (take p.0 xs) then None else Some p.1) 0 xs (λ n y low high. ap (λ ys. if list_any (same y) ys then None else Some y) (take-append-le n xs (x ∷ []) (omega arith))) i
+      ∙ (λ i. filter_map_along (λ p. if list_any (same p.1) (take p.0 (xs ++ x ∷ [])) then None else Some p.1)
+      (λ p. if list_any (same p.1) (take p.0 xs) then None else Some p.1) 0 xs
+      (λ n y low high. ap (λ ys. if list_any (same y) ys then None else Some y) (take-append-le n xs (x ∷ []) (omega arith))) i
       ++ cons_option (if list_any (same x) (take (place i) (xs ++ x ∷ [])) then None else Some x) [])
       ∙ ap (λ ys. each_once same xs ++ cons_option (if list_any (same x) ys then None else Some x) []) (take_at xs (x ∷ []) (length xs) refl)
       ∙ ap (λ ys. each_once same xs ++ ys) (by (list_any (same x) xs))
@@ -105,7 +110,8 @@ module _ {X : Type 0} (same : X → X → Bool) (alike : (x y : X) → same x y 
   pub any_each_once : (x : X) (xs : List X) → list_any (same x) (each_once same xs) ≡ list_any (same x) xs
   any_each_once x xs = by_pushes (λ ys. list_any (same x) (each_once same ys) ≡ list_any (same x) ys) refl step xs
     where
-      added : (ys : List X) (y : X) → list_any (same x) (each_once same ys) ≡ list_any (same x) ys → (b : Bool) → list_any (same y) ys ≡ b → list_any (same x) (each_once same ys ++ (if b then [] else y ∷ [])) ≡ (list_any (same x) ys || (same x y || false))
+      added : (ys : List X) (y : X) → list_any (same x) (each_once same ys) ≡ list_any (same x) ys → (b : Bool) → list_any (same y) ys ≡ b → list_any
+          (same x) (each_once same ys ++ (if b then [] else y ∷ [])) ≡ (list_any (same x) ys || (same x y || false))
       added ys y h true is = ap (list_any (same x)) (append-nil (each_once same ys)) ∙ h ∙ known (same x y) refl
         where
           known : (c : Bool) → same x y ≡ c → list_any (same x) ys ≡ (list_any (same x) ys || (c || false))

@@ -10,9 +10,11 @@ use Rattle.ld_rules.proofs.OpenLemmas.{remove_last-none}
 -- the last of a mapped list
 pub map-remove_last : {X Y : Type 0} (f : X → Y) (p : Y → Bool) (xs : List X) → map f (remove_last (λ x. p (f x)) xs) ≡ remove_last p (map f xs)
 map-remove_last f p [] = refl
-map-remove_last f p (x ∷ xs) = by (list_any (λ y. p (f y)) xs) (p (f x)) (map-remove_last f p xs) ∙ ap (λ b. cond b (f x ∷ remove_last p (map f xs)) (cond (p (f x)) (map f xs) (f x ∷ map f xs))) (sym (list_any-map f p xs))
+map-remove_last f p (x ∷ xs) = by (list_any (λ y. p (f y)) xs) (p (f x)) (map-remove_last f p xs) ∙ ap
+    (λ b. cond b (f x ∷ remove_last p (map f xs)) (cond (p (f x)) (map f xs) (f x ∷ map f xs))) (sym (list_any-map f p xs))
   where
-    by : (a b : Bool) → map f (remove_last (λ x. p (f x)) xs) ≡ remove_last p (map f xs) → map f (cond a (x ∷ remove_last (λ x. p (f x)) xs) (cond b xs (x ∷ xs))) ≡ cond a (f x ∷ remove_last p (map f xs)) (cond b (map f xs) (f x ∷ map f xs))
+    by : (a b : Bool) → map f (remove_last (λ x. p (f x)) xs) ≡ remove_last p (map f xs) → map f
+        (cond a (x ∷ remove_last (λ x. p (f x)) xs) (cond b xs (x ∷ xs))) ≡ cond a (f x ∷ remove_last p (map f xs)) (cond b (map f xs) (f x ∷ map f xs))
     by true b rest = ap (λ ys. f x ∷ ys) rest
     by false true rest = refl
     by false false rest = refl
@@ -31,7 +33,8 @@ pub filter-remove_last : {X : Type 0} (p q : X → Bool) → ((x : X) → p x �
 filter-remove_last p q within [] = refl
 filter-remove_last p q within (x ∷ xs) = by (filter-remove_last p q within xs) (list_any p xs) refl (q x) refl (p x) refl
   where
-    by : filter q (remove_last p xs) ≡ remove_last p (filter q xs) → (a : Bool) → list_any p xs ≡ a → (b : Bool) → q x ≡ b → (c : Bool) → p x ≡ c → filter q (cond a (x ∷ remove_last p xs) (cond c xs (x ∷ xs))) ≡ remove_last p (cond b (x ∷ filter q xs) (filter q xs))
+    by : filter q (remove_last p xs) ≡ remove_last p (filter q xs) → (a : Bool) → list_any p xs ≡ a → (b : Bool) → q x ≡ b → (c : Bool) → p x ≡ c →
+        filter q (cond a (x ∷ remove_last p xs) (cond c xs (x ∷ xs))) ≡ remove_last p (cond b (x ∷ filter q xs) (filter q xs))
     by rest true some true is c eq = rw (is, list_any-filter p q within xs, some) (ap (λ ys. x ∷ ys) rest)
     by rest true some false is c eq = rw is rest
     by rest false none true is true eq = rw (list_any-filter p q within xs, none, eq) refl

@@ -1,6 +1,7 @@
 -- The tasks, classes and dependencies of a trace after one more position, in the words of the code: names
 -- are numbered as `Classes` numbers them, and a dependency is added where it isn't there yet.
-use Rattle.std.proofs.Common.{◌≡◌, ◌+◌, ◌++◌, ◌∷◌, [], ◌||◌, List, ℕ, Bool, true, false, not, cond, ltb, length, map, filter_map, fold, is_some, position, Some, None, refl, ap, sym, ◌∙◌, arith, if◌then◌else◌}
+use Rattle.std.proofs.Common.{◌≡◌, ◌+◌, ◌++◌, ◌∷◌, [], ◌||◌, List, ℕ, Bool, true, false, not, cond, ltb, length, map, filter_map, fold, is_some}
+use Rattle.std.proofs.Common.{position, Some, None, refl, ap, sym, ◌∙◌, arith, if◌then◌else◌}
 use Rattle.std.proofs.lemmas.Bool.{lt-ltb, le-ltb}
 use Rattle.std.proofs.lemmas.Bool.Decides.{nat_tests, Decides-and, Decides-like}
 use Rattle.std.proofs.lemmas.List.{append-nil, map-append}
@@ -66,7 +67,9 @@ Decides-same_dependency a b = Decides-like (same_dependency a b) (λ h. λ i. re
 
 -- the dependencies of a trace, each once with its least line: those of one more position are added where
 -- they aren't there yet
-pub dependencies-push : (all : List Position) (p : Position) → each_once same_seen (seen dependencies_at (all ++ p ∷ [])) ≡ fold (with_new same_seen) (each_once same_seen (seen dependencies_at all)) (seen_at dependencies_at (events all) p.line p.says)
+pub dependencies-push : (all : List Position) (p : Position) → each_once same_seen (seen dependencies_at (all ++ p ∷ [])) ≡ fold (with_new same_seen)
+    (each_once same_seen (seen dependencies_at all)) (seen_at dependencies_at (events all) p.line p.says)
 dependencies-push all p =
     ap (each_once same_seen) (seen-push dependencies_at all p)
-    ∙ each_once-append same_seen (λ x y is z. alike_from_decides same_dependency Decides-same_dependency x.what y.what is z.what) (seen dependencies_at all) (seen_at dependencies_at (events all) p.line p.says)
+    ∙ each_once-append same_seen (λ x y is z. alike_from_decides same_dependency Decides-same_dependency x.what y.what is z.what)
+    (seen dependencies_at all) (seen_at dependencies_at (events all) p.line p.says)

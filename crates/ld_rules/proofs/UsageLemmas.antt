@@ -1,5 +1,6 @@
 -- What an event adds to the usage.
-use Rattle.std.proofs.Common.{◌≡◌, ◌++◌, ◌∷◌, [], List, ℕ, Bool, true, false, ◌&&◌, ◌||◌, not, cond, map, filter, fold, Option, Some, None, Result, Ok, Err, refl, ap, sym, ◌∙◌, append_assoc, if◌then◌else◌}
+use Rattle.std.proofs.Common.{◌≡◌, ◌++◌, ◌∷◌, [], List, ℕ, Bool, true, false, ◌&&◌, ◌||◌, not, cond, map, filter, fold, Option, Some, None, Result}
+use Rattle.std.proofs.Common.{Ok, Err, refl, ap, sym, ◌∙◌, append_assoc, if◌then◌else◌}
 use Rattle.std.proofs.lemmas.Bool.{true≢false, and_parts, and_from, or_left, or_right}
 use Rattle.std.proofs.lemmas.Bool.Decides.{Decides-and, Decides-like}
 use Rattle.std.proofs.lemmas.List.{append-nil, map-append}
@@ -85,7 +86,8 @@ or_more false false c d more h = more h
 
 module _ {X Y : Type 0} (same : Y → Y → Bool) (f : X → Y) (t q : X → Bool) where
   -- where all that pass q and fail t are known, only those that pass both are added
-  pub fold_known : (xs : List X) (known : List Y) → list_all (λ x. not (q x) || (t x || list_any (same (f x)) known)) xs ≡ true → fold (with_new same) known (map f (filter q xs)) ≡ fold (with_new same) known (map f (filter (λ x. t x && q x) xs))
+  pub fold_known : (xs : List X) (known : List Y) → list_all (λ x. not (q x) || (t x || list_any (same (f x)) known)) xs ≡ true → fold (with_new same)
+      known (map f (filter q xs)) ≡ fold (with_new same) known (map f (filter (λ x. t x && q x) xs))
   fold_known [] known all = refl
   fold_known (x ∷ xs) known all = by (fold_known xs) (q x) refl (t x) refl
     where
@@ -96,7 +98,10 @@ module _ {X Y : Type 0} (same : Y → Y → Bool) (f : X → Y) (t q : X → Boo
       grown = list_all_mono (λ y. not (q y) || (t y || list_any (same (f y)) known)) (λ y. not (q y) || (t y || list_any (same (f y)) (with_new same known (f x))))
           (λ y h. or_more (not (q y)) (t y) (list_any (same (f y)) known) (list_any (same (f y)) (with_new same known (f x))) (any_with_new same (same (f y)) known (f x)) h) xs parts.1
 
-      by : ((more : List Y) → list_all (λ y. not (q y) || (t y || list_any (same (f y)) more)) xs ≡ true → fold (with_new same) more (map f (filter q xs)) ≡ fold (with_new same) more (map f (filter (λ y. t y && q y) xs))) → (b : Bool) → q x ≡ b → (c : Bool) → t x ≡ c → fold (with_new same) known (map f (cond b (x ∷ filter q xs) (filter q xs))) ≡ fold (with_new same) known (map f (cond (c && b) (x ∷ filter (λ y. t y && q y) xs) (filter (λ y. t y && q y) xs)))
+      by : ((more : List Y) → list_all (λ y. not (q y) || (t y || list_any (same (f y)) more)) xs ≡ true → fold (with_new same) more
+          (map f (filter q xs)) ≡ fold (with_new same) more (map f (filter (λ y. t y && q y) xs))) → (b : Bool) → q x ≡ b → (c : Bool) → t x ≡ c →
+          fold (with_new same) known (map f (cond b (x ∷ filter q xs) (filter q xs))) ≡ fold (with_new same) known
+          (map f (cond (c && b) (x ∷ filter (λ y. t y && q y) xs) (filter (λ y. t y && q y) xs)))
       by rest true is true own = rest (with_new same known (f x)) grown
       by rest true is false own =
           let there : list_any (same (f x)) known ≡ true = sym (λ i. not (is i) || (own i || list_any (same (f x)) known)) ∙ parts.0 in
@@ -149,7 +154,8 @@ held-others past e = by e
     acquired e lock is =
         ap (of_others (task_of e)) (held-acquires past e lock is)
         ∙ filter-append (λ key. not (bytes_eq (task_of e) key.task)) (held past) (record { task = task_of e; frame = frame_of past (task_of e); lock = lock } ∷ [])
-        ∙ ap (λ b. of_others (task_of e) (held past) ++ cond (not b) (record { task = task_of e; frame = frame_of past (task_of e); lock = lock } ∷ []) []) ((bytes_eq-Decides (task_of e) (task_of e)).1 refl)
+        ∙ ap (λ b. of_others (task_of e) (held past) ++ cond (not b) (record { task = task_of e; frame = frame_of past (task_of e); lock = lock } ∷
+        []) []) ((bytes_eq-Decides (task_of e) (task_of e)).1 refl)
         ∙ append-nil (of_others (task_of e) (held past))
 
     by : (e : PlainEvent) → of_others (task_of e) (held (past ++ e ∷ [])) ≡ of_others (task_of e) (held past)
@@ -166,10 +172,12 @@ held-others past e = by e
 
 -- what all uses of what is held pass, said of the keys
 list_all_on : (p : Use → Bool) (now : List PlainEvent) (state : State) → list_all p (on_uses now state) ≡ list_all (λ key. not (is_enabled now key.task state) || p (on_use state key)) (held now)
-list_all_on p now state = list_all-map p (on_use state) (filter (λ key. is_enabled now key.task state) (held now)) ∙ list_all-filter (λ key. p (on_use state key)) (λ key. is_enabled now key.task state) (held now)
+list_all_on p now state = list_all-map p (on_use state) (filter (λ key. is_enabled now key.task state) (held now)) ∙ list_all-filter
+    (λ key. p (on_use state key)) (λ key. is_enabled now key.task state) (held now)
 
 -- What all uses standing before an event pass, those of the other tasks' keys pass after it.
-others_kept : (p : Use → Bool) (past : List PlainEvent) (e : PlainEvent) (state : State) → list_all p (on_uses past state) ≡ true → list_all (λ key. not (is_enabled (past ++ e ∷ []) key.task state) || (bytes_eq (task_of e) key.task || p (on_use state key))) (held (past ++ e ∷ [])) ≡ true
+others_kept : (p : Use → Bool) (past : List PlainEvent) (e : PlainEvent) (state : State) → list_all p (on_uses past state) ≡ true → list_all
+    (λ key. not (is_enabled (past ++ e ∷ []) key.task state) || (bytes_eq (task_of e) key.task || p (on_use state key))) (held (past ++ e ∷ [])) ≡ true
 others_kept p past e state all =
     ap (λ (r : Key → Bool). list_all r (held (past ++ e ∷ []))) (λ i key. same key (bytes_eq (task_of e) key.task) refl i)
     ∙ sym (list_all-filter (λ key. not (is_enabled past key.task state) || p (on_use state key)) (λ key. not (bytes_eq (task_of e) key.task)) (held (past ++ e ∷ [])))
@@ -180,7 +188,8 @@ others_kept p past e state all =
     or_true true = refl
     or_true false = refl
 
-    same : (key : Key) (b : Bool) → bytes_eq (task_of e) key.task ≡ b → (not (is_enabled (past ++ e ∷ []) key.task state) || (b || p (on_use state key))) ≡ (not (not b) || (not (is_enabled past key.task state) || p (on_use state key)))
+    same : (key : Key) (b : Bool) → bytes_eq (task_of e) key.task ≡ b → (not (is_enabled (past ++ e ∷ []) key.task state) ||
+        (b || p (on_use state key))) ≡ (not (not b) || (not (is_enabled past key.task state) || p (on_use state key)))
     same key true is = or_true (not (is_enabled (past ++ e ∷ []) key.task state))
     same key false is =
         let other : bytes_eq key.task (task_of e) ≡ false = swapped key is in
@@ -194,8 +203,10 @@ others_kept p past e state all =
             by false eq = refl
 
 -- the keys of one task that count under the state
-own_keys : (now : List PlainEvent) (task : List ℕ) (state : State) → filter (λ key. bytes_eq task key.task && is_enabled now key.task state) (held now) ≡ (if is_enabled now task state then held_by now task else [])
-own_keys now task state = filter_where (λ key. bytes_eq task key.task) (λ key. is_enabled now key.task state) (is_enabled now task state) (λ key is. ap (λ t. is_enabled now t state) (sym ((bytes_eq-Decides task key.task).0 is))) (held now) ∙ by (is_enabled now task state)
+own_keys : (now : List PlainEvent) (task : List ℕ) (state : State) → filter (λ key. bytes_eq task key.task && is_enabled now key.task state)
+    (held now) ≡ (if is_enabled now task state then held_by now task else [])
+own_keys now task state = filter_where (λ key. bytes_eq task key.task) (λ key. is_enabled now key.task state) (is_enabled now task state)
+    (λ key is. ap (λ t. is_enabled now t state) (sym ((bytes_eq-Decides task key.task).0 is))) (held now) ∙ by (is_enabled now task state)
   where
     by : (b : Bool) → filter (λ key. bytes_eq task key.task) (if b then held now else []) ≡ (if b then held_by now task else [])
     by true = refl
@@ -252,13 +263,16 @@ abbrev pub is_known : List (Seen Use) → Use → Bool
 is_known known u = list_any (λ s. same_use u s.what) known
 
 pub known_more : (line : ℕ) (known : List (Seen Use)) (us vs : List Use) → list_all (is_known known) vs ≡ true → list_all (is_known (with_uses line known us)) vs ≡ true
-known_more line known us vs all = list_all_mono (is_known known) (is_known (with_uses line known us)) (λ u there. any_with_all same_what (λ s. same_use u s.what) known (map (at_line line) us) there) vs all
+known_more line known us vs all = list_all_mono (is_known known) (is_known (with_uses line known us))
+    (λ u there. any_with_all same_what (λ s. same_use u s.what) known (map (at_line line) us) there) vs all
 
 -- where all uses that stood before are known, an event adds only uses of what its own task holds
-pub with_on_uses : (past : List PlainEvent) (e : PlainEvent) (state : State) (line : ℕ) (known : List (Seen Use)) → list_all (is_known known) (on_uses past state) ≡ true → with_uses line known (on_uses (past ++ e ∷ []) state) ≡ with_uses line known (own_uses (past ++ e ∷ []) (task_of e) state)
+pub with_on_uses : (past : List PlainEvent) (e : PlainEvent) (state : State) (line : ℕ) (known : List (Seen Use)) → list_all (is_known known)
+    (on_uses past state) ≡ true → with_uses line known (on_uses (past ++ e ∷ []) state) ≡ with_uses line known (own_uses (past ++ e ∷ []) (task_of e) state)
 with_on_uses past e state line known all =
     ap (fold (with_new same_what) known) (map-map (at_line line) (on_use state) (filter (λ key. is_enabled (past ++ e ∷ []) key.task state) (held (past ++ e ∷ []))))
-    ∙ fold_known same_what (λ key. at_line line (on_use state key)) (λ key. bytes_eq (task_of e) key.task) (λ key. is_enabled (past ++ e ∷ []) key.task state) (held (past ++ e ∷ [])) known (others_kept (is_known known) past e state all)
+    ∙ fold_known same_what (λ key. at_line line (on_use state key)) (λ key. bytes_eq (task_of e) key.task)
+    (λ key. is_enabled (past ++ e ∷ []) key.task state) (held (past ++ e ∷ [])) known (others_kept (is_known known) past e state all)
     ∙ ap (λ keys. fold (with_new same_what) known (map (λ key. at_line line (on_use state key)) keys)) (own_keys (past ++ e ∷ []) (task_of e) state)
     ∙ sym (ap (fold (with_new same_what) known) (map-map (at_line line) (on_use state) (if is_enabled (past ++ e ∷ []) (task_of e) state then held_by (past ++ e ∷ []) (task_of e) else [])))
 
@@ -266,7 +280,10 @@ with_on_uses past e state line known all =
 abbrev pub uses_with : List PlainEvent → PlainEvent → (State → List Use) → List Use
 uses_with past e added = uses_in (contexts past (task_of e)) (waits_for e) ++ (added Hard ++ added Soft)
 
-with_uses_by : (past : List PlainEvent) (e : PlainEvent) (line : ℕ) (added : State → List Use) → ((state : State) (known : List (Seen Use)) → list_all (is_known known) (on_uses past state) ≡ true → with_uses line known (on_uses (past ++ e ∷ []) state) ≡ with_uses line known (added state)) → (known : List (Seen Use)) → ((state : State) → list_all (is_known known) (on_uses past state) ≡ true) → with_uses line known (uses_at past e) ≡ with_uses line known (uses_with past e added)
+with_uses_by : (past : List PlainEvent) (e : PlainEvent) (line : ℕ) (added : State → List Use) →
+    ((state : State) (known : List (Seen Use)) → list_all (is_known known) (on_uses past state) ≡ true → with_uses line known
+    (on_uses (past ++ e ∷ []) state) ≡ with_uses line known (added state)) → (known : List (Seen Use)) →
+    ((state : State) → list_all (is_known known) (on_uses past state) ≡ true) → with_uses line known (uses_at past e) ≡ with_uses line known (uses_with past e added)
 with_uses_by past e line added law known all =
     ap (λ us. with_uses line known (us ++ (on_uses (past ++ e ∷ []) Hard ++ on_uses (past ++ e ∷ []) Soft))) (in_uses-is past e)
     ∙ with_uses-append line known ins (on_uses (past ++ e ∷ []) Hard ++ on_uses (past ++ e ∷ []) Soft)
@@ -312,13 +329,18 @@ module _ (past : List PlainEvent) (state : State) (line : ℕ) (known : List (Se
   if_nothing true = refl
   if_nothing false = refl
 
-  new-acquires : (e : PlainEvent) (lock : PlainLock) → lock_acquired e ≡ Some lock → is_interrupt e ≡ false → with_uses line known (own_uses (past ++ e ∷ []) (task_of e) state) ≡ with_uses line known (map (on_use state) (if is_enabled (past ++ e ∷ []) (task_of e) state then record { task = task_of e; frame = frame_of past (task_of e); lock = lock } ∷ [] else []))
+  new-acquires : (e : PlainEvent) (lock : PlainLock) → lock_acquired e ≡ Some lock → is_interrupt e ≡ false → with_uses line known
+      (own_uses (past ++ e ∷ []) (task_of e) state) ≡ with_uses line known (map (on_use state)
+      (if is_enabled (past ++ e ∷ []) (task_of e) state then record { task = task_of e; frame = frame_of past (task_of e); lock = lock } ∷ [] else []))
   new-acquires e lock is quiet = by (is_enabled (past ++ e ∷ []) (task_of e) state) refl
     where
       keys : held_by (past ++ e ∷ []) (task_of e) ≡ held_by past (task_of e) ++ record { task = task_of e; frame = frame_of past (task_of e); lock = lock } ∷ []
-      keys = held_by-acquires past (task_of e) e lock is ∙ ap (λ (b : Bool). held_by past (task_of e) ++ (if b then record { task = task_of e; frame = frame_of past (task_of e); lock = lock } ∷ [] else [])) ((bytes_eq-Decides (task_of e) (task_of e)).1 refl)
+      keys = held_by-acquires past (task_of e) e lock is ∙ ap (λ (b : Bool). held_by past (task_of e) ++
+          (if b then record { task = task_of e; frame = frame_of past (task_of e); lock = lock } ∷ [] else [])) ((bytes_eq-Decides (task_of e) (task_of e)).1 refl)
 
-      by : (b : Bool) → is_enabled (past ++ e ∷ []) (task_of e) state ≡ b → with_uses line known (map (on_use state) (if b then held_by (past ++ e ∷ []) (task_of e) else [])) ≡ with_uses line known (map (on_use state) (if b then record { task = task_of e; frame = frame_of past (task_of e); lock = lock } ∷ [] else []))
+      by : (b : Bool) → is_enabled (past ++ e ∷ []) (task_of e) state ≡ b → with_uses line known
+          (map (on_use state) (if b then held_by (past ++ e ∷ []) (task_of e) else [])) ≡ with_uses line known
+          (map (on_use state) (if b then record { task = task_of e; frame = frame_of past (task_of e); lock = lock } ∷ [] else []))
       by true on =
           ap (λ ks. with_uses line known (map (on_use state) ks)) keys
           ∙ ap (with_uses line known) (map-append (on_use state) (held_by past (task_of e)) (record { task = task_of e; frame = frame_of past (task_of e); lock = lock } ∷ []))
@@ -328,7 +350,10 @@ module _ (past : List PlainEvent) (state : State) (line : ℕ) (known : List (Se
       by false on = refl
 
   -- where no key is new and what is enabled was, nothing is added
-  new-none : (e : PlainEvent) → (is_enabled (past ++ e ∷ []) (task_of e) state ≡ true → is_enabled past (task_of e) state ≡ true) → (list_all (λ key. is_known known (on_use state key)) (held_by past (task_of e)) ≡ true → list_all (λ key. is_known known (on_use state key)) (held_by (past ++ e ∷ []) (task_of e)) ≡ true) → with_uses line known (own_uses (past ++ e ∷ []) (task_of e) state) ≡ with_uses line known (map (on_use state) (if is_enabled (past ++ e ∷ []) (task_of e) state then [] else []))
+  new-none : (e : PlainEvent) → (is_enabled (past ++ e ∷ []) (task_of e) state ≡ true → is_enabled past (task_of e) state ≡ true) →
+      (list_all (λ key. is_known known (on_use state key)) (held_by past (task_of e)) ≡ true → list_all (λ key. is_known known (on_use state key))
+      (held_by (past ++ e ∷ []) (task_of e)) ≡ true) → with_uses line known (own_uses (past ++ e ∷ []) (task_of e) state) ≡ with_uses line known
+      (map (on_use state) (if is_enabled (past ++ e ∷ []) (task_of e) state then [] else []))
   new-none e was less = by (is_enabled (past ++ e ∷ []) (task_of e) state) refl ∙ if_nothing (is_enabled (past ++ e ∷ []) (task_of e) state)
     where
       by : (b : Bool) → is_enabled (past ++ e ∷ []) (task_of e) state ≡ b → with_uses line known (map (on_use state) (if b then held_by (past ++ e ∷ []) (task_of e) else [])) ≡ known
@@ -341,25 +366,31 @@ module _ (past : List PlainEvent) (state : State) (line : ℕ) (known : List (Se
   with_new_keys (Try t l) = new-acquires (Try t l) l refl refl
   with_new_keys (Release t l) =
       new-none (Release t l) (λ on. sym (is_enabled-quiet past (Release t l) t state refl) ∙ on)
-      (λ there. ap (list_all (λ key. is_known known (on_use state key))) (held_by-releases past t l) ∙ list_all-remove_last (same_key (record { task = t; frame = frame_of past t; lock = l })) (λ key. is_known known (on_use state key)) (held_by past t) there)
-  with_new_keys (Enter t s) = new-none (Enter t s) (enabled_before_enter past t s state) (λ there. ap (list_all (λ key. is_known known (on_use state key))) (held_by-other past t (Enter t s) refl refl) ∙ there)
+      (λ there. ap (list_all (λ key. is_known known (on_use state key))) (held_by-releases past t l) ∙ list_all-remove_last
+      (same_key (record { task = t; frame = frame_of past t; lock = l })) (λ key. is_known known (on_use state key)) (held_by past t) there)
+  with_new_keys (Enter t s) = new-none (Enter t s) (enabled_before_enter past t s state)
+      (λ there. ap (list_all (λ key. is_known known (on_use state key))) (held_by-other past t (Enter t s) refl refl) ∙ there)
   with_new_keys (Exit t s) = ap (λ ks. with_uses line known (map (on_use state) (if is_enabled (past ++ Exit t s ∷ []) t state then ks else []))) (held_by-other past t (Exit t s) refl refl)
   with_new_keys (Enable t s) = ap (λ ks. with_uses line known (map (on_use state) (if is_enabled (past ++ Enable t s ∷ []) t state then ks else []))) (held_by-other past t (Enable t s) refl refl)
-  with_new_keys (Disable t s) = new-none (Disable t s) (enabled_before_disable past t s state) (λ there. ap (list_all (λ key. is_known known (on_use state key))) (held_by-other past t (Disable t s) refl refl) ∙ there)
+  with_new_keys (Disable t s) = new-none (Disable t s) (enabled_before_disable past t s state)
+      (λ there. ap (list_all (λ key. is_known known (on_use state key))) (held_by-other past t (Disable t s) refl refl) ∙ there)
 
 -- The uses that an event may newly show.
 abbrev pub new_uses_at : List PlainEvent → PlainEvent → List Use
 new_uses_at past e = uses_with past e (new_uses past e)
 
-pub with_new_uses_at : (past : List PlainEvent) (e : PlainEvent) (line : ℕ) (known : List (Seen Use)) → ((state : State) → list_all (is_known known) (on_uses past state) ≡ true) → with_uses line known (uses_at past e) ≡ with_uses line known (new_uses_at past e)
-with_new_uses_at past e line known all = with_uses_by past e line (new_uses past e) (λ state more there. with_on_uses past e state line more there ∙ with_new_keys past state line more there e) known all
+pub with_new_uses_at : (past : List PlainEvent) (e : PlainEvent) (line : ℕ) (known : List (Seen Use)) →
+    ((state : State) → list_all (is_known known) (on_uses past state) ≡ true) → with_uses line known (uses_at past e) ≡ with_uses line known (new_uses_at past e)
+with_new_uses_at past e line known all = with_uses_by past e line (new_uses past e)
+    (λ state more there. with_on_uses past e state line more there ∙ with_new_keys past state line more there e) known all
 
 -- what stands in the middle of a list stands in it
 all_within : {Y : Type 0} (same : Y → Y → Bool) → ((y : Y) → same y y ≡ true) → (front ys back : List Y) → list_all (λ y. list_any (same y) (front ++ (ys ++ back))) ys ≡ true
 all_within same itself front [] back = refl
 all_within same itself front (y ∷ ys) back =
     and_from (list_any (same y) (front ++ (y ∷ (ys ++ back)))) (list_all (λ z. list_any (same z) (front ++ (y ∷ (ys ++ back)))) ys)
-    (list_any-append (same y) front (y ∷ (ys ++ back)) ∙ or_right (list_any (same y) front) (same y y || list_any (same y) (ys ++ back)) (or_left (same y y) (list_any (same y) (ys ++ back)) (itself y)))
+    (list_any-append (same y) front (y ∷ (ys ++ back)) ∙ or_right (list_any (same y) front) (same y y || list_any (same y) (ys ++ back))
+    (or_left (same y y) (list_any (same y) (ys ++ back)) (itself y)))
     (ap (λ zs. list_all (λ z. list_any (same z) zs) ys) (sym (append_assoc front (y ∷ []) (ys ++ back))) ∙ all_within same itself (front ++ y ∷ []) ys back)
 
 same_use-itself : (u : Use) → same_use u u ≡ true
@@ -370,7 +401,8 @@ on_uses_within : (past : List PlainEvent) (e : PlainEvent) (state : State) → l
 on_uses_within past e Hard = all_within same_use same_use-itself (in_uses (past ++ e ∷ []) e) (on_uses (past ++ e ∷ []) Hard) (on_uses (past ++ e ∷ []) Soft)
 on_uses_within past e Soft =
     ap (λ us. list_all (λ u. list_any (same_use u) us) (on_uses (past ++ e ∷ []) Soft))
-    (ap (λ us. in_uses (past ++ e ∷ []) e ++ (on_uses (past ++ e ∷ []) Hard ++ us)) (sym (append-nil (on_uses (past ++ e ∷ []) Soft))) ∙ sym (append_assoc (in_uses (past ++ e ∷ []) e) (on_uses (past ++ e ∷ []) Hard) (on_uses (past ++ e ∷ []) Soft ++ [])))
+    (ap (λ us. in_uses (past ++ e ∷ []) e ++ (on_uses (past ++ e ∷ []) Hard ++ us)) (sym (append-nil (on_uses (past ++ e ∷ []) Soft))) ∙ sym
+    (append_assoc (in_uses (past ++ e ∷ []) e) (on_uses (past ++ e ∷ []) Hard) (on_uses (past ++ e ∷ []) Soft ++ [])))
     ∙ all_within same_use same_use-itself (in_uses (past ++ e ∷ []) e ++ on_uses (past ++ e ∷ []) Hard) (on_uses (past ++ e ∷ []) Soft) []
 
 -- after each position, the uses of what is held were seen
@@ -381,10 +413,12 @@ on_uses-seen state all = by_pushes (λ ps. list_all (is_known (seen uses_at ps))
     none Hard = refl
     none Soft = refl
 
-    step : (ps : List Position) (p : Position) → list_all (is_known (seen uses_at ps)) (on_uses (events ps) state) ≡ true → list_all (is_known (seen uses_at (ps ++ p ∷ []))) (on_uses (events (ps ++ p ∷ [])) state) ≡ true
+    step : (ps : List Position) (p : Position) → list_all (is_known (seen uses_at ps)) (on_uses (events ps) state) ≡ true → list_all
+        (is_known (seen uses_at (ps ++ p ∷ []))) (on_uses (events (ps ++ p ∷ [])) state) ≡ true
     step ps p h = (λ i. list_all (is_known (seen-push uses_at ps p i)) (on_uses (events-push ps p i) state)) ∙ by p.says
       where
-        by : (says : Result PlainEvent LineFault) → list_all (is_known (seen uses_at ps ++ seen_at uses_at (events ps) p.line says)) (on_uses (events ps ++ Rattle.std.specs.List.cons_option (Rattle.ld_rules.specs.Outcome.event_said says) []) state) ≡ true
+        by : (says : Result PlainEvent LineFault) → list_all (is_known (seen uses_at ps ++ seen_at uses_at (events ps) p.line says))
+            (on_uses (events ps ++ Rattle.std.specs.List.cons_option (Rattle.ld_rules.specs.Outcome.event_said says) []) state) ≡ true
         by (Err fault) = (λ i. list_all (is_known (append-nil (seen uses_at ps) i)) (on_uses (append-nil (events ps) i) state)) ∙ h
         by (Ok e) =
             list_all_mono (λ u. list_any (same_use u) (uses_at (events ps) e)) (is_known (seen uses_at ps ++ map (at_line p.line) (uses_at (events ps) e)))
@@ -398,7 +432,8 @@ abbrev pub uses_once : List Position → List (Seen Use)
 uses_once all = each_once same_what (seen uses_at all)
 
 pub on_uses-once : (state : State) (all : List Position) → list_all (is_known (uses_once all)) (on_uses (events all) state) ≡ true
-on_uses-once state all = list_all_mono (is_known (seen uses_at all)) (is_known (uses_once all)) (λ u there. any_each_once same_what same_what-alike (at_line 0 u) (seen uses_at all) ∙ there) (on_uses (events all) state) (on_uses-seen state all)
+on_uses-once state all = list_all_mono (is_known (seen uses_at all)) (is_known (uses_once all))
+    (λ u there. any_each_once same_what same_what-alike (at_line 0 u) (seen uses_at all) ∙ there) (on_uses (events all) state) (on_uses-seen state all)
 
 -- What one more position adds: of the uses that it may newly show those that aren't there yet, with its
 -- line.

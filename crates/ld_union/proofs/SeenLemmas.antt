@@ -1,5 +1,6 @@
 -- What a trace shows, as it is noted fact after fact.
-use Rattle.std.proofs.Common.{◌≡◌, ◌≢◌, ◌+◌, ◌<◌, ◌≤◌, ◌∷◌, [], AllPairs, List, ℕ, zero, suc, Bool, true, false, cond, Option, Some, None, length, map, take, get_or, refl, sym, ap, subst, ◌∙◌, if◌then◌else◌, arith}
+use Rattle.std.proofs.Common.{◌≡◌, ◌≢◌, ◌+◌, ◌<◌, ◌≤◌, ◌∷◌, [], AllPairs, List, ℕ, zero, suc, Bool, true, false, cond, Option, Some, None, length}
+use Rattle.std.proofs.Common.{map, take, get_or, refl, sym, ap, subst, ◌∙◌, if◌then◌else◌, arith}
 use Rattle.std.proofs.lemmas.Bool.{false_from_ne_true}
 use Rattle.std.proofs.lemmas.List.{map-append, take_all, take_more}
 use Rattle.std.proofs.lemmas.Slice.Eq.{bytes_eq-Decides}

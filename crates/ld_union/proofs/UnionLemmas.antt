@@ -1,5 +1,6 @@
 -- What is kept of dependencies, after one more was seen.
-use Rattle.std.proofs.Common.{◌≡◌, ◌≢◌, ◌⊎◌, inl, inr, ◌<◌, ◌++◌, ◌∷◌, [], ◌&&◌, List, ℕ, Bool, true, false, Option, Some, None, is_some, length, map, set, get_or, refl, sym, ap, subst, ◌∙◌, if◌then◌else◌, arith, All, AllPairs, Any}
+use Rattle.std.proofs.Common.{◌≡◌, ◌≢◌, ◌⊎◌, inl, inr, ◌<◌, ◌++◌, ◌∷◌, [], ◌&&◌, List, ℕ, Bool, true, false, Option, Some, None, is_some, length, map}
+use Rattle.std.proofs.Common.{set, get_or, refl, sym, ap, subst, ◌∙◌, if◌then◌else◌, arith, All, AllPairs, Any}
 use Rattle.std.proofs.lemmas.Bool.{true≢false, and_parts, cases_eq, cases_order, false_from_ne_true}
 use Rattle.std.proofs.lemmas.Bool.Decides.{nat_tests}
 use Rattle.std.proofs.lemmas.Slice.Eq.{bytes_eq-Decides}
@@ -153,8 +154,10 @@ module _ (classes : List (List ℕ)) (graph : Seen) (rows : List Witnessed) (is 
         distinct = is.distinct;
         count = classes_same ∙ is.count;
         edges = map-append (λ x. x.edge) rows (r ∷ []) ∙ (λ i. is.edges i ++ same i ∷ []) ∙ sym edges_are;
-        ends = subst (All (λ x. (x.from < length classes) × (x.to < length classes))) (sym edges_are) (All-push (λ x. (x.from < length classes) × (x.to < length classes)) graph.edges e is.ends e_ends);
-        once = subst (AllPairs (λ x y. x ≢ y)) (sym edges_are) (all_pairs_push (λ x y. x ≢ y) graph.edges e is.once (λ k d within same_edge. new (k, within, get_or_default graph.edges k e d within ∙ same_edge)));
+        ends = subst (All (λ x. (x.from < length classes) × (x.to < length classes))) (sym edges_are)
+            (All-push (λ x. (x.from < length classes) × (x.to < length classes)) graph.edges e is.ends e_ends);
+        once = subst (AllPairs (λ x y. x ≢ y)) (sym edges_are) (all_pairs_push (λ x y. x ≢ y) graph.edges e is.once
+            (λ k d within same_edge. new (k, within, get_or_default graph.edges k e d within ∙ same_edge)));
       }
 
       none_before : (first : Dependency → Option Witness) → AreWitnessed classes rows first → first (named_edge classes e) ≡ None
@@ -218,7 +221,8 @@ module _ (classes : List (List ℕ)) (graph : Seen) (rows : List Witnessed) (is 
 
             by : (k ≡ n) ⊎ (k ≢ n) → then_first e e_ends first witnessed witness (named_edge classes (get_or (set rows n r) k d).edge) ≡ Some (get_or (set rows n r) k d).first
             by (inl equal) =
-                subst (λ (x : Witnessed). then_first e e_ends first witnessed witness (named_edge classes x.edge) ≡ Some x.first) (sym (ap (λ m. get_or (set rows n r) m d) equal ∙ get_or-set_same rows n r d within))
+                subst (λ (x : Witnessed). then_first e e_ends first witnessed witness (named_edge classes x.edge) ≡ Some x.first)
+                (sym (ap (λ m. get_or (set rows n r) m d) equal ∙ get_or-set_same rows n r d within))
                 (ap (λ x. then_first e e_ends first witnessed witness (named_edge classes x)) same
                 ∙ here_first e e_ends first witnessed witness
                 ∙ ap (λ o. earlier_of o (Some witness)) (ap (λ x. first (named_edge classes x)) (sym (at r)) ∙ witnessed.each n r within)
@@ -241,7 +245,8 @@ module _ (classes : List (List ℕ)) (graph : Seen) (rows : List Witnessed) (is 
                 found = witnessed.all what before
 
                 by_place : (found.0 ≡ n) ⊎ (found.0 ≢ n) → Any (λ x. named_edge classes x.edge ≡ what) (set rows n r)
-                by_place (inl equal) = here (ap (named_edge classes) (sym (at found.1)) ∙ ap (λ m. named_edge classes (get_or rows m found.1).edge) (sym equal) ∙ ap (λ (x : Witnessed). named_edge classes x.edge) found.3 ∙ found.4)
+                by_place (inl equal) = here (ap (named_edge classes) (sym (at found.1)) ∙ ap (λ m. named_edge classes (get_or rows m found.1).edge)
+                    (sym equal) ∙ ap (λ (x : Witnessed). named_edge classes x.edge) found.3 ∙ found.4)
                 by_place (inr other) = (found.0, found.1, subst (λ m. found.0 < m) (sym (length-set rows n r)) found.2, get_or-set_other rows n found.0 r found.1 other ∙ found.3, found.4)
 
 -- more classes change nothing of the dependencies that are kept

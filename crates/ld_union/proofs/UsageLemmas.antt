@@ -1,7 +1,9 @@
 -- What is kept of the usage of the classes, after one more bit was seen.
-use Rattle.std.proofs.Common.{◌≡◌, ◌≢◌, ◌⊎◌, inl, inr, ◌-◌, ◌<◌, ◌≤◌, ◌&&◌, ◌++◌, ◌∷◌, [], List, ℕ, Bool, true, false, cond, Option, Some, None, is_some, length, map, fold, set, take, replicate, get_or, refl, sym, ap, ◌∙◌, if◌then◌else◌, arith, length-append, w8}
+use Rattle.std.proofs.Common.{◌≡◌, ◌≢◌, ◌⊎◌, inl, inr, ◌-◌, ◌<◌, ◌≤◌, ◌&&◌, ◌++◌, ◌∷◌, [], List, ℕ, Bool, true, false, cond, Option, Some, None}
+use Rattle.std.proofs.Common.{is_some, length, map, fold, set, take, replicate, get_or, refl, sym, ap, ◌∙◌, if◌then◌else◌, arith, length-append, w8}
 use Rattle.std.proofs.lemmas.Bool.{true≢false, and_parts, cases_eq, cases_order, false_from_ne_true}
-use Rattle.std.proofs.lemmas.List.{get_or-map, get_or-take, get_or-set_same, get_or-set_other, get_or_append_left, get_or-append_right, get_or-replicate, length-map, length-replicate, length-set, map-set, same_lists, set-get_or, take_all}
+use Rattle.std.proofs.lemmas.List.{get_or-map, get_or-take, get_or-set_same, get_or-set_other, get_or_append_left, get_or-append_right}
+use Rattle.std.proofs.lemmas.List.{get_or-replicate, length-map, length-replicate, length-set, map-set, same_lists, set-get_or, take_all}
 use Rattle.std.proofs.lemmas.Slice.Eq.{bytes_eq-Decides}
 use Rattle.std.specs.Int.{trailing_zeros}
 use Rattle.std.specs.List.{position_or_len}
@@ -37,7 +39,8 @@ abbrev set_by : Bool → Bool → Bool → Bool → Usage
 set_by a b c d = fold union (record { 0 = 0 }) (map usage_of (these a (In Hard) (these b (On Hard) (these c (In Soft) (these d (On Soft) [])))))
 
 -- and one bit more
-one_more : (a b c d : Bool) → (union (set_by a b c d) in_hard ≡ set_by true b c d) × (union (set_by a b c d) on_hard ≡ set_by a true c d) × (union (set_by a b c d) in_soft ≡ set_by a b true d) × (union (set_by a b c d) on_soft ≡ set_by a b c true)
+one_more : (a b c d : Bool) → (union (set_by a b c d) in_hard ≡ set_by true b c d) × (union (set_by a b c d) on_hard ≡ set_by a true c d) ×
+    (union (set_by a b c d) in_soft ≡ set_by a b true d) × (union (set_by a b c d) on_soft ≡ set_by a b c true)
 one_more true true true true = (refl, refl, refl, refl)
 one_more true true true false = (refl, refl, refl, refl)
 one_more true true false true = (refl, refl, refl, refl)
@@ -78,7 +81,8 @@ tests false false false false = (refl, refl, refl, refl)
 pub has_bit-row_of : (first : Bit → Option Witness) (bit : Bit) → has_bit (row_of first).bits (usage_of bit) ≡ is_some (first bit)
 has_bit-row_of first bit = by bit
   where
-    all : (has_bit (row_of first).bits in_hard ≡ is_some (first (In Hard))) × (has_bit (row_of first).bits on_hard ≡ is_some (first (On Hard))) × (has_bit (row_of first).bits in_soft ≡ is_some (first (In Soft))) × (has_bit (row_of first).bits on_soft ≡ is_some (first (On Soft)))
+    all : (has_bit (row_of first).bits in_hard ≡ is_some (first (In Hard))) × (has_bit (row_of first).bits on_hard ≡ is_some (first (On Hard))) ×
+        (has_bit (row_of first).bits in_soft ≡ is_some (first (In Soft))) × (has_bit (row_of first).bits on_soft ≡ is_some (first (On Soft)))
     all = tests (is_some (first (In Hard))) (is_some (first (On Hard))) (is_some (first (In Soft))) (is_some (first (On Soft)))
 
     by : (b : Bit) → has_bit (row_of first).bits (usage_of b) ≡ is_some (first b)
@@ -117,14 +121,16 @@ module _ (first : Bit → Option Witness) (witness : Witness) where
   same : (bit : Bit) → first bit ≡ earlier_of (first bit) None
   same bit = earlier_of-none (first bit)
 
-  witnesses_then : (bit : Bit) → set (map first bits) (position_or_len (same_bit bit) bits) (earlier_of (get_or (map first bits) (position_or_len (same_bit bit) bits) None) (Some witness)) ≡ map (with_bit first bit witness) bits
+  witnesses_then : (bit : Bit) → set (map first bits) (position_or_len (same_bit bit) bits)
+      (earlier_of (get_or (map first bits) (position_or_len (same_bit bit) bits) None) (Some witness)) ≡ map (with_bit first bit witness) bits
   witnesses_then (In Hard) = λ i. earlier_of (first (In Hard)) (Some witness) ∷ same (On Hard) i ∷ same (In Soft) i ∷ same (On Soft) i ∷ []
   witnesses_then (On Hard) = λ i. same (In Hard) i ∷ earlier_of (first (On Hard)) (Some witness) ∷ same (In Soft) i ∷ same (On Soft) i ∷ []
   witnesses_then (In Soft) = λ i. same (In Hard) i ∷ same (On Hard) i ∷ earlier_of (first (In Soft)) (Some witness) ∷ same (On Soft) i ∷ []
   witnesses_then (On Soft) = λ i. same (In Hard) i ∷ same (On Hard) i ∷ same (In Soft) i ∷ earlier_of (first (On Soft)) (Some witness) ∷ []
 
   -- the row then
-  pub row_then : (bit : Bit) (row : UsageRow) (place : ℕ) (earliest : Option Witness) → row ≡ row_of first → place ≡ position_or_len (same_bit bit) bits → earliest ≡ earlier_of (get_or row.first place None) (Some witness)
+  pub row_then : (bit : Bit) (row : UsageRow) (place : ℕ) (earliest : Option Witness) → row ≡ row_of first → place ≡ position_or_len (same_bit bit)
+      bits → earliest ≡ earlier_of (get_or row.first place None) (Some witness)
       → ◌≡◌ {A = UsageRow} (record { bits = union row.bits (usage_of bit); first = set row.first place earliest }) (row_of (with_bit first bit witness))
   row_then bit row place earliest is at least =
       (λ i. record { bits = union (is i).bits (usage_of bit); first = set (is i).first (at i) ((least ∙ (λ j. earlier_of (get_or (is j).first (at j) None) (Some witness))) i) })
@@ -163,7 +169,8 @@ module _ (classes : List (List ℕ)) (rows : List UsageRow) (first : Use → Opt
     -- other classes keep theirs
     other_row : (k : ℕ) → k < length classes → k ≢ c → row_of (of_class first (get_or classes k [])) ≡ row_of (of_class (then_used first this_use witness) (get_or classes k []))
     other_row k k_within differs =
-        let apart : bytes_eq (get_or classes k []) this_use.class ≡ false = false_from_ne_true _ (λ same. differs (distinct k c this_use.class (k_within, (bytes_eq-Decides (get_or classes k []) this_use.class).0 same) (within, refl))) in
+        let apart : bytes_eq (get_or classes k []) this_use.class ≡ false = false_from_ne_true _
+        (λ same. differs (distinct k c this_use.class (k_within, (bytes_eq-Decides (get_or classes k []) this_use.class).0 same) (within, refl))) in
         let tests : false ≡ bytes_eq (get_or classes k []) this_use.class = sym apart in
         (λ i. row_of (λ b. earlier_of-none (of_class first (get_or classes k []) b) i))
         ∙ (λ i. row_of (λ b. earlier_of (of_class first (get_or classes k []) b) (if tests i && same_bit b bit then Some witness else None)))
@@ -187,7 +194,8 @@ module _ (classes : List (List ℕ)) (rows : List UsageRow) (first : Use → Opt
             k_within = omega (arith, k_in, length-set rows c row, length_used)
 
             by : (k ≡ c) ⊎ (k ≢ c) → get_or (set rows c row) k d ≡ row_then_of (get_or classes k [])
-            by (inl same) = ap (λ m. get_or (set rows c row) m d) same ∙ get_or-set_same rows c row d (omega (arith, within, length_used)) ∙ is ∙ own_row ∙ ap (λ m. row_then_of (get_or classes m [])) (sym same)
+            by (inl same) = ap (λ m. get_or (set rows c row) m d) same ∙ get_or-set_same rows c row d (omega (arith, within, length_used)) ∙ is ∙
+                own_row ∙ ap (λ m. row_then_of (get_or classes m [])) (sym same)
             by (inr differs) = get_or-set_other rows c k row d differs ∙ row_at k d k_within ∙ other_row k k_within differs
 
         known : (what : Use) → (same_use what this_use ≡ true) ⊎ (is_some (first what) ≡ true) → is_some (place_of classes what.class) ≡ true

@@ -7,7 +7,8 @@ use Rattle.ld_book.specs.Book.{sources_of}
 pub use Rattle.ld_book.proofs.RisingLemmas.{rising_from_sorted}
 
 -- a copy of what lists these sources lists them in another order, once it is sorted
-pub sources_moved : (sources : List PlainSource) (listed copied sorted lent : List Listed) → sources_of listed ≡ sources → copied ≡ listed → IsPermutation copied sorted → lent ≡ sorted → IsPermutation (sources_of lent) sources
+pub sources_moved : (sources : List PlainSource) (listed copied sorted lent : List Listed) → sources_of listed ≡ sources → copied ≡ listed →
+    IsPermutation copied sorted → lent ≡ sorted → IsPermutation (sources_of lent) sources
 sources_moved sources listed copied sorted lent shown same moved is =
     subst (λ l. IsPermutation (sources_of l) sources) (sym is)
     (subst (IsPermutation (sources_of sorted)) (ap sources_of same ∙ shown)

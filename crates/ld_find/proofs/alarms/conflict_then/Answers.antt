@@ -12,5 +12,6 @@ returns-then-is_some c = λ usage grow exact.
     let kept = conflict_kept state usage now c.args.came grow in
     elim c.then-is_some.branch [
       | then-is_some-via-then-is_some w ↦ stays (IsConflictAt usage state) (IsConflictAt now state) kept c.args.found exact (sym c.is_some.ensures ∙ w.if-is_some.true)
-      | then-is_some-via-else-is_some+then-not-came w ↦ is_all (IsConflictAt usage state) (IsConflictAt now state) kept c.args.found exact (conflict_back state usage now c.args.came grow w.if-not-came.true)
+      | then-is_some-via-else-is_some+then-not-came w ↦ is_all (IsConflictAt usage state) (IsConflictAt now state) kept c.args.found exact
+          (conflict_back state usage now c.args.came grow w.if-not-came.true)
     ]

@@ -16,7 +16,8 @@ loop-row-preserved c =
       same = searched_same c.args.graph.now c.loop-row.graph c.search.new.self row.edge.to c.loop-row.invariant.same c.search.ensures;
       none = All-more (λ r. ¬ IsCycleAt c.args.graph.now.edges r.edge) c.args.rows.now c.loop-row.row-index _ c.loop-row-test.true c.loop-row.invariant.none (λ cycle.
           let edges = searched_edges c.args.graph.now c.loop-row.graph c.search.new.self row.edge.to c.loop-row.invariant.same c.search.ensures in
-          let found = at_some (λ a. IsTrue c.found.result ↔ HasWalk (IsEdge c.search.new.self.edges) a row.edge.from) c.search.new.self.searched row.edge.to (ap (λ (g : Seen). g.searched) c.search.ensures) c.found.ensures in
+          let found = at_some (λ a. IsTrue c.found.result ↔ HasWalk (IsEdge c.search.new.self.edges) a row.edge.from) c.search.new.self.searched
+          row.edge.to (ap (λ (g : Seen). g.searched) c.search.ensures) c.found.ensures in
           true≢false (sym (found.1 (subst (λ es. HasWalk (IsEdge es) row.edge.to row.edge.from) (sym edges) cycle.1)) ∙ c.if-found.false));
     }
 

@@ -8,7 +8,8 @@ use Rattle.ld_find.proofs.alarms.cycle_then.Goals as goal
 
 pub returns-then-is_some-clause-found : goal.returns-then-is_some-clause-found
 returns-then-is_some-clause-found c = λ edges count front exact.
-    stays (IsCycleAt edges) (IsCycleAt c.args.graph.now.edges) (cycle_kept edges c.args.graph.now.edges (edges_kept edges c.args.graph.now.edges c.args.known front)) c.args.found exact (sym c.is_some.ensures ∙ c.if-is_some.true)
+    stays (IsCycleAt edges) (IsCycleAt c.args.graph.now.edges) (cycle_kept edges c.args.graph.now.edges
+    (edges_kept edges c.args.graph.now.edges c.args.known front)) c.args.found exact (sym c.is_some.ensures ∙ c.if-is_some.true)
 
 pub cycle_among-requires : goal.cycle_among-requires
 cycle_among-requires c =

@@ -14,7 +14,9 @@ returns-then-is_some-clause-found c = λ edges usage grow bits exact.
     let kept = forbidden_kept state usage now c.args.came bits edges all grow in
     elim c.then-is_some.branch [
       | then-is_some-via-then-is_some w ↦
-          stays (λ (f : Forbidden). IsForbiddenAt edges usage state f.from f.to) (λ (f : Forbidden). IsForbiddenAt all now state f.from f.to) kept c.args.found exact (sym c.is_some.ensures ∙ w.if-is_some.true)
+          stays (λ (f : Forbidden). IsForbiddenAt edges usage state f.from f.to) (λ (f : Forbidden). IsForbiddenAt all now state f.from f.to) kept
+          c.args.found exact (sym c.is_some.ensures ∙ w.if-is_some.true)
       | then-is_some-via-else-is_some+then-not-came w ↦
-          is_all (λ (f : Forbidden). IsForbiddenAt edges usage state f.from f.to) (λ (f : Forbidden). IsForbiddenAt all now state f.from f.to) kept c.args.found exact (forbidden_back state usage now c.args.came bits edges all grow w.if-not-came.true)
+          is_all (λ (f : Forbidden). IsForbiddenAt edges usage state f.from f.to) (λ (f : Forbidden). IsForbiddenAt all now state f.from f.to) kept
+          c.args.found exact (forbidden_back state usage now c.args.came bits edges all grow w.if-not-came.true)
     ]

@@ -23,8 +23,11 @@ loop-from-preserved c =
         same = searched_same c.args.graph.now c.loop-from.graph w.search.new.self c.loop-from.from before.same w.search.ensures;
         none = λ x y low.
             below_more (λ k. ¬ IsForbiddenAt c.args.graph.now.edges (bits_of c.args.rows.now) c.args.state k y) c.loop-from.from (λ k l. before.none k y l)
-            (λ walk. w.in_default.ensures c.loop-from.from (ap (λ (g : Seen). g.searched) w.search.ensures)
-            (y, subst (λ edges. IsFoundAt edges (bits_of c.args.rows.now) c.args.state c.loop-from.from y) (sym (searched_edges c.args.graph.now c.loop-from.graph w.search.new.self c.loop-from.from before.same w.search.ensures)) walk.1))
+            (λ walk. w.in_default.ensures c.loop-from.from (ap (λ (g : Seen). g.searched) w.search.ensures) (
+              y,
+              subst (λ edges. IsFoundAt edges (bits_of c.args.rows.now) c.args.state c.loop-from.from y)
+                  (sym (searched_edges c.args.graph.now c.loop-from.graph w.search.new.self c.loop-from.from before.same w.search.ensures)) walk.1,
+            ))
             x low;
       })
       | else-has w ↦ rw w.graph-is (record {

@@ -1,5 +1,7 @@
 use Rattle.std.proofs.Common.{◌∙◌, ap, map, subst, sym}
-use Rattle.ld_find.specs.Findings.{AreConflictRows, AreCycleRows, AreForbiddenRows, InTurn, IsBefore, IsConflictRow, IsCycleRow, IsForbiddenRow, IsHarder, IsPairBefore, conflict_key, cycle_key, forbidden_key, plain_conflict_row, plain_cycle_row, plain_forbidden_row}
+use Rattle.ld_find.specs.Findings.{AreConflictRows, AreCycleRows, AreForbiddenRows, InTurn, IsBefore, IsConflictRow, IsCycleRow, IsForbiddenRow}
+use Rattle.ld_find.specs.Findings.{IsHarder, IsPairBefore, conflict_key, cycle_key, forbidden_key, plain_conflict_row, plain_cycle_row}
+use Rattle.ld_find.specs.Findings.{plain_forbidden_row}
 use Rattle.ld_find.specs.Violations.{IsConflict, IsCycle, IsForbidden}
 use Rattle.ld_find.proofs.RowLemmas.{None_from_is_some, rows-absent}
 use Rattle.ld_find.proofs.findings.findings_of.Goals as goal

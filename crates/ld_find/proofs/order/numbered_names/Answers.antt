@@ -12,5 +12,6 @@ loop-class-preserved c =
     let pushed : c.push.new.self.items ≡ old ++ added ∷ [] = search rules in
     record {
       names = subst (All (λ p. IsNameAt c.args.classes.now p.1 p.0.now)) (sym pushed) (All-push (λ p. IsNameAt c.args.classes.now p.1 p.0.now) old added c.loop-class.invariant.names (search rules));
-      numbers = ap (map (λ p. p.1)) pushed ∙ map-append (λ p. p.1) old (added ∷ []) ∙ ap (λ l. l ++ c.loop-class.class ∷ []) c.loop-class.invariant.numbers ∙ sym (range_with_len-more c.loop-class.class);
+      numbers = ap (map (λ p. p.1)) pushed ∙ map-append (λ p. p.1) old (added ∷ []) ∙ ap (λ l. l ++ c.loop-class.class ∷ [])
+          c.loop-class.invariant.numbers ∙ sym (range_with_len-more c.loop-class.class);
     }

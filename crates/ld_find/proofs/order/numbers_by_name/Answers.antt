@@ -25,7 +25,8 @@ returns-clause-every c =
 
 pub returns-clause-rising : goal.returns-clause-rising
 returns-clause-rising c =
-    IfOk-weaker c.numbers_of.result _ _ (λ numbers is. subst (λ l. (i j : ℕ) → i < j → j < length l → IsBefore (name_of c.args.classes.now (class_at l i)) (name_of c.args.classes.now (class_at l j))) (sym is)
+    IfOk-weaker c.numbers_of.result _ _ (λ numbers is. subst
+    (λ l. (i j : ℕ) → i < j → j < length l → IsBefore (name_of c.args.classes.now (class_at l i)) (name_of c.args.classes.now (class_at l j))) (sym is)
     (numbers-rising c.args.classes.now c.in_ok-named.named.items c.deref.result.now c.in_ok-named.ensures.names c.in_ok-named.ensures.numbers
     (subst (IsPermutation c.in_ok-named.named.items) (sym c.deref.ensures.value) c.sort_unstable.ensures.permutation)
     c.in_ok-named.ensures.distinct (subst (IsSorted named_cmp) (sym c.deref.ensures.value) c.sort_unstable.ensures.sorted))) c.numbers_of.ensures

@@ -10,5 +10,6 @@ returns-then-is_same-clause-last c =
 pub loop-place-preserved : goal.loop-place-preserved
 loop-place-preserved c = record {
   within = let within = c.loop-place.invariant.within in omega arith;
-  none_after = none_before (plain_lock c.args.lock) c.args.stack.now c.loop-place.place _ (omega arith) c.loop-place.invariant.within (sym c.is_same.ensures ∙ c.if-is_same.false) c.loop-place.invariant.none_after;
+  none_after = none_before (plain_lock c.args.lock) c.args.stack.now c.loop-place.place _ (omega arith) c.loop-place.invariant.within
+      (sym c.is_same.ensures ∙ c.if-is_same.false) c.loop-place.invariant.none_after;
 }

@@ -44,14 +44,16 @@ pub invariant_of-self-in_err-add_classes : goal.invariant_of-self-in_err-add_cla
 invariant_of-self-in_err-add_classes c =
     let same : c.add_classes.new.self.classes ≡ c.self.inside.union.classes = search rules in
     subst (λ listed. IsKept listed c.reserve-2.new.self.keys c.self.inside.events c.self.inside.refused c.add_classes.new.self c.self.inside.found) (sym c.reserve.ensures.items)
-    (kept-same c.self.inside.listed.items c.self.inside.numbers.keys c.reserve-2.new.self.keys c.self.inside.events c.self.inside.refused c.self.inside.union c.add_classes.new.self c.self.inside.found c.self.invariant
+    (kept-same c.self.inside.listed.items c.self.inside.numbers.keys c.reserve-2.new.self.keys c.self.inside.events c.self.inside.refused
+    c.self.inside.union c.add_classes.new.self c.self.inside.found c.self.invariant
     c.reserve-2.ensures.keys c.add_classes.ensures.numbered same c.add_classes.ensures.edges c.add_classes.ensures.kept c.add_classes.ensures.used)
 
 pub overflow_add-self : goal.overflow_add-self
 overflow_add-self c =
     let distinct : IsDistinct nat_eq c.self.inside.numbers.keys = subst (IsDistinct nat_eq) c.reserve-2.ensures.keys c.reserve-2.ensures.unique in
     let fits : c.self.inside.events + c.events_of.result < 2 ^ 64 =
-    events_fit c.self.inside.listed.items c.self.inside.numbers.keys c.self.inside.events c.events_of.result c.args.facts.now.source c.self.invariant.numbers c.self.invariant.fit distinct c.self.invariant.events
+    events_fit c.self.inside.listed.items c.self.inside.numbers.keys c.self.inside.events c.events_of.result c.args.facts.now.source
+    c.self.invariant.numbers c.self.invariant.fit distinct c.self.invariant.events
     (c.events_of.ensures ∙ ap events_read (c.outcome-outcome.ensures ∙ c.source-source.ensures.known.outcome)) c.source-source.ensures.known.fits in
     omega arith
 
@@ -75,11 +77,13 @@ invariant_of-self-2 c =
     let classes : c.add_classes.new.self.classes ≡ with_names union.classes c.args.facts.now.classes = c.in_ok-add_classes.ensures.classes in
     let longer : IsLonger union.classes c.add_classes.new.self.classes (length c.args.facts.now.classes) = c.in_ok-add_classes.ensures.longer in
     let same_classes : shown.classes ≡ c.add_classes.new.self.classes = c.add_usage-bits_came.ensures.classes ∙ c.add_dependencies.ensures.classes in
-    let longer_then : IsLonger union.classes shown.classes (length c.args.facts.now.classes) = subst (λ names. IsLonger union.classes names (length c.args.facts.now.classes)) (sym same_classes) longer in
+    let longer_then : IsLonger union.classes shown.classes (length c.args.facts.now.classes) = subst
+    (λ names. IsLonger union.classes names (length c.args.facts.now.classes)) (sym same_classes) longer in
     let numbered : IsNumbered shown = rw (c.add_usage-bits_came.ensures.classes, c.add_usage-bits_came.ensures.graph, c.add_usage-bits_came.ensures.dependencies) c.add_dependencies.ensures.numbered in
     let first = dependency_witness (sources_of listed) in
     let first_use = use_witness (sources_of listed) in
-    let classes_used : AreUsed shown.classes c.add_dependencies.new.self.usage.items first_use = rw (c.add_usage-bits_came.ensures.classes, c.add_dependencies.ensures.classes, c.add_dependencies.ensures.usage) (c.add_classes.ensures.used first_use c.self.invariant.used) in
+    let classes_used : AreUsed shown.classes c.add_dependencies.new.self.usage.items first_use = rw
+    (c.add_usage-bits_came.ensures.classes, c.add_dependencies.ensures.classes, c.add_dependencies.ensures.usage) (c.add_classes.ensures.used first_use c.self.invariant.used) in
     let used = c.add_usage-bits_came.ensures.used first_use (rw (c.add_dependencies.ensures.classes, c.add_dependencies.ensures.usage) (c.add_classes.ensures.used first_use c.self.invariant.used)) in
     let grown : BitsGrow (bits_of union.usage.items) (bits_of shown.usage.items) c.add_usage-bits_came.result =
     bits_grown union.classes shown.classes (length c.args.facts.now.classes) numbered.distinct longer_then union.usage.items first_use c.self.invariant.used
@@ -87,14 +91,20 @@ invariant_of-self-2 c =
     (λ what. earlier_of-some (first_use what) (seen_in c.args.facts.now.source.number (least_line same_use (uses_of c.args.facts.now.source) what)))
     (λ nothing. OnFalse_at nothing c.add_usage-bits_came.ensures.known) in
     let with_classes = c.add_classes.new.self in
-    let count : c.len-known.result ≡ length with_classes.graph.edges = c.len-known.ensures ∙ with_classes.dependencies.ok.0 ∙ length_rows with_classes.classes with_classes.graph with_classes.dependencies.items c.add_classes.ensures.numbered in
-    let front : take c.len-known.result shown.graph.edges ≡ union.graph.edges = (λ i. take (count i) (c.add_usage-bits_came.ensures.graph i).edges) ∙ c.add_dependencies.ensures.front ∙ c.add_classes.ensures.edges in
+    let count : c.len-known.result ≡ length with_classes.graph.edges = c.len-known.ensures ∙ with_classes.dependencies.ok.0 ∙ length_rows
+    with_classes.classes with_classes.graph with_classes.dependencies.items c.add_classes.ensures.numbered in
+    let front : take c.len-known.result shown.graph.edges ≡ union.graph.edges = (λ i. take (count i) (c.add_usage-bits_came.ensures.graph i).edges) ∙
+    c.add_dependencies.ensures.front ∙ c.add_classes.ensures.edges in
     let exact : AreFound shown.graph.edges (bits_of shown.usage.items) c.look.new.self = c.look.ensures.found union.graph.edges (bits_of union.usage.items) front grown c.self.invariant.exact in
     subst (λ all. IsKept all c.insert.new.self.keys (c.self.inside.events + c.events_of.result) (c.self.inside.refused + c.refused_of.result) c.look.new.union c.look.new.self) (sym items)
-    (subst (λ (u : Union). IsKept (listed ++ last ∷ []) c.insert.new.self.keys (c.self.inside.events + c.events_of.result) (c.self.inside.refused + c.refused_of.result) u c.look.new.self) (sym c.look.ensures.same)
-    (kept-searched (listed ++ last ∷ []) c.insert.new.self.keys (c.self.inside.events + c.events_of.result) (c.self.inside.refused + c.refused_of.result) shown c.look.new.self c.look.new.union.graph.searched
-    (kept-push listed keys c.insert.new.self.keys c.self.inside.events c.self.inside.refused c.events_of.result c.refused_of.result union shown c.self.inside.found c.look.new.self last c.args.facts.now
+    (subst (λ (u : Union). IsKept (listed ++ last ∷ []) c.insert.new.self.keys (c.self.inside.events + c.events_of.result)
+    (c.self.inside.refused + c.refused_of.result) u c.look.new.self) (sym c.look.ensures.same)
+    (kept-searched (listed ++ last ∷ []) c.insert.new.self.keys (c.self.inside.events + c.events_of.result)
+    (c.self.inside.refused + c.refused_of.result) shown c.look.new.self c.look.new.union.graph.searched
+    (kept-push listed keys c.insert.new.self.keys c.self.inside.events c.self.inside.refused c.events_of.result c.refused_of.result union shown
+    c.self.inside.found c.look.new.self last c.args.facts.now
     c.self.invariant c.source-source.ensures.known c.source-source.ensures.source c.outcome-outcome.ensures
     entered c.events_of.ensures c.refused_of.ensures numbered (same_classes ∙ classes) longer_then
-    (rw (c.add_usage-bits_came.ensures.classes, c.add_usage-bits_came.ensures.dependencies) (c.add_dependencies.ensures.dependencies first (c.add_classes.ensures.kept first c.self.invariant.witnesses)))
+    (rw (c.add_usage-bits_came.ensures.classes, c.add_usage-bits_came.ensures.dependencies)
+    (c.add_dependencies.ensures.dependencies first (c.add_classes.ensures.kept first c.self.invariant.witnesses)))
     used exact)))

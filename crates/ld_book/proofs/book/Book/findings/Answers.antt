@@ -23,5 +23,6 @@ returns c =
     let exact = exact_from_found union.classes (bits_of union.usage.items) sources (bits_from_used union.classes union.usage.items sources c.self.invariant.used)
     union.graph union.dependencies.items c.self.invariant.numbered c.self.invariant.witnesses found c.self.invariant.exact in
     IfOk-weaker c.findings_of.result _ (λ findings. AreFindings c.args.self.now (plain_findings findings))
-    (λ findings are. subst (λ all. AreFindings all (plain_findings findings)) c.self.view_is (are sources c.self.invariant.witnesses c.self.invariant.used (of_each_from_exact sources union.classes found exact)))
+    (λ findings are. subst (λ all. AreFindings all (plain_findings findings)) c.self.view_is
+    (are sources c.self.invariant.witnesses c.self.invariant.used (of_each_from_exact sources union.classes found exact)))
     c.findings_of.ensures

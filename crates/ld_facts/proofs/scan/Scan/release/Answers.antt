@@ -21,9 +21,12 @@ returns-in_err-task-clause-fault c fault is all is_at =
 pub returns-else-branch-clause-fault : goal.returns-else-branch-clause-fault
 returns-else-branch-clause-fault c fault is all is_at =
     let same : NotHeld ≡ fault = cc in
-    release-not_held all c.args.self.now is_at c.args.task.now (plain_lock c.args.lock) c.in_ok-task.task c.task.new.self c.in_ok-task.ensures.task (sym c.in_ok-let_go.ensures.held ∙ c.if-branch.false) ∙ ap Some same
+    release-not_held all c.args.self.now is_at c.args.task.now (plain_lock c.args.lock) c.in_ok-task.task c.task.new.self c.in_ok-task.ensures.task
+    (sym c.in_ok-let_go.ensures.held ∙ c.if-branch.false) ∙ ap Some same
 
 pub returns-then-branch-clause-ok : goal.returns-then-branch-clause-ok
 returns-then-branch-clause-ok c all line is_at =
-    subst (λ (locks : Known). IsAt (all ++ happens line (Release c.args.task.now (plain_lock c.args.lock)) ∷ []) (record { tasks = c.task.new.self.tasks; classes = c.task.new.self.classes; locks = locks; uses = c.task.new.self.uses })) (sym c.in_ok-let_go.ensures.stacks)
-    (release-at all c.args.self.now is_at c.args.task.now (plain_lock c.args.lock) c.in_ok-task.task c.task.new.self c.in_ok-task.ensures.task line (sym c.in_ok-let_go.ensures.held ∙ c.if-branch.true))
+    subst (λ (locks : Known). IsAt (all ++ happens line (Release c.args.task.now (plain_lock c.args.lock)) ∷ [])
+    (record { tasks = c.task.new.self.tasks; classes = c.task.new.self.classes; locks = locks; uses = c.task.new.self.uses })) (sym c.in_ok-let_go.ensures.stacks)
+    (release-at all c.args.self.now is_at c.args.task.now (plain_lock c.args.lock) c.in_ok-task.task c.task.new.self c.in_ok-task.ensures.task line
+    (sym c.in_ok-let_go.ensures.held ∙ c.if-branch.true))

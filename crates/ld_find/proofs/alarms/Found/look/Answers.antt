@@ -23,8 +23,10 @@ cycle_then-self-requires-clause-ends c =
 pub returns-clause-found : goal.returns-clause-found
 returns-clause-found c edges usage front grow found = record {
   cycle = c.cycle_then-self.ensures.found edges (ap length (sym front) ∙ length-take-le c.args.known all c.requires.known) front found.cycle;
-  conflict = λ state. subst (λ rows. IsExact (IsConflictAt (bits_of rows) state) (get_or (c.conflict_then.result ∷ c.conflict_then-2.result ∷ []) (state_place state) None)) same_usage (conflict state);
-  forbidden = λ state. subst (λ rows. IsExact (λ (f : Forbidden). IsForbiddenAt all (bits_of rows) state f.from f.to) (get_or (c.forbidden_then.result ∷ c.forbidden_then-2.result ∷ []) (state_place state) None)) same_usage (forbidden state);
+  conflict = λ state. subst (λ rows. IsExact (IsConflictAt (bits_of rows) state)
+      (get_or (c.conflict_then.result ∷ c.conflict_then-2.result ∷ []) (state_place state) None)) same_usage (conflict state);
+  forbidden = λ state. subst (λ rows. IsExact (λ (f : Forbidden). IsForbiddenAt all (bits_of rows) state f.from f.to)
+      (get_or (c.forbidden_then.result ∷ c.forbidden_then-2.result ∷ []) (state_place state) None)) same_usage (forbidden state);
 }
   where
     all : List Edge
@@ -66,7 +68,8 @@ returns-clause-found c edges usage front grow found = record {
     conflict Hard = c.conflict_then.ensures usage bits (found.conflict Hard)
     conflict Soft = c.conflict_then-2.ensures usage bits (found.conflict Soft)
 
-    forbidden : (state : State) → IsExact (λ (f : Forbidden). IsForbiddenAt all (bits_of rows) state f.from f.to) (get_or (c.forbidden_then.result ∷ c.forbidden_then-2.result ∷ []) (state_place state) None)
+    forbidden : (state : State) → IsExact (λ (f : Forbidden). IsForbiddenAt all (bits_of rows) state f.from f.to)
+        (get_or (c.forbidden_then.result ∷ c.forbidden_then-2.result ∷ []) (state_place state) None)
     forbidden Hard =
         subst (λ es. IsExact (λ (f : Forbidden). IsForbiddenAt es (bits_of rows) Hard f.from f.to) c.forbidden_then.result) searched
         (c.forbidden_then.ensures.found edges usage (subst (λ es. EdgesGrow edges es c.if-edges_came.came) (sym searched) grown_edges) grown_bits (found.forbidden Hard))

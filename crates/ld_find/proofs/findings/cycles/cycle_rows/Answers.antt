@@ -19,9 +19,11 @@ loop-from-preserved c sources witnessed =
     let within : i < length numbers = subst (λ ns. i < length ns) c.deref-from-items.ensures.value c.loop-from-test.true in
     let before = map plain_cycle_row c.loop-from.rows.items in
     let more = map plain_cycle_row c.in_ok-more.more.items in
-    let items : map plain_cycle_row c.append.new.self.items ≡ before ++ more = ap (map plain_cycle_row) c.in_ok-append.ensures.items ∙ map-append plain_cycle_row c.loop-from.rows.items c.in_ok-more.more.items in
+    let items : map plain_cycle_row c.append.new.self.items ≡ before ++ more = ap (map plain_cycle_row) c.in_ok-append.ensures.items ∙ map-append
+    plain_cycle_row c.loop-from.rows.items c.in_ok-more.more.items in
     subst (AreCycleRowsOf sources (λ p. IsPassed classes numbers (i + 1) p.0)) (sym items)
-    (rows-next classes numbers c.args.order.now.places.items c.requires.order cycle_key (IsCycleRow sources) (λ p. IsCycle sources p.0 p.1) IsBefore i before more within (c.loop-from.invariant sources witnessed)
+    (rows-next classes numbers c.args.order.now.places.items c.requires.order cycle_key (IsCycleRow sources) (λ p. IsCycle sources p.0 p.1) IsBefore i
+    before more within (c.loop-from.invariant sources witnessed)
     (subst (λ n. AreCycleRowsOf sources (λ p. p.0 ≡ n) more) name (c.in_ok-more.ensures sources witnessed)))
 
 pub returns : goal.returns

@@ -25,7 +25,8 @@ returns-then-is_none c sources witnessed =
     let no_walk_back : ¬ HasWalk (IsEdge union.graph.edges) a a = no_walk (IsEdge union.graph.edges) a a (get_or distances a None) (are.each a) none in
     subst (AreCycleRowsOf sources (λ p. p.0 ≡ name_of union.classes a)) (sym (ap (map plain_cycle_row) c.new-rows.ensures.items))
     (rows-none cycle_key (IsCycleRow sources) (λ p. IsCycle sources p.0 p.1) IsPairBefore (λ p. p.0 ≡ name_of union.classes a)
-    (λ p cycle from. no_cycle-from union.classes union.graph union.dependencies.items c.requires.numbered sources witnessed a p.1 c.requires.from no_walk_back (subst (λ n. IsCycle sources n p.1) from cycle)))
+    (λ p cycle from. no_cycle-from union.classes union.graph union.dependencies.items c.requires.numbered sources witnessed a p.1 c.requires.from
+    no_walk_back (subst (λ n. IsCycle sources n p.1) from cycle)))
 
 pub loop-to-preserved : goal.loop-to-preserved
 loop-to-preserved c sources witnessed =
@@ -44,14 +45,18 @@ loop-to-preserved c sources witnessed =
     elim c.match-branch-3.branch [
       | in-Some+in_ok-push w ↦
           let row = plain_cycle_row w.in-Some.row in
-          let told = MatchOption-at_some (¬ IsCycle sources (name_of classes class) (name_of classes to)) (λ r. IsCycleRowOf sources (name_of classes class) (name_of classes to) (plain_cycle_row r)) w.in-Some.row w.in-Some.is (c.in_ok-row.ensures sources witnessed) in
-          let is : IsCycleRowOf sources from (name_at classes numbers i) row = subst (λ n. IsCycleRowOf sources from n row) name (subst (λ n. IsCycleRowOf sources n (name_of classes to) row) same told) in
-          let items : map plain_cycle_row c.match-branch-3.rows.items ≡ before ++ row ∷ [] = ap (λ (rows : Vec _ _). map plain_cycle_row rows.items) w.rows-is ∙ ap (map plain_cycle_row) w.in_ok-push.ensures.items ∙ map-append plain_cycle_row c.loop-to.rows.items (w.in-Some.row ∷ []) in
+          let told = MatchOption-at_some (¬ IsCycle sources (name_of classes class) (name_of classes to))
+          (λ r. IsCycleRowOf sources (name_of classes class) (name_of classes to) (plain_cycle_row r)) w.in-Some.row w.in-Some.is (c.in_ok-row.ensures sources witnessed) in
+          let is : IsCycleRowOf sources from (name_at classes numbers i) row = subst (λ n. IsCycleRowOf sources from n row) name
+          (subst (λ n. IsCycleRowOf sources n (name_of classes to) row) same told) in
+          let items : map plain_cycle_row c.match-branch-3.rows.items ≡ before ++ row ∷ [] = ap (λ (rows : Vec _ _). map plain_cycle_row rows.items)
+          w.rows-is ∙ ap (map plain_cycle_row) w.in_ok-push.ensures.items ∙ map-append plain_cycle_row c.loop-to.rows.items (w.in-Some.row ∷ []) in
           subst (AreCycleRowsOf sources (λ p. (p.0 ≡ from) × IsPassed classes numbers (i + 1) p.1)) (sym items)
           (rows-more classes numbers c.args.order.now.places.items c.requires.order cycle_key (IsCycleRow sources) owed IsBefore from i before (row ∷ []) within (c.loop-to.invariant sources witnessed)
           (rows-one cycle_key (IsCycleRow sources) owed IsPairBefore (from, name_at classes numbers i) row is.0 is.1))
       | in_default w ↦
-          let told = MatchOption-at_none (¬ IsCycle sources (name_of classes class) (name_of classes to)) (λ r. IsCycleRowOf sources (name_of classes class) (name_of classes to) (plain_cycle_row r)) w.in_default.is (c.in_ok-row.ensures sources witnessed) in
+          let told = MatchOption-at_none (¬ IsCycle sources (name_of classes class) (name_of classes to))
+          (λ r. IsCycleRowOf sources (name_of classes class) (name_of classes to) (plain_cycle_row r)) w.in_default.is (c.in_ok-row.ensures sources witnessed) in
           let none : ¬ IsCycle sources from (name_at classes numbers i) = subst (λ n. ¬ IsCycle sources from n) name (subst (λ n. ¬ IsCycle sources n (name_of classes to)) same told) in
           let items : map plain_cycle_row c.match-branch-3.rows.items ≡ before ++ [] = ap (λ (rows : Vec _ _). map plain_cycle_row rows.items) w.rows-is ∙ sym (append-nil before) in
           subst (AreCycleRowsOf sources (λ p. (p.0 ≡ from) × IsPassed classes numbers (i + 1) p.1)) (sym items)
@@ -66,7 +71,8 @@ returns c sources witnessed =
     let from = name_of union.classes c.args.from in
     let i = c.loop-to.to-index in
     let past : length numbers ≤ i = subst (λ ns. length ns ≤ i) c.deref-to-items.ensures.value c.loop-to-test.false in
-    rows-same cycle_key (IsCycleRow sources) (λ p. IsCycle sources p.0 p.1) IsPairBefore (λ p. (p.0 ≡ from) × IsPassed union.classes numbers i p.1) (λ p. p.0 ≡ from) (map plain_cycle_row c.loop-to.rows.items)
+    rows-same cycle_key (IsCycleRow sources) (λ p. IsCycle sources p.0 p.1) IsPairBefore (λ p. (p.0 ≡ from) × IsPassed union.classes numbers i p.1)
+    (λ p. p.0 ≡ from) (map plain_cycle_row c.loop-to.rows.items)
     (λ p here. here.0)
     (λ p owed here.
     let found = edge_from_depends union.classes union.graph union.dependencies.items c.requires.numbered sources witnessed p.0 p.1 owed.0 in

@@ -21,9 +21,11 @@ loop-to-preserved c sources witnessed used =
     let within : i < length numbers = subst (λ ns. i < length ns) c.deref-to-items.ensures.value c.loop-to-test.true in
     let before = map plain_forbidden_row c.loop-to.rows.items in
     let more = map plain_forbidden_row c.in_ok-more.more.items in
-    let items : map plain_forbidden_row c.append.new.self.items ≡ before ++ more = ap (map plain_forbidden_row) c.in_ok-append.ensures.items ∙ map-append plain_forbidden_row c.loop-to.rows.items c.in_ok-more.more.items in
+    let items : map plain_forbidden_row c.append.new.self.items ≡ before ++ more = ap (map plain_forbidden_row) c.in_ok-append.ensures.items ∙
+    map-append plain_forbidden_row c.loop-to.rows.items c.in_ok-more.more.items in
     subst (AreTurnedRowsOf sources state (λ p. IsPassed classes numbers (i + 1) p.0)) (sym items)
-    (rows-next classes numbers c.args.order.now.places.items c.requires.order turned_key (IsRowIn sources state) (λ p. IsForbidden sources state p.1 p.0) IsBefore i before more within (c.loop-to.invariant sources witnessed used)
+    (rows-next classes numbers c.args.order.now.places.items c.requires.order turned_key (IsRowIn sources state)
+    (λ p. IsForbidden sources state p.1 p.0) IsBefore i before more within (c.loop-to.invariant sources witnessed used)
     (subst (λ n. AreTurnedRowsOf sources state (λ p. p.0 ≡ n) more) name (c.in_ok-more.ensures sources witnessed used)))
 
 pub returns : goal.returns

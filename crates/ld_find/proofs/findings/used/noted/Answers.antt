@@ -17,7 +17,8 @@ returns-in_err-witness c sources used =
     let union = c.args.union.now in
     let class = name_of union.classes c.args.class in
     let first = of_class (use_witness sources) class in
-    let usage : c.index-usage.result.now ≡ row_of first = c.index-usage.ensures ∙ row_at union.classes union.usage.items (use_witness sources) used c.args.class c.index-usage.result.now c.requires.class in
+    let usage : c.index-usage.result.now ≡ row_of first = c.index-usage.ensures ∙ row_at union.classes union.usage.items (use_witness sources) used
+    c.args.class c.index-usage.result.now c.requires.class in
     let none : c.from_residual.result ≡ None = search rules in
     subst (λ row. MatchOption row (¬ HasBit sources class (bit_of c.args.bit)) (λ n. IsNoted sources class (bit_of c.args.bit) n.name.now n.marks n.at)) (sym none)
     (no_witness (first (bit_of c.args.bit)) (c.in_err-witness.ensures first usage))
@@ -26,7 +27,8 @@ pub returns : goal.returns
 returns c sources used =
     let union = c.args.union.now in
     let first = of_class (use_witness sources) (name_of union.classes c.args.class) in
-    let usage : c.index-usage.result.now ≡ row_of first = c.index-usage.ensures ∙ row_at union.classes union.usage.items (use_witness sources) used c.args.class c.index-usage.result.now c.requires.class in
+    let usage : c.index-usage.result.now ≡ row_of first = c.index-usage.ensures ∙ row_at union.classes union.usage.items (use_witness sources) used
+    c.args.class c.index-usage.result.now c.requires.class in
     record {
       same = c.name.ensures.name;
       shown = c.marks.ensures ∙ ap (λ (row : UsageRow). marks_of row.bits) usage;

@@ -20,7 +20,8 @@ returns-clause-chain c =
     let found = c.in_ok-number.ensures.stored in
     let keys = c.in_ok-number.ensures.keys in
     ap (λ ks. get_or (chains_of ks) c.in_ok-number.number []) keys
-    ∙ chain_found c.self.inside.links.keys link found.0 c.in_ok-number.number c.self.invariant (within_of c) (ap (λ ks. slice_get ks c.in_ok-number.number) (sym keys) ∙ found.1) found.2 (subst (λ ks. c.in_ok-number.number < length ks) keys c.in_ok-number.ensures.within)
+    ∙ chain_found c.self.inside.links.keys link found.0 c.in_ok-number.number c.self.invariant (within_of c)
+    (ap (λ ks. slice_get ks c.in_ok-number.number) (sym keys) ∙ found.1) found.2 (subst (λ ks. c.in_ok-number.number < length ks) keys c.in_ok-number.ensures.within)
     ∙ ap (λ cs. chain_before cs c.args.before ++ c.args.class ∷ []) c.self.view_is
 
 pub returns-clause-number : goal.returns-clause-number

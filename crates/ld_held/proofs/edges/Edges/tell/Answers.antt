@@ -10,7 +10,8 @@ kept : (old new more : List EdgeFact) → new ≡ fold with_edge old more → (t
 kept old new more is test there = ap (list_any test) is ∙ told_keeps test old more there
 
 pub returns-in_err-add-clause-kept : goal.returns-in_err-add-clause-kept
-returns-in_err-add-clause-kept c = kept c.args.self.now c.add.new.self (map (edge_to c.args.class c.args.line) (map (λ held. held.class) (take c.loop-held.held-index c.args.stack.now))) (c.in_err-add.ensures.refused ∙ c.loop-held.invariant)
+returns-in_err-add-clause-kept c = kept c.args.self.now c.add.new.self (map (edge_to c.args.class c.args.line)
+    (map (λ held. held.class) (take c.loop-held.held-index c.args.stack.now))) (c.in_err-add.ensures.refused ∙ c.loop-held.invariant)
 
 pub returns-clause-kept : goal.returns-clause-kept
 returns-clause-kept c = kept c.args.self.now c.loop-held.self (map (edge_to c.args.class c.args.line) (map (λ held. held.class) (take c.loop-held.held-index c.args.stack.now))) c.loop-held.invariant

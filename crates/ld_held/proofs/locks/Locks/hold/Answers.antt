@@ -29,4 +29,5 @@ returns c =
     let before = (get_or c.self.inside.stacks c.args.task empty_stack).held in
     ap (λ (ss : List PlainStack). known_of ss c.self.inside.edges) c.push.ensures
     ∙ shown_held c.self.inside.stacks c.self.inside.edges c.args.self.now c.args.task c.self.view_is (before ++ held ∷ []) (get_or c.args.self.now.stacks c.args.task [] ++ hold_of held ∷ [])
-    (map-append hold_of before (held ∷ []) ∙ ap (λ (hs : List Hold). hs ++ hold_of held ∷ []) (sym (holds_at c.self.inside.stacks c.args.task) ∙ ap (λ k. get_or k.stacks c.args.task []) c.self.view_is))
+    (map-append hold_of before (held ∷ []) ∙ ap (λ (hs : List Hold). hs ++ hold_of held ∷ [])
+    (sym (holds_at c.self.inside.stacks c.args.task) ∙ ap (λ k. get_or k.stacks c.args.task []) c.self.view_is))

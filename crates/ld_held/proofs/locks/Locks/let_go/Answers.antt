@@ -15,7 +15,8 @@ use Rattle.ld_held.proofs.LockLemmas.{any_shown, none_gone, removed_some, hold_g
 use Rattle.ld_held.proofs.locks.Locks.let_go.Goals as goal
 
 -- what the search says of the innermost frame, as the fields show it
-module _ (stacks : List PlainStack) (edges : List EdgeFact) (known : Known) (task : ℕ) (lock : PlainLock) (held : List Held) (start : ℕ) (is : known_of stacks edges ≡ known) (same : map plain_held held ≡ (get_or stacks task empty_stack).held) (starts : start ≡ start_now (get_or stacks task empty_stack).interrupts) where
+module _ (stacks : List PlainStack) (edges : List EdgeFact) (known : Known) (task : ℕ) (lock : PlainLock) (held : List Held) (start : ℕ)
+    (is : known_of stacks edges ≡ known) (same : map plain_held held ≡ (get_or stacks task empty_stack).held) (starts : start ≡ start_now (get_or stacks task empty_stack).interrupts) where
   abbrev stack : PlainStack
   stack = get_or stacks task empty_stack
 
@@ -48,14 +49,17 @@ module _ (stacks : List PlainStack) (edges : List EdgeFact) (known : Known) (tas
     high = omega (arith, within, starts, length-drop (start_now stack.interrupts) stack.held)
 
     -- the locks before and after it
-    gone : map hold_of (take (start + place) stack.held) ++ map hold_of (drop (suc (start + place)) stack.held) ≡ take from (get_or known.stacks task []) ++ remove_last (is_of lock) (drop from (get_or known.stacks task []))
+    gone : map hold_of (take (start + place) stack.held) ++ map hold_of (drop (suc (start + place)) stack.held) ≡ take from
+        (get_or known.stacks task []) ++ remove_last (is_of lock) (drop from (get_or known.stacks task []))
     gone =
         ap (λ s. map hold_of (take (s + place) stack.held) ++ map hold_of (drop (suc (s + place)) stack.held)) starts
         ∙ hold_gone lock stack.held (start_now stack.interrupts) place taken
-        ∙ (λ i. take (start_now (interrupts_shown stacks edges known task is i)) (holds_shown stacks edges known task is i) ++ remove_last (is_of lock) (drop (start_now (interrupts_shown stacks edges known task is i)) (holds_shown stacks edges known task is i)))
+        ∙ (λ i. take (start_now (interrupts_shown stacks edges known task is i)) (holds_shown stacks edges known task is i) ++ remove_last
+        (is_of lock) (drop (start_now (interrupts_shown stacks edges known task is i)) (holds_shown stacks edges known task is i)))
 
     -- it is the top
-    top_gone : (start + place) + 1 ≡ length held → map hold_of (take (start + place) stack.held) ≡ take from (get_or known.stacks task []) ++ remove_last (is_of lock) (drop from (get_or known.stacks task []))
+    top_gone : (start + place) + 1 ≡ length held → map hold_of (take (start + place) stack.held) ≡ take from (get_or known.stacks task []) ++
+        remove_last (is_of lock) (drop from (get_or known.stacks task []))
     top_gone last =
         let many : length held ≡ length stack.held = sym (length-map held plain_held) ∙ ap length same in
         let nothing : map hold_of (drop (suc (start + place)) stack.held) ≡ [] = ap (map hold_of) (drop_all (suc (start + place)) stack.held (omega arith)) in
@@ -70,10 +74,13 @@ module _ (stacks : List PlainStack) (edges : List EdgeFact) (known : Known) (tas
         ∙ ap (map hold_of) (sym (drop-map plain_held (suc (start + place)) held) ∙ ap (drop (suc (start + place))) same)
 
     -- and there is room for them
-    room : (after : List PlainStack) (later : List Held) (most : ℕ) → after ≡ set stacks task (record stack { held = take (start + place) stack.held }) → later ≡ take (length held - ((start + place) + 1)) (drop ((start + place) + 1) held) → task < length stacks → length held ≤ most → length (get_or (map (λ (s : PlainStack). map hold_of s.held) after) task []) + length later ≤ most
+    room : (after : List PlainStack) (later : List Held) (most : ℕ) → after ≡ set stacks task
+        (record stack { held = take (start + place) stack.held }) → later ≡ take (length held - ((start + place) + 1))
+        (drop ((start + place) + 1) held) → task < length stacks → length held ≤ most → length (get_or (map (λ (s : PlainStack). map hold_of s.held) after) task []) + length later ≤ most
     room after later most put are task_within depth =
         let front : length (get_or (map (λ (s : PlainStack). map hold_of s.held) after) task []) ≡ length (take (start + place) stack.held) =
-        ap length (holds_at after task ∙ ap (λ ss. map hold_of (get_or ss task empty_stack).held) put ∙ ap (λ (s : PlainStack). map hold_of s.held) (get_or-set_same stacks task (record stack { held = take (start + place) stack.held }) empty_stack task_within))
+        ap length (holds_at after task ∙ ap (λ ss. map hold_of (get_or ss task empty_stack).held) put ∙ ap (λ (s : PlainStack). map hold_of s.held)
+        (get_or-set_same stacks task (record stack { held = take (start + place) stack.held }) empty_stack task_within))
         ∙ length-map (take (start + place) stack.held) hold_of in
         let back : length later ≡ length (drop ((start + place) + 1) held) = ap length (are ∙ take_rest held ((start + place) + 1)) in
         let many : length held ≡ length stack.held = sym (length-map held plain_held) ∙ ap length same in
@@ -81,54 +88,75 @@ module _ (stacks : List PlainStack) (edges : List EdgeFact) (known : Known) (tas
 
 pub returns-in_default-clause-held : goal.returns-in_default-clause-held
 returns-in_default-clause-held c =
-    sym (none_held c.self.inside.stacks c.self.inside.edges c.args.self.now c.args.task (plain_lock c.args.lock) c.held-held.result.now c.start-start.result c.self.view_is c.held-held.ensures.held (c.start-start.ensures ∙ ap start_now c.interrupts.ensures) c.in_default.ensures.none)
+    sym (none_held c.self.inside.stacks c.self.inside.edges c.args.self.now c.args.task (plain_lock c.args.lock) c.held-held.result.now
+    c.start-start.result c.self.view_is c.held-held.ensures.held (c.start-start.ensures ∙ ap start_now c.interrupts.ensures) c.in_default.ensures.none)
 
 pub returns-in_default-clause-stacks : goal.returns-in_default-clause-stacks
 returns-in_default-clause-stacks c =
     none_gone c.args.self.now c.args.task (start_now (get_or c.args.self.now.interrupts c.args.task fresh)) (plain_lock c.args.lock)
-    (none_held c.self.inside.stacks c.self.inside.edges c.args.self.now c.args.task (plain_lock c.args.lock) c.held-held.result.now c.start-start.result c.self.view_is c.held-held.ensures.held (c.start-start.ensures ∙ ap start_now c.interrupts.ensures) c.in_default.ensures.none)
+    (none_held c.self.inside.stacks c.self.inside.edges c.args.self.now c.args.task (plain_lock c.args.lock) c.held-held.result.now
+    c.start-start.result c.self.view_is c.held-held.ensures.held (c.start-start.ensures ∙ ap start_now c.interrupts.ensures) c.in_default.ensures.none)
 
 pub invariant_of-self : goal.invariant_of-self
 invariant_of-self c =
-    let high : (c.start-start.result + c.in-Some.place) < length (get_or c.self.inside.stacks c.args.task empty_stack).held = high c.self.inside.stacks c.self.inside.edges c.args.self.now c.args.task (plain_lock c.args.lock) c.held-held.result.now c.start-start.result c.self.view_is c.held-held.ensures.held (c.start-start.ensures ∙ ap start_now c.interrupts.ensures) c.in-Some.place c.in-Some.ensures.place c.in-Some.ensures.last in
+    let high : (c.start-start.result + c.in-Some.place) < length (get_or c.self.inside.stacks c.args.task empty_stack).held = high
+    c.self.inside.stacks c.self.inside.edges c.args.self.now c.args.task (plain_lock c.args.lock) c.held-held.result.now c.start-start.result
+    c.self.view_is c.held-held.ensures.held (c.start-start.ensures ∙ ap start_now c.interrupts.ensures) c.in-Some.place c.in-Some.ensures.place c.in-Some.ensures.last in
     subst (λ ss. AreTied ss c.self.inside.chains c.self.inside.told c.self.inside.edges) (sym c.truncate.ensures)
-    (tied_cut c.self.inside.stacks c.self.inside.chains c.self.inside.told c.self.inside.edges c.self.invariant c.args.task (c.start-start.result + c.in-Some.place) (within_shown c.self.inside.stacks c.self.inside.edges c.args.self.now c.args.task c.self.view_is c.requires)
-    (low c.self.inside.stacks c.self.inside.edges c.args.self.now c.args.task (plain_lock c.args.lock) c.held-held.result.now c.start-start.result c.self.view_is c.held-held.ensures.held (c.start-start.ensures ∙ ap start_now c.interrupts.ensures) c.in-Some.place c.in-Some.ensures.place c.in-Some.ensures.last) (omega (arith, high)))
+    (tied_cut c.self.inside.stacks c.self.inside.chains c.self.inside.told c.self.inside.edges c.self.invariant c.args.task
+    (c.start-start.result + c.in-Some.place) (within_shown c.self.inside.stacks c.self.inside.edges c.args.self.now c.args.task c.self.view_is c.requires)
+    (low c.self.inside.stacks c.self.inside.edges c.args.self.now c.args.task (plain_lock c.args.lock) c.held-held.result.now c.start-start.result
+    c.self.view_is c.held-held.ensures.held (c.start-start.ensures ∙ ap start_now c.interrupts.ensures) c.in-Some.place c.in-Some.ensures.place c.in-Some.ensures.last) (omega (arith, high)))
 
 pub invariant_of-self-else-place-held : goal.invariant_of-self-else-place-held
 invariant_of-self-else-place-held c =
-    let high : (c.start-start.result + c.in-Some.place) < length (get_or c.self.inside.stacks c.args.task empty_stack).held = high c.self.inside.stacks c.self.inside.edges c.args.self.now c.args.task (plain_lock c.args.lock) c.held-held.result.now c.start-start.result c.self.view_is c.held-held.ensures.held (c.start-start.ensures ∙ ap start_now c.interrupts.ensures) c.in-Some.place c.in-Some.ensures.place c.in-Some.ensures.last in
+    let high : (c.start-start.result + c.in-Some.place) < length (get_or c.self.inside.stacks c.args.task empty_stack).held = high
+    c.self.inside.stacks c.self.inside.edges c.args.self.now c.args.task (plain_lock c.args.lock) c.held-held.result.now c.start-start.result
+    c.self.view_is c.held-held.ensures.held (c.start-start.ensures ∙ ap start_now c.interrupts.ensures) c.in-Some.place c.in-Some.ensures.place c.in-Some.ensures.last in
     subst (λ ss. AreTied ss c.self.inside.chains c.self.inside.told c.self.inside.edges) (sym c.truncate-else-place-held.ensures)
-    (tied_cut c.self.inside.stacks c.self.inside.chains c.self.inside.told c.self.inside.edges c.self.invariant c.args.task (c.start-start.result + c.in-Some.place) (within_shown c.self.inside.stacks c.self.inside.edges c.args.self.now c.args.task c.self.view_is c.requires)
-    (low c.self.inside.stacks c.self.inside.edges c.args.self.now c.args.task (plain_lock c.args.lock) c.held-held.result.now c.start-start.result c.self.view_is c.held-held.ensures.held (c.start-start.ensures ∙ ap start_now c.interrupts.ensures) c.in-Some.place c.in-Some.ensures.place c.in-Some.ensures.last) (omega (arith, high)))
+    (tied_cut c.self.inside.stacks c.self.inside.chains c.self.inside.told c.self.inside.edges c.self.invariant c.args.task
+    (c.start-start.result + c.in-Some.place) (within_shown c.self.inside.stacks c.self.inside.edges c.args.self.now c.args.task c.self.view_is c.requires)
+    (low c.self.inside.stacks c.self.inside.edges c.args.self.now c.args.task (plain_lock c.args.lock) c.held-held.result.now c.start-start.result
+    c.self.view_is c.held-held.ensures.held (c.start-start.ensures ∙ ap start_now c.interrupts.ensures) c.in-Some.place c.in-Some.ensures.place c.in-Some.ensures.last) (omega (arith, high)))
 
 pub hold_all-requires-clause-room : goal.hold_all-requires-clause-room
 hold_all-requires-clause-room c =
-    room c.self.inside.stacks c.self.inside.edges c.args.self.now c.args.task (plain_lock c.args.lock) c.held-held.result.now c.start-start.result c.self.view_is c.held-held.ensures.held (c.start-start.ensures ∙ ap start_now c.interrupts.ensures) c.in-Some.place c.in-Some.ensures.place c.in-Some.ensures.last
+    room c.self.inside.stacks c.self.inside.edges c.args.self.now c.args.task (plain_lock c.args.lock) c.held-held.result.now c.start-start.result
+    c.self.view_is c.held-held.ensures.held (c.start-start.ensures ∙ ap start_now c.interrupts.ensures) c.in-Some.place c.in-Some.ensures.place c.in-Some.ensures.last
     c.truncate-else-place-held.new.self c.as_slice.result.now MOST_HELD c.truncate-else-place-held.ensures (c.as_slice.ensures.value ∙ c.copied-later.ensures)
     (within_shown c.self.inside.stacks c.self.inside.edges c.args.self.now c.args.task c.self.view_is c.requires) c.held-held.ensures.depth
 
 pub returns-then-place-held-clause-held : goal.returns-then-place-held-clause-held
 returns-then-place-held-clause-held c =
-    was_held c.self.inside.stacks c.self.inside.edges c.args.self.now c.args.task (plain_lock c.args.lock) c.held-held.result.now c.start-start.result c.self.view_is c.held-held.ensures.held (c.start-start.ensures ∙ ap start_now c.interrupts.ensures) c.in-Some.place c.in-Some.ensures.place c.in-Some.ensures.last
+    was_held c.self.inside.stacks c.self.inside.edges c.args.self.now c.args.task (plain_lock c.args.lock) c.held-held.result.now c.start-start.result
+    c.self.view_is c.held-held.ensures.held (c.start-start.ensures ∙ ap start_now c.interrupts.ensures) c.in-Some.place c.in-Some.ensures.place c.in-Some.ensures.last
 
 pub returns-in_ok-hold_all-clause-held : goal.returns-in_ok-hold_all-clause-held
 returns-in_ok-hold_all-clause-held c =
-    was_held c.self.inside.stacks c.self.inside.edges c.args.self.now c.args.task (plain_lock c.args.lock) c.held-held.result.now c.start-start.result c.self.view_is c.held-held.ensures.held (c.start-start.ensures ∙ ap start_now c.interrupts.ensures) c.in-Some.place c.in-Some.ensures.place c.in-Some.ensures.last
+    was_held c.self.inside.stacks c.self.inside.edges c.args.self.now c.args.task (plain_lock c.args.lock) c.held-held.result.now c.start-start.result
+    c.self.view_is c.held-held.ensures.held (c.start-start.ensures ∙ ap start_now c.interrupts.ensures) c.in-Some.place c.in-Some.ensures.place c.in-Some.ensures.last
 
 pub returns-then-place-held-clause-stacks : goal.returns-then-place-held-clause-stacks
 returns-then-place-held-clause-stacks c =
     ap (λ (ss : List PlainStack). known_of ss c.self.inside.edges) c.truncate.ensures
-    ∙ shown_held c.self.inside.stacks c.self.inside.edges c.args.self.now c.args.task c.self.view_is (take (c.start-start.result + c.in-Some.place) (get_or c.self.inside.stacks c.args.task empty_stack).held) _
-    (top_gone c.self.inside.stacks c.self.inside.edges c.args.self.now c.args.task (plain_lock c.args.lock) c.held-held.result.now c.start-start.result c.self.view_is c.held-held.ensures.held (c.start-start.ensures ∙ ap start_now c.interrupts.ensures) c.in-Some.place c.in-Some.ensures.place c.in-Some.ensures.last c.if-place-held.true)
+    ∙ shown_held c.self.inside.stacks c.self.inside.edges c.args.self.now c.args.task c.self.view_is
+    (take (c.start-start.result + c.in-Some.place) (get_or c.self.inside.stacks c.args.task empty_stack).held) _
+    (top_gone c.self.inside.stacks c.self.inside.edges c.args.self.now c.args.task (plain_lock c.args.lock) c.held-held.result.now
+    c.start-start.result c.self.view_is c.held-held.ensures.held (c.start-start.ensures ∙ ap start_now c.interrupts.ensures) c.in-Some.place
+    c.in-Some.ensures.place c.in-Some.ensures.last c.if-place-held.true)
 
 pub returns-in_ok-hold_all-clause-stacks : goal.returns-in_ok-hold_all-clause-stacks
 returns-in_ok-hold_all-clause-stacks c =
     let front = map hold_of (take (c.start-start.result + c.in-Some.place) (get_or c.self.inside.stacks c.args.task empty_stack).held) in
     held_again c.args.self.now (known_of c.truncate-else-place-held.new.self c.self.inside.edges) c.hold_all.new.self c.args.task front (holds_of c.as_slice.result.now)
     (ap (λ (ss : List PlainStack). known_of ss c.self.inside.edges) c.truncate-else-place-held.ensures
-    ∙ shown_held c.self.inside.stacks c.self.inside.edges c.args.self.now c.args.task c.self.view_is (take (c.start-start.result + c.in-Some.place) (get_or c.self.inside.stacks c.args.task empty_stack).held) front refl)
+    ∙ shown_held c.self.inside.stacks c.self.inside.edges c.args.self.now c.args.task c.self.view_is
+    (take (c.start-start.result + c.in-Some.place) (get_or c.self.inside.stacks c.args.task empty_stack).held) front refl)
     c.in_ok-hold_all.ensures c.requires
     ∙ ap (λ hs. record c.args.self.now { stacks = set c.args.self.now.stacks c.args.task hs })
-    (ap (λ hs. front ++ hs) (later_are c.self.inside.stacks c.self.inside.edges c.args.self.now c.args.task (plain_lock c.args.lock) c.held-held.result.now c.start-start.result c.self.view_is c.held-held.ensures.held (c.start-start.ensures ∙ ap start_now c.interrupts.ensures) c.in-Some.place c.in-Some.ensures.place c.in-Some.ensures.last c.as_slice.result.now (c.as_slice.ensures.value ∙ c.copied-later.ensures))
-    ∙ gone c.self.inside.stacks c.self.inside.edges c.args.self.now c.args.task (plain_lock c.args.lock) c.held-held.result.now c.start-start.result c.self.view_is c.held-held.ensures.held (c.start-start.ensures ∙ ap start_now c.interrupts.ensures) c.in-Some.place c.in-Some.ensures.place c.in-Some.ensures.last)
+    (ap (λ hs. front ++ hs) (later_are c.self.inside.stacks c.self.inside.edges c.args.self.now c.args.task (plain_lock c.args.lock)
+    c.held-held.result.now c.start-start.result c.self.view_is c.held-held.ensures.held
+    (c.start-start.ensures ∙ ap start_now c.interrupts.ensures) c.in-Some.place c.in-Some.ensures.place c.in-Some.ensures.last
+    c.as_slice.result.now (c.as_slice.ensures.value ∙ c.copied-later.ensures))
+    ∙ gone c.self.inside.stacks c.self.inside.edges c.args.self.now c.args.task (plain_lock c.args.lock) c.held-held.result.now c.start-start.result
+    c.self.view_is c.held-held.ensures.held (c.start-start.ensures ∙ ap start_now c.interrupts.ensures) c.in-Some.place c.in-Some.ensures.place c.in-Some.ensures.last)

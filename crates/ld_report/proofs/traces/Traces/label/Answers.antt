@@ -13,7 +13,8 @@ returns-in-Ok c =
     let number = c.args.number in
     let at = c.in-Ok.at in
     let there = c.index.result.now in
-    let found : (d : Listed) → nat_cmp (get_or c.deref.result.now at d).source.number number ≡ Equal = c.in-Ok.ensures.position (λ l. l.source.number) (answers_always _ _ _ (λ f a r g called. search rules)) in
+    let found : (d : Listed) → nat_cmp (get_or c.deref.result.now at d).source.number number ≡ Equal = c.in-Ok.ensures.position (λ l. l.source.number)
+    (answers_always _ _ _ (λ f a r g called. search rules)) in
     let equal : nat_cmp (get_or listed at there).source.number number ≡ Equal = subst (λ all. nat_cmp (get_or all at there).source.number number ≡ Equal) c.deref.ensures.value (found there) in
     let within : at < length listed = subst (λ all. at < length all) c.deref.ensures.value c.in-Ok.ensures.bound in
     ap (λ l. l.source.name.now) c.index.ensures

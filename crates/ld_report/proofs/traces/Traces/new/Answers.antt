@@ -23,7 +23,8 @@ rising c =
 pub invariant_of-result : goal.invariant_of-result
 invariant_of-result c =
     let copied : c.in_ok-listed.listed.items ≡ c.listed.result.now = c.in_ok-listed.ensures.items_if_clones_equal (λ x y same. same) in (
-      All-permutation (λ l. l.outcome ≡ outcome (plain l.source)) c.in_ok-listed.listed.items c.sort_unstable_by_key.new.self.items c.sort_unstable_by_key.ensures.permutation (subst AreOutcomes (sym copied) c.listed.ensures.outcomes),
+      All-permutation (λ l. l.outcome ≡ outcome (plain l.source)) c.in_ok-listed.listed.items c.sort_unstable_by_key.new.self.items
+          c.sort_unstable_by_key.ensures.permutation (subst AreOutcomes (sym copied) c.listed.ensures.outcomes),
       rising c,
     )
 

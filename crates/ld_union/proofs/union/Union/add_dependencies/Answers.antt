@@ -21,7 +21,8 @@ loop-seen-init c = record {
   usage = search rules;
   front = take-length c.args.self.now.graph.edges;
   room = search rules;
-  dependencies = λ first witnessed. subst (AreWitnessed c.args.self.now.classes c.args.self.now.dependencies.items) (λ i what. none_noted same_dependency same_dependency-true (named c.args.facts.now.classes) c.args.facts.now.edges (first what) c.source-number.result.number what i) witnessed;
+  dependencies = λ first witnessed. subst (AreWitnessed c.args.self.now.classes c.args.self.now.dependencies.items)
+      (λ i what. none_noted same_dependency same_dependency-true (named c.args.facts.now.classes) c.args.facts.now.edges (first what) c.source-number.result.number what i) witnessed;
 }
 
 pub loop-seen-preserved : goal.loop-seen-preserved
@@ -52,7 +53,9 @@ loop-seen-preserved c =
       room = c.note.ensures.room (length facts.edges - (i + 1)) (subst (HasRoom c.loop-seen.self) left c.loop-seen.invariant.room);
       dependencies = λ first witnessed.
           subst (AreWitnessed c.note.new.self.classes c.note.new.self.dependencies.items)
-          (λ j what. one_noted same_dependency same_dependency-true (named facts.classes) facts.edges (dependencies_once facts c.source-number.ensures.known) i no_fact here (first what) c.source-number.result.number (get_or c.edges-seen-items.result.now i no_fact).line what seen (ap (λ (edges : List EdgeFact). (get_or edges i no_fact).line) c.edges-seen-items.ensures) same j)
+          (λ j what. one_noted same_dependency same_dependency-true (named facts.classes) facts.edges
+          (dependencies_once facts c.source-number.ensures.known) i no_fact here (first what) c.source-number.result.number
+          (get_or c.edges-seen-items.result.now i no_fact).line what seen (ap (λ (edges : List EdgeFact). (get_or edges i no_fact).line) c.edges-seen-items.ensures) same j)
           (c.note.ensures.noted _ (c.loop-seen.invariant.dependencies first witnessed));
     }
 

@@ -25,7 +25,8 @@ loop-seen-init c = record {
   dependencies = search rules;
   rows = search rules;
   known = λ same. refl;
-  used = λ first used. subst (AreUsed c.args.self.now.classes c.args.self.now.usage.items) (λ i what. none_noted same_use same_use-true (named_use c.args.facts.now.classes) c.args.facts.now.usage (first what) c.source-number.result.number what i) used;
+  used = λ first used. subst (AreUsed c.args.self.now.classes c.args.self.now.usage.items)
+      (λ i what. none_noted same_use same_use-true (named_use c.args.facts.now.classes) c.args.facts.now.usage (first what) c.source-number.result.number what i) used;
 }
 
 pub loop-seen-preserved : goal.loop-seen-preserved
@@ -55,14 +56,16 @@ loop-seen-preserved c =
       known = λ none.
           let parts = or_parts c.loop-seen.came c.note-came.result none in
           let row = c.index_mut-row.result.now in
-          bits_kept union.usage.items class row c.note-came.new.self (omega (arith, at.0, c.loop-seen.invariant.rows)) (OnFalse_at parts.1 c.note-came.ensures.known ∙ ap (λ (r : UsageRow). r.bits) c.index_mut-row.ensures.value)
+          bits_kept union.usage.items class row c.note-came.new.self (omega (arith, at.0, c.loop-seen.invariant.rows))
+          (OnFalse_at parts.1 c.note-came.ensures.known ∙ ap (λ (r : UsageRow). r.bits) c.index_mut-row.ensures.value)
           ∙ c.loop-seen.invariant.known parts.0;
       rows = length-set union.usage.items class c.note-came.new.self ∙ c.loop-seen.invariant.rows;
       used = λ first used.
           let so_far : Use → Option Witness = λ what. earlier_of (first what) (seen_in number (least_line same_use (map (named_use facts.classes) (take i facts.usage)) what)) in
           let kept : AreUsed union.classes union.usage.items so_far = c.loop-seen.invariant.used first used in
           subst (AreUsed union.classes (set union.usage.items class c.note-came.new.self))
-          (λ j what. one_noted same_use same_use-true (named_use facts.classes) facts.usage (uses_once facts c.source-number.ensures.known) i no_fact here (first what) number told.line what seen (ap (λ (fact : UsageFact). fact.line) same_told) same j)
+          (λ j what. one_noted same_use same_use-true (named_use facts.classes) facts.usage (uses_once facts c.source-number.ensures.known) i no_fact
+          here (first what) number told.line what seen (ap (λ (fact : UsageFact). fact.line) same_told) same j)
           (used-seen union.classes union.usage.items so_far kept distinct class at.0 (bit_of told.bit) (record { number = number; line = told.line }) c.note-came.new.self
           (c.note-came.ensures.noted (of_class so_far seen.class) (c.index_mut-row.ensures.value ∙ row_at union.classes union.usage.items so_far kept class c.index_mut-row.result.now at.0)));
     }

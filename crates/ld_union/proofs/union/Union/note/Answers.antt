@@ -21,7 +21,8 @@ returns-in-Some-clause-noted c first witnessed =
     let at = found_row self.classes self.graph self.dependencies.items c.requires.numbered c.args.edge.from c.args.edge.to c.in-Some.number c.in-Some.ensures in
     witnessed-set self.classes self.graph self.dependencies.items c.requires.numbered c.in-Some.number c.args.edge at.0 at.1 _
     (ap (λ (row : Witnessed). row.edge) c.index_mut-known.ensures.value ∙ at.1 known) c.args.witness
-    (c.min-known.ensures ∙ least_is_earlier known.first c.args.witness ∙ ap (λ (row : Witnessed). earlier row.first c.args.witness) (get_or_read self.dependencies.items c.in-Some.number known at.0 c.index_mut-known.ensures.value _))
+    (c.min-known.ensures ∙ least_is_earlier known.first c.args.witness ∙ ap (λ (row : Witnessed). earlier row.first c.args.witness)
+    (get_or_read self.dependencies.items c.in-Some.number known at.0 c.index_mut-known.ensures.value _))
     first witnessed
 
 pub returns-in-Ok-clause-numbered : goal.returns-in-Ok-clause-numbered
@@ -29,7 +30,8 @@ returns-in-Ok-clause-numbered c =
     let self = c.args.self.now in
     let inserted : c.insert.new.self ≡ with_edge self.graph c.args.edge.from c.args.edge.to = search rules in
     rw c.in-Ok.ensures.items
-    (numbered-pushed self.classes self.graph self.dependencies.items c.requires.numbered c.args.edge (c.requires.from, c.requires.to) c.in-None.ensures _ c.insert.new.self refl (ap (λ g. g.classes) inserted) (ap (λ g. g.edges) inserted))
+    (numbered-pushed self.classes self.graph self.dependencies.items c.requires.numbered c.args.edge (c.requires.from, c.requires.to)
+    c.in-None.ensures _ c.insert.new.self refl (ap (λ g. g.classes) inserted) (ap (λ g. g.edges) inserted))
 
 pub returns-in-Ok-clause-noted : goal.returns-in-Ok-clause-noted
 returns-in-Ok-clause-noted c first witnessed =

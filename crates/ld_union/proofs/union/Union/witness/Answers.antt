@@ -23,7 +23,8 @@ returns-in_err-number c first witnessed =
     let self = c.args.self.now in
     let what : Dependency = record { from = c.args.from.now; to = c.args.to.now } in
     let none : c.from_residual-in_err-number.result ≡ None = search rules in
-    none ∙ sym (none_edge self.classes self.graph self.dependencies.items c.requires.numbered first witnessed what c.in_ok-from.from c.in_ok-to.to ((c.in_ok-from.ensures.exact c.in_ok-from.from).0 refl) ((c.in_ok-to.ensures.exact c.in_ok-to.to).0 refl) c.in_err-number.ensures)
+    none ∙ sym (none_edge self.classes self.graph self.dependencies.items c.requires.numbered first witnessed what c.in_ok-from.from c.in_ok-to.to
+    ((c.in_ok-from.ensures.exact c.in_ok-from.from).0 refl) ((c.in_ok-to.ensures.exact c.in_ok-to.to).0 refl) c.in_err-number.ensures)
 
 pub index-requires : goal.index-requires
 index-requires c =
@@ -37,4 +38,5 @@ returns c first witnessed =
     let what : Dependency = record { from = c.args.from.now; to = c.args.to.now } in
     let at = found_row self.classes self.graph self.dependencies.items c.requires.numbered c.in_ok-from.from c.in_ok-to.to c.in_ok-number.number c.in_ok-number.ensures in
     ap (λ (row : Witnessed). Some row.first) c.index.ensures
-    ∙ first_at self.classes self.graph self.dependencies.items c.requires.numbered first witnessed what c.in_ok-from.from c.in_ok-to.to c.in_ok-number.number c.index.result.now ((c.in_ok-from.ensures.exact c.in_ok-from.from).0 refl) ((c.in_ok-to.ensures.exact c.in_ok-to.to).0 refl) c.in_ok-number.ensures
+    ∙ first_at self.classes self.graph self.dependencies.items c.requires.numbered first witnessed what c.in_ok-from.from c.in_ok-to.to
+    c.in_ok-number.number c.index.result.now ((c.in_ok-from.ensures.exact c.in_ok-from.from).0 refl) ((c.in_ok-to.ensures.exact c.in_ok-to.to).0 refl) c.in_ok-number.ensures
