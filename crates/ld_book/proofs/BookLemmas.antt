@@ -19,12 +19,13 @@ use Rattle.ld_facts.specs.Union.{classes_of, dependencies_of, dependency_witness
 use Rattle.ld_facts.specs.Usage.{Use, same_use}
 use Rattle.ld_find.specs.declared.alarms.Found.{Found}
 use Rattle.ld_union.specs.declared.union.Union.{Union}
-use Rattle.ld_book.specs.Book.{IsKept, is_listed, sources_of}
-use Rattle.ld_union.specs.Names.{IsLonger, with_names}
+use Rattle.ld_book.specs.Book.{is_listed, sources_of}
+use Rattle.ld_book.specs.Inner.Kept.{IsKept}
+use Rattle.ld_union.specs.Inner.Names.{IsLonger, with_names}
 use Rattle.ld_book.specs.Totals.{events, events_read, is_refused, refused}
-use Rattle.ld_find.specs.Numbers.{AreFound, searched_union}
+use Rattle.ld_find.specs.Inner.Numbers.{AreFound, searched_union}
 use Rattle.ld_union.specs.Usage.{bits_of}
-use Rattle.ld_union.specs.Union.{AreUsed, AreWitnessed, IsNumbered, earlier_of, of_class, seen_in}
+use Rattle.ld_union.specs.Inner.Union.{AreUsed, AreWitnessed, IsNumbered, earlier_of, of_class, seen_in}
 use Rattle.ld_union.specs.Usage.{row_of}
 use Rattle.ld_union.proofs.NameLemmas.{with_names-each_once}
 use Rattle.ld_union.proofs.UnionLemmas.{earlier_of-none}

@@ -25,7 +25,7 @@ use Rattle.ld_find.specs.Findings.{AreFindings, AreRows, InTurn, IsBefore, IsCon
 use Rattle.ld_find.specs.Findings.{PlainConflictRow, PlainCycleRow, PlainFindings, PlainForbiddenRow, conflict_key, cycle_key, forbidden_key}
 use Rattle.ld_find.specs.Findings.{shown_marks}
 use Rattle.ld_book.specs.Totals.{events_read, is_refused, totals}
-use Rattle.ld_union.specs.Union.{seen_in}
+use Rattle.ld_union.specs.Inner.Union.{seen_in}
 use Rattle.ld_union.specs.Usage.{witnessed_bits}
 use Rattle.ld_find.specs.Violations.{Depends, HasBit, HasViolation, IsConflict, IsCycle, IsForbidden, IsViolation, Violation}
 use Rattle.ld_find.specs.Violations.Violation.{Conflict, Cycle, Forbidden}

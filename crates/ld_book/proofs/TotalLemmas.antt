@@ -17,7 +17,7 @@ use Rattle.ld_facts.specs.Dependency.{Dependency, least_line, same_dependency}
 use Rattle.ld_facts.specs.Union.{dependencies_of, dependency_witness, first_of, union_dependencies}
 use Rattle.ld_rules.proofs.PlaceLemmas.{alike_from_decides, any_each_once}
 use Rattle.ld_union.specs.declared.union.Witnessed.{Witnessed}
-use Rattle.ld_union.specs.Union.{AreNumbered, AreWitnessed, named_edge, seen_in}
+use Rattle.ld_union.specs.Inner.Union.{AreNumbered, AreWitnessed, named_edge, seen_in}
 use Rattle.ld_union.proofs.EachOnceLemmas.{IsDistinct-each_once, IsEquivalence-from_decides}
 use Rattle.ld_union.proofs.UnionLemmas.{apart_rows, length_rows, same_dependency-refl, same_dependency-true}
 

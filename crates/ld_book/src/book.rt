@@ -51,7 +51,8 @@ impl<'a> Model for Book<'a> {
 
     ghost Value = { List PlainSource };
 
-    ghost use Rattle.ld_book.specs.Book.{IsKept, sources_of};
+    ghost use Rattle.ld_book.specs.Book.{sources_of};
+    ghost use Rattle.ld_book.specs.Inner.Kept.{IsKept};
 
     ghost view = { λ b. sources_of b.listed.items };
 

@@ -19,21 +19,21 @@ use Rattle.ld_rules.specs.declared.outcome.TheConstants.{MOST_CLASSES, MOST_HELD
 use Rattle.ld_held.specs.declared.edges.EdgeFact.{EdgeFact}
 use Rattle.ld_facts.specs.declared.scan.Scan.{Scan}
 use Rattle.ld_held.specs.declared.uses.UsageFact.{UsageFact}
-use Rattle.ld_held.specs.Edges.{edge_to, with_edge}
+use Rattle.ld_held.specs.Inner.Edges.{edge_to, with_edge}
 use Rattle.ld_rules.specs.Flags.{is_enabled}
 use Rattle.ld_rules.specs.Frames.{contexts, frame_of, task_of}
 use Rattle.ld_rules.specs.Held.{Key, held_by, held_in, lock_acquired}
 use Rattle.ld_rules.specs.Dependency.{Dependency, Seen, dependencies_at, seen, seen_at, same_seen}
-use Rattle.ld_held.specs.Interrupts.{enabled_now, fresh, start_now}
-use Rattle.ld_rules.specs.Levels.{is_interrupt, stack, state_of}
-use Rattle.ld_held.specs.Locks.{Hold}
+use Rattle.ld_held.specs.Inner.Interrupts.{enabled_now, fresh, start_now}
+use Rattle.ld_rules.specs.Inner.Levels.{is_interrupt, stack, state_of}
+use Rattle.ld_held.specs.Inner.Locks.{Hold}
 use Rattle.ld_rules.specs.Outcome.{class_acquired, classes, each_once, event_fault, events, is_bad_enable, is_bad_exit, is_badly_nested}
 use Rattle.ld_rules.specs.Outcome.{is_held_at_exit, is_masked, is_not_held, is_one_too_many, tasks}
-use Rattle.ld_facts.specs.Reading.{AreMany, HasTask, IsAt, IsTask, IsWithin, acquisition, happens}
+use Rattle.ld_facts.specs.Inner.Reading.{AreMany, HasTask, IsAt, IsTask, IsWithin, acquisition, happens}
 use Rattle.ld_facts.specs.Facts.{named, named_use}
 use Rattle.ld_rules.specs.Usage.{uses_at, same_what}
 use Rattle.ld_facts.specs.Facts.{IsUse}
-use Rattle.ld_held.specs.Uses.{in_facts, on_facts, with_use}
+use Rattle.ld_held.specs.Inner.Uses.{in_facts, on_facts, with_use}
 use Rattle.ld_rules.proofs.FlagLemmas.{is_enabled-quiet, levels-quiet, stack-quiet}
 use Rattle.ld_rules.proofs.GroupLemmas.{starts-kept}
 use Rattle.ld_rules.proofs.HeldLemmas.{enters_none, held_by-acquires}

@@ -16,11 +16,11 @@ use Rattle.ld_held.specs.declared.interrupts.Interrupts.{Interrupts}
 use Rattle.ld_rules.specs.Flags.{flag, is_enabled}
 use Rattle.ld_rules.specs.Frames.{contexts, frame_of}
 use Rattle.ld_rules.specs.Held.{Key, held_by, held_in}
-use Rattle.ld_held.specs.Interrupts.{enabled_now, flag_now, start_now, states_of}
-use Rattle.ld_rules.specs.Levels.{starts}
-use Rattle.ld_held.specs.Locks.{Hold}
+use Rattle.ld_held.specs.Inner.Interrupts.{enabled_now, flag_now, start_now, states_of}
+use Rattle.ld_rules.specs.Inner.Levels.{starts}
+use Rattle.ld_held.specs.Inner.Locks.{Hold}
 use Rattle.ld_rules.specs.Outcome.{event_said, events, faulty_lines, said_fault}
-use Rattle.ld_facts.specs.Reading.{IsTask}
+use Rattle.ld_facts.specs.Inner.Reading.{IsTask}
 use Rattle.ld_rules.proofs.FlagLemmas.{contexts-states, flag-levels, no_fault_parts}
 use Rattle.ld_rules.proofs.GroupLemmas.{IsGrouped, grouped-empty, grouped-push, held_in-innermost}
 use Rattle.ld_facts.proofs.NamedLemmas.{holds-names}

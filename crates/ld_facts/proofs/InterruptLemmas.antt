@@ -19,15 +19,15 @@ use Rattle.ld_facts.specs.Facts.{named_use}
 use Rattle.ld_rules.specs.Flags.{is_enabled, same_state}
 use Rattle.ld_rules.specs.Frames.{contexts, frame_of, task_of}
 use Rattle.ld_rules.specs.Held.{held_by, held_in}
-use Rattle.ld_held.specs.Interrupts.{IsEntered, IsLeft, IsSet, enabled_now, fresh, nests_in, start_now, states_of}
-use Rattle.ld_rules.specs.Levels.{stack, state_of}
-use Rattle.ld_held.specs.Locks.{Hold, IsMoved, Known}
+use Rattle.ld_held.specs.Inner.Interrupts.{IsEntered, IsLeft, IsSet, enabled_now, fresh, nests_in, start_now, states_of}
+use Rattle.ld_rules.specs.Inner.Levels.{stack, state_of}
+use Rattle.ld_held.specs.Inner.Locks.{Hold, IsMoved, Known}
 use Rattle.ld_rules.specs.Open.{is_some_and}
 use Rattle.ld_rules.specs.Outcome.{class_acquired, each_once, event_fault, events, is_bad_enable, is_bad_exit, is_badly_nested, is_held_at_exit, is_masked, is_one_too_many, tasks}
-use Rattle.ld_facts.specs.Reading.{HasTask, IsAt, IsTask, happens}
+use Rattle.ld_facts.specs.Inner.Reading.{HasTask, IsAt, IsTask, happens}
 use Rattle.ld_rules.specs.Usage.{uses_at, same_what}
 use Rattle.ld_facts.specs.Facts.{IsUse}
-use Rattle.ld_held.specs.Uses.{on_facts, with_use}
+use Rattle.ld_held.specs.Inner.Uses.{on_facts, with_use}
 use Rattle.ld_rules.proofs.FlagLemmas.{levels-disable, levels-enable, levels-enter, levels-exit_good, stack-quiet, states-enter, states-exit}
 use Rattle.ld_rules.proofs.GroupLemmas.{IsGrouped, start-within, starts-enter, starts-exit, starts-kept}
 use Rattle.ld_rules.proofs.HeldLemmas.{held_by-other}

@@ -21,7 +21,7 @@ use Rattle.ld_rules.specs.Union.{if_read}
 use Rattle.ld_facts.specs.Facts.{IsKnown, named, named_use}
 use Rattle.ld_rules.specs.Usage.{Use, bit_of, same_use, uses_at, same_what}
 use Rattle.ld_held.specs.declared.uses.UsageFact.{UsageFact}
-use Rattle.ld_facts.specs.Reading.{IsAt, IsReadTo, happens, positions_from}
+use Rattle.ld_facts.specs.Inner.Reading.{IsAt, IsReadTo, happens, positions_from}
 use Rattle.ld_rules.proofs.OutcomeLemmas.{first_fault}
 use Rattle.ld_rules.proofs.PlaceLemmas.{alike_from_decides, by_pushes, each_once-more}
 use Rattle.ld_rules.proofs.StepLemmas.{Decides-same_dependency}

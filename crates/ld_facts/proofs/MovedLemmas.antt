@@ -9,9 +9,9 @@ use Rattle.ld_facts.specs.declared.scan.Scan.{Scan}
 use Rattle.ld_rules.specs.Frames.{task_of}
 use Rattle.ld_rules.specs.Dependency.{Dependency, dependencies_at, seen, same_seen}
 use Rattle.ld_facts.specs.Facts.{named, named_use}
-use Rattle.ld_held.specs.Interrupts.{fresh}
+use Rattle.ld_held.specs.Inner.Interrupts.{fresh}
 use Rattle.ld_rules.specs.Outcome.{class_acquired, classes, each_once, event_fault, events, is_one_too_many, tasks}
-use Rattle.ld_facts.specs.Reading.{AreMany, HasTask, IsAt, IsTask, IsWithin, happens}
+use Rattle.ld_facts.specs.Inner.Reading.{AreMany, HasTask, IsAt, IsTask, IsWithin, happens}
 use Rattle.ld_rules.specs.Usage.{uses_at, same_what}
 use Rattle.ld_facts.specs.Facts.{IsUse}
 use Rattle.ld_rules.proofs.OutcomeLemmas.{events-push, no_fault}

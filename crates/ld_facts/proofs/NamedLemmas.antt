@@ -14,11 +14,11 @@ use Rattle.ld_class.specs.Names.{AreDistinct, IsNameAt, place_of, with_name}
 use Rattle.ld_class.proofs.NameLemmas.{place_of-None, with_name-known, with_name-new}
 use Rattle.ld_trace.specs.Events.{PlainEvent}
 use Rattle.ld_held.specs.declared.edges.EdgeFact.{EdgeFact}
-use Rattle.ld_held.specs.Edges.{edge_to, same_pair, with_edge}
-use Rattle.ld_held.specs.Locks.{Hold}
+use Rattle.ld_held.specs.Inner.Edges.{edge_to, same_pair, with_edge}
+use Rattle.ld_held.specs.Inner.Locks.{Hold}
 use Rattle.ld_rules.specs.Outcome.{class_acquired, classes, each_once}
 use Rattle.ld_rules.specs.Dependency.{same_seen}
-use Rattle.ld_facts.specs.Reading.{IsWithin}
+use Rattle.ld_facts.specs.Inner.Reading.{IsWithin}
 use Rattle.ld_facts.specs.Facts.{named}
 use Rattle.ld_rules.proofs.PlaceLemmas.{by_pushes, with_new}
 use Rattle.ld_rules.proofs.StepLemmas.{names-more}

@@ -23,11 +23,11 @@ use Rattle.ld_facts.specs.Facts.{named_use}
 use Rattle.ld_rules.specs.Flags.{is_enabled}
 use Rattle.ld_rules.specs.Frames.{contexts, frame_of, task_of}
 use Rattle.ld_rules.specs.Held.{Key, same_frame, same_key, same_lock, held, held_by, held_in}
-use Rattle.ld_held.specs.Interrupts.{fresh, start_now}
-use Rattle.ld_rules.specs.Levels.{stack, starts, state_of}
-use Rattle.ld_held.specs.Locks.{Hold, is_of}
+use Rattle.ld_held.specs.Inner.Interrupts.{fresh, start_now}
+use Rattle.ld_rules.specs.Inner.Levels.{stack, starts, state_of}
+use Rattle.ld_held.specs.Inner.Locks.{Hold, is_of}
 use Rattle.ld_rules.specs.Outcome.{each_once, event_fault, events, is_not_held, is_one_too_many, tasks}
-use Rattle.ld_facts.specs.Reading.{HasTask, IsAt, IsTask, happens}
+use Rattle.ld_facts.specs.Inner.Reading.{HasTask, IsAt, IsTask, happens}
 use Rattle.ld_rules.specs.Usage.{same_what, uses_at}
 use Rattle.ld_facts.specs.Facts.{IsUse}
 use Rattle.ld_rules.proofs.RemoveLemmas.{list_any-filter, map-remove_last}

@@ -22,11 +22,11 @@ use Rattle.ld_facts.specs.declared.scan.Scan.{Scan}
 use Rattle.ld_held.specs.declared.interrupts.Interrupts.{Interrupts}
 use Rattle.ld_rules.specs.Frames.{task_of}
 use Rattle.ld_rules.specs.Held.{held_by}
-use Rattle.ld_held.specs.Interrupts.{fresh, levels_of, starts_of, states_of}
-use Rattle.ld_rules.specs.Levels.{levels, stack, starts_in, state_of}
-use Rattle.ld_held.specs.Locks.{Hold}
+use Rattle.ld_held.specs.Inner.Interrupts.{fresh, levels_of, starts_of, states_of}
+use Rattle.ld_rules.specs.Inner.Levels.{levels, stack, starts_in, state_of}
+use Rattle.ld_held.specs.Inner.Locks.{Hold}
 use Rattle.ld_rules.specs.Outcome.{is_one_too_many, event_fault, events, tasks}
-use Rattle.ld_facts.specs.Reading.{IsAt, IsTask, acquisition}
+use Rattle.ld_facts.specs.Inner.Reading.{IsAt, IsTask, acquisition}
 use Rattle.ld_rules.proofs.PlaceLemmas.{alike_from_decides, any_each_once, by_pushes}
 use Rattle.ld_rules.proofs.FlagLemmas.{levels-other, stack-other, states-other}
 use Rattle.ld_rules.proofs.GroupLemmas.{held_by-other_task, starts-kept}

@@ -16,11 +16,11 @@ use Rattle.ld_held.specs.declared.interrupts.Interrupts.{Interrupts}
 use Rattle.ld_rules.specs.Dependency.{Seen}
 use Rattle.ld_facts.specs.Facts.{named_use}
 use Rattle.ld_rules.specs.Held.{Key}
-use Rattle.ld_held.specs.Interrupts.{enabled_now, states_of}
+use Rattle.ld_held.specs.Inner.Interrupts.{enabled_now, states_of}
 use Rattle.ld_rules.specs.Usage.{Bit, Use, same_what, bit_of, usage_of}
 use Rattle.ld_rules.specs.Usage.Bit.{In, On}
 use Rattle.ld_facts.specs.Facts.{IsUse}
-use Rattle.ld_held.specs.Uses.{fact, in_facts, on_facts, same_fact, with_use}
+use Rattle.ld_held.specs.Inner.Uses.{fact, in_facts, on_facts, same_fact, with_use}
 use Rattle.ld_facts.proofs.NamedLemmas.{name-more, number-more}
 use Rattle.ld_rules.proofs.PlaceLemmas.{with_new}
 use Rattle.ld_rules.proofs.UsageLemmas.{Decides-same_use, at_line, on_use, uses_in}

@@ -1,5 +1,5 @@
 pub mod Facts
-pub mod Reading
+pub mod Inner
 -- what the clauses here cite of the crates below
 pub use Rattle.ld_rules.specs.Open
 pub use Rattle.ld_rules.specs.Frames
@@ -9,4 +9,4 @@ pub use Rattle.ld_rules.specs.Outcome
 pub use Rattle.ld_rules.specs.Dependency
 pub use Rattle.ld_rules.specs.Usage
 pub use Rattle.ld_rules.specs.Union
-pub use Rattle.ld_held.specs.Uses
+pub use Rattle.ld_held.specs.Inner.Uses

@@ -7,7 +7,7 @@ use Rattle.ld_graph.specs.Edges.{IsEdge, edge}
 use Rattle.ld_graph.specs.Walks.{HasWalk}
 use Rattle.ld_graph.proofs.WalkLemmas.{Far, HasWalk-Far, IsWalk-Far}
 use Rattle.ld_union.specs.declared.union.Witnessed.{Witnessed}
-use Rattle.ld_find.specs.Numbers.{IsCycleAt}
+use Rattle.ld_find.specs.Inner.Numbers.{IsCycleAt}
 
 -- two walks in turn
 Far-append : {A : Type 0} (step : A → A → Type 0) (n m : ℕ) (a b c : A) → Far step n a b → Far step m b c → (k : ℕ) × Far step k a c

@@ -8,9 +8,9 @@ use Rattle.ld_trace.specs.Sources.{PlainSource}
 use Rattle.ld_facts.specs.Union.{dependency_witness}
 use Rattle.ld_union.specs.declared.union.Witnessed.{Witnessed}
 use Rattle.ld_find.specs.Findings.{IsBefore, IsShown, PlainCycleRow}
-use Rattle.ld_find.specs.Order.{name_of}
-use Rattle.ld_find.specs.Rows.{IsCycleRowOf}
-use Rattle.ld_union.specs.Union.{AreNumbered, AreWitnessed}
+use Rattle.ld_find.specs.Inner.Order.{name_of}
+use Rattle.ld_find.specs.Inner.Rows.{IsCycleRowOf}
+use Rattle.ld_union.specs.Inner.Union.{AreNumbered, AreWitnessed}
 use Rattle.ld_find.specs.Violations.{Depends, IsCycle, Leads}
 use Rattle.ld_find.proofs.NumberLemmas.{depends_from_edge, edge_from_named, walk_from_leads}
 

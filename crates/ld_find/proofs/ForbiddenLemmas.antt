@@ -10,9 +10,9 @@ use Rattle.ld_facts.specs.Usage.{Bit}
 use Rattle.ld_facts.specs.Usage.Bit.{In, On}
 use Rattle.ld_union.specs.declared.union.Witnessed.{Witnessed}
 use Rattle.ld_find.specs.Findings.{IsBefore, IsShown, PlainForbiddenRow, shown_marks}
-use Rattle.ld_find.specs.Order.{name_of}
-use Rattle.ld_find.specs.Rows.{IsNoted, IsTurnedRowOf}
-use Rattle.ld_union.specs.Union.{AreNumbered, AreWitnessed}
+use Rattle.ld_find.specs.Inner.Order.{name_of}
+use Rattle.ld_find.specs.Inner.Rows.{IsNoted, IsTurnedRowOf}
+use Rattle.ld_union.specs.Inner.Union.{AreNumbered, AreWitnessed}
 use Rattle.ld_find.specs.Violations.{Depends, HasBit, IsForbidden}
 use Rattle.ld_find.proofs.CycleLemmas.{HasWalk-shown}
 use Rattle.ld_find.proofs.NumberLemmas.{walk_from_leads}

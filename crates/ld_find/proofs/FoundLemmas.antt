@@ -16,11 +16,11 @@ use Rattle.ld_find.specs.declared.alarms.Forbidden.{Forbidden}
 use Rattle.ld_find.specs.declared.alarms.Found.{Found}
 use Rattle.ld_union.specs.declared.union.Witnessed.{Witnessed}
 use Rattle.ld_find.specs.Alarms.{AreExact, IsExact, state_place}
-use Rattle.ld_find.specs.Numbers.{AreFound, AreRowsOf, BitsGrow, EdgesGrow, HasBitAt, IsConflictAt, IsCycleAt, IsForbiddenAt, named_alarms, named_pair}
-use Rattle.ld_find.specs.Rows.{IsOfEach}
+use Rattle.ld_find.specs.Inner.Numbers.{AreFound, AreRowsOf, BitsGrow, EdgesGrow, HasBitAt, IsConflictAt, IsCycleAt, IsForbiddenAt, named_alarms, named_pair}
+use Rattle.ld_find.specs.Inner.Rows.{IsOfEach}
 use Rattle.ld_find.specs.Violations.{IsConflict, IsCycle, IsForbidden}
 use Rattle.ld_trace.specs.Sources.{PlainSource}
-use Rattle.ld_union.specs.Union.{AreNumbered}
+use Rattle.ld_union.specs.Inner.Union.{AreNumbered}
 use Rattle.ld_find.proofs.AlarmLemmas.{no_cycle-rows}
 use Rattle.ld_find.proofs.NumberLemmas.{row_within}
 use Rattle.ld_union.proofs.UnionLemmas.{edge_of_row, ends_of_row}

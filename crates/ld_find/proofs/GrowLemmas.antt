@@ -9,10 +9,10 @@ use Rattle.ld_facts.specs.Union.{use_witness}
 use Rattle.ld_facts.specs.Usage.{Bit, Use, usage_of}
 use Rattle.ld_facts.specs.Uses.{none}
 use Rattle.ld_union.specs.declared.usage.UsageRow.{UsageRow}
-use Rattle.ld_union.specs.Names.{IsLonger}
-use Rattle.ld_find.specs.Numbers.{AreBitsOf, BitsGrow, HasBitAt}
+use Rattle.ld_union.specs.Inner.Names.{IsLonger}
+use Rattle.ld_find.specs.Inner.Numbers.{AreBitsOf, BitsGrow, HasBitAt}
 use Rattle.ld_union.specs.Usage.{bits_of}
-use Rattle.ld_union.specs.Union.{AreUsed, of_class}
+use Rattle.ld_union.specs.Inner.Union.{AreUsed, of_class}
 use Rattle.ld_union.specs.Usage.{row_of}
 use Rattle.ld_find.proofs.NumberLemmas.{row_within}
 use Rattle.ld_union.proofs.UsageLemmas.{has_bit-row_of, length_used, number_in_more, row_at, same_name}

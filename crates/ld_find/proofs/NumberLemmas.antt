@@ -23,9 +23,9 @@ use Rattle.ld_find.specs.declared.alarms.Found.{Found}
 use Rattle.ld_union.specs.declared.union.Witnessed.{Witnessed}
 use Rattle.ld_union.specs.declared.usage.UsageRow.{UsageRow}
 use Rattle.ld_find.specs.Alarms.{AreExact, IsExact, state_place}
-use Rattle.ld_find.specs.Numbers.{AreBitsOf, AreFound, AreWithin, HasBitAt, IsConflictAt, IsCycleAt, IsForbiddenAt, named_alarms, with_searched}
+use Rattle.ld_find.specs.Inner.Numbers.{AreBitsOf, AreFound, AreWithin, HasBitAt, IsConflictAt, IsCycleAt, IsForbiddenAt, named_alarms, with_searched}
 use Rattle.ld_union.specs.Usage.{bits_of}
-use Rattle.ld_union.specs.Union.{AreNumbered, AreWitnessed, named_edge}
+use Rattle.ld_union.specs.Inner.Union.{AreNumbered, AreWitnessed, named_edge}
 use Rattle.ld_find.specs.Violations.{Depends, HasBit, IsConflict, IsCycle, IsForbidden, Leads}
 use Rattle.ld_union.proofs.UnionLemmas.{at_row, ends_of_edge, length_rows}
 

@@ -20,7 +20,7 @@ use Rattle.std.specs.Ordering.{ordering_reverse, ordering_then}
 use Rattle.ld_class.specs.Names.{AreDistinct, IsNameAt}
 use Rattle.ld_graph.specs.Edges.{ComesBefore}
 use Rattle.ld_find.specs.Findings.{IsBefore}
-use Rattle.ld_find.specs.Order.{IsOrder, name_of}
+use Rattle.ld_find.specs.Inner.Order.{IsOrder, name_of}
 
 -- no name comes before itself
 pub not_before_itself : (a : List ℕ) → ¬ IsBefore a a

@@ -4,8 +4,8 @@ use Rattle.std.proofs.lemmas.Bool.{cases_order}
 use Rattle.std.proofs.lemmas.List.{get_or_default}
 use Rattle.ld_class.specs.Names.{IsNameAt}
 use Rattle.ld_find.specs.Findings.{InTurn, IsBefore}
-use Rattle.ld_find.specs.Order.{IsOrder, class_at, name_of}
-use Rattle.ld_find.specs.Rows.{AreRowsOf, IsPassed}
+use Rattle.ld_find.specs.Inner.Order.{IsOrder, class_at, name_of}
+use Rattle.ld_find.specs.Inner.Rows.{AreRowsOf, IsPassed}
 use Rattle.ld_find.proofs.RowLemmas.{rows-append}
 
 module _ (classes : List (List ℕ)) (numbers : List ℕ) where

@@ -7,7 +7,7 @@ use Rattle.std.proofs.lemmas.List.Elements.{All-append, All-cons, All-nil, All-w
 use Rattle.ld_trace.specs.declared.event.State.{State}
 use Rattle.ld_trace.specs.declared.event.State.TheVariants.{Hard, Soft}
 use Rattle.ld_find.specs.Findings.{AreRows, InTurn, IsHarder}
-use Rattle.ld_find.specs.Rows.{AreRowsOf}
+use Rattle.ld_find.specs.Inner.Rows.{AreRowsOf}
 
 module _ {X : Type 0} (P : X → Type 0) (xs ys : List X) where
   Any-append_left : Any P xs → Any P (xs ++ ys)

@@ -8,8 +8,8 @@ use Rattle.ld_trace.specs.Sources.{PlainSource}
 use Rattle.ld_facts.specs.Union.{dependency_witness}
 use Rattle.ld_union.specs.declared.union.Witnessed.{Witnessed}
 use Rattle.ld_find.specs.Findings.{IsBefore, IsShown}
-use Rattle.ld_find.specs.Order.{IsOrder, name_of}
-use Rattle.ld_union.specs.Union.{AreNumbered, AreWitnessed}
+use Rattle.ld_find.specs.Inner.Order.{IsOrder, name_of}
+use Rattle.ld_union.specs.Inner.Union.{AreNumbered, AreWitnessed}
 use Rattle.ld_find.specs.Violations.{Depends}
 use Rattle.ld_find.proofs.NumberLemmas.{depends_from_edge, edge_from_depends}
 use Rattle.ld_find.proofs.OrderLemmas.{comes_before_from_before}

@@ -15,7 +15,7 @@ use Rattle.std.specs.Ordering.{eq_by_cmp, nat_cmp, ordering_reverse, ordering_th
 use Rattle.ld_trace.specs.declared.event.State.{State}
 use Rattle.ld_trace.specs.Sources.{PlainSource}
 use Rattle.ld_find.specs.Findings.{IsPairBefore, PlainForbiddenRow, forbidden_key}
-use Rattle.ld_find.specs.Rows.{AreForbiddenRowsOf, AreTurnedRows, IsRowIn, turned_key}
+use Rattle.ld_find.specs.Inner.Rows.{AreForbiddenRowsOf, AreTurnedRows, IsRowIn, turned_key}
 use Rattle.ld_find.specs.Violations.{IsForbidden}
 use Rattle.ld_find.proofs.OrderLemmas.{not_before_itself}
 

@@ -11,7 +11,7 @@ use Rattle.ld_facts.specs.Usage.Bit.{In, On}
 use Rattle.ld_facts.specs.Uses.{none}
 use Rattle.ld_union.specs.declared.usage.UsageRow.{UsageRow}
 use Rattle.ld_union.specs.Usage.{bits_of}
-use Rattle.ld_union.specs.Union.{AreUsed, of_class}
+use Rattle.ld_union.specs.Inner.Union.{AreUsed, of_class}
 use Rattle.ld_union.specs.Usage.{row_of}
 use Rattle.ld_union.proofs.UsageLemmas.{has_bit-row_of, length_used, row_at}
 

@@ -1,8 +1,6 @@
 pub mod Violations
 pub mod Alarms
-pub mod Numbers
+pub mod Inner
 pub mod Findings
-pub mod Order
-pub mod Rows
 pub use Rattle.ld_union.specs.Usage
-pub use Rattle.ld_union.specs.Union
+pub use Rattle.ld_union.specs.Inner.Union

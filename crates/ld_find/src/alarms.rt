@@ -8,12 +8,12 @@ ghost use Rattle.ld_facts.specs.Usage.{usage_of};
 ghost use Rattle.ld_facts.specs.Uses.{none};
 ghost use Rattle.ld_facts.specs.Usage.Bit.{In, On};
 ghost use Rattle.ld_find.specs.Alarms.{IsExact, plain_alarms};
-ghost use Rattle.ld_find.specs.Numbers.{AreFound, AreRowsOf, AreWithin, BitsGrow, EdgesGrow};
-ghost use Rattle.ld_find.specs.Numbers.{IsConflictAt, IsCycleAt, IsForbiddenAt, IsFoundAt, IsNothing};
-ghost use Rattle.ld_find.specs.Numbers.{named_alarms, named_pair, with_searched};
+ghost use Rattle.ld_find.specs.Inner.Numbers.{AreFound, AreRowsOf, AreWithin, BitsGrow, EdgesGrow};
+ghost use Rattle.ld_find.specs.Inner.Numbers.{IsConflictAt, IsCycleAt, IsForbiddenAt, IsFoundAt, IsNothing};
+ghost use Rattle.ld_find.specs.Inner.Numbers.{named_alarms, named_pair, with_searched};
 ghost use Rattle.ld_union.specs.Usage.{bits_of};
-ghost use Rattle.ld_find.specs.Numbers.{searched_union};
-ghost use Rattle.ld_union.specs.Union.{HasRows, IsNumbered};
+ghost use Rattle.ld_find.specs.Inner.Numbers.{searched_union};
+ghost use Rattle.ld_union.specs.Inner.Union.{HasRows, IsNumbered};
 
 use bitflags::Flags;
 use ld_class::{Classes, Usage};

@@ -3,8 +3,8 @@ ghost use Rattle.std.specs.Prelude.{IfOk, List};
 ghost use Rattle.ld_trace.specs.Sources.{PlainSource};
 ghost use Rattle.ld_facts.specs.Union.{dependency_witness, use_witness};
 ghost use Rattle.ld_find.specs.Findings.{AreFindings, plain_findings};
-ghost use Rattle.ld_find.specs.Rows.{IsOfEach};
-ghost use Rattle.ld_union.specs.Union.{AreUsed, AreWitnessed, HasRows, IsNumbered};
+ghost use Rattle.ld_find.specs.Inner.Rows.{IsOfEach};
+ghost use Rattle.ld_union.specs.Inner.Union.{AreUsed, AreWitnessed, HasRows, IsNumbered};
 
 mod conflicts;
 mod cycles;

@@ -4,7 +4,7 @@ ghost use Rattle.std.specs.Prelude.{IfOk};
 ghost use Rattle.std.specs.List.{range_with_len};
 ghost use Rattle.ld_class.specs.Names.{AreDistinct, IsNameAt};
 ghost use Rattle.ld_find.specs.Findings.{IsBefore};
-ghost use Rattle.ld_find.specs.Order.{IsOrder, class_at, name_of};
+ghost use Rattle.ld_find.specs.Inner.Order.{IsOrder, class_at, name_of};
 
 use ld_class::Classes;
 use std::alloc::{AllocError, Global};

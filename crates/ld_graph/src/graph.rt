@@ -45,7 +45,7 @@ impl Model for Graph {
 
     ghost Value = { Seen };
 
-    ghost use Rattle.ld_graph.specs.Kept.{seen, IsKept};
+    ghost use Rattle.ld_graph.specs.Inner.Kept.{seen, IsKept};
 
     ghost view = { seen };
 

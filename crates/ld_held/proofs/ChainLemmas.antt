@@ -8,7 +8,7 @@ use Rattle.std.proofs.lemmas.Option.{get_or_from_slice_get}
 use Rattle.std.specs.Option.{option_eq}
 use Rattle.std.specs.List.{list_any, slice_get}
 use Rattle.ld_held.specs.declared.chains.Link.{Link}
-use Rattle.ld_held.specs.Chains.{chain_before, chains_of, IsTree, same_link, with_link}
+use Rattle.ld_held.specs.Inner.Chains.{chain_before, chains_of, IsTree, same_link, with_link}
 use Rattle.ld_rules.proofs.PlaceLemmas.{by_pushes}
 
 same_before : (a b : Option ℕ) → option_eq nat_eq a b ≡ true → a ≡ b

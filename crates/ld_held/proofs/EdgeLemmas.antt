@@ -5,7 +5,7 @@ use Rattle.std.specs.List.{list_any}
 use Rattle.ld_class.proofs.Mapped.{list_any-map}
 use Rattle.ld_held.specs.declared.edges.EdgeFact.{EdgeFact}
 use Rattle.ld_held.specs.declared.edges.Pair.{Pair}
-use Rattle.ld_held.specs.Edges.{pair_of, same_pair, with_edge}
+use Rattle.ld_held.specs.Inner.Edges.{pair_of, same_pair, with_edge}
 
 -- what `==` computes
 abbrev pub same_classes : Pair → Pair → Bool

@@ -16,16 +16,16 @@ use Rattle.std.specs.List.{All, last_or, list_all, list_any}
 use Rattle.ld_class.proofs.Mapped.{list_any-map}
 use Rattle.ld_held.specs.declared.chains.Link.{Link}
 use Rattle.ld_held.specs.declared.edges.EdgeFact.{EdgeFact}
-use Rattle.ld_held.specs.Chains.{chain_before, same_link, with_link}
-use Rattle.ld_held.specs.Edges.{same_pair, edge_to, with_edge}
+use Rattle.ld_held.specs.Inner.Chains.{chain_before, same_link, with_link}
+use Rattle.ld_held.specs.Inner.Edges.{same_pair, edge_to, with_edge}
 use Rattle.ld_held.specs.declared.held.Held.{Held}
 use Rattle.ld_trace.specs.Events.{PlainLock}
 use Rattle.ld_held.specs.declared.interrupts.Interrupts.{Interrupts}
 use Rattle.ld_trace.specs.declared.event.State.{State}
-use Rattle.ld_held.specs.Interrupts.{IsEntered, IsLeft, fresh, start_now, starts_of}
-use Rattle.ld_held.specs.Stacks.{PlainHeld, PlainStack, empty_stack, inner, plain_held, holds}
+use Rattle.ld_held.specs.Inner.Interrupts.{IsEntered, IsLeft, fresh, start_now, starts_of}
+use Rattle.ld_held.specs.Inner.Stacks.{PlainHeld, PlainStack, empty_stack, inner, plain_held, holds}
 use Rattle.ld_rules.specs.Open.{remove_last}
-use Rattle.ld_held.specs.Locks.{Hold, Known, IsMoved, is_of, hold_of, holds_of, known_of, classes_held, chain_of, IsChain, AreChainedBelow, AreChained, AreChainedIn, IsExtended, IsTold, AreTied}
+use Rattle.ld_held.specs.Inner.Locks.{Hold, Known, IsMoved, is_of, hold_of, holds_of, known_of, classes_held, chain_of, IsChain, AreChainedBelow, AreChained, AreChainedIn, IsExtended, IsTold, AreTied}
 use Rattle.ld_rules.proofs.OpenLemmas.{remove_last-none}
 use Rattle.ld_rules.proofs.RemoveLemmas.{map-remove_last}
 use Rattle.ld_rules.proofs.PlaceLemmas.{by_pushes, last_or-push}

@@ -2,7 +2,7 @@
 ghost use Rattle.std.specs.Prelude.{◌≡◌, ◌<◌, ◌≤◌, ℕ, [], ◌∷◌, ◌++◌, length, slice_index_or, IfOk};
 ghost use Rattle.std.specs.Prelude.{IfSome, OnErr, OnOk};
 ghost use Rattle.std.specs.List.{list_any};
-ghost use Rattle.ld_held.specs.Chains.{chain_before, same_link, with_link};
+ghost use Rattle.ld_held.specs.Inner.Chains.{chain_before, same_link, with_link};
 
 use indexmap::IndexSet;
 use std::alloc::{AllocError, Global};
@@ -24,7 +24,7 @@ pub struct Chains {
 
 impl Model for Chains {
     ghost use Rattle.std.specs.Prelude.{ℕ, List};
-    ghost use Rattle.ld_held.specs.Chains.{chains_of, IsTree};
+    ghost use Rattle.ld_held.specs.Inner.Chains.{chains_of, IsTree};
 
     ghost Value = { List (List ℕ) };
 

@@ -1,7 +1,7 @@
 //! The dependencies of a trace between numbered classes.
 ghost use Rattle.std.specs.Prelude.{◌≡◌, Bool, true, [], fold, map, OnErr, OnOk};
 ghost use Rattle.std.specs.List.{list_any};
-ghost use Rattle.ld_held.specs.Edges.{edge_to, with_edge};
+ghost use Rattle.ld_held.specs.Inner.Edges.{edge_to, with_edge};
 
 use crate::held::Held;
 use indexmap::IndexSet;
@@ -39,7 +39,7 @@ impl Model for Edges {
 
     ghost Value = { List EdgeFact };
 
-    ghost use Rattle.ld_held.specs.Edges.{pair_of};
+    ghost use Rattle.ld_held.specs.Inner.Edges.{pair_of};
 
     ghost view = { λ e. e.edges.items };
 

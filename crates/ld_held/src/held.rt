@@ -4,8 +4,8 @@ ghost use Rattle.std.specs.Prelude.{take, slice_index_or, slice_set, IfNone, IfS
 ghost use Rattle.std.specs.List.{list_any};
 ghost use Rattle.ld_trace.specs.Events.{plain_lock};
 ghost use Rattle.ld_rules.specs.Held.{same_lock};
-ghost use Rattle.ld_held.specs.Interrupts.{start_now};
-ghost use Rattle.ld_held.specs.Stacks.{empty_stack, holds, inner, plain_held};
+ghost use Rattle.ld_held.specs.Inner.Interrupts.{start_now};
+ghost use Rattle.ld_held.specs.Inner.Stacks.{empty_stack, holds, inner, plain_held};
 ghost use Rattle.ld_rules.specs.Open.{remove_last};
 ghost use Rattle.ld_rules.specs.declared.outcome.TheConstants.{MOST_HELD};
 
@@ -57,11 +57,11 @@ pub struct Stacks<'a> {
 
 impl<'a> Model for Stacks<'a> {
     ghost use Rattle.std.specs.Prelude.{List, map};
-    ghost use Rattle.ld_held.specs.Stacks.{PlainStack};
+    ghost use Rattle.ld_held.specs.Inner.Stacks.{PlainStack};
 
     ghost Value = { List PlainStack };
 
-    ghost use Rattle.ld_held.specs.Stacks.{plain_held};
+    ghost use Rattle.ld_held.specs.Inner.Stacks.{plain_held};
 
     ghost view = { λ s. map (λ stack. record {
       held = map plain_held stack.held.items;

@@ -6,11 +6,11 @@ ghost use Rattle.std.specs.Prelude.{◌≡◌, ◌<◌, ◌≤◌, ◌+◌, true
 ghost use Rattle.std.specs.Prelude.{map, take, slice_index_or, slice_set, IfOk, OnOk};
 ghost use Rattle.std.specs.List.{list_any};
 ghost use Rattle.ld_trace.specs.Events.{plain_lock};
-ghost use Rattle.ld_held.specs.Edges.{edge_to, with_edge};
-ghost use Rattle.ld_held.specs.Interrupts.{IsEntered, IsLeft, IsSet, fresh, nests_in, start_now};
-ghost use Rattle.ld_held.specs.Interrupts.{states_of};
-ghost use Rattle.ld_held.specs.Locks.{IsMoved, chain_of, holds_of, inner_of, is_of, outer_of};
-ghost use Rattle.ld_held.specs.Stacks.{plain_held};
+ghost use Rattle.ld_held.specs.Inner.Edges.{edge_to, with_edge};
+ghost use Rattle.ld_held.specs.Inner.Interrupts.{IsEntered, IsLeft, IsSet, fresh, nests_in, start_now};
+ghost use Rattle.ld_held.specs.Inner.Interrupts.{states_of};
+ghost use Rattle.ld_held.specs.Inner.Locks.{IsMoved, chain_of, holds_of, inner_of, is_of, outer_of};
+ghost use Rattle.ld_held.specs.Inner.Stacks.{plain_held};
 ghost use Rattle.ld_rules.specs.Open.{remove_last};
 ghost use Rattle.ld_rules.specs.declared.outcome.TheConstants.{MOST_HELD};
 
@@ -36,7 +36,7 @@ pub struct Locks<'a> {
 }
 
 impl<'a> Model for Locks<'a> {
-    ghost use Rattle.ld_held.specs.Locks.{AreTied, Known, known_of};
+    ghost use Rattle.ld_held.specs.Inner.Locks.{AreTied, Known, known_of};
 
     ghost Value = { Known };
 

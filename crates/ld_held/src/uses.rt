@@ -2,7 +2,7 @@
 ghost use Rattle.std.specs.Prelude.{◌≡◌, ◌<◌, ℕ, [], ◌∷◌, fold, map, slice_index_or, vec_len};
 ghost use Rattle.std.specs.Prelude.{OnErr, OnOk};
 ghost use Rattle.ld_rules.specs.Usage.{IsBit};
-ghost use Rattle.ld_held.specs.Uses.{in_facts, none, on_facts, told, with_use};
+ghost use Rattle.ld_held.specs.Inner.Uses.{in_facts, none, on_facts, told, with_use};
 
 use crate::held::Held;
 use crate::interrupts::Interrupts;
@@ -34,7 +34,7 @@ pub struct Uses {
 impl Model for Uses {
     ghost use Rattle.std.specs.Prelude.{List};
     ghost use Rattle.ld_held.specs.declared.uses.UsageFact.{UsageFact};
-    ghost use Rattle.ld_held.specs.Uses.{AreNoted};
+    ghost use Rattle.ld_held.specs.Inner.Uses.{AreNoted};
 
     ghost Value = { List UsageFact };
 

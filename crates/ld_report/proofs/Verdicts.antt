@@ -7,7 +7,7 @@ use Rattle.ld_find.specs.declared.alarms.Alarms.{Alarms}
 use Rattle.ld_book.specs.Alarms.{AreExact, IsExact, plain_alarms}
 use Rattle.ld_book.specs.Violations.{HasViolation, IsViolation, Violation}
 use Rattle.ld_book.specs.Violations.Violation.{Conflict, Cycle, Forbidden}
-use Rattle.ld_report.specs.Alarms.{any_stands}
+use Rattle.ld_report.specs.Inner.Alarms.{any_stands}
 
 -- an alarm that stands names one
 stands : {A B : Type 0} (IsOne : B → Type 0) (f : A → B) (alarm : Option A) → IsExact IsOne (option_map f alarm) → is_some alarm ≡ true → (x : B) × IsOne x

@@ -1,3 +1,3 @@
-pub mod Alarms
+pub mod Inner
 pub mod Report
 pub mod Verdict

@@ -1,6 +1,6 @@
 //! What traces come to, and the exit status that says so.
 ghost use Rattle.std.specs.Prelude.{◌≡◌};
-ghost use Rattle.ld_report.specs.Alarms.{any_stands, either_stands};
+ghost use Rattle.ld_report.specs.Inner.Alarms.{any_stands, either_stands};
 ghost use Rattle.ld_report.specs.Verdict.{VerdictIs};
 
 use ld_book::{Alarms, Book};

@@ -8,7 +8,7 @@ use Rattle.ld_trace.specs.Events.PlainEvent.{Enter}
 use Rattle.ld_rules.specs.Open.{is_some_and}
 use Rattle.ld_rules.specs.Frames.{Frame, state_entered}
 use Rattle.ld_rules.specs.Flags.{same_state, last_said, flag_in, flag}
-use Rattle.ld_rules.specs.Levels.{stack}
+use Rattle.ld_rules.specs.Inner.Levels.{stack}
 use Rattle.ld_rules.proofs.FlagLemmas.{Falls, falls_below, falls_rest, stack_follows}
 
 -- each of these frames, innermost first, was opened in the past, and those around it were open just

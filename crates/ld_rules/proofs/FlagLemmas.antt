@@ -17,7 +17,7 @@ use Rattle.ld_rules.specs.Open.{is_some_and}
 use Rattle.ld_rules.specs.Frames.{Frame, frames, frame_of, contexts, task_of, enters, exits, state_entered}
 use Rattle.ld_rules.specs.Held.{Placed, placed, same_frame}
 use Rattle.ld_rules.specs.Flags.{same_state, says_flag, says_flag_in, last_said, flag_in, flag, is_enabled}
-use Rattle.ld_rules.specs.Levels.{is_interrupt, levels, levels_in, stack, state_of, states}
+use Rattle.ld_rules.specs.Inner.Levels.{is_interrupt, levels, levels_in, stack, state_of, states}
 use Rattle.ld_rules.specs.declared.outcome.TheConstants.{MOST_TASKS}
 use Rattle.ld_rules.specs.Outcome.{tasks, is_one_too_many, has_too_many_classes, is_too_deep, is_not_held, is_badly_nested, is_masked, is_bad_exit, is_held_at_exit, is_bad_enable, event_fault}
 use Rattle.ld_rules.proofs.PlaceLemmas.{by_pushes, last_or-push}

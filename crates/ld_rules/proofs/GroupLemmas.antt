@@ -18,7 +18,7 @@ use Rattle.ld_rules.specs.Open.{remove_last}
 use Rattle.ld_rules.proofs.OpenLemmas.{remove_last-skip}
 use Rattle.ld_rules.proofs.RemoveLemmas.{list_all-remove_last}
 use Rattle.ld_rules.proofs.HeldLemmas.{Decides-same_frame, Decides-same_key, held_by-acquires, held_by-releases, held_by-releases_other, held_by-other}
-use Rattle.ld_rules.specs.Levels.{stack, starts, starts_in}
+use Rattle.ld_rules.specs.Inner.Levels.{stack, starts, starts_in}
 use Rattle.ld_rules.proofs.FlagLemmas.{stack-enter_own, stack-exit, stack-quiet, stack-other, innermost, frame_of_stack, Falls, falls_rest, stack_falls}
 use Rattle.ld_rules.proofs.UsageLemmas.{list_all_mono}
 

@@ -19,7 +19,7 @@ use Rattle.ld_trace.specs.declared.event.State.TheVariants.{Hard, Soft}
 use Rattle.ld_trace.specs.Events.{PlainEvent, PlainLock, Position}
 use Rattle.ld_trace.specs.Events.PlainEvent.{Acquire, Try, Release, Enter, Exit, Enable, Disable}
 use Rattle.ld_rules.specs.Frames.{task_of, contexts, frame_of}
-use Rattle.ld_rules.specs.Levels.{is_interrupt}
+use Rattle.ld_rules.specs.Inner.Levels.{is_interrupt}
 use Rattle.ld_rules.specs.Held.{Key, held, held_by, lock_acquired, same_key}
 use Rattle.ld_rules.specs.Flags.{same_state, is_enabled}
 use Rattle.ld_rules.specs.Outcome.{each_once, events}

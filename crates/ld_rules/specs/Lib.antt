@@ -6,4 +6,4 @@ pub mod Outcome
 pub mod Dependency
 pub mod Usage
 pub mod Union
-pub mod Levels
+pub mod Inner

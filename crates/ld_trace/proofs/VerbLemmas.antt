@@ -9,7 +9,7 @@ use Rattle.ld_trace.specs.declared.event.StateVerb.TheVariants as state_verbs
 use Rattle.ld_trace.specs.declared.event.LineFault.TheVariants.{BadVerb}
 use Rattle.ld_trace.specs.Lines.{begins_comment}
 use Rattle.ld_trace.specs.Events.{said_by_fields}
-use Rattle.ld_trace.specs.Reading.{said_after, spelling}
+use Rattle.ld_trace.specs.Inner.Reading.{said_after, spelling}
 
 -- a verb says what follows it
 said-verb : (verb : Verb) (found : List (List ℕ)) → said_by_fields (spelling verb ∷ found) ≡ said_after verb found

@@ -10,7 +10,7 @@ use Rattle.ld_class.specs.Names.{IsNameAt, place_of, with_name}
 use Rattle.ld_class.proofs.NameLemmas.{list_any-known, list_any-new}
 use Rattle.ld_facts.specs.Outcome.{each_once}
 use Rattle.ld_rules.proofs.PlaceLemmas.{alike_from_decides, each_once-more}
-use Rattle.ld_union.specs.Names.{ArePlaces, IsLonger, with_names}
+use Rattle.ld_union.specs.Inner.Names.{ArePlaces, IsLonger, with_names}
 
 -- one more name makes the list longer by at most one
 pub length-with_name : (names : List (List ℕ)) (name : List ℕ) → (length names ≤ length (with_name names name)) × (length (with_name names name) ≤ length names + 1)

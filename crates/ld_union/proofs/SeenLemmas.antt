@@ -20,7 +20,7 @@ use Rattle.ld_facts.specs.Union.{classes_of, if_read}
 use Rattle.ld_facts.specs.Usage.{Use, same_use, usage_of}
 use Rattle.ld_rules.proofs.LeastLemmas.{least_line-none, least_line-push}
 use Rattle.ld_rules.proofs.UsageLemmas.{Decides-same_use}
-use Rattle.ld_union.specs.Union.{earlier_of, seen_in}
+use Rattle.ld_union.specs.Inner.Union.{earlier_of, seen_in}
 use Rattle.ld_union.proofs.EachOnceLemmas.{IsDistinct-each_once}
 use Rattle.ld_union.proofs.UnionLemmas.{earlier_of-none}
 

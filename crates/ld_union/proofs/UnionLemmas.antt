@@ -19,8 +19,8 @@ use Rattle.ld_rules.specs.contracts.outcome.WitnessOrd.TheImpl.{cmp-value}
 use Rattle.ld_facts.specs.Dependency.{Dependency, same_dependency}
 use Rattle.ld_facts.specs.Union.{earlier, is_before}
 use Rattle.ld_union.specs.declared.union.Witnessed.{Witnessed}
-use Rattle.ld_union.specs.Names.{IsLonger}
-use Rattle.ld_union.specs.Union.{AreNumbered, AreWitnessed, earlier_of, named_edge}
+use Rattle.ld_union.specs.Inner.Names.{IsLonger}
+use Rattle.ld_union.specs.Inner.Union.{AreNumbered, AreWitnessed, earlier_of, named_edge}
 
 -- equal dependencies have equal names
 pub same_dependency-true : (a b : Dependency) → same_dependency a b ≡ true → a ≡ b

@@ -1,3 +1,2 @@
-pub mod Names
+pub mod Inner
 pub mod Usage
-pub mod Union

@@ -1,7 +1,7 @@
 //! Adds the names of one list to another.
 ghost use Rattle.std.specs.Prelude.{◌≡◌, ◌+◌, ◌≤◌, OnErr, OnOk, length};
 ghost use Rattle.ld_class.specs.declared.names.TheConstants.{MAX_NAMES};
-ghost use Rattle.ld_union.specs.Names.{ArePlaces, IsLonger, with_names};
+ghost use Rattle.ld_union.specs.Inner.Names.{ArePlaces, IsLonger, with_names};
 
 use ld_class::Classes;
 use std::alloc::AllocError;

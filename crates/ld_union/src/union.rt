@@ -8,10 +8,10 @@ ghost use Rattle.ld_facts.specs.Dependency.{Dependency, least_line, same_depende
 ghost use Rattle.ld_facts.specs.Union.{dependencies_of};
 ghost use Rattle.ld_facts.specs.Union.{uses_of};
 ghost use Rattle.ld_facts.specs.Usage.{Use, same_use};
-ghost use Rattle.ld_union.specs.Union.{AreUsed, AreWitnessed, HasRoom, HasRows, IsNumbered, Notes};
-ghost use Rattle.ld_union.specs.Names.{ArePlaces, IsLonger, with_names};
+ghost use Rattle.ld_union.specs.Inner.Union.{AreUsed, AreWitnessed, HasRoom, HasRows, IsNumbered, Notes};
+ghost use Rattle.ld_union.specs.Inner.Names.{ArePlaces, IsLonger, with_names};
 ghost use Rattle.ld_union.specs.Usage.{bits_of};
-ghost use Rattle.ld_union.specs.Union.{earlier_of, known_row, seen_in};
+ghost use Rattle.ld_union.specs.Inner.Union.{earlier_of, known_row, seen_in};
 
 use crate::names::intern_all;
 use crate::usage::UsageRow;

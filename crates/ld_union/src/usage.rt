@@ -4,7 +4,7 @@ ghost use Rattle.std.specs.Bool.{OnFalse};
 ghost use Rattle.std.specs.List.{position_or_len};
 ghost use Rattle.ld_rules.specs.declared.outcome.Witness.{Witness};
 ghost use Rattle.ld_facts.specs.Usage.{Bit, IsBit, bit_of, same_bit};
-ghost use Rattle.ld_union.specs.Union.{with_bit};
+ghost use Rattle.ld_union.specs.Inner.Union.{with_bit};
 ghost use Rattle.ld_union.specs.Usage.{bits, row_of};
 
 use bitflags::Flags;

@@ -3,9 +3,9 @@ ghost use Rattle.std.specs.Prelude.{◌≡◌, ◌<◌, IfOk, List, MatchOption,
 ghost use Rattle.ld_trace.specs.Sources.{PlainSource};
 ghost use Rattle.ld_facts.specs.Union.{use_witness};
 ghost use Rattle.ld_find.specs.Findings.{AreConflictRows, plain_conflict_row};
-ghost use Rattle.ld_find.specs.Order.{IsOrder, name_of};
-ghost use Rattle.ld_find.specs.Rows.{AreConflictRowsOf, IsConflictRowOf};
-ghost use Rattle.ld_union.specs.Union.{AreUsed, HasRows};
+ghost use Rattle.ld_find.specs.Inner.Order.{IsOrder, name_of};
+ghost use Rattle.ld_find.specs.Inner.Rows.{AreConflictRowsOf, IsConflictRowOf};
+ghost use Rattle.ld_union.specs.Inner.Union.{AreUsed, HasRows};
 ghost use Rattle.ld_find.specs.Violations.{IsConflict};
 
 use crate::alarms::{in_bit, on_bit};

@@ -3,9 +3,9 @@ ghost use Rattle.std.specs.Prelude.{false, ℕ, ◌≡◌, ◌<◌, IfOk, List, 
 ghost use Rattle.ld_trace.specs.Sources.{PlainSource};
 ghost use Rattle.ld_facts.specs.Union.{dependency_witness};
 ghost use Rattle.ld_find.specs.Findings.{AreCycleRows, plain_cycle_row};
-ghost use Rattle.ld_find.specs.Order.{IsOrder, name_of};
-ghost use Rattle.ld_find.specs.Rows.{AreCycleRowsOf, AreDistances, IsCycleRowOf};
-ghost use Rattle.ld_union.specs.Union.{AreWitnessed, IsNumbered};
+ghost use Rattle.ld_find.specs.Inner.Order.{IsOrder, name_of};
+ghost use Rattle.ld_find.specs.Inner.Rows.{AreCycleRowsOf, AreDistances, IsCycleRowOf};
+ghost use Rattle.ld_union.specs.Inner.Union.{AreWitnessed, IsNumbered};
 ghost use Rattle.ld_find.specs.Violations.{IsCycle};
 
 use crate::findings::walks::{Target, walk_names};

@@ -4,10 +4,10 @@ ghost use Rattle.ld_trace.specs.Sources.{PlainSource};
 ghost use Rattle.ld_facts.specs.Union.{dependency_witness, use_witness};
 ghost use Rattle.ld_facts.specs.Usage.Bit.{On};
 ghost use Rattle.ld_find.specs.Findings.{AreForbiddenRows, plain_forbidden_row};
-ghost use Rattle.ld_find.specs.Order.{IsOrder, name_of};
-ghost use Rattle.ld_find.specs.Rows.{AreDistances, AreForbiddenRowsOf, AreTurnedRows};
-ghost use Rattle.ld_find.specs.Rows.{AreTurnedRowsOf, IsNoted, IsOfEach, IsTurnedRowOf};
-ghost use Rattle.ld_union.specs.Union.{AreUsed, AreWitnessed, HasRows, IsNumbered};
+ghost use Rattle.ld_find.specs.Inner.Order.{IsOrder, name_of};
+ghost use Rattle.ld_find.specs.Inner.Rows.{AreDistances, AreForbiddenRowsOf, AreTurnedRows};
+ghost use Rattle.ld_find.specs.Inner.Rows.{AreTurnedRowsOf, IsNoted, IsOfEach, IsTurnedRowOf};
+ghost use Rattle.ld_union.specs.Inner.Union.{AreUsed, AreWitnessed, HasRows, IsNumbered};
 ghost use Rattle.ld_find.specs.Violations.{IsForbidden};
 
 use crate::alarms::{Found, in_bit, on_bit};

@@ -3,9 +3,9 @@ ghost use Rattle.std.specs.Prelude.{◌≡◌, ◌<◌, List, MatchOption, lengt
 ghost use Rattle.ld_trace.specs.Sources.{PlainSource};
 ghost use Rattle.ld_facts.specs.Union.{use_witness};
 ghost use Rattle.ld_facts.specs.Usage.{Bit, IsBit, bit_of};
-ghost use Rattle.ld_find.specs.Order.{name_of};
-ghost use Rattle.ld_find.specs.Rows.{IsNoted};
-ghost use Rattle.ld_union.specs.Union.{AreUsed, HasRows};
+ghost use Rattle.ld_find.specs.Inner.Order.{name_of};
+ghost use Rattle.ld_find.specs.Inner.Rows.{IsNoted};
+ghost use Rattle.ld_union.specs.Inner.Union.{AreUsed, HasRows};
 ghost use Rattle.ld_find.specs.Violations.{HasBit};
 
 use ld_class::Usage;

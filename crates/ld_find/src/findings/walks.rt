@@ -5,9 +5,9 @@ ghost use Rattle.ld_graph.specs.Walks.{HasWalk};
 ghost use Rattle.ld_trace.specs.Sources.{PlainSource};
 ghost use Rattle.ld_facts.specs.Union.{dependency_witness};
 ghost use Rattle.ld_find.specs.Findings.{IsShown, plain_names};
-ghost use Rattle.ld_find.specs.Order.{IsOrder, name_of};
-ghost use Rattle.ld_find.specs.Rows.{AreDistances};
-ghost use Rattle.ld_union.specs.Union.{AreWitnessed, IsNumbered};
+ghost use Rattle.ld_find.specs.Inner.Order.{IsOrder, name_of};
+ghost use Rattle.ld_find.specs.Inner.Rows.{AreDistances};
+ghost use Rattle.ld_union.specs.Inner.Union.{AreWitnessed, IsNumbered};
 
 use crate::order::Order;
 use crate::rows::Rows;

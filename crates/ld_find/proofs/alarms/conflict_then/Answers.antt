@@ -1,5 +1,5 @@
 use Rattle.std.proofs.Common.{◌∙◌, sym}
-use Rattle.ld_find.specs.Numbers.{IsConflictAt}
+use Rattle.ld_find.specs.Inner.Numbers.{IsConflictAt}
 use Rattle.ld_union.specs.Usage.{bits_of}
 use Rattle.ld_find.proofs.FoundLemmas.{conflict_back, conflict_kept, is_all, stays}
 use Rattle.ld_find.proofs.alarms.conflict_then.Goals as goal

@@ -5,7 +5,7 @@ use Rattle.std.proofs.lemmas.List.Elements.{All-more}
 use Rattle.ld_graph.specs.Edges.{IsEdge, Seen, edge}
 use Rattle.ld_graph.specs.Walks.{HasWalk}
 use Rattle.ld_union.specs.declared.union.Witnessed.{Witnessed}
-use Rattle.ld_find.specs.Numbers.{IsCycleAt}
+use Rattle.ld_find.specs.Inner.Numbers.{IsCycleAt}
 use Rattle.ld_find.proofs.NumberLemmas.{at_some, searched_edges, searched_same}
 use Rattle.ld_find.proofs.alarms.cycle_among.Goals as goal
 

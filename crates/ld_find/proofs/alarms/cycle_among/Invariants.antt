@@ -1,5 +1,5 @@
 use Rattle.std.proofs.Common.{◌≡◌, All, take}
-use Rattle.ld_find.specs.Numbers.{IsCycleAt, with_searched}
+use Rattle.ld_find.specs.Inner.Numbers.{IsCycleAt, with_searched}
 use Rattle.ld_find.proofs.alarms.cycle_among.Given as goal
 
 abbrev pub invariant-loop-row : goal.invariant-loop-row

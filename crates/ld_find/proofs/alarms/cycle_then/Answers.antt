@@ -2,7 +2,7 @@ use Rattle.std.proofs.Common.{◌<◌, ◌-◌, ◌∙◌, drop, length, sym}
 use Rattle.std.proofs.lemmas.List.Elements.{All-drop, All-take}
 use Rattle.ld_graph.specs.Edges.{IsEdge}
 use Rattle.ld_union.specs.declared.union.Witnessed.{Witnessed}
-use Rattle.ld_find.specs.Numbers.{IsCycleAt}
+use Rattle.ld_find.specs.Inner.Numbers.{IsCycleAt}
 use Rattle.ld_find.proofs.FoundLemmas.{cycle_kept, cycle_looked, edges_kept, stays}
 use Rattle.ld_find.proofs.alarms.cycle_then.Goals as goal
 

@@ -1,5 +1,5 @@
 use Rattle.std.proofs.Common.{◌≡◌, ℕ, ◌<◌, Some}
-use Rattle.ld_find.specs.Numbers.{IsFoundAt}
+use Rattle.ld_find.specs.Inner.Numbers.{IsFoundAt}
 use Rattle.ld_union.specs.Usage.{bits_of}
 use Rattle.ld_find.proofs.alarms.first_found.Given as goal
 

@@ -1,6 +1,6 @@
 use Rattle.std.proofs.Common.{◌∙◌, sym}
 use Rattle.ld_find.specs.declared.alarms.Forbidden.{Forbidden}
-use Rattle.ld_find.specs.Numbers.{IsForbiddenAt}
+use Rattle.ld_find.specs.Inner.Numbers.{IsForbiddenAt}
 use Rattle.ld_union.specs.Usage.{bits_of}
 use Rattle.ld_find.proofs.FoundLemmas.{forbidden_back, forbidden_kept, is_all, stays}
 use Rattle.ld_find.proofs.alarms.forbidden_then.Goals as goal

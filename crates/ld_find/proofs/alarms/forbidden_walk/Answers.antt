@@ -4,7 +4,7 @@ use Rattle.ld_class.specs.Usage.{has_bit}
 use Rattle.ld_graph.specs.Edges.{Seen}
 use Rattle.ld_facts.specs.Usage.Bit.{In, On}
 use Rattle.ld_facts.specs.Uses.{none}
-use Rattle.ld_find.specs.Numbers.{IsForbiddenAt, IsFoundAt}
+use Rattle.ld_find.specs.Inner.Numbers.{IsForbiddenAt, IsFoundAt}
 use Rattle.ld_union.specs.Usage.{bits_of}
 use Rattle.ld_find.proofs.NumberLemmas.{row_within, searched_edges, searched_same}
 use Rattle.ld_find.proofs.alarms.forbidden_walk.Goals as goal

@@ -1,5 +1,5 @@
 use Rattle.std.proofs.Common.{◌≡◌, ℕ, ◌<◌}
-use Rattle.ld_find.specs.Numbers.{IsForbiddenAt, with_searched}
+use Rattle.ld_find.specs.Inner.Numbers.{IsForbiddenAt, with_searched}
 use Rattle.ld_union.specs.Usage.{bits_of}
 use Rattle.ld_find.proofs.alarms.forbidden_walk.Given as goal
 

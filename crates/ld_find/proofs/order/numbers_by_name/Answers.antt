@@ -1,7 +1,7 @@
 use Rattle.std.proofs.Common.{◌∙◌, ◌<◌, ℕ, All, Contains, IsPermutation, IsSorted, length, ap, sym, subst}
 use Rattle.std.proofs.lemmas.Result.{IfOk-weaker}
 use Rattle.ld_find.specs.Findings.{IsBefore}
-use Rattle.ld_find.specs.Order.{class_at, name_of}
+use Rattle.ld_find.specs.Inner.Order.{class_at, name_of}
 use Rattle.ld_find.proofs.OrderLemmas.{named_cmp, numbers-count, numbers-every, numbers-rising, numbers-within}
 use Rattle.ld_find.proofs.order.numbers_by_name.Goals as goal
 

@@ -1,5 +1,5 @@
 use Rattle.std.proofs.Common.{◌≡◌, ℕ, ◌<◌, length}
-use Rattle.ld_find.specs.Order.{class_at}
+use Rattle.ld_find.specs.Inner.Order.{class_at}
 use Rattle.ld_find.proofs.order.places_of.Given as goal
 
 abbrev pub invariant-loop-place : goal.invariant-loop-place

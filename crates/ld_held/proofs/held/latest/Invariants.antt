@@ -1,7 +1,7 @@
 use Rattle.std.proofs.Common.{◌≡◌, ◌≤◌, length, false, map, drop}
 use Rattle.std.specs.List.{list_any}
 use Rattle.ld_trace.specs.Events.{plain_lock}
-use Rattle.ld_held.specs.Stacks.{holds, plain_held}
+use Rattle.ld_held.specs.Inner.Stacks.{holds, plain_held}
 use Rattle.ld_held.proofs.held.latest.Given as goal
 
 abbrev pub invariant-loop-place : goal.invariant-loop-place

@@ -2,7 +2,7 @@ use Rattle.std.proofs.Common.{rules, ◌≡◌, ◌+◌, ◌++◌, ◌∷◌, �
 use Rattle.std.proofs.lemmas.List.{take_all, take_more}
 use Rattle.std.proofs.lemmas.List.Sums.{fold_more}
 use Rattle.ld_class.specs.Names.{with_name}
-use Rattle.ld_union.specs.Names.{ArePlaces, IsLonger}
+use Rattle.ld_union.specs.Inner.Names.{ArePlaces, IsLonger}
 use Rattle.ld_union.proofs.NameLemmas.{longer_more, places_more}
 use Rattle.ld_union.proofs.names.intern_all.Goals as goal
 

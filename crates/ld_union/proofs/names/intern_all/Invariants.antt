@@ -1,5 +1,5 @@
 use Rattle.std.proofs.Common.{◌≡◌, ◌≤◌, length, take, vec_capacity}
-use Rattle.ld_union.specs.Names.{ArePlaces, IsLonger, with_names}
+use Rattle.ld_union.specs.Inner.Names.{ArePlaces, IsLonger, with_names}
 use Rattle.ld_union.proofs.names.intern_all.Given as goal
 
 abbrev pub invariant-loop-id : goal.invariant-loop-id

@@ -6,12 +6,13 @@ use Rattle.ld_facts.specs.Dependency.{least_line}
 use Rattle.ld_facts.specs.Union.{dependency_witness, use_witness, uses_of}
 use Rattle.ld_facts.specs.Usage.{same_use}
 use Rattle.ld_union.specs.declared.union.Union.{Union}
-use Rattle.ld_book.specs.Book.{IsKept, is_listed, sources_of}
-use Rattle.ld_union.specs.Names.{IsLonger, with_names}
-use Rattle.ld_find.specs.Numbers.{AreFound, BitsGrow}
+use Rattle.ld_book.specs.Book.{is_listed, sources_of}
+use Rattle.ld_book.specs.Inner.Kept.{IsKept}
+use Rattle.ld_union.specs.Inner.Names.{IsLonger, with_names}
+use Rattle.ld_find.specs.Inner.Numbers.{AreFound, BitsGrow}
 use Rattle.ld_union.specs.Usage.{bits_of}
 use Rattle.ld_book.specs.Totals.{events_read}
-use Rattle.ld_union.specs.Union.{AreUsed, IsNumbered, seen_in}
+use Rattle.ld_union.specs.Inner.Union.{AreUsed, IsNumbered, seen_in}
 use Rattle.ld_book.proofs.BookLemmas.{kept-push, kept-same, kept-searched, listed_any}
 use Rattle.ld_book.proofs.BoundLemmas.{events_fit, few_listed}
 use Rattle.ld_find.proofs.GrowLemmas.{bits_grown}

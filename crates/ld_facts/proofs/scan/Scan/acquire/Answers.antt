@@ -11,9 +11,9 @@ use Rattle.ld_rules.specs.declared.fault.TraceFault.TheVariants.{TooDeep}
 use Rattle.ld_held.specs.declared.held.Held.{Held}
 use Rattle.ld_rules.specs.declared.outcome.TheConstants.{MOST_CLASSES}
 use Rattle.ld_facts.specs.declared.scan.Scan.{Scan}
-use Rattle.ld_held.specs.Locks.{hold_of}
-use Rattle.ld_facts.specs.Reading.{IsAt, acquisition, happens, taken}
-use Rattle.ld_held.specs.Stacks.{plain_held}
+use Rattle.ld_held.specs.Inner.Locks.{hold_of}
+use Rattle.ld_facts.specs.Inner.Reading.{IsAt, acquisition, happens, taken}
+use Rattle.ld_held.specs.Inner.Stacks.{plain_held}
 use Rattle.ld_facts.proofs.AcquireLemmas.{acquired-at, entered, fault-classes, fault-deep, length-held, tried-at}
 use Rattle.ld_facts.proofs.scan.Scan.acquire.Goals.{then-waits+in_ok-wait, else-waits}
 use Rattle.ld_facts.proofs.scan.Scan.acquire.Goals as goal

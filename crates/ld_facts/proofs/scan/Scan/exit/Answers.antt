@@ -9,11 +9,11 @@ use Rattle.std.specs.Prelude.{slice_get}
 use Rattle.ld_rules.specs.declared.fault.TraceFault.TheVariants.{BadExit, HeldAtExit}
 use Rattle.ld_held.specs.declared.held.Held.{Held}
 use Rattle.ld_rules.specs.Flags.{same_state}
-use Rattle.ld_held.specs.Interrupts.{fresh, start_now, states_of}
-use Rattle.ld_held.specs.Locks.{hold_of}
+use Rattle.ld_held.specs.Inner.Interrupts.{fresh, start_now, states_of}
+use Rattle.ld_held.specs.Inner.Locks.{hold_of}
 use Rattle.ld_rules.specs.Open.{is_some_and}
-use Rattle.ld_facts.specs.Reading.{IsAt, happens}
-use Rattle.ld_held.specs.Stacks.{plain_held}
+use Rattle.ld_facts.specs.Inner.Reading.{IsAt, happens}
+use Rattle.ld_held.specs.Inner.Stacks.{plain_held}
 use Rattle.ld_facts.proofs.InterruptLemmas.{exit-bad, exit-held, exited-at}
 use Rattle.ld_facts.proofs.scan.Scan.exit.Goals as goal
 

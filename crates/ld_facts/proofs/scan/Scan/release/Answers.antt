@@ -4,8 +4,8 @@ use Rattle.ld_trace.specs.Events.{plain_lock}
 use Rattle.ld_trace.specs.Events.PlainEvent.{Release}
 use Rattle.ld_rules.specs.declared.fault.TraceFault.TheVariants.{NotHeld}
 use Rattle.ld_facts.specs.declared.scan.Stop.TheVariants.{Fault}
-use Rattle.ld_held.specs.Locks.{Known}
-use Rattle.ld_facts.specs.Reading.{IsAt, happens}
+use Rattle.ld_held.specs.Inner.Locks.{Known}
+use Rattle.ld_facts.specs.Inner.Reading.{IsAt, happens}
 use Rattle.ld_facts.proofs.TaskLemmas.{scan_too_many_tasks}
 use Rattle.ld_facts.proofs.ReleaseLemmas.{release-not_held, release-at}
 use Rattle.ld_facts.proofs.scan.Scan.release.Goals as goal

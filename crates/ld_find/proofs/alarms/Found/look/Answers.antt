@@ -8,7 +8,7 @@ use Rattle.ld_trace.specs.declared.event.State.TheVariants.{Hard, Soft}
 use Rattle.ld_find.specs.declared.alarms.Forbidden.{Forbidden}
 use Rattle.ld_union.specs.declared.usage.UsageRow.{UsageRow}
 use Rattle.ld_find.specs.Alarms.{IsExact, state_place}
-use Rattle.ld_find.specs.Numbers.{AreRowsOf, BitsGrow, EdgesGrow, IsConflictAt, IsForbiddenAt}
+use Rattle.ld_find.specs.Inner.Numbers.{AreRowsOf, BitsGrow, EdgesGrow, IsConflictAt, IsForbiddenAt}
 use Rattle.ld_union.specs.Usage.{bits_of}
 use Rattle.ld_find.proofs.FoundLemmas.{bits_grow, edges_grow, rows_of_graph}
 use Rattle.ld_union.proofs.UnionLemmas.{length_rows}

@@ -4,8 +4,8 @@ use Rattle.ld_trace.specs.declared.event.State.{State}
 use Rattle.ld_facts.specs.Union.{use_witness}
 use Rattle.ld_facts.specs.Usage.Bit.{In}
 use Rattle.ld_find.specs.Findings.{InTurn, IsBefore, IsConflictRow, IsHarder, conflict_key, plain_conflict_row}
-use Rattle.ld_find.specs.Order.{name_of}
-use Rattle.ld_find.specs.Rows.{AreConflictRowsOf, IsConflictRowOf, IsPassed}
+use Rattle.ld_find.specs.Inner.Order.{name_of}
+use Rattle.ld_find.specs.Inner.Rows.{AreConflictRowsOf, IsConflictRowOf, IsPassed}
 use Rattle.ld_find.specs.Violations.{IsConflict}
 use Rattle.ld_find.proofs.PassedLemmas.{name_at, passed_all, rows-more}
 use Rattle.ld_find.proofs.RowLemmas.{rows-not, rows-one, rows-same}

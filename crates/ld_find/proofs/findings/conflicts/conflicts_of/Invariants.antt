@@ -1,9 +1,9 @@
 use Rattle.std.proofs.Common.{◌≡◌, List, map}
 use Rattle.ld_trace.specs.Sources.{PlainSource}
 use Rattle.ld_facts.specs.Union.{use_witness}
-use Rattle.ld_find.specs.Rows.{AreConflictRowsOf, IsPassed}
+use Rattle.ld_find.specs.Inner.Rows.{AreConflictRowsOf, IsPassed}
 use Rattle.ld_find.specs.Findings.{plain_conflict_row}
-use Rattle.ld_union.specs.Union.{AreUsed}
+use Rattle.ld_union.specs.Inner.Union.{AreUsed}
 use Rattle.ld_find.proofs.findings.conflicts.conflicts_of.Given as goal
 
 abbrev pub invariant-loop-class : goal.invariant-loop-class

@@ -6,7 +6,7 @@ use Rattle.ld_facts.specs.Union.{dependency_witness}
 use Rattle.ld_facts.specs.Dependency.{Dependency}
 use Rattle.ld_union.specs.declared.union.Witnessed.{Witnessed}
 use Rattle.ld_find.specs.Findings.{IsShown, plain_cycle_row, plain_names}
-use Rattle.ld_find.specs.Order.{name_of}
+use Rattle.ld_find.specs.Inner.Order.{name_of}
 use Rattle.ld_find.proofs.CycleLemmas.{cycle-row, no_cycle-edge, no_cycle-walk, no_walk}
 use Rattle.ld_union.proofs.UnionLemmas.{edge_of_row, first_at, found_row}
 use Rattle.ld_find.proofs.findings.cycles.cycle_row.Goals as goal

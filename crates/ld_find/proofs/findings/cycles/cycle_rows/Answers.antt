@@ -1,8 +1,8 @@
 use Rattle.std.proofs.Common.{◌≡◌, ◌<◌, ◌≤◌, ◌+◌, ◌∙◌, ◌++◌, get_or, length, map, subst, sym, ap}
 use Rattle.std.proofs.lemmas.List.{map-append}
 use Rattle.ld_find.specs.Findings.{AreCycleRows, IsBefore, IsCycleRow, IsPairBefore, cycle_key, plain_cycle_row}
-use Rattle.ld_find.specs.Order.{name_of}
-use Rattle.ld_find.specs.Rows.{AreCycleRowsOf, IsPassed}
+use Rattle.ld_find.specs.Inner.Order.{name_of}
+use Rattle.ld_find.specs.Inner.Rows.{AreCycleRowsOf, IsPassed}
 use Rattle.ld_find.specs.Violations.{IsCycle}
 use Rattle.ld_find.proofs.NumberLemmas.{edge_from_depends}
 use Rattle.ld_find.proofs.PassedLemmas.{name_at, passed_all, rows-next}

@@ -4,8 +4,8 @@ use Rattle.std.proofs.lemmas.Option.{MatchOption-at_none, MatchOption-at_some}
 use Rattle.ld_graph.specs.Edges.{IsEdge}
 use Rattle.ld_graph.specs.Walks.{HasWalk}
 use Rattle.ld_find.specs.Findings.{IsBefore, IsCycleRow, IsPairBefore, cycle_key, plain_cycle_row}
-use Rattle.ld_find.specs.Order.{name_of}
-use Rattle.ld_find.specs.Rows.{AreCycleRowsOf, IsCycleRowOf, IsPassed}
+use Rattle.ld_find.specs.Inner.Order.{name_of}
+use Rattle.ld_find.specs.Inner.Rows.{AreCycleRowsOf, IsCycleRowOf, IsPassed}
 use Rattle.ld_find.specs.Violations.{IsCycle}
 use Rattle.ld_find.proofs.CycleLemmas.{no_cycle-from, no_walk}
 use Rattle.ld_find.proofs.NumberLemmas.{edge_from_depends}

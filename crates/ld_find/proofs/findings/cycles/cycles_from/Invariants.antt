@@ -1,10 +1,10 @@
 use Rattle.std.proofs.Common.{◌≡◌, List, map}
 use Rattle.ld_trace.specs.Sources.{PlainSource}
 use Rattle.ld_facts.specs.Union.{dependency_witness}
-use Rattle.ld_find.specs.Order.{name_of}
-use Rattle.ld_find.specs.Rows.{AreCycleRowsOf, IsPassed}
+use Rattle.ld_find.specs.Inner.Order.{name_of}
+use Rattle.ld_find.specs.Inner.Rows.{AreCycleRowsOf, IsPassed}
 use Rattle.ld_find.specs.Findings.{plain_cycle_row}
-use Rattle.ld_union.specs.Union.{AreWitnessed}
+use Rattle.ld_union.specs.Inner.Union.{AreWitnessed}
 use Rattle.ld_find.proofs.findings.cycles.cycles_from.Given as goal
 
 abbrev pub invariant-loop-to : goal.invariant-loop-to

@@ -3,8 +3,8 @@ use Rattle.std.proofs.lemmas.List.{map-append}
 use Rattle.ld_facts.specs.Union.{use_witness}
 use Rattle.ld_facts.specs.Usage.Bit.{On}
 use Rattle.ld_find.specs.Findings.{IsBefore, IsPairBefore, plain_forbidden_row}
-use Rattle.ld_find.specs.Order.{name_of}
-use Rattle.ld_find.specs.Rows.{AreTurnedRowsOf, IsPassed, IsRowIn, turned_key}
+use Rattle.ld_find.specs.Inner.Order.{name_of}
+use Rattle.ld_find.specs.Inner.Rows.{AreTurnedRowsOf, IsPassed, IsRowIn, turned_key}
 use Rattle.ld_find.specs.Violations.{IsForbidden}
 use Rattle.ld_find.proofs.PassedLemmas.{name_at, passed_all, rows-next}
 use Rattle.ld_find.proofs.RowLemmas.{rows-all}

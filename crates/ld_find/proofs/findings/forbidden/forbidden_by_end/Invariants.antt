@@ -1,9 +1,9 @@
 use Rattle.std.proofs.Common.{List, map}
 use Rattle.ld_trace.specs.Sources.{PlainSource}
 use Rattle.ld_facts.specs.Union.{dependency_witness, use_witness}
-use Rattle.ld_find.specs.Rows.{AreTurnedRowsOf, IsPassed}
+use Rattle.ld_find.specs.Inner.Rows.{AreTurnedRowsOf, IsPassed}
 use Rattle.ld_find.specs.Findings.{plain_forbidden_row}
-use Rattle.ld_union.specs.Union.{AreUsed, AreWitnessed}
+use Rattle.ld_union.specs.Inner.Union.{AreUsed, AreWitnessed}
 use Rattle.ld_find.proofs.findings.forbidden.forbidden_by_end.Given as goal
 
 abbrev pub invariant-loop-to : goal.invariant-loop-to

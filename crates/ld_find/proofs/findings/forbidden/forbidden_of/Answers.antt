@@ -3,7 +3,7 @@ use Rattle.std.proofs.lemmas.Fn.{always_returns_same}
 use Rattle.ld_find.specs.declared.findings.forbidden.ForbiddenRow.{ForbiddenRow}
 use Rattle.ld_trace.specs.declared.event.State.{State}
 use Rattle.ld_find.specs.Findings.{InTurn, IsForbiddenRow, IsHarder, IsPairBefore, forbidden_key, plain_forbidden_row}
-use Rattle.ld_find.specs.Rows.{AreForbiddenRowsOf}
+use Rattle.ld_find.specs.Inner.Rows.{AreForbiddenRowsOf}
 use Rattle.ld_find.specs.Violations.{IsForbidden}
 use Rattle.ld_find.proofs.RowLemmas.{rows-none}
 use Rattle.ld_find.proofs.SortedLemmas.{rows-sorted}

@@ -1,8 +1,8 @@
 use Rattle.std.proofs.Common.{subst}
 use Rattle.std.proofs.lemmas.Option.{MatchOption-at_none, MatchOption-at_some}
 use Rattle.ld_facts.specs.Usage.Bit.{In}
-use Rattle.ld_find.specs.Order.{name_of}
-use Rattle.ld_find.specs.Rows.{IsNoted}
+use Rattle.ld_find.specs.Inner.Order.{name_of}
+use Rattle.ld_find.specs.Inner.Rows.{IsNoted}
 use Rattle.ld_find.specs.Findings.{plain_forbidden_row}
 use Rattle.ld_find.proofs.ForbiddenLemmas.{forbidden-row, no_forbidden-walk}
 use Rattle.ld_find.proofs.WitnessLemmas.{bit_of-usage_of}

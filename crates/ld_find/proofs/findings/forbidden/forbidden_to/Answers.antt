@@ -4,8 +4,8 @@ use Rattle.std.proofs.lemmas.Option.{MatchOption-at_none, MatchOption-at_some}
 use Rattle.ld_facts.specs.Union.{use_witness}
 use Rattle.ld_facts.specs.Usage.Bit.{In, On}
 use Rattle.ld_find.specs.Findings.{IsBefore, IsPairBefore, plain_forbidden_row}
-use Rattle.ld_find.specs.Order.{name_of}
-use Rattle.ld_find.specs.Rows.{AreTurnedRowsOf, IsNoted, IsPassed, IsRowIn, IsTurnedRowOf, turned_key}
+use Rattle.ld_find.specs.Inner.Order.{name_of}
+use Rattle.ld_find.specs.Inner.Rows.{AreTurnedRowsOf, IsNoted, IsPassed, IsRowIn, IsTurnedRowOf, turned_key}
 use Rattle.ld_find.specs.Violations.{IsForbidden}
 use Rattle.ld_find.proofs.PassedLemmas.{name_at, passed_all, rows-more}
 use Rattle.ld_find.proofs.RowLemmas.{rows-not, rows-one, rows-same}

@@ -1,10 +1,10 @@
 use Rattle.std.proofs.Common.{◌≡◌, List, map}
 use Rattle.ld_trace.specs.Sources.{PlainSource}
 use Rattle.ld_facts.specs.Union.{dependency_witness, use_witness}
-use Rattle.ld_find.specs.Order.{name_of}
-use Rattle.ld_find.specs.Rows.{AreTurnedRowsOf, IsPassed}
+use Rattle.ld_find.specs.Inner.Order.{name_of}
+use Rattle.ld_find.specs.Inner.Rows.{AreTurnedRowsOf, IsPassed}
 use Rattle.ld_find.specs.Findings.{plain_forbidden_row}
-use Rattle.ld_union.specs.Union.{AreUsed, AreWitnessed}
+use Rattle.ld_union.specs.Inner.Union.{AreUsed, AreWitnessed}
 use Rattle.ld_find.proofs.findings.forbidden.forbidden_to.Given as goal
 
 abbrev pub invariant-loop-from : goal.invariant-loop-from

@@ -3,9 +3,9 @@ use Rattle.ld_class.specs.Usage.{marks_of}
 use Rattle.ld_facts.specs.Union.{use_witness}
 use Rattle.ld_facts.specs.Usage.{bit_of}
 use Rattle.ld_union.specs.declared.usage.UsageRow.{UsageRow}
-use Rattle.ld_find.specs.Order.{name_of}
-use Rattle.ld_find.specs.Rows.{IsNoted}
-use Rattle.ld_union.specs.Union.{of_class}
+use Rattle.ld_find.specs.Inner.Order.{name_of}
+use Rattle.ld_find.specs.Inner.Rows.{IsNoted}
+use Rattle.ld_union.specs.Inner.Union.{of_class}
 use Rattle.ld_union.specs.Usage.{row_of}
 use Rattle.ld_find.specs.Violations.{HasBit}
 use Rattle.ld_union.proofs.UsageLemmas.{row_at}

@@ -1,5 +1,5 @@
 use Rattle.std.proofs.Common.{◌≡◌, map, take}
-use Rattle.ld_find.specs.Order.{name_of}
+use Rattle.ld_find.specs.Inner.Order.{name_of}
 use Rattle.ld_find.specs.Findings.{plain_names}
 use Rattle.ld_find.proofs.findings.walks.names_of.Given as goal
 

@@ -2,7 +2,7 @@ use Rattle.std.proofs.Common.{◌≡◌, ◌<◌, ◌∙◌, All, MatchOption, l
 use Rattle.ld_graph.specs.Edges.{ComesBefore, IsEdge}
 use Rattle.ld_graph.specs.Walks.{HasWalk, IsShownWalk}
 use Rattle.ld_find.specs.Findings.{IsShown, plain_names}
-use Rattle.ld_find.specs.Order.{name_of}
+use Rattle.ld_find.specs.Inner.Order.{name_of}
 use Rattle.ld_find.proofs.ShownLemmas.{shown_named, shown_within}
 use Rattle.ld_find.proofs.findings.walks.walk_names.Goals as goal
 

@@ -1,5 +1,5 @@
 use Rattle.std.proofs.Common.{◌<◌, ◌∷◌, [], ◌++◌, ap, ◌∙◌, sym, subst, arith, length, get_or, IfSome, slice_get}
-use Rattle.ld_held.specs.Chains.{chain_before, chains_of, IsTree}
+use Rattle.ld_held.specs.Inner.Chains.{chain_before, chains_of, IsTree}
 use Rattle.ld_held.specs.declared.chains.Link.{Link}
 use Rattle.ld_held.proofs.ChainLemmas.{length-chains_of, IsTree-with_link, chain_found}
 use Rattle.ld_held.proofs.chains.Chains.extend.Goals as goal

@@ -1,6 +1,6 @@
 use Rattle.std.proofs.Common.{◌≡◌, ◌++◌, ◌∷◌, [], not, ap, ◌∙◌, arith}
 use Rattle.std.proofs.lemmas.Grind.{common_steps}
-use Rattle.ld_held.specs.Edges.{with_edge}
+use Rattle.ld_held.specs.Inner.Edges.{with_edge}
 use Rattle.ld_held.proofs.EdgeLemmas.{with_edge-known, with_edge-new}
 use Rattle.ld_held.proofs.edges.Edges.add.Goals as goal
 

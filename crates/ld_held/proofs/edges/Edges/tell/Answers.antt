@@ -1,7 +1,7 @@
 use Rattle.std.proofs.Common.{◌≡◌, List, Bool, true, ap, ◌∙◌, fold, map, take}
 use Rattle.std.specs.List.{list_any}
 use Rattle.ld_held.specs.declared.edges.EdgeFact.{EdgeFact}
-use Rattle.ld_held.specs.Edges.{edge_to, with_edge}
+use Rattle.ld_held.specs.Inner.Edges.{edge_to, with_edge}
 use Rattle.ld_held.proofs.LockLemmas.{told_keeps}
 use Rattle.ld_held.proofs.edges.Edges.tell.Goals as goal
 

@@ -1,5 +1,5 @@
 use Rattle.std.proofs.Common.{◌≡◌, fold, map, take}
-use Rattle.ld_held.specs.Edges.{edge_to, with_edge}
+use Rattle.ld_held.specs.Inner.Edges.{edge_to, with_edge}
 use Rattle.ld_held.proofs.edges.Edges.tell.Given as goal
 
 abbrev pub invariant-loop-held : goal.invariant-loop-held

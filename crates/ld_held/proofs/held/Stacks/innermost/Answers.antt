@@ -1,6 +1,6 @@
 use Rattle.std.proofs.Common.{◌∙◌, ap, get_or}
-use Rattle.ld_held.specs.Interrupts.{start_now}
-use Rattle.ld_held.specs.Stacks.{empty_stack}
+use Rattle.ld_held.specs.Inner.Interrupts.{start_now}
+use Rattle.ld_held.specs.Inner.Stacks.{empty_stack}
 use Rattle.ld_held.proofs.StackLemmas.{part_is}
 use Rattle.ld_held.proofs.held.Stacks.innermost.Goals as goal
 

@@ -1,6 +1,6 @@
 use Rattle.std.proofs.Common.{◌∷◌, [], ◌++◌, ◌∙◌, ap, map}
 use Rattle.std.proofs.lemmas.List.{map-append}
-use Rattle.ld_held.specs.Stacks.{PlainStack, plain_held}
+use Rattle.ld_held.specs.Inner.Stacks.{PlainStack, plain_held}
 use Rattle.ld_held.proofs.StackLemmas.{put}
 use Rattle.ld_held.proofs.held.Stacks.push.Goals as goal
 

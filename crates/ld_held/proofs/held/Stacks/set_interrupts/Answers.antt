@@ -1,5 +1,5 @@
 use Rattle.std.proofs.Common.{refl}
-use Rattle.ld_held.specs.Stacks.{PlainStack}
+use Rattle.ld_held.specs.Inner.Stacks.{PlainStack}
 use Rattle.ld_held.proofs.StackLemmas.{put}
 use Rattle.ld_held.proofs.held.Stacks.set_interrupts.Goals as goal
 

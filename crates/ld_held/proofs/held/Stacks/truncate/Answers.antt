@@ -1,6 +1,6 @@
 use Rattle.std.proofs.Common.{◌∙◌, ap, map, sym, take}
 use Rattle.std.proofs.lemmas.List.{take-map}
-use Rattle.ld_held.specs.Stacks.{PlainStack, plain_held}
+use Rattle.ld_held.specs.Inner.Stacks.{PlainStack, plain_held}
 use Rattle.ld_held.proofs.StackLemmas.{put}
 use Rattle.ld_held.proofs.held.Stacks.truncate.Goals as goal
 

@@ -1,8 +1,8 @@
 use Rattle.std.proofs.Common.{◌≡◌, [], get_or, length, map, sym, ap, subst, ◌∙◌}
 use Rattle.std.proofs.lemmas.List.{length-map}
-use Rattle.ld_held.specs.Interrupts.{IsEntered, fresh}
-use Rattle.ld_held.specs.Locks.{hold_of}
-use Rattle.ld_held.specs.Stacks.{PlainStack, empty_stack, plain_held}
+use Rattle.ld_held.specs.Inner.Interrupts.{IsEntered, fresh}
+use Rattle.ld_held.specs.Inner.Locks.{hold_of}
+use Rattle.ld_held.specs.Inner.Stacks.{PlainStack, empty_stack, plain_held}
 use Rattle.ld_held.specs.declared.held.Held.{Held}
 use Rattle.ld_held.proofs.LockLemmas.{chained_entered, held_shown, interrupts_shown, moved_is, moved_to, shown_as, tied_moved, within_shown}
 use Rattle.ld_held.proofs.locks.Locks.enter.Goals as goal

@@ -1,8 +1,8 @@
 use Rattle.std.proofs.Common.{get_or, length, map, sym, ap, ◌∙◌}
 use Rattle.std.proofs.lemmas.List.{length-map}
-use Rattle.ld_held.specs.Interrupts.{IsLeft, fresh, start_now}
-use Rattle.ld_held.specs.Locks.{hold_of}
-use Rattle.ld_held.specs.Stacks.{PlainStack, empty_stack}
+use Rattle.ld_held.specs.Inner.Interrupts.{IsLeft, fresh, start_now}
+use Rattle.ld_held.specs.Inner.Locks.{hold_of}
+use Rattle.ld_held.specs.Inner.Stacks.{PlainStack, empty_stack}
 use Rattle.ld_held.proofs.LockLemmas.{chained_left, holds_shown, interrupts_shown, moved_is, moved_to, shown_as, tied_moved, within_shown}
 use Rattle.ld_held.proofs.locks.Locks.exit.Goals as goal
 

@@ -1,8 +1,8 @@
 use Rattle.std.proofs.Common.{◌<◌, ◌∷◌, [], ◌++◌, IfSome, List, length, get_or, sym, ap, subst, ◌∙◌}
 use Rattle.std.proofs.lemmas.List.{map-append}
-use Rattle.ld_held.specs.Stacks.{PlainHeld, PlainStack, empty_stack}
+use Rattle.ld_held.specs.Inner.Stacks.{PlainHeld, PlainStack, empty_stack}
 use Rattle.ld_trace.specs.Events.{plain_lock}
-use Rattle.ld_held.specs.Locks.{AreTied, Hold, IsExtended, chain_of, hold_of, known_of}
+use Rattle.ld_held.specs.Inner.Locks.{AreTied, Hold, IsExtended, chain_of, hold_of, known_of}
 use Rattle.ld_held.proofs.LockLemmas.{holds_at, numbered, start_within, tied_push, shown_held, within_shown}
 use Rattle.ld_held.proofs.locks.Locks.hold.Goals as goal
 

@@ -1,5 +1,5 @@
 use Rattle.std.proofs.Common.{◌≡◌, [], ◌++◌, get_or, set, take}
-use Rattle.ld_held.specs.Locks.{holds_of}
+use Rattle.ld_held.specs.Inner.Locks.{holds_of}
 use Rattle.ld_held.proofs.locks.Locks.hold_all.Given as goal
 
 abbrev pub invariant-loop-held : goal.invariant-loop-held

@@ -5,9 +5,9 @@ use Rattle.std.proofs.lemmas.Simd.{map-map}
 use Rattle.ld_trace.specs.Events.{PlainLock, plain_lock}
 use Rattle.ld_held.specs.declared.edges.EdgeFact.{EdgeFact}
 use Rattle.ld_held.specs.declared.held.Held.{Held}
-use Rattle.ld_held.specs.Interrupts.{fresh, start_now}
-use Rattle.ld_held.specs.Locks.{AreTied, Known, hold_of, holds_of, is_of, known_of}
-use Rattle.ld_held.specs.Stacks.{PlainStack, empty_stack, holds, inner, plain_held}
+use Rattle.ld_held.specs.Inner.Interrupts.{fresh, start_now}
+use Rattle.ld_held.specs.Inner.Locks.{AreTied, Known, hold_of, holds_of, is_of, known_of}
+use Rattle.ld_held.specs.Inner.Stacks.{PlainStack, empty_stack, holds, inner, plain_held}
 use Rattle.ld_rules.specs.Open.{remove_last}
 use Rattle.ld_rules.specs.declared.outcome.TheConstants.{MOST_HELD}
 use Rattle.ld_held.proofs.StackLemmas.{part_is}

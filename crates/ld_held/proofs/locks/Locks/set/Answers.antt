@@ -1,7 +1,7 @@
 use Rattle.std.proofs.Common.{get_or, map, sym, ap, subst, ◌∙◌}
-use Rattle.ld_held.specs.Interrupts.{IsSet, fresh, starts_of}
-use Rattle.ld_held.specs.Locks.{AreChainedIn}
-use Rattle.ld_held.specs.Stacks.{PlainStack, empty_stack}
+use Rattle.ld_held.specs.Inner.Interrupts.{IsSet, fresh, starts_of}
+use Rattle.ld_held.specs.Inner.Locks.{AreChainedIn}
+use Rattle.ld_held.specs.Inner.Stacks.{PlainStack, empty_stack}
 use Rattle.ld_held.proofs.LockLemmas.{interrupts_shown, moved_is, moved_to, shown_as, tied_moved, within_shown}
 use Rattle.ld_held.proofs.locks.Locks.set.Goals as goal
 

@@ -1,10 +1,10 @@
 use Rattle.std.proofs.Common.{◌≡◌, ℕ, List, get_or, sym, ap, ◌∙◌, map, fold}
 use Rattle.std.proofs.lemmas.Simd.{map-map}
-use Rattle.ld_held.specs.Edges.{edge_to, with_edge}
+use Rattle.ld_held.specs.Inner.Edges.{edge_to, with_edge}
 use Rattle.ld_held.specs.declared.edges.EdgeFact.{EdgeFact}
 use Rattle.ld_held.specs.declared.held.Held.{Held}
-use Rattle.ld_held.specs.Stacks.{PlainHeld, PlainStack, empty_stack, inner, plain_held}
-use Rattle.ld_held.specs.Locks.{chain_of, classes_held}
+use Rattle.ld_held.specs.Inner.Stacks.{PlainHeld, PlainStack, empty_stack, inner, plain_held}
+use Rattle.ld_held.specs.Inner.Locks.{chain_of, classes_held}
 use Rattle.ld_held.proofs.LockLemmas.{known_told, tied_more, tied_told, told_shown, start_within}
 use Rattle.ld_held.proofs.locks.Locks.tell.Goals as goal
 

@@ -1,5 +1,5 @@
 use Rattle.std.proofs.Common.{◌≡◌, fold, map, take}
-use Rattle.ld_held.specs.Uses.{told, with_use}
+use Rattle.ld_held.specs.Inner.Uses.{told, with_use}
 use Rattle.ld_held.proofs.uses.Uses.add_each.Given as goal
 
 abbrev pub invariant-loop-held : goal.invariant-loop-held

@@ -1,6 +1,6 @@
 use Rattle.std.proofs.Common.{◌≡◌, ◌-◌, ◌++◌, ◌∙◌, None, ap, length, replicate, subst, sym, take}
-use Rattle.ld_union.specs.Names.{ArePlaces}
-use Rattle.ld_union.specs.Union.{AreUsed, AreWitnessed}
+use Rattle.ld_union.specs.Inner.Names.{ArePlaces}
+use Rattle.ld_union.specs.Inner.Union.{AreUsed, AreWitnessed}
 use Rattle.ld_union.specs.Usage.{row_of}
 use Rattle.ld_union.proofs.UnionLemmas.{witnessed-longer}
 use Rattle.ld_union.proofs.UsageLemmas.{used-longer}

@@ -5,8 +5,8 @@ use Rattle.ld_held.specs.declared.edges.EdgeFact.{EdgeFact}
 use Rattle.ld_facts.specs.Dependency.{Dependency, least_line, same_dependency}
 use Rattle.ld_facts.specs.Facts.{named}
 use Rattle.ld_facts.specs.Union.{dependencies_of}
-use Rattle.ld_union.specs.Names.{ArePlaces}
-use Rattle.ld_union.specs.Union.{AreWitnessed, HasRoom, earlier_of, named_edge, seen_in}
+use Rattle.ld_union.specs.Inner.Names.{ArePlaces}
+use Rattle.ld_union.specs.Inner.Union.{AreWitnessed, HasRoom, earlier_of, named_edge, seen_in}
 use Rattle.ld_union.proofs.SeenLemmas.{all_noted, dependencies_once, none_noted, one_noted}
 use Rattle.ld_union.proofs.UnionLemmas.{same_dependency-true}
 use Rattle.ld_union.proofs.union.Union.add_dependencies.Goals as goal

@@ -2,7 +2,7 @@ use Rattle.std.proofs.Common.{◌≡◌, ◌-◌, Option, length, map, take}
 use Rattle.ld_rules.specs.declared.outcome.Witness.{Witness}
 use Rattle.ld_facts.specs.Dependency.{Dependency, least_line, same_dependency}
 use Rattle.ld_facts.specs.Facts.{named}
-use Rattle.ld_union.specs.Union.{AreWitnessed, HasRoom, IsNumbered, earlier_of, seen_in}
+use Rattle.ld_union.specs.Inner.Union.{AreWitnessed, HasRoom, IsNumbered, earlier_of, seen_in}
 use Rattle.ld_union.proofs.union.Union.add_dependencies.Given as goal
 
 abbrev pub invariant-loop-seen : goal.invariant-loop-seen

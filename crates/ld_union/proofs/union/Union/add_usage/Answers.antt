@@ -9,8 +9,8 @@ use Rattle.ld_facts.specs.Facts.{named_use}
 use Rattle.ld_facts.specs.Union.{uses_of}
 use Rattle.ld_facts.specs.Usage.{Use, bit_of, same_use}
 use Rattle.ld_union.specs.declared.usage.UsageRow.{UsageRow}
-use Rattle.ld_union.specs.Names.{ArePlaces}
-use Rattle.ld_union.specs.Union.{AreUsed, earlier_of, of_class, seen_in}
+use Rattle.ld_union.specs.Inner.Names.{ArePlaces}
+use Rattle.ld_union.specs.Inner.Union.{AreUsed, earlier_of, of_class, seen_in}
 use Rattle.ld_union.proofs.SeenLemmas.{all_noted, none_noted, one_noted, same_use-true, uses_once}
 use Rattle.ld_union.proofs.UsageLemmas.{bits_kept, row_at, used-seen}
 use Rattle.ld_union.proofs.union.Union.add_usage.Goals as goal

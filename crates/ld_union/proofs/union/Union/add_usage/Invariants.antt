@@ -4,7 +4,7 @@ use Rattle.ld_facts.specs.Dependency.{least_line}
 use Rattle.ld_facts.specs.Facts.{named_use}
 use Rattle.ld_facts.specs.Usage.{Use, same_use}
 use Rattle.ld_union.specs.Usage.{bits_of}
-use Rattle.ld_union.specs.Union.{AreUsed, HasRows, earlier_of, seen_in}
+use Rattle.ld_union.specs.Inner.Union.{AreUsed, HasRows, earlier_of, seen_in}
 use Rattle.ld_union.proofs.union.Union.add_usage.Given as goal
 
 abbrev pub invariant-loop-seen : goal.invariant-loop-seen

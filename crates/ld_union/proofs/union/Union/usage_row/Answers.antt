@@ -1,6 +1,6 @@
 use Rattle.std.proofs.Common.{◌∙◌, None, Some, ap, if◌then◌else◌, is_some, sym}
 use Rattle.ld_class.proofs.NameLemmas.{place_of-Some}
-use Rattle.ld_union.specs.Union.{of_class}
+use Rattle.ld_union.specs.Inner.Union.{of_class}
 use Rattle.ld_union.specs.Usage.{row_of}
 use Rattle.ld_union.proofs.UsageLemmas.{row_at}
 use Rattle.ld_union.proofs.union.Union.usage_row.Goals as goal

@@ -7,7 +7,7 @@ use Rattle.ld_class.specs.Usage.{has_bit}
 use Rattle.ld_trace.specs.declared.event.State.TheVariants.{Hard, Soft}
 use Rattle.ld_held.specs.declared.uses.UsageFact.{UsageFact}
 use Rattle.ld_held.specs.declared.interrupts.Interrupts.{Interrupts}
-use Rattle.ld_held.specs.Interrupts.{enabled_now, states_of}
+use Rattle.ld_held.specs.Inner.Interrupts.{enabled_now, states_of}
 use Rattle.ld_rules.specs.Usage.{Bit, usage_of}
 use Rattle.ld_rules.specs.Usage.Bit.{In, On}
 

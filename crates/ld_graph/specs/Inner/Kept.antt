@@ -3,8 +3,8 @@ use Rattle.std.specs.Prelude.{◌≡◌, ◌↔◌, ℕ, ◌+◌, ◌<◌, ◌�
 use Rattle.indexmap.specs.IndexSet.{spare}
 use Rattle.ld_graph.specs.declared.graph.Graph.TheInside.{Inside}
 use Rattle.ld_graph.specs.Edges.{IsEdge, Seen}
-use Rattle.ld_graph.specs.Neighbours.{IsNear}
-use Rattle.ld_graph.specs.Levels.{level_at}
+use Rattle.ld_graph.specs.Inner.Neighbours.{IsNear}
+use Rattle.ld_graph.specs.Inner.Levels.{level_at}
 use Rattle.ld_graph.specs.Walks.{DistanceIs}
 
 -- what callers see of the fields

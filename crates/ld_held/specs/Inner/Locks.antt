@@ -6,11 +6,11 @@ use Rattle.std.specs.List.{last_or, list_all, list_any, All}
 use Rattle.ld_trace.specs.Events.{PlainLock}
 use Rattle.ld_held.specs.declared.chains.Link.{Link}
 use Rattle.ld_held.specs.declared.edges.EdgeFact.{EdgeFact}
-use Rattle.ld_held.specs.Chains.{chain_before}
-use Rattle.ld_held.specs.Edges.{same_pair, edge_to}
+use Rattle.ld_held.specs.Inner.Chains.{chain_before}
+use Rattle.ld_held.specs.Inner.Edges.{same_pair, edge_to}
 use Rattle.ld_rules.specs.Held.{same_lock}
-use Rattle.ld_held.specs.Interrupts.{fresh, start_now, starts_of}
-use Rattle.ld_held.specs.Stacks.{PlainHeld, PlainStack, empty_stack, plain_held}
+use Rattle.ld_held.specs.Inner.Interrupts.{fresh, start_now, starts_of}
+use Rattle.ld_held.specs.Inner.Stacks.{PlainHeld, PlainStack, empty_stack, plain_held}
 use Rattle.ld_held.specs.declared.held.Held.{Held}
 use Rattle.ld_held.specs.declared.interrupts.Interrupts.{Interrupts}
 

@@ -11,7 +11,7 @@ use Rattle.ld_find.specs.declared.alarms.Found.{Found}
 use Rattle.ld_find.specs.Alarms.{state_place}
 use Rattle.ld_find.specs.Findings.{AreRows, InTurn, IsBefore, IsConflictRow, IsCycleRow, IsForbiddenRow, IsHarder, IsPairBefore, PlainConflictRow}
 use Rattle.ld_find.specs.Findings.{PlainCycleRow, PlainForbiddenRow, conflict_key, cycle_key, forbidden_key, shown_marks}
-use Rattle.ld_find.specs.Order.{class_at, name_of}
+use Rattle.ld_find.specs.Inner.Order.{class_at, name_of}
 use Rattle.ld_find.specs.Violations.{IsConflict, IsCycle, IsForbidden}
 
 -- where none of a kind was found, there is none

@@ -13,14 +13,14 @@ use Rattle.ld_rules.specs.declared.outcome.TheConstants.{MOST_CLASSES, MOST_HELD
 use Rattle.ld_held.specs.declared.interrupts.Interrupts.{Interrupts}
 use Rattle.ld_facts.specs.declared.scan.Scan.{Scan}
 use Rattle.ld_facts.specs.Facts.{named, named_use}
-use Rattle.ld_held.specs.Edges.{edge_to, with_edge}
-use Rattle.ld_held.specs.Interrupts.{fresh, levels_of, start_now, starts_of, states_of}
-use Rattle.ld_rules.specs.Levels.{levels, starts, states}
+use Rattle.ld_held.specs.Inner.Edges.{edge_to, with_edge}
+use Rattle.ld_held.specs.Inner.Interrupts.{fresh, levels_of, start_now, starts_of, states_of}
+use Rattle.ld_rules.specs.Inner.Levels.{levels, starts, states}
 use Rattle.ld_facts.specs.Facts.{IsUse}
-use Rattle.ld_held.specs.Uses.{in_facts, on_facts, with_use}
+use Rattle.ld_held.specs.Inner.Uses.{in_facts, on_facts, with_use}
 use Rattle.ld_rules.specs.Usage.{same_what, uses_at}
 use Rattle.ld_rules.specs.Held.{held_by}
-use Rattle.ld_held.specs.Locks.{Hold}
+use Rattle.ld_held.specs.Inner.Locks.{Hold}
 use Rattle.ld_rules.specs.Outcome.{classes, each_once, events, faulty_lines, tasks}
 use Rattle.ld_rules.specs.Dependency.{dependencies_at, same_seen, seen}
 
