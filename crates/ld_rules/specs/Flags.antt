@@ -40,6 +40,11 @@ last_said past task state frame =
 -- frame, it is on outside frames, off in a frame of the state itself, and else as just before the
 -- enter of that frame: the frames around it are those that were open then (`flag-before` in
 -- proofs/BeforeLemmas.antt).
+--
+-- For example, after `disable t soft`, `enter t hard`: the frames are the one that the hard enter at
+-- place 1 opened. The hard flag is off in it, since it is a hard frame. Nothing was said in it of soft,
+-- so soft is as just before place 1: off, as the `disable` outside frames says. After `exit t hard`
+-- there is no frame, and hard is on again.
 abbrev pub flag_in : List ℕ → State → List PlainEvent → List Frame → Bool
 flag_in task state past [] = unwrap_or (last_said past task state None) true
 flag_in task state past (inner ∷ outer) =

@@ -31,6 +31,10 @@ pub record Opening (X K : Type 0) : Type 0 where
 module _ {X K : Type 0} (same : K → K → Bool) (opened closed : X → Option K) where
   -- what opened at place i under this key is open at the end of the list: for each place q after i,
   -- no more closes under the key in (i, q] than opens there
+  --
+  -- For example, with one key, `open`, `open`, `close`: the first is open, since in (0, 1] and in (0, 2]
+  -- one opens and none or one closes. The second isn't: in (1, 2] one closes and none opens. A second
+  -- `close` would close the first.
   abbrev pub is_open : List X → ℕ → K → Bool
   is_open xs i key =
       list_all (λ q. nat_le (count_of same closed key (after_to xs i q))
