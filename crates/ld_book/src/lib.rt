@@ -3,8 +3,10 @@
 
 mod book;
 mod totals;
+mod traces;
 
 pub use book::{Book, Refusal};
 pub use ld_find::{Alarms, ConflictRow, CycleRow, Findings, ForbiddenRow, Rows};
 pub use ld_union::UsageRow;
 pub use totals::Totals;
+pub use traces::Traces;

@@ -1,9 +1,9 @@
 //! The report of the traces that a book lists, and what it comes to.
 #![tactic(auto)]
 
+mod labels;
 mod lines;
 mod text;
-mod traces;
 mod verdict;
 
 pub use text::report;

@@ -8,8 +8,8 @@ ghost use Rattle.ld_report.specs.Report.{inversion_line, last_line, marked, plac
 ghost use Rattle.ld_report.specs.Report.{recursion_line, refused_line, state_name, steps};
 ghost use Rattle.ld_report.specs.Report.{summary_line, via};
 
-use crate::traces::Traces;
-use ld_book::{ConflictRow, CycleRow, ForbiddenRow, Totals};
+use crate::labels::label;
+use ld_book::{ConflictRow, CycleRow, ForbiddenRow, Totals, Traces};
 use ld_facts::{TraceFault, Witness};
 use ld_trace::State;
 use std::alloc::AllocError;
@@ -161,7 +161,7 @@ fn write_place(
 ) -> Result<(), AllocError>
     ensures { OnOk result (text.new.items ≡ text.old.items ++ words.now ++ place traces.now at) }
 {
-    write_name(text, words, traces.label(at.number))?;
+    write_name(text, words, label(traces, at.number))?;
     write_number(text, ":", at.line)
 }
 

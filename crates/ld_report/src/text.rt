@@ -11,8 +11,7 @@ ghost use Rattle.ld_report.specs.Report.{violation_lines, violations};
 use crate::lines::{
     write_conflict, write_cycle, write_forbidden, write_last, write_refused, write_summary,
 };
-use crate::traces::Traces;
-use ld_book::{Book, ConflictRow, CycleRow, Findings, ForbiddenRow, Totals};
+use ld_book::{Book, ConflictRow, CycleRow, Findings, ForbiddenRow, Totals, Traces};
 use ld_facts::{Listed, Outcome};
 use std::alloc::{AllocError, Global};
 

@@ -1,11 +1,10 @@
-//! The traces of a report, in the order of their numbers.
+//! The traces of a book, in the order of their numbers.
 ghost use Rattle.std.specs.Prelude.{◌≡◌, IfOk};
 ghost use Rattle.std.specs.List.Sorted.{IsPermutation};
 ghost use Rattle.ld_book.specs.Book.{AreOutcomes, sources_of};
 ghost use Rattle.ld_book.specs.Rising.{AreRising};
-ghost use Rattle.ld_report.specs.Report.{label_of_number};
 
-use ld_book::Book;
+use crate::book::Book;
 use ld_facts::Listed;
 use std::alloc::{AllocError, Global};
 use std::marker::Model;
@@ -45,24 +44,12 @@ impl<'a> Traces<'a> {
         Ok(Traces { listed })
     }
 
-    /// The traces with their outcomes.
+    /// The traces with their outcomes, the least number first. Takes no memory.
     pub fn listed(&self) -> &[Listed<'a>]
         ensures sources { sources_of result.now ≡ self.now }
         ensures outcomes { AreOutcomes result.now }
+        ensures rising { AreRising self.now }
     {
         &self.listed
-    }
-
-    /// The label of the trace of this number. It is empty where there is no such trace.
-    pub fn label(&self, number: u64) -> &'a [u8]
-        ensures { result.now ≡ label_of_number self.now number }
-    {
-        let found = self
-            .listed
-            .binary_search_by_key(&number, |trace| trace.source.number);
-        match found {
-            Ok(at) => self.listed[at].source.name,
-            Err(_) => b"",
-        }
     }
 }

@@ -5,7 +5,7 @@ use Rattle.ld_facts.specs.Outcome.{outcome}
 use Rattle.ld_book.specs.Book.{AreOutcomes, sources_of}
 use Rattle.ld_book.specs.Rising.{AreRising}
 use Rattle.ld_book.proofs.RisingLemmas.{rising_from_sorted}
-use Rattle.ld_report.proofs.traces.Traces.new.Goals as goal
+use Rattle.ld_book.proofs.traces.Traces.new.Goals as goal
 
 -- the traces in order are those of the book
 moved : (c : goal.After-sort_unstable_by_key) → IsPermutation c.args.book.now (sources_of c.sort_unstable_by_key.new.self.items)
