@@ -156,32 +156,33 @@ fn each_fault_has_its_text(rt: HostRuntime) -> Result<(), Fail> {
 }
 
 #[test]
-fn std_readers_and_writers_are_devices(rt: HostRuntime) -> Result<(), Fail> {
+fn std_readers_and_writers_are_devices(rt: HostRuntime) {
     let mut text = Vec::new(rt.alloc());
     let mut slice = Std::new(b"".as_slice());
-    assert_eq!(rt;
-        run(&rt, rt.alloc(), &mut slice, &mut Std::new(&mut text), 1)?,
-        Verdict::Clean
-    );
+    let verdict = run(&rt, rt.alloc(), &mut slice, &mut Std::new(&mut text), 1);
+    assert_eq!(rt; verdict, Ok(Verdict::Clean));
     assert_eq!(rt; text.as_slice(), EMPTY_REPORT);
     assert!(rt; slice.ended());
+    assert_inversion_through_std(&rt, rt.alloc(), 1);
+    assert_inversion_through_std(&rt, rt.alloc(), 2);
+    assert_inversion_through_std(&rt, rt.alloc(), 4);
+    assert_inversion_through_std(&rt, rt.alloc(), 16);
+}
 
-    for workers in [1, 2, 4, 16] {
-        let mut text = Vec::new(rt.alloc());
-        let mut cursor = Std::new(Cursor::new(INVERSION));
-        assert_eq!(rt;
-            run(
-                &rt,
-                rt.alloc(),
-                &mut cursor,
-                &mut Std::new(&mut text),
-                workers
-            )?,
-            Verdict::Violations
-        );
-        assert_eq!(rt; text.as_slice(), INVERSION_REPORT);
-    }
-    Ok(())
+/// Asserts that a run of so many workers over a reader and a writer of std writes the report of
+/// `INVERSION`.
+fn assert_inversion_through_std<R: Threads + Wait + Abort + Sync>(
+    rt: &R,
+    alloc: Global,
+    workers: usize,
+)
+    requires { (1 ≤ workers) × (workers ≤ MOST_WORKERS) }
+{
+    let mut text = Vec::new(alloc);
+    let mut cursor = Std::new(Cursor::new(INVERSION));
+    let verdict = run(rt, alloc, &mut cursor, &mut Std::new(&mut text), workers);
+    assert_eq!(rt; verdict, Ok(Verdict::Violations));
+    assert_eq!(rt; text.as_slice(), INVERSION_REPORT);
 }
 
 // Under `rt try --test --fail-alloc N` one allocation is refused, another for each N, whichever thread
