@@ -4,7 +4,7 @@ from collections import Counter
 
 from classes import SPECIAL_OF_TASK, escape, fitted
 from stream import Held, Task, forget
-from text import COLUMNS_INSIDE, EVENT, NMI, Contexts, Damaged, Header, fault, fault_at_end, quote
+from text import COLUMNS_INSIDE, EVENT, NMI, Contexts, Damaged, Header, fault, quote
 
 MOST_PLACES = 500000  # remembered at once
 ADDRESS = re.compile(r'[0-9a-f]{8}(?:[0-9a-f]{8})?').fullmatch
