@@ -1,5 +1,6 @@
 -- How many traces, events and classes a book has at most.
-use Rattle.std.proofs.Common.{◌≡◌, ◌+◌, ◌*◌, ◌^◌, ◌<◌, ◌≤◌, ◌==◌, ◌∷◌, [], All, List, ℕ, Bool, true, false, Option, Some, None, length, map, filter_map, slice_get, sym, ap, subst, ◌∙◌, arith, if◌then◌else◌, nat_eq}
+use Rattle.std.proofs.Common.{◌≡◌, ◌+◌, ◌*◌, ◌^◌, ◌<◌, ◌≤◌, ◌==◌, ◌∷◌, [], All, List, ℕ, Bool, true, false, Option, Some, None, length, map}
+use Rattle.std.proofs.Common.{filter_map, slice_get, sym, ap, subst, ◌∙◌, arith, if◌then◌else◌, nat_eq}
 use Rattle.std.proofs.lemmas.Bool.{eqb-true}
 use Rattle.std.proofs.lemmas.List.{length-map}
 use Rattle.std.proofs.lemmas.List.Elements.{All-contains, All-map}
@@ -11,7 +12,7 @@ use Rattle.ld_trace.specs.declared.source.TheConstants.{LONGEST_STREAM, MOST_TRA
 use Rattle.ld_trace.specs.Lines.{lines, text_of}
 use Rattle.ld_trace.specs.Sources.{Fits, PlainSource, plain}
 use Rattle.ld_trace.specs.Events.{position_of, positions, said_by}
-use Rattle.ld_facts.specs.declared.outcome.Listed.{Listed}
+use Rattle.ld_rules.specs.declared.outcome.Listed.{Listed}
 use Rattle.ld_facts.specs.Outcome.{FaultyLine, faulty_lines, outcome, outcome_by}
 use Rattle.ld_book.specs.Book.{sources_of}
 use Rattle.ld_book.specs.Totals.{events, events_read}
@@ -19,8 +20,10 @@ use Rattle.ld_book.specs.Totals.{events, events_read}
 -- traces of distinct numbers are few
 pub few_listed : (listed : List Listed) (keys : List ℕ) → keys ≡ map (λ l. l.source.number) listed → All (λ l. Fits (plain l.source)) listed → IsDistinct nat_eq keys → length listed ≤ MOST_TRACES
 few_listed listed keys numbers fit distinct =
-    let each : All (λ n. n < MOST_TRACES) keys = subst (All (λ n. n < MOST_TRACES)) (sym numbers) (All-map (λ n. n < MOST_TRACES) (λ (l : Listed). l.source.number) listed (λ k d within. (fit k d within).number)) in
-    let few : length keys ≤ MOST_TRACES = length-le_from_distinct_below keys MOST_TRACES distinct (λ q there. All-contains (λ n. n < MOST_TRACES) keys q each (Contains-list_any nat_eq eqb-true keys q there)) in
+    let each : All (λ n. n < MOST_TRACES) keys = subst (All (λ n. n < MOST_TRACES)) (sym numbers)
+    (All-map (λ n. n < MOST_TRACES) (λ (l : Listed). l.source.number) listed (λ k d within. (fit k d within).number)) in
+    let few : length keys ≤ MOST_TRACES = length-le_from_distinct_below keys MOST_TRACES distinct
+    (λ q there. All-contains (λ n. n < MOST_TRACES) keys q each (Contains-list_any nat_eq eqb-true keys q there)) in
     subst (λ n. n ≤ MOST_TRACES) (ap length numbers ∙ length-map listed (λ l. l.source.number)) few
 
 -- there are no more lines than bytes
@@ -32,7 +35,8 @@ length-lines : (bytes : List ℕ) → length (lines bytes) ≤ length bytes
 length-lines [] = omega arith
 length-lines (b ∷ bytes) = by (length-lines bytes) (length-onto_first b (lines bytes)) (b == 10)
   where
-    by : length (lines bytes) ≤ length bytes → length (onto_first b (lines bytes)) ≤ length (lines bytes) + 1 → (test : Bool) → length (if test then (b ∷ []) ∷ lines bytes else onto_first b (lines bytes)) ≤ length (b ∷ bytes)
+    by : length (lines bytes) ≤ length bytes → length (onto_first b (lines bytes)) ≤ length (lines bytes) + 1 → (test : Bool) → length
+        (if test then (b ∷ []) ∷ lines bytes else onto_first b (lines bytes)) ≤ length (b ∷ bytes)
     by others more true = omega arith
     by others more false = omega arith
 
@@ -61,7 +65,8 @@ few_events source fits =
 pub events_bounded : (sources : List PlainSource) → All Fits sources → events sources ≤ length sources * LONGEST_STREAM
 events_bounded sources fit = sum_by-le (λ source. events_read (outcome source)) LONGEST_STREAM sources (λ k d within. few_events _ (fit k d within))
 
-pub events_fit : (listed : List Listed) (keys : List ℕ) (count more : ℕ) (source : PlainSource) → keys ≡ map (λ l. l.source.number) listed → All (λ l. Fits (plain l.source)) listed → IsDistinct nat_eq keys
+pub events_fit : (listed : List Listed) (keys : List ℕ) (count more : ℕ) (source : PlainSource) → keys ≡ map (λ l. l.source.number) listed → All
+    (λ l. Fits (plain l.source)) listed → IsDistinct nat_eq keys
     → count ≡ events (sources_of listed) → more ≡ events_read (outcome source) → Fits source → count + more < 2 ^ 64
 events_fit listed keys count more source numbers fit distinct counted more_is fits =
     let few : length listed ≤ 65535 = few_listed listed keys numbers fit distinct in

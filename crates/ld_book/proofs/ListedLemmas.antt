@@ -6,7 +6,7 @@ use Rattle.std.proofs.lemmas.Map.Made.{AllPairs-from_IsDistinct}
 use Rattle.std.proofs.lemmas.Simd.{map-map}
 use Rattle.std.specs.List.{IsDistinct}
 use Rattle.ld_trace.specs.Sources.{PlainSource, plain}
-use Rattle.ld_facts.specs.declared.outcome.Listed.{Listed}
+use Rattle.ld_rules.specs.declared.outcome.Listed.{Listed}
 use Rattle.ld_book.specs.Book.{sources_of}
 
 -- what has numbers that are apart, is apart by its number

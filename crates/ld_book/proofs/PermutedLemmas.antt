@@ -13,21 +13,23 @@ use Rattle.std.specs.Str.{bytes_eq}
 use Rattle.ld_class.specs.Usage.{marks_of}
 use Rattle.ld_trace.specs.Sources.{PlainSource}
 use Rattle.ld_graph.specs.Walks.{HasWalk, IsShownWalk}
-use Rattle.ld_facts.specs.declared.outcome.Witness.{Witness}
+use Rattle.ld_rules.specs.declared.outcome.Witness.{Witness}
 use Rattle.ld_facts.specs.Dependency.{Dependency, Seen, least_line, same_dependency}
 use Rattle.ld_facts.specs.Outcome.{each_once, outcome}
 use Rattle.ld_facts.specs.Union.{classes_of, dependencies_of, dependency_witness, earlier, first_of, first_witness, is_before, use_witness, uses_of}
 use Rattle.ld_facts.specs.Usage.{Bit, Use, same_use}
 use Rattle.ld_facts.specs.Usage.Bit.{In, On}
-use Rattle.ld_facts.proofs.PlaceLemmas.{alike_from_decides, any_each_once}
-use Rattle.ld_facts.proofs.StepLemmas.{Decides-same_dependency}
-use Rattle.ld_book.specs.Findings.{AreFindings, AreRows, InTurn, IsBefore, IsConflictRow, IsCycleRow, IsForbiddenRow, IsHarder, IsPairBefore, PlainConflictRow, PlainCycleRow, PlainFindings, PlainForbiddenRow, conflict_key, cycle_key, forbidden_key, shown_marks}
+use Rattle.ld_rules.proofs.PlaceLemmas.{alike_from_decides, any_each_once}
+use Rattle.ld_rules.proofs.StepLemmas.{Decides-same_dependency}
+use Rattle.ld_find.specs.Findings.{AreFindings, AreRows, InTurn, IsBefore, IsConflictRow, IsCycleRow, IsForbiddenRow, IsHarder, IsPairBefore}
+use Rattle.ld_find.specs.Findings.{PlainConflictRow, PlainCycleRow, PlainFindings, PlainForbiddenRow, conflict_key, cycle_key, forbidden_key}
+use Rattle.ld_find.specs.Findings.{shown_marks}
 use Rattle.ld_book.specs.Totals.{events_read, is_refused, totals}
-use Rattle.ld_book.specs.Union.{seen_in}
-use Rattle.ld_book.specs.Usage.{witnessed_bits}
-use Rattle.ld_book.specs.Violations.{Depends, HasBit, HasViolation, IsConflict, IsCycle, IsForbidden, IsViolation, Violation}
-use Rattle.ld_book.specs.Violations.Violation.{Conflict, Cycle, Forbidden}
-use Rattle.ld_book.proofs.EachOnceLemmas.{IsDistinct-each_once, IsEquivalence-from_decides}
+use Rattle.ld_union.specs.Inner.Union.{seen_in}
+use Rattle.ld_union.specs.Usage.{witnessed_bits}
+use Rattle.ld_find.specs.Violations.{Depends, HasBit, HasViolation, IsConflict, IsCycle, IsForbidden, IsViolation, Violation}
+use Rattle.ld_find.specs.Violations.Violation.{Conflict, Cycle, Forbidden}
+use Rattle.ld_union.proofs.EachOnceLemmas.{IsDistinct-each_once, IsEquivalence-from_decides}
 
 -- there is a witness, and it isn't later than this bound
 abbrev is_by : Witness → Option Witness → Bool
@@ -188,7 +190,8 @@ findings-permuted sources listed moved findings are = record {
       (cycle_row-same sources listed moved) (λ p. owed (Cycle p.0 p.1)) are.cycles;
   conflicts = rows-same conflict_key (IsConflictRow listed) (IsConflictRow sources) (λ p. IsConflict listed p.0 p.1) (λ p. IsConflict sources p.0 p.1) (InTurn IsHarder IsBefore) findings.conflicts
       (conflict_row-same sources listed moved) (λ p. owed (Conflict p.0 p.1)) are.conflicts;
-  forbidden = rows-same forbidden_key (IsForbiddenRow listed) (IsForbiddenRow sources) (λ p. IsForbidden listed p.0 p.1.0 p.1.1) (λ p. IsForbidden sources p.0 p.1.0 p.1.1) (InTurn IsHarder IsPairBefore) findings.forbidden
+  forbidden = rows-same forbidden_key (IsForbiddenRow listed) (IsForbiddenRow sources) (λ p. IsForbidden listed p.0 p.1.0 p.1.1)
+      (λ p. IsForbidden sources p.0 p.1.0 p.1.1) (InTurn IsHarder IsPairBefore) findings.forbidden
       (forbidden_row-same sources listed moved) (λ p. owed (Forbidden p.0 p.1.0 p.1.1)) are.forbidden;
 }
   where

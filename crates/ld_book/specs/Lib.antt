@@ -1,11 +1,8 @@
 pub mod Totals
-pub mod Violations
-pub mod Alarms
-pub mod Names
-pub mod Usage
-pub mod Union
-pub mod Numbers
 pub mod Book
-pub mod Findings
-pub mod Order
-pub mod Rows
+pub mod Rising
+pub mod Inner
+pub use Rattle.ld_find.specs.Violations
+pub use Rattle.ld_find.specs.Alarms
+pub use Rattle.ld_find.specs.Findings
+pub use Rattle.ld_union.specs.Usage

@@ -2,8 +2,8 @@
 use Rattle.std.specs.Prelude.{ℕ, Bool, true, false, List, length, count_by}
 use Rattle.std.specs.List.{sum_by}
 use Rattle.ld_trace.specs.Sources.{PlainSource}
-use Rattle.ld_facts.specs.declared.outcome.Outcome.{Outcome}
-use Rattle.ld_facts.specs.declared.outcome.Outcome.TheVariants.{Read, Refused}
+use Rattle.ld_rules.specs.declared.outcome.Outcome.{Outcome}
+use Rattle.ld_rules.specs.declared.outcome.Outcome.TheVariants.{Read, Refused}
 use Rattle.ld_facts.specs.Outcome.{outcome}
 use Rattle.ld_facts.specs.Union.{union_classes, union_dependencies}
 use Rattle.ld_book.specs.declared.totals.Totals.{Totals}

@@ -2,20 +2,18 @@
 ghost use Rattle.std.specs.Prelude.{◌≡◌, ◌≢◌, ◌++◌, ◌∷◌, [], All, AllPairs, Err, IfOk, OnErr, OnOk};
 ghost use Rattle.std.specs.Prelude.{true, false};
 ghost use Rattle.ld_facts.specs.Union.{dependency_witness};
-ghost use Rattle.ld_book.specs.Alarms.{AreExact, plain_alarms};
-ghost use Rattle.ld_book.specs.Findings.{AreFindings, plain_findings};
+ghost use Rattle.ld_find.specs.Alarms.{AreExact, plain_alarms};
+ghost use Rattle.ld_find.specs.Findings.{AreFindings, plain_findings};
 ghost use Rattle.ld_book.specs.Book.{AreOutcomes, is_listed, sources_of};
 ghost use Rattle.ld_trace.specs.Sources.{Fits};
 ghost use Rattle.ld_book.specs.Totals.{totals};
-ghost use Rattle.ld_book.specs.Usage.{usage_row};
+ghost use Rattle.ld_union.specs.Usage.{usage_row};
 
-use crate::alarms::{Alarms, Found};
-use crate::findings::{Findings, findings_of};
 use crate::totals::{Totals, events_of, refused_of};
-use crate::union::Union;
-use crate::usage::UsageRow;
 use indexmap::IndexSet;
 use ld_facts::{Facts, Listed, Witness};
+use ld_find::{Alarms, Findings, Found, findings_of};
+use ld_union::{Union, UsageRow};
 use std::alloc::{AllocError, Global};
 use std::marker::Model;
 
@@ -43,6 +41,8 @@ pub struct Book<'a> {
     union: Union<'a>,
     /// A violation of each kind that the traces show.
     found: Found,
+    /// The numbers of the classes of the trace that was added last. A spare for the next one.
+    places: Vec<u32>,
 }
 
 impl<'a> Model for Book<'a> {
@@ -51,7 +51,8 @@ impl<'a> Model for Book<'a> {
 
     ghost Value = { List PlainSource };
 
-    ghost use Rattle.ld_book.specs.Book.{IsKept, sources_of};
+    ghost use Rattle.ld_book.specs.Book.{sources_of};
+    ghost use Rattle.ld_book.specs.Inner.Kept.{IsKept};
 
     ghost view = { λ b. sources_of b.listed.items };
 
@@ -70,6 +71,7 @@ impl<'a> Book<'a> {
             refused: 0,
             union: Union::new(alloc),
             found: Found::new(),
+            places: Vec::new(alloc),
         }
     }
 
@@ -87,20 +89,31 @@ impl<'a> Book<'a> {
         ensures memory { is_listed self.old facts.entry.source.number ≡ false
             → OnErr result (result ≡ Err (Refusal.Memory facts.entry)) }
     {
-        let source = facts.source();
-        let outcome = facts.outcome();
-        if self.numbers.contains(&source.number) {
+        if self.numbers.contains(&facts.source().number) {
             return Err(Refusal::Twice(facts));
         }
-        if self.listed.reserve(1).is_err()
-            || self.numbers.reserve(1).is_err()
-            || self.union.add_classes(&facts).is_err()
-        {
-            return Err(Refusal::Memory(facts));
+        match self.enter(&facts) {
+            Ok(()) => Ok(()),
+            Err(AllocError) => Err(Refusal::Memory(facts)),
         }
+    }
+
+    /// Lists one more trace, whose number isn't listed, and adds what it shows.
+    ///
+    /// `AllocError` where a growth of memory was refused. Nothing has changed then but spare memory.
+    fn enter(&mut self, facts: &Facts<'a>) -> Result<(), AllocError>
+        requires { is_listed self.old facts.now.source.number ≡ false }
+        ensures ok { OnOk result (self.new ≡ self.old ++ facts.now.source ∷ []) }
+        ensures err { OnErr result (self.new ≡ self.old) }
+    {
+        let source = facts.source();
+        let outcome = facts.outcome();
+        self.listed.reserve(1)?;
+        self.numbers.reserve(1)?;
+        self.union.add_classes(facts, &mut self.places)?;
         let known = self.union.dependencies.len();
-        self.union.add_dependencies(&facts);
-        let bits_came = self.union.add_usage(&facts);
+        self.union.add_dependencies(facts, &self.places);
+        let bits_came = self.union.add_usage(facts, &self.places);
         self.found.look(&mut self.union, known, bits_came);
         self.events += events_of(outcome);
         self.refused += refused_of(outcome);

@@ -1,5 +1,6 @@
 -- An acquisition, against the positions before it.
-use Rattle.std.proofs.Common.{◌≡◌, ◌<◌, ◌≤◌, ◌++◌, ◌∷◌, [], ◌∙◌, Bool, true, false, ℕ, List, None, Some, Ok, length, map, drop, refl, ap, sym, subst, arith, slice_index_or, All, length-append, if◌then◌else◌}
+use Rattle.std.proofs.Common.{◌≡◌, ◌<◌, ◌≤◌, ◌++◌, ◌∷◌, [], ◌∙◌, Bool, true, false, ℕ, List, None, Some, Ok, length, map, drop, refl, ap, sym, subst}
+use Rattle.std.proofs.Common.{arith, slice_index_or, All, length-append, if◌then◌else◌}
 use Rattle.std.proofs.lemmas.Bool.{eq-eqb, ne_eqb}
 use Rattle.std.proofs.lemmas.List.{length-set, get_or-set_same, get_or-set_other, map-append}
 use Rattle.std.proofs.lemmas.List.Elements.{All-cons, All-drop, All-nil, All-push}
@@ -12,36 +13,37 @@ use Rattle.ld_trace.specs.declared.event.State.{State}
 use Rattle.ld_trace.specs.declared.event.State.TheVariants.{Hard, Soft}
 use Rattle.ld_trace.specs.Events.{PlainEvent, PlainLock, Position}
 use Rattle.ld_trace.specs.Events.PlainEvent.{Acquire, Try}
-use Rattle.ld_facts.specs.declared.fault.TraceFault.TheVariants.{TooManyClasses, TooDeep}
-use Rattle.ld_facts.specs.declared.interrupts.Interrupts.{Interrupts}
-use Rattle.ld_facts.specs.declared.outcome.TheConstants.{MOST_CLASSES, MOST_HELD, MOST_TASKS}
-use Rattle.ld_facts.specs.declared.edges.EdgeFact.{EdgeFact}
+use Rattle.ld_rules.specs.declared.fault.TraceFault.TheVariants.{TooManyClasses, TooDeep}
+use Rattle.ld_held.specs.declared.interrupts.Interrupts.{Interrupts}
+use Rattle.ld_rules.specs.declared.outcome.TheConstants.{MOST_CLASSES, MOST_HELD, MOST_TASKS}
+use Rattle.ld_held.specs.declared.edges.EdgeFact.{EdgeFact}
 use Rattle.ld_facts.specs.declared.scan.Scan.{Scan}
-use Rattle.ld_facts.specs.declared.uses.UsageFact.{UsageFact}
-use Rattle.ld_facts.specs.Edges.{edge_to, with_edge}
-use Rattle.ld_facts.specs.Flags.{is_enabled}
-use Rattle.ld_facts.specs.Frames.{contexts, frame_of, task_of}
-use Rattle.ld_facts.specs.Held.{Key, held_by, held_in, lock_acquired}
-use Rattle.ld_facts.specs.Dependency.{Dependency, Seen, dependencies_at, seen, seen_at}
-use Rattle.ld_facts.specs.Interrupts.{enabled_now, fresh, start_now}
-use Rattle.ld_facts.specs.Levels.{is_interrupt, stack, state_of}
-use Rattle.ld_facts.specs.Locks.{Hold}
-use Rattle.ld_facts.specs.Outcome.{class_acquired, classes, each_once, event_fault, events, is_bad_enable, is_bad_exit, is_badly_nested, is_held_at_exit, is_masked, is_not_held, is_one_too_many, tasks}
-use Rattle.ld_facts.specs.Reading.{AreMany, HasTask, IsAt, IsTask, IsWithin, acquisition, happens, same_seen}
+use Rattle.ld_held.specs.declared.uses.UsageFact.{UsageFact}
+use Rattle.ld_held.specs.Inner.Edges.{edge_to, with_edge}
+use Rattle.ld_rules.specs.Flags.{is_enabled}
+use Rattle.ld_rules.specs.Frames.{contexts, frame_of, task_of}
+use Rattle.ld_rules.specs.Held.{Key, held_by, held_in, lock_acquired}
+use Rattle.ld_rules.specs.Dependency.{Dependency, Seen, dependencies_at, seen, seen_at, same_seen}
+use Rattle.ld_held.specs.Inner.Interrupts.{enabled_now, fresh, start_now}
+use Rattle.ld_rules.specs.Inner.Levels.{is_interrupt, stack, state_of}
+use Rattle.ld_held.specs.Inner.Locks.{Hold}
+use Rattle.ld_rules.specs.Outcome.{class_acquired, classes, each_once, event_fault, events, is_bad_enable, is_bad_exit, is_badly_nested}
+use Rattle.ld_rules.specs.Outcome.{is_held_at_exit, is_masked, is_not_held, is_one_too_many, tasks}
+use Rattle.ld_facts.specs.Inner.Reading.{AreMany, HasTask, IsAt, IsTask, IsWithin, acquisition, happens}
 use Rattle.ld_facts.specs.Facts.{named, named_use}
-use Rattle.ld_facts.specs.Usage.{uses_at}
+use Rattle.ld_rules.specs.Usage.{uses_at, same_what}
 use Rattle.ld_facts.specs.Facts.{IsUse}
-use Rattle.ld_facts.specs.Uses.{in_facts, on_facts, same_what, with_use}
-use Rattle.ld_facts.proofs.FlagLemmas.{is_enabled-quiet, levels-quiet, stack-quiet}
-use Rattle.ld_facts.proofs.GroupLemmas.{starts-kept}
-use Rattle.ld_facts.proofs.HeldLemmas.{enters_none, held_by-acquires}
+use Rattle.ld_held.specs.Inner.Uses.{in_facts, on_facts, with_use}
+use Rattle.ld_rules.proofs.FlagLemmas.{is_enabled-quiet, levels-quiet, stack-quiet}
+use Rattle.ld_rules.proofs.GroupLemmas.{starts-kept}
+use Rattle.ld_rules.proofs.HeldLemmas.{enters_none, held_by-acquires}
 use Rattle.ld_facts.proofs.InnerLemmas.{clean-grouped, contexts-are, enabled-is, inner-is, length-is}
 use Rattle.ld_facts.proofs.MovedLemmas.{moved-at}
 use Rattle.ld_facts.proofs.NamedLemmas.{IsNameAt-more, distinct-classes, holds-more, holds-names, holds-within, named-more, tell-named, within-more, within-tell}
-use Rattle.ld_facts.proofs.PlaceLemmas.{with_new}
-use Rattle.ld_facts.proofs.StepLemmas.{classes-acquires, dependencies-push}
+use Rattle.ld_rules.proofs.PlaceLemmas.{with_new}
+use Rattle.ld_rules.proofs.StepLemmas.{classes-acquires, dependencies-push}
 use Rattle.ld_facts.proofs.TaskLemmas.{is_one_too_many-fits, is_one_too_many-full, task-at, with_name-few}
-use Rattle.ld_facts.proofs.UsageLemmas.{at_line, on_use, uses_in, uses_once, uses_once-push_new, with_uses-append}
+use Rattle.ld_rules.proofs.UsageLemmas.{at_line, on_use, uses_in, uses_once, uses_once-push_new, with_uses-append}
 use Rattle.ld_facts.proofs.UseLemmas.{in_facts-named, in_facts-within, named_use-more, on_facts-named, on_facts-within, uses-named, uses-within, within_use-more}
 
 -- an acquisition is of its task and its lock
@@ -90,12 +92,34 @@ module _ (all : List Position) (old : Scan) (is : IsAt all old) (waits : Bool) (
     classes_fit = rw (← is.classes) (is_one_too_many-fits MOST_CLASSES old.classes lock.class class_fits)
 
     pub fault-deep : length (held_by (events all) name) ≡ MOST_HELD → event_fault (events all) (acquisition waits name lock) ≡ Some TooDeep
-    fault-deep deep = rw (tasks_fit, class-acquired name lock waits, classes_fit, acquired name lock waits, task-acquired name lock waits, eq-eqb (length (held_by (events all) name)) MOST_HELD deep) refl
+    fault-deep deep = rw (
+      tasks_fit,
+      class-acquired name lock waits,
+      classes_fit,
+      acquired name lock waits,
+      task-acquired name lock waits,
+      eq-eqb
+          (length (held_by (events all) name)) MOST_HELD deep,
+    ) refl
 
     pub fault-none : length (held_by (events all) name) < MOST_HELD → event_fault (events all) (acquisition waits name lock) ≡ None
     fault-none shallow =
         let later = no-later (events all) name lock waits in
-        rw (tasks_fit, class-acquired name lock waits, classes_fit, acquired name lock waits, task-acquired name lock waits, ne_eqb (length (held_by (events all) name)) MOST_HELD (λ same. omega arith), later.is_held, later.nests, later.unmasked, later.exits, later.holds_none, later.enables) refl
+        rw (
+          tasks_fit,
+          class-acquired name lock waits,
+          classes_fit,
+          acquired name lock waits,
+          task-acquired name lock waits,
+          ne_eqb
+              (length (held_by (events all) name)) MOST_HELD (λ same. omega arith),
+          later.is_held,
+          later.nests,
+          later.unmasked,
+          later.exits,
+          later.holds_none,
+          later.enables,
+        ) refl
 
 -- what is known when the task and the class of an acquisition have their numbers
 pub record Entered (old : Scan) (name class_name : List ℕ) (id number : ℕ) (new : Scan) : Type 0 where
@@ -111,7 +135,9 @@ pub record Entered (old : Scan) (name class_name : List ℕ) (id number : ℕ) (
   pub class : IsNameAt new.classes number class_name
   pub few_classes : place_of old.classes class_name ≡ None → length old.classes < MOST_CLASSES
 
-pub entered : (old mid new : Scan) (name class : List ℕ) (id number : ℕ) → HasTask old name id mid → (new.tasks ≡ mid.tasks) × (new.locks ≡ mid.locks) × (new.uses ≡ mid.uses) → new.classes ≡ with_name mid.classes class → IsNameAt new.classes number class → (place_of mid.classes class ≡ None → length mid.classes < MOST_CLASSES) → Entered old name class id number new
+pub entered : (old mid new : Scan) (name class : List ℕ) (id number : ℕ) → HasTask old name id mid → (new.tasks ≡ mid.tasks) × (new.locks ≡ mid.locks)
+    × (new.uses ≡ mid.uses) → new.classes ≡ with_name mid.classes class → IsNameAt new.classes number class →
+    (place_of mid.classes class ≡ None → length mid.classes < MOST_CLASSES) → Entered old name class id number new
 entered old mid new name class id number has same more at few = record {
   tasks = same.0 ∙ has.tasks;
   place = subst (λ names. IsNameAt names id name) (sym same.0) has.place;
@@ -130,11 +156,14 @@ entered old mid new name class id number has same more at few = record {
 abbrev on_class : List ℕ → ℕ → List ℕ → Seen Dependency
 on_class class line from = record { what = record { from = from; to = class }; line = line }
 
-told-of_keys : (class : List ℕ) (line : ℕ) (keys : List Key) → map (λ (what : Dependency). record { what = what; line = line }) (map (λ (key : Key). record { from = key.lock.class; to = class }) keys) ≡ map (on_class class line) (map (λ key. key.lock.class) keys)
+told-of_keys : (class : List ℕ) (line : ℕ) (keys : List Key) → map (λ (what : Dependency). record { what = what; line = line })
+    (map (λ (key : Key). record { from = key.lock.class; to = class }) keys) ≡ map (on_class class line) (map (λ key. key.lock.class) keys)
 told-of_keys class line [] = refl
 told-of_keys class line (key ∷ keys) = ap (λ o. on_class class line key.lock.class ∷ o) (told-of_keys class line keys)
 
-told-of_numbers : (names : List (List ℕ)) (number line : ℕ) (froms : List ℕ) → map (λ (from : ℕ). record { what = record { from = slice_index_or names from []; to = slice_index_or names number [] }; line = line }) froms ≡ map (on_class (slice_index_or names number []) line) (map (λ from. slice_index_or names from []) froms)
+told-of_numbers : (names : List (List ℕ)) (number line : ℕ) (froms : List ℕ) → map
+    (λ (from : ℕ). record { what = record { from = slice_index_or names from []; to = slice_index_or names number [] }; line = line }) froms ≡ map
+    (on_class (slice_index_or names number []) line) (map (λ from. slice_index_or names from []) froms)
 told-of_numbers names number line [] = refl
 told-of_numbers names number line (from ∷ froms) = ap (λ o. on_class (slice_index_or names number []) line (slice_index_or names from []) ∷ o) (told-of_numbers names number line froms)
 
@@ -177,7 +206,8 @@ module _ (all : List Position) (old : Scan) (is : IsAt all old) (name : List ℕ
   edges-now = (λ i. map (named (enters.classes i)) (enters.edges i)) ∙ named-more old.classes lock.class old.locks.edges is.within ∙ is.edges
 
   within-now : All (IsWithin new.classes) new.locks.edges
-  within-now = subst (All (IsWithin new.classes)) (sym enters.edges) (subst (λ names. All (IsWithin names) old.locks.edges) (sym enters.classes) (within-more old.classes lock.class old.locks.edges is.within))
+  within-now = subst (All (IsWithin new.classes)) (sym enters.edges) (subst (λ names. All (IsWithin names) old.locks.edges) (sym enters.classes)
+      (within-more old.classes lock.class old.locks.edges is.within))
 
   inner-now : All (λ hold. IsNameAt new.classes hold.class hold.lock.class) inner
   inner-now = All-drop (λ hold. IsNameAt new.classes hold.class hold.lock.class) (start_now frames_now) held_now (holds-now held_now before.classes)
@@ -193,7 +223,10 @@ module _ (all : List Position) (old : Scan) (is : IsAt all old) (name : List ℕ
       ∙ map-map (λ (l : PlainLock). l.class) (λ (key : Key). key.lock) (held_in (events all) name (frame_of (events all) name))
 
   -- what a waiting acquisition tells
-  told-now : map (λ (from : ℕ). record { what = record { from = slice_index_or new.classes from []; to = slice_index_or new.classes number [] }; line = line }) froms ≡ seen_at dependencies_at (events all) line (Ok (Acquire name lock))
+  told-now : map (λ (from : ℕ). record {
+    what = record { from = slice_index_or new.classes from []; to = slice_index_or new.classes number [] };
+    line = line;
+  }) froms ≡ seen_at dependencies_at (events all) line (Ok (Acquire name lock))
   told-now =
       told-of_numbers new.classes number line froms
       ∙ (λ i. map (on_class (enters.class.1 i) line) (froms-are i))
@@ -238,7 +271,9 @@ module _ (all : List Position) (old : Scan) (is : IsAt all old) (name : List ℕ
   used-now = subst (All (IsUse new.classes)) (sym enters.uses) (subst (λ names. All (IsUse names) old.uses) (sym enters.classes) (within_use-more old.classes lock.class old.uses is.used))
 
   -- the lock that is acquired counts under the flags of its task, which stay
-  ons-are : (waits : Bool) → map (named_use new.classes) ons ≡ map (at_line line) (map (on_use Hard) (if is_enabled (events all ++ acquisition waits name lock ∷ []) name Hard then key ∷ [] else []) ++ map (on_use Soft) (if is_enabled (events all ++ acquisition waits name lock ∷ []) name Soft then key ∷ [] else []))
+  ons-are : (waits : Bool) → map (named_use new.classes) ons ≡ map (at_line line)
+      (map (on_use Hard) (if is_enabled (events all ++ acquisition waits name lock ∷ []) name Hard then key ∷ [] else []) ++ map (on_use Soft)
+      (if is_enabled (events all ++ acquisition waits name lock ∷ []) name Soft then key ∷ [] else []))
   ons-are waits =
       on_facts-named new.classes frames_now line (number ∷ []) (key ∷ []) (ap (λ class. class ∷ []) enters.class.1)
       ∙ (λ i. map (at_line line) (map (on_use Hard) (if enabled Hard i then key ∷ [] else []) ++ map (on_use Soft) (if enabled Soft i then key ∷ [] else [])))
@@ -262,21 +297,25 @@ module _ (all : List Position) (old : Scan) (is : IsAt all old) (name : List ℕ
       uses-named new.classes distinct (fold with_use new.uses ins) ons (uses-within new.classes new.uses ins used-now ins-within) ons-within
       ∙ ap (λ known. fold (with_new same_what) known (map (named_use new.classes) ons)) (uses-named new.classes distinct new.uses ins used-now ins-within)
       ∙ (λ i. fold (with_new same_what) (fold (with_new same_what) (uses-now i) (ins-are i)) (ons-are true i))
-      ∙ sym (with_uses-append line (uses_once all) (uses_in (contexts (events all) name) (Some lock)) (map (on_use Hard) (if is_enabled (events all ++ Acquire name lock ∷ []) name Hard then key ∷ [] else []) ++ map (on_use Soft) (if is_enabled (events all ++ Acquire name lock ∷ []) name Soft then key ∷ [] else [])))
+      ∙ sym (with_uses-append line (uses_once all) (uses_in (contexts (events all) name) (Some lock))
+      (map (on_use Hard) (if is_enabled (events all ++ Acquire name lock ∷ []) name Hard then key ∷ [] else []) ++ map (on_use Soft)
+      (if is_enabled (events all ++ Acquire name lock ∷ []) name Soft then key ∷ [] else [])))
       ∙ sym (uses_once-push_new all (happens line (Acquire name lock)))
 
   -- The task.
 
   own : (waits : Bool) → IsTask new.classes (held_now ++ top ∷ []) frames_now (events all ++ acquisition waits name lock ∷ []) name
   own waits = record {
-    locks = map-append (λ (hold : Hold). hold.lock) held_now (top ∷ []) ∙ ap (λ locks. locks ++ lock ∷ []) before.locks ∙ sym (ap (map (λ other. other.lock)) keys ∙ map-append (λ (other : Key). other.lock) (held_by (events all) name) (record { task = task_of (acquisition waits name lock); frame = frame_of (events all) (task_of (acquisition waits name lock)); lock = lock } ∷ []));
+    locks = map-append (λ (hold : Hold). hold.lock) held_now (top ∷ []) ∙ ap (λ locks. locks ++ lock ∷ []) before.locks ∙ sym
+        (ap (map (λ other. other.lock)) keys ∙ map-append (λ (other : Key). other.lock) (held_by (events all) name)
+        (record { task = task_of (acquisition waits name lock); frame = frame_of (events all) (task_of (acquisition waits name lock)); lock = lock } ∷ []));
     classes = All-push (λ hold. IsNameAt new.classes hold.class hold.lock.class) held_now top (holds-now held_now before.classes) enters.class;
     states = before.states ∙ sym (ap (map state_of) quiet);
     starts = before.starts ∙ sym (starts-kept (events all) (acquisition waits name lock) name quiet);
     levels = λ state. before.levels state ∙ sym (levels-quiet (events all) (acquisition waits name lock) name state (calm name lock waits));
   }
     where
-      none_entered : (Rattle.ld_facts.specs.Frames.enters (acquisition waits name lock) ≡ None) × (Rattle.ld_facts.specs.Frames.exits (acquisition waits name lock) ≡ None)
+      none_entered : (Rattle.ld_rules.specs.Frames.enters (acquisition waits name lock) ≡ None) × (Rattle.ld_rules.specs.Frames.exits (acquisition waits name lock) ≡ None)
       none_entered = enters_none (acquisition waits name lock) lock (acquired name lock waits)
 
       quiet : stack (events all ++ (acquisition waits name lock) ∷ []) name ≡ stack (events all) name
@@ -285,12 +324,19 @@ module _ (all : List Position) (old : Scan) (is : IsAt all old) (name : List ℕ
       own_task : bytes_eq name (task_of (acquisition waits name lock)) ≡ true
       own_task = (bytes_eq-Decides name (task_of (acquisition waits name lock))).1 (sym (task-acquired name lock waits))
 
-      keys : held_by (events all ++ (acquisition waits name lock) ∷ []) name ≡ held_by (events all) name ++ record { task = task_of (acquisition waits name lock); frame = frame_of (events all) (task_of (acquisition waits name lock)); lock = lock } ∷ []
+      keys : held_by (events all ++ (acquisition waits name lock) ∷ []) name ≡ held_by (events all) name ++
+          record { task = task_of (acquisition waits name lock); frame = frame_of (events all) (task_of (acquisition waits name lock)); lock = lock } ∷ []
       keys = held_by-acquires (events all) name (acquisition waits name lock) lock (acquired name lock waits) ∙ rw own_task refl
 
   -- the scan with it, and with these dependencies and usage bits
   abbrev with_top : List EdgeFact → List UsageFact → Scan
-  with_top edges uses = record { tasks = new.tasks; classes = new.classes; locks = record { stacks = slice_set new.locks.stacks id (held_now ++ top ∷ []); interrupts = new.locks.interrupts; edges = edges }; uses = uses }
+  with_top edges uses = record {
+    tasks = new.tasks;
+    classes = new.classes;
+    locks =
+        record { stacks = slice_set new.locks.stacks id (held_now ++ top ∷ []); interrupts = new.locks.interrupts; edges = edges };
+    uses = uses;
+  }
 
   inside : id < length new.locks.stacks
   inside = omega (arith, enters.place.0, enters.many.0)
@@ -298,7 +344,10 @@ module _ (all : List Position) (old : Scan) (is : IsAt all old) (name : List ℕ
   same : slice_index_or (slice_set new.locks.stacks id (held_now ++ top ∷ [])) id [] ≡ held_now ++ top ∷ []
   same = get_or-set_same new.locks.stacks id (held_now ++ top ∷ []) [] inside
 
-  acquired-by : (waits : Bool) (edges : List EdgeFact) (uses : List UsageFact) → length held_now < MOST_HELD → map (named new.classes) edges ≡ each_once same_seen (seen dependencies_at (all ++ happens line (acquisition waits name lock) ∷ [])) → All (IsWithin new.classes) edges → map (named_use new.classes) uses ≡ each_once same_what (seen uses_at (all ++ happens line (acquisition waits name lock) ∷ [])) → All (IsUse new.classes) uses → IsAt (all ++ happens line (acquisition waits name lock) ∷ []) (with_top edges uses)
+  acquired-by : (waits : Bool) (edges : List EdgeFact) (uses : List UsageFact) → length held_now < MOST_HELD → map (named new.classes) edges ≡
+      each_once same_seen (seen dependencies_at (all ++ happens line (acquisition waits name lock) ∷ [])) → All (IsWithin new.classes) edges → map
+      (named_use new.classes) uses ≡ each_once same_what (seen uses_at (all ++ happens line (acquisition waits name lock) ∷ [])) → All
+      (IsUse new.classes) uses → IsAt (all ++ happens line (acquisition waits name lock) ∷ []) (with_top edges uses)
   acquired-by waits edges uses room shown within counted used =
       moved-at all old (acquisition waits name lock) line id (with_top edges uses) is (record {
         fault = fault-none all old is waits name lock enters.fits enters.few_classes (omega (arith, room, length-held));

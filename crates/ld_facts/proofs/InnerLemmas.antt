@@ -12,20 +12,20 @@ use Rattle.ld_trace.specs.declared.event.LineFault.{LineFault}
 use Rattle.ld_trace.specs.declared.event.State.{State}
 use Rattle.ld_trace.specs.declared.event.State.TheVariants.{Hard, Soft}
 use Rattle.ld_trace.specs.Events.{PlainEvent, PlainLock, Position}
-use Rattle.ld_facts.specs.declared.interrupts.Interrupts.{Interrupts}
-use Rattle.ld_facts.specs.Flags.{flag, is_enabled}
-use Rattle.ld_facts.specs.Frames.{contexts, frame_of}
-use Rattle.ld_facts.specs.Held.{Key, held_by, held_in}
-use Rattle.ld_facts.specs.Interrupts.{enabled_now, flag_now, start_now, states_of}
-use Rattle.ld_facts.specs.Levels.{starts}
-use Rattle.ld_facts.specs.Locks.{Hold}
-use Rattle.ld_facts.specs.Outcome.{event_said, events, faulty_lines, said_fault}
-use Rattle.ld_facts.specs.Reading.{IsTask}
-use Rattle.ld_facts.proofs.FlagLemmas.{contexts-states, flag-levels, no_fault_parts}
-use Rattle.ld_facts.proofs.GroupLemmas.{IsGrouped, grouped-empty, grouped-push, held_in-innermost}
+use Rattle.ld_held.specs.declared.interrupts.Interrupts.{Interrupts}
+use Rattle.ld_rules.specs.Flags.{flag, is_enabled}
+use Rattle.ld_rules.specs.Frames.{contexts, frame_of}
+use Rattle.ld_rules.specs.Held.{Key, held_by, held_in}
+use Rattle.ld_held.specs.Inner.Interrupts.{enabled_now, flag_now, start_now, states_of}
+use Rattle.ld_rules.specs.Inner.Levels.{starts}
+use Rattle.ld_held.specs.Inner.Locks.{Hold}
+use Rattle.ld_rules.specs.Outcome.{event_said, events, faulty_lines, said_fault}
+use Rattle.ld_facts.specs.Inner.Reading.{IsTask}
+use Rattle.ld_rules.proofs.FlagLemmas.{contexts-states, flag-levels, no_fault_parts}
+use Rattle.ld_rules.proofs.GroupLemmas.{IsGrouped, grouped-empty, grouped-push, held_in-innermost}
 use Rattle.ld_facts.proofs.NamedLemmas.{holds-names}
-use Rattle.ld_facts.proofs.OutcomeLemmas.{events-push, faulty, faulty_lines-push}
-use Rattle.ld_facts.proofs.PlaceLemmas.{by_pushes, last_or-push}
+use Rattle.ld_rules.proofs.OutcomeLemmas.{events-push, faulty, faulty_lines-push}
+use Rattle.ld_rules.proofs.PlaceLemmas.{by_pushes, last_or-push}
 
 both_empty : {X : Type 0} (xs ys : List X) → xs ++ ys ≡ [] → (xs ≡ []) × (ys ≡ [])
 both_empty [] ys none = (refl, none)

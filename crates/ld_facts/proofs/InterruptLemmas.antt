@@ -1,5 +1,6 @@
 -- The interrupt verbs, seen through what the scan keeps of their task.
-use Rattle.std.proofs.Common.{◌≡◌, ◌≢◌, ◌<◌, ◌≤◌, ◌-◌, ◌++◌, ◌∷◌, [], ◌∙◌, Bool, true, false, not, ℕ, List, None, Some, fold, length, map, drop, get_or, refl, ap, sym, subst, arith, if◌then◌else◌, All}
+use Rattle.std.proofs.Common.{◌≡◌, ◌≢◌, ◌<◌, ◌≤◌, ◌-◌, ◌++◌, ◌∷◌, [], ◌∙◌, Bool, true, false, not, ℕ, List, None, Some, fold, length, map, drop}
+use Rattle.std.proofs.Common.{get_or, refl, ap, sym, subst, arith, if◌then◌else◌, All}
 use Rattle.std.specs.Prelude.{slice_get}
 use Rattle.std.specs.List.{list_any}
 use Rattle.std.proofs.lemmas.List.{length-drop, length-map}
@@ -8,34 +9,34 @@ use Rattle.ld_trace.specs.declared.event.State.{State}
 use Rattle.ld_trace.specs.declared.event.State.TheVariants.{Hard, Soft}
 use Rattle.ld_trace.specs.Events.{PlainEvent, Position}
 use Rattle.ld_trace.specs.Events.PlainEvent.{Enter, Exit, Enable, Disable}
-use Rattle.ld_facts.specs.declared.fault.TraceFault.TheVariants.{BadEnable, BadExit, BadNest, HeldAtExit, Masked}
-use Rattle.ld_facts.specs.declared.interrupts.Interrupts.{Interrupts}
-use Rattle.ld_facts.specs.declared.outcome.TheConstants.{MOST_HELD, MOST_TASKS}
+use Rattle.ld_rules.specs.declared.fault.TraceFault.TheVariants.{BadEnable, BadExit, BadNest, HeldAtExit, Masked}
+use Rattle.ld_held.specs.declared.interrupts.Interrupts.{Interrupts}
+use Rattle.ld_rules.specs.declared.outcome.TheConstants.{MOST_HELD, MOST_TASKS}
 use Rattle.ld_facts.specs.declared.scan.Scan.{Scan}
-use Rattle.ld_facts.specs.declared.uses.UsageFact.{UsageFact}
-use Rattle.ld_facts.specs.Dependency.{dependencies_at, seen}
+use Rattle.ld_held.specs.declared.uses.UsageFact.{UsageFact}
+use Rattle.ld_rules.specs.Dependency.{dependencies_at, seen}
 use Rattle.ld_facts.specs.Facts.{named_use}
-use Rattle.ld_facts.specs.Flags.{is_enabled, same_state}
-use Rattle.ld_facts.specs.Frames.{contexts, frame_of, task_of}
-use Rattle.ld_facts.specs.Held.{held_by, held_in}
-use Rattle.ld_facts.specs.Interrupts.{IsEntered, IsLeft, IsSet, enabled_now, fresh, nests_in, start_now, states_of}
-use Rattle.ld_facts.specs.Levels.{stack, state_of}
-use Rattle.ld_facts.specs.Locks.{Hold, IsMoved, Known}
-use Rattle.ld_facts.specs.Open.{is_some_and}
-use Rattle.ld_facts.specs.Outcome.{class_acquired, each_once, event_fault, events, is_bad_enable, is_bad_exit, is_badly_nested, is_held_at_exit, is_masked, is_one_too_many, tasks}
-use Rattle.ld_facts.specs.Reading.{HasTask, IsAt, IsTask, happens}
-use Rattle.ld_facts.specs.Usage.{uses_at}
+use Rattle.ld_rules.specs.Flags.{is_enabled, same_state}
+use Rattle.ld_rules.specs.Frames.{contexts, frame_of, task_of}
+use Rattle.ld_rules.specs.Held.{held_by, held_in}
+use Rattle.ld_held.specs.Inner.Interrupts.{IsEntered, IsLeft, IsSet, enabled_now, fresh, nests_in, start_now, states_of}
+use Rattle.ld_rules.specs.Inner.Levels.{stack, state_of}
+use Rattle.ld_held.specs.Inner.Locks.{Hold, IsMoved, Known}
+use Rattle.ld_rules.specs.Open.{is_some_and}
+use Rattle.ld_rules.specs.Outcome.{class_acquired, each_once, event_fault, events, is_bad_enable, is_bad_exit, is_badly_nested, is_held_at_exit, is_masked, is_one_too_many, tasks}
+use Rattle.ld_facts.specs.Inner.Reading.{HasTask, IsAt, IsTask, happens}
+use Rattle.ld_rules.specs.Usage.{uses_at, same_what}
 use Rattle.ld_facts.specs.Facts.{IsUse}
-use Rattle.ld_facts.specs.Uses.{on_facts, same_what, with_use}
-use Rattle.ld_facts.proofs.FlagLemmas.{levels-disable, levels-enable, levels-enter, levels-exit_good, stack-quiet, states-enter, states-exit}
-use Rattle.ld_facts.proofs.GroupLemmas.{IsGrouped, start-within, starts-enter, starts-exit, starts-kept}
-use Rattle.ld_facts.proofs.HeldLemmas.{held_by-other}
+use Rattle.ld_held.specs.Inner.Uses.{on_facts, with_use}
+use Rattle.ld_rules.proofs.FlagLemmas.{levels-disable, levels-enable, levels-enter, levels-exit_good, stack-quiet, states-enter, states-exit}
+use Rattle.ld_rules.proofs.GroupLemmas.{IsGrouped, start-within, starts-enter, starts-exit, starts-kept}
+use Rattle.ld_rules.proofs.HeldLemmas.{held_by-other}
 use Rattle.ld_facts.proofs.InnerLemmas.{any-context, classes-are, clean-grouped, enabled-is, flag-is, inner-is, last-context, length-is, start-is}
 use Rattle.ld_facts.proofs.MovedLemmas.{Changed, own-before, shallow-before, tasks-fit, unacquired}
 use Rattle.ld_facts.proofs.NamedLemmas.{distinct-classes, holds-within}
-use Rattle.ld_facts.proofs.PlaceLemmas.{with_new}
+use Rattle.ld_rules.proofs.PlaceLemmas.{with_new}
 use Rattle.ld_facts.proofs.ReleaseLemmas.{uses-uncounted}
-use Rattle.ld_facts.proofs.UsageLemmas.{new_keys, on_use, uses_in, uses_once, uses_once-push_new, waits_for, with_uses}
+use Rattle.ld_rules.proofs.UsageLemmas.{new_keys, on_use, uses_in, uses_once, uses_once-push_new, waits_for, with_uses}
 use Rattle.ld_facts.proofs.UseLemmas.{on_facts-named, on_facts-within, uses-named, uses-within}
 
 not_not : (b : Bool) → b ≡ not (not b)
@@ -99,8 +100,11 @@ module _ (all : List Position) (old : Scan) (is : IsAt all old) (name : List ℕ
   shallow locks moved = subst (λ (held : List Hold). length held ≤ MOST_HELD) (sym (held_same locks moved)) (shallow-before all old is name id mid has)
 
   -- a verb without usage
-  module _ (e : PlainEvent) (line : ℕ) (own_task : task_of e ≡ name) (locks : Known) (moved : IsMoved mid.locks locks id) (fault : event_fault (events all) e ≡ None) (acquires_none : class_acquired e ≡ None) (depends_none : dependencies_at (events all) e ≡ []) (own : IsTask old.classes held_now (get_or locks.interrupts id fresh) (events all ++ e ∷ []) name) where
-    moved-by : (uses : List UsageFact) → map (named_use old.classes) uses ≡ each_once same_what (seen uses_at (all ++ happens line e ∷ [])) → All (IsUse old.classes) uses → IsAt (all ++ happens line e ∷ []) (record { tasks = mid.tasks; classes = mid.classes; locks = locks; uses = uses })
+  module _ (e : PlainEvent) (line : ℕ) (own_task : task_of e ≡ name) (locks : Known) (moved : IsMoved mid.locks locks id)
+      (fault : event_fault (events all) e ≡ None) (acquires_none : class_acquired e ≡ None) (depends_none : dependencies_at (events all) e ≡ [])
+      (own : IsTask old.classes held_now (get_or locks.interrupts id fresh) (events all ++ e ∷ []) name) where
+    moved-by : (uses : List UsageFact) → map (named_use old.classes) uses ≡ each_once same_what (seen uses_at (all ++ happens line e ∷ [])) → All
+        (IsUse old.classes) uses → IsAt (all ++ happens line e ∷ []) (record { tasks = mid.tasks; classes = mid.classes; locks = locks; uses = uses })
     moved-by uses shown used =
         unacquired all old e line id mid (record { tasks = mid.tasks; classes = mid.classes; locks = locks; uses = uses }) is
         (subst (λ task. HasTask old task id mid) (sym own_task) has) (changed locks uses moved) fault acquires_none depends_none
@@ -116,12 +120,14 @@ module _ (all : List Position) (old : Scan) (is : IsAt all old) (name : List ℕ
     abbrev counted : List UsageFact
     counted = fold with_use mid.uses (on_facts (get_or locks.interrupts id fresh) line (map (λ hold. hold.class) (get_or locks.stacks id [])))
 
-    counted-by : waits_for e ≡ None → new_keys (events all) e ≡ held_by (events all) name → IsAt (all ++ happens line e ∷ []) (record { tasks = mid.tasks; classes = mid.classes; locks = locks; uses = counted })
+    counted-by : waits_for e ≡ None → new_keys (events all) e ≡ held_by (events all) name → IsAt (all ++ happens line e ∷ [])
+        (record { tasks = mid.tasks; classes = mid.classes; locks = locks; uses = counted })
     counted-by waits_none counts_held =
         moved-by counted
         ((λ i. map (named_use old.classes) (fold with_use (has.uses i) (on_facts interrupts line (map (λ hold. hold.class) (held_same locks moved i)))))
         ∙ uses-named old.classes distinct old.uses (on_facts interrupts line numbers) is.used within
-        ∙ (λ i. fold (with_new same_what) (is.uses i) (on_facts-named old.classes interrupts line numbers (held_by (events all) name) (classes-are old.classes held_now frames_now (events all) name before) i))
+        ∙ (λ i. fold (with_new same_what) (is.uses i) (on_facts-named old.classes interrupts line numbers (held_by (events all) name)
+        (classes-are old.classes held_now frames_now (events all) name before) i))
         ∙ ap (with_uses line (uses_once all)) (
         (λ i. map (on_use Hard) (if enabled Hard i then counts i else []) ++ map (on_use Soft) (if enabled Soft i then counts i else []))
         )
@@ -148,7 +154,8 @@ module _ (all : List Position) (old : Scan) (is : IsAt all old) (name : List ℕ
         counts : held_by (events all) name ≡ held_by (events all) name
         counts = refl
 
-        new : (of : State) → map (on_use of) (if is_enabled (events all ++ e ∷ []) (task_of e) of then new_keys (events all) e else []) ≡ map (on_use of) (if is_enabled (events all ++ e ∷ []) name of then held_by (events all) name else [])
+        new : (of : State) → map (on_use of) (if is_enabled (events all ++ e ∷ []) (task_of e) of then new_keys (events all) e else []) ≡ map
+            (on_use of) (if is_enabled (events all ++ e ∷ []) name of then held_by (events all) name else [])
         new of = (λ i. map (on_use of) (if is_enabled (events all ++ e ∷ []) (own_task i) of then counts_held i else []))
 
   module _ (state : State) where
@@ -165,12 +172,15 @@ module _ (all : List Position) (old : Scan) (is : IsAt all old) (name : List ℕ
     masked-is = ap not (sym (enabled-is old.classes held_now frames_now (events all) name before state))
 
     pub enter-nested : nests_in (states_of frames_now) state ≡ false → event_fault (events all) (Enter name state) ≡ Some BadNest
-    enter-nested nests = enter_fault (events all) name state fits ∙ ap (λ (b : Bool). if b then Some BadNest else if is_masked (events all) (Enter name state) then Some Masked else None) (nest-is ∙ ap not nests)
+    enter-nested nests = enter_fault (events all) name state fits ∙ ap (λ (b : Bool). if b then Some BadNest else if is_masked (events all)
+        (Enter name state) then Some Masked else None) (nest-is ∙ ap not nests)
 
     pub enter-masked : nests_in (states_of frames_now) state ≡ true → enabled_now state frames_now ≡ false → event_fault (events all) (Enter name state) ≡ Some Masked
     enter-masked nests on = enter_fault (events all) name state fits ∙ (λ i. if (nest-is ∙ ap not nests) i then Some BadNest else if (masked-is ∙ ap not on) i then Some Masked else None)
 
-    pub entered-at : (line : ℕ) (locks : Known) → nests_in (states_of frames_now) state ≡ true → enabled_now state frames_now ≡ true → IsMoved mid.locks locks id → IsEntered state (length held_now) frames_now (get_or locks.interrupts id fresh) → IsAt (all ++ happens line (Enter name state) ∷ []) (record { tasks = mid.tasks; classes = mid.classes; locks = locks; uses = mid.uses })
+    pub entered-at : (line : ℕ) (locks : Known) → nests_in (states_of frames_now) state ≡ true → enabled_now state frames_now ≡ true → IsMoved
+        mid.locks locks id → IsEntered state (length held_now) frames_now (get_or locks.interrupts id fresh) → IsAt
+        (all ++ happens line (Enter name state) ∷ []) (record { tasks = mid.tasks; classes = mid.classes; locks = locks; uses = mid.uses })
     entered-at line locks nests on moved entered =
         uncounted-by (Enter name state) line refl locks moved
         (enter_fault (events all) name state fits ∙ (λ i. if (nest-is ∙ ap not nests) i then Some BadNest else if (masked-is ∙ ap not on) i then Some Masked else None)) refl refl
@@ -199,10 +209,17 @@ module _ (all : List Position) (old : Scan) (is : IsAt all old) (name : List ℕ
         ∙ length-drop (start_now frames_now) held_now
 
     start_least : start_now frames_now ≤ length held_now
-    start_least = omega (arith, start-is old.classes held_now frames_now (events all) name before, length-is old.classes held_now frames_now (events all) name before, start-within (events all) name grouped)
+    start_least = omega (
+      arith,
+      start-is old.classes held_now frames_now (events all) name before,
+      length-is old.classes held_now frames_now
+          (events all) name before,
+      start-within (events all) name grouped,
+    )
 
     pub exit-bad : is_some_and (same_state state) (slice_get (states_of frames_now) 0) ≡ false → event_fault (events all) (Exit name state) ≡ Some BadExit
-    exit-bad other = exit_fault (events all) name state fits ∙ ap (λ (b : Bool). if b then Some BadExit else if is_held_at_exit (events all) (Exit name state) then Some HeldAtExit else None) (bad-exit-is ∙ ap not other)
+    exit-bad other = exit_fault (events all) name state fits ∙ ap (λ (b : Bool). if b then Some BadExit else if is_held_at_exit (events all)
+        (Exit name state) then Some HeldAtExit else None) (bad-exit-is ∙ ap not other)
 
     pub exit-held : is_some_and (same_state state) (slice_get (states_of frames_now) 0) ≡ true → length held_now ≢ start_now frames_now → event_fault (events all) (Exit name state) ≡ Some HeldAtExit
     exit-held own more =
@@ -212,7 +229,16 @@ module _ (all : List Position) (old : Scan) (is : IsAt all old) (name : List ℕ
         some : is_held_at_exit (events all) (Exit name state) ≡ true
         some = some_there (held_in (events all) name (frame_of (events all) name)) (omega (arith, length-inner, start_least, more))
 
-    pub exited-at : (line : ℕ) (locks : Known) → is_some_and (same_state state) (slice_get (states_of frames_now) 0) ≡ true → length held_now ≡ start_now frames_now → IsMoved mid.locks locks id → IsLeft frames_now (get_or locks.interrupts id fresh) → IsAt (all ++ happens line (Exit name state) ∷ []) (record { tasks = mid.tasks; classes = mid.classes; locks = locks; uses = fold with_use mid.uses (on_facts (get_or locks.interrupts id fresh) line (map (λ hold. hold.class) (get_or locks.stacks id []))) })
+    pub exited-at : (line : ℕ) (locks : Known) → is_some_and (same_state state) (slice_get (states_of frames_now) 0) ≡ true → length held_now ≡
+        start_now frames_now → IsMoved mid.locks locks id → IsLeft frames_now (get_or locks.interrupts id fresh) → IsAt
+        (all ++ happens line (Exit name state) ∷ [])
+        (record {
+          tasks = mid.tasks;
+          classes = mid.classes;
+          locks = locks;
+          uses = fold with_use mid.uses
+              (on_facts (get_or locks.interrupts id fresh) line (map (λ hold. hold.class) (get_or locks.stacks id [])));
+        })
     exited-at line locks own none moved left =
         counted-by (Exit name state) line refl locks moved
         (exit_fault (events all) name state fits ∙ (λ i. if good i then Some BadExit else if empty i then Some HeldAtExit else None)) refl refl
@@ -242,7 +268,15 @@ module _ (all : List Position) (old : Scan) (is : IsAt all old) (name : List ℕ
     pub enable-bad : list_any (same_state state) (states_of frames_now) ≡ true → event_fault (events all) (Enable name state) ≡ Some BadEnable
     enable-bad among = enable_fault (events all) name state fits ∙ ap (λ (b : Bool). if b then Some BadEnable else None) (bad-enable-is ∙ among)
 
-    pub enabled-at : (line : ℕ) (locks : Known) → list_any (same_state state) (states_of frames_now) ≡ false → IsMoved mid.locks locks id → IsSet state true frames_now (get_or locks.interrupts id fresh) → IsAt (all ++ happens line (Enable name state) ∷ []) (record { tasks = mid.tasks; classes = mid.classes; locks = locks; uses = fold with_use mid.uses (on_facts (get_or locks.interrupts id fresh) line (map (λ hold. hold.class) (get_or locks.stacks id []))) })
+    pub enabled-at : (line : ℕ) (locks : Known) → list_any (same_state state) (states_of frames_now) ≡ false → IsMoved mid.locks locks id → IsSet
+        state true frames_now (get_or locks.interrupts id fresh) → IsAt (all ++ happens line (Enable name state) ∷ [])
+        (record {
+          tasks = mid.tasks;
+          classes = mid.classes;
+          locks = locks;
+          uses = fold with_use mid.uses
+              (on_facts (get_or locks.interrupts id fresh) line (map (λ hold. hold.class) (get_or locks.stacks id [])));
+        })
     enabled-at line locks among moved set =
         counted-by (Enable name state) line refl locks moved
         (enable_fault (events all) name state fits ∙ ap (λ (b : Bool). if b then Some BadEnable else None) (bad-enable-is ∙ among)) refl refl
@@ -255,7 +289,8 @@ module _ (all : List Position) (old : Scan) (is : IsAt all old) (name : List ℕ
         })
         refl refl
 
-    pub disabled-at : (line : ℕ) (locks : Known) → IsMoved mid.locks locks id → IsSet state false frames_now (get_or locks.interrupts id fresh) → IsAt (all ++ happens line (Disable name state) ∷ []) (record { tasks = mid.tasks; classes = mid.classes; locks = locks; uses = mid.uses })
+    pub disabled-at : (line : ℕ) (locks : Known) → IsMoved mid.locks locks id → IsSet state false frames_now (get_or locks.interrupts id fresh) → IsAt
+        (all ++ happens line (Disable name state) ∷ []) (record { tasks = mid.tasks; classes = mid.classes; locks = locks; uses = mid.uses })
     disabled-at line locks moved set =
         uncounted-by (Disable name state) line refl locks moved (disable_fault (events all) name state fits) refl refl
         (record {

@@ -1,5 +1,6 @@
 -- From the scan of a trace to what its facts say.
-use Rattle.std.proofs.Common.{◌≡◌, ◌+◌, ◌<◌, ◌++◌, ◌∷◌, [], ◌||◌, List, ℕ, Bool, true, false, length, map, filter_map, get_or, Some, None, Ok, Err, refl, ap, sym, subst, ◌∙◌, arith, if◌then◌else◌, append_assoc, length-append}
+use Rattle.std.proofs.Common.{◌≡◌, ◌+◌, ◌<◌, ◌++◌, ◌∷◌, [], ◌||◌, List, ℕ, Bool, true, false, length, map, filter_map, get_or, Some, None, Ok, Err}
+use Rattle.std.proofs.Common.{refl, ap, sym, subst, ◌∙◌, arith, if◌then◌else◌, append_assoc, length-append}
 use Rattle.std.specs.Prelude.{AllPairs, slice_get}
 use Rattle.std.specs.List.{cons_option, enumerate_from, list_any}
 use Rattle.std.proofs.lemmas.Bool.{true≢false}
@@ -10,27 +11,27 @@ use Rattle.ld_trace.specs.declared.event.LineFault.{LineFault}
 use Rattle.ld_trace.specs.Lines.{lines, text_of}
 use Rattle.ld_trace.specs.Sources.{Fits, PlainSource}
 use Rattle.ld_trace.specs.Events.{PlainEvent, Position, Said, plain_event, position_of, positions, said_by}
-use Rattle.ld_facts.specs.declared.edges.EdgeFact.{EdgeFact}
-use Rattle.ld_facts.specs.declared.fault.TraceFault.{TraceFault}
-use Rattle.ld_facts.specs.declared.outcome.Outcome.TheVariants.{Read, Refused}
+use Rattle.ld_held.specs.declared.edges.EdgeFact.{EdgeFact}
+use Rattle.ld_rules.specs.declared.fault.TraceFault.{TraceFault}
+use Rattle.ld_rules.specs.declared.outcome.Outcome.TheVariants.{Read, Refused}
 use Rattle.ld_facts.specs.declared.scan.Scan.{Scan}
-use Rattle.ld_facts.specs.Outcome.{each_once, classes, event_fault, events, faulty_lines, outcome, outcome_by, of_line, said_fault}
-use Rattle.ld_facts.specs.Dependency.{Dependency, Seen, dependencies_at, least_line, same_dependency, seen}
-use Rattle.ld_facts.specs.Union.{if_read}
+use Rattle.ld_rules.specs.Outcome.{each_once, classes, event_fault, events, faulty_lines, outcome, outcome_by, of_line, said_fault}
+use Rattle.ld_rules.specs.Dependency.{Dependency, Seen, dependencies_at, least_line, same_dependency, seen, same_seen}
+use Rattle.ld_rules.specs.Union.{if_read}
 use Rattle.ld_facts.specs.Facts.{IsKnown, named, named_use}
-use Rattle.ld_facts.specs.Usage.{Use, bit_of, same_use, uses_at}
-use Rattle.ld_facts.specs.Uses.{same_what}
-use Rattle.ld_facts.specs.declared.uses.UsageFact.{UsageFact}
-use Rattle.ld_facts.specs.Reading.{IsAt, IsReadTo, happens, positions_from, same_seen}
-use Rattle.ld_facts.proofs.OutcomeLemmas.{first_fault}
-use Rattle.ld_facts.proofs.PlaceLemmas.{alike_from_decides, by_pushes, each_once-more}
-use Rattle.ld_facts.proofs.StepLemmas.{Decides-same_dependency}
-use Rattle.ld_facts.proofs.UsageLemmas.{Decides-same_use, same_what-alike}
-use Rattle.ld_facts.proofs.LeastLemmas.{least_once, seen-Ascend}
+use Rattle.ld_rules.specs.Usage.{Use, bit_of, same_use, uses_at, same_what}
+use Rattle.ld_held.specs.declared.uses.UsageFact.{UsageFact}
+use Rattle.ld_facts.specs.Inner.Reading.{IsAt, IsReadTo, happens, positions_from}
+use Rattle.ld_rules.proofs.OutcomeLemmas.{first_fault}
+use Rattle.ld_rules.proofs.PlaceLemmas.{alike_from_decides, by_pushes, each_once-more}
+use Rattle.ld_rules.proofs.StepLemmas.{Decides-same_dependency}
+use Rattle.ld_rules.proofs.UsageLemmas.{Decides-same_use, same_what-alike}
+use Rattle.ld_rules.proofs.LeastLemmas.{least_once, seen-Ascend}
 use Rattle.ld_trace.proofs.PositionLemmas.{positions-ascend}
 
 -- the positions of lines, by the first of them
-positions-first : (line : ℕ) (rest first others : List ℕ) (said : Said) → lines rest ≡ first ∷ lines others → said_by (text_of first) ≡ said → positions_from line rest ≡ cons_option (position_of line said) (positions_from (line + 1) others)
+positions-first : (line : ℕ) (rest first others : List ℕ) (said : Said) → lines rest ≡ first ∷ lines others → said_by (text_of first) ≡ said →
+    positions_from line rest ≡ cons_option (position_of line said) (positions_from (line + 1) others)
 positions-first line rest first others said cut is =
     ap (λ ls. filter_map (λ p. position_of p.0 (said_by (text_of p.1))) (enumerate_from line ls)) cut
     ∙ ap (λ s. cons_option (position_of line s) (positions_from (line + 1) others)) is
@@ -68,28 +69,33 @@ module _ (names : List (List ℕ)) (edges : List EdgeFact) (shown : List (Seen D
   once_named : AllPairs (λ d e. (d.from ≡ e.from) × (d.to ≡ e.to) → ⊥) edges
   once_named i j d before below both =
       let apart : AllPairs (λ a b. same_seen b a ≡ false) (map (named names) edges) = subst (AllPairs (λ a b. same_seen b a ≡ false)) (sym is) (each_once-pairs same_seen alike_seen shown) in
-      let differ : same_seen (get_or (map (named names) edges) j (named names d)) (get_or (map (named names) edges) i (named names d)) ≡ false = apart i j (named names d) before (omega (arith, below, length-map edges (named names))) in
+      let differ : same_seen (get_or (map (named names) edges) j (named names d)) (get_or (map (named names) edges) i (named names d)) ≡ false = apart
+      i j (named names d) before (omega (arith, below, length-map edges (named names))) in
       let here : get_or (map (named names) edges) i (named names d) ≡ named names (get_or edges i d) = get_or-map (named names) edges i d (named names d) (omega arith) in
       let there : get_or (map (named names) edges) j (named names d) ≡ named names (get_or edges j d) = get_or-map (named names) edges j d (named names d) below in
       let alike : (named names (get_or edges j d)).what ≡ (named names (get_or edges i d)).what = (λ k. record { from = get_or names (sym both.0 k) []; to = get_or names (sym both.1 k) [] }) in
       true≢false (sym ((Decides-same_dependency (named names (get_or edges j d)).what (named names (get_or edges i d)).what).1 alike) ∙ (λ k. same_seen (sym there k) (sym here k)) ∙ differ)
 
 -- numbered usage bits that are these by name, each once
-once_used : (names : List (List ℕ)) (uses : List UsageFact) (shown : List (Seen Use)) → map (named_use names) uses ≡ each_once same_what shown → AllPairs (λ u v. (u.class ≡ v.class) × (u.bit ≡ v.bit) → ⊥) uses
+once_used : (names : List (List ℕ)) (uses : List UsageFact) (shown : List (Seen Use)) → map (named_use names) uses ≡ each_once same_what shown →
+    AllPairs (λ u v. (u.class ≡ v.class) × (u.bit ≡ v.bit) → ⊥) uses
 once_used names uses shown is i j d before below both =
     let apart : AllPairs (λ a b. same_what b a ≡ false) (map (named_use names) uses) = subst (AllPairs (λ a b. same_what b a ≡ false)) (sym is) (each_once-pairs same_what same_what-alike shown) in
-    let differ : same_what (get_or (map (named_use names) uses) j (named_use names d)) (get_or (map (named_use names) uses) i (named_use names d)) ≡ false = apart i j (named_use names d) before (omega (arith, below, length-map uses (named_use names))) in
+    let differ : same_what (get_or (map (named_use names) uses) j (named_use names d)) (get_or (map (named_use names) uses) i (named_use names d)) ≡
+    false = apart i j (named_use names d) before (omega (arith, below, length-map uses (named_use names))) in
     let here : get_or (map (named_use names) uses) i (named_use names d) ≡ named_use names (get_or uses i d) = get_or-map (named_use names) uses i d (named_use names d) (omega arith) in
     let there : get_or (map (named_use names) uses) j (named_use names d) ≡ named_use names (get_or uses j d) = get_or-map (named_use names) uses j d (named_use names d) below in
     let alike : (named_use names (get_or uses j d)).what ≡ (named_use names (get_or uses i d)).what = (λ k. record { class = get_or names (sym both.0 k) []; bit = bit_of (sym both.1 k) }) in
     true≢false (sym ((Decides-same_use (named_use names (get_or uses j d)).what (named_use names (get_or uses i d)).what).1 alike) ∙ (λ k. same_what (sym there k) (sym here k)) ∙ differ)
 
 -- the same scan and count by other names
-pub moved : (source : PlainSource) (line : ℕ) (rest : List ℕ) (scan old : Scan) (count before : ℕ) → scan ≡ old → count ≡ before → IsReadTo source line rest old before → IsReadTo source line rest scan count
+pub moved : (source : PlainSource) (line : ℕ) (rest : List ℕ) (scan old : Scan) (count before : ℕ) → scan ≡ old → count ≡ before → IsReadTo source
+    line rest old before → IsReadTo source line rest scan count
 moved source line rest scan old count before is many read = subst (λ s. IsReadTo source line rest s count) (sym is) (subst (IsReadTo source line rest old) (sym many) read)
 
 -- the scan of a source, one line further on
-module _ (source : PlainSource) (line : ℕ) (rest : List ℕ) (scan : Scan) (count : ℕ) (read : IsReadTo source line rest scan count) (first others : List ℕ) (cut : lines rest ≡ first ∷ lines others) where
+module _ (source : PlainSource) (line : ℕ) (rest : List ℕ) (scan : Scan) (count : ℕ) (read : IsReadTo source line rest scan count)
+    (first others : List ℕ) (cut : lines rest ≡ first ∷ lines others) where
   -- a line that says nothing
   pub read-nothing : said_by (text_of first) ≡ Ok None → IsReadTo source (line + 1) others scan count
   read-nothing is = record {
@@ -100,7 +106,9 @@ module _ (source : PlainSource) (line : ℕ) (rest : List ℕ) (scan : Scan) (co
   }
 
   -- an event without a fault, which leaves another scan
-  pub read-event : (text : List ℕ) (event : Event) (next : Scan) → text ≡ text_of first → ((all : List Position) → IsAt all scan → IsAt (all ++ happens line (plain_event event) ∷ []) next) → said_by text ≡ Ok (Some (plain_event event)) → IsReadTo source (line + 1) others next (count + 1)
+  pub read-event : (text : List ℕ) (event : Event) (next : Scan) → text ≡ text_of first →
+      ((all : List Position) → IsAt all scan → IsAt (all ++ happens line (plain_event event) ∷ []) next) → said_by text ≡ Ok
+      (Some (plain_event event)) → IsReadTo source (line + 1) others next (count + 1)
   read-event text event next shown scanned says = record {
     before = read.before ++ happens line (plain_event event) ∷ [];
     whole =
@@ -111,20 +119,23 @@ module _ (source : PlainSource) (line : ℕ) (rest : List ℕ) (scan : Scan) (co
   }
 
   -- a position with a fault: the trace is refused
-  refused : (said : Said) (p : Position) (fault : TraceFault) → said_by (text_of first) ≡ said → position_of line said ≡ Some p → said_fault (events read.before) p.says ≡ Some fault → outcome source ≡ Refused p.line fault
+  refused : (said : Said) (p : Position) (fault : TraceFault) → said_by (text_of first) ≡ said → position_of line said ≡ Some p → said_fault
+      (events read.before) p.says ≡ Some fault → outcome source ≡ Refused p.line fault
   refused said p fault is at faulty =
       let whole : positions source ≡ read.before ++ p ∷ positions_from (line + 1) others =
       read.whole ∙ ap (λ ps. read.before ++ ps) (positions-first line rest first others said cut is ∙ ap (λ o. cons_option o (positions_from (line + 1) others)) at) in
       ap (outcome_by (length (positions source))) (ap (λ ps. slice_get (faulty_lines ps) 0) whole ∙ first_fault read.before p (positions_from (line + 1) others) fault read.scanned.clean faulty)
 
-  pub refused-event : (event : PlainEvent) (fault : TraceFault) → said_by (text_of first) ≡ Ok (Some event) → ((all : List Position) → IsAt all scan → event_fault (events all) event ≡ Some fault) → outcome source ≡ Refused line fault
+  pub refused-event : (event : PlainEvent) (fault : TraceFault) → said_by (text_of first) ≡ Ok (Some event) →
+      ((all : List Position) → IsAt all scan → event_fault (events all) event ≡ Some fault) → outcome source ≡ Refused line fault
   refused-event event fault is faulty = refused (Ok (Some event)) (happens line event) fault is refl (faulty read.before read.scanned)
 
   pub refused-line : (fault : LineFault) → said_by (text_of first) ≡ Err fault → outcome source ≡ Refused line (of_line fault)
   refused-line fault is = refused (Err fault) (record { line = line; says = Err fault }) (of_line fault) is refl refl
 
 -- a scan that is read to the end has the facts
-pub read-known : (source : PlainSource) (line : ℕ) (rest : List ℕ) (scan : Scan) (count : ℕ) → Fits source → IsReadTo source line rest scan count → rest ≡ [] → IsKnown (record { source = source; outcome = Read count; classes = scan.classes; edges = scan.locks.edges; usage = scan.uses })
+pub read-known : (source : PlainSource) (line : ℕ) (rest : List ℕ) (scan : Scan) (count : ℕ) → Fits source → IsReadTo source line rest scan count →
+    rest ≡ [] → IsKnown (record { source = source; outcome = Read count; classes = scan.classes; edges = scan.locks.edges; usage = scan.uses })
 read-known source line rest scan count fits read ended =
     let all : positions source ≡ read.before = read.whole ∙ ap (λ bytes. read.before ++ positions_from line bytes) ended ∙ append-nil read.before in
     let ascend : AllPairs (λ p q. p.line < q.line) read.before = subst (AllPairs (λ p q. p.line < q.line)) all (positions-ascend source) in
@@ -150,7 +161,13 @@ read-known source line rest scan count fits read ended =
     }
 
 -- before the first line
-pub read-none : (source : PlainSource) (scan : Scan) → scan ≡ record { tasks = []; classes = []; locks = record { stacks = []; interrupts = []; edges = [] }; uses = [] } → IsReadTo source source.first_line source.bytes scan 0
+pub read-none : (source : PlainSource) (scan : Scan) → scan ≡ record {
+  tasks = [];
+  classes = [];
+  locks =
+      record { stacks = []; interrupts = []; edges = [] };
+  uses = [];
+} → IsReadTo source source.first_line source.bytes scan 0
 read-none source scan new = subst (λ s. IsReadTo source source.first_line source.bytes s 0) (sym new) (record {
   before = [];
   whole = refl;

@@ -4,20 +4,19 @@ use Rattle.std.proofs.Common.{◌≡◌, ◌≢◌, ◌<◌, ◌≤◌, ◌++◌
 use Rattle.std.proofs.lemmas.Bool.Decides.{eqb_tells}
 use Rattle.ld_class.specs.Names.{IsNameAt, place_of, with_name}
 use Rattle.ld_trace.specs.Events.{PlainEvent, Position}
-use Rattle.ld_facts.specs.declared.outcome.TheConstants.{MOST_CLASSES, MOST_HELD, MOST_TASKS}
+use Rattle.ld_rules.specs.declared.outcome.TheConstants.{MOST_CLASSES, MOST_HELD, MOST_TASKS}
 use Rattle.ld_facts.specs.declared.scan.Scan.{Scan}
-use Rattle.ld_facts.specs.Frames.{task_of}
-use Rattle.ld_facts.specs.Dependency.{Dependency, dependencies_at, seen}
+use Rattle.ld_rules.specs.Frames.{task_of}
+use Rattle.ld_rules.specs.Dependency.{Dependency, dependencies_at, seen, same_seen}
 use Rattle.ld_facts.specs.Facts.{named, named_use}
-use Rattle.ld_facts.specs.Interrupts.{fresh}
-use Rattle.ld_facts.specs.Outcome.{class_acquired, classes, each_once, event_fault, events, is_one_too_many, tasks}
-use Rattle.ld_facts.specs.Reading.{AreMany, HasTask, IsAt, IsTask, IsWithin, happens, same_seen}
-use Rattle.ld_facts.specs.Usage.{uses_at}
+use Rattle.ld_held.specs.Inner.Interrupts.{fresh}
+use Rattle.ld_rules.specs.Outcome.{class_acquired, classes, each_once, event_fault, events, is_one_too_many, tasks}
+use Rattle.ld_facts.specs.Inner.Reading.{AreMany, HasTask, IsAt, IsTask, IsWithin, happens}
+use Rattle.ld_rules.specs.Usage.{uses_at, same_what}
 use Rattle.ld_facts.specs.Facts.{IsUse}
-use Rattle.ld_facts.specs.Uses.{same_what}
-use Rattle.ld_facts.proofs.OutcomeLemmas.{events-push, no_fault}
-use Rattle.ld_facts.proofs.PlaceLemmas.{with_new}
-use Rattle.ld_facts.proofs.StepLemmas.{classes-other, dependencies-push, tasks-push}
+use Rattle.ld_rules.proofs.OutcomeLemmas.{events-push, no_fault}
+use Rattle.ld_rules.proofs.PlaceLemmas.{with_new}
+use Rattle.ld_rules.proofs.StepLemmas.{classes-other, dependencies-push, tasks-push}
 use Rattle.ld_facts.proofs.TaskLemmas.{scan_not_too_many_tasks, task-at, task-other, task-unmoved, with_name-few}
 
 pub record Moved (all : List Position) (old : Scan) (e : PlainEvent) (line id : ℕ) (new : Scan) : Type 0 where
@@ -72,7 +71,8 @@ moved-at all old e line id new is m = record {
     stays_other : (k : ℕ) (other : List ℕ) → IsNameAt new.tasks k other → k ≢ id → IsTask new.classes (get_or new.locks.stacks k []) (get_or new.locks.interrupts k fresh) (events all ++ e ∷ []) other
     stays_other k other at apart =
         let before = task-at all old is (task_of e) new.tasks m.tasks k other at in
-        let after = task-unmoved old.classes new.classes (get_or old.locks.stacks k []) (get_or old.locks.interrupts k fresh) (events all) e other (task-other all old is (task_of e) new.tasks m.tasks id k other m.place at apart) m.stays before in
+        let after = task-unmoved old.classes new.classes (get_or old.locks.stacks k []) (get_or old.locks.interrupts k fresh) (events all) e other
+        (task-other all old is (task_of e) new.tasks m.tasks id k other m.place at apart) m.stays before in
         subst (λ held. IsTask new.classes held (get_or new.locks.interrupts k fresh) (events all ++ e ∷ []) other) (sym (m.stacks k apart))
         (subst (λ interrupts. IsTask new.classes (get_or old.locks.stacks k []) interrupts (events all ++ e ∷ []) other) (sym (m.interrupts k apart)) after)
 
@@ -105,7 +105,10 @@ module _ (all : List Position) (old : Scan) (is : IsAt all old) (name : List ℕ
   tasks-fit = scan_not_too_many_tasks all old name is has.fits
 
 -- an event that acquires nothing leaves the classes and the dependencies
-pub unacquired : (all : List Position) (old : Scan) (e : PlainEvent) (line id : ℕ) (mid new : Scan) → IsAt all old → HasTask old (task_of e) id mid → Changed mid id new → event_fault (events all) e ≡ None → class_acquired e ≡ None → dependencies_at (events all) e ≡ [] → IsTask old.classes (get_or new.locks.stacks id []) (get_or new.locks.interrupts id fresh) (events all ++ e ∷ []) (task_of e) → length (get_or new.locks.stacks id []) ≤ MOST_HELD → map (named_use old.classes) new.uses ≡ each_once same_what (seen uses_at (all ++ happens line e ∷ [])) → All (IsUse old.classes) new.uses → IsAt (all ++ happens line e ∷ []) new
+pub unacquired : (all : List Position) (old : Scan) (e : PlainEvent) (line id : ℕ) (mid new : Scan) → IsAt all old → HasTask old (task_of e) id mid →
+    Changed mid id new → event_fault (events all) e ≡ None → class_acquired e ≡ None → dependencies_at (events all) e ≡ [] → IsTask old.classes
+    (get_or new.locks.stacks id []) (get_or new.locks.interrupts id fresh) (events all ++ e ∷ []) (task_of e) → length (get_or new.locks.stacks id [])
+    ≤ MOST_HELD → map (named_use old.classes) new.uses ≡ each_once same_what (seen uses_at (all ++ happens line e ∷ [])) → All (IsUse old.classes) new.uses → IsAt (all ++ happens line e ∷ []) new
 unacquired all old e line id mid new is has changed fault acquires_none depends_none own shallow uses used =
     let classes-same : new.classes ≡ old.classes = changed.classes ∙ has.classes in
     let edges-same : new.locks.edges ≡ old.locks.edges = changed.edges ∙ has.edges in
@@ -125,7 +128,8 @@ unacquired all old e line id mid new is has changed fault acquires_none depends_
       edges =
           (λ i. map (named (classes-same i)) (edges-same i))
           ∙ is.edges
-          ∙ sym (dependencies-push all (happens line e) ∙ ap (λ ds. fold (with_new same_seen) (each_once same_seen (seen dependencies_at all)) (map (λ (what : Dependency). record { what = what; line = line }) ds)) depends_none);
+          ∙ sym (dependencies-push all (happens line e) ∙ ap (λ ds. fold (with_new same_seen) (each_once same_seen (seen dependencies_at all))
+          (map (λ (what : Dependency). record { what = what; line = line }) ds)) depends_none);
       within = subst (λ ns. All (IsWithin ns) new.locks.edges) (sym classes-same) (subst (All (IsWithin old.classes)) (sym edges-same) is.within);
       uses = ap (λ ns. map (named_use ns) new.uses) classes-same ∙ uses;
       used = subst (λ ns. All (IsUse ns) new.uses) (sym classes-same) used;

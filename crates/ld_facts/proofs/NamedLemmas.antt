@@ -1,6 +1,7 @@
 -- Dependencies between numbered classes, read by the names of the classes: distinct names make equal names
 -- equal numbers, so a dependency is new by its numbers where it is new by its names.
-use Rattle.std.proofs.Common.{◌≡◌, ◌<◌, ◌≤◌, ◌++◌, ◌∷◌, [], ◌||◌, ◌&&◌, ◌==◌, ◌⊎◌, inl, inr, List, ℕ, Bool, true, false, Option, Some, None, All, length, map, fold, is_some, slice_index_or, refl, ap, sym, subst, ◌∙◌, arith, if◌then◌else◌, length-append}
+use Rattle.std.proofs.Common.{◌≡◌, ◌<◌, ◌≤◌, ◌++◌, ◌∷◌, [], ◌||◌, ◌&&◌, ◌==◌, ◌⊎◌, inl, inr, List, ℕ, Bool, true, false, Option, Some, None, All}
+use Rattle.std.proofs.Common.{length, map, fold, is_some, slice_index_or, refl, ap, sym, subst, ◌∙◌, arith, if◌then◌else◌, length-append}
 use Rattle.std.proofs.lemmas.Bool.{cases_lt}
 use Rattle.std.proofs.lemmas.Bool.Decides.{Decides-eqb}
 use Rattle.std.proofs.lemmas.List.{get_or_append_left, map-append}
@@ -12,14 +13,15 @@ use Rattle.std.specs.Str.{bytes_eq}
 use Rattle.ld_class.specs.Names.{AreDistinct, IsNameAt, place_of, with_name}
 use Rattle.ld_class.proofs.NameLemmas.{place_of-None, with_name-known, with_name-new}
 use Rattle.ld_trace.specs.Events.{PlainEvent}
-use Rattle.ld_facts.specs.declared.edges.EdgeFact.{EdgeFact}
-use Rattle.ld_facts.specs.Edges.{edge_to, same_pair, with_edge}
-use Rattle.ld_facts.specs.Locks.{Hold}
-use Rattle.ld_facts.specs.Outcome.{class_acquired, classes, each_once}
-use Rattle.ld_facts.specs.Reading.{IsWithin, same_seen}
+use Rattle.ld_held.specs.declared.edges.EdgeFact.{EdgeFact}
+use Rattle.ld_held.specs.Inner.Edges.{edge_to, same_pair, with_edge}
+use Rattle.ld_held.specs.Inner.Locks.{Hold}
+use Rattle.ld_rules.specs.Outcome.{class_acquired, classes, each_once}
+use Rattle.ld_rules.specs.Dependency.{same_seen}
+use Rattle.ld_facts.specs.Inner.Reading.{IsWithin}
 use Rattle.ld_facts.specs.Facts.{named}
-use Rattle.ld_facts.proofs.PlaceLemmas.{by_pushes, with_new}
-use Rattle.ld_facts.proofs.StepLemmas.{names-more}
+use Rattle.ld_rules.proofs.PlaceLemmas.{by_pushes, with_new}
+use Rattle.ld_rules.proofs.StepLemmas.{names-more}
 
 -- two tests that pass together are one
 same_test : (a b : Bool) → (a ≡ true → b ≡ true) → (b ≡ true → a ≡ true) → a ≡ b
@@ -40,14 +42,16 @@ module _ (names : List (List ℕ)) (distinct : AreDistinct names) where
   same_named : (a b : EdgeFact) → IsWithin names a → IsWithin names b → same_seen (named names a) (named names b) ≡ same_pair a b
   same_named a b in_a in_b = λ i. numbers_by_name a.from b.from in_a.0 in_b.0 i && numbers_by_name a.to b.to in_a.1 in_b.1 i
 
-  any_named : (edges : List EdgeFact) (edge : EdgeFact) → All (IsWithin names) edges → IsWithin names edge → list_any (same_seen (named names edge)) (map (named names) edges) ≡ list_any (same_pair edge) edges
+  any_named : (edges : List EdgeFact) (edge : EdgeFact) → All (IsWithin names) edges → IsWithin names edge → list_any (same_seen (named names edge))
+      (map (named names) edges) ≡ list_any (same_pair edge) edges
   any_named [] edge within here = refl
   any_named (x ∷ xs) edge within here =
       let first = same_named edge x here (All-head (IsWithin names) x xs within) in
       let rest = any_named xs edge (All-tail (IsWithin names) x xs within) here in
       (λ i. first i || rest i)
 
-pub with_edge-named : (names : List (List ℕ)) → AreDistinct names → (edges : List EdgeFact) (edge : EdgeFact) → All (IsWithin names) edges → IsWithin names edge → map (named names) (with_edge edges edge) ≡ with_new same_seen (map (named names) edges) (named names edge)
+pub with_edge-named : (names : List (List ℕ)) → AreDistinct names → (edges : List EdgeFact) (edge : EdgeFact) → All (IsWithin names) edges → IsWithin
+    names edge → map (named names) (with_edge edges edge) ≡ with_new same_seen (map (named names) edges) (named names edge)
 with_edge-named names distinct edges edge within here =
     map-append (named names) edges (if list_any (same_pair edge) edges then [] else edge ∷ [])
     ∙ ap (λ zs. map (named names) edges ++ zs) (by (list_any (same_pair edge) edges))
@@ -65,17 +69,22 @@ within-with_edge names edges edge within here = All-append (IsWithin names) edge
     by false = All-cons (IsWithin names) edge [] here (All-nil (IsWithin names))
 
 -- the dependencies on one class from others, told at one line
-pub tell-named : (names : List (List ℕ)) → AreDistinct names → (edges : List EdgeFact) (line class : ℕ) (froms : List ℕ) → All (IsWithin names) edges → class < length names → All (λ from. from < length names) froms → map (named names) (fold with_edge edges (map (edge_to class line) froms)) ≡ fold (with_new same_seen) (map (named names) edges) (map (λ from. record { what = record { from = slice_index_or names from []; to = slice_index_or names class [] }; line = line }) froms)
+pub tell-named : (names : List (List ℕ)) → AreDistinct names → (edges : List EdgeFact) (line class : ℕ) (froms : List ℕ) → All (IsWithin names) edges
+    → class < length names → All (λ from. from < length names) froms → map (named names) (fold with_edge edges (map (edge_to class line) froms)) ≡
+    fold (with_new same_seen) (map (named names) edges) (map (λ from. record { what = record { from = slice_index_or names from []; to = slice_index_or names class [] }; line = line }) froms)
 tell-named names distinct edges line class [] within inside all = refl
 tell-named names distinct edges line class (from ∷ froms) within inside all =
     let here : IsWithin names (edge_to class line from) = (All-head (λ f. f < length names) from froms all, inside) in
-    tell-named names distinct (with_edge edges (edge_to class line from)) line class froms (within-with_edge names edges (edge_to class line from) within here) inside (All-tail (λ f. f < length names) from froms all)
+    tell-named names distinct (with_edge edges (edge_to class line from)) line class froms
+    (within-with_edge names edges (edge_to class line from) within here) inside (All-tail (λ f. f < length names) from froms all)
     ∙ ap (λ zs. fold (with_new same_seen) zs (map (λ f. named names (edge_to class line f)) froms)) (with_edge-named names distinct edges (edge_to class line from) within here)
 
-pub within-tell : (names : List (List ℕ)) (edges : List EdgeFact) (line class : ℕ) (froms : List ℕ) → All (IsWithin names) edges → class < length names → All (λ from. from < length names) froms → All (IsWithin names) (fold with_edge edges (map (edge_to class line) froms))
+pub within-tell : (names : List (List ℕ)) (edges : List EdgeFact) (line class : ℕ) (froms : List ℕ) → All (IsWithin names) edges → class < length
+    names → All (λ from. from < length names) froms → All (IsWithin names) (fold with_edge edges (map (edge_to class line) froms))
 within-tell names edges line class [] within inside all = within
 within-tell names edges line class (from ∷ froms) within inside all =
-    within-tell names (with_edge edges (edge_to class line from)) line class froms (within-with_edge names edges (edge_to class line from) within (All-head (λ f. f < length names) from froms all, inside)) inside (All-tail (λ f. f < length names) from froms all)
+    within-tell names (with_edge edges (edge_to class line from)) line class froms
+    (within-with_edge names edges (edge_to class line from) within (All-head (λ f. f < length names) from froms all, inside)) inside (All-tail (λ f. f < length names) from froms all)
 
 -- names with one more among them: those that were there stand where they stood
 pub number-more : (names : List (List ℕ)) (name : List ℕ) (i : ℕ) → i < length names → i < length (with_name names name)
@@ -143,7 +152,8 @@ pub distinct-classes : (past : List PlainEvent) → AreDistinct (classes past)
 distinct-classes past = distinct-each_once (filter_map class_acquired past)
 
 -- the classes of the locks of a stack, by number
-pub holds-names : (names : List (List ℕ)) (stack : List Hold) → All (λ hold. IsNameAt names hold.class hold.lock.class) stack → map (λ from. slice_index_or names from []) (map (λ hold. hold.class) stack) ≡ map (λ hold. hold.lock.class) stack
+pub holds-names : (names : List (List ℕ)) (stack : List Hold) → All (λ hold. IsNameAt names hold.class hold.lock.class) stack → map
+    (λ from. slice_index_or names from []) (map (λ hold. hold.class) stack) ≡ map (λ hold. hold.lock.class) stack
 holds-names names [] at = refl
 holds-names names (x ∷ xs) at =
     let here = All-head (λ hold. IsNameAt names hold.class hold.lock.class) x xs at in
@@ -151,7 +161,10 @@ holds-names names (x ∷ xs) at =
     (λ i. here.1 i ∷ rest i)
 
 pub holds-within : (names : List (List ℕ)) (stack : List Hold) → All (λ hold. IsNameAt names hold.class hold.lock.class) stack → All (λ from. from < length names) (map (λ hold. hold.class) stack)
-holds-within names stack at = All-map (λ from. from < length names) (λ hold. hold.class) stack (All-weaker (λ hold. IsNameAt names hold.class hold.lock.class) (λ hold. hold.class < length names) (λ hold h. h.0) stack at)
+holds-within names stack at = All-map (λ from. from < length names) (λ hold. hold.class) stack
+    (All-weaker (λ hold. IsNameAt names hold.class hold.lock.class) (λ hold. hold.class < length names) (λ hold h. h.0) stack at)
 
-pub holds-more : (names : List (List ℕ)) (name : List ℕ) (stack : List Hold) → All (λ hold. IsNameAt names hold.class hold.lock.class) stack → All (λ hold. IsNameAt (with_name names name) hold.class hold.lock.class) stack
-holds-more names name stack at = All-weaker (λ hold. IsNameAt names hold.class hold.lock.class) (λ hold. IsNameAt (with_name names name) hold.class hold.lock.class) (λ hold h. IsNameAt-more names name hold.class hold.lock.class h) stack at
+pub holds-more : (names : List (List ℕ)) (name : List ℕ) (stack : List Hold) → All (λ hold. IsNameAt names hold.class hold.lock.class) stack → All
+    (λ hold. IsNameAt (with_name names name) hold.class hold.lock.class) stack
+holds-more names name stack at = All-weaker (λ hold. IsNameAt names hold.class hold.lock.class)
+    (λ hold. IsNameAt (with_name names name) hold.class hold.lock.class) (λ hold h. IsNameAt-more names name hold.class hold.lock.class h) stack at

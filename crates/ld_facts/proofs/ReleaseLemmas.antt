@@ -1,6 +1,7 @@
 -- A release, seen through the stacks of the scan: the latest lock of the name goes from the innermost frame
 -- of its task.
-use Rattle.std.proofs.Common.{◌≡◌, ◌<◌, ◌≤◌, ◌++◌, ◌∷◌, [], ◌&&◌, ◌||◌, List, ℕ, Bool, true, false, not, cond, length, map, filter, take, drop, get_or, set, Option, Some, None, refl, ap, sym, subst, ◌∙◌, arith, if◌then◌else◌, length-append}
+use Rattle.std.proofs.Common.{◌≡◌, ◌<◌, ◌≤◌, ◌++◌, ◌∷◌, [], ◌&&◌, ◌||◌, List, ℕ, Bool, true, false, not, cond, length, map, filter, take, drop}
+use Rattle.std.proofs.Common.{get_or, set, Option, Some, None, refl, ap, sym, subst, ◌∙◌, arith, if◌then◌else◌, length-append}
 use Rattle.std.proofs.lemmas.Bool.{true≢false, and_parts, and_from, or_parts}
 use Rattle.std.proofs.lemmas.List.{length-set, get_or-set_same, get_or-set_other, map-append, take-append-drop, take-map}
 use Rattle.std.proofs.lemmas.List.Elements.{All-append, All-cons, All-drop, All-head, All-tail, All-take}
@@ -12,31 +13,30 @@ use Rattle.ld_trace.specs.declared.event.State.{State}
 use Rattle.ld_trace.specs.declared.event.State.TheVariants.{Hard, Soft}
 use Rattle.ld_trace.specs.Events.{PlainEvent, PlainLock, Position}
 use Rattle.ld_trace.specs.Events.PlainEvent.{Release}
-use Rattle.ld_facts.specs.declared.fault.TraceFault.TheVariants.{NotHeld}
-use Rattle.ld_facts.specs.declared.interrupts.Interrupts.{Interrupts}
-use Rattle.ld_facts.specs.declared.outcome.TheConstants.{MOST_HELD, MOST_TASKS}
+use Rattle.ld_rules.specs.declared.fault.TraceFault.TheVariants.{NotHeld}
+use Rattle.ld_held.specs.declared.interrupts.Interrupts.{Interrupts}
+use Rattle.ld_rules.specs.declared.outcome.TheConstants.{MOST_HELD, MOST_TASKS}
 use Rattle.ld_facts.specs.declared.scan.Scan.{Scan}
-use Rattle.ld_facts.specs.Open.{remove_last}
-use Rattle.ld_facts.specs.Dependency.{seen}
+use Rattle.ld_rules.specs.Open.{remove_last}
+use Rattle.ld_rules.specs.Dependency.{seen}
 use Rattle.ld_facts.specs.Facts.{named_use}
-use Rattle.ld_facts.specs.Flags.{is_enabled}
-use Rattle.ld_facts.specs.Frames.{contexts, frame_of, task_of}
-use Rattle.ld_facts.specs.Held.{Key, same_frame, same_key, same_lock, held, held_by, held_in}
-use Rattle.ld_facts.specs.Interrupts.{fresh, start_now}
-use Rattle.ld_facts.specs.Levels.{stack, starts, state_of}
-use Rattle.ld_facts.specs.Locks.{Hold, is_of}
-use Rattle.ld_facts.specs.Outcome.{each_once, event_fault, events, is_not_held, is_one_too_many, tasks}
-use Rattle.ld_facts.specs.Reading.{HasTask, IsAt, IsTask, happens}
-use Rattle.ld_facts.specs.Usage.{uses_at}
+use Rattle.ld_rules.specs.Flags.{is_enabled}
+use Rattle.ld_rules.specs.Frames.{contexts, frame_of, task_of}
+use Rattle.ld_rules.specs.Held.{Key, same_frame, same_key, same_lock, held, held_by, held_in}
+use Rattle.ld_held.specs.Inner.Interrupts.{fresh, start_now}
+use Rattle.ld_rules.specs.Inner.Levels.{stack, starts, state_of}
+use Rattle.ld_held.specs.Inner.Locks.{Hold, is_of}
+use Rattle.ld_rules.specs.Outcome.{each_once, event_fault, events, is_not_held, is_one_too_many, tasks}
+use Rattle.ld_facts.specs.Inner.Reading.{HasTask, IsAt, IsTask, happens}
+use Rattle.ld_rules.specs.Usage.{same_what, uses_at}
 use Rattle.ld_facts.specs.Facts.{IsUse}
-use Rattle.ld_facts.specs.Uses.{same_what}
-use Rattle.ld_facts.proofs.RemoveLemmas.{list_any-filter, map-remove_last}
-use Rattle.ld_facts.proofs.HeldLemmas.{Decides-same_frame, Decides-same_key, any_held_by, held_by-releases}
-use Rattle.ld_facts.proofs.FlagLemmas.{levels-quiet, stack-quiet}
-use Rattle.ld_facts.proofs.GroupLemmas.{IsGrouped, held_in-innermost, outer_elsewhere, remove_last-append, starts-kept}
+use Rattle.ld_rules.proofs.RemoveLemmas.{list_any-filter, map-remove_last}
+use Rattle.ld_rules.proofs.HeldLemmas.{Decides-same_frame, Decides-same_key, any_held_by, held_by-releases}
+use Rattle.ld_rules.proofs.FlagLemmas.{levels-quiet, stack-quiet}
+use Rattle.ld_rules.proofs.GroupLemmas.{IsGrouped, held_in-innermost, outer_elsewhere, remove_last-append, starts-kept}
 use Rattle.ld_facts.proofs.InnerLemmas.{clean-grouped, inner-is, start-is}
 use Rattle.ld_facts.proofs.MovedLemmas.{own-before, shallow-before, tasks-fit, unacquired}
-use Rattle.ld_facts.proofs.UsageLemmas.{list_all-filter, list_all_mono, new_keys, new_uses, on_use, uses_in, uses_once, uses_once-push_new, waits_for, with_uses}
+use Rattle.ld_rules.proofs.UsageLemmas.{list_all-filter, list_all_mono, new_keys, new_uses, on_use, uses_in, uses_once, uses_once-push_new, waits_for, with_uses}
 
 -- two tests that agree at each element of which a third holds
 module _ {X : Type 0} (p q r : X → Bool) (same : (x : X) → r x ≡ true → p x ≡ q x) where
@@ -103,7 +103,8 @@ none_less p q within (x ∷ xs) none =
     by false is rest = rest
 
 -- what is kept of a task, when it releases a lock in its innermost frame
-module _ (names : List (List ℕ)) (stack : List Hold) (interrupts : Interrupts) (past : List PlainEvent) (task : List ℕ) (is : IsTask names stack interrupts past task) (grouped : IsGrouped past task) (lock : PlainLock) where
+module _ (names : List (List ℕ)) (stack : List Hold) (interrupts : Interrupts) (past : List PlainEvent) (task : List ℕ)
+    (is : IsTask names stack interrupts past task) (grouped : IsGrouped past task) (lock : PlainLock) where
   abbrev key : Key
   key = key_released past task lock
 
@@ -143,9 +144,11 @@ module _ (names : List (List ℕ)) (stack : List Hold) (interrupts : Interrupts)
       ∙ (λ i. take-map (λ (other : Key). other.lock) at (held_by past task) i ++ sym (map-remove_last (λ (other : Key). other.lock) (same_lock lock) (held_in past task frame)) i)
       ∙ sym (map-append (λ (other : Key). other.lock) (take at (held_by past task)) (remove_last (λ other. same_lock lock other.lock) (held_in past task frame)))
       ∙ ap (map (λ other. other.lock)) (
-      (λ i. take at (held_by past task) ++ sym (remove_last_agree_where (same_key key) (λ other. same_lock lock other.lock) (λ other. same_frame frame other.frame && bytes_eq task other.task) told_by_lock (held_in past task frame) all_in_frame) i)
+      (λ i. take at (held_by past task) ++ sym (remove_last_agree_where (same_key key) (λ other. same_lock lock other.lock)
+      (λ other. same_frame frame other.frame && bytes_eq task other.task) told_by_lock (held_in past task frame) all_in_frame) i)
       ∙ (λ i. take at (held_by past task) ++ remove_last (same_key key) (held_in-innermost past task grouped i))
-      ∙ sym (remove_last-append (same_key key) (take at (held_by past task)) (drop at (held_by past task)) (none_less (same_key key) (λ other. same_frame frame other.frame) in_frame (take at (held_by past task)) (outer_elsewhere past task grouped)))
+      ∙ sym (remove_last-append (same_key key) (take at (held_by past task)) (drop at (held_by past task))
+      (none_less (same_key key) (λ other. same_frame frame other.frame) in_frame (take at (held_by past task)) (outer_elsewhere past task grouped)))
       ∙ ap (remove_last (same_key key)) (take-append-drop at (held_by past task))
       ∙ sym (held_by-releases past task lock)
       )
@@ -157,7 +160,8 @@ module _ (names : List (List ℕ)) (stack : List Hold) (interrupts : Interrupts)
       start = start-is names stack interrupts past task is
 
 -- the fault of a release by a task that isn't one too many
-release_fault : (past : List PlainEvent) (name : List ℕ) (lock : PlainLock) → is_one_too_many MOST_TASKS (tasks past) name ≡ false → event_fault past (Release name lock) ≡ (if is_not_held past (Release name lock) then Some NotHeld else None)
+release_fault : (past : List PlainEvent) (name : List ℕ) (lock : PlainLock) → is_one_too_many MOST_TASKS (tasks past) name ≡ false → event_fault past
+    (Release name lock) ≡ (if is_not_held past (Release name lock) then Some NotHeld else None)
 release_fault past name lock fits = rw fits refl
 
 -- the uses of an event that counts no key
@@ -165,13 +169,15 @@ none_counted : (state : State) (b : Bool) → map (on_use state) (if b then [] e
 none_counted state true = refl
 none_counted state false = refl
 
-pub uses-uncounted : (all : List Position) (e : PlainEvent) (line : ℕ) → waits_for e ≡ None → new_keys (events all) e ≡ [] → each_once same_what (seen uses_at (all ++ happens line e ∷ [])) ≡ each_once same_what (seen uses_at all)
+pub uses-uncounted : (all : List Position) (e : PlainEvent) (line : ℕ) → waits_for e ≡ None → new_keys (events all) e ≡ [] → each_once same_what
+    (seen uses_at (all ++ happens line e ∷ [])) ≡ each_once same_what (seen uses_at all)
 uses-uncounted all e line waits_none counts_none =
     uses_once-push_new all (happens line e)
     ∙ ap (with_uses line (uses_once all)) ((λ i. uses_in (contexts (events all) (task_of e)) (waits_none i) ++ (none Hard i ++ none Soft i)))
   where
     none : (state : State) → new_uses (events all) e state ≡ []
-    none state = ap (λ keys. map (on_use state) (if is_enabled (events all ++ e ∷ []) (task_of e) state then keys else [])) counts_none ∙ none_counted state (is_enabled (events all ++ e ∷ []) (task_of e) state)
+    none state = ap (λ keys. map (on_use state) (if is_enabled (events all ++ e ∷ []) (task_of e) state then keys else [])) counts_none ∙ none_counted
+        state (is_enabled (events all ++ e ∷ []) (task_of e) state)
 
 -- the scan with the task of the release
 module _ (all : List Position) (old : Scan) (is_at : IsAt all old) (name : List ℕ) (lock : PlainLock) (id : ℕ) (mid : Scan) (has : HasTask old name id mid) where
@@ -213,7 +219,8 @@ module _ (all : List Position) (old : Scan) (is_at : IsAt all old) (name : List 
     locks = released_stack old.classes held_now frames_now (events all) name before grouped lock;
     classes = All-append (λ hold. IsNameAt old.classes hold.class hold.lock.class) (take (start_now frames_now) held_now) (remove_last (is_of lock) (drop (start_now frames_now) held_now))
         (All-take (λ hold. IsNameAt old.classes hold.class hold.lock.class) (start_now frames_now) held_now before.classes)
-        (All-remove_last (λ hold. IsNameAt old.classes hold.class hold.lock.class) (is_of lock) (drop (start_now frames_now) held_now) (All-drop (λ hold. IsNameAt old.classes hold.class hold.lock.class) (start_now frames_now) held_now before.classes));
+        (All-remove_last (λ hold. IsNameAt old.classes hold.class hold.lock.class) (is_of lock) (drop (start_now frames_now) held_now)
+        (All-drop (λ hold. IsNameAt old.classes hold.class hold.lock.class) (start_now frames_now) held_now before.classes));
     states = before.states ∙ sym (ap (map state_of) quiet);
     starts = before.starts ∙ sym (starts-kept (events all) (Release name lock) name quiet);
     levels = λ state. before.levels state ∙ sym (levels-quiet (events all) (Release name lock) name state refl);

@@ -1,5 +1,6 @@
 -- The tasks of a scan before and after the task of one more event, and what a task that is new to the trace holds.
-use Rattle.std.proofs.Common.{◌≡◌, ◌≢◌, ◌<◌, ◌≤◌, ◌++◌, ◌∷◌, [], ◌||◌, ◌&&◌, List, ℕ, Bool, true, false, not, length, map, get_or, Option, Some, None, refl, ap, sym, subst, ◌∙◌, ◌⊎◌, inl, inr, arith, eqb, length-append}
+use Rattle.std.proofs.Common.{◌≡◌, ◌≢◌, ◌<◌, ◌≤◌, ◌++◌, ◌∷◌, [], ◌||◌, ◌&&◌, List, ℕ, Bool, true, false, not, length, map, get_or, Option, Some, None}
+use Rattle.std.proofs.Common.{refl, ap, sym, subst, ◌∙◌, ◌⊎◌, inl, inr, arith, eqb, length-append}
 use Rattle.std.proofs.Math.Bool.{and-false}
 use Rattle.std.proofs.Math.Seq.{get_or-append_seam}
 use Rattle.std.proofs.lemmas.Bool.{or_parts, eq-eqb, ne_eqb, cases_lt}
@@ -15,21 +16,21 @@ use Rattle.ld_trace.specs.Events.{PlainEvent, PlainLock, Position}
 use Rattle.ld_trace.specs.Events.PlainEvent.{Acquire, Try}
 use Rattle.ld_trace.specs.declared.event.State.{State}
 use Rattle.ld_trace.specs.declared.event.State.TheVariants.{Hard, Soft}
-use Rattle.ld_facts.specs.declared.fault.TraceFault.TheVariants.{TooManyTasks}
-use Rattle.ld_facts.specs.declared.outcome.TheConstants.{MOST_TASKS}
+use Rattle.ld_rules.specs.declared.fault.TraceFault.TheVariants.{TooManyTasks}
+use Rattle.ld_rules.specs.declared.outcome.TheConstants.{MOST_TASKS}
 use Rattle.ld_facts.specs.declared.scan.Scan.{Scan}
-use Rattle.ld_facts.specs.declared.interrupts.Interrupts.{Interrupts}
-use Rattle.ld_facts.specs.Frames.{task_of}
-use Rattle.ld_facts.specs.Held.{held_by}
-use Rattle.ld_facts.specs.Interrupts.{fresh, levels_of, starts_of, states_of}
-use Rattle.ld_facts.specs.Levels.{levels, stack, starts_in, state_of}
-use Rattle.ld_facts.specs.Locks.{Hold}
-use Rattle.ld_facts.specs.Outcome.{is_one_too_many, event_fault, events, tasks}
-use Rattle.ld_facts.specs.Reading.{IsAt, IsTask, acquisition}
-use Rattle.ld_facts.proofs.PlaceLemmas.{alike_from_decides, any_each_once, by_pushes}
-use Rattle.ld_facts.proofs.FlagLemmas.{levels-other, stack-other, states-other}
-use Rattle.ld_facts.proofs.GroupLemmas.{held_by-other_task, starts-kept}
-use Rattle.ld_facts.proofs.StepLemmas.{tasks-push}
+use Rattle.ld_held.specs.declared.interrupts.Interrupts.{Interrupts}
+use Rattle.ld_rules.specs.Frames.{task_of}
+use Rattle.ld_rules.specs.Held.{held_by}
+use Rattle.ld_held.specs.Inner.Interrupts.{fresh, levels_of, starts_of, states_of}
+use Rattle.ld_rules.specs.Inner.Levels.{levels, stack, starts_in, state_of}
+use Rattle.ld_held.specs.Inner.Locks.{Hold}
+use Rattle.ld_rules.specs.Outcome.{is_one_too_many, event_fault, events, tasks}
+use Rattle.ld_facts.specs.Inner.Reading.{IsAt, IsTask, acquisition}
+use Rattle.ld_rules.proofs.PlaceLemmas.{alike_from_decides, any_each_once, by_pushes}
+use Rattle.ld_rules.proofs.FlagLemmas.{levels-other, stack-other, states-other}
+use Rattle.ld_rules.proofs.GroupLemmas.{held_by-other_task, starts-kept}
+use Rattle.ld_rules.proofs.StepLemmas.{tasks-push}
 
 -- the test whether a name is one too many
 module _ (most : ℕ) (names : List (List ℕ)) (name : List ℕ) where
@@ -73,7 +74,8 @@ AreDistinct-with_name names name distinct = by (place_of names name) refl
             let last : i ≡ length names = omega (arith, at.0, length-append names (name ∷ [])) in
             inr (last, sym at.1 ∙ ap (λ k. get_or (names ++ name ∷ []) k []) last ∙ get_or-append_seam names name [] [])
 
-    apart : place_of names name ≡ None → (i j : ℕ) (other : List ℕ) → IsNameAt names i other ⊎ ((i ≡ length names) × (other ≡ name)) → IsNameAt names j other ⊎ ((j ≡ length names) × (other ≡ name)) → i ≡ j
+    apart : place_of names name ≡ None → (i j : ℕ) (other : List ℕ) → IsNameAt names i other ⊎ ((i ≡ length names) × (other ≡ name)) → IsNameAt names
+        j other ⊎ ((j ≡ length names) × (other ≡ name)) → i ≡ j
     apart new i j other (inl a) (inl b) = distinct i j other a b
     apart new i j other (inl a) (inr b) = absurd (place_of-None names name i new (a.0, a.1 ∙ b.1))
     apart new i j other (inr a) (inl b) = absurd (place_of-None names name j new (b.0, b.1 ∙ a.1))
@@ -85,7 +87,8 @@ AreDistinct-with_name names name distinct = by (place_of names name) refl
 
 -- the tasks of a trace are distinct
 pub tasks-AreDistinct : (past : List PlainEvent) → AreDistinct (tasks past)
-tasks-AreDistinct past = by_pushes (λ xs. AreDistinct (tasks xs)) (λ i j name at_i at_j. absurd (omega (arith, at_i.0))) (λ xs e rest. subst AreDistinct (sym (tasks-push xs e)) (AreDistinct-with_name (tasks xs) (task_of e) rest)) past
+tasks-AreDistinct past = by_pushes (λ xs. AreDistinct (tasks xs)) (λ i j name at_i at_j. absurd (omega (arith, at_i.0)))
+    (λ xs e rest. subst AreDistinct (sym (tasks-push xs e)) (AreDistinct-with_name (tasks xs) (task_of e) rest)) past
 
 -- a task without an event holds nothing, has no frame, and its flags are on
 pub record IsUnheard (past : List PlainEvent) (name : List ℕ) : Type 0 where
@@ -98,7 +101,8 @@ unheard past name new =
     by_pushes (λ xs. list_any (bytes_eq name) (map task_of xs) ≡ false → IsUnheard xs name) (λ _. record { holds = refl; frames = refl; flags = λ state. refl }) step past
     (sym (any_each_once bytes_eq (alike_from_decides bytes_eq bytes_eq-Decides) name (map task_of past)) ∙ list_any-new (tasks past) name new)
   where
-    step : (xs : List PlainEvent) (e : PlainEvent) → (list_any (bytes_eq name) (map task_of xs) ≡ false → IsUnheard xs name) → list_any (bytes_eq name) (map task_of (xs ++ e ∷ [])) ≡ false → IsUnheard (xs ++ e ∷ []) name
+    step : (xs : List PlainEvent) (e : PlainEvent) → (list_any (bytes_eq name) (map task_of xs) ≡ false → IsUnheard xs name) → list_any
+        (bytes_eq name) (map task_of (xs ++ e ∷ [])) ≡ false → IsUnheard (xs ++ e ∷ []) name
     step xs e rest none =
         let parts = or_parts (list_any (bytes_eq name) (map task_of xs)) (bytes_eq name (task_of e) || false)
         (sym (list_any-append (bytes_eq name) (map task_of xs) (task_of e ∷ [])) ∙ ap (list_any (bytes_eq name)) (sym (map-append task_of xs (e ∷ []))) ∙ none) in
@@ -111,7 +115,9 @@ unheard past name new =
         }
 
 -- an event of another task leaves what the scan keeps of this one, also among more classes
-pub task-unmoved : (names more : List (List ℕ)) (held : List Hold) (interrupts : Interrupts) (past : List PlainEvent) (e : PlainEvent) (task : List ℕ) → bytes_eq task (task_of e) ≡ false → ((number : ℕ) (name : List ℕ) → IsNameAt names number name → IsNameAt more number name) → IsTask names held interrupts past task → IsTask more held interrupts (past ++ e ∷ []) task
+pub task-unmoved : (names more : List (List ℕ)) (held : List Hold) (interrupts : Interrupts) (past : List PlainEvent) (e : PlainEvent) (task : List ℕ)
+    → bytes_eq task (task_of e) ≡ false → ((number : ℕ) (name : List ℕ) → IsNameAt names number name → IsNameAt more number name) → IsTask names held
+    interrupts past task → IsTask more held interrupts (past ++ e ∷ []) task
 task-unmoved names more held interrupts past e task other stays is = record {
   locks = is.locks ∙ ap (map (λ key. key.lock)) (sym (held_by-other_task past task e other));
   classes = All-weaker (λ hold. IsNameAt names hold.class hold.lock.class) (λ hold. IsNameAt more hold.class hold.lock.class) (λ hold at. stays hold.class hold.lock.class at) held is.classes;
@@ -134,7 +140,8 @@ module _ (all : List Position) (scan : Scan) (is_at : IsAt all scan) (name : Lis
       by (Some k) known = is_at.each id other (subst (λ ns. IsNameAt ns id other) (is ∙ with_name-known scan.tasks name k known) at)
       by None new = split (subst (λ ns. IsNameAt ns id other) (is ∙ with_name-new scan.tasks name new) at) (cases_lt id (length scan.tasks))
         where
-          split : IsNameAt (scan.tasks ++ name ∷ []) id other → (id < length scan.tasks) ⊎ (length scan.tasks ≤ id) → IsTask scan.classes (get_or scan.locks.stacks id []) (get_or scan.locks.interrupts id fresh) (events all) other
+          split : IsNameAt (scan.tasks ++ name ∷ []) id other → (id < length scan.tasks) ⊎ (length scan.tasks ≤ id) → IsTask scan.classes
+              (get_or scan.locks.stacks id []) (get_or scan.locks.interrupts id fresh) (events all) other
           split end (inl low) = is_at.each id other (low, sym (get_or_append_left scan.tasks (name ∷ []) [] id low) ∙ end.1)
           split end (inr high) =
               let last : id ≡ length scan.tasks = omega (arith, end.0, length-append scan.tasks (name ∷ [])) in
@@ -144,7 +151,8 @@ module _ (all : List Position) (scan : Scan) (is_at : IsAt all scan) (name : Lis
               let none = unheard (events all) other (ap (λ n. place_of (tasks (events all)) n) same ∙ ap (λ ns. place_of ns name) (sym is_at.tasks) ∙ new) in
               record {
                 locks = ap (map (λ hold. hold.lock)) holds ∙ sym (ap (map (λ key. key.lock)) none.holds);
-                classes = All-same (λ hold. IsNameAt scan.classes hold.class hold.lock.class) (get_or scan.locks.stacks id []) [] holds (All-nil (λ hold. IsNameAt scan.classes hold.class hold.lock.class));
+                classes = All-same (λ hold. IsNameAt scan.classes hold.class hold.lock.class) (get_or scan.locks.stacks id []) [] holds
+                    (All-nil (λ hold. IsNameAt scan.classes hold.class hold.lock.class));
                 states = ap states_of frames ∙ sym (ap (map state_of) none.frames);
                 starts = ap starts_of frames ∙ sym (ap (starts_in (events all) other) none.frames);
                 levels = λ state. ap (levels_of state) frames ∙ fresh_levels state ∙ sym (none.flags state);
@@ -163,15 +171,18 @@ module _ (all : List Position) (scan : Scan) (is_at : IsAt all scan) (name : Lis
       by true eq = absurd (apart (task-distinct k id name (there.0, there.1 ∙ (bytes_eq-Decides other name).0 eq) here))
 
 -- a scan that has too many tasks for one more
-pub scan_too_many_tasks : (all : List Position) (scan : Scan) (e : PlainEvent) → IsAt all scan → place_of scan.tasks (task_of e) ≡ None → MOST_TASKS ≤ length scan.tasks → event_fault (events all) e ≡ Some TooManyTasks
+pub scan_too_many_tasks : (all : List Position) (scan : Scan) (e : PlainEvent) → IsAt all scan → place_of scan.tasks (task_of e) ≡ None → MOST_TASKS ≤
+    length scan.tasks → event_fault (events all) e ≡ Some TooManyTasks
 scan_too_many_tasks all scan e is_at new full =
     too_many_tasks (events all) e (ap (λ ns. is_one_too_many MOST_TASKS ns (task_of e)) (sym is_at.tasks) ∙ is_one_too_many-full MOST_TASKS scan.tasks (task_of e) new full is_at.few_tasks)
 
 -- the same of an acquisition
-pub acquisition_too_many_tasks : (all : List Position) (scan : Scan) (waits : Bool) (name : List ℕ) (lock : PlainLock) → IsAt all scan → place_of scan.tasks name ≡ None → MOST_TASKS ≤ length scan.tasks → event_fault (events all) (acquisition waits name lock) ≡ Some TooManyTasks
+pub acquisition_too_many_tasks : (all : List Position) (scan : Scan) (waits : Bool) (name : List ℕ) (lock : PlainLock) → IsAt all scan → place_of
+    scan.tasks name ≡ None → MOST_TASKS ≤ length scan.tasks → event_fault (events all) (acquisition waits name lock) ≡ Some TooManyTasks
 acquisition_too_many_tasks all scan false name lock is_at new full = scan_too_many_tasks all scan (Try name lock) is_at new full
 acquisition_too_many_tasks all scan true name lock is_at new full = scan_too_many_tasks all scan (Acquire name lock) is_at new full
 
 -- one that has not
-pub scan_not_too_many_tasks : (all : List Position) (scan : Scan) (name : List ℕ) → IsAt all scan → (place_of scan.tasks name ≡ None → length scan.tasks < MOST_TASKS) → is_one_too_many MOST_TASKS (tasks (events all)) name ≡ false
+pub scan_not_too_many_tasks : (all : List Position) (scan : Scan) (name : List ℕ) → IsAt all scan →
+    (place_of scan.tasks name ≡ None → length scan.tasks < MOST_TASKS) → is_one_too_many MOST_TASKS (tasks (events all)) name ≡ false
 scan_not_too_many_tasks all scan name is_at fits = ap (λ ns. is_one_too_many MOST_TASKS ns name) (sym is_at.tasks) ∙ is_one_too_many-fits MOST_TASKS scan.tasks name fits

@@ -11,19 +11,19 @@ use Rattle.ld_class.specs.Names.{AreDistinct, IsNameAt, with_name}
 use Rattle.ld_trace.specs.declared.event.State.{State}
 use Rattle.ld_trace.specs.declared.event.State.TheVariants.{Hard, Soft}
 use Rattle.ld_trace.specs.Events.{PlainLock}
-use Rattle.ld_facts.specs.declared.uses.UsageFact.{UsageFact}
-use Rattle.ld_facts.specs.declared.interrupts.Interrupts.{Interrupts}
-use Rattle.ld_facts.specs.Dependency.{Seen}
+use Rattle.ld_held.specs.declared.uses.UsageFact.{UsageFact}
+use Rattle.ld_held.specs.declared.interrupts.Interrupts.{Interrupts}
+use Rattle.ld_rules.specs.Dependency.{Seen}
 use Rattle.ld_facts.specs.Facts.{named_use}
-use Rattle.ld_facts.specs.Held.{Key}
-use Rattle.ld_facts.specs.Interrupts.{enabled_now, states_of}
-use Rattle.ld_facts.specs.Usage.{Bit, Use, bit_of, usage_of}
-use Rattle.ld_facts.specs.Usage.Bit.{In, On}
+use Rattle.ld_rules.specs.Held.{Key}
+use Rattle.ld_held.specs.Inner.Interrupts.{enabled_now, states_of}
+use Rattle.ld_rules.specs.Usage.{Bit, Use, same_what, bit_of, usage_of}
+use Rattle.ld_rules.specs.Usage.Bit.{In, On}
 use Rattle.ld_facts.specs.Facts.{IsUse}
-use Rattle.ld_facts.specs.Uses.{fact, in_facts, on_facts, same_fact, same_what, with_use}
+use Rattle.ld_held.specs.Inner.Uses.{fact, in_facts, on_facts, same_fact, with_use}
 use Rattle.ld_facts.proofs.NamedLemmas.{name-more, number-more}
-use Rattle.ld_facts.proofs.PlaceLemmas.{with_new}
-use Rattle.ld_facts.proofs.UsageLemmas.{Decides-same_use, at_line, on_use, uses_in}
+use Rattle.ld_rules.proofs.PlaceLemmas.{with_new}
+use Rattle.ld_rules.proofs.UsageLemmas.{Decides-same_use, at_line, on_use, uses_in}
 
 -- usage bits of which the names are told apart, and one more
 module _ (names : List (List ℕ)) (distinct : AreDistinct names) where
@@ -42,14 +42,16 @@ module _ (names : List (List ℕ)) (distinct : AreDistinct names) where
           ))
           (Decides-and (a.class == b.class) (a.bit.0 == b.bit.0) (Decides-eqb a.class b.class) (Decides-eqb a.bit.0 b.bit.0))
 
-  any_named : (facts : List UsageFact) (one : UsageFact) → All (IsUse names) facts → IsUse names one → list_any (same_what (named_use names one)) (map (named_use names) facts) ≡ list_any (same_fact one) facts
+  any_named : (facts : List UsageFact) (one : UsageFact) → All (IsUse names) facts → IsUse names one → list_any (same_what (named_use names one))
+      (map (named_use names) facts) ≡ list_any (same_fact one) facts
   any_named [] one within here = refl
   any_named (x ∷ xs) one within here =
       let first = same_named one x here (All-head (IsUse names) x xs within) in
       let rest = any_named xs one (All-tail (IsUse names) x xs within) here in
       (λ i. first i || rest i)
 
-  with_use-named : (facts : List UsageFact) (one : UsageFact) → All (IsUse names) facts → IsUse names one → map (named_use names) (with_use facts one) ≡ with_new same_what (map (named_use names) facts) (named_use names one)
+  with_use-named : (facts : List UsageFact) (one : UsageFact) → All (IsUse names) facts → IsUse names one → map (named_use names)
+      (with_use facts one) ≡ with_new same_what (map (named_use names) facts) (named_use names one)
   with_use-named facts one within here =
       map-append (named_use names) facts (if list_any (same_fact one) facts then [] else one ∷ [])
       ∙ ap (λ zs. map (named_use names) facts ++ zs) (by (list_any (same_fact one) facts))
@@ -67,7 +69,8 @@ within-with_use names facts one within here = All-append (IsUse names) facts (if
     by false = All-cons (IsUse names) one [] here (All-nil (IsUse names))
 
 -- more usage bits, told in turn
-pub uses-named : (names : List (List ℕ)) → AreDistinct names → (facts more : List UsageFact) → All (IsUse names) facts → All (IsUse names) more → map (named_use names) (fold with_use facts more) ≡ fold (with_new same_what) (map (named_use names) facts) (map (named_use names) more)
+pub uses-named : (names : List (List ℕ)) → AreDistinct names → (facts more : List UsageFact) → All (IsUse names) facts → All (IsUse names) more → map
+    (named_use names) (fold with_use facts more) ≡ fold (with_new same_what) (map (named_use names) facts) (map (named_use names) more)
 uses-named names distinct facts [] within inside = refl
 uses-named names distinct facts (x ∷ xs) within inside =
     let here = All-head (IsUse names) x xs inside in
@@ -102,7 +105,8 @@ fact-within names bit line class low = (low, ap usage_of (sym (bit_of-usage bit)
 
 -- The bits of a class that is waited for.
 
-pub in_facts-named : (names : List (List ℕ)) (interrupts : Interrupts) (line class : ℕ) (lock : PlainLock) → IsNameAt names class lock.class → map (named_use names) (in_facts interrupts line class) ≡ map (at_line line) (uses_in (reverse (states_of interrupts)) (Some lock))
+pub in_facts-named : (names : List (List ℕ)) (interrupts : Interrupts) (line class : ℕ) (lock : PlainLock) → IsNameAt names class lock.class → map
+    (named_use names) (in_facts interrupts line class) ≡ map (at_line line) (uses_in (reverse (states_of interrupts)) (Some lock))
 in_facts-named names interrupts line class lock at = by (reverse (states_of interrupts))
   where
     by : (states : List State) → map (named_use names) (map (λ state. fact (In state) line class) states) ≡ map (at_line line) (uses_in states (Some lock))
@@ -125,7 +129,8 @@ in_facts-within names interrupts line class low = by (reverse (states_of interru
 abbrev seen_on : State → ℕ → List ℕ → Seen Use
 seen_on state line name = at_line line (record { class = name; bit = On state })
 
-on_named : (names : List (List ℕ)) (state : State) (line : ℕ) (classes : List ℕ) (keys : List Key) → map (λ c. slice_index_or names c []) classes ≡ map (λ key. key.lock.class) keys → map (named_use names) (map (fact (On state) line) classes) ≡ map (at_line line) (map (on_use state) keys)
+on_named : (names : List (List ℕ)) (state : State) (line : ℕ) (classes : List ℕ) (keys : List Key) → map (λ c. slice_index_or names c []) classes ≡
+    map (λ key. key.lock.class) keys → map (named_use names) (map (fact (On state) line) classes) ≡ map (at_line line) (map (on_use state) keys)
 on_named names state line classes keys same =
     map-map (named_use names) (fact (On state) line) classes
     ∙ ap (λ bit. map (λ c. at_line line (record { class = slice_index_or names c []; bit = bit })) classes) (bit_of-usage (On state))
@@ -134,7 +139,9 @@ on_named names state line classes keys same =
     ∙ map-map (seen_on state line) (λ key. key.lock.class) keys
     ∙ sym (map-map (at_line line) (on_use state) keys)
 
-pub on_facts-named : (names : List (List ℕ)) (interrupts : Interrupts) (line : ℕ) (classes : List ℕ) (keys : List Key) → map (λ c. slice_index_or names c []) classes ≡ map (λ key. key.lock.class) keys → map (named_use names) (on_facts interrupts line classes) ≡ map (at_line line) (map (on_use Hard) (if enabled_now Hard interrupts then keys else []) ++ map (on_use Soft) (if enabled_now Soft interrupts then keys else []))
+pub on_facts-named : (names : List (List ℕ)) (interrupts : Interrupts) (line : ℕ) (classes : List ℕ) (keys : List Key) → map
+    (λ c. slice_index_or names c []) classes ≡ map (λ key. key.lock.class) keys → map (named_use names) (on_facts interrupts line classes) ≡ map
+    (at_line line) (map (on_use Hard) (if enabled_now Hard interrupts then keys else []) ++ map (on_use Soft) (if enabled_now Soft interrupts then keys else []))
 on_facts-named names interrupts line classes keys same =
     map-append (named_use names) (map (fact (On Hard) line) (if enabled_now Hard interrupts then classes else [])) (map (fact (On Soft) line) (if enabled_now Soft interrupts then classes else []))
     ∙ (λ i. by Hard (enabled_now Hard interrupts) i ++ by Soft (enabled_now Soft interrupts) i)
@@ -150,5 +157,6 @@ on_facts-within names interrupts line classes inside =
     (by Hard (enabled_now Hard interrupts)) (by Soft (enabled_now Soft interrupts))
   where
     by : (state : State) (b : Bool) → All (IsUse names) (map (fact (On state) line) (if b then classes else []))
-    by state true = All-map (IsUse names) (fact (On state) line) classes (All-weaker (λ c. c < length names) (λ c. IsUse names (fact (On state) line c)) (λ c low. fact-within names (On state) line c low) classes inside)
+    by state true = All-map (IsUse names) (fact (On state) line) classes (All-weaker (λ c. c < length names)
+        (λ c. IsUse names (fact (On state) line c)) (λ c low. fact-within names (On state) line c low) classes inside)
     by state false = All-nil (IsUse names)

@@ -2,14 +2,14 @@
 use Rattle.std.specs.Prelude.{◌≡◌, ℕ, ◌<◌, ◌≤◌, List, [], map, length, slice_index_or, All}
 use Rattle.std.specs.Prelude.{AllPairs}
 use Rattle.ld_trace.specs.Sources.{Fits, PlainSource}
-use Rattle.ld_facts.specs.declared.outcome.Outcome.{Outcome}
-use Rattle.ld_facts.specs.declared.outcome.TheConstants.{MOST_CLASSES}
-use Rattle.ld_facts.specs.declared.edges.EdgeFact.{EdgeFact}
-use Rattle.ld_facts.specs.declared.uses.UsageFact.{UsageFact}
-use Rattle.ld_facts.specs.Outcome.{outcome}
-use Rattle.ld_facts.specs.Dependency.{Dependency, Seen, least_line, same_dependency}
-use Rattle.ld_facts.specs.Usage.{IsBit, Use, bit_of, same_use}
-use Rattle.ld_facts.specs.Union.{classes_of, dependencies_of, uses_of}
+use Rattle.ld_rules.specs.declared.outcome.Outcome.{Outcome}
+use Rattle.ld_rules.specs.declared.outcome.TheConstants.{MOST_CLASSES}
+use Rattle.ld_held.specs.declared.edges.EdgeFact.{EdgeFact}
+use Rattle.ld_held.specs.declared.uses.UsageFact.{UsageFact}
+use Rattle.ld_rules.specs.Outcome.{outcome}
+use Rattle.ld_rules.specs.Dependency.{Dependency, Seen, least_line, same_dependency}
+use Rattle.ld_rules.specs.Usage.{IsBit, Use, bit_of, same_use}
+use Rattle.ld_rules.specs.Union.{classes_of, dependencies_of, uses_of}
 
 pub record Known : Type 0 where
   pub source : PlainSource

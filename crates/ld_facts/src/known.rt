@@ -3,10 +3,9 @@ ghost use Rattle.std.specs.Prelude.{◌≡◌};
 ghost use Rattle.ld_trace.specs.Sources.{plain};
 ghost use Rattle.ld_facts.specs.Facts.{IsKnown};
 
-use crate::edges::{EdgeFact, Edges};
-use crate::outcome::Outcome;
-use crate::uses::{UsageFact, Uses};
 use ld_class::Classes;
+use ld_held::{EdgeFact, Edges, UsageFact, Uses};
+use ld_rules::Outcome;
 use ld_trace::Source;
 use std::marker::Model;
 

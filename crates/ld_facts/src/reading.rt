@@ -1,16 +1,14 @@
 //! Reads the facts of a trace.
 ghost use Rattle.std.specs.Prelude.{◌≡◌, IfOk};
 ghost use Rattle.ld_trace.specs.Sources.{plain, Fits};
-ghost use Rattle.ld_facts.specs.Outcome.{outcome};
-ghost use Rattle.ld_facts.specs.declared.outcome.Outcome.TheVariants.{Refused};
+ghost use Rattle.ld_rules.specs.Outcome.{outcome};
+ghost use Rattle.ld_rules.specs.declared.outcome.Outcome.TheVariants.{Refused};
 
-use crate::edges::Edges;
-use crate::fault::TraceFault;
 use crate::known::Facts;
-use crate::outcome::Outcome;
 use crate::scan::{Scan, Stop};
-use crate::uses::Uses;
 use ld_class::Classes;
+use ld_held::{Edges, Uses};
+use ld_rules::{Outcome, TraceFault};
 use ld_trace::{Source, next_line, read_event, text};
 use std::alloc::{AllocError, Global};
 
@@ -31,10 +29,16 @@ pub fn facts<'a>(alloc: Global, source: Source<'a>) -> Result<Facts<'a>, AllocEr
             Ok(None) => {}
             Ok(Some(event)) => match scan.step(event, line) {
                 Ok(()) => events += 1,
-                Err(Stop::Memory) => return Err(AllocError),
-                Err(Stop::Fault(fault)) => return Ok(refused(alloc, source, line, fault)),
+                Err(Stop::Memory) => {
+                    drop(scan);
+                    return Err(AllocError);
+                }
+                Err(Stop::Fault(fault)) => return Ok(refused(alloc, scan, source, line, fault)),
             },
-            Err(fault) => return Ok(refused(alloc, source, line, TraceFault::from(fault))),
+            Err(fault) => {
+                let fault = TraceFault::from(fault);
+                return Ok(refused(alloc, scan, source, line, fault));
+            }
         }
         rest = others;
         line += 1;
@@ -48,11 +52,19 @@ pub fn facts<'a>(alloc: Global, source: Source<'a>) -> Result<Facts<'a>, AllocEr
     })
 }
 
-fn refused<'a>(alloc: Global, source: Source<'a>, line: u64, fault: TraceFault) -> Facts<'a>
+/// The facts of a trace with a fault. They have nothing of what the scan found before it.
+fn refused<'a>(
+    alloc: Global,
+    scan: Scan<'a>,
+    source: Source<'a>,
+    line: u64,
+    fault: TraceFault,
+) -> Facts<'a>
     requires outcome { outcome (plain source) ≡ Refused line fault }
     requires fits { Fits (plain source) }
     ensures { result.source ≡ plain source.entry }
 {
+    drop(scan);
     Facts {
         source,
         outcome: Outcome::Refused { line, fault },
@@ -61,6 +73,3 @@ fn refused<'a>(alloc: Global, source: Source<'a>, line: u64, fault: TraceFault) 
         usage: Uses::new(alloc),
     }
 }
-
-#[cfg(test)]
-mod tests;

@@ -4,19 +4,17 @@ ghost use Rattle.std.specs.Prelude.{length, map, slice_index_or, IfOk, OnOk};
 ghost use Rattle.ld_class.specs.Names.{place_of, with_name, IsNameAt};
 ghost use Rattle.ld_trace.specs.Events.{Position, plain_event, plain_lock};
 ghost use Rattle.ld_trace.specs.Events.PlainEvent.{Disable, Enable, Enter, Exit, Release};
-ghost use Rattle.ld_facts.specs.Interrupts.{fresh};
-ghost use Rattle.ld_facts.specs.Outcome.{event_fault, events};
-ghost use Rattle.ld_facts.specs.Reading.{AreMany, HasTask, IsAt, acquisition, happens, taken};
-ghost use Rattle.ld_facts.specs.Reading.{waited};
-ghost use Rattle.ld_facts.specs.Uses.{on_facts, with_use};
-ghost use Rattle.ld_facts.specs.declared.fault.TraceFault.{TraceFault};
-ghost use Rattle.ld_facts.specs.declared.outcome.TheConstants.{MOST_CLASSES, MOST_HELD, MOST_TASKS};
+ghost use Rattle.ld_held.specs.Inner.Interrupts.{fresh};
+ghost use Rattle.ld_rules.specs.Outcome.{event_fault, events};
+ghost use Rattle.ld_facts.specs.Inner.Reading.{AreMany, HasTask, IsAt, acquisition, happens, taken};
+ghost use Rattle.ld_facts.specs.Inner.Reading.{waited};
+ghost use Rattle.ld_held.specs.Inner.Uses.{on_facts, with_use};
+ghost use Rattle.ld_rules.specs.declared.fault.TraceFault.{TraceFault};
+ghost use Rattle.ld_rules.specs.declared.outcome.TheConstants.{MOST_CLASSES, MOST_HELD, MOST_TASKS};
 
-use crate::fault::TraceFault;
-use crate::locks::Locks;
-use crate::outcome::{MOST_CLASSES, MOST_HELD, MOST_TASKS};
-use crate::uses::Uses;
 use ld_class::Classes;
+use ld_held::{Locks, Uses};
+use ld_rules::{MOST_CLASSES, MOST_HELD, MOST_TASKS, TraceFault};
 use ld_trace::{Event, Lock, State};
 use std::alloc::{AllocError, Global};
 

@@ -16,7 +16,7 @@ use Rattle.indexmap.proofs.CallerLemmas.{Contains-list_any}
 use Rattle.ld_graph.specs.declared.Edge.{Edge}
 use Rattle.ld_graph.specs.Edges.{edge, IsEdge, IsFirstPlace}
 use Rattle.ld_graph.specs.Walks.{HasWalk, DistanceIs}
-use Rattle.ld_graph.specs.Neighbours.{list_at, IsNear}
+use Rattle.ld_graph.specs.Inner.Neighbours.{list_at, IsNear}
 use Rattle.ld_graph.proofs.WalkLemmas.{HasWalk-turned, DistanceIs-same}
 use Rattle.indexmap.specs.IndexSet.{insert_key}
 

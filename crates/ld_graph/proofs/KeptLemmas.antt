@@ -3,11 +3,11 @@ use Rattle.std.proofs.Common.{◌≡◌, ◌↔◌, ℕ, ◌+◌, ◌<◌, ◌�
 use Rattle.std.proofs.Common.{subst, ◌∙◌, vec_len, vec_capacity}
 use Rattle.indexmap.specs.IndexSet.{spare}
 use Rattle.ld_graph.specs.declared.graph.Graph.TheInside.{Inside}
-use Rattle.ld_graph.specs.Neighbours.{Listed, IsNear}
+use Rattle.ld_graph.specs.Inner.Neighbours.{Listed, IsNear}
 use Rattle.ld_graph.specs.Edges.{IsEdge}
-use Rattle.ld_graph.specs.Levels.{level_at}
+use Rattle.ld_graph.specs.Inner.Levels.{level_at}
 use Rattle.ld_graph.specs.Walks.{DistanceIs}
-use Rattle.ld_graph.specs.Kept.{IsKept}
+use Rattle.ld_graph.specs.Inner.Kept.{IsKept}
 
 -- the lists are as before, with at least the memory that it had
 pub record ListsGrown (old new : Listed) : Type 0 where

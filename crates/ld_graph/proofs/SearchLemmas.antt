@@ -3,7 +3,7 @@ use Rattle.std.proofs.Common.{◌≡◌, ℕ, zero, suc, ◌+◌, ◌<◌, ◌�
 use Rattle.std.proofs.Common.{get_or, Option, Some, None, arith, refl, sym, ap, subst, ◌∙◌}
 use Rattle.std.proofs.lemmas.Bool.{cases_lt}
 use Rattle.ld_graph.specs.Walks.{IsDistance, DistanceIs}
-use Rattle.ld_graph.specs.Levels.{level_at, HasLevel, Spreads}
+use Rattle.ld_graph.specs.Inner.Levels.{level_at, HasLevel, Spreads}
 use Rattle.ld_graph.proofs.WalkLemmas.{Far, IsWalk-Far, IsDistance-Far}
 use Rattle.std.proofs.lemmas.List.{get_or_read}
 use Rattle.ld_graph.proofs.SpreadLemmas.{some_same, level_within}

@@ -8,8 +8,8 @@ use Rattle.std.proofs.lemmas.List.{get_or-set_other, get_or_past, get_or_default
 use Rattle.std.proofs.lemmas.List.Sums.{sum_by-set, count_by-le-length}
 use Rattle.std.proofs.lemmas.Bool.{cases_lt, cases_eq}
 use Rattle.std.proofs.lemmas.List.Elements.{Contains-get_or}
-use Rattle.ld_graph.specs.Neighbours.{IsNear, list_at}
-use Rattle.ld_graph.specs.Levels.{level_at, HasLevel, Spreads}
+use Rattle.ld_graph.specs.Inner.Neighbours.{IsNear, list_at}
+use Rattle.ld_graph.specs.Inner.Levels.{level_at, HasLevel, Spreads}
 
 pub some_same : (k l : ℕ) → Some k ≡ Some l → k ≡ l
 some_same k l e = cc

@@ -1,6 +1,3 @@
 pub mod Walks
 pub mod Edges
-pub mod Neighbours
-pub mod Runs
-pub mod Levels
-pub mod Kept
+pub mod Inner

@@ -19,6 +19,9 @@ use std::marker::Model;
 /// How many classes a graph may have, with its spare ones.
 pub const MOST_CLASSES: usize = 1 << 30;
 
+// Clauses cite the constant, so they would hold with any other number that fits.
+const _: () = prove!(MOST_CLASSES == 1_073_741_824);
+
 /// A directed graph whose classes are the numbers from 0 on.
 #[derive(Drop)]
 pub struct Graph {
@@ -42,7 +45,7 @@ impl Model for Graph {
 
     ghost Value = { Seen };
 
-    ghost use Rattle.ld_graph.specs.Kept.{seen, IsKept};
+    ghost use Rattle.ld_graph.specs.Inner.Kept.{seen, IsKept};
 
     ghost view = { seen };
 

@@ -2,8 +2,8 @@
 
 ghost use Rattle.std.specs.Prelude.{◌≡◌, ◌+◌, ◌<◌, ◌≤◌, ℕ, None, is_none, count_by};
 ghost use Rattle.std.specs.Prelude.{length, slice_index_or, vec_len, vec_capacity};
-ghost use Rattle.ld_graph.specs.Levels.{HasLevel, Spreads};
-ghost use Rattle.ld_graph.specs.Neighbours.{IsNear};
+ghost use Rattle.ld_graph.specs.Inner.Levels.{HasLevel, Spreads};
+ghost use Rattle.ld_graph.specs.Inner.Neighbours.{IsNear};
 ghost use Rattle.ld_graph.specs.Walks.{DistanceIs};
 
 use crate::lists::Neighbours;

@@ -5,8 +5,6 @@ mod graph;
 mod levels;
 mod lists;
 mod shown;
-#[cfg(test)]
-mod tests;
 
 pub use graph::{Graph, MOST_CLASSES};
 

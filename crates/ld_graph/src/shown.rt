@@ -3,8 +3,8 @@
 ghost use Rattle.std.specs.Prelude.{◌≡◌, ℕ, ◌<◌, ◌↔◌, length, Some, Contains};
 ghost use Rattle.std.specs.Prelude.{IsTrue, IfOk, MatchOption};
 ghost use Rattle.ld_graph.specs.Edges.{ComesBefore};
-ghost use Rattle.ld_graph.specs.Levels.{IsLeast, level_at};
-ghost use Rattle.ld_graph.specs.Neighbours.{IsNear};
+ghost use Rattle.ld_graph.specs.Inner.Levels.{IsLeast, level_at};
+ghost use Rattle.ld_graph.specs.Inner.Neighbours.{IsNear};
 ghost use Rattle.ld_graph.specs.Walks.{DistanceIs, IsShownWalk};
 
 use crate::lists::Neighbours;

@@ -28,7 +28,9 @@ split-run : (text : List ℕ) → Starts (slice_split is_blank text) (take (posi
 split-run [] = record { tail = []; is = refl; others = refl }
 split-run (b ∷ text) = by (is_blank b) refl (split-run text)
   where
-    by : (test : Bool) → is_blank b ≡ test → Starts (slice_split is_blank text) (take (position_or_len is_blank text) text) (fields (drop (position_or_len is_blank text) text)) → Starts (slice_split is_blank (b ∷ text)) (take (position_or_len is_blank (b ∷ text)) (b ∷ text)) (fields (drop (position_or_len is_blank (b ∷ text)) (b ∷ text)))
+    by : (test : Bool) → is_blank b ≡ test → Starts (slice_split is_blank text) (take (position_or_len is_blank text) text)
+        (fields (drop (position_or_len is_blank text) text)) → Starts (slice_split is_blank (b ∷ text))
+        (take (position_or_len is_blank (b ∷ text)) (b ∷ text)) (fields (drop (position_or_len is_blank (b ∷ text)) (b ∷ text)))
     by true blank s = record { tail = slice_split is_blank text; is = rw blank refl; others = rw (blank, blank) refl }
     by false full s = record { tail = s.tail; is = rw (full, one-add, s.is) refl; others = rw (full, one-add) s.others }
 
@@ -37,7 +39,8 @@ pub fields-run : (text : List ℕ) → 0 < length text → prefix_len is_blank t
 fields-run [] some full = absurd (omega arith)
 fields-run (b ∷ text) some full = by (is_blank b) refl full
   where
-    by : (test : Bool) → is_blank b ≡ test → prefix_len is_blank (b ∷ text) ≡ 0 → fields (b ∷ text) ≡ take (position_or_len is_blank (b ∷ text)) (b ∷ text) ∷ fields (drop (position_or_len is_blank (b ∷ text)) (b ∷ text))
+    by : (test : Bool) → is_blank b ≡ test → prefix_len is_blank (b ∷ text) ≡ 0 → fields (b ∷ text) ≡ take (position_or_len is_blank (b ∷ text))
+        (b ∷ text) ∷ fields (drop (position_or_len is_blank (b ∷ text)) (b ∷ text))
     by true blank none = absurd (let h = rw (blank, one-add) at none in cc)
     by false full none = let s = split-run text in rw (full, one-add, s.is) (ap (λ others. (b ∷ take (position_or_len is_blank text) text) ∷ others) s.others)
 

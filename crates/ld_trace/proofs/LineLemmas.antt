@@ -10,7 +10,8 @@ lines-cut [] k h before here = absurd (omega arith)
 lines-cut (b ∷ bytes) zero h before here = rw here refl
 lines-cut (b ∷ bytes) (suc k) h before here = by (is_byte 10 b) refl (lines-cut bytes k (omega arith) (λ j low high. before (suc j) (omega arith) (omega arith)) here)
   where
-    by : (test : Bool) → is_byte 10 b ≡ test → lines bytes ≡ take (suc k) bytes ∷ lines (drop (suc k) bytes) → lines (b ∷ bytes) ≡ take (suc (suc k)) (b ∷ bytes) ∷ lines (drop (suc (suc k)) (b ∷ bytes))
+    by : (test : Bool) → is_byte 10 b ≡ test → lines bytes ≡ take (suc k) bytes ∷ lines (drop (suc k) bytes) → lines (b ∷ bytes) ≡ take (suc (suc k))
+        (b ∷ bytes) ∷ lines (drop (suc (suc k)) (b ∷ bytes))
     by true is others = absurd (before 0 (omega arith) (omega arith) is)
     by false is others = rw is (ap (onto_first b) others)
 

@@ -1,5 +1,6 @@
 -- The sources of a stream have their places as their numbers.
-use Rattle.std.proofs.Common.{◌≡◌, ◌+◌, ◌<◌, ◌≤◌, ◌∷◌, [], ◌++◌, All, List, ℕ, zero, suc, Bool, true, false, Some, None, length, map, take, cond, count_by, filter_map, get_or, refl, sym, ap, subst, ◌∙◌, arith, if◌then◌else◌, append_assoc, length-append}
+use Rattle.std.proofs.Common.{◌≡◌, ◌+◌, ◌<◌, ◌≤◌, ◌∷◌, [], ◌++◌, All, List, ℕ, zero, suc, Bool, true, false, Some, None, length, map, take, cond}
+use Rattle.std.proofs.Common.{count_by, filter_map, get_or, refl, sym, ap, subst, ◌∙◌, arith, if◌then◌else◌, append_assoc, length-append}
 use Rattle.std.proofs.lemmas.List.{get_or-map, length-map, take_at}
 use Rattle.std.proofs.lemmas.List.Sums.{fold_push}
 use Rattle.std.specs.List.{cons_option, enumerate_from}
@@ -21,12 +22,16 @@ abbrev AreFrom : List (List ℕ) → ℕ → List (List ℕ) → ℕ → Type 0
 AreFrom all n rest count = (k : ℕ) (d : PlainSource) → k < length (opened_from all n rest) → (get_or (opened_from all n rest) k d).number ≡ count + k
 
 -- one line before others
-numbered_at : (all front : List (List ℕ)) (line : List ℕ) (rest : List (List ℕ)) → all ≡ front ++ line ∷ rest → AreFrom all (length front + 1) rest (count_by is_header (front ++ line ∷ [])) → AreFrom all (length front) (line ∷ rest) (count_by is_header front)
+numbered_at : (all front : List (List ℕ)) (line : List ℕ) (rest : List (List ℕ)) → all ≡ front ++ line ∷ rest → AreFrom all (length front + 1) rest
+    (count_by is_header (front ++ line ∷ [])) → AreFrom all (length front) (line ∷ rest) (count_by is_header front)
 numbered_at all front line rest is more = by (is_header line) refl
   where
-    by : (b : Bool) → is_header line ≡ b → (k : ℕ) (d : PlainSource) → k < length (cons_option (if b then Some (section_at all (length front)) else None) (opened_from all (length front + 1) rest)) → (get_or (cons_option (if b then Some (section_at all (length front)) else None) (opened_from all (length front + 1) rest)) k d).number ≡ count_by is_header front + k
+    by : (b : Bool) → is_header line ≡ b → (k : ℕ) (d : PlainSource) → k < length
+        (cons_option (if b then Some (section_at all (length front)) else None) (opened_from all (length front + 1) rest)) →
+        (get_or (cons_option (if b then Some (section_at all (length front)) else None) (opened_from all (length front + 1) rest)) k d).number ≡ count_by is_header front + k
     by true head zero d below =
-        let here : headers_before all (length front) ≡ count_by is_header front = ap (λ xs. count_by is_header (take (length front) xs)) is ∙ ap (count_by is_header) (take_at front (line ∷ rest) (length front) refl) in
+        let here : headers_before all (length front) ≡ count_by is_header front = ap (λ xs. count_by is_header (take (length front) xs)) is ∙ ap
+        (count_by is_header) (take_at front (line ∷ rest) (length front) refl) in
         omega (arith, here)
     by true head (suc k) d below = let others = more k d (omega arith) in omega (arith, others, count_by-push is_header front line true head)
     by false head k d below = let others = more k d below in omega (arith, others, count_by-push is_header front line false head)

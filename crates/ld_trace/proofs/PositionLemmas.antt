@@ -29,8 +29,10 @@ ascend n (line ∷ all) = by (said_by (text_of line)) (none_before (n + 1) (n + 
     by : (said : Said) → All (λ p. n + 1 ≤ p.line) (positions_from (n + 1) all) → AllPairs (λ p q. p.line < q.line) (positions_from (n + 1) all)
         → AllPairs (λ p q. p.line < q.line) (cons_option (position_of n said) (positions_from (n + 1) all))
     by (Ok None) above rest = rest
-    by (Ok (Some event)) above rest = AllPairs-cons (λ p q. p.line < q.line) (record { line = n; says = Ok event }) (positions_from (n + 1) all) (λ k d within. let low = above k d within in omega (arith, low)) rest
-    by (Err fault) above rest = AllPairs-cons (λ p q. p.line < q.line) (record { line = n; says = Err fault }) (positions_from (n + 1) all) (λ k d within. let low = above k d within in omega (arith, low)) rest
+    by (Ok (Some event)) above rest = AllPairs-cons (λ p q. p.line < q.line) (record { line = n; says = Ok event }) (positions_from (n + 1) all)
+        (λ k d within. let low = above k d within in omega (arith, low)) rest
+    by (Err fault) above rest = AllPairs-cons (λ p q. p.line < q.line) (record { line = n; says = Err fault }) (positions_from (n + 1) all)
+        (λ k d within. let low = above k d within in omega (arith, low)) rest
 
 -- The lines of a source's positions ascend.
 pub positions-ascend : (source : PlainSource) → AllPairs (λ p q. p.line < q.line) (positions source)

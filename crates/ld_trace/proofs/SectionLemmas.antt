@@ -1,5 +1,6 @@
 -- Faults and sections of lines, a line or some lines further on.
-use Rattle.std.proofs.Common.{ℕ, zero, suc, ◌≡◌, ◌+◌, ◌<◌, ◌≤◌, ◌||◌, Bool, true, false, not, cond, List, [], ◌∷◌, ◌++◌, length, take, drop, refl, sym, ◌∙◌, ap, arith, get_or, append_assoc, Option, None, Some, codes, ⊎_elim, eqb}
+use Rattle.std.proofs.Common.{ℕ, zero, suc, ◌≡◌, ◌+◌, ◌<◌, ◌≤◌, ◌||◌, Bool, true, false, not, cond, List, [], ◌∷◌, ◌++◌, length, take, drop, refl}
+use Rattle.std.proofs.Common.{sym, ◌∙◌, ap, arith, get_or, append_assoc, Option, None, Some, codes, ⊎_elim, eqb}
 use Rattle.std.proofs.Math.Numerals.{one-add}
 use Rattle.std.specs.Prelude.{is_some, unwrap_or, IsTrue, ◌==◌}
 use Rattle.std.specs.List.{concat, prefix_len, take_while, cons_option}
@@ -10,18 +11,20 @@ use Rattle.std.proofs.lemmas.Slice.Eq.{bytes_eq-Decides}
 use Rattle.ld_trace.specs.declared.source.TheConstants.{MOST_TRACES}
 use Rattle.ld_trace.specs.Lines.{is_word, says_nothing}
 use Rattle.ld_trace.specs.Sources.{PlainSource, begins_trace, fault_at, fields_of, headers_before, is_header, is_other, label_of, line_faults, opened_at, section_at, sections}
-use Rattle.ld_trace.specs.Splitting.{given_from}
+use Rattle.ld_trace.specs.Inner.Splitting.{given_from}
 use Rattle.ld_trace.proofs.SplitLemmas.{take-next, drop-next}
 
 -- one line further
-pub given_from-next : {Y : Type 0} (f : ℕ → List ℕ → Option Y) (all : List (List ℕ)) (k : ℕ) (x : List ℕ) (others : List (List ℕ)) → drop k all ≡ x ∷ others → given_from f all k ≡ cons_option (f k x) (given_from f all (k + 1))
+pub given_from-next : {Y : Type 0} (f : ℕ → List ℕ → Option Y) (all : List (List ℕ)) (k : ℕ) (x : List ℕ) (others : List (List ℕ)) → drop k all ≡ x ∷
+    others → given_from f all k ≡ cons_option (f k x) (given_from f all (k + 1))
 given_from-next f all k x others is = rw (is, drop-next all k x others is) refl
 
 drop-none : (all : List (List ℕ)) (k : ℕ) → drop k all ≡ [] → drop (k + 1) all ≡ []
 drop-none all k is = sym (drop-drop 1 k all) ∙ ap (λ o. drop 1 o) is
 
 -- m lines further, where they give nothing
-pub given_from-skip : {Y : Type 0} (f : ℕ → List ℕ → Option Y) (all : List (List ℕ)) (k m : ℕ) → ((j : ℕ) (x : List ℕ) (others : List (List ℕ)) → j < m → drop (k + j) all ≡ x ∷ others → f (k + j) x ≡ None) → given_from f all k ≡ given_from f all (k + m)
+pub given_from-skip : {Y : Type 0} (f : ℕ → List ℕ → Option Y) (all : List (List ℕ)) (k m : ℕ) →
+    ((j : ℕ) (x : List ℕ) (others : List (List ℕ)) → j < m → drop (k + j) all ≡ x ∷ others → f (k + j) x ≡ None) → given_from f all k ≡ given_from f all (k + m)
 given_from-skip f all k zero none = ap (given_from f all) (omega arith)
 given_from-skip f all k (suc m) none = given_from-skip f all k m (λ j x others below is. none j x others (omega arith) is) ∙ by (drop (k + m) all) refl ∙ ap (given_from f all) (omega arith)
   where
@@ -70,7 +73,8 @@ sections-skip all k m within = given_from-skip (opened_at all) all k m (λ j x o
 
 -- and behind a header they have no fault
 pub faults-skip : (all : List (List ℕ)) (k m : ℕ) → m ≤ prefix_len is_other (drop k all) → 0 < headers_before all k → given_from (fault_at all) all k ≡ given_from (fault_at all) all (k + m)
-faults-skip all k m within some = given_from-skip (fault_at all) all k m (λ j x others below is. no-fault (k + j) x (other-line all k j x others (omega arith) is) (headers_before-skip all k j (omega arith)))
+faults-skip all k m within some = given_from-skip (fault_at all) all k m (λ j x others below is. no-fault (k + j) x
+    (other-line all k j x others (omega arith) is) (headers_before-skip all k j (omega arith)))
   where
     no-fault : (i : ℕ) (x : List ℕ) → is_header x ≡ false → headers_before all i ≡ headers_before all k → fault_at all i x ≡ None
     no-fault i x other same = by (says_nothing (fields_of x)) refl
@@ -101,20 +105,26 @@ pub left-section : (all : List (List ℕ)) (k m : ℕ) (x : List ℕ) (others : 
 left-section all k m x others opens = ap (drop m) (sym (drop-next all k x others opens.is)) ∙ drop-drop m (k + 1) all
 
 -- neither the header nor the lines behind it have a fault
-pub faults-section : (all : List (List ℕ)) (k m number : ℕ) (x : List ℕ) (others : List (List ℕ)) → Opens all k m x others → headers_before all k ≡ number → (number ≡ MOST_TRACES → ⊥) → is_some (label_of (fields_of x)) ≡ true → line_faults all ≡ given_from (fault_at all) all k → line_faults all ≡ given_from (fault_at all) all (k + 1 + m)
+pub faults-section : (all : List (List ℕ)) (k m number : ℕ) (x : List ℕ) (others : List (List ℕ)) → Opens all k m x others → headers_before all k ≡
+    number → (number ≡ MOST_TRACES → ⊥) → is_some (label_of (fields_of x)) ≡ true → line_faults all ≡ given_from (fault_at all) all k → line_faults all ≡ given_from (fault_at all) all (k + 1 + m)
 faults-section all k m number x others opens counted few labelled before =
     let none : fault_at all k x ≡ None = rw (header-says (fields_of x) opens.header, opens.header, labelled, counted, not-most number few) refl in
-    before ∙ given_from-next (fault_at all) all k x others opens.is ∙ ap (λ o. cons_option o (given_from (fault_at all) all (k + 1))) none ∙ faults-skip all (k + 1) m (behind all k m x others opens) (omega (arith, rw opens.header at (headers_before-next all k x others opens.is)))
+    before ∙ given_from-next (fault_at all) all k x others opens.is ∙ ap (λ o. cons_option o (given_from (fault_at all) all (k + 1))) none ∙
+    faults-skip all (k + 1) m (behind all k m x others opens) (omega (arith, rw opens.header at (headers_before-next all k x others opens.is)))
 
 -- the sections told, with the one that opens here
-pub sections-section : (all : List (List ℕ)) (k m : ℕ) (x : List ℕ) (others : List (List ℕ)) (told : List PlainSource) (source : PlainSource) → Opens all k m x others → source ≡ section_at all k → told ++ given_from (opened_at all) all k ≡ sections all → (told ++ source ∷ []) ++ given_from (opened_at all) all (k + 1 + m) ≡ sections all
+pub sections-section : (all : List (List ℕ)) (k m : ℕ) (x : List ℕ) (others : List (List ℕ)) (told : List PlainSource) (source : PlainSource) → Opens
+    all k m x others → source ≡ section_at all k → told ++ given_from (opened_at all) all k ≡ sections all → (told ++ source ∷ []) ++ given_from (opened_at all) all (k + 1 + m) ≡ sections all
 sections-section all k m x others told source opens is before =
     let opened : opened_at all k x ≡ Some source = rw (opens.header, is) refl in
     let next = given_from-next (opened_at all) all k x others opens.is ∙ ap (λ o. cons_option o (given_from (opened_at all) all (k + 1))) opened in
-    append_assoc told (source ∷ []) (given_from (opened_at all) all (k + 1 + m)) ∙ ap (λ o. told ++ (source ∷ o)) (sym (sections-skip all (k + 1) m (behind all k m x others opens))) ∙ ap (λ o. told ++ o) (sym next) ∙ before
+    append_assoc told (source ∷ []) (given_from (opened_at all) all (k + 1 + m)) ∙ ap (λ o. told ++ (source ∷ o))
+    (sym (sections-skip all (k + 1) m (behind all k m x others opens))) ∙ ap (λ o. told ++ o) (sym next) ∙ before
 
 -- the section that opens here, field by field
-pub section-is : (all : List (List ℕ)) (k m number : ℕ) (x : List ℕ) (others : List (List ℕ)) (name bytes : List ℕ) → Opens all k m x others → headers_before all k ≡ number → label_of (fields_of x) ≡ Some name → bytes ≡ concat (take_while is_other others) → record { number = number; label = name; first_line = k + 2; bytes = bytes } ≡ section_at all k
+pub section-is : (all : List (List ℕ)) (k m number : ℕ) (x : List ℕ) (others : List (List ℕ)) (name bytes : List ℕ) → Opens all k m x others →
+    headers_before all k ≡ number → label_of (fields_of x) ≡ Some name → bytes ≡ concat (take_while is_other others) →
+    record { number = number; label = name; first_line = k + 2; bytes = bytes } ≡ section_at all k
 section-is all k m number x others name bytes opens counted labelled own =
     let here : get_or all k [] ≡ x = sym (get_or-front all k []) ∙ ap (λ o. get_or o 0 []) opens.is in
     rw (here, labelled, counted, drop-next all k x others opens.is, own) refl

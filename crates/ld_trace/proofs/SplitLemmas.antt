@@ -1,5 +1,6 @@
 -- One line more of a list of lines.
-use Rattle.std.proofs.Common.{ℕ, zero, suc, ◌≡◌, ◌+◌, Bool, true, false, List, [], ◌∷◌, ◌++◌, take, drop, refl, sym, ◌∙◌, ap, arith, add-one, append_assoc, append-nil, subst, Result, Ok, Err, is_ok, All}
+use Rattle.std.proofs.Common.{ℕ, zero, suc, ◌≡◌, ◌+◌, Bool, true, false, List, [], ◌∷◌, ◌++◌, take, drop, refl, sym, ◌∙◌, ap, arith, add-one}
+use Rattle.std.proofs.Common.{append_assoc, append-nil, subst, Result, Ok, Err, is_ok, All}
 use Rattle.std.specs.Prelude.{is_err, if◌then◌else◌}
 use Rattle.std.proofs.lemmas.List.Elements.{All-push}
 use Rattle.std.proofs.Math.Numerals.{one-add}
@@ -26,9 +27,11 @@ drop-next {X} xs k x ys is = rw add-one (by xs k is)
     by (z ∷ zs) (suc k) is = by zs k is
 
 -- the bytes of the lines taken, one line on
-pub concat-next : (lines : List (List ℕ)) (k : ℕ) (line : List ℕ) (others : List (List ℕ)) (bytes rest after : List ℕ) → drop k lines ≡ line ∷ others → bytes ≡ concat (take k lines) ++ rest → rest ≡ line ++ after → bytes ≡ concat (take (k + 1) lines) ++ after
+pub concat-next : (lines : List (List ℕ)) (k : ℕ) (line : List ℕ) (others : List (List ℕ)) (bytes rest after : List ℕ) → drop k lines ≡ line ∷ others
+    → bytes ≡ concat (take k lines) ++ rest → rest ≡ line ++ after → bytes ≡ concat (take (k + 1) lines) ++ after
 concat-next lines k line others bytes rest after is cut first =
-    let taken : concat (take (k + 1) lines) ≡ concat (take k lines) ++ line = rw (take-next lines k line others is) (concat-append (take k lines) (line ∷ []) ∙ ap (λ o. concat (take k lines) ++ o) (append-nil line)) in
+    let taken : concat (take (k + 1) lines) ≡ concat (take k lines) ++ line = rw (take-next lines k line others is)
+    (concat-append (take k lines) (line ∷ []) ∙ ap (λ o. concat (take k lines) ++ o) (append-nil line)) in
     cut ∙ ap (λ o. concat (take k lines) ++ o) first ∙ sym (append_assoc (concat (take k lines)) line after) ∙ ap (λ o. o ++ after) (sym taken)
 
 -- one more that passes

@@ -9,7 +9,7 @@ use Rattle.ld_trace.specs.declared.event.StateVerb.TheVariants as state_verbs
 use Rattle.ld_trace.specs.declared.event.LineFault.TheVariants.{BadVerb}
 use Rattle.ld_trace.specs.Lines.{begins_comment}
 use Rattle.ld_trace.specs.Events.{said_by_fields}
-use Rattle.ld_trace.specs.Reading.{said_after, spelling}
+use Rattle.ld_trace.specs.Inner.Reading.{said_after, spelling}
 
 -- a verb says what follows it
 said-verb : (verb : Verb) (found : List (List ℕ)) → said_by_fields (spelling verb ∷ found) ≡ said_after verb found
@@ -31,7 +31,17 @@ differs field text apart = by (bytes_eq field text) refl
 -- what is no verb has the fault of one
 pub said-no_verb : (field : List ℕ) (found : List (List ℕ)) → begins_comment field ≡ false → ((verb : Verb) → field ≢ spelling verb) → said_by_fields (field ∷ found) ≡ Err BadVerb
 said-no_verb field found event apart =
-    rw (event, differs field (codes "acquire") (apart (OfLock lock_verbs.Acquire)), differs field (codes "try") (apart (OfLock lock_verbs.Try)), differs field (codes "release") (apart (OfLock lock_verbs.Release)), differs field (codes "enter") (apart (OfState state_verbs.Enter)), differs field (codes "exit") (apart (OfState state_verbs.Exit)), differs field (codes "enable") (apart (OfState state_verbs.Enable)), differs field (codes "disable") (apart (OfState state_verbs.Disable))) refl
+    rw (
+      event,
+      differs field (codes "acquire") (apart (OfLock lock_verbs.Acquire)),
+      differs field (codes "try") (apart (OfLock lock_verbs.Try)),
+      differs field (codes "release") (apart (OfLock lock_verbs.Release)),
+      differs field (codes "enter") (apart (OfState state_verbs.Enter)),
+      differs field (codes "exit") (apart (OfState state_verbs.Exit)),
+      differs field (codes "enable") (apart (OfState state_verbs.Enable)),
+      differs
+          field (codes "disable") (apart (OfState state_verbs.Disable)),
+    ) refl
 
 -- what a line with a verb says
 pub said-line : (found : List (List ℕ)) (first : List ℕ) (others : List (List ℕ)) (verb : Verb) → found ≡ first ∷ others → first ≡ spelling verb → said_after verb others ≡ said_by_fields found

@@ -1,5 +1,4 @@
 pub mod Lines
 pub mod Sources
 pub mod Events
-pub mod Reading
-pub mod Splitting
+pub mod Inner

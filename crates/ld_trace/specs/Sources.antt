@@ -1,5 +1,6 @@
 -- The sections of a stream, and its fault.
-use Rattle.std.specs.Prelude.{◌≡◌, ℕ, ◌+◌, ◌<◌, ◌≤◌, Bool, false, not, ◌==◌, nat_lt, List, [], ◌∷◌, length, take, drop, count_by, slice_get, slice_index_or, Option, Some, None, is_some, unwrap_or, if◌then◌else◌, codes, IsTrue}
+use Rattle.std.specs.Prelude.{◌≡◌, ℕ, ◌+◌, ◌<◌, ◌≤◌, Bool, false, not, ◌==◌, nat_lt, List, [], ◌∷◌, length, take, drop, count_by, slice_get}
+use Rattle.std.specs.Prelude.{slice_index_or, Option, Some, None, is_some, unwrap_or, if◌then◌else◌, codes, IsTrue}
 use Rattle.std.specs.List.{concat, filter_map, enumerate_from, take_while}
 use Rattle.std.specs.Str.{bytes_eq}
 use Rattle.ld_trace.specs.declared.source.Source.{Source}

@@ -4,7 +4,7 @@ ghost use Rattle.std.specs.List.{concat, prefix_len, take_while};
 ghost use Rattle.std.specs.Option.{option_map};
 ghost use Rattle.ld_trace.specs.Lines.{lines, says_nothing};
 ghost use Rattle.ld_trace.specs.Sources.{AreNumbered, Fits, fields_of, headers_before, is_header, is_other, label_of, line_faults, opened_at, plain, sections, sources, stream_fault};
-ghost use Rattle.ld_trace.specs.Splitting.{IsCutAt, given_from};
+ghost use Rattle.ld_trace.specs.Inner.Splitting.{IsCutAt, given_from};
 
 use crate::line::{begins_comment, is_word, next_field, next_line, text};
 use crate::source::{LONGEST_STREAM, MOST_TRACES, Source, StreamFault};
@@ -152,6 +152,3 @@ pub fn split<'a>(alloc: Global, bytes: &'a [u8]) -> Result<Vec<Source<'a>>, Stre
     }
     Ok(sources)
 }
-
-#[cfg(test)]
-mod tests;

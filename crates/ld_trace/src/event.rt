@@ -4,7 +4,7 @@ ghost use Rattle.std.specs.List.{position};
 ghost use Rattle.std.specs.Option.{option_map};
 ghost use Rattle.ld_trace.specs.Events.{PlainEvent, PlainLock, is_sign, lock_of, plain_lock, said_by, said_of_lock, said_of_state, seen, state_of};
 ghost use Rattle.ld_trace.specs.Lines.{fields};
-ghost use Rattle.ld_trace.specs.Reading.{both_now, pair_of, said_with_lock, said_with_state};
+ghost use Rattle.ld_trace.specs.Inner.Reading.{both_now, pair_of, said_with_lock, said_with_state};
 
 use crate::line::{begins_comment, is_name, is_word, next_field};
 
@@ -96,7 +96,7 @@ enum StateVerb {
 }
 
 impl Verb {
-    ghost use Rattle.ld_trace.specs.Reading.{said_after, spelling};
+    ghost use Rattle.ld_trace.specs.Inner.Reading.{said_after, spelling};
 
     fn of(field: &[u8]) -> Option<Self>
         ensures found { IfSome result (λ verb. field.now ≡ spelling verb) }
@@ -123,7 +123,7 @@ impl Verb {
 }
 
 impl LockVerb {
-    ghost use Rattle.ld_trace.specs.Reading.{said_after_lock_verb, spelling_of_lock_verb};
+    ghost use Rattle.ld_trace.specs.Inner.Reading.{said_after_lock_verb, spelling_of_lock_verb};
 
     fn of(field: &[u8]) -> Option<Self>
         ensures found { IfSome result (λ verb. field.now ≡ spelling_of_lock_verb verb) }
@@ -153,7 +153,7 @@ impl LockVerb {
 }
 
 impl StateVerb {
-    ghost use Rattle.ld_trace.specs.Reading.{said_after_state_verb, spelling_of_state_verb};
+    ghost use Rattle.ld_trace.specs.Inner.Reading.{said_after_state_verb, spelling_of_state_verb};
 
     fn of(field: &[u8]) -> Option<Self>
         ensures found { IfSome result (λ verb. field.now ≡ spelling_of_state_verb verb) }
@@ -272,6 +272,3 @@ fn read_state(field: &[u8]) -> Option<State>
         None
     }
 }
-
-#[cfg(test)]
-mod tests;

@@ -9,6 +9,9 @@ use memchr::memchr;
 /// How many bytes a task, a label, a class or an instance has at most.
 pub const LONGEST_WORD: usize = 64;
 
+// Clauses cite the constant, so they would hold with any other number.
+const _: () = prove!(LONGEST_WORD == 1 << 6);
+
 /// Cuts the first line off, and gives it with the LF that ends it, and what follows; `None` where
 /// there is no byte.
 pub fn next_line(bytes: &[u8]) -> Option<(&[u8], &[u8])>

@@ -7,11 +7,13 @@ use thiserror::Error;
 /// How many bytes a stream has at most.
 pub const LONGEST_STREAM: usize = 2_147_483_648;
 
-// No stream so long is tried by a test.
+// Clauses cite the constants of the format, so they would hold with any other numbers.
 const _: () = prove!(LONGEST_STREAM == 1 << 31);
 
 /// How many traces a stream has at most.
 pub const MOST_TRACES: u64 = 65_535;
+
+const _: () = prove!(MOST_TRACES == (1 << 16) - 1);
 
 /// One trace of a stream: the section from its header to the next one.
 #[derive(Clone, Copy, Debug, PartialEq, Eq)]

@@ -5,7 +5,7 @@ use Rattle.std.proofs.lemmas.List.{get_or-map, get_or-take, get_or_default, leng
 use Rattle.std.proofs.lemmas.List.Sorted.{Contains-permutation, IsPermutation-map, IsPermutation-sym}
 use Rattle.std.specs.List.{Contains}
 use Rattle.ld_trace.specs.Sources.{AreNumbered, PlainSource, plain}
-use Rattle.ld_facts.specs.declared.outcome.Listed.{Listed}
+use Rattle.ld_rules.specs.declared.outcome.Listed.{Listed}
 use Rattle.ld_book.specs.Book.{sources_of}
 use Rattle.ld_work.specs.Work.{AreRising, IsLeast, IsMissing, IsStray, IsUneven}
 
@@ -26,7 +26,8 @@ pub any : PlainSource
 any = record { number = 0; label = []; first_line = 0; bytes = [] }
 
 -- the first n sources are listed, each at its place
-module _ (sources listed : List PlainSource) (n : ℕ) (numbered : AreNumbered sources) (rising : AreRising listed) (few : n ≤ length sources) (there : n ≤ length listed) (same : take n listed ≡ take n sources) where
+module _ (sources listed : List PlainSource) (n : ℕ) (numbered : AreNumbered sources) (rising : AreRising listed) (few : n ≤ length sources)
+    (there : n ≤ length listed) (same : take n listed ≡ take n sources) where
   same_at : (k : ℕ) (d : PlainSource) → k < n → get_or listed k d ≡ get_or sources k d
   same_at k d below = sym (get_or-take n listed k d below) ∙ ap (λ xs. get_or xs k d) same ∙ get_or-take n sources k d below
 

@@ -1,2 +1,1 @@
 pub mod EvenLemmas
-pub mod OrderLemmas

@@ -1,12 +1,9 @@
 -- What it means that a book lists each source, and which number tells that it doesn't.
-use Rattle.std.specs.Prelude.{◌<◌, ◌≤◌, ◌⊎◌, ℕ, List, length, map, slice_index_or, AllPairs}
+use Rattle.std.specs.Prelude.{◌<◌, ◌≤◌, ◌⊎◌, ℕ, List, length, map, slice_index_or}
 use Rattle.std.specs.List.{Contains}
 use Rattle.std.specs.List.Sorted.{IsPermutation}
 use Rattle.ld_trace.specs.Sources.{PlainSource}
-
--- the numbers rise
-abbrev pub AreRising : List PlainSource → Type 0
-AreRising sources = AllPairs (λ a b. a.number < b.number) sources
+pub use Rattle.ld_book.specs.Rising.{AreRising}
 
 -- Each source is listed exactly once, as it stands, and nothing else is listed: the list is that of
 -- the sources, in some order.

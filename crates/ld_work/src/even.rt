@@ -4,7 +4,7 @@ ghost use Rattle.ld_trace.specs.Sources.{AreNumbered, plain};
 ghost use Rattle.ld_book.specs.Book.{sources_of};
 ghost use Rattle.ld_work.specs.Work.{AreRising, IsUneven, ListsEachOnce};
 
-use ld_book::Book;
+use ld_book::{Book, Traces};
 use ld_facts::Listed;
 use ld_trace::Source;
 use std::alloc::{AllocError, Global};
@@ -27,9 +27,8 @@ pub fn uneven<'a>(
     ensures uneven { IfOk result (λ answer. IfSome answer (λ number.
         IsUneven (map plain sources.now) book.now number)) }
 {
-    let mut listed = book.listed().to_vec(alloc)?;
-    listed.sort_unstable_by_key(|trace| trace.source.number);
-    Ok(first_uneven(sources, &listed))
+    let traces = Traces::new(alloc, book)?;
+    Ok(first_uneven(sources, traces.listed()))
 }
 
 /// As `uneven`, of traces in the order of their numbers.

@@ -7,6 +7,9 @@ use std::sync::ledger::{Ledger, Share};
 /// How many feeders a desk has at most.
 pub const MOST_FEEDERS: usize = 16;
 
+// Clauses cite the constant, so they would hold with any other number.
+const _: () = prove!(MOST_FEEDERS == 1 << 4);
+
 /// A number of traces, and how many events those have that are read.
 #[derive(Clone, Copy, Debug, PartialEq, Eq)]
 pub struct Tally {

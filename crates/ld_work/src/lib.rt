@@ -5,8 +5,6 @@ mod desk;
 mod even;
 mod feeder;
 mod gate;
-#[cfg(test)]
-mod tests;
 mod workers;
 
 pub use desk::{Back, Desk, Gathered, Look};

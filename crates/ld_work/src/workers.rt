@@ -26,7 +26,7 @@ pub enum WorkFault {
     Memory,
     /// The source of this number wasn't listed once, as it stands; or, where all are, this number was
     /// listed and has no source. Each time the least such number.
-    #[error("trace {0} is not listed once")]
+    #[error("uneven at {0}")]
     Uneven(u64),
 }
 
@@ -56,7 +56,7 @@ struct Done<T: Ledger, E: Ledger> {
     refused: bool,
 }
 
-/// The book of these sources, read by so many workers at once. Worker w of W reads the traces whose
+/// The book of these sources, read by that many workers at once. Worker w of W reads the traces whose
 /// number is w more than a multiple of W, the least first, and passes the gate before each. Where no
 /// thread can be started, workers do their work one after another. May wait.
 ///
@@ -128,12 +128,11 @@ fn jobs_of<T: Ledger, E: Ledger>(
 ) -> Result<Vec<Job<T, E>>, AllocError>
     ensures { IfOk result (λ jobs. length jobs.items ≡ length feeders.items) }
 {
-    let mut jobs = Vec::new(alloc);
-    for feeder in feeders {
-        let worker = jobs.len();
-        jobs.push(Job { worker, feeder })?;
-    }
-    Ok(jobs)
+    feeders
+        .into_iter()
+        .enumerate()
+        .map(|(worker, feeder)| Job { worker, feeder })
+        .collect(alloc)
 }
 
 /// Does all jobs, each in a thread of its own where one can be started.
@@ -179,20 +178,16 @@ fn run_one<'a, T: Ledger, E: Ledger, G: Gate, R: Wait>(
     requires fit { All (λ source. Fits (plain source)) sources.now }
 {
     let Job { worker, mut feeder } = job;
+    let mut refused = false;
     for place in (worker..sources.len()).step_by(workers) {
         let source = sources[place];
         gate.pass(worker as u64, source.number);
-        if submit(rt, alloc, desk, source, &mut feeder).is_err() {
-            return Done {
-                feeder,
-                refused: true,
-            };
+        refused = submit(rt, alloc, desk, source, &mut feeder).is_err();
+        if refused {
+            break;
         }
     }
-    Done {
-        feeder,
-        refused: false,
-    }
+    Done { feeder, refused }
 }
 
 /// Reads a trace, and adds it to the desk's book, unless its number is listed.
@@ -207,10 +202,10 @@ fn submit<'a, T: Ledger, E: Ledger, R: Wait>(
 {
     // Read before the lock is taken, so that the workers read at the same time.
     let facts = facts(alloc, source)?;
-    match desk.look(rt).submit(feeder, facts) {
-        Ok(()) | Err(Refusal::Twice(_)) => Ok(()),
-        Err(Refusal::Memory(_)) => Err(AllocError),
-    }
+    let answer = desk.look(rt).submit(feeder, facts);
+    let is_refused = matches!(answer, Err(Refusal::Memory(_)));
+    drop(answer);
+    if is_refused { Err(AllocError) } else { Ok(()) }
 }
 
 /// The feeders of all workers, and whether one of them was refused memory.

@@ -1,7 +1,1 @@
-pub mod Permuted
 pub mod StreamFaults
-pub mod Texts
-pub mod TraceLemmas
-pub mod Transfers
-pub mod Unique
-pub mod Verdicts

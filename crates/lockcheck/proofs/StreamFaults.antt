@@ -1,5 +1,6 @@
 -- What the fault of a stream never is.
-use Rattle.std.proofs.Common.{◌≡◌, ◌+◌, ◌==◌, ◌∷◌, [], List, ℕ, Bool, true, false, Option, Some, None, IfSome, Result, Ok, Err, is_some, length, filter_map, nat_lt, slice_get, refl, ap, ◌∙◌, if◌then◌else◌}
+use Rattle.std.proofs.Common.{◌≡◌, ◌+◌, ◌==◌, ◌∷◌, [], List, ℕ, Bool, true, false, Option, Some, None, IfSome, Result, Ok, Err, is_some, length}
+use Rattle.std.proofs.Common.{filter_map, nat_lt, slice_get, refl, ap, ◌∙◌, if◌then◌else◌}
 use Rattle.std.specs.List.{cons_option, enumerate_from}
 use Rattle.ld_trace.specs.declared.source.TheConstants.{LONGEST_STREAM, MOST_TRACES}
 use Rattle.ld_trace.specs.declared.source.StreamFault.{StreamFault}
@@ -12,7 +13,8 @@ use Rattle.lockcheck.specs.Faults.{check_fault_of_stream}
 
 -- no line has want of memory as its fault
 by_line : (silent header well_formed too_many early : Bool) (line : ℕ)
-    → (if silent then None else if header then (if well_formed then (if too_many then Some TooManyTraces else None) else Some (BadHeader line)) else (if early then Some (NoHeader line) else None)) ≡ Some Memory → ⊥
+    → (if silent then None else if header then (if well_formed then (if too_many then Some TooManyTraces else None) else Some (BadHeader line)) else
+    (if early then Some (NoHeader line) else None)) ≡ Some Memory → ⊥
 by_line true header well_formed too_many early line h = cc
 by_line false true true true early line h = cc
 by_line false true true false early line h = cc
@@ -34,10 +36,13 @@ never_memory bytes h = by (nat_lt LONGEST_STREAM (length bytes)) h
   where
     by : (long : Bool) → (if long then Some TooLong else slice_get (line_faults (lines bytes)) 0) ≡ Some Memory → ⊥
     by true is = cc
-    by false is = first_never (λ p. fault_at (lines bytes) p.0 p.1) (enumerate_from 0 (lines bytes)) (λ p. by_line (says_nothing (fields_of p.1)) (is_header p.1) (is_some (label_of (fields_of p.1))) (headers_before (lines bytes) p.0 == MOST_TRACES) (headers_before (lines bytes) p.0 == 0) (p.0 + 1)) is
+    by false is = first_never (λ p. fault_at (lines bytes) p.0 p.1) (enumerate_from 0 (lines bytes))
+        (λ p. by_line (says_nothing (fields_of p.1)) (is_header p.1) (is_some (label_of (fields_of p.1)))
+        (headers_before (lines bytes) p.0 == MOST_TRACES) (headers_before (lines bytes) p.0 == 0) (p.0 + 1)) is
 
 -- so a stream's fault is told as it is
-pub told_as_it_is : {T U : Type 0} (bytes : List ℕ) (fault : StreamFault) (cut : Result T StreamFault) (told : Result U CheckFault) → IfSome (stream_fault bytes) (λ f. cut ≡ Err f) → cut ≡ Err fault → told ≡ Err (check_fault_of_stream fault)
+pub told_as_it_is : {T U : Type 0} (bytes : List ℕ) (fault : StreamFault) (cut : Result T StreamFault) (told : Result U CheckFault) → IfSome
+    (stream_fault bytes) (λ f. cut ≡ Err f) → cut ≡ Err fault → told ≡ Err (check_fault_of_stream fault)
     → IfSome (stream_fault bytes) (λ f. told ≡ Err (Stream f))
 told_as_it_is bytes fault cut told is failed answered = by (stream_fault bytes) (never_memory bytes) is
   where

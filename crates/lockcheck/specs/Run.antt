@@ -3,9 +3,9 @@
 use Rattle.std.specs.Prelude.{◌≡◌, ℕ, List, Bool, Option, None, Some}
 use Rattle.ld_trace.specs.Sources.{PlainSource, sources, stream_fault}
 use Rattle.ld_trace.specs.declared.source.StreamFault.{StreamFault}
-use Rattle.lockcheck.specs.Transfer.{ReadsWhole}
-use Rattle.lockcheck.specs.declared.transfer.ReadFault.{ReadFault}
-use Rattle.lockcheck.specs.declared.transfer.ReadFault.TheVariants as read_fault
+use Rattle.ld_device.specs.Transfer.{ReadsWhole}
+use Rattle.ld_device.specs.declared.transfer.ReadFault.{ReadFault}
+use Rattle.ld_device.specs.declared.transfer.ReadFault.TheVariants as read_fault
 use Rattle.lockcheck.specs.declared.check.CheckFault.{CheckFault}
 use Rattle.lockcheck.specs.declared.check.CheckFault.TheVariants as check_fault
 use Rattle.lockcheck.specs.declared.run.RunFault.{RunFault}

@@ -14,6 +14,9 @@ use std::thread::Threads;
 /// How many workers there are at most.
 pub const MOST_WORKERS: usize = MOST_FEEDERS;
 
+// The words of the command line ask for no more.
+const _: () = prove!(ld_words::MOST_WORKERS == MOST_WORKERS);
+
 /// A stream that was read whole.
 #[derive(Drop)]
 pub struct Checked<'a> {
@@ -34,7 +37,7 @@ pub enum CheckFault {
     Uneven(u64),
 }
 
-/// The book of a stream, by so many workers at once, each of which passes the gate before it reads a
+/// The book of a stream, by that many workers at once, each of which passes the gate before it reads a
 /// trace. May wait.
 ///
 /// # Errors

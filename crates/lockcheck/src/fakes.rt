@@ -1,9 +1,12 @@
 //! A reader and a writer in memory for tests, which move some bytes a call and fail where they are
-//! told to.
+//! told to, and a gate where two workers meet.
 ghost use Rattle.std.specs.Prelude.{◌≡◌, ◌<◌, [], false, true, Some};
 
 use crate::devices::{DeviceFault, Input, Output};
+use ld_work::Gate;
 use std::alloc::Global;
+use std::sync::atomic::{AtomicBool, Ordering};
+use std::thread;
 
 /// Gives the bytes of a slice, at most some of them a call.
 #[derive(Drop)]
@@ -157,5 +160,42 @@ impl Output for FakeWriter {
 
     fn failed(&self) -> bool {
         self.failed
+    }
+}
+
+/// Holds the worker of number 0 until number 1 came, for a while, and records whether it did.
+#[derive(Drop)]
+pub struct Meeting {
+    came: AtomicBool,
+    met: AtomicBool,
+}
+
+impl Meeting {
+    pub fn new() -> Meeting {
+        Meeting {
+            came: AtomicBool::new(false),
+            met: AtomicBool::new(false),
+        }
+    }
+
+    pub fn met(&self) -> bool {
+        self.met.load(Ordering::SeqCst)
+    }
+}
+
+impl Gate for Meeting {
+    fn pass(&self, _worker: u64, number: u64) {
+        if number == 1 {
+            self.came.store(true, Ordering::SeqCst);
+        }
+        if number == 0 {
+            for _ in 0..10_000_000u64 {
+                if self.came.load(Ordering::SeqCst) {
+                    self.met.store(true, Ordering::SeqCst);
+                    return;
+                }
+                thread::yield_now();
+            }
+        }
     }
 }

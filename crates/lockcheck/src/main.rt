@@ -1,29 +1,25 @@
 //! Checks the order of locks in recorded traces.
 #![tactic(auto)]
 
-ghost use Rattle.std.specs.Prelude.{◌≡◌, ◌≢◌};
+ghost use Rattle.std.specs.Prelude.{◌≡◌, ◌≢◌, IsErr, Ok};
 ghost use Rattle.std.specs.Process.{exit_status};
 ghost use Rattle.clap.specs.Values.{kind_of};
 ghost use Rattle.clap.specs.declared.error.kind.ErrorKind.{ErrorKind};
 
 pub mod check;
-pub mod devices;
 #[cfg(test)]
 mod fakes;
-mod lines;
-mod report;
+pub mod report;
 pub mod run;
 #[cfg(test)]
 mod streams;
-mod text;
-mod traces;
-mod transfer;
-mod verdict;
-mod words;
 
 use crate::devices::Std;
-use crate::run::run;
+use crate::report::Verdict;
+use crate::run::{RunFault, run};
 use crate::words::workers;
+pub use ld_device as devices;
+pub use ld_words as words;
 use std::fmt::Display;
 use std::process::ExitCode;
 use std::rt::Env;
@@ -46,9 +42,20 @@ fn main(rt: HostRuntime) -> ExitCode {
     };
     let mut input = Std::new(rt.reader());
     let mut output = Std::new(io::writer(&rt));
-    match run(&rt, rt.alloc(), &mut input, &mut output, workers) {
+    let outcome = run(&rt, rt.alloc(), &mut input, &mut output, workers);
+    end(&rt, outcome)
+}
+
+// The exit status of a run that ended so. Where there is no whole report, standard error says why.
+fn end<R: Eprint>(rt: &R, outcome: Result<Verdict, RunFault>) -> ExitCode
+    ensures clean { outcome ≡ Ok Verdict.Clean → exit_status result ≡ 0 }
+    ensures violations { outcome ≡ Ok Verdict.Violations → exit_status result ≡ 1 }
+    ensures refused { outcome ≡ Ok Verdict.Refused → exit_status result ≡ 3 }
+    ensures fault { IsErr outcome → exit_status result ≡ NO_REPORT }
+{
+    match outcome {
         Ok(verdict) => ExitCode::from(verdict.status()),
-        Err(fault) => refuse(&rt, fault),
+        Err(fault) => refuse(rt, fault),
     }
 }
 

@@ -2,17 +2,17 @@
 ghost use Rattle.std.specs.Prelude.{◌≡◌, ◌≢◌, ◌≤◌, ◌↔◌, ℕ, List, false, true, IfOk, IsErr, OnOk, ⊤};
 ghost use Rattle.std.specs.Io.KnownBytes.{Appends};
 ghost use Rattle.ld_trace.specs.declared.source.StreamFault.{StreamFault};
-ghost use Rattle.lockcheck.specs.Report.{IsReport};
+ghost use Rattle.ld_book.specs.Violations.{HasViolation};
+ghost use Rattle.ld_device.specs.Transfer.{AppendsPart, ConsumesAtMost};
+ghost use Rattle.ld_report.specs.Report.{IsReport, SaysClean};
+ghost use Rattle.ld_report.specs.Verdict.{VerdictIs};
 ghost use Rattle.lockcheck.specs.Run.{Answers, Refuses};
-ghost use Rattle.lockcheck.specs.Transfer.{AppendsPart, ConsumesAtMost};
-ghost use Rattle.lockcheck.specs.Verdict.{VerdictIs};
 
 use crate::check::{CheckFault, MOST_WORKERS};
-use crate::devices::{Input, Output};
-use crate::report::report_of;
-use crate::transfer::{MOST_READ, ReadFault, read_all, send};
-use crate::verdict::Verdict;
+use crate::report::{Verdict, report_of};
+use ld_device::{Input, MOST_READ, Output, ReadFault, read_all, send};
 use ld_trace::StreamFault;
+use ld_work::NoGate;
 use std::alloc::Global;
 use std::sync::Wait;
 use std::thread::Threads;
@@ -40,12 +40,15 @@ pub enum RunFault {
 }
 
 /// Reads the input to its end, or its first `MOST_READ` bytes where it has more than the longest
-/// stream, lets so many workers read its traces at once, and then writes and flushes their report,
+/// stream, lets that many workers read its traces at once, and then writes and flushes their report,
 /// which is the same however many they are. No read, write or flush that fails is tried again. May wait.
 ///
 /// # Errors
 ///
-/// After `Write` a first part of the report was written, after any other fault nothing.
+/// `Read` exactly where a read failed, and `Write` exactly where a write or the flush failed: a first
+/// part of the report was written then, and after any other fault nothing. `Stream` with the fault of
+/// what was read, `Memory` where a growth was refused, and `Uneven` where the workers' book isn't that
+/// of the stream.
 pub fn run<I: Input, O: Output, R: Threads + Wait + Sync>(
     rt: &R,
     alloc: Global,
@@ -63,6 +66,11 @@ pub fn run<I: Input, O: Output, R: Threads + Wait + Sync>(
         ((text : List ℕ) × IsReport traces text
         × Appends (O.held output.old) (O.held output.new) text)
         × VerdictIs traces answer)) }
+    ensures clean { OnOk result (
+        Answers (I.left input.old) (I.left input.new) (I.has_ended input.new) (λ traces.
+        (text : List ℕ) × IsReport traces text
+        × Appends (O.held output.old) (O.held output.new) text
+        × (SaysClean text ↔ (¬ HasViolation traces)))) }
     ensures flushed { OnOk result (O.is_flushed output.new ≡ true) }
 
     ensures read { (result ≡ Err RunFault.Read) ↔ (I.read_failed input.new ≡ true) }
@@ -81,7 +89,7 @@ pub fn run<I: Input, O: Output, R: Threads + Wait + Sync>(
     ensures most { ConsumesAtMost (I.left input.old) (I.left input.new) MOST_READ }
 {
     let bytes = read_all(alloc, input)?;
-    let report = report_of(rt, alloc, &bytes, workers)?;
+    let report = report_of(rt, alloc, &bytes, workers, &NoGate)?;
     match send(output, &report.text) {
         Ok(()) => Ok(report.verdict),
         Err(_) => Err(RunFault::Write),

@@ -1,5 +1,6 @@
 use super::report_of;
 use crate::check::CheckFault;
+use crate::fakes::Meeting;
 use crate::streams::{
     APART, APART_REPORT, CONFLICT, CONFLICT_REPORT, CONFLICT_SOFT, CONFLICT_SOFT_REPORT,
     ENABLE_WHILE_HELD, EVERY_KIND, EVERY_KIND_REPORT, FORBIDDEN, FORBIDDEN_REPORT,
@@ -8,6 +9,7 @@ use crate::streams::{
     SAME_LABEL, THREE_TRACES, THREE_TRACES_REPORT, TRYLOCK_SOURCE, TRYLOCK_TARGET,
 };
 use ld_trace::StreamFault;
+use ld_work::NoGate;
 use std::alloc::Global;
 use std::process::Abort;
 use std::sync::Wait;
@@ -74,6 +76,14 @@ fn reports_each_violation(rt: HostRuntime) {
     }
 }
 
+#[test]
+fn two_workers_meet(rt: HostRuntime) {
+    let gate = Meeting::new();
+    let report = report_of(&rt, rt.alloc(), INVERSION, 2, &gate).expect(&rt, "a report");
+    assert!(rt; gate.met());
+    assert_eq!(rt; report.text.as_slice(), INVERSION_REPORT);
+}
+
 // A trace that is refused shows nothing, and a violation of the others is what the verdict tells.
 #[test]
 fn a_violation_beside_a_refused_trace_is_told(rt: HostRuntime) {
@@ -129,7 +139,7 @@ clean
 
 #[test]
 fn a_stream_with_a_fault_has_no_report(rt: HostRuntime) {
-    let fault = report_of(&rt, rt.alloc(), b"acquire t A\n", 2).err();
+    let fault = report_of(&rt, rt.alloc(), b"acquire t A\n", 2, &NoGate).err();
     assert_eq!(rt; fault, Some(CheckFault::Stream(StreamFault::NoHeader(1))));
 }
 
@@ -265,7 +275,7 @@ fn accepts_what_has_no_fault(rt: HostRuntime) -> Result<(), Fail> {
 // text where none is.
 #[test]
 fn a_refused_growth_is_memory(rt: HostRuntime) {
-    match report_of(&rt, rt.alloc(), EVERY_KIND, 1) {
+    match report_of(&rt, rt.alloc(), EVERY_KIND, 1, &NoGate) {
         Ok(report) => assert_eq!(rt; report.text.as_slice(), EVERY_KIND_REPORT),
         Err(fault) => assert_eq!(rt; fault, CheckFault::Memory),
     }
@@ -280,7 +290,7 @@ fn assert_report<R: Threads + Wait + Abort + Sync>(
     status: u8,
 ) {
     for workers in [1, 2, 16] {
-        let report = report_of(rt, alloc, stream, workers).expect(rt, "a report");
+        let report = report_of(rt, alloc, stream, workers, &NoGate).expect(rt, "a report");
         assert_eq!(rt; report.text.as_slice(), text);
         assert_eq!(rt; report.verdict.status(), status);
     }

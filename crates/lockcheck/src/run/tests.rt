@@ -6,15 +6,32 @@ use super::{RunFault, run};
 use crate::check::MOST_WORKERS;
 use crate::devices::{Input, Output, Std};
 use crate::fakes::{FakeReader, FakeWriter, Mishap};
+use crate::report::Verdict;
 use crate::streams::{FORBIDDEN_THROUGH, FORBIDDEN_THROUGH_REPORT, INVERSION, INVERSION_REPORT};
-use crate::verdict::Verdict;
 use ld_trace::StreamFault;
 use std::alloc::Global;
+use std::io;
 use std::io::Cursor;
 use std::process::Abort;
 use std::sync::Wait;
 use std::test::Fail;
 use std::thread::Threads;
+
+/// A std reader without bytes, whose first read is interrupted.
+#[derive(Drop)]
+struct Interrupted {
+    was: bool,
+}
+
+impl io::Read for Interrupted {
+    fn read(&mut self, _buffer: &mut [u8]) -> io::Result<usize> {
+        if self.was {
+            return Ok(0);
+        }
+        self.was = true;
+        Err(io::ErrorKind::Interrupted.into())
+    }
+}
 
 const EMPTY_REPORT: &[u8] = b"traces 0 refused 0 events 0 classes 0 dependencies 0\nclean\n";
 
@@ -86,32 +103,86 @@ fn a_stream_with_a_fault_has_no_report(rt: HostRuntime) {
 }
 
 #[test]
-fn std_readers_and_writers_are_devices(rt: HostRuntime) -> Result<(), Fail> {
-    let mut text = Vec::new(rt.alloc());
-    let mut slice = Std::new(b"".as_slice());
-    assert_eq!(rt;
-        run(&rt, rt.alloc(), &mut slice, &mut Std::new(&mut text), 1)?,
-        Verdict::Clean
-    );
-    assert_eq!(rt; text.as_slice(), EMPTY_REPORT);
-    assert!(rt; slice.ended());
+fn a_write_that_fails_after_a_first_part_leaves_it(rt: HostRuntime) {
+    let mut input = FakeReader::new(b"", 7, None);
+    let mut output = FakeWriter::new(rt.alloc(), 5, Mishap::WriteFails(1));
+    let outcome = run(&rt, rt.alloc(), &mut input, &mut output, 2);
+    assert_eq!(rt; outcome, Err(RunFault::Write));
+    assert_eq!(rt; output.written(), b"trace".as_slice());
+}
 
-    for workers in [1, 2, 4, 16] {
-        let mut text = Vec::new(rt.alloc());
-        let mut cursor = Std::new(Cursor::new(INVERSION));
-        assert_eq!(rt;
-            run(
-                &rt,
-                rt.alloc(),
-                &mut cursor,
-                &mut Std::new(&mut text),
-                workers
-            )?,
-            Verdict::Violations
-        );
-        assert_eq!(rt; text.as_slice(), INVERSION_REPORT);
+#[test]
+fn an_interrupted_read_is_read(rt: HostRuntime) {
+    let mut input = Std::new(Interrupted { was: false });
+    let mut output = FakeWriter::new(rt.alloc(), 5, Mishap::Nothing);
+    let outcome = run(&rt, rt.alloc(), &mut input, &mut output, 2);
+    assert_eq!(rt; outcome, Err(RunFault::Read));
+    assert_eq!(rt; output.written(), b"".as_slice());
+}
+
+#[test]
+fn a_refused_trace_gives_its_verdict(rt: HostRuntime) {
+    let mut input = FakeReader::new(b"trace m\nrelease t A\n", 7, None);
+    let mut output = FakeWriter::new(rt.alloc(), 5, Mishap::Nothing);
+    let outcome = run(&rt, rt.alloc(), &mut input, &mut output, 4);
+    assert_eq!(rt; outcome, Ok(Verdict::Refused));
+}
+
+#[test]
+fn each_fault_has_its_text(rt: HostRuntime) -> Result<(), Fail> {
+    for (fault, text) in [
+        (RunFault::Read, "read failed"),
+        (RunFault::Write, "write failed"),
+        (
+            RunFault::Stream(StreamFault::NoHeader(7)),
+            "line 7: NoHeader",
+        ),
+        (
+            RunFault::Stream(StreamFault::BadHeader(12)),
+            "line 12: BadHeader",
+        ),
+        (
+            RunFault::Stream(StreamFault::TooManyTraces),
+            "TooManyTraces",
+        ),
+        (RunFault::Stream(StreamFault::TooLong), "TooLong"),
+        (RunFault::Memory, "out of memory"),
+        (RunFault::Uneven(3), "uneven at 3"),
+    ] {
+        let told = format!(in rt.alloc(); "{fault}")?;
+        assert_eq!(rt; told.as_str(), text);
     }
     Ok(())
+}
+
+#[test]
+fn std_readers_and_writers_are_devices(rt: HostRuntime) {
+    let mut text = Vec::new(rt.alloc());
+    let mut slice = Std::new(b"".as_slice());
+    let verdict = run(&rt, rt.alloc(), &mut slice, &mut Std::new(&mut text), 1);
+    assert_eq!(rt; verdict, Ok(Verdict::Clean));
+    assert_eq!(rt; text.as_slice(), EMPTY_REPORT);
+    assert!(rt; slice.ended());
+    assert_inversion_through_std(&rt, rt.alloc(), 1);
+    assert_inversion_through_std(&rt, rt.alloc(), 2);
+    assert_inversion_through_std(&rt, rt.alloc(), 4);
+    assert_inversion_through_std(&rt, rt.alloc(), 16);
+}
+
+/// Asserts that a run of so many workers over a reader and a writer of std writes the report of
+/// `INVERSION`.
+fn assert_inversion_through_std<R: Threads + Wait + Abort + Sync>(
+    rt: &R,
+    alloc: Global,
+    workers: usize,
+)
+    requires { (1 ≤ workers) × (workers ≤ MOST_WORKERS) }
+{
+    let mut text = Vec::new(alloc);
+    let mut cursor = Std::new(Cursor::new(INVERSION));
+    let verdict = run(rt, alloc, &mut cursor, &mut Std::new(&mut text), workers);
+    assert_eq!(rt; verdict, Ok(Verdict::Violations));
+    assert_eq!(rt; text.as_slice(), INVERSION_REPORT);
 }
 
 // Under `rt try --test --fail-alloc N` one allocation is refused, another for each N, whichever thread

@@ -4,7 +4,7 @@ use Rattle.std.specs.Option.{option_map}
 use Rattle.ld_trace.specs.Sources.{plain}
 use Rattle.ld_trace.specs.Events.{plain_event, said_by}
 use Rattle.ld_facts.specs.Facts.{IsKnown}
-use Rattle.ld_facts.specs.declared.outcome.Outcome.TheVariants.{Read, Refused}
+use Rattle.ld_rules.specs.declared.outcome.Outcome.TheVariants.{Read, Refused}
 use Rattle.ld_facts.proofs.KnownLemmas.{moved, read-none, read-known, read-nothing, read-event, refused-event, refused-line}
 use Rattle.ld_facts.proofs.reading.facts.Goals as goal
 use Rattle.ld_facts.proofs.reading.facts.Goals.{in-Ok-None, in-Ok-Some+in-Ok}
@@ -14,16 +14,18 @@ loop-first-init c = record { many = search rules; lines = omega arith; counted =
 
 pub refused-requires-clause-outcome : goal.refused-requires-clause-outcome
 refused-requires-clause-outcome c =
-    refused-event (plain c.args.source) c.loop-first.line c.loop-first.rest.now c.loop-first.scan c.loop-first.events c.loop-first.invariant.read c.in-Some.first.now c.in-Some.others.now c.in-Some.ensures.first
+    refused-event (plain c.args.source) c.loop-first.line c.loop-first.rest.now c.loop-first.scan c.loop-first.events c.loop-first.invariant.read
+    c.in-Some.first.now c.in-Some.others.now c.in-Some.ensures.first
     (plain_event c.in-Ok-Some.event) c.in-Err-Fault.fault (ap said_by (sym c.text.ensures) ∙ sym c.in-Ok-Some.ensures ∙ ap (λ o. Ok (option_map plain_event o)) c.in-Ok-Some.field-0-is)
     (c.step.ensures.fault c.in-Err-Fault.fault (c.in-Err-Fault.is ∙ ap Err c.in-Err-Fault.field-0-is))
     ∙ ap (Refused c.loop-first.line) (sym c.in-Err-Fault.fault-is)
 
 pub refused-requires-in-Err-clause-outcome : goal.refused-requires-in-Err-clause-outcome
 refused-requires-in-Err-clause-outcome c =
-    refused-line (plain c.args.source) c.loop-first.line c.loop-first.rest.now c.loop-first.scan c.loop-first.events c.loop-first.invariant.read c.in-Some.first.now c.in-Some.others.now c.in-Some.ensures.first
+    refused-line (plain c.args.source) c.loop-first.line c.loop-first.rest.now c.loop-first.scan c.loop-first.events c.loop-first.invariant.read
+    c.in-Some.first.now c.in-Some.others.now c.in-Some.ensures.first
     c.in-Err.fault (ap said_by (sym c.text.ensures) ∙ sym c.in-Err.ensures)
-    ∙ ap (Refused c.loop-first.line) (sym c.from.ensures)
+    ∙ ap (Refused c.loop-first.line) (sym c.from-fault.ensures)
 
 pub loop-first-preserved : goal.loop-first-preserved
 loop-first-preserved c = elim c.match-read_event-2.branch [
@@ -33,7 +35,8 @@ loop-first-preserved c = elim c.match-read_event-2.branch [
     counted = omega (arith, ap length c.in-Some.ensures.whole, length-append c.in-Some.first.now c.in-Some.others.now, c.in-Some.ensures.nonempty);
     read =
         moved (plain c.args.source) (c.loop-first.line + 1) c.in-Some.others.now _ _ _ _ w.scan-is w.events-is
-        (read-nothing (plain c.args.source) c.loop-first.line c.loop-first.rest.now c.loop-first.scan c.loop-first.events c.loop-first.invariant.read c.in-Some.first.now c.in-Some.others.now c.in-Some.ensures.first
+        (read-nothing (plain c.args.source) c.loop-first.line c.loop-first.rest.now c.loop-first.scan c.loop-first.events c.loop-first.invariant.read
+        c.in-Some.first.now c.in-Some.others.now c.in-Some.ensures.first
         (ap said_by (sym c.text.ensures) ∙ is));
   }
   | in-Ok-Some+in-Ok w ↦ record {
@@ -42,12 +45,20 @@ loop-first-preserved c = elim c.match-read_event-2.branch [
     counted = omega (arith, ap length c.in-Some.ensures.whole, length-append c.in-Some.first.now c.in-Some.others.now, c.in-Some.ensures.nonempty);
     read =
         moved (plain c.args.source) (c.loop-first.line + 1) c.in-Some.others.now _ _ _ _ w.scan-is w.events-is
-        (read-event (plain c.args.source) c.loop-first.line c.loop-first.rest.now c.loop-first.scan c.loop-first.events c.loop-first.invariant.read c.in-Some.first.now c.in-Some.others.now c.in-Some.ensures.first
+        (read-event (plain c.args.source) c.loop-first.line c.loop-first.rest.now c.loop-first.scan c.loop-first.events c.loop-first.invariant.read
+        c.in-Some.first.now c.in-Some.others.now c.in-Some.ensures.first
         c.text.result.now _ w.step.new.self c.text.ensures w.in-Ok.ensures.ok (search rules));
   }
 ]
 
 pub invariant_of-result : goal.invariant_of-result
 invariant_of-result c =
-    subst (λ edges. IsKnown (record { source = plain c.args.source; outcome = Read c.loop-first.events; classes = c.loop-first.scan.classes; edges = edges; usage = c.loop-first.scan.uses })) (sym c.into_edges.ensures)
+    subst (λ edges. IsKnown (record {
+      source = plain c.args.source;
+      outcome = Read c.loop-first.events;
+      classes = c.loop-first.scan.classes;
+      edges =
+          edges;
+      usage = c.loop-first.scan.uses;
+    })) (sym c.into_edges.ensures)
     (read-known (plain c.args.source) c.loop-first.line c.loop-first.rest.now c.loop-first.scan c.loop-first.events c.requires c.loop-first.invariant.read c.in_default.ensures.first)

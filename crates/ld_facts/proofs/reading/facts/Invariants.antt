@@ -1,6 +1,6 @@
 use Rattle.std.proofs.Common.{◌+◌, ◌≤◌, length}
 use Rattle.ld_trace.specs.Sources.{plain}
-use Rattle.ld_facts.specs.Reading.{AreMany, IsReadTo}
+use Rattle.ld_facts.specs.Inner.Reading.{AreMany, IsReadTo}
 use Rattle.ld_facts.proofs.reading.facts.Given as goal
 
 abbrev pub invariant-loop-first : goal.invariant-loop-first

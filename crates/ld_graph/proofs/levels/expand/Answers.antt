@@ -1,8 +1,8 @@
 use Rattle.std.proofs.Common.{◌≡◌, Contains, below_more, ◌<◌, ℕ, length, arith, Some, None, subst}
 use Rattle.std.proofs.Common.{get_or}
 use Rattle.std.proofs.lemmas.List.{get_or-set_same}
-use Rattle.ld_graph.specs.Neighbours.{IsNear}
-use Rattle.ld_graph.specs.Levels.{HasLevel, level_at}
+use Rattle.ld_graph.specs.Inner.Neighbours.{IsNear}
+use Rattle.ld_graph.specs.Inner.Levels.{HasLevel, level_at}
 use Rattle.ld_graph.proofs.SpreadLemmas.{near_all, near_here, Spreads-more, some_is, none_is}
 use Rattle.ld_graph.proofs.SpreadLemmas.{count_marked, kept_marked}
 use Rattle.ld_graph.proofs.levels.expand.Goals as goal

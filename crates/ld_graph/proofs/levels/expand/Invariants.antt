@@ -1,7 +1,7 @@
 use Rattle.std.proofs.Common.{◌≡◌, ◌+◌, ◌<◌, ◌≤◌, ℕ, count_by, get_or, is_none, vec_len}
 use Rattle.std.proofs.Common.{vec_capacity}
-use Rattle.ld_graph.specs.Levels.{HasLevel, Spreads}
-use Rattle.ld_graph.specs.Neighbours.{IsNear}
+use Rattle.ld_graph.specs.Inner.Levels.{HasLevel, Spreads}
+use Rattle.ld_graph.specs.Inner.Neighbours.{IsNear}
 use Rattle.ld_graph.proofs.levels.expand.Given as goal
 
 abbrev pub invariant-loop-x : goal.invariant-loop-x

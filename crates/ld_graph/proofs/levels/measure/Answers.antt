@@ -1,6 +1,6 @@
 use Rattle.std.proofs.Common.{[], arith, subst}
-use Rattle.ld_graph.specs.Neighbours.{IsNear}
-use Rattle.ld_graph.specs.Levels.{Spreads}
+use Rattle.ld_graph.specs.Inner.Neighbours.{IsNear}
+use Rattle.ld_graph.specs.Inner.Levels.{Spreads}
 use Rattle.ld_graph.proofs.SpreadLemmas.{count_none}
 use Rattle.ld_graph.proofs.SearchLemmas.{IsPartial-begun, IsPartial-next, IsPartial-all}
 use Rattle.ld_graph.proofs.SearchLemmas.{next_within, next_small, next_level}

@@ -2,7 +2,7 @@
 use Rattle.std.proofs.Common.{◌≡◌, ◌+◌, ◌≤◌, length, drop}
 use Rattle.ld_trace.specs.Lines.{lines}
 use Rattle.ld_trace.specs.Sources.{fault_at, headers_before, line_faults, opened_at, sections}
-use Rattle.ld_trace.specs.Splitting.{given_from}
+use Rattle.ld_trace.specs.Inner.Splitting.{given_from}
 use Rattle.ld_trace.proofs.cut.skip_preamble.Given as goal
 
 abbrev pub invariant-loop-line : goal.invariant-loop-line

@@ -3,7 +3,7 @@ use Rattle.std.proofs.Common.{◌≡◌, ◌+◌, ◌++◌, ◌≤◌, false, le
 use Rattle.ld_trace.specs.declared.source.TheConstants.{LONGEST_STREAM, MOST_TRACES}
 use Rattle.ld_trace.specs.Lines.{lines}
 use Rattle.ld_trace.specs.Sources.{Fits, headers_before, opened_at, plain, sections}
-use Rattle.ld_trace.specs.Splitting.{IsCutAt, given_from}
+use Rattle.ld_trace.specs.Inner.Splitting.{IsCutAt, given_from}
 use Rattle.ld_trace.proofs.cut.split.Given as goal
 
 abbrev pub invariant-loop-header : goal.invariant-loop-header

@@ -9,4 +9,5 @@ pub returns-in-Some-of : goal.returns-in-Some-of
 returns-in-Some-of c = c.read.ensures ∙ said-line _ _ _ c.in-Some-of.verb c.in-Some.ensures c.in-Some-of.ensures.found
 
 pub returns-in-None : goal.returns-in-None
-returns-in-None c = sym (ap said_by_fields c.in-Some.ensures ∙ said-no_verb c.in-Some.first.now (fields c.in-Some.rest.now) (sym c.begins_comment.ensures ∙ c.if-begins_comment.false) c.in-None.ensures.none)
+returns-in-None c = sym (ap said_by_fields c.in-Some.ensures ∙ said-no_verb c.in-Some.first.now (fields c.in-Some.rest.now)
+    (sym c.begins_comment.ensures ∙ c.if-begins_comment.false) c.in-None.ensures.none)

@@ -21,7 +21,8 @@ loop-place-preserved c =
     ∙ c.is_same.ensures.0 (search rules)
     ∙ sym (get_or-map plain c.args.sources.now place _ any below) in (
       omega (arith, within),
-      take_more_same listed sources place any (omega (arith, within, length-map c.args.listed.now (λ l. plain l.source))) (omega (arith, below, length-map c.args.sources.now plain)) c.loop-place.invariant.1 same,
+      take_more_same listed sources place any (omega (arith, within, length-map c.args.listed.now (λ l. plain l.source)))
+          (omega (arith, below, length-map c.args.sources.now plain)) c.loop-place.invariant.1 same,
     )
 
 pub returns-in_default-clause-uneven : goal.returns-in_default-clause-uneven
@@ -34,7 +35,8 @@ returns-in_default-clause-uneven c =
     let below : place < length c.args.sources.now = search rules in
     let found : trace ≡ get_or c.args.listed.now place trace = c.in-Some.ensures.lookup.1 in
     let inside : place < length sources = omega (arith, below, length-map c.args.sources.now plain) in
-    uneven_from_other sources listed place c.requires.numbered c.requires.rising (omega (arith, inside)) (omega (arith, within, length-map c.args.listed.now (λ l. plain l.source))) c.loop-place.invariant.1
+    uneven_from_other sources listed place c.requires.numbered c.requires.rising (omega (arith, inside))
+    (omega (arith, within, length-map c.args.listed.now (λ l. plain l.source))) c.loop-place.invariant.1
     inside (λ d more is.
     let same : plain trace.source ≡ get_or sources place d = sym (listed_at c.args.listed.now place trace d within found) ∙ is in
     absurd (true≢false (sym (c.if-is_same.ensures.1 (same ∙ get_or-map plain c.args.sources.now place _ d below)))))
@@ -47,7 +49,8 @@ returns-in_default-2-clause-uneven c =
     let past : length c.args.listed.now ≤ place = search rules in
     let below : place < length c.args.sources.now = search rules in
     let inside : place < length sources = omega (arith, below, length-map c.args.sources.now plain) in
-    uneven_from_other sources listed place c.requires.numbered c.requires.rising (omega (arith, inside)) (omega (arith, c.loop-place.invariant.0, length-map c.args.listed.now (λ l. plain l.source))) c.loop-place.invariant.1
+    uneven_from_other sources listed place c.requires.numbered c.requires.rising (omega (arith, inside))
+    (omega (arith, c.loop-place.invariant.0, length-map c.args.listed.now (λ l. plain l.source))) c.loop-place.invariant.1
     inside (λ d more is. omega (arith, more, past, length-map c.args.listed.now (λ l. plain l.source)))
 
 pub returns-clause-uneven : goal.returns-clause-uneven

@@ -1,7 +1,7 @@
 -- What was written before a write failed is a first part of the report.
 use Rattle.std.proofs.Common.{rules, subst, sym}
 use Rattle.ld_trace.specs.Sources.{sources}
-use Rattle.lockcheck.specs.Report.{IsReport}
+use Rattle.ld_report.specs.Report.{IsReport}
 use Rattle.lockcheck.proofs.run.run.Goals as goal
 
 pub returns-clause-part : goal.returns-clause-part

@@ -1,9 +1,10 @@
 use Rattle.std.proofs.Common.{subst, sym}
-use Rattle.ld_book.specs.Alarms.{AreExact}
+use Rattle.ld_find.specs.Alarms.{AreExact}
 use Rattle.ld_book.specs.Book.{sources_of}
-use Rattle.ld_book.specs.Numbers.{bits_of, named_alarms}
-use Rattle.ld_book.proofs.GrowLemmas.{bits_from_used}
-use Rattle.ld_book.proofs.NumberLemmas.{exact_from_found, within_from_found}
+use Rattle.ld_find.specs.Inner.Numbers.{named_alarms}
+use Rattle.ld_union.specs.Usage.{bits_of}
+use Rattle.ld_find.proofs.GrowLemmas.{bits_from_used}
+use Rattle.ld_find.proofs.NumberLemmas.{exact_from_found, within_from_found}
 use Rattle.ld_book.proofs.book.Book.alarms.Goals as goal
 
 pub named-requires : goal.named-requires

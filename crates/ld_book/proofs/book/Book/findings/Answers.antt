@@ -2,12 +2,12 @@ use Rattle.std.proofs.Common.{subst}
 use Rattle.std.proofs.lemmas.Result.{IfOk-weaker}
 use Rattle.ld_facts.specs.Union.{use_witness}
 use Rattle.ld_book.specs.Book.{sources_of}
-use Rattle.ld_book.specs.Findings.{AreFindings, plain_findings}
-use Rattle.ld_book.specs.Numbers.{bits_of}
-use Rattle.ld_book.proofs.FoundLemmas.{of_each_from_exact}
-use Rattle.ld_book.proofs.GrowLemmas.{bits_from_used}
-use Rattle.ld_book.proofs.NumberLemmas.{exact_from_found}
-use Rattle.ld_book.proofs.UsageLemmas.{length_used}
+use Rattle.ld_find.specs.Findings.{AreFindings, plain_findings}
+use Rattle.ld_union.specs.Usage.{bits_of}
+use Rattle.ld_find.proofs.FoundLemmas.{of_each_from_exact}
+use Rattle.ld_find.proofs.GrowLemmas.{bits_from_used}
+use Rattle.ld_find.proofs.NumberLemmas.{exact_from_found}
+use Rattle.ld_union.proofs.UsageLemmas.{length_used}
 use Rattle.ld_book.proofs.book.Book.findings.Goals as goal
 
 pub findings_of-requires-clause-rows : goal.findings_of-requires-clause-rows
@@ -23,5 +23,6 @@ returns c =
     let exact = exact_from_found union.classes (bits_of union.usage.items) sources (bits_from_used union.classes union.usage.items sources c.self.invariant.used)
     union.graph union.dependencies.items c.self.invariant.numbered c.self.invariant.witnesses found c.self.invariant.exact in
     IfOk-weaker c.findings_of.result _ (λ findings. AreFindings c.args.self.now (plain_findings findings))
-    (λ findings are. subst (λ all. AreFindings all (plain_findings findings)) c.self.view_is (are sources c.self.invariant.witnesses c.self.invariant.used (of_each_from_exact sources union.classes found exact)))
+    (λ findings are. subst (λ all. AreFindings all (plain_findings findings)) c.self.view_is
+    (are sources c.self.invariant.witnesses c.self.invariant.used (of_each_from_exact sources union.classes found exact)))
     c.findings_of.ensures

@@ -1,6 +1,7 @@
 use Rattle.std.proofs.Common.{rules, ap, map, subst, sym, ◌∙◌, []}
-use Rattle.ld_book.specs.declared.union.Witnessed.{Witnessed}
-use Rattle.ld_book.specs.Numbers.{AreFound, bits_of}
+use Rattle.ld_union.specs.declared.union.Witnessed.{Witnessed}
+use Rattle.ld_find.specs.Inner.Numbers.{AreFound}
+use Rattle.ld_union.specs.Usage.{bits_of}
 use Rattle.ld_book.proofs.book.Book.new.Goals as goal
 
 pub invariant_of-result : goal.invariant_of-result

@@ -7,13 +7,13 @@ use Rattle.std.proofs.Common.{◌≤◌, None, List, ℕ, length, get_or, subst,
 use Rattle.std.proofs.lemmas.List.{length-map}
 use Rattle.ld_class.specs.Names.{place_of}
 use Rattle.ld_trace.specs.Events.PlainEvent.{Acquire, Try}
-use Rattle.ld_facts.specs.declared.fault.TraceFault.TheVariants.{TooDeep}
-use Rattle.ld_facts.specs.declared.held.Held.{Held}
-use Rattle.ld_facts.specs.declared.outcome.TheConstants.{MOST_CLASSES}
+use Rattle.ld_rules.specs.declared.fault.TraceFault.TheVariants.{TooDeep}
+use Rattle.ld_held.specs.declared.held.Held.{Held}
+use Rattle.ld_rules.specs.declared.outcome.TheConstants.{MOST_CLASSES}
 use Rattle.ld_facts.specs.declared.scan.Scan.{Scan}
-use Rattle.ld_facts.specs.Locks.{hold_of}
-use Rattle.ld_facts.specs.Reading.{IsAt, acquisition, happens, taken}
-use Rattle.ld_facts.specs.Scan.{plain_held}
+use Rattle.ld_held.specs.Inner.Locks.{hold_of}
+use Rattle.ld_facts.specs.Inner.Reading.{IsAt, acquisition, happens, taken}
+use Rattle.ld_held.specs.Inner.Stacks.{plain_held}
 use Rattle.ld_facts.proofs.AcquireLemmas.{acquired-at, entered, fault-classes, fault-deep, length-held, tried-at}
 use Rattle.ld_facts.proofs.scan.Scan.acquire.Goals.{then-waits+in_ok-wait, else-waits}
 use Rattle.ld_facts.proofs.scan.Scan.acquire.Goals as goal
@@ -40,26 +40,35 @@ returns-in_err-class-clause-fault c fault is all is_at =
 pub returns-then-held-ge-MOST_HELD-clause-fault : goal.returns-then-held-ge-MOST_HELD-clause-fault
 returns-then-held-ge-MOST_HELD-clause-fault c fault is all is_at =
     let id = c.in_ok-task.task in
-    let enters = entered c.args.self.now c.task.new.self c.class.new.self c.args.task.now c.args.lock.class.now id c.in_ok-class.class c.in_ok-task.ensures.task c.class.ensures.others c.in_ok-class.ensures.classes c.in_ok-class.ensures.place c.in_ok-class.ensures.fits in
+    let enters = entered c.args.self.now c.task.new.self c.class.new.self c.args.task.now c.args.lock.class.now id c.in_ok-class.class
+    c.in_ok-task.ensures.task c.class.ensures.others c.in_ok-class.ensures.classes c.in_ok-class.ensures.place c.in_ok-class.ensures.fits in
     let held = length-held all c.args.self.now is_at c.args.task.now (plain_lock c.args.lock) c.args.line id c.in_ok-class.class c.class.new.self enters in
-    let long : length (get_or c.class.new.self.locks.stacks id []) ≡ length c.held.result.now = ap length (sym c.held.ensures) ∙ length-map c.held.result.now (λ (held : Held). hold_of (plain_held held)) in
+    let long : length (get_or c.class.new.self.locks.stacks id []) ≡ length c.held.result.now = ap length (sym c.held.ensures) ∙ length-map
+    c.held.result.now (λ (held : Held). hold_of (plain_held held)) in
     let same : TooDeep ≡ fault = cc in
-    fault-deep all c.args.self.now is_at c.args.waits c.args.task.now (plain_lock c.args.lock) enters.fits enters.few_classes (omega (arith, held, long, c.if-held-ge-MOST_HELD.true, ap length (enters.stacks id), is_at.shallow id)) ∙ ap Some same
+    fault-deep all c.args.self.now is_at c.args.waits c.args.task.now (plain_lock c.args.lock) enters.fits enters.few_classes
+    (omega (arith, held, long, c.if-held-ge-MOST_HELD.true, ap length (enters.stacks id), is_at.shallow id)) ∙ ap Some same
 
 pub returns-clause-ok : goal.returns-clause-ok
 returns-clause-ok c all is_at =
     subst (IsAt (all ++ happens c.args.line (acquisition c.args.waits c.args.task.now (plain_lock c.args.lock)) ∷ [])) (sym c.in_ok-take.ensures)
     (elim c.if-waits.branch [
       | then-waits+in_ok-wait w ↦
-          subst (λ waits. IsAt (all ++ happens c.args.line (acquisition waits c.args.task.now (plain_lock c.args.lock)) ∷ []) (taken c.if-waits.self c.in_ok-task.task c.in_ok-class.class (plain_lock c.args.lock) c.args.line)) (sym w.if-waits.true)
-          (subst (λ (scan : Scan). IsAt (all ++ happens c.args.line (Acquire c.args.task.now (plain_lock c.args.lock)) ∷ []) (taken scan c.in_ok-task.task c.in_ok-class.class (plain_lock c.args.lock) c.args.line)) (sym (w.self-is ∙ w.in_ok-wait.ensures))
+          subst (λ waits. IsAt (all ++ happens c.args.line (acquisition waits c.args.task.now (plain_lock c.args.lock)) ∷ [])
+          (taken c.if-waits.self c.in_ok-task.task c.in_ok-class.class (plain_lock c.args.lock) c.args.line)) (sym w.if-waits.true)
+          (subst (λ (scan : Scan). IsAt (all ++ happens c.args.line (Acquire c.args.task.now (plain_lock c.args.lock)) ∷ [])
+          (taken scan c.in_ok-task.task c.in_ok-class.class (plain_lock c.args.lock) c.args.line)) (sym (w.self-is ∙ w.in_ok-wait.ensures))
           (acquired-at all c.args.self.now is_at c.args.task.now (plain_lock c.args.lock) c.args.line c.in_ok-task.task c.in_ok-class.class c.class.new.self
-          (entered c.args.self.now c.task.new.self c.class.new.self c.args.task.now c.args.lock.class.now c.in_ok-task.task c.in_ok-class.class c.in_ok-task.ensures.task c.class.ensures.others c.in_ok-class.ensures.classes c.in_ok-class.ensures.place c.in_ok-class.ensures.fits)
+          (entered c.args.self.now c.task.new.self c.class.new.self c.args.task.now c.args.lock.class.now c.in_ok-task.task c.in_ok-class.class
+          c.in_ok-task.ensures.task c.class.ensures.others c.in_ok-class.ensures.classes c.in_ok-class.ensures.place c.in_ok-class.ensures.fits)
           (omega (arith, ap length (sym c.held.ensures), length-map c.held.result.now (λ (held : Held). hold_of (plain_held held)), c.if-held-ge-MOST_HELD.false))))
       | else-waits w ↦
-          subst (λ waits. IsAt (all ++ happens c.args.line (acquisition waits c.args.task.now (plain_lock c.args.lock)) ∷ []) (taken c.if-waits.self c.in_ok-task.task c.in_ok-class.class (plain_lock c.args.lock) c.args.line)) (sym w.if-waits.false)
-          (subst (λ (scan : Scan). IsAt (all ++ happens c.args.line (Try c.args.task.now (plain_lock c.args.lock)) ∷ []) (taken scan c.in_ok-task.task c.in_ok-class.class (plain_lock c.args.lock) c.args.line)) (sym w.self-is)
+          subst (λ waits. IsAt (all ++ happens c.args.line (acquisition waits c.args.task.now (plain_lock c.args.lock)) ∷ [])
+          (taken c.if-waits.self c.in_ok-task.task c.in_ok-class.class (plain_lock c.args.lock) c.args.line)) (sym w.if-waits.false)
+          (subst (λ (scan : Scan). IsAt (all ++ happens c.args.line (Try c.args.task.now (plain_lock c.args.lock)) ∷ [])
+          (taken scan c.in_ok-task.task c.in_ok-class.class (plain_lock c.args.lock) c.args.line)) (sym w.self-is)
           (tried-at all c.args.self.now is_at c.args.task.now (plain_lock c.args.lock) c.args.line c.in_ok-task.task c.in_ok-class.class c.class.new.self
-          (entered c.args.self.now c.task.new.self c.class.new.self c.args.task.now c.args.lock.class.now c.in_ok-task.task c.in_ok-class.class c.in_ok-task.ensures.task c.class.ensures.others c.in_ok-class.ensures.classes c.in_ok-class.ensures.place c.in_ok-class.ensures.fits)
+          (entered c.args.self.now c.task.new.self c.class.new.self c.args.task.now c.args.lock.class.now c.in_ok-task.task c.in_ok-class.class
+          c.in_ok-task.ensures.task c.class.ensures.others c.in_ok-class.ensures.classes c.in_ok-class.ensures.place c.in_ok-class.ensures.fits)
           (omega (arith, ap length (sym c.held.ensures), length-map c.held.result.now (λ (held : Held). hold_of (plain_held held)), c.if-held-ge-MOST_HELD.false))))
     ])

@@ -15,4 +15,5 @@ returns-in_err-task-clause-fault c fault is all is_at =
     scan_too_many_tasks all c.args.self.now (Disable c.args.task.now c.args.state) is_at at.1 at.2 ∙ ap Some (sym at.0)
 
 pub returns-clause-ok : goal.returns-clause-ok
-returns-clause-ok c all line is_at = disabled-at all c.args.self.now is_at c.args.task.now c.in_ok-task.task c.task.new.self c.in_ok-task.ensures.task c.args.state line c.set.new.self c.set.ensures.moved c.set.ensures.set
+returns-clause-ok c all line is_at = disabled-at all c.args.self.now is_at c.args.task.now c.in_ok-task.task c.task.new.self c.in_ok-task.ensures.task
+    c.args.state line c.set.new.self c.set.ensures.moved c.set.ensures.set

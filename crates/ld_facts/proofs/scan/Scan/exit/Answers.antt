@@ -6,14 +6,14 @@ use Rattle.ld_facts.proofs.TaskLemmas.{scan_too_many_tasks}
 use Rattle.std.proofs.Common.{◌≢◌, true, false, get_or, length, subst, ◌++◌, ◌∷◌, []}
 use Rattle.std.proofs.lemmas.List.{length-map}
 use Rattle.std.specs.Prelude.{slice_get}
-use Rattle.ld_facts.specs.declared.fault.TraceFault.TheVariants.{BadExit, HeldAtExit}
-use Rattle.ld_facts.specs.declared.held.Held.{Held}
-use Rattle.ld_facts.specs.Flags.{same_state}
-use Rattle.ld_facts.specs.Interrupts.{fresh, start_now, states_of}
-use Rattle.ld_facts.specs.Locks.{hold_of}
-use Rattle.ld_facts.specs.Open.{is_some_and}
-use Rattle.ld_facts.specs.Reading.{IsAt, happens}
-use Rattle.ld_facts.specs.Scan.{plain_held}
+use Rattle.ld_rules.specs.declared.fault.TraceFault.TheVariants.{BadExit, HeldAtExit}
+use Rattle.ld_held.specs.declared.held.Held.{Held}
+use Rattle.ld_rules.specs.Flags.{same_state}
+use Rattle.ld_held.specs.Inner.Interrupts.{fresh, start_now, states_of}
+use Rattle.ld_held.specs.Inner.Locks.{hold_of}
+use Rattle.ld_rules.specs.Open.{is_some_and}
+use Rattle.ld_facts.specs.Inner.Reading.{IsAt, happens}
+use Rattle.ld_held.specs.Inner.Stacks.{plain_held}
 use Rattle.ld_facts.proofs.InterruptLemmas.{exit-bad, exit-held, exited-at}
 use Rattle.ld_facts.proofs.scan.Scan.exit.Goals as goal
 
@@ -28,22 +28,29 @@ returns-in_err-task-clause-fault c fault is all is_at =
 pub returns-then-not-is_innermost-clause-fault : goal.returns-then-not-is_innermost-clause-fault
 returns-then-not-is_innermost-clause-fault c fault is all is_at =
     let same : BadExit ≡ fault = cc in
-    let other : is_some_and (same_state c.args.state) (slice_get (states_of (get_or c.task.new.self.locks.interrupts c.in_ok-task.task fresh)) 0) ≡ false = ap (λ i. is_some_and (same_state c.args.state) (slice_get (states_of i) 0)) (sym c.interrupts-interrupts.ensures) ∙ sym c.is_innermost.ensures ∙ c.if-not-is_innermost.true in
+    let other : is_some_and (same_state c.args.state) (slice_get (states_of (get_or c.task.new.self.locks.interrupts c.in_ok-task.task fresh)) 0) ≡
+    false = ap (λ i. is_some_and (same_state c.args.state) (slice_get (states_of i) 0)) (sym c.interrupts-interrupts.ensures) ∙ sym c.is_innermost.ensures ∙ c.if-not-is_innermost.true in
     exit-bad all c.args.self.now is_at c.args.task.now c.in_ok-task.task c.task.new.self c.in_ok-task.ensures.task c.args.state other ∙ ap Some same
 
 pub returns-then-held-start-clause-fault : goal.returns-then-held-start-clause-fault
 returns-then-held-start-clause-fault c fault is all is_at =
     let same : HeldAtExit ≡ fault = cc in
-    let own : is_some_and (same_state c.args.state) (slice_get (states_of (get_or c.task.new.self.locks.interrupts c.in_ok-task.task fresh)) 0) ≡ true = ap (λ i. is_some_and (same_state c.args.state) (slice_get (states_of i) 0)) (sym c.interrupts-interrupts.ensures) ∙ sym c.is_innermost.ensures ∙ c.if-not-is_innermost.false in
-    let long : length (get_or c.task.new.self.locks.stacks c.in_ok-task.task []) ≡ length c.held.result.now = ap length (sym c.held.ensures) ∙ length-map c.held.result.now (λ (held : Held). hold_of (plain_held held)) in
+    let own : is_some_and (same_state c.args.state) (slice_get (states_of (get_or c.task.new.self.locks.interrupts c.in_ok-task.task fresh)) 0) ≡
+    true = ap (λ i. is_some_and (same_state c.args.state) (slice_get (states_of i) 0)) (sym c.interrupts-interrupts.ensures) ∙ sym c.is_innermost.ensures ∙ c.if-not-is_innermost.false in
+    let long : length (get_or c.task.new.self.locks.stacks c.in_ok-task.task []) ≡ length c.held.result.now = ap length (sym c.held.ensures) ∙
+    length-map c.held.result.now (λ (held : Held). hold_of (plain_held held)) in
     let start : start_now (get_or c.task.new.self.locks.interrupts c.in_ok-task.task fresh) ≡ c.start.result = ap start_now (sym c.interrupts-interrupts.ensures) ∙ sym c.start.ensures in
-    let more : length (get_or c.task.new.self.locks.stacks c.in_ok-task.task []) ≢ start_now (get_or c.task.new.self.locks.interrupts c.in_ok-task.task fresh) = (λ none. c.if-held-start.true (sym long ∙ none ∙ start)) in
+    let more : length (get_or c.task.new.self.locks.stacks c.in_ok-task.task []) ≢ start_now
+    (get_or c.task.new.self.locks.interrupts c.in_ok-task.task fresh) = (λ none. c.if-held-start.true (sym long ∙ none ∙ start)) in
     exit-held all c.args.self.now is_at c.args.task.now c.in_ok-task.task c.task.new.self c.in_ok-task.ensures.task c.args.state own more ∙ ap Some same
 
 pub returns-clause-ok : goal.returns-clause-ok
 returns-clause-ok c all is_at =
-    let own : is_some_and (same_state c.args.state) (slice_get (states_of (get_or c.task.new.self.locks.interrupts c.in_ok-task.task fresh)) 0) ≡ true = ap (λ i. is_some_and (same_state c.args.state) (slice_get (states_of i) 0)) (sym c.interrupts-interrupts.ensures) ∙ sym c.is_innermost.ensures ∙ c.if-not-is_innermost.false in
-    let long : length (get_or c.task.new.self.locks.stacks c.in_ok-task.task []) ≡ length c.held.result.now = ap length (sym c.held.ensures) ∙ length-map c.held.result.now (λ (held : Held). hold_of (plain_held held)) in
+    let own : is_some_and (same_state c.args.state) (slice_get (states_of (get_or c.task.new.self.locks.interrupts c.in_ok-task.task fresh)) 0) ≡
+    true = ap (λ i. is_some_and (same_state c.args.state) (slice_get (states_of i) 0)) (sym c.interrupts-interrupts.ensures) ∙ sym c.is_innermost.ensures ∙ c.if-not-is_innermost.false in
+    let long : length (get_or c.task.new.self.locks.stacks c.in_ok-task.task []) ≡ length c.held.result.now = ap length (sym c.held.ensures) ∙
+    length-map c.held.result.now (λ (held : Held). hold_of (plain_held held)) in
     let start : start_now (get_or c.task.new.self.locks.interrupts c.in_ok-task.task fresh) ≡ c.start.result = ap start_now (sym c.interrupts-interrupts.ensures) ∙ sym c.start.ensures in
     subst (IsAt (all ++ happens c.args.line (Exit c.args.task.now c.args.state) ∷ [])) (sym c.in_ok-count_held.ensures)
-    (exited-at all c.args.self.now is_at c.args.task.now c.in_ok-task.task c.task.new.self c.in_ok-task.ensures.task c.args.state c.args.line c.exit.new.self own (long ∙ c.if-held-start.false ∙ sym start) c.exit.ensures.moved c.exit.ensures.left)
+    (exited-at all c.args.self.now is_at c.args.task.now c.in_ok-task.task c.task.new.self c.in_ok-task.ensures.task c.args.state c.args.line
+    c.exit.new.self own (long ∙ c.if-held-start.false ∙ sym start) c.exit.ensures.moved c.exit.ensures.left)

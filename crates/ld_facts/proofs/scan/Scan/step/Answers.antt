@@ -1,8 +1,8 @@
 use Rattle.std.proofs.Common.{◌++◌, ◌∷◌, [], ap, subst, sym, ◌∙◌}
 use Rattle.std.proofs.lemmas.Result.{on_ok_weaker}
 use Rattle.ld_trace.specs.Events.{plain_event}
-use Rattle.ld_facts.specs.Outcome.{event_fault, events}
-use Rattle.ld_facts.specs.Reading.{IsAt, happens}
+use Rattle.ld_rules.specs.Outcome.{event_fault, events}
+use Rattle.ld_facts.specs.Inner.Reading.{IsAt, happens}
 use Rattle.ld_facts.proofs.scan.Scan.step.Goals as goal
 
 pub returns-in-Acquire-clause-fault : goal.returns-in-Acquire-clause-fault

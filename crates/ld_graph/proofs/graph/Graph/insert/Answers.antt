@@ -3,7 +3,7 @@ use Rattle.std.proofs.lemmas.Option.{none-some}
 use Rattle.std.proofs.Common.{◌≡◌, ◌<◌, ◌++◌, ◌∷◌, [], ◌↔◌, arith, length, set, vec_len, ap}
 use Rattle.std.proofs.Common.{true≢false, sym, subst, ◌∙◌}
 use Rattle.ld_graph.specs.Edges.{edge, IsEdge}
-use Rattle.ld_graph.specs.Neighbours.{IsNear, list_at}
+use Rattle.ld_graph.specs.Inner.Neighbours.{IsNear, list_at}
 use Rattle.ld_graph.proofs.EdgeLemmas.{IsEdge-found, insert_key-new, IsNear-edge, IsNear-turned}
 use Rattle.ld_graph.proofs.EdgeLemmas.{ends_push}
 use Rattle.ld_graph.proofs.graph.Graph.insert.Goals as goal

@@ -1,6 +1,6 @@
 use Rattle.std.proofs.Common.{arith, ap, refl}
 use Rattle.ld_graph.specs.declared.graph.Graph.TheInside.{Inside}
-use Rattle.ld_graph.specs.Kept.{IsKept}
+use Rattle.ld_graph.specs.Inner.Kept.{IsKept}
 use Rattle.ld_graph.proofs.KeptLemmas.{lists_same, IsKept-grown, IsKept-spare}
 use Rattle.ld_graph.proofs.graph.Graph.room.Goals as goal
 

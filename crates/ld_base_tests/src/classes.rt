@@ -1,0 +1,47 @@
+//! Names and their numbers.
+
+use ld_class::{Classes, MAX_NAMES};
+use std::test::Fail;
+
+#[test]
+fn numbers_names_in_order_of_first_insertion(rt: HostRuntime) -> Result<(), Fail> {
+    let mut classes = Classes::new(rt.alloc());
+    assert_eq!(rt; classes.intern(b"B")?, 0);
+    assert_eq!(rt; classes.intern(b"A")?, 1);
+    assert_eq!(rt; classes.intern(b"B")?, 0);
+    assert_eq!(rt; classes.len(), 2);
+    assert_eq!(rt; classes.name(1), b"A".as_slice());
+    assert_eq!(rt; classes.find(b"A"), Some(1));
+    assert_eq!(rt; classes.find(b"C"), None);
+    classes.cut(1);
+    assert_eq!(rt; classes.find(b"A"), None);
+    assert_eq!(rt; classes.intern(b"C")?, 1);
+    Ok(())
+}
+
+// Under `rt try --test --fail-alloc N`, for N from 1 to 24, one allocation of one growth is
+// refused: the answers are then as before, and the call made again answers `Ok`.
+#[test]
+fn a_refused_growth_changes_nothing(rt: HostRuntime) -> Result<(), Fail> {
+    // Names of 1 to 200 bytes, for which the set grows six times.
+    let text = [b'x'; 200];
+    let mut classes = Classes::new(rt.alloc());
+    for id in 0..200u32 {
+        let name = &text[..=id as usize];
+        assert!(rt; classes.len() < MAX_NAMES);
+        let mut answer = classes.intern(name);
+        if answer.is_err() {
+            assert_eq!(rt; classes.find(name), None);
+            assert_eq!(rt; classes.len(), id as usize);
+            for known in 0..id {
+                let known_name = &text[..=known as usize];
+                assert_eq!(rt; classes.find(known_name), Some(known));
+                assert_eq!(rt; classes.name(known), known_name);
+            }
+            answer = classes.intern(name);
+        }
+        assert_eq!(rt; answer?, id);
+    }
+    assert_eq!(rt; classes.len(), 200);
+    Ok(())
+}

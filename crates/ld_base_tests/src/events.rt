@@ -1,0 +1,101 @@
+//! The rows of `read_event`.
+
+use ld_trace::{Event, LineFault, State, read_event};
+use std::alloc::Global;
+use std::test::Fail;
+
+fn refuses(line: &[u8], fault: LineFault) -> bool {
+    read_event(line) == Err(fault)
+}
+
+fn acquires(line: &[u8], by: &[u8], of: &[u8]) -> bool {
+    match read_event(line) {
+        Ok(Some(Event::Acquire { task, lock })) => {
+            task == by && lock.class == of && lock.instance.is_none()
+        }
+        _ => false,
+    }
+}
+
+fn names(line: &[u8], event: Event<'_>) -> bool {
+    read_event(line) == Ok(Some(event))
+}
+
+/// This line with so many bytes `a` after it.
+fn with_letters(alloc: Global, line: &[u8], count: usize, end: &[u8]) -> Result<Vec<u8>, Fail> {
+    let mut all = line.to_vec(alloc)?;
+    for _ in 0..count {
+        all.push(b'a')?;
+    }
+    all.extend_from_slice(end)?;
+    Ok(all)
+}
+
+#[test]
+fn some_lines_say_nothing(rt: HostRuntime) {
+    assert!(rt; matches!(read_event(b""), Ok(None)));
+    assert!(rt; matches!(read_event(b"# acquire t A"), Ok(None)));
+}
+
+#[test]
+fn events_are_read(rt: HostRuntime) {
+    assert!(rt; acquires(b"acquire t A", b"t", b"A"));
+    assert!(rt; acquires(b"acquire kworker/0:1 A", b"kworker/0:1", b"A"));
+    match read_event(b"try t A@7") {
+        Ok(Some(Event::Try { task, lock })) => {
+            assert!(rt; task == b"t".as_slice());
+            assert!(rt; lock.class == b"A".as_slice());
+            match lock.instance {
+                Some(instance) => assert!(rt; instance == b"7".as_slice()),
+                None => assert!(rt; false, "the instance is missing"),
+            }
+        }
+        _ => assert!(rt; false, "it is a try"),
+    }
+}
+
+#[test]
+fn events_with_a_state_are_read(rt: HostRuntime) {
+    let task = b"t".as_slice();
+    let (hard, soft) = (State::Hard, State::Soft);
+    assert!(rt; names(b"enter t hard", Event::Enter { task, state: hard }));
+    assert!(rt; names(b"enter t soft", Event::Enter { task, state: soft }));
+    assert!(rt; names(b"exit t hard", Event::Exit { task, state: hard }));
+    assert!(rt; names(b"exit t soft", Event::Exit { task, state: soft }));
+    assert!(rt; names(b"enable t hard", Event::Enable { task, state: hard }));
+    assert!(rt; names(b"enable t soft", Event::Enable { task, state: soft }));
+    assert!(rt; names(b"disable t hard", Event::Disable { task, state: hard }));
+    assert!(rt; names(b"disable t soft", Event::Disable { task, state: soft }));
+}
+
+#[test]
+fn the_first_fault_of_a_line_is_told(rt: HostRuntime) -> Result<(), Fail> {
+    assert!(rt; refuses(b"lock t A", LineFault::BadVerb));
+    assert!(rt; refuses(b"Acquire t A", LineFault::BadVerb));
+    assert!(rt; refuses(b"trace a", LineFault::BadVerb));
+    assert!(rt; refuses(b"nested t A 1", LineFault::BadVerb));
+    assert!(rt; refuses(b"begin t on on", LineFault::BadVerb));
+    assert!(rt; refuses(b"acquire t", LineFault::BadCount));
+    assert!(rt; refuses(b"acquire t A B", LineFault::BadCount));
+    assert!(rt; refuses(b"acquire t A@", LineFault::BadName));
+    assert!(rt; refuses(b"acquire t @1", LineFault::BadName));
+    assert!(rt; refuses(b"acquire t A@1@2", LineFault::BadName));
+    assert!(rt; refuses(b"acquire t A/1", LineFault::BadName));
+    assert!(rt; refuses(b"exit t", LineFault::BadCount));
+    assert!(rt; refuses(b"enable t hard soft", LineFault::BadCount));
+    assert!(rt; refuses(b"enter t nmi", LineFault::BadState));
+    assert!(rt; refuses(b"disable t Hard", LineFault::BadState));
+    let task = with_letters(rt.alloc(), b"enter ", 65, b" nmi")?;
+    assert!(rt; refuses(task.as_slice(), LineFault::BadName));
+    Ok(())
+}
+
+#[test]
+fn a_name_has_at_most_64_bytes(rt: HostRuntime) -> Result<(), Fail> {
+    let line = with_letters(rt.alloc(), b"acquire t ", 64, b"")?;
+    let class = with_letters(rt.alloc(), b"", 64, b"")?;
+    assert!(rt; acquires(line.as_slice(), b"t", class.as_slice()));
+    let line = with_letters(rt.alloc(), b"acquire t ", 65, b"")?;
+    assert!(rt; refuses(line.as_slice(), LineFault::BadName));
+    Ok(())
+}

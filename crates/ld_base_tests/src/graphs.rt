@@ -1,0 +1,204 @@
+//! Worked graphs. Each call that takes memory is made once more where it was refused, so these hold
+//! whichever allocation fails.
+
+ghost use Rattle.std.specs.Prelude.{◌≡◌, ℕ, length, slice_index_or, None};
+ghost use Rattle.ld_graph.specs.Edges.{IsEdge};
+ghost use Rattle.ld_graph.specs.Walks.{DistanceIs};
+
+use ld_graph::{Graph, MOST_CLASSES};
+use std::alloc::Global;
+use std::process::Abort;
+use std::test::Fail;
+
+/// Makes room. Where memory is refused nothing else changes, and the call made again answers `Ok`.
+fn make_room<R: Abort>(rt: &R, graph: &mut Graph, classes: usize, edges: usize) {
+    assert!(rt; classes <= MOST_CLASSES - graph.len());
+    let (len, count) = (graph.len(), graph.edges());
+    if graph.room(classes, edges).is_err() {
+        assert_eq!(rt; graph.len(), len);
+        assert_eq!(rt; graph.edges(), count);
+        graph.room(classes, edges).expect(rt, "room made again");
+    }
+    assert!(rt; graph.spare_classes() >= classes && graph.spare_edges() >= edges);
+}
+
+fn add_classes<R: Abort>(rt: &R, graph: &mut Graph, count: u32) {
+    for number in 0..count {
+        assert!(rt; graph.spare_classes() > 0);
+        assert_eq!(rt; graph.add_class(), number);
+    }
+}
+
+fn insert<R: Abort>(rt: &R, graph: &mut Graph, a: u32, b: u32) -> bool {
+    assert!(rt; (a as usize) < graph.len() && (b as usize) < graph.len());
+    assert!(rt; graph.spare_edges() > 0);
+    graph.insert(a, b)
+}
+
+fn distances<R: Abort>(rt: &R, alloc: Global, graph: &Graph, to: u32) -> Vec<Option<u64>>
+    ensures len { length result.items ≡ graph.now.classes }
+    ensures each { (c : ℕ) →
+        DistanceIs (IsEdge graph.now.edges) c to (slice_index_or result.items c None) }
+{
+    assert!(rt; (to as usize) < graph.len());
+    match graph.distances(alloc, to) {
+        Ok(distances) => distances,
+        Err(_) => graph
+            .distances(alloc, to)
+            .expect(rt, "distances made again"),
+    }
+}
+
+fn walk<R: Abort>(
+    rt: &R,
+    alloc: Global,
+    graph: &Graph,
+    a: u32,
+    b: u32,
+    places: &[u32],
+) -> Option<Vec<u32>> {
+    assert!(rt; (a as usize) < graph.len() && (b as usize) < graph.len());
+    assert!(rt; places.len() == graph.len());
+    match graph.walk(alloc, a, b, places) {
+        Ok(walk) => walk,
+        Err(_) => graph
+            .walk(alloc, a, b, places)
+            .expect(rt, "walk made again"),
+    }
+}
+
+/// Asserts that there is a walk between these ends, and that it is this one.
+fn expect_walk<R: Abort>(
+    rt: &R,
+    alloc: Global,
+    graph: &Graph,
+    ends: (u32, u32),
+    places: &[u32],
+    wanted: &[u32],
+) {
+    let walk = walk(rt, alloc, graph, ends.0, ends.1, places).expect(rt, "a walk");
+    assert_eq!(rt; walk.as_slice(), wanted);
+}
+
+/// Asserts the walk to `to` from each class in turn, or that there is none, all by one search.
+fn expect_walks_along<R: Abort>(
+    rt: &R,
+    alloc: Global,
+    graph: &Graph,
+    to: u32,
+    places: &[u32],
+    wanted: &[Option<&[u32]>],
+) {
+    let distances = distances(rt, alloc, graph, to);
+    assert!(rt; places.len() == graph.len());
+    assert_eq!(rt; wanted.len(), graph.len());
+    for a in 0..graph.len() as u32 {
+        assert!(rt; (a as usize) < graph.len() && (a as usize) < wanted.len());
+        let walk = match graph.walk_along(alloc, a, to, &distances, places) {
+            Ok(walk) => walk,
+            Err(_) => graph
+                .walk_along(alloc, a, to, &distances, places)
+                .expect(rt, "walk made again"),
+        };
+        assert_eq!(rt; walk.as_deref(), wanted[a as usize], "{a} to {to}");
+    }
+}
+
+/// Asserts that what a search finds is what has a distance, for every pair of classes.
+fn expect_found<R: Abort>(rt: &R, alloc: Global, graph: &mut Graph) {
+    for from in 0..graph.len() as u32 {
+        for c in 0..graph.len() as u32 {
+            assert!(rt; (from as usize) < graph.len());
+            graph.search(from);
+            let distances = distances(rt, alloc, graph, c);
+            assert!(rt; (c as usize) < graph.len() && (from as usize) < distances.len());
+            assert_eq!(rt;
+                graph.found(c),
+                distances[from as usize].is_some(),
+                "{from} to {c}"
+            );
+        }
+    }
+}
+
+/// Asserts the answers of the graph with the edges (0, 1), (2, 0), (1, 2) and (3, 3).
+fn expect_circle<R: Abort>(rt: &R, alloc: Global, graph: &mut Graph) {
+    let places = [0, 1, 2, 3];
+    assert_eq!(rt; graph.len(), 4);
+    assert_eq!(rt; graph.edges(), 4);
+    assert_eq!(rt; graph.edge(0, 1), Some(0));
+    assert_eq!(rt; graph.edge(2, 0), Some(1));
+    assert_eq!(rt; graph.edge(1, 2), Some(2));
+    assert_eq!(rt; graph.edge(3, 3), Some(3));
+    assert_eq!(rt; graph.edge(0, 2), None);
+    let wanted = [Some(2), Some(1), Some(3), None];
+    assert_eq!(rt;
+        distances(rt, alloc, graph, 2).as_slice(),
+        wanted.as_slice()
+    );
+    expect_walk(rt, alloc, graph, (2, 1), &places, &[2, 0, 1]);
+    expect_walk(rt, alloc, graph, (0, 0), &places, &[0, 1, 2, 0]);
+    assert!(rt; walk(rt, alloc, graph, 3, 0, &places).is_none());
+    let wanted: [Option<&[u32]>; 4] = [Some(&[0, 1]), Some(&[1, 2, 0, 1]), Some(&[2, 0, 1]), None];
+    expect_walks_along(rt, alloc, graph, 1, &places, &wanted);
+    expect_found(rt, alloc, graph);
+}
+
+#[test]
+fn circle(rt: HostRuntime) {
+    let alloc = rt.alloc();
+    let mut graph = Graph::new(alloc);
+    make_room(&rt, &mut graph, 4, 5);
+    add_classes(&rt, &mut graph, 4);
+    assert!(rt; insert(&rt, &mut graph, 0, 1));
+    assert!(rt; insert(&rt, &mut graph, 2, 0));
+    assert!(rt; !insert(&rt, &mut graph, 0, 1));
+    assert!(rt; insert(&rt, &mut graph, 1, 2));
+    assert!(rt; insert(&rt, &mut graph, 3, 3));
+    assert!(rt; !insert(&rt, &mut graph, 0, 1));
+    expect_circle(&rt, alloc, &mut graph);
+    // Where a growth of this graph is refused, each answer is as before, the last search's too.
+    assert!(rt; graph.len() == 4);
+    graph.search(0);
+    if graph.room(1000, 1000).is_err() {
+        assert!(rt; graph.found(2));
+        assert!(rt; !graph.found(3));
+        expect_circle(&rt, alloc, &mut graph);
+    }
+    make_room(&rt, &mut graph, 1000, 1000);
+    expect_circle(&rt, alloc, &mut graph);
+}
+
+#[test]
+fn two_ways(rt: HostRuntime) {
+    let alloc = rt.alloc();
+    let mut graph = Graph::new(alloc);
+    make_room(&rt, &mut graph, 4, 4);
+    add_classes(&rt, &mut graph, 4);
+    for (a, b) in [(0, 1), (0, 2), (1, 3), (2, 3)] {
+        assert!(rt; insert(&rt, &mut graph, a, b));
+    }
+    expect_walk(&rt, alloc, &graph, (0, 3), &[0, 1, 2, 3], &[0, 1, 3]);
+    expect_walk(&rt, alloc, &graph, (0, 3), &[0, 2, 1, 3], &[0, 2, 3]);
+    expect_found(&rt, alloc, &mut graph);
+}
+
+// A search that answered `AllocError` for many classes would meet every contract.
+#[test]
+fn a_long_way(rt: HostRuntime) -> Result<(), Fail> {
+    let alloc = rt.alloc();
+    let mut graph = Graph::new(alloc);
+    make_room(&rt, &mut graph, 2_000, 2_000);
+    add_classes(&rt, &mut graph, 2_000);
+    for a in 0..1_999 {
+        assert!(rt; insert(&rt, &mut graph, a, a + 1));
+    }
+    let distances = distances(&rt, alloc, &graph, 1_999);
+    assert!(rt; !distances.is_empty());
+    assert_eq!(rt; distances[0], Some(1_999));
+    let mut places = Vec::new(alloc);
+    places.resize(2_000, 0)?;
+    let walk = walk(&rt, alloc, &graph, 0, 1_999, &places).expect(&rt, "a walk");
+    assert_eq!(rt; walk.len(), 2_000);
+    Ok(())
+}

@@ -1,0 +1,14 @@
+//! Tests of `ld_trace`, `ld_class` and `ld_graph` by their public calls, so that these aren't proved
+//! once more for them.
+#![tactic(auto)]
+
+#[cfg(test)]
+mod classes;
+#[cfg(test)]
+mod events;
+#[cfg(test)]
+mod graphs;
+#[cfg(test)]
+mod streams;
+#[cfg(test)]
+mod usage;

@@ -1,0 +1,123 @@
+//! The rows of `split`.
+
+use ld_trace::{StreamFault, split};
+use std::alloc::Global;
+use std::test::Fail;
+
+/// Whether a stream is refused with this fault.
+fn refuses(alloc: Global, stream: &[u8], fault: StreamFault) -> bool {
+    match split(alloc, stream) {
+        Ok(_) => false,
+        Err(found) => found == fault,
+    }
+}
+
+/// A stream of so many headers `trace a`, and this line after them.
+fn headers(alloc: Global, count: usize, last: &[u8]) -> Result<Vec<u8>, Fail> {
+    let mut stream = Vec::new(alloc);
+    for _ in 0..count {
+        stream.extend_from_slice(b"trace a\n")?;
+    }
+    stream.extend_from_slice(last)?;
+    Ok(stream)
+}
+
+#[test]
+fn nothing_has_no_sources(rt: HostRuntime) -> Result<(), Fail> {
+    assert_eq!(rt; split(rt.alloc(), b"")?.len(), 0);
+    Ok(())
+}
+
+#[test]
+fn a_header_alone_opens_an_empty_section(rt: HostRuntime) -> Result<(), Fail> {
+    let sources = split(rt.alloc(), b"trace a")?;
+    assert_eq!(rt; sources.len(), 1);
+    let source = sources[0];
+    assert_eq!(rt; source.number, 0);
+    assert!(rt; source.name == b"a".as_slice());
+    assert_eq!(rt; source.first_line, 2);
+    assert_eq!(rt; source.bytes.len(), 0);
+    assert!(rt; source.fits());
+    Ok(())
+}
+
+#[test]
+fn sections_end_before_the_next_header(rt: HostRuntime) -> Result<(), Fail> {
+    let stream =
+        b"trace ab\nacquire t A\nacquire t B\nrelease t B\nrelease t A\ntrace ba\nacquire t B\nacquire t A\nrelease t A\nrelease t B\n";
+    let sources = split(rt.alloc(), stream)?;
+    assert_eq!(rt; sources.len(), 2);
+    let first = sources[0];
+    assert_eq!(rt; first.number, 0);
+    assert!(rt; first.name == b"ab".as_slice());
+    assert_eq!(rt; first.first_line, 2);
+    let expected = b"acquire t A\nacquire t B\nrelease t B\nrelease t A\n";
+    assert!(rt; first.bytes == expected.as_slice());
+    let second = sources[1];
+    assert_eq!(rt; second.number, 1);
+    assert!(rt; second.name == b"ba".as_slice());
+    assert_eq!(rt; second.first_line, 7);
+    let expected = b"acquire t B\nacquire t A\nrelease t A\nrelease t B\n";
+    assert!(rt; second.bytes == expected.as_slice());
+    Ok(())
+}
+
+#[test]
+fn the_first_line_with_a_fault_refuses_a_stream(rt: HostRuntime) {
+    let alloc = rt.alloc();
+    assert!(rt; refuses(alloc, b"trace\n", StreamFault::BadHeader(1)));
+    assert!(rt; refuses(alloc, b"trace a b\n", StreamFault::BadHeader(1)));
+    assert!(rt;
+        refuses(
+            alloc,
+            b"#x\n\nacquire t A\ntrace a\n",
+            StreamFault::NoHeader(3)
+        )
+    );
+    assert!(rt; refuses(alloc, b"traces a\n", StreamFault::NoHeader(1)));
+    assert!(rt; refuses(alloc, b"acquire t A\n", StreamFault::NoHeader(1)));
+}
+
+#[test]
+fn a_label_has_at_most_64_bytes(rt: HostRuntime) -> Result<(), Fail> {
+    let mut stream = b"trace ".to_vec(rt.alloc())?;
+    for _ in 0..64 {
+        stream.push(b'a')?;
+    }
+    assert_eq!(rt; split(rt.alloc(), stream.as_slice())?.len(), 1);
+    stream.push(b'a')?;
+    assert!(rt; refuses(rt.alloc(), stream.as_slice(), StreamFault::BadHeader(1)));
+    Ok(())
+}
+
+#[test]
+fn a_stream_has_at_most_65535_traces(rt: HostRuntime) -> Result<(), Fail> {
+    let most = headers(rt.alloc(), 65_535, b"")?;
+    let sources = split(rt.alloc(), most.as_slice())?;
+    assert_eq!(rt; sources.len(), 65_535);
+    assert_eq!(rt; sources[65_534].number, 65_534);
+    let more = headers(rt.alloc(), 65_536, b"")?;
+    assert!(rt; refuses(rt.alloc(), more.as_slice(), StreamFault::TooManyTraces));
+    let bad = headers(rt.alloc(), 65_535, b"trace")?;
+    assert!(rt; refuses(rt.alloc(), bad.as_slice(), StreamFault::BadHeader(65_536)));
+    Ok(())
+}
+
+// The list of traces is all the memory that `split` takes. Where a growth of it is refused, the
+// answer is `Memory`, and the call made again gives the sources; a fault needs no memory.
+#[test]
+fn a_refused_growth_is_told(rt: HostRuntime) {
+    let stream = b"trace a\ntrace b\ntrace c\ntrace d\ntrace e\ntrace f\n";
+    match split(rt.alloc(), stream) {
+        Ok(sources) => assert_eq!(rt; sources.len(), 6),
+        Err(fault) => {
+            assert!(rt; fault == StreamFault::Memory);
+            match split(rt.alloc(), stream) {
+                Ok(sources) => assert_eq!(rt; sources.len(), 6),
+                Err(_) => assert!(rt; false, "memory was refused once"),
+            }
+        }
+    }
+    let faulty = b"trace a\ntrace b\ntrace c\ntrace d\ntrace e\ntrace";
+    assert!(rt; refuses(rt.alloc(), faulty, StreamFault::BadHeader(6)));
+}

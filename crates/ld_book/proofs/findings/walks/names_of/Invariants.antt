@@ -1,7 +1,0 @@
-use Rattle.std.proofs.Common.{◌≡◌, map, take}
-use Rattle.ld_book.specs.Order.{name_of}
-use Rattle.ld_book.specs.Findings.{plain_names}
-use Rattle.ld_book.proofs.findings.walks.names_of.Given as goal
-
-abbrev pub invariant-loop-class : goal.invariant-loop-class
-invariant-loop-class l = plain_names l.names.items ≡ map (name_of l.classes) (take l.class-index l.numbers)

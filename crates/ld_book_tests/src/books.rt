@@ -1,0 +1,95 @@
+//! Worked books. Each call that takes memory is made once more where it was refused, so what stands on
+//! these holds whichever allocation fails.
+
+use ld_book::{Alarms, Book, Refusal, Totals};
+use ld_facts::{Facts, Witness, facts};
+use ld_trace::{Source, split};
+use std::alloc::{AllocError, Global};
+use std::process::Abort;
+
+/// The alarms of a book without a violation.
+pub(crate) const NONE: Alarms<'static> = Alarms {
+    cycle: None,
+    conflict: [None; 2],
+    forbidden: [None; 2],
+};
+
+/// Three traces, each of which shows one dependency of a cycle.
+pub(crate) const THREE_TRACES: &[u8] = b"trace x\nacquire t A\nacquire t B\n\
+    trace y\nacquire t B\nacquire t C\ntrace z\nacquire t C\nacquire t A\n";
+
+/// The sources of a stream.
+fn sources_of<'a, R: Abort>(rt: &R, alloc: Global, bytes: &'a [u8]) -> Vec<Source<'a>> {
+    match split(alloc, bytes) {
+        Ok(sources) => sources,
+        Err(_) => split(alloc, bytes).expect(rt, "the sources of a stream"),
+    }
+}
+
+/// The facts of the trace of that number.
+pub(crate) fn facts_of<'a, R: Abort>(
+    rt: &R,
+    alloc: Global,
+    bytes: &'a [u8],
+    number: usize,
+) -> Facts<'a> {
+    let sources = sources_of(rt, alloc, bytes);
+    assert!(rt; number < sources.len());
+    let source = sources[number];
+    assert!(rt; source.fits());
+    match facts(alloc, source) {
+        Ok(facts) => facts,
+        Err(AllocError) => facts(alloc, source).expect(rt, "the facts of a trace"),
+    }
+}
+
+/// Adds the trace of that number. Where memory is refused the facts come back, the book is as
+/// before, and the call made again answers `Ok`.
+fn add<'a, R: Abort>(rt: &R, alloc: Global, book: &mut Book<'a>, bytes: &'a [u8], number: usize) {
+    let facts = facts_of(rt, alloc, bytes, number);
+    let before = book.totals();
+    let listed = book.listed().len();
+    match book.add(facts) {
+        Ok(()) => {}
+        Err(Refusal::Memory(facts)) => {
+            assert_eq!(rt; book.totals(), before);
+            assert_eq!(rt; book.listed().len(), listed);
+            assert!(rt; book.add(facts).is_ok());
+        }
+        Err(Refusal::Twice(_facts)) => assert!(rt; false),
+    }
+}
+
+/// The book of a stream, whose traces are added in this order.
+pub(crate) fn book_of<'a, R: Abort>(
+    rt: &R,
+    alloc: Global,
+    bytes: &'a [u8],
+    order: &[usize],
+) -> Book<'a> {
+    let mut book = Book::new(alloc);
+    for number in order {
+        add(rt, alloc, &mut book, bytes, *number);
+    }
+    book
+}
+
+pub(crate) fn witness(number: u64, line: u64) -> Option<Witness> {
+    Some(Witness { number, line })
+}
+
+pub(crate) fn totals(
+    traces: u64,
+    refused: u64,
+    events: u64,
+    classes: u64,
+    dependencies: u64,
+) -> Totals {
+    Totals {
+        traces,
+        refused,
+        events,
+        classes,
+        dependencies,
+    }
+}

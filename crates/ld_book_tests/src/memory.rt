@@ -1,0 +1,41 @@
+//! Refused memory, and many traces.
+
+use crate::books::{NONE, THREE_TRACES, book_of, facts_of, totals};
+use ld_book::{Book, Refusal};
+use ld_facts::facts;
+use ld_trace::split;
+
+/// Adds the second of three traces to a book of the first, where a growth may be refused: the book
+/// is then as before, and the facts that came back can be added again.
+#[test]
+fn a_refused_add_changes_nothing(rt: HostRuntime) {
+    let mut book = book_of(&rt, rt.alloc(), THREE_TRACES, &[0]);
+    let facts = facts_of(&rt, rt.alloc(), THREE_TRACES, 1);
+    if let Err(refusal) = book.add(facts) {
+        assert_eq!(rt; book.totals(), totals(1, 0, 2, 2, 1));
+        assert_eq!(rt; book.edge(b"B", b"C"), None);
+        assert!(rt; book.usage(b"C").is_none());
+        assert_eq!(rt; book.alarms(), NONE);
+        match refusal {
+            Refusal::Memory(facts) => assert!(rt; book.add(facts).is_ok()),
+            Refusal::Twice(_facts) => assert!(rt; false),
+        }
+    }
+    assert_eq!(rt; book.totals(), totals(2, 0, 4, 3, 2));
+}
+
+/// Only want of memory may keep a book from growing.
+#[test]
+fn more_than_a_thousand_traces_are_listed(rt: HostRuntime) {
+    let bytes = b"trace n\nacquire t A\nacquire t B\n"
+        .repeat(rt.alloc(), 1001)
+        .expect(&rt, "a text");
+    let sources = split(rt.alloc(), &bytes).expect(&rt, "the sources of a stream");
+    let mut book = Book::new(rt.alloc());
+    for source in &sources {
+        assert!(rt; source.fits());
+        let facts = facts(rt.alloc(), *source).expect(&rt, "the facts of a trace");
+        assert!(rt; book.add(facts).is_ok());
+    }
+    assert_eq!(rt; book.totals(), totals(1001, 0, 2002, 2, 1));
+}

@@ -1,8 +1,0 @@
-use Rattle.std.proofs.Common.{refl}
-use Rattle.ld_facts.specs.Scan.{PlainStack}
-use Rattle.ld_facts.proofs.StackLemmas.{put}
-use Rattle.ld_facts.proofs.held.Stacks.set_interrupts.Goals as goal
-
-pub returns : goal.returns
-returns c =
-    put c.args.self.now c.self.inside.stacks.items c.args.task c.index_mut.result.now _ (λ (s : PlainStack). record s { interrupts = c.args.interrupts }) c.self.view_is c.requires c.index_mut.ensures.value refl

@@ -1,0 +1,122 @@
+-- What the scan of a trace keeps, against the positions so far. No public contract cites this file.
+use Rattle.std.specs.Prelude.{◌≡◌, ◌<◌, ◌≤◌, ℕ, Bool, true, false, None, Ok, List, [], ◌∷◌, ◌++◌}
+use Rattle.std.specs.Prelude.{All, drop, fold, map, length, slice_index_or, slice_set}
+use Rattle.std.specs.List.{filter_map, enumerate_from}
+use Rattle.ld_class.specs.Names.{IsNameAt, place_of, with_name}
+use Rattle.ld_trace.specs.declared.event.State.{State}
+use Rattle.ld_trace.specs.Lines.{lines, text_of}
+use Rattle.ld_trace.specs.Sources.{PlainSource}
+use Rattle.ld_trace.specs.Events.{PlainEvent, PlainLock, Position, position_of, positions, said_by}
+use Rattle.ld_trace.specs.Events.PlainEvent.{Acquire, Try}
+use Rattle.ld_held.specs.declared.edges.EdgeFact.{EdgeFact}
+use Rattle.ld_rules.specs.declared.outcome.TheConstants.{MOST_CLASSES, MOST_HELD, MOST_TASKS}
+use Rattle.ld_held.specs.declared.interrupts.Interrupts.{Interrupts}
+use Rattle.ld_facts.specs.declared.scan.Scan.{Scan}
+use Rattle.ld_facts.specs.Facts.{named, named_use}
+use Rattle.ld_held.specs.Inner.Edges.{edge_to, with_edge}
+use Rattle.ld_held.specs.Inner.Interrupts.{fresh, levels_of, start_now, starts_of, states_of}
+use Rattle.ld_rules.specs.Inner.Levels.{levels, starts, states}
+use Rattle.ld_facts.specs.Facts.{IsUse}
+use Rattle.ld_held.specs.Inner.Uses.{in_facts, on_facts, with_use}
+use Rattle.ld_rules.specs.Usage.{same_what, uses_at}
+use Rattle.ld_rules.specs.Held.{held_by}
+use Rattle.ld_held.specs.Inner.Locks.{Hold}
+use Rattle.ld_rules.specs.Outcome.{classes, each_once, events, faulty_lines, tasks}
+use Rattle.ld_rules.specs.Dependency.{dependencies_at, same_seen, seen}
+
+-- the numbers of a dependency's classes are numbers of classes
+abbrev pub IsWithin : List (List ℕ) → EdgeFact → Type 0
+IsWithin classes edge = (edge.from < length classes) × (edge.to < length classes)
+
+-- what the scan keeps of a task: what it holds, and its frames and flags
+pub record IsTask (names : List (List ℕ)) (stack : List Hold) (interrupts : Interrupts)
+    (past : List PlainEvent) (task : List ℕ) : Type 0 where
+  pub locks : map (λ hold. hold.lock) stack ≡ map (λ key. key.lock) (held_by past task)
+  pub classes : All (λ hold. IsNameAt names hold.class hold.lock.class) stack
+  pub states : states_of interrupts ≡ states past task
+  pub starts : starts_of interrupts ≡ starts past task
+  pub levels : (state : State) → levels_of state interrupts ≡ levels past task state
+
+-- each task has its stack, and its frames and flags
+abbrev pub AreMany : Scan → Type 0
+AreMany scan =
+    (length scan.locks.stacks ≡ length scan.tasks)
+    × (length scan.locks.interrupts ≡ length scan.tasks)
+
+-- the scan is what these positions leave, none of which has a fault
+pub record IsAt (all : List Position) (scan : Scan) : Type 0 where
+  pub clean : faulty_lines all ≡ []
+  pub tasks : scan.tasks ≡ tasks (events all)
+  pub classes : scan.classes ≡ classes (events all)
+  pub few_tasks : length scan.tasks ≤ MOST_TASKS
+  pub few_classes : length scan.classes ≤ MOST_CLASSES
+  pub many : AreMany scan
+  pub each : (id : ℕ) (name : List ℕ) → IsNameAt scan.tasks id name
+      → IsTask scan.classes (slice_index_or scan.locks.stacks id [])
+      (slice_index_or scan.locks.interrupts id fresh) (events all) name
+  pub shallow : (id : ℕ) → length (slice_index_or scan.locks.stacks id []) ≤ MOST_HELD
+  pub edges :
+      map (named scan.classes) scan.locks.edges ≡ each_once same_seen (seen dependencies_at all)
+  pub within : All (IsWithin scan.classes) scan.locks.edges
+  pub uses : map (named_use scan.classes) scan.uses ≡ each_once same_what (seen uses_at all)
+  pub used : All (IsUse scan.classes) scan.uses
+
+-- the task has this number now, and all else is as before
+pub record HasTask (old : Scan) (name : List ℕ) (id : ℕ) (new : Scan) : Type 0 where
+  pub tasks : new.tasks ≡ with_name old.tasks name
+  pub place : IsNameAt new.tasks id name
+  pub fits : place_of old.tasks name ≡ None → length old.tasks < MOST_TASKS
+  pub many : AreMany new
+  pub classes : new.classes ≡ old.classes
+  pub stacks : (k : ℕ) → slice_index_or new.locks.stacks k [] ≡ slice_index_or old.locks.stacks k []
+  pub interrupts : (k : ℕ)
+      → slice_index_or new.locks.interrupts k fresh ≡ slice_index_or old.locks.interrupts k fresh
+  pub edges : new.locks.edges ≡ old.locks.edges
+  pub uses : new.uses ≡ old.uses
+
+-- the position of an event at this line
+abbrev pub happens : ℕ → PlainEvent → Position
+happens line event = record { line = line; says = Ok event }
+
+-- an acquisition, which may have waited or not
+abbrev pub acquisition : Bool → List ℕ → PlainLock → PlainEvent
+acquisition true task lock = Acquire task lock
+acquisition false task lock = Try task lock
+
+-- the scan when the task waits at this line for a lock of the class with this number: the
+-- dependencies are told, and the class is used in the task's contexts
+abbrev pub waited : Scan → ℕ → ℕ → ℕ → Scan
+waited scan id class line =
+    let interrupts = slice_index_or scan.locks.interrupts id fresh in
+    let inner = drop (start_now interrupts) (slice_index_or scan.locks.stacks id []) in
+    let froms = map (λ hold. hold.class) inner in
+    record scan {
+      locks = record scan.locks {
+        edges = fold with_edge scan.locks.edges (map (edge_to class line) froms);
+      };
+      uses = fold with_use scan.uses (in_facts interrupts line class);
+    }
+
+-- the scan when the task holds the lock, which counts under its flags
+abbrev pub taken : Scan → ℕ → ℕ → PlainLock → ℕ → Scan
+taken scan id class lock line =
+    let held = slice_index_or scan.locks.stacks id [] in
+    let stack = held ++ record { lock = lock; class = class } ∷ [] in
+    let interrupts = slice_index_or scan.locks.interrupts id fresh in
+    record scan {
+      locks = record scan.locks { stacks = slice_set scan.locks.stacks id stack };
+      uses = fold with_use scan.uses (on_facts interrupts line (class ∷ []));
+    }
+
+-- the positions of lines, the first of which has this number
+abbrev pub positions_from : ℕ → List ℕ → List Position
+positions_from line bytes =
+    filter_map (λ p. position_of p.0 (said_by (text_of p.1))) (enumerate_from line (lines bytes))
+
+-- the positions before these lines, and the scan that they leave
+pub record IsReadTo (source : PlainSource) (line : ℕ) (rest : List ℕ) (scan : Scan)
+    (count : ℕ) : Type 0 where
+  pub before : List Position
+  pub whole : positions source ≡ before ++ positions_from line rest
+  pub scanned : IsAt before scan
+  pub counted : count ≡ length before

@@ -1,0 +1,13 @@
+pub mod AlarmLemmas
+pub mod CycleLemmas
+pub mod ForbiddenLemmas
+pub mod FoundLemmas
+pub mod GrowLemmas
+pub mod NumberLemmas
+pub mod OrderLemmas
+pub mod PassedLemmas
+pub mod RowLemmas
+pub mod ShownLemmas
+pub mod SortedLemmas
+pub mod UniqueLemmas
+pub mod WitnessLemmas

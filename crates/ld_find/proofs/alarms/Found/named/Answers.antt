@@ -1,0 +1,35 @@
+use Rattle.std.proofs.Common.{◌≡◌, ◌∷◌, [], List, ℕ, None, get_or, option_map}
+use Rattle.ld_trace.specs.declared.event.State.{State}
+use Rattle.ld_trace.specs.declared.event.State.TheVariants.{Hard, Soft}
+use Rattle.ld_find.specs.Alarms.{state_place}
+use Rattle.ld_find.specs.Inner.Numbers.{named_pair}
+use Rattle.ld_find.proofs.alarms.Found.named.Goals as goal
+
+pub name_of-requires : goal.name_of-requires
+name_of-requires c = c.requires.conflict Hard
+
+pub name_of-requires-2 : goal.name_of-requires-2
+name_of-requires-2 c = c.requires.conflict Soft
+
+pub end_names-requires : goal.end_names-requires
+end_names-requires c = c.requires.forbidden Hard
+
+pub end_names-requires-2 : goal.end_names-requires-2
+end_names-requires-2 c = c.requires.forbidden Soft
+
+pub returns : goal.returns
+returns c = λ i. record {
+  cycle = c.edge_names.ensures i;
+  conflict = λ state. conflict state i;
+  forbidden = λ state. forbidden state i;
+}
+  where
+    conflict : (state : State) → option_map (λ name. name.now) (get_or (c.name_of.result ∷ c.name_of-2.result ∷ []) (state_place state) None)
+        ≡ option_map (λ class. get_or c.args.classes.now class []) (get_or c.args.self.now.conflict (state_place state) None)
+    conflict Hard = c.name_of.ensures
+    conflict Soft = c.name_of-2.ensures
+
+    forbidden : (state : State) → option_map {U = List ℕ × List ℕ} (λ p. (p.0.now, p.1.now)) (get_or (c.end_names.result ∷ c.end_names-2.result ∷ []) (state_place state) None)
+        ≡ option_map (λ w. named_pair c.args.classes.now w.from w.to) (get_or c.args.self.now.forbidden (state_place state) None)
+    forbidden Hard = c.end_names.ensures
+    forbidden Soft = c.end_names-2.ensures

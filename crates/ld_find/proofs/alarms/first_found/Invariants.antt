@@ -1,0 +1,7 @@
+use Rattle.std.proofs.Common.{◌≡◌, ℕ, ◌<◌, Some}
+use Rattle.ld_find.specs.Inner.Numbers.{IsFoundAt}
+use Rattle.ld_union.specs.Usage.{bits_of}
+use Rattle.ld_find.proofs.alarms.first_found.Given as goal
+
+abbrev pub invariant-loop-class : goal.invariant-loop-class
+invariant-loop-class l = (from c : ℕ) → l.graph.searched ≡ Some from → c < l.class → ¬ IsFoundAt l.graph.edges (bits_of l.rows) l.state from c

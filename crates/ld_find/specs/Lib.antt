@@ -1,0 +1,6 @@
+pub mod Violations
+pub mod Alarms
+pub mod Inner
+pub mod Findings
+pub use Rattle.ld_union.specs.Usage
+pub use Rattle.ld_union.specs.Inner.Union

@@ -1,0 +1,193 @@
+//! The forbidden walks.
+ghost use Rattle.std.specs.Prelude.{false, ℕ, ◌≡◌, ◌<◌, IfOk, List, MatchOption, length, map};
+ghost use Rattle.ld_trace.specs.Sources.{PlainSource};
+ghost use Rattle.ld_facts.specs.Union.{dependency_witness, use_witness};
+ghost use Rattle.ld_facts.specs.Usage.Bit.{On};
+ghost use Rattle.ld_find.specs.Findings.{AreForbiddenRows, plain_forbidden_row};
+ghost use Rattle.ld_find.specs.Inner.Order.{IsOrder, name_of};
+ghost use Rattle.ld_find.specs.Inner.Rows.{AreDistances, AreForbiddenRowsOf, AreTurnedRows};
+ghost use Rattle.ld_find.specs.Inner.Rows.{AreTurnedRowsOf, IsNoted, IsOfEach, IsTurnedRowOf};
+ghost use Rattle.ld_union.specs.Inner.Union.{AreUsed, AreWitnessed, HasRows, IsNumbered};
+ghost use Rattle.ld_find.specs.Violations.{IsForbidden};
+
+use crate::alarms::{Found, in_bit, on_bit};
+use crate::findings::used::{UsedClass, noted};
+use crate::findings::walks::{Target, walk_names};
+use crate::order::Order;
+use crate::rows::Rows;
+use ld_facts::Witness;
+use ld_trace::State;
+use ld_union::Union;
+use std::alloc::{AllocError, Global};
+
+/// A walk from a class that handlers of the state acquire to one that is held where they can
+/// interrupt.
+#[derive(Drop)]
+pub struct ForbiddenRow<'a> {
+    /// The state that the usage bits are of.
+    pub state: State,
+    /// The class with the IN bit, where the walk begins.
+    pub from: &'a [u8],
+    /// The usage characters of `from`.
+    pub from_marks: [u8; 4],
+    /// Where the IN bit of `from` was first seen: a handler acquired it, and not by a trylock.
+    pub safe_at: Witness,
+    /// The class with the ON bit, where the walk ends.
+    pub to: &'a [u8],
+    /// The usage characters of `to`.
+    pub to_marks: [u8; 4],
+    /// Where the ON bit of `to` was first seen: it was held while a handler could interrupt.
+    pub unsafe_at: Witness,
+    /// The shown walk from `from` to `to`.
+    pub via: Rows<&'a [u8]>,
+}
+
+/// The forbidden walks, by state, then by the names of their ends.
+pub(crate) fn forbidden_rows<'a>(
+    alloc: Global,
+    union: &Union<'a>,
+    order: &Order,
+    found: &Found,
+) -> Result<Vec<ForbiddenRow<'a>>, AllocError>
+    requires numbered { IsNumbered union.now }
+    requires rows { HasRows union.now }
+    requires order { IsOrder union.now.classes order.now.numbers.items order.now.places.items }
+    ensures { IfOk result (λ rows. (sources : List PlainSource)
+        → AreWitnessed union.now.classes union.now.dependencies.items (dependency_witness sources)
+        → AreUsed union.now.classes union.now.usage.items (use_witness sources)
+        → IsOfEach sources found.now
+        → AreForbiddenRows sources (map plain_forbidden_row rows.items)) }
+{
+    let [hard_walk, soft_walk] = found.forbidden;
+    let mut rows = forbidden_of(alloc, union, order, State::Hard, hard_walk.is_some())?;
+    let mut soft = forbidden_of(alloc, union, order, State::Soft, soft_walk.is_some())?;
+    rows.append(&mut soft)?;
+    Ok(rows)
+}
+
+/// The forbidden walks of a state, by the names of their ends, where one was found.
+fn forbidden_of<'a>(
+    alloc: Global,
+    union: &Union<'a>,
+    order: &Order,
+    state: State,
+    found: bool,
+) -> Result<Vec<ForbiddenRow<'a>>, AllocError>
+    requires numbered { IsNumbered union.now }
+    requires rows { HasRows union.now }
+    requires order { IsOrder union.now.classes order.now.numbers.items order.now.places.items }
+    ensures { IfOk result (λ rows. (sources : List PlainSource)
+        → AreWitnessed union.now.classes union.now.dependencies.items (dependency_witness sources)
+        → AreUsed union.now.classes union.now.usage.items (use_witness sources)
+        → (found ≡ false → (a b : List ℕ) → ¬ IsForbidden sources state a b)
+        → AreForbiddenRowsOf sources (λ p. p.0 ≡ state) (map plain_forbidden_row rows.items)) }
+{
+    if !found {
+        return Ok(Vec::new(alloc));
+    }
+    let mut rows = forbidden_by_end(alloc, union, order, state)?;
+    rows.sort_unstable_by_key(|row| (row.from, row.to));
+    Ok(rows)
+}
+
+/// The same, by the names of the second ends, so that one search serves all the walks to a class.
+fn forbidden_by_end<'a>(
+    alloc: Global,
+    union: &Union<'a>,
+    order: &Order,
+    state: State,
+) -> Result<Vec<ForbiddenRow<'a>>, AllocError>
+    requires numbered { IsNumbered union.now }
+    requires rows { HasRows union.now }
+    requires order { IsOrder union.now.classes order.now.numbers.items order.now.places.items }
+    ensures { IfOk result (λ rows. (sources : List PlainSource)
+        → AreWitnessed union.now.classes union.now.dependencies.items (dependency_witness sources)
+        → AreUsed union.now.classes union.now.usage.items (use_witness sources)
+        → AreTurnedRows sources state (map plain_forbidden_row rows.items)) }
+{
+    let mut rows = Vec::new(alloc);
+    for to in &order.numbers {
+        let mut more = forbidden_to(alloc, union, order, state, *to)?;
+        rows.append(&mut more)?;
+    }
+    Ok(rows)
+}
+
+/// Those that lead to this class, by the name of the other end.
+fn forbidden_to<'a>(
+    alloc: Global,
+    union: &Union<'a>,
+    order: &Order,
+    state: State,
+    to: u32,
+) -> Result<Vec<ForbiddenRow<'a>>, AllocError>
+    requires numbered { IsNumbered union.now }
+    requires rows { HasRows union.now }
+    requires order { IsOrder union.now.classes order.now.numbers.items order.now.places.items }
+    requires to { to < length union.now.classes }
+    ensures { IfOk result (λ rows. (sources : List PlainSource)
+        → AreWitnessed union.now.classes union.now.dependencies.items (dependency_witness sources)
+        → AreUsed union.now.classes union.now.usage.items (use_witness sources)
+        → AreTurnedRowsOf sources state (λ p. p.0 ≡ name_of union.now.classes to)
+        (map plain_forbidden_row rows.items)) }
+{
+    let mut rows = Vec::new(alloc);
+    let Some(held) = noted(union, to, on_bit(state)) else {
+        return Ok(rows);
+    };
+    let target = Target::new(alloc, &union.graph, to)?;
+    for from in &order.numbers {
+        if let Some(row) = forbidden_row(alloc, union, order, &target, held, state, *from)? {
+            rows.push(row)?;
+        }
+    }
+    Ok(rows)
+}
+
+/// The row of the forbidden walk from the class to the target's, whose ON bit `held` notes, or `None`
+/// where there is none.
+fn forbidden_row<'a>(
+    alloc: Global,
+    union: &Union<'a>,
+    order: &Order,
+    target: &Target,
+    held: UsedClass<'a>,
+    state: State,
+    from: u32,
+) -> Result<Option<ForbiddenRow<'a>>, AllocError>
+    requires numbered { IsNumbered union.now }
+    requires rows { HasRows union.now }
+    requires order { IsOrder union.now.classes order.now.numbers.items order.now.places.items }
+    requires class { target.now.class < length union.now.classes }
+    requires distances { AreDistances union.now.graph target.now.class target.now.distances.items }
+    requires held { (sources : List PlainSource)
+        → AreUsed union.now.classes union.now.usage.items (use_witness sources)
+        → IsNoted sources (name_of union.now.classes target.now.class) (On state)
+        held.name.now held.marks held.at }
+    requires from { from < length union.now.classes }
+    ensures { IfOk result (λ row. (sources : List PlainSource)
+        → AreWitnessed union.now.classes union.now.dependencies.items (dependency_witness sources)
+        → AreUsed union.now.classes union.now.usage.items (use_witness sources)
+        → MatchOption row
+        (¬ IsForbidden sources state (name_of union.now.classes from)
+        (name_of union.now.classes target.now.class))
+        (λ r. IsTurnedRowOf sources state (name_of union.now.classes target.now.class)
+        (name_of union.now.classes from) (plain_forbidden_row r))) }
+{
+    let Some(acquired) = noted(union, from, in_bit(state)) else {
+        return Ok(None);
+    };
+    let Some(via) = walk_names(alloc, union, order, target, from)? else {
+        return Ok(None);
+    };
+    Ok(Some(ForbiddenRow {
+        state,
+        from: acquired.name,
+        from_marks: acquired.marks,
+        safe_at: acquired.at,
+        to: held.name,
+        to_marks: held.marks,
+        unsafe_at: held.at,
+        via,
+    }))
+}

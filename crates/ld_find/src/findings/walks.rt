@@ -1,0 +1,82 @@
+//! The walks that rows show.
+ghost use Rattle.std.specs.Prelude.{◌≡◌, ◌<◌, All, IfOk, List, MatchOption, length, map};
+ghost use Rattle.ld_graph.specs.Edges.{IsEdge};
+ghost use Rattle.ld_graph.specs.Walks.{HasWalk};
+ghost use Rattle.ld_trace.specs.Sources.{PlainSource};
+ghost use Rattle.ld_facts.specs.Union.{dependency_witness};
+ghost use Rattle.ld_find.specs.Findings.{IsShown, plain_names};
+ghost use Rattle.ld_find.specs.Inner.Order.{IsOrder, name_of};
+ghost use Rattle.ld_find.specs.Inner.Rows.{AreDistances};
+ghost use Rattle.ld_union.specs.Inner.Union.{AreWitnessed, IsNumbered};
+
+use crate::order::Order;
+use crate::rows::Rows;
+use ld_class::Classes;
+use ld_graph::Graph;
+use ld_union::Union;
+use std::alloc::{AllocError, Global};
+
+/// A class, and for each class the length of the walks to it that are shortest.
+#[derive(Drop)]
+pub(crate) struct Target {
+    pub(crate) class: u32,
+    pub(crate) distances: Vec<Option<u64>>,
+}
+
+impl Target {
+    /// Searches for the walks to the class.
+    pub(crate) fn new(alloc: Global, graph: &Graph, class: u32) -> Result<Target, AllocError>
+        requires { class < graph.now.classes }
+        ensures class { IfOk result (λ target. target.class ≡ class) }
+        ensures distances { IfOk result (λ target.
+            AreDistances graph.now class target.distances.items) }
+    {
+        let distances = graph.distances(alloc, class)?;
+        Ok(Target { class, distances })
+    }
+}
+
+/// The names of the shown walk from the class to the target's, or `None` where no walk leads there.
+pub(crate) fn walk_names<'a>(
+    alloc: Global,
+    union: &Union<'a>,
+    order: &Order,
+    target: &Target,
+    from: u32,
+) -> Result<Option<Rows<&'a [u8]>>, AllocError>
+    requires numbered { IsNumbered union.now }
+    requires order { IsOrder union.now.classes order.now.numbers.items order.now.places.items }
+    requires class { target.now.class < length union.now.classes }
+    requires distances { AreDistances union.now.graph target.now.class target.now.distances.items }
+    requires from { from < length union.now.classes }
+    ensures { IfOk result (λ via. MatchOption via
+        (¬ HasWalk (IsEdge union.now.graph.edges) from target.now.class)
+        (λ names. (sources : List PlainSource)
+        → AreWitnessed union.now.classes union.now.dependencies.items (dependency_witness sources)
+        → IsShown sources (name_of union.now.classes from)
+        (name_of union.now.classes target.now.class) (plain_names names))) }
+{
+    let walk = union.graph.walk_along(alloc, from, target.class, &target.distances, &order.places)?;
+    let Some(walk) = walk else {
+        return Ok(None);
+    };
+    let names = names_of(alloc, &union.classes, &walk)?;
+    Ok(Some(Rows::from(names)))
+}
+
+/// The names of the classes.
+fn names_of<'a>(
+    alloc: Global,
+    classes: &Classes<'a>,
+    numbers: &[u32],
+) -> Result<Vec<&'a [u8]>, AllocError>
+    requires { All (λ c. c < length classes.now) numbers.now }
+    ensures { IfOk result (λ names. plain_names names.items
+        ≡ map (name_of classes.now) numbers.now) }
+{
+    let mut names = Vec::with_capacity(alloc, numbers.len())?;
+    for class in numbers {
+        names.push(classes.name(*class))?;
+    }
+    Ok(names)
+}

@@ -1,0 +1,4 @@
+pub mod StackLemmas
+pub mod ChainLemmas
+pub mod EdgeLemmas
+pub mod LockLemmas

@@ -1,0 +1,9 @@
+use Rattle.std.proofs.Common.{refl}
+use Rattle.ld_held.specs.Inner.Stacks.{PlainStack}
+use Rattle.ld_held.proofs.StackLemmas.{put}
+use Rattle.ld_held.proofs.held.Stacks.set_interrupts.Goals as goal
+
+pub returns : goal.returns
+returns c =
+    put c.args.self.now c.self.inside.stacks.items c.args.task c.index_mut.result.now _
+    (λ (s : PlainStack). record s { interrupts = c.args.interrupts }) c.self.view_is c.requires c.index_mut.ensures.value refl

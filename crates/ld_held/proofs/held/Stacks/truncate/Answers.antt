@@ -1,0 +1,12 @@
+use Rattle.std.proofs.Common.{◌∙◌, ap, map, sym, take}
+use Rattle.std.proofs.lemmas.List.{take-map}
+use Rattle.ld_held.specs.Inner.Stacks.{PlainStack, plain_held}
+use Rattle.ld_held.proofs.StackLemmas.{put}
+use Rattle.ld_held.proofs.held.Stacks.truncate.Goals as goal
+
+pub returns : goal.returns
+returns c =
+    put c.args.self.now c.self.inside.stacks.items c.args.task c.index_mut.result.now _
+    (λ (s : PlainStack). record s { held = take c.args.place s.held }) c.self.view_is c.requires c.index_mut.ensures.value
+    (ap (λ hs. record { held = hs; interrupts = c.index_mut.result.now.interrupts })
+    (ap (map plain_held) c.truncate.ensures.items ∙ sym (take-map plain_held c.args.place c.index_mut.result.now.held.items)))

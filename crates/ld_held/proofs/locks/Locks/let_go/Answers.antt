@@ -1,0 +1,162 @@
+use Rattle.std.proofs.Common.{◌≡◌, ℕ, ◌<◌, ◌≤◌, ◌+◌, ◌-◌, ◌++◌, suc, true, false, List, [], map, length, take, drop, get_or, remove, set, refl, sym, ap, subst, ◌∙◌, arith}
+use Rattle.std.proofs.lemmas.List.{append-nil, drop-map, drop_all, get_or-set_same, length-drop, length-map, length-take-le, take_rest}
+use Rattle.std.specs.List.{list_any}
+use Rattle.std.proofs.lemmas.Simd.{map-map}
+use Rattle.ld_trace.specs.Events.{PlainLock, plain_lock}
+use Rattle.ld_held.specs.declared.edges.EdgeFact.{EdgeFact}
+use Rattle.ld_held.specs.declared.held.Held.{Held}
+use Rattle.ld_held.specs.Inner.Interrupts.{fresh, start_now}
+use Rattle.ld_held.specs.Inner.Locks.{AreTied, Known, hold_of, holds_of, is_of, known_of}
+use Rattle.ld_held.specs.Inner.Stacks.{PlainStack, empty_stack, holds, inner, plain_held}
+use Rattle.ld_rules.specs.Open.{remove_last}
+use Rattle.ld_rules.specs.declared.outcome.TheConstants.{MOST_HELD}
+use Rattle.ld_held.proofs.StackLemmas.{part_is}
+use Rattle.ld_held.proofs.LockLemmas.{any_shown, none_gone, removed_some, hold_gone, held_again, holds_at, holds_shown, interrupts_shown, shown_held, tied_cut, within_shown}
+use Rattle.ld_held.proofs.locks.Locks.let_go.Goals as goal
+
+-- what the search says of the innermost frame, as the fields show it
+module _ (stacks : List PlainStack) (edges : List EdgeFact) (known : Known) (task : ℕ) (lock : PlainLock) (held : List Held) (start : ℕ)
+    (is : known_of stacks edges ≡ known) (same : map plain_held held ≡ (get_or stacks task empty_stack).held) (starts : start ≡ start_now (get_or stacks task empty_stack).interrupts) where
+  abbrev stack : PlainStack
+  stack = get_or stacks task empty_stack
+
+  abbrev part : List Held
+  part = take (length held - start) (drop start held)
+
+  shown : map plain_held part ≡ inner stack
+  shown = part_is stack held start same starts
+
+  abbrev from : ℕ
+  from = start_now (get_or known.interrupts task fresh)
+
+  none_held : list_any (holds lock) (map plain_held part) ≡ false → list_any (is_of lock) (drop from (get_or known.stacks task [])) ≡ false
+  none_held none = any_shown stacks edges known task lock is ∙ ap (list_any (holds lock)) (sym shown) ∙ none
+
+  module _ (place : ℕ) (inside : place < length part) (last : remove (map plain_held part) place ≡ remove_last (holds lock) (map plain_held part)) where
+    taken : remove (inner stack) place ≡ remove_last (holds lock) (inner stack)
+    taken = subst (λ xs. remove xs place ≡ remove_last (holds lock) xs) shown last
+
+    within : place < length (inner stack)
+    within = subst (λ n. place < n) (sym (length-map part plain_held) ∙ ap length shown) inside
+
+    was_held : true ≡ list_any (is_of lock) (drop from (get_or known.stacks task []))
+    was_held = sym (any_shown stacks edges known task lock is ∙ removed_some lock (inner stack) place within taken)
+
+    low : start_now stack.interrupts ≤ start + place
+    low = omega (arith, starts)
+
+    high : start + place < length stack.held
+    high = omega (arith, within, starts, length-drop (start_now stack.interrupts) stack.held)
+
+    -- the locks before and after it
+    gone : map hold_of (take (start + place) stack.held) ++ map hold_of (drop (suc (start + place)) stack.held) ≡ take from
+        (get_or known.stacks task []) ++ remove_last (is_of lock) (drop from (get_or known.stacks task []))
+    gone =
+        ap (λ s. map hold_of (take (s + place) stack.held) ++ map hold_of (drop (suc (s + place)) stack.held)) starts
+        ∙ hold_gone lock stack.held (start_now stack.interrupts) place taken
+        ∙ (λ i. take (start_now (interrupts_shown stacks edges known task is i)) (holds_shown stacks edges known task is i) ++ remove_last
+        (is_of lock) (drop (start_now (interrupts_shown stacks edges known task is i)) (holds_shown stacks edges known task is i)))
+
+    -- it is the top
+    top_gone : (start + place) + 1 ≡ length held → map hold_of (take (start + place) stack.held) ≡ take from (get_or known.stacks task []) ++
+        remove_last (is_of lock) (drop from (get_or known.stacks task []))
+    top_gone last =
+        let many : length held ≡ length stack.held = sym (length-map held plain_held) ∙ ap length same in
+        let nothing : map hold_of (drop (suc (start + place)) stack.held) ≡ [] = ap (map hold_of) (drop_all (suc (start + place)) stack.held (omega arith)) in
+        sym (append-nil (map hold_of (take (start + place) stack.held))) ∙ ap (λ hs. map hold_of (take (start + place) stack.held) ++ hs) (sym nothing) ∙ gone
+
+    -- the later ones
+    later_are : (later : List Held) → later ≡ take (length held - ((start + place) + 1)) (drop ((start + place) + 1) held) → holds_of later ≡ map hold_of (drop (suc (start + place)) stack.held)
+    later_are later are =
+        let next : (start + place) + 1 ≡ suc (start + place) = omega arith in
+        ap holds_of (are ∙ take_rest held ((start + place) + 1) ∙ ap (λ n. drop n held) next)
+        ∙ sym (map-map hold_of plain_held (drop (suc (start + place)) held))
+        ∙ ap (map hold_of) (sym (drop-map plain_held (suc (start + place)) held) ∙ ap (drop (suc (start + place))) same)
+
+    -- and there is room for them
+    room : (after : List PlainStack) (later : List Held) (most : ℕ) → after ≡ set stacks task
+        (record stack { held = take (start + place) stack.held }) → later ≡ take (length held - ((start + place) + 1))
+        (drop ((start + place) + 1) held) → task < length stacks → length held ≤ most → length (get_or (map (λ (s : PlainStack). map hold_of s.held) after) task []) + length later ≤ most
+    room after later most put are task_within depth =
+        let front : length (get_or (map (λ (s : PlainStack). map hold_of s.held) after) task []) ≡ length (take (start + place) stack.held) =
+        ap length (holds_at after task ∙ ap (λ ss. map hold_of (get_or ss task empty_stack).held) put ∙ ap (λ (s : PlainStack). map hold_of s.held)
+        (get_or-set_same stacks task (record stack { held = take (start + place) stack.held }) empty_stack task_within))
+        ∙ length-map (take (start + place) stack.held) hold_of in
+        let back : length later ≡ length (drop ((start + place) + 1) held) = ap length (are ∙ take_rest held ((start + place) + 1)) in
+        let many : length held ≡ length stack.held = sym (length-map held plain_held) ∙ ap length same in
+        omega (arith, high, length-take-le (start + place) stack.held (omega (arith, high)), length-drop ((start + place) + 1) held)
+
+pub returns-in_default-clause-held : goal.returns-in_default-clause-held
+returns-in_default-clause-held c =
+    sym (none_held c.self.inside.stacks c.self.inside.edges c.args.self.now c.args.task (plain_lock c.args.lock) c.held-held.result.now
+    c.start-start.result c.self.view_is c.held-held.ensures.held (c.start-start.ensures ∙ ap start_now c.interrupts.ensures) c.in_default.ensures.none)
+
+pub returns-in_default-clause-stacks : goal.returns-in_default-clause-stacks
+returns-in_default-clause-stacks c =
+    none_gone c.args.self.now c.args.task (start_now (get_or c.args.self.now.interrupts c.args.task fresh)) (plain_lock c.args.lock)
+    (none_held c.self.inside.stacks c.self.inside.edges c.args.self.now c.args.task (plain_lock c.args.lock) c.held-held.result.now
+    c.start-start.result c.self.view_is c.held-held.ensures.held (c.start-start.ensures ∙ ap start_now c.interrupts.ensures) c.in_default.ensures.none)
+
+pub invariant_of-self : goal.invariant_of-self
+invariant_of-self c =
+    let high : (c.start-start.result + c.in-Some.place) < length (get_or c.self.inside.stacks c.args.task empty_stack).held = high
+    c.self.inside.stacks c.self.inside.edges c.args.self.now c.args.task (plain_lock c.args.lock) c.held-held.result.now c.start-start.result
+    c.self.view_is c.held-held.ensures.held (c.start-start.ensures ∙ ap start_now c.interrupts.ensures) c.in-Some.place c.in-Some.ensures.place c.in-Some.ensures.last in
+    subst (λ ss. AreTied ss c.self.inside.chains c.self.inside.told c.self.inside.edges) (sym c.truncate.ensures)
+    (tied_cut c.self.inside.stacks c.self.inside.chains c.self.inside.told c.self.inside.edges c.self.invariant c.args.task
+    (c.start-start.result + c.in-Some.place) (within_shown c.self.inside.stacks c.self.inside.edges c.args.self.now c.args.task c.self.view_is c.requires)
+    (low c.self.inside.stacks c.self.inside.edges c.args.self.now c.args.task (plain_lock c.args.lock) c.held-held.result.now c.start-start.result
+    c.self.view_is c.held-held.ensures.held (c.start-start.ensures ∙ ap start_now c.interrupts.ensures) c.in-Some.place c.in-Some.ensures.place c.in-Some.ensures.last) (omega (arith, high)))
+
+pub invariant_of-self-else-place-held : goal.invariant_of-self-else-place-held
+invariant_of-self-else-place-held c =
+    let high : (c.start-start.result + c.in-Some.place) < length (get_or c.self.inside.stacks c.args.task empty_stack).held = high
+    c.self.inside.stacks c.self.inside.edges c.args.self.now c.args.task (plain_lock c.args.lock) c.held-held.result.now c.start-start.result
+    c.self.view_is c.held-held.ensures.held (c.start-start.ensures ∙ ap start_now c.interrupts.ensures) c.in-Some.place c.in-Some.ensures.place c.in-Some.ensures.last in
+    subst (λ ss. AreTied ss c.self.inside.chains c.self.inside.told c.self.inside.edges) (sym c.truncate-else-place-held.ensures)
+    (tied_cut c.self.inside.stacks c.self.inside.chains c.self.inside.told c.self.inside.edges c.self.invariant c.args.task
+    (c.start-start.result + c.in-Some.place) (within_shown c.self.inside.stacks c.self.inside.edges c.args.self.now c.args.task c.self.view_is c.requires)
+    (low c.self.inside.stacks c.self.inside.edges c.args.self.now c.args.task (plain_lock c.args.lock) c.held-held.result.now c.start-start.result
+    c.self.view_is c.held-held.ensures.held (c.start-start.ensures ∙ ap start_now c.interrupts.ensures) c.in-Some.place c.in-Some.ensures.place c.in-Some.ensures.last) (omega (arith, high)))
+
+pub hold_all-requires-clause-room : goal.hold_all-requires-clause-room
+hold_all-requires-clause-room c =
+    room c.self.inside.stacks c.self.inside.edges c.args.self.now c.args.task (plain_lock c.args.lock) c.held-held.result.now c.start-start.result
+    c.self.view_is c.held-held.ensures.held (c.start-start.ensures ∙ ap start_now c.interrupts.ensures) c.in-Some.place c.in-Some.ensures.place c.in-Some.ensures.last
+    c.truncate-else-place-held.new.self c.as_slice.result.now MOST_HELD c.truncate-else-place-held.ensures (c.as_slice.ensures.value ∙ c.copied-later.ensures)
+    (within_shown c.self.inside.stacks c.self.inside.edges c.args.self.now c.args.task c.self.view_is c.requires) c.held-held.ensures.depth
+
+pub returns-then-place-held-clause-held : goal.returns-then-place-held-clause-held
+returns-then-place-held-clause-held c =
+    was_held c.self.inside.stacks c.self.inside.edges c.args.self.now c.args.task (plain_lock c.args.lock) c.held-held.result.now c.start-start.result
+    c.self.view_is c.held-held.ensures.held (c.start-start.ensures ∙ ap start_now c.interrupts.ensures) c.in-Some.place c.in-Some.ensures.place c.in-Some.ensures.last
+
+pub returns-in_ok-hold_all-clause-held : goal.returns-in_ok-hold_all-clause-held
+returns-in_ok-hold_all-clause-held c =
+    was_held c.self.inside.stacks c.self.inside.edges c.args.self.now c.args.task (plain_lock c.args.lock) c.held-held.result.now c.start-start.result
+    c.self.view_is c.held-held.ensures.held (c.start-start.ensures ∙ ap start_now c.interrupts.ensures) c.in-Some.place c.in-Some.ensures.place c.in-Some.ensures.last
+
+pub returns-then-place-held-clause-stacks : goal.returns-then-place-held-clause-stacks
+returns-then-place-held-clause-stacks c =
+    ap (λ (ss : List PlainStack). known_of ss c.self.inside.edges) c.truncate.ensures
+    ∙ shown_held c.self.inside.stacks c.self.inside.edges c.args.self.now c.args.task c.self.view_is
+    (take (c.start-start.result + c.in-Some.place) (get_or c.self.inside.stacks c.args.task empty_stack).held) _
+    (top_gone c.self.inside.stacks c.self.inside.edges c.args.self.now c.args.task (plain_lock c.args.lock) c.held-held.result.now
+    c.start-start.result c.self.view_is c.held-held.ensures.held (c.start-start.ensures ∙ ap start_now c.interrupts.ensures) c.in-Some.place
+    c.in-Some.ensures.place c.in-Some.ensures.last c.if-place-held.true)
+
+pub returns-in_ok-hold_all-clause-stacks : goal.returns-in_ok-hold_all-clause-stacks
+returns-in_ok-hold_all-clause-stacks c =
+    let front = map hold_of (take (c.start-start.result + c.in-Some.place) (get_or c.self.inside.stacks c.args.task empty_stack).held) in
+    held_again c.args.self.now (known_of c.truncate-else-place-held.new.self c.self.inside.edges) c.hold_all.new.self c.args.task front (holds_of c.as_slice.result.now)
+    (ap (λ (ss : List PlainStack). known_of ss c.self.inside.edges) c.truncate-else-place-held.ensures
+    ∙ shown_held c.self.inside.stacks c.self.inside.edges c.args.self.now c.args.task c.self.view_is
+    (take (c.start-start.result + c.in-Some.place) (get_or c.self.inside.stacks c.args.task empty_stack).held) front refl)
+    c.in_ok-hold_all.ensures c.requires
+    ∙ ap (λ hs. record c.args.self.now { stacks = set c.args.self.now.stacks c.args.task hs })
+    (ap (λ hs. front ++ hs) (later_are c.self.inside.stacks c.self.inside.edges c.args.self.now c.args.task (plain_lock c.args.lock)
+    c.held-held.result.now c.start-start.result c.self.view_is c.held-held.ensures.held
+    (c.start-start.ensures ∙ ap start_now c.interrupts.ensures) c.in-Some.place c.in-Some.ensures.place c.in-Some.ensures.last
+    c.as_slice.result.now (c.as_slice.ensures.value ∙ c.copied-later.ensures))
+    ∙ gone c.self.inside.stacks c.self.inside.edges c.args.self.now c.args.task (plain_lock c.args.lock) c.held-held.result.now c.start-start.result
+    c.self.view_is c.held-held.ensures.held (c.start-start.ensures ∙ ap start_now c.interrupts.ensures) c.in-Some.place c.in-Some.ensures.place c.in-Some.ensures.last)

@@ -1,0 +1,235 @@
+//! What tasks hold and where they are, and the dependencies that their waiting acquisitions told.
+//!
+//! Locks of outer frames stay held, but an acquisition and a release see those of the innermost
+//! frame alone.
+ghost use Rattle.std.specs.Prelude.{◌≡◌, ◌<◌, ◌≤◌, ◌+◌, true, [], ◌∷◌, ◌++◌, drop, fold, length};
+ghost use Rattle.std.specs.Prelude.{map, take, slice_index_or, slice_set, IfOk, OnOk};
+ghost use Rattle.std.specs.List.{list_any};
+ghost use Rattle.ld_trace.specs.Events.{plain_lock};
+ghost use Rattle.ld_held.specs.Inner.Edges.{edge_to, with_edge};
+ghost use Rattle.ld_held.specs.Inner.Interrupts.{IsEntered, IsLeft, IsSet, fresh, nests_in, start_now};
+ghost use Rattle.ld_held.specs.Inner.Interrupts.{states_of};
+ghost use Rattle.ld_held.specs.Inner.Locks.{IsMoved, chain_of, holds_of, inner_of, is_of, outer_of};
+ghost use Rattle.ld_held.specs.Inner.Stacks.{plain_held};
+ghost use Rattle.ld_rules.specs.Open.{remove_last};
+ghost use Rattle.ld_rules.specs.declared.outcome.TheConstants.{MOST_HELD};
+
+use crate::chains::{Chains, Link, Told};
+use crate::edges::Edges;
+use crate::held::{Held, Stacks, latest};
+use crate::interrupts::Interrupts;
+use arrayvec::ArrayVec;
+use ld_rules::MOST_HELD;
+use ld_trace::{Lock, State};
+use std::alloc::{AllocError, Global};
+use std::marker::Model;
+
+/// What each task holds and where it is, by the task's number, and the dependencies so far.
+///
+/// Beside them stands a cache: a waiting acquisition whose chain was met before tells nothing anew.
+#[derive(Drop)]
+pub struct Locks<'a> {
+    stacks: Stacks<'a>,
+    chains: Chains,
+    told: Told,
+    edges: Edges,
+}
+
+impl<'a> Model for Locks<'a> {
+    ghost use Rattle.ld_held.specs.Inner.Locks.{AreTied, Known, known_of};
+
+    ghost Value = { Known };
+
+    ghost view = { λ l. known_of l.stacks l.edges };
+
+    ghost invariant = { λ l. AreTied l.stacks l.chains l.told l.edges };
+}
+
+impl<'a> Locks<'a> {
+    pub fn new(alloc: Global) -> Locks<'a>
+        ensures { result ≡ record { stacks = []; interrupts = []; edges = [] } }
+    {
+        Locks {
+            stacks: Stacks::new(alloc),
+            chains: Chains::new(alloc),
+            told: Told::new(alloc),
+            edges: Edges::new(alloc),
+        }
+    }
+
+    /// One more task, which holds nothing and is outside frames.
+    pub fn grow(&mut self) -> Result<(), AllocError>
+        ensures { OnOk result (self.new ≡ record self.old {
+          stacks = self.old.stacks ++ [] ∷ [];
+          interrupts = self.old.interrupts ++ fresh ∷ [];
+        }) }
+    {
+        self.stacks.grow()
+    }
+
+    /// What the task holds, in all its frames.
+    pub fn held(&self, task: u32) -> &[Held<'a>]
+        requires { task < length self.now.stacks }
+        ensures { holds_of result.now ≡ slice_index_or self.now.stacks task [] }
+    {
+        self.stacks.held(task)
+    }
+
+    /// The task's frames and flags.
+    pub fn interrupts(&self, task: u32) -> Interrupts
+        requires { task < length self.now.stacks }
+        ensures { result ≡ slice_index_or self.now.interrupts task fresh }
+    {
+        self.stacks.interrupts(task)
+    }
+
+    /// Tells the dependencies of a waiting acquisition of the class, from what the task holds in
+    /// its innermost frame.
+    pub fn tell(&mut self, task: u32, class: u32, line: u64) -> Result<(), AllocError>
+        requires { task < length self.old.stacks }
+        ensures { OnOk result (self.new ≡ record self.old {
+          edges = fold with_edge self.old.edges
+              (map (edge_to class line) (map (λ hold. hold.class) (inner_of self.old task)));
+        }) }
+    {
+        let stack = self.stacks.innermost(task);
+        let before = last_chain(stack);
+        let link = Link { before, class };
+        if self.told.has(link) {
+            return Ok(());
+        }
+        self.edges.tell(stack, class, line)?;
+        self.told.note(link)
+    }
+
+    /// The task acquired the lock.
+    pub fn hold(&mut self, task: u32, lock: Lock<'a>, class: u32) -> Result<(), AllocError>
+        requires task { task < length self.old.stacks }
+        requires room { length (slice_index_or self.old.stacks task []) < MOST_HELD }
+        ensures { OnOk result (self.new ≡ record self.old {
+          stacks = slice_set self.old.stacks task (slice_index_or self.old.stacks task []
+              ++ record { lock = plain_lock lock.entry; class = class } ∷ []);
+        }) }
+    {
+        let before = last_chain(self.stacks.innermost(task));
+        let chain = self.chains.extend(before, class)?;
+        self.stacks.push(task, Held { lock, class, chain });
+        Ok(())
+    }
+
+    /// The task acquired these locks, in this order.
+    fn hold_all(&mut self, task: u32, locks: &[Held<'a>]) -> Result<(), AllocError>
+        requires task { task < length self.old.stacks }
+        requires room { length (slice_index_or self.old.stacks task []) + length locks.now
+            ≤ MOST_HELD }
+        ensures { OnOk result (self.new ≡ record self.old {
+          stacks = slice_set self.old.stacks task
+              (slice_index_or self.old.stacks task [] ++ holds_of locks.now);
+        }) }
+    {
+        for held in locks {
+            self.hold(task, held.lock, held.class)?;
+        }
+        Ok(())
+    }
+
+    /// The task released the lock: its latest acquisition in the innermost frame ends. Tells
+    /// whether there was one.
+    pub fn let_go(&mut self, task: u32, lock: Lock<'a>) -> Result<bool, AllocError>
+        requires { task < length self.old.stacks }
+        ensures held { IfOk result (λ was.
+            was ≡ list_any (is_of (plain_lock lock.entry)) (inner_of self.old task)) }
+        ensures stacks { OnOk result (self.new ≡ record self.old {
+          stacks = slice_set self.old.stacks task (outer_of self.old task
+              ++ remove_last (is_of (plain_lock lock.entry)) (inner_of self.old task));
+        }) }
+    {
+        let start = self.stacks.interrupts(task).start();
+        let held = self.stacks.held(task);
+        let Some(place) = latest(&held[start..], lock) else {
+            return Ok(false);
+        };
+        let place = start + place;
+        if place + 1 == held.len() {
+            self.stacks.truncate(task, place);
+        } else {
+            // The later locks get the chains that they have without this one.
+            let later = copied(&held[place + 1..]);
+            self.stacks.truncate(task, place);
+            self.hold_all(task, later.as_slice())?;
+        }
+        Ok(true)
+    }
+
+    /// A frame of the state opens over what the task holds.
+    pub fn enter(&mut self, task: u32, state: State)
+        requires task { task < length self.old.stacks }
+        requires nests { nests_in (states_of (slice_index_or self.old.interrupts task fresh)) state
+            ≡ true }
+        ensures moved { IsMoved self.old self.new task }
+        ensures entered { IsEntered state (length (slice_index_or self.old.stacks task []))
+            (slice_index_or self.old.interrupts task fresh)
+            (slice_index_or self.new.interrupts task fresh) }
+    {
+        let start = self.stacks.held(task).len();
+        let mut interrupts = self.stacks.interrupts(task);
+        interrupts.enter(state, start);
+        self.stacks.set_interrupts(task, interrupts);
+    }
+
+    /// The task's innermost frame closes, in which it holds nothing.
+    pub fn exit(&mut self, task: u32)
+        requires task { task < length self.old.stacks }
+        requires open { 0 < length (states_of (slice_index_or self.old.interrupts task fresh)) }
+        requires empty { start_now (slice_index_or self.old.interrupts task fresh)
+            ≡ length (slice_index_or self.old.stacks task []) }
+        ensures moved { IsMoved self.old self.new task }
+        ensures left { IsLeft (slice_index_or self.old.interrupts task fresh)
+            (slice_index_or self.new.interrupts task fresh) }
+    {
+        let mut interrupts = self.stacks.interrupts(task);
+        interrupts.exit();
+        self.stacks.set_interrupts(task, interrupts);
+    }
+
+    /// The task's flag for the state goes on or off in its innermost frame.
+    pub fn set(&mut self, task: u32, state: State, on: bool)
+        requires task { task < length self.old.stacks }
+        ensures moved { IsMoved self.old self.new task }
+        ensures set { IsSet state on (slice_index_or self.old.interrupts task fresh)
+            (slice_index_or self.new.interrupts task fresh) }
+    {
+        let mut interrupts = self.stacks.interrupts(task);
+        interrupts.set(state, on);
+        self.stacks.set_interrupts(task, interrupts);
+    }
+
+    /// The dependencies.
+    pub fn into_edges(self) -> Edges
+        ensures { result ≡ self.entry.edges }
+    {
+        self.edges
+    }
+}
+
+/// These locks, apart from the stack that they are in.
+fn copied<'a>(locks: &[Held<'a>]) -> ArrayVec<Held<'a>, MOST_HELD>
+    requires { length locks.now ≤ MOST_HELD }
+    ensures { result.items ≡ locks.now }
+{
+    let mut copy = ArrayVec::new();
+    if copy.try_extend_from_slice(locks).is_err() {
+        unreachable!();
+    }
+    copy
+}
+
+/// The chain of the classes of a stack; `None` where it is empty.
+fn last_chain(stack: &[Held<'_>]) -> Option<usize>
+    ensures { result ≡ chain_of (map plain_held stack.now) }
+{
+    match stack.last() {
+        Some(held) => Some(held.chain),
+        None => None,
+    }
+}

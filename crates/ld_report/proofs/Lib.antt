@@ -1,0 +1,6 @@
+pub mod CleanLemmas
+pub mod Permuted
+pub mod Texts
+pub mod TraceLemmas
+pub mod Unique
+pub mod Verdicts

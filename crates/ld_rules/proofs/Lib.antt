@@ -1,0 +1,12 @@
+pub mod OpenLemmas
+pub mod RemoveLemmas
+pub mod PlaceLemmas
+pub mod FrameLemmas
+pub mod HeldLemmas
+pub mod FlagLemmas
+pub mod OutcomeLemmas
+pub mod StepLemmas
+pub mod UsageLemmas
+pub mod GroupLemmas
+pub mod LeastLemmas
+pub mod BeforeLemmas

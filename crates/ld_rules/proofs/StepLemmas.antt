@@ -1,0 +1,75 @@
+-- The tasks, classes and dependencies of a trace after one more position, in the words of the code: names
+-- are numbered as `Classes` numbers them, and a dependency is added where it isn't there yet.
+use Rattle.std.proofs.Common.{◌≡◌, ◌+◌, ◌++◌, ◌∷◌, [], ◌||◌, List, ℕ, Bool, true, false, not, cond, ltb, length, map, filter_map, fold, is_some}
+use Rattle.std.proofs.Common.{position, Some, None, refl, ap, sym, ◌∙◌, arith, if◌then◌else◌}
+use Rattle.std.proofs.lemmas.Bool.{lt-ltb, le-ltb}
+use Rattle.std.proofs.lemmas.Bool.Decides.{nat_tests, Decides-and, Decides-like}
+use Rattle.std.proofs.lemmas.List.{append-nil, map-append}
+use Rattle.std.proofs.lemmas.List.Elements.{filter_map-append}
+use Rattle.std.proofs.lemmas.Slice.Eq.{bytes_eq-Decides}
+use Rattle.std.specs.Bool.{Decides}
+use Rattle.std.specs.List.{cons_option, list_any, position_or_len}
+use Rattle.std.specs.Str.{bytes_eq}
+use Rattle.ld_class.specs.Names.{with_name}
+use Rattle.ld_trace.specs.Events.{PlainEvent, Position}
+use Rattle.ld_rules.specs.Frames.{task_of}
+use Rattle.ld_rules.specs.Outcome.{each_once, class_acquired, tasks, classes, events}
+use Rattle.ld_rules.specs.Dependency.{Dependency, same_dependency, same_seen, dependencies_at, seen, seen_at}
+use Rattle.ld_rules.proofs.PlaceLemmas.{alike_from_decides, each_once-more, each_once-append, with_new}
+use Rattle.ld_rules.proofs.OutcomeLemmas.{seen-push}
+
+-- a place is found where an element passes
+found_is_any : {X : Type 0} (p : X → Bool) (xs : List X) → ltb (position_or_len p xs) (length xs) ≡ list_any p xs
+found_is_any p [] = le-ltb 0 0 (omega arith)
+found_is_any p (x ∷ xs) = by (p x) (found_is_any p xs)
+  where
+    by : (b : Bool) → ltb (position_or_len p xs) (length xs) ≡ list_any p xs → ltb (cond (not b) (1 + position_or_len p xs) 0) (length (x ∷ xs)) ≡ (b || list_any p xs)
+    by true rest = lt-ltb 0 (length (x ∷ xs)) (omega arith)
+    by false rest =
+        let same : ltb (1 + position_or_len p xs) (length (x ∷ xs)) ≡ ltb (position_or_len p xs) (length xs) = grind (arith, nat_tests) in
+        same ∙ rest
+
+some_is_any : {X : Type 0} (p : X → Bool) (xs : List X) → is_some (position p xs) ≡ list_any p xs
+some_is_any p xs = by (ltb (position_or_len p xs) (length xs)) ∙ found_is_any p xs
+  where
+    by : (b : Bool) → is_some (cond b (Some (position_or_len p xs)) None) ≡ b
+    by true = refl
+    by false = refl
+
+-- names, each once, with one more
+pub names-more : (names : List (List ℕ)) (name : List ℕ) → each_once bytes_eq (names ++ name ∷ []) ≡ with_name (each_once bytes_eq names) name
+names-more names name =
+    each_once-more bytes_eq (alike_from_decides bytes_eq bytes_eq-Decides) names name
+    ∙ by (list_any (bytes_eq name) (each_once bytes_eq names))
+    ∙ ap (λ (b : Bool). if b then each_once bytes_eq names else each_once bytes_eq names ++ name ∷ []) (sym (some_is_any (bytes_eq name) (each_once bytes_eq names)))
+  where
+    by : (b : Bool) → each_once bytes_eq names ++ (if b then [] else name ∷ []) ≡ (if b then each_once bytes_eq names else each_once bytes_eq names ++ name ∷ [])
+    by true = append-nil (each_once bytes_eq names)
+    by false = refl
+
+-- the tasks of a trace, with one more event
+pub tasks-push : (past : List PlainEvent) (e : PlainEvent) → tasks (past ++ e ∷ []) ≡ with_name (tasks past) (task_of e)
+tasks-push past e = ap (each_once bytes_eq) (map-append task_of past (e ∷ [])) ∙ names-more (map task_of past) (task_of e)
+
+-- its classes, with one more acquisition, and with another event
+pub classes-acquires : (past : List PlainEvent) (e : PlainEvent) (class : List ℕ) → class_acquired e ≡ Some class → classes (past ++ e ∷ []) ≡ with_name (classes past) class
+classes-acquires past e class is =
+    ap (each_once bytes_eq) (filter_map-append class_acquired past (e ∷ []) ∙ ap (λ o. filter_map class_acquired past ++ cons_option o []) is)
+    ∙ names-more (filter_map class_acquired past) class
+
+pub classes-other : (past : List PlainEvent) (e : PlainEvent) → class_acquired e ≡ None → classes (past ++ e ∷ []) ≡ classes past
+classes-other past e is =
+    ap (each_once bytes_eq) (filter_map-append class_acquired past (e ∷ []) ∙ ap (λ o. filter_map class_acquired past ++ cons_option o []) is ∙ append-nil (filter_map class_acquired past))
+
+pub Decides-same_dependency : (a b : Dependency) → Decides (same_dependency a b) (a ≡ b)
+Decides-same_dependency a b = Decides-like (same_dependency a b) (λ h. λ i. record { from = h.0 i; to = h.1 i }) (λ h. (ap (λ d. d.from) h, ap (λ d. d.to) h))
+    (Decides-and (bytes_eq a.from b.from) (bytes_eq a.to b.to) (bytes_eq-Decides a.from b.from) (bytes_eq-Decides a.to b.to))
+
+-- the dependencies of a trace, each once with its least line: those of one more position are added where
+-- they aren't there yet
+pub dependencies-push : (all : List Position) (p : Position) → each_once same_seen (seen dependencies_at (all ++ p ∷ [])) ≡ fold (with_new same_seen)
+    (each_once same_seen (seen dependencies_at all)) (seen_at dependencies_at (events all) p.line p.says)
+dependencies-push all p =
+    ap (each_once same_seen) (seen-push dependencies_at all p)
+    ∙ each_once-append same_seen (λ x y is z. alike_from_decides same_dependency Decides-same_dependency x.what y.what is z.what)
+    (seen dependencies_at all) (seen_at dependencies_at (events all) p.line p.says)

@@ -1,0 +1,452 @@
+-- What an event adds to the usage.
+use Rattle.std.proofs.Common.{◌≡◌, ◌++◌, ◌∷◌, [], List, ℕ, Bool, true, false, ◌&&◌, ◌||◌, not, cond, map, filter, fold, Option, Some, None, Result}
+use Rattle.std.proofs.Common.{Ok, Err, refl, ap, sym, ◌∙◌, append_assoc, if◌then◌else◌}
+use Rattle.std.proofs.lemmas.Bool.{true≢false, and_parts, and_from, or_left, or_right}
+use Rattle.std.proofs.lemmas.Bool.Decides.{Decides-and, Decides-like}
+use Rattle.std.proofs.lemmas.List.{append-nil, map-append}
+use Rattle.std.proofs.lemmas.List.Elements.{filter-append}
+use Rattle.std.proofs.lemmas.List.Folds.{list_any-append, list_all-map}
+use Rattle.std.proofs.lemmas.List.Sums.{fold-append}
+use Rattle.std.proofs.lemmas.Simd.{map-map}
+use Rattle.std.proofs.lemmas.Slice.Eq.{bytes_eq-Decides}
+use Rattle.std.specs.Bool.{Decides}
+use Rattle.std.specs.List.{list_all, list_any}
+use Rattle.std.specs.Str.{bytes_eq}
+use Rattle.ld_class.proofs.Mapped.{list_any-map}
+use Rattle.ld_trace.specs.declared.event.LineFault.{LineFault}
+use Rattle.ld_trace.specs.declared.event.State.{State}
+use Rattle.ld_trace.specs.declared.event.State.TheVariants.{Hard, Soft}
+use Rattle.ld_trace.specs.Events.{PlainEvent, PlainLock, Position}
+use Rattle.ld_trace.specs.Events.PlainEvent.{Acquire, Try, Release, Enter, Exit, Enable, Disable}
+use Rattle.ld_rules.specs.Frames.{task_of, contexts, frame_of}
+use Rattle.ld_rules.specs.Inner.Levels.{is_interrupt}
+use Rattle.ld_rules.specs.Held.{Key, held, held_by, lock_acquired, same_key}
+use Rattle.ld_rules.specs.Flags.{same_state, is_enabled}
+use Rattle.ld_rules.specs.Outcome.{each_once, events}
+use Rattle.ld_rules.specs.Dependency.{Seen, seen_at, seen}
+use Rattle.ld_rules.specs.Usage.{Bit, same_bit, Use, same_use, same_what, in_uses, on_uses, uses_at}
+use Rattle.ld_rules.specs.Usage.Bit.{In, On}
+use Rattle.ld_rules.proofs.RemoveLemmas.{filter-remove_other, list_all-remove_last}
+use Rattle.ld_rules.proofs.PlaceLemmas.{with_new, all_known, by_pushes, each_once-append, any_each_once}
+use Rattle.ld_rules.proofs.FrameLemmas.{contexts-other}
+use Rattle.ld_rules.proofs.HeldLemmas.{Decides-same_key, held-acquires, held-releases, held-other, held_by-acquires, held_by-releases, held_by-other}
+use Rattle.ld_rules.proofs.OutcomeLemmas.{events-push, seen-push}
+use Rattle.ld_rules.proofs.FlagLemmas.{is_enabled-other, is_enabled-quiet, enabled_before_enter, enabled_before_disable}
+
+-- Lists.
+
+pub list_all_mono : {X : Type 0} (p q : X → Bool) → ((x : X) → p x ≡ true → q x ≡ true) → (xs : List X) → list_all p xs ≡ true → list_all q xs ≡ true
+list_all_mono p q more [] all = refl
+list_all_mono p q more (x ∷ xs) all =
+    let parts = and_parts (p x) (list_all p xs) all in
+    and_from (q x) (list_all q xs) (more x parts.0) (list_all_mono p q more xs parts.1)
+
+-- what all of a filtered list pass
+pub list_all-filter : {X : Type 0} (p q : X → Bool) (xs : List X) → list_all p (filter q xs) ≡ list_all (λ x. not (q x) || p x) xs
+list_all-filter p q [] = refl
+list_all-filter p q (x ∷ xs) = by (list_all-filter p q xs) (q x)
+  where
+    by : list_all p (filter q xs) ≡ list_all (λ y. not (q y) || p y) xs → (b : Bool) → list_all p (cond b (x ∷ filter q xs) (filter q xs)) ≡ ((not b || p x) && list_all (λ y. not (q y) || p y) xs)
+    by rest true = ap (λ c. p x && c) rest
+    by rest false = rest
+
+-- a part of the list passes too
+pub list_all-part : {X : Type 0} (p q : X → Bool) (xs : List X) → list_all p xs ≡ true → list_all p (filter q xs) ≡ true
+list_all-part p q xs all = list_all-filter p q xs ∙ list_all_mono p (λ x. not (q x) || p x) (λ x h. or_right (not (q x)) (p x) h) xs all
+
+-- a filter by two tests, one of which says the same wherever the other holds
+pub filter_where : {X : Type 0} (t q : X → Bool) (b : Bool) → ((x : X) → t x ≡ true → q x ≡ b) → (xs : List X) → filter (λ x. t x && q x) xs ≡ filter t (if b then xs else [])
+filter_where t q true same [] = refl
+filter_where t q true same (x ∷ xs) = by (filter_where t q true same xs) (t x) refl
+  where
+    by : filter (λ y. t y && q y) xs ≡ filter t xs → (c : Bool) → t x ≡ c → cond (c && q x) (x ∷ filter (λ y. t y && q y) xs) (filter (λ y. t y && q y) xs) ≡ cond c (x ∷ filter t xs) (filter t xs)
+    by rest true is = ap (λ d. cond d (x ∷ filter (λ y. t y && q y) xs) (filter (λ y. t y && q y) xs)) (same x is) ∙ ap (λ ys. x ∷ ys) rest
+    by rest false is = rest
+filter_where t q false same [] = refl
+filter_where t q false same (x ∷ xs) = by (filter_where t q false same xs) (t x) refl
+  where
+    by : filter (λ y. t y && q y) xs ≡ [] → (c : Bool) → t x ≡ c → cond (c && q x) (x ∷ filter (λ y. t y && q y) xs) (filter (λ y. t y && q y) xs) ≡ []
+    by rest true is = ap (λ d. cond d (x ∷ filter (λ y. t y && q y) xs) (filter (λ y. t y && q y) xs)) (same x is) ∙ rest
+    by rest false is = rest
+
+-- The list with each that is new.
+
+module _ {Y : Type 0} (same : Y → Y → Bool) (p : Y → Bool) where
+  pub any_with_new : (known : List Y) (y : Y) → list_any p known ≡ true → list_any p (with_new same known y) ≡ true
+  any_with_new known y there = list_any-append p known (if list_any (same y) known then [] else y ∷ []) ∙ or_left (list_any p known) (list_any p (if list_any (same y) known then [] else y ∷ [])) there
+
+  pub any_with_all : (known ys : List Y) → list_any p known ≡ true → list_any p (fold (with_new same) known ys) ≡ true
+  any_with_all known [] there = there
+  any_with_all known (y ∷ ys) there = any_with_all (with_new same known y) ys (any_with_new known y there)
+
+or_more : (a b c d : Bool) → (c ≡ true → d ≡ true) → (a || (b || c)) ≡ true → (a || (b || d)) ≡ true
+or_more true b c d more h = refl
+or_more false true c d more h = refl
+or_more false false c d more h = more h
+
+module _ {X Y : Type 0} (same : Y → Y → Bool) (f : X → Y) (t q : X → Bool) where
+  -- where all that pass q and fail t are known, only those that pass both are added
+  pub fold_known : (xs : List X) (known : List Y) → list_all (λ x. not (q x) || (t x || list_any (same (f x)) known)) xs ≡ true → fold (with_new same)
+      known (map f (filter q xs)) ≡ fold (with_new same) known (map f (filter (λ x. t x && q x) xs))
+  fold_known [] known all = refl
+  fold_known (x ∷ xs) known all = by (fold_known xs) (q x) refl (t x) refl
+    where
+      parts : ((not (q x) || (t x || list_any (same (f x)) known)) ≡ true) × (list_all (λ y. not (q y) || (t y || list_any (same (f y)) known)) xs ≡ true)
+      parts = and_parts (not (q x) || (t x || list_any (same (f x)) known)) (list_all (λ y. not (q y) || (t y || list_any (same (f y)) known)) xs) all
+
+      grown : list_all (λ y. not (q y) || (t y || list_any (same (f y)) (with_new same known (f x)))) xs ≡ true
+      grown = list_all_mono (λ y. not (q y) || (t y || list_any (same (f y)) known)) (λ y. not (q y) || (t y || list_any (same (f y)) (with_new same known (f x))))
+          (λ y h. or_more (not (q y)) (t y) (list_any (same (f y)) known) (list_any (same (f y)) (with_new same known (f x))) (any_with_new same (same (f y)) known (f x)) h) xs parts.1
+
+      by : ((more : List Y) → list_all (λ y. not (q y) || (t y || list_any (same (f y)) more)) xs ≡ true → fold (with_new same) more
+          (map f (filter q xs)) ≡ fold (with_new same) more (map f (filter (λ y. t y && q y) xs))) → (b : Bool) → q x ≡ b → (c : Bool) → t x ≡ c →
+          fold (with_new same) known (map f (cond b (x ∷ filter q xs) (filter q xs))) ≡ fold (with_new same) known
+          (map f (cond (c && b) (x ∷ filter (λ y. t y && q y) xs) (filter (λ y. t y && q y) xs)))
+      by rest true is true own = rest (with_new same known (f x)) grown
+      by rest true is false own =
+          let there : list_any (same (f x)) known ≡ true = sym (λ i. not (is i) || (own i || list_any (same (f x)) known)) ∙ parts.0 in
+          let stays : with_new same known (f x) ≡ known = ap (λ (d : Bool). known ++ (if d then [] else f x ∷ [])) there ∙ append-nil known in
+          ap (λ ys. fold (with_new same) ys (map f (filter q xs))) stays ∙ rest known parts.1
+      by rest false is true own = rest known parts.1
+      by rest false is false own = rest known parts.1
+
+-- The uses of an acquisition.
+
+-- the lock that an event waits for
+abbrev pub waits_for : PlainEvent → Option PlainLock
+waits_for (Acquire task lock) = Some lock
+waits_for other = None
+
+-- the uses of a lock that is waited for in these contexts
+abbrev pub uses_in : List State → Option PlainLock → List Use
+uses_in cs None = []
+uses_in cs (Some lock) = map (λ state. record { class = lock.class; bit = In state }) cs
+
+-- they are those of the contexts before the event
+pub in_uses-is : (past : List PlainEvent) (e : PlainEvent) → in_uses (past ++ e ∷ []) e ≡ uses_in (contexts past (task_of e)) (waits_for e)
+in_uses-is past (Acquire t l) = ap (map (λ state. record { class = l.class; bit = In state })) (contexts-other past t (Acquire t l) refl refl)
+in_uses-is past (Try t l) = refl
+in_uses-is past (Release t l) = refl
+in_uses-is past (Enter t s) = refl
+in_uses-is past (Exit t s) = refl
+in_uses-is past (Enable t s) = refl
+in_uses-is past (Disable t s) = refl
+
+-- The uses of what is held.
+
+-- the use of a key held where the state is enabled
+abbrev pub on_use : State → Key → Use
+on_use state key = record { class = key.lock.class; bit = On state }
+
+-- those of what one task holds, in all its frames
+abbrev pub own_uses : List PlainEvent → List ℕ → State → List Use
+own_uses now task state = map (on_use state) (if is_enabled now task state then held_by now task else [])
+
+-- the keys of the other tasks
+abbrev pub of_others : List ℕ → List Key → List Key
+of_others task keys = filter (λ key. not (bytes_eq task key.task)) keys
+
+-- an event changes nothing of what other tasks hold
+pub held-others : (past : List PlainEvent) (e : PlainEvent) → of_others (task_of e) (held (past ++ e ∷ [])) ≡ of_others (task_of e) (held past)
+held-others past e = by e
+  where
+    acquired : (e : PlainEvent) (lock : PlainLock) → lock_acquired e ≡ Some lock → of_others (task_of e) (held (past ++ e ∷ [])) ≡ of_others (task_of e) (held past)
+    acquired e lock is =
+        ap (of_others (task_of e)) (held-acquires past e lock is)
+        ∙ filter-append (λ key. not (bytes_eq (task_of e) key.task)) (held past) (record { task = task_of e; frame = frame_of past (task_of e); lock = lock } ∷ [])
+        ∙ ap (λ b. of_others (task_of e) (held past) ++ cond (not b) (record { task = task_of e; frame = frame_of past (task_of e); lock = lock } ∷
+        []) []) ((bytes_eq-Decides (task_of e) (task_of e)).1 refl)
+        ∙ append-nil (of_others (task_of e) (held past))
+
+    by : (e : PlainEvent) → of_others (task_of e) (held (past ++ e ∷ [])) ≡ of_others (task_of e) (held past)
+    by (Acquire t l) = acquired (Acquire t l) l refl
+    by (Try t l) = acquired (Try t l) l refl
+    by (Release t l) =
+        ap (of_others t) (held-releases past t l)
+        ∙ filter-remove_other (same_key (record { task = t; frame = frame_of past t; lock = l })) (λ key. not (bytes_eq t key.task))
+        (λ key is. ap not ((bytes_eq-Decides t key.task).1 (ap (λ k. k.task) ((Decides-same_key (record { task = t; frame = frame_of past t; lock = l }) key).0 is)))) (held past)
+    by (Enter t s) = ap (of_others t) (held-other past (Enter t s) refl refl)
+    by (Exit t s) = ap (of_others t) (held-other past (Exit t s) refl refl)
+    by (Enable t s) = ap (of_others t) (held-other past (Enable t s) refl refl)
+    by (Disable t s) = ap (of_others t) (held-other past (Disable t s) refl refl)
+
+-- what all uses of what is held pass, said of the keys
+list_all_on : (p : Use → Bool) (now : List PlainEvent) (state : State) → list_all p (on_uses now state) ≡ list_all (λ key. not (is_enabled now key.task state) || p (on_use state key)) (held now)
+list_all_on p now state = list_all-map p (on_use state) (filter (λ key. is_enabled now key.task state) (held now)) ∙ list_all-filter
+    (λ key. p (on_use state key)) (λ key. is_enabled now key.task state) (held now)
+
+-- What all uses standing before an event pass, those of the other tasks' keys pass after it.
+others_kept : (p : Use → Bool) (past : List PlainEvent) (e : PlainEvent) (state : State) → list_all p (on_uses past state) ≡ true → list_all
+    (λ key. not (is_enabled (past ++ e ∷ []) key.task state) || (bytes_eq (task_of e) key.task || p (on_use state key))) (held (past ++ e ∷ [])) ≡ true
+others_kept p past e state all =
+    ap (λ (r : Key → Bool). list_all r (held (past ++ e ∷ []))) (λ i key. same key (bytes_eq (task_of e) key.task) refl i)
+    ∙ sym (list_all-filter (λ key. not (is_enabled past key.task state) || p (on_use state key)) (λ key. not (bytes_eq (task_of e) key.task)) (held (past ++ e ∷ [])))
+    ∙ ap (list_all (λ key. not (is_enabled past key.task state) || p (on_use state key))) (held-others past e)
+    ∙ list_all-part (λ key. not (is_enabled past key.task state) || p (on_use state key)) (λ key. not (bytes_eq (task_of e) key.task)) (held past) (sym (list_all_on p past state) ∙ all)
+  where
+    or_true : (b : Bool) → (b || true) ≡ true
+    or_true true = refl
+    or_true false = refl
+
+    same : (key : Key) (b : Bool) → bytes_eq (task_of e) key.task ≡ b → (not (is_enabled (past ++ e ∷ []) key.task state) ||
+        (b || p (on_use state key))) ≡ (not (not b) || (not (is_enabled past key.task state) || p (on_use state key)))
+    same key true is = or_true (not (is_enabled (past ++ e ∷ []) key.task state))
+    same key false is =
+        let other : bytes_eq key.task (task_of e) ≡ false = swapped key is in
+        ap (λ b. not b || p (on_use state key)) (is_enabled-other past e key.task state other)
+      where
+        swapped : (key : Key) → bytes_eq (task_of e) key.task ≡ false → bytes_eq key.task (task_of e) ≡ false
+        swapped key is = by (bytes_eq key.task (task_of e)) refl
+          where
+            by : (b : Bool) → bytes_eq key.task (task_of e) ≡ b → b ≡ false
+            by true eq = absurd (true≢false (sym ((bytes_eq-Decides (task_of e) key.task).1 (sym ((bytes_eq-Decides key.task (task_of e)).0 eq))) ∙ is))
+            by false eq = refl
+
+-- the keys of one task that count under the state
+own_keys : (now : List PlainEvent) (task : List ℕ) (state : State) → filter (λ key. bytes_eq task key.task && is_enabled now key.task state)
+    (held now) ≡ (if is_enabled now task state then held_by now task else [])
+own_keys now task state = filter_where (λ key. bytes_eq task key.task) (λ key. is_enabled now key.task state) (is_enabled now task state)
+    (λ key is. ap (λ t. is_enabled now t state) (sym ((bytes_eq-Decides task key.task).0 is))) (held now) ∙ by (is_enabled now task state)
+  where
+    by : (b : Bool) → filter (λ key. bytes_eq task key.task) (if b then held now else []) ≡ (if b then held_by now task else [])
+    by true = refl
+    by false = refl
+
+-- The uses of what a task holds stand.
+pub own_uses-stand : (p : Use → Bool) (now : List PlainEvent) (task : List ℕ) (state : State) → list_all p (on_uses now state) ≡ true → list_all p (own_uses now task state) ≡ true
+own_uses-stand p now task state all =
+    list_all-map p (on_use state) (if is_enabled now task state then held_by now task else [])
+    ∙ ap (list_all (λ key. p (on_use state key))) (sym (own_keys now task state))
+    ∙ list_all-filter (λ key. p (on_use state key)) (λ key. bytes_eq task key.task && is_enabled now key.task state) (held now)
+    ∙ list_all_mono (λ key. not (is_enabled now key.task state) || p (on_use state key)) (λ key. not (bytes_eq task key.task && is_enabled now key.task state) || p (on_use state key))
+    (λ key h. weaker (bytes_eq task key.task) (is_enabled now key.task state) (p (on_use state key)) h) (held now) (sym (list_all_on p now state) ∙ all)
+  where
+    weaker : (t q r : Bool) → (not q || r) ≡ true → (not (t && q) || r) ≡ true
+    weaker true q r h = h
+    weaker false q r h = refl
+
+-- The tests tell equal uses.
+
+pub Decides-same_state : (a b : State) → Decides (same_state a b) (a ≡ b)
+Decides-same_state Hard Hard = (λ h. refl, λ h. refl)
+Decides-same_state Hard Soft = (λ h. absurd (true≢false (sym h)), λ h. cc)
+Decides-same_state Soft Hard = (λ h. absurd (true≢false (sym h)), λ h. cc)
+Decides-same_state Soft Soft = (λ h. refl, λ h. refl)
+
+pub Decides-same_bit : (a b : Bit) → Decides (same_bit a b) (a ≡ b)
+Decides-same_bit (In a) (In b) = (λ h. ap In ((Decides-same_state a b).0 h), λ h. let e : a ≡ b = cc in (Decides-same_state a b).1 e)
+Decides-same_bit (In a) (On b) = (λ h. absurd (true≢false (sym h)), λ h. cc)
+Decides-same_bit (On a) (In b) = (λ h. absurd (true≢false (sym h)), λ h. cc)
+Decides-same_bit (On a) (On b) = (λ h. ap On ((Decides-same_state a b).0 h), λ h. let e : a ≡ b = cc in (Decides-same_state a b).1 e)
+
+pub Decides-same_use : (a b : Use) → Decides (same_use a b) (a ≡ b)
+Decides-same_use a b = Decides-like (same_use a b) (λ h. λ i. record { class = h.0 i; bit = h.1 i }) (λ h. (ap (λ u. u.class) h, ap (λ u. u.bit) h))
+    (Decides-and (bytes_eq a.class b.class) (same_bit a.bit b.bit) (bytes_eq-Decides a.class b.class) (Decides-same_bit a.bit b.bit))
+
+-- The uses of a trace, each once with its least line.
+
+pub same_what-alike : (a b : Seen Use) → same_what a b ≡ true → (c : Seen Use) → same_what a c ≡ same_what b c
+same_what-alike a b is c = ap (λ u. same_use u c.what) ((Decides-same_use a.what b.what).0 is)
+
+abbrev pub at_line : ℕ → Use → Seen Use
+at_line line use_ = record { what = use_; line = line }
+
+-- these uses are added at a line, each where it isn't there yet
+abbrev pub with_uses : ℕ → List (Seen Use) → List Use → List (Seen Use)
+with_uses line known us = fold (with_new same_what) known (map (at_line line) us)
+
+pub with_uses-append : (line : ℕ) (known : List (Seen Use)) (us vs : List Use) → with_uses line known (us ++ vs) ≡ with_uses line (with_uses line known us) vs
+with_uses-append line known us vs = ap (fold (with_new same_what) known) (map-append (at_line line) us vs) ∙ fold-append (with_new same_what) known (map (at_line line) us) (map (at_line line) vs)
+
+-- whether a use is there, at some line
+abbrev pub is_known : List (Seen Use) → Use → Bool
+is_known known u = list_any (λ s. same_use u s.what) known
+
+pub known_more : (line : ℕ) (known : List (Seen Use)) (us vs : List Use) → list_all (is_known known) vs ≡ true → list_all (is_known (with_uses line known us)) vs ≡ true
+known_more line known us vs all = list_all_mono (is_known known) (is_known (with_uses line known us))
+    (λ u there. any_with_all same_what (λ s. same_use u s.what) known (map (at_line line) us) there) vs all
+
+-- where all uses that stood before are known, an event adds only uses of what its own task holds
+pub with_on_uses : (past : List PlainEvent) (e : PlainEvent) (state : State) (line : ℕ) (known : List (Seen Use)) → list_all (is_known known)
+    (on_uses past state) ≡ true → with_uses line known (on_uses (past ++ e ∷ []) state) ≡ with_uses line known (own_uses (past ++ e ∷ []) (task_of e) state)
+with_on_uses past e state line known all =
+    ap (fold (with_new same_what) known) (map-map (at_line line) (on_use state) (filter (λ key. is_enabled (past ++ e ∷ []) key.task state) (held (past ++ e ∷ []))))
+    ∙ fold_known same_what (λ key. at_line line (on_use state key)) (λ key. bytes_eq (task_of e) key.task)
+    (λ key. is_enabled (past ++ e ∷ []) key.task state) (held (past ++ e ∷ [])) known (others_kept (is_known known) past e state all)
+    ∙ ap (λ keys. fold (with_new same_what) known (map (λ key. at_line line (on_use state key)) keys)) (own_keys (past ++ e ∷ []) (task_of e) state)
+    ∙ sym (ap (fold (with_new same_what) known) (map-map (at_line line) (on_use state) (if is_enabled (past ++ e ∷ []) (task_of e) state then held_by (past ++ e ∷ []) (task_of e) else [])))
+
+-- The uses that stand at an event, where those of what is held may be left to `added`.
+abbrev pub uses_with : List PlainEvent → PlainEvent → (State → List Use) → List Use
+uses_with past e added = uses_in (contexts past (task_of e)) (waits_for e) ++ (added Hard ++ added Soft)
+
+with_uses_by : (past : List PlainEvent) (e : PlainEvent) (line : ℕ) (added : State → List Use) →
+    ((state : State) (known : List (Seen Use)) → list_all (is_known known) (on_uses past state) ≡ true → with_uses line known
+    (on_uses (past ++ e ∷ []) state) ≡ with_uses line known (added state)) → (known : List (Seen Use)) →
+    ((state : State) → list_all (is_known known) (on_uses past state) ≡ true) → with_uses line known (uses_at past e) ≡ with_uses line known (uses_with past e added)
+with_uses_by past e line added law known all =
+    ap (λ us. with_uses line known (us ++ (on_uses (past ++ e ∷ []) Hard ++ on_uses (past ++ e ∷ []) Soft))) (in_uses-is past e)
+    ∙ with_uses-append line known ins (on_uses (past ++ e ∷ []) Hard ++ on_uses (past ++ e ∷ []) Soft)
+    ∙ with_uses-append line (with_uses line known ins) (on_uses (past ++ e ∷ []) Hard) (on_uses (past ++ e ∷ []) Soft)
+    ∙ law Soft (with_uses line (with_uses line known ins) (on_uses (past ++ e ∷ []) Hard))
+    (known_more line (with_uses line known ins) (on_uses (past ++ e ∷ []) Hard) (on_uses past Soft) (known_more line known ins (on_uses past Soft) (all Soft)))
+    ∙ ap (λ ks. with_uses line ks (added Soft)) (law Hard (with_uses line known ins) (known_more line known ins (on_uses past Hard) (all Hard)))
+    ∙ sym (with_uses-append line (with_uses line known ins) (added Hard) (added Soft))
+    ∙ sym (with_uses-append line known ins (added Hard ++ added Soft))
+  where
+    ins : List Use
+    ins = uses_in (contexts past (task_of e)) (waits_for e)
+
+-- The keys that an event may newly count under a state: the one that it acquires, and at an `enable` or
+-- an `exit` all that its task holds.
+abbrev pub new_keys : List PlainEvent → PlainEvent → List Key
+new_keys past (Acquire task lock) = record { task = task; frame = frame_of past task; lock = lock } ∷ []
+new_keys past (Try task lock) = record { task = task; frame = frame_of past task; lock = lock } ∷ []
+new_keys past (Enable task state) = held_by past task
+new_keys past (Exit task state) = held_by past task
+new_keys past other = []
+
+abbrev pub new_uses : List PlainEvent → PlainEvent → State → List Use
+new_uses past e state = map (on_use state) (if is_enabled (past ++ e ∷ []) (task_of e) state then new_keys past e else [])
+
+-- known uses add nothing
+pub with_known : (line : ℕ) (known : List (Seen Use)) (us : List Use) → list_all (is_known known) us ≡ true → with_uses line known us ≡ known
+with_known line known us all = all_known same_what known (map (at_line line) us) (list_all-map (λ s. list_any (same_what s) known) (at_line line) us ∙ all)
+
+module _ (past : List PlainEvent) (state : State) (line : ℕ) (known : List (Seen Use)) (all : list_all (is_known known) (on_uses past state) ≡ true) where
+  -- all that the task held, where it counted already, is known
+  held_known : (task : List ℕ) → is_enabled past task state ≡ true → list_all (λ key. is_known known (on_use state key)) (held_by past task) ≡ true
+  held_known task on =
+      ap (λ (b : Bool). list_all (λ key. is_known known (on_use state key)) (if b then held_by past task else [])) (sym on)
+      ∙ sym (list_all-map (is_known known) (on_use state) (if is_enabled past task state then held_by past task else []))
+      ∙ own_uses-stand (is_known known) past task state all
+
+  -- so nothing of it is added
+  nothing_new : (keys : List Key) → list_all (λ key. is_known known (on_use state key)) keys ≡ true → with_uses line known (map (on_use state) keys) ≡ known
+  nothing_new keys there = with_known line known (map (on_use state) keys) (list_all-map (is_known known) (on_use state) keys ∙ there)
+
+  if_nothing : (b : Bool) → known ≡ with_uses line known (map (on_use state) (if b then [] else []))
+  if_nothing true = refl
+  if_nothing false = refl
+
+  new-acquires : (e : PlainEvent) (lock : PlainLock) → lock_acquired e ≡ Some lock → is_interrupt e ≡ false → with_uses line known
+      (own_uses (past ++ e ∷ []) (task_of e) state) ≡ with_uses line known (map (on_use state)
+      (if is_enabled (past ++ e ∷ []) (task_of e) state then record { task = task_of e; frame = frame_of past (task_of e); lock = lock } ∷ [] else []))
+  new-acquires e lock is quiet = by (is_enabled (past ++ e ∷ []) (task_of e) state) refl
+    where
+      keys : held_by (past ++ e ∷ []) (task_of e) ≡ held_by past (task_of e) ++ record { task = task_of e; frame = frame_of past (task_of e); lock = lock } ∷ []
+      keys = held_by-acquires past (task_of e) e lock is ∙ ap (λ (b : Bool). held_by past (task_of e) ++
+          (if b then record { task = task_of e; frame = frame_of past (task_of e); lock = lock } ∷ [] else [])) ((bytes_eq-Decides (task_of e) (task_of e)).1 refl)
+
+      by : (b : Bool) → is_enabled (past ++ e ∷ []) (task_of e) state ≡ b → with_uses line known
+          (map (on_use state) (if b then held_by (past ++ e ∷ []) (task_of e) else [])) ≡ with_uses line known
+          (map (on_use state) (if b then record { task = task_of e; frame = frame_of past (task_of e); lock = lock } ∷ [] else []))
+      by true on =
+          ap (λ ks. with_uses line known (map (on_use state) ks)) keys
+          ∙ ap (with_uses line known) (map-append (on_use state) (held_by past (task_of e)) (record { task = task_of e; frame = frame_of past (task_of e); lock = lock } ∷ []))
+          ∙ with_uses-append line known (map (on_use state) (held_by past (task_of e))) (on_use state (record { task = task_of e; frame = frame_of past (task_of e); lock = lock }) ∷ [])
+          ∙ ap (λ ks. with_uses line ks (on_use state (record { task = task_of e; frame = frame_of past (task_of e); lock = lock }) ∷ []))
+          (nothing_new (held_by past (task_of e)) (held_known (task_of e) (sym (is_enabled-quiet past e (task_of e) state quiet) ∙ on)))
+      by false on = refl
+
+  -- where no key is new and what is enabled was, nothing is added
+  new-none : (e : PlainEvent) → (is_enabled (past ++ e ∷ []) (task_of e) state ≡ true → is_enabled past (task_of e) state ≡ true) →
+      (list_all (λ key. is_known known (on_use state key)) (held_by past (task_of e)) ≡ true → list_all (λ key. is_known known (on_use state key))
+      (held_by (past ++ e ∷ []) (task_of e)) ≡ true) → with_uses line known (own_uses (past ++ e ∷ []) (task_of e) state) ≡ with_uses line known
+      (map (on_use state) (if is_enabled (past ++ e ∷ []) (task_of e) state then [] else []))
+  new-none e was less = by (is_enabled (past ++ e ∷ []) (task_of e) state) refl ∙ if_nothing (is_enabled (past ++ e ∷ []) (task_of e) state)
+    where
+      by : (b : Bool) → is_enabled (past ++ e ∷ []) (task_of e) state ≡ b → with_uses line known (map (on_use state) (if b then held_by (past ++ e ∷ []) (task_of e) else [])) ≡ known
+      by true on = nothing_new (held_by (past ++ e ∷ []) (task_of e)) (less (held_known (task_of e) (was on)))
+      by false on = refl
+
+  -- Of what its own task holds an event adds no other uses than those of its new keys.
+  pub with_new_keys : (e : PlainEvent) → with_uses line known (own_uses (past ++ e ∷ []) (task_of e) state) ≡ with_uses line known (new_uses past e state)
+  with_new_keys (Acquire t l) = new-acquires (Acquire t l) l refl refl
+  with_new_keys (Try t l) = new-acquires (Try t l) l refl refl
+  with_new_keys (Release t l) =
+      new-none (Release t l) (λ on. sym (is_enabled-quiet past (Release t l) t state refl) ∙ on)
+      (λ there. ap (list_all (λ key. is_known known (on_use state key))) (held_by-releases past t l) ∙ list_all-remove_last
+      (same_key (record { task = t; frame = frame_of past t; lock = l })) (λ key. is_known known (on_use state key)) (held_by past t) there)
+  with_new_keys (Enter t s) = new-none (Enter t s) (enabled_before_enter past t s state)
+      (λ there. ap (list_all (λ key. is_known known (on_use state key))) (held_by-other past t (Enter t s) refl refl) ∙ there)
+  with_new_keys (Exit t s) = ap (λ ks. with_uses line known (map (on_use state) (if is_enabled (past ++ Exit t s ∷ []) t state then ks else []))) (held_by-other past t (Exit t s) refl refl)
+  with_new_keys (Enable t s) = ap (λ ks. with_uses line known (map (on_use state) (if is_enabled (past ++ Enable t s ∷ []) t state then ks else []))) (held_by-other past t (Enable t s) refl refl)
+  with_new_keys (Disable t s) = new-none (Disable t s) (enabled_before_disable past t s state)
+      (λ there. ap (list_all (λ key. is_known known (on_use state key))) (held_by-other past t (Disable t s) refl refl) ∙ there)
+
+-- The uses that an event may newly show.
+abbrev pub new_uses_at : List PlainEvent → PlainEvent → List Use
+new_uses_at past e = uses_with past e (new_uses past e)
+
+pub with_new_uses_at : (past : List PlainEvent) (e : PlainEvent) (line : ℕ) (known : List (Seen Use)) →
+    ((state : State) → list_all (is_known known) (on_uses past state) ≡ true) → with_uses line known (uses_at past e) ≡ with_uses line known (new_uses_at past e)
+with_new_uses_at past e line known all = with_uses_by past e line (new_uses past e)
+    (λ state more there. with_on_uses past e state line more there ∙ with_new_keys past state line more there e) known all
+
+-- what stands in the middle of a list stands in it
+all_within : {Y : Type 0} (same : Y → Y → Bool) → ((y : Y) → same y y ≡ true) → (front ys back : List Y) → list_all (λ y. list_any (same y) (front ++ (ys ++ back))) ys ≡ true
+all_within same itself front [] back = refl
+all_within same itself front (y ∷ ys) back =
+    and_from (list_any (same y) (front ++ (y ∷ (ys ++ back)))) (list_all (λ z. list_any (same z) (front ++ (y ∷ (ys ++ back)))) ys)
+    (list_any-append (same y) front (y ∷ (ys ++ back)) ∙ or_right (list_any (same y) front) (same y y || list_any (same y) (ys ++ back))
+    (or_left (same y y) (list_any (same y) (ys ++ back)) (itself y)))
+    (ap (λ zs. list_all (λ z. list_any (same z) zs) ys) (sym (append_assoc front (y ∷ []) (ys ++ back))) ∙ all_within same itself (front ++ y ∷ []) ys back)
+
+same_use-itself : (u : Use) → same_use u u ≡ true
+same_use-itself u = (Decides-same_use u u).1 refl
+
+-- the uses of what is held are among those that stand
+on_uses_within : (past : List PlainEvent) (e : PlainEvent) (state : State) → list_all (λ u. list_any (same_use u) (uses_at past e)) (on_uses (past ++ e ∷ []) state) ≡ true
+on_uses_within past e Hard = all_within same_use same_use-itself (in_uses (past ++ e ∷ []) e) (on_uses (past ++ e ∷ []) Hard) (on_uses (past ++ e ∷ []) Soft)
+on_uses_within past e Soft =
+    ap (λ us. list_all (λ u. list_any (same_use u) us) (on_uses (past ++ e ∷ []) Soft))
+    (ap (λ us. in_uses (past ++ e ∷ []) e ++ (on_uses (past ++ e ∷ []) Hard ++ us)) (sym (append-nil (on_uses (past ++ e ∷ []) Soft))) ∙ sym
+    (append_assoc (in_uses (past ++ e ∷ []) e) (on_uses (past ++ e ∷ []) Hard) (on_uses (past ++ e ∷ []) Soft ++ [])))
+    ∙ all_within same_use same_use-itself (in_uses (past ++ e ∷ []) e ++ on_uses (past ++ e ∷ []) Hard) (on_uses (past ++ e ∷ []) Soft) []
+
+-- after each position, the uses of what is held were seen
+pub on_uses-seen : (state : State) (all : List Position) → list_all (is_known (seen uses_at all)) (on_uses (events all) state) ≡ true
+on_uses-seen state all = by_pushes (λ ps. list_all (is_known (seen uses_at ps)) (on_uses (events ps) state) ≡ true) (none state) step all
+  where
+    none : (state : State) → list_all (is_known []) (on_uses [] state) ≡ true
+    none Hard = refl
+    none Soft = refl
+
+    step : (ps : List Position) (p : Position) → list_all (is_known (seen uses_at ps)) (on_uses (events ps) state) ≡ true → list_all
+        (is_known (seen uses_at (ps ++ p ∷ []))) (on_uses (events (ps ++ p ∷ [])) state) ≡ true
+    step ps p h = (λ i. list_all (is_known (seen-push uses_at ps p i)) (on_uses (events-push ps p i) state)) ∙ by p.says
+      where
+        by : (says : Result PlainEvent LineFault) → list_all (is_known (seen uses_at ps ++ seen_at uses_at (events ps) p.line says))
+            (on_uses (events ps ++ Rattle.std.specs.List.cons_option (Rattle.ld_rules.specs.Outcome.event_said says) []) state) ≡ true
+        by (Err fault) = (λ i. list_all (is_known (append-nil (seen uses_at ps) i)) (on_uses (append-nil (events ps) i) state)) ∙ h
+        by (Ok e) =
+            list_all_mono (λ u. list_any (same_use u) (uses_at (events ps) e)) (is_known (seen uses_at ps ++ map (at_line p.line) (uses_at (events ps) e)))
+            (λ u there. list_any-append (λ s. same_use u s.what) (seen uses_at ps) (map (at_line p.line) (uses_at (events ps) e))
+            ∙ or_right (is_known (seen uses_at ps) u) (list_any (λ s. same_use u s.what) (map (at_line p.line) (uses_at (events ps) e)))
+            (list_any-map (at_line p.line) (λ s. same_use u s.what) (uses_at (events ps) e) ∙ there))
+            (on_uses (events ps ++ e ∷ []) state) (on_uses_within (events ps) e state)
+
+-- the uses seen, each once, in order of first line
+abbrev pub uses_once : List Position → List (Seen Use)
+uses_once all = each_once same_what (seen uses_at all)
+
+pub on_uses-once : (state : State) (all : List Position) → list_all (is_known (uses_once all)) (on_uses (events all) state) ≡ true
+on_uses-once state all = list_all_mono (is_known (seen uses_at all)) (is_known (uses_once all))
+    (λ u there. any_each_once same_what same_what-alike (at_line 0 u) (seen uses_at all) ∙ there) (on_uses (events all) state) (on_uses-seen state all)
+
+-- What one more position adds: of the uses that it may newly show those that aren't there yet, with its
+-- line.
+abbrev pub with_said_new : List (Seen Use) → List PlainEvent → ℕ → Result PlainEvent LineFault → List (Seen Use)
+with_said_new known past line (Ok event) = with_uses line known (new_uses_at past event)
+with_said_new known past line (Err fault) = known
+
+pub uses_once-push_new : (all : List Position) (p : Position) → uses_once (all ++ p ∷ []) ≡ with_said_new (uses_once all) (events all) p.line p.says
+uses_once-push_new all p =
+    ap (each_once same_what) (seen-push uses_at all p)
+    ∙ each_once-append same_what same_what-alike (seen uses_at all) (seen_at uses_at (events all) p.line p.says)
+    ∙ by p.says
+  where
+    by : (says : Result PlainEvent LineFault) → fold (with_new same_what) (uses_once all) (seen_at uses_at (events all) p.line says) ≡ with_said_new (uses_once all) (events all) p.line says
+    by (Ok e) = with_new_uses_at (events all) e p.line (uses_once all) (λ state. on_uses-once state all)
+    by (Err fault) = refl

@@ -1,0 +1,9 @@
+pub mod Open
+pub mod Frames
+pub mod Held
+pub mod Flags
+pub mod Outcome
+pub mod Dependency
+pub mod Usage
+pub mod Union
+pub mod Inner

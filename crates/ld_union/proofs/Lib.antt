@@ -1,0 +1,5 @@
+pub mod EachOnceLemmas
+pub mod NameLemmas
+pub mod SeenLemmas
+pub mod UnionLemmas
+pub mod UsageLemmas

@@ -1,0 +1,5 @@
+//! Tests of `ld_work` by its public calls, so that it isn't proved once more for them.
+#![tactic(auto)]
+
+#[cfg(test)]
+mod tests;

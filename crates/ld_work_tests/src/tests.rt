@@ -1,0 +1,306 @@
+//! Worked streams, by several threads.
+ghost use Rattle.std.specs.Prelude.{◌≡◌, ◌≤◌, All, IfOk, length, map};
+ghost use Rattle.ld_trace.specs.Sources.{AreNumbered, Fits, plain};
+
+use ld_book::{Book, Refusal};
+use ld_facts::{Witness, facts};
+use ld_trace::{MOST_TRACES, Source, split};
+use ld_work::{Back, Desk, Feeder, Gate, MOST_FEEDERS, NoGate, Tally, WorkFault, work};
+use std::alloc::{AllocError, Global};
+use std::marker::Brand;
+use std::process::Abort;
+use std::sync::Wait;
+use std::sync::atomic::{AtomicU64, Ordering};
+use std::sync::ledger::{Blank, Ledger};
+use std::test::Fail;
+use std::thread;
+use std::thread::Threads;
+
+const INVERSION: &[u8] = b"trace ab\nacquire t A\nacquire t B\nrelease t B\nrelease t A\n\
+    trace ba\nacquire t B\nacquire t A\nrelease t A\nrelease t B\n";
+
+const THREE_TRACES: &[u8] = b"trace x\nacquire t A\nacquire t B\n\
+    trace y\nacquire t B\nacquire t C\ntrace z\nacquire t C\nacquire t A\n";
+
+/// The traces of a stream, whichever allocation is refused, as long as it is one alone.
+fn sources_of<'a>(alloc: Global, bytes: &'a [u8]) -> Result<Vec<Source<'a>>, Fail>
+    ensures few { IfOk result (λ sources. length sources.items ≤ MOST_TRACES) }
+    ensures numbered { IfOk result (λ sources. AreNumbered (map plain sources.items)) }
+    ensures fit { IfOk result (λ sources. All (λ source. Fits (plain source)) sources.items) }
+{
+    match split(alloc, bytes) {
+        Ok(sources) => Ok(sources),
+        Err(_) => Ok(split(alloc, bytes)?),
+    }
+}
+
+fn witness(number: u64, line: u64) -> Option<Witness> {
+    Some(Witness { number, line })
+}
+
+/// Asserts that the book has the totals and the witnesses of `INVERSION`.
+fn expect_inversion<R: Abort>(rt: &R, book: &Book<'_>) {
+    let totals = book.totals();
+    assert_eq!(rt; totals.traces, 2);
+    assert_eq!(rt; totals.refused, 0);
+    assert_eq!(rt; totals.events, 8);
+    assert_eq!(rt; totals.classes, 2);
+    assert_eq!(rt; totals.dependencies, 2);
+    assert_eq!(rt; book.edge(b"A", b"B"), witness(0, 3));
+    assert_eq!(rt; book.edge(b"B", b"A"), witness(1, 8));
+}
+
+/// Adds a trace, and looks at what the book has then.
+fn feed<'a, T: Ledger, E: Ledger, R: Wait + Abort>(
+    rt: &R,
+    alloc: Global,
+    desk: &Desk<'a, T, E>,
+    source: Source<'a>,
+    mut feeder: Feeder<T, E>,
+) -> Result<Feeder<T, E>, AllocError> {
+    assert!(rt; source.fits());
+    let facts = facts(alloc, source)?;
+    match desk.look(rt).submit(&mut feeder, facts) {
+        Ok(()) => {}
+        Err(Refusal::Memory(_)) => return Err(AllocError),
+        Err(Refusal::Twice(_)) => assert!(rt; false),
+    }
+    let mut look = desk.look(rt);
+    look.covers(&mut feeder);
+    let totals = look.book().totals();
+    assert!(rt; totals.traces >= 1);
+    assert!(rt; totals.events >= 4);
+    Ok(feeder)
+}
+
+/// Two threads add a trace each to a desk, which is then gathered.
+fn two_feeders<T, E, R>(rt: &R, alloc: Global, traces: Blank, events: Blank) -> Result<(), Fail>
+where
+    T: Ledger + Send + Sync,
+    E: Ledger + Send + Sync,
+    R: Threads + Wait + Abort + Sync,
+    requires traces { (traces.name ≡ T.name) × (traces.parts ≡ T.parts) × (traces.parts ≡ 2) }
+    requires events { (events.name ≡ E.name) × (events.parts ≡ E.parts) × (events.parts ≡ 2) }
+{
+    let sources = sources_of(alloc, INVERSION)?;
+    assert_eq!(rt; sources.len(), 2);
+    let (ab, ba) = (sources[0], sources[1]);
+    let made = Desk::<T, E>::new(alloc, traces, events, 2);
+    let (desk, mut feeders) = made.expect(rt, "a desk");
+    let second = feeders.pop().expect(rt, "a second feeder");
+    let first = feeders.pop().expect(rt, "a first feeder");
+    let shared = &desk;
+    let (first, second) = thread::join(
+        rt,
+        move || feed(rt, alloc, shared, ab, first),
+        move || feed(rt, alloc, shared, ba, second),
+    );
+    let one = Tally {
+        traces: 1,
+        events: 4,
+    };
+    let first = first.expect(rt, "the first feeder");
+    let second = second.expect(rt, "the second feeder");
+    assert_eq!(rt; first.tally(), one);
+    assert_eq!(rt; second.tally(), one);
+    assert!(rt; feeders.push(first).is_ok());
+    let back = desk.gather(feeders).err().expect(rt, "one feeder back");
+    let Back { desk, mut feeders } = back;
+    assert_eq!(rt; feeders.len(), 1);
+    assert!(rt; feeders.push(second).is_ok());
+    let all = desk.gather(feeders).ok().expect(rt, "both feeders");
+    assert_eq!(rt; all.tally.traces, 2);
+    assert_eq!(rt; all.tally.events, 8);
+    for source in [ab, ba] {
+        assert!(rt; all.book.listed().iter().any(|trace| trace.source == source));
+    }
+    expect_inversion(rt, &all.book);
+    Ok(())
+}
+
+#[test]
+fn two_threads_feed_a_desk(rt: HostRuntime) -> Result<(), Fail> {
+    let (traces, events) = (Blank::new(2), Blank::new(2));
+    two_feeders::<Brand, Brand, HostRuntime>(&rt, rt.alloc(), traces, events)
+}
+
+#[test]
+fn any_number_of_workers_gives_the_same(rt: HostRuntime) -> Result<(), Fail> {
+    let sources = sources_of(rt.alloc(), INVERSION)?;
+    for workers in [1, 2, 16] {
+        let book = work(&rt, rt.alloc(), &sources, workers, &NoGate).expect(&rt, "a book");
+        expect_inversion(&rt, &book);
+    }
+    Ok(())
+}
+
+#[test]
+fn workers_read_several_traces(rt: HostRuntime) -> Result<(), Fail> {
+    let sources = sources_of(rt.alloc(), THREE_TRACES)?;
+    for workers in [1, 2, 16] {
+        let book = work(&rt, rt.alloc(), &sources, workers, &NoGate).expect(&rt, "a book");
+        let totals = book.totals();
+        assert_eq!(rt; totals.traces, 3);
+        assert_eq!(rt; totals.refused, 0);
+        assert_eq!(rt; totals.events, 6);
+        assert_eq!(rt; totals.classes, 3);
+        assert_eq!(rt; totals.dependencies, 3);
+        assert_eq!(rt; book.edge(b"A", b"B"), witness(0, 3));
+        assert_eq!(rt; book.edge(b"B", b"C"), witness(1, 6));
+        assert_eq!(rt; book.edge(b"C", b"A"), witness(2, 9));
+    }
+    Ok(())
+}
+
+/// Asserts that two workers give a book of so many traces and events.
+fn expect_totals<R>(
+    rt: &R,
+    alloc: Global,
+    stream: &[u8],
+    traces: u64,
+    events: u64,
+) -> Result<(), Fail>
+where
+    R: Threads + Wait + Abort + Sync,
+{
+    let sources = sources_of(alloc, stream)?;
+    let book = work(rt, alloc, &sources, 2, &NoGate).expect(rt, "a book");
+    assert_eq!(rt; book.totals().traces, traces);
+    assert_eq!(rt; book.totals().events, events);
+    Ok(())
+}
+
+// Work that answered `Memory` where there is much to do would meet every contract.
+#[test]
+fn many_traces_are_read(rt: HostRuntime) -> Result<(), Fail> {
+    let mut stream = Vec::new(rt.alloc());
+    for _ in 0..2_000 {
+        stream.extend_from_slice(b"trace x\nacquire t A\nacquire t B\n")?;
+    }
+    expect_totals(&rt, rt.alloc(), &stream, 2_000, 4_000)
+}
+
+#[test]
+fn a_long_trace_is_read(rt: HostRuntime) -> Result<(), Fail> {
+    let mut stream = b"trace x\n".to_vec(rt.alloc())?;
+    for _ in 0..50_000 {
+        stream.extend_from_slice(b"acquire t A\nrelease t A\n")?;
+    }
+    expect_totals(&rt, rt.alloc(), &stream, 1, 100_000)
+}
+
+/// Asserts that this many workers give the book of `INVERSION`, or that memory was refused.
+///
+/// Under `rt try --test --fail-alloc N` one allocation is refused, in whichever thread takes it, and
+/// another for each N. Where N is past the last, there is the book.
+fn expect_inversion_or_memory<R>(rt: &R, alloc: Global, workers: usize) -> Result<(), Fail>
+where
+    R: Threads + Wait + Abort + Sync,
+    requires { (1 ≤ workers) × (workers ≤ MOST_FEEDERS) }
+{
+    let sources = sources_of(alloc, INVERSION)?;
+    match work(rt, alloc, &sources, workers, &NoGate) {
+        Ok(book) => expect_inversion(rt, &book),
+        Err(fault) => assert_eq!(rt; fault, WorkFault::Memory),
+    }
+    Ok(())
+}
+
+#[test]
+fn a_refused_growth_is_memory(rt: HostRuntime) -> Result<(), Fail> {
+    expect_inversion_or_memory(&rt, rt.alloc(), 1)
+}
+
+#[test]
+fn a_refused_growth_in_any_worker_is_memory(rt: HostRuntime) -> Result<(), Fail> {
+    expect_inversion_or_memory(&rt, rt.alloc(), 4)
+}
+
+/// Sees whether each worker passes with its own numbers, the least first.
+#[derive(Drop)]
+struct Shares {
+    workers: u64,
+    /// How often each number passed.
+    passed: [AtomicU64; 3],
+    wrong: AtomicU64,
+}
+
+impl Gate for Shares {
+    fn pass(&self, worker: u64, number: u64) {
+        let is_own = number.checked_rem(self.workers) == Some(worker);
+        let is_next = match number.checked_sub(self.workers) {
+            Some(before) => self.times(before) == 1,
+            None => true,
+        };
+        if !is_own || !is_next {
+            self.wrong.fetch_add(1, Ordering::SeqCst);
+        }
+        if let Some(times) = self.passed.get(number as usize) {
+            times.fetch_add(1, Ordering::SeqCst);
+        }
+    }
+}
+
+impl Shares {
+    fn times(&self, number: u64) -> u64 {
+        match self.passed.get(number as usize) {
+            Some(times) => times.load(Ordering::SeqCst),
+            None => 0,
+        }
+    }
+}
+
+#[test]
+fn each_worker_passes_with_its_share(rt: HostRuntime) -> Result<(), Fail> {
+    let sources = sources_of(rt.alloc(), THREE_TRACES)?;
+    for workers in [1usize, 2, 3, 16] {
+        let gate = Shares {
+            workers: workers as u64,
+            passed: [AtomicU64::new(0), AtomicU64::new(0), AtomicU64::new(0)],
+            wrong: AtomicU64::new(0),
+        };
+        work(&rt, rt.alloc(), &sources, workers, &gate).expect(&rt, "a book");
+        assert_eq!(rt; gate.wrong.load(Ordering::SeqCst), 0);
+        for number in 0..3u64 {
+            assert_eq!(rt; gate.times(number), 1);
+        }
+    }
+    Ok(())
+}
+
+/// Holds the worker of number 0 until number 1 came, for a while, and records whether it did.
+#[derive(Drop)]
+struct Meeting {
+    came: AtomicU64,
+    met: AtomicU64,
+}
+
+impl Gate for Meeting {
+    fn pass(&self, _worker: u64, number: u64) {
+        if number == 1 {
+            self.came.store(1, Ordering::SeqCst);
+        }
+        if number == 0 {
+            for _ in 0..10_000_000u64 {
+                if self.came.load(Ordering::SeqCst) == 1 {
+                    self.met.store(1, Ordering::SeqCst);
+                    return;
+                }
+                thread::yield_now();
+            }
+        }
+    }
+}
+
+#[test]
+fn two_workers_meet(rt: HostRuntime) -> Result<(), Fail> {
+    let sources = sources_of(rt.alloc(), INVERSION)?;
+    let gate = Meeting {
+        came: AtomicU64::new(0),
+        met: AtomicU64::new(0),
+    };
+    let book = work(&rt, rt.alloc(), &sources, 2, &gate).expect(&rt, "a book");
+    assert_eq!(rt; gate.met.load(Ordering::SeqCst), 1);
+    expect_inversion(&rt, &book);
+    Ok(())
+}

@@ -1,7 +1,0 @@
-use Rattle.std.proofs.Common.{◌≡◌, ◌++◌, flat_map, map, take}
-use Rattle.ld_book.specs.Findings.{plain_conflict_row}
-use Rattle.lockcheck.specs.Report.{conflict_line}
-use Rattle.lockcheck.proofs.text.write_conflicts.Given as goal
-
-abbrev pub invariant-loop-conflict : goal.invariant-loop-conflict
-invariant-loop-conflict l = l.text.items ≡ l.fn.text.items ++ flat_map (conflict_line l.traces) (map plain_conflict_row (take l.conflict-index l.conflicts))
