@@ -7,10 +7,10 @@ use Rattle.ld_book.specs.Book.{sources_of}
 use Rattle.ld_book.specs.Rising.{AreRising}
 use Rattle.ld_work.proofs.EvenLemmas.{IfNone_then, uneven_moved}
 use Rattle.ld_work.proofs.even.uneven.Goals as goal
-use Rattle.ld_work.proofs.even.uneven.Goals.{After-first_uneven}
+use Rattle.ld_work.proofs.even.uneven.Goals.{After-drop-traces-inside}
 
 -- the traces in order are those of the book
-moved : (c : After-first_uneven) → IsPermutation (sources_of c.listed.result.now) c.args.book.now
+moved : (c : After-drop-traces-inside) → IsPermutation (sources_of c.listed.result.now) c.args.book.now
 moved c =
     IsPermutation-sym c.args.book.now (sources_of c.listed.result.now)
     (subst (IsPermutation c.args.book.now) (sym c.listed.ensures.sources) c.in_ok-traces.ensures.same)
