@@ -11,23 +11,21 @@ use Rattle.ld_report.proofs.labels.label.Goals as goal
 
 pub returns-in-Ok : goal.returns-in-Ok
 returns-in-Ok c =
-    let listed = c.listed.result.now in
+    let listed = c.listed-in_order.result.now in
     let number = c.args.number in
     let at = c.in-Ok.at in
-    let there = c.index.result.now in
-    let rising : AreRising (sources_of listed) = subst AreRising (sym c.listed.ensures.sources) c.listed.ensures.rising in
+    let rising : AreRising (sources_of listed) = subst AreRising (sym c.listed-in_order.ensures.sources) c.listed-in_order.ensures.rising in
     let found : (d : Listed) → nat_cmp (get_or listed at d).source.number number ≡ Equal =
     c.in-Ok.ensures.position (λ l. l.source.number) (answers_always _ _ _ (λ f a r g called. search rules)) in
     let within : at < length listed = c.in-Ok.ensures.bound in
-    ap (λ l. l.source.name.now) c.index.ensures
-    ∙ label-found listed rising number at there within (ranked (get_or listed at there).source.number number Equal (sym (found there)))
-    ∙ ap (λ sources. label_of_number sources number) c.listed.ensures.sources
+    label-found listed rising number at _ within (ranked _ number Equal (sym (found _)))
+    ∙ ap (λ sources. label_of_number sources number) c.listed-in_order.ensures.sources
 
 pub returns-in-Err : goal.returns-in-Err
 returns-in-Err c =
-    let listed = c.listed.result.now in
+    let listed = c.listed-in_order.result.now in
     let number = c.args.number in
-    let rising : AreRising (sources_of listed) = subst AreRising (sym c.listed.ensures.sources) c.listed.ensures.rising in
+    let rising : AreRising (sources_of listed) = subst AreRising (sym c.listed-in_order.ensures.sources) c.listed-in_order.ensures.rising in
     let parted : IsBinarySearchResult (λ l. nat_cmp l.source.number number) listed (Err c.in-Err.field-0) =
     c.in-Err.ensures.position (λ l. l.source.number) (answers_always _ _ _ (λ f a r g called. search rules)) in
-    label-absent listed rising number c.in-Err.field-0 parted ∙ ap (λ sources. label_of_number sources number) c.listed.ensures.sources
+    label-absent listed rising number c.in-Err.field-0 parted ∙ ap (λ sources. label_of_number sources number) c.listed-in_order.ensures.sources
