@@ -1,5 +1,5 @@
 //! Reads traces by several workers at once.
-ghost use Rattle.std.specs.Prelude.{◌≡◌, ◌≤◌, ◌<◌, ℕ, All, Err, IfOk, length, map};
+ghost use Rattle.std.specs.Prelude.{◌≡◌, ◌≤◌, ◌<◌, ℕ, All, Err, IfOk, OnOk, length, map};
 ghost use Rattle.ld_trace.specs.Sources.{AreNumbered, Fits, plain};
 ghost use Rattle.ld_work.specs.Work.{IsUneven, ListsEachOnce};
 
@@ -109,16 +109,53 @@ fn work_at<
     ensures { IfOk result (λ book. ListsEachOnce (map plain sources.now) book) }
 {
     let (desk, feeders) = Desk::<T, E>::new(alloc, traces, events, workers)?;
+    let fed = feed(rt, alloc, &desk, sources, gate, feeders);
+    let book = gathered(desk, fed)?;
+    settled(alloc, sources, &book)?;
+    Ok(book)
+}
+
+/// Lets each feeder add the traces of a worker to the desk's book, and gives the feeders back.
+///
+/// # Errors
+///
+/// `AllocError` where memory was refused, to a worker or for the feeders.
+fn feed<
+    'a,
+    T: Ledger + Send + Sync,
+    E: Ledger + Send + Sync,
+    G: Gate + Sync,
+    R: Threads + Wait + Sync,
+>(
+    rt: &R,
+    alloc: Global,
+    desk: &Desk<'a, T, E>,
+    sources: &[Source<'a>],
+    gate: &G,
+    feeders: Vec<Feeder<T, E>>,
+) -> Result<Vec<Feeder<T, E>>, AllocError>
+    requires some { 0 < length feeders.items }
+    requires few { length sources.now ≤ MOST_TRACES }
+    requires fit { All (λ source. Fits (plain source)) sources.now }
+    ensures { IfOk result (λ fed. length fed.items ≡ length feeders.items) }
+{
     let jobs = jobs_of(alloc, feeders)?;
-    let done = run(rt, alloc, &desk, sources, gate, jobs)?;
-    let (feeders, refused) = feeders_of(alloc, done)?;
-    let Ok(all) = desk.gather(feeders) else {
-        unreachable!()
-    };
-    if refused {
-        return Err(WorkFault::Memory);
+    let done = run(rt, alloc, desk, sources, gate, jobs)?;
+    feeders_of(alloc, done)
+}
+
+/// The book of a desk, all of whose feeders were given back, unless memory was refused.
+fn gathered<'a, T: Ledger, E: Ledger>(
+    desk: Desk<'a, T, E>,
+    fed: Result<Vec<Feeder<T, E>>, AllocError>,
+) -> Result<Book<'a>, AllocError>
+    requires { IfOk fed (λ feeders. length feeders.items ≡ desk) }
+{
+    let feeders = fed?;
+    match desk.gather(feeders) {
+        Ok(all) => Ok(all.book),
+        Err(_) => unreachable!(),
     }
-    settled(alloc, sources, all.book)
 }
 
 /// A job for each feeder.
@@ -208,12 +245,14 @@ fn submit<'a, T: Ledger, E: Ledger, R: Wait>(
     if is_refused { Err(AllocError) } else { Ok(()) }
 }
 
-/// The feeders of all workers, and whether one of them was refused memory.
+/// The feeders of all workers.
+///
+/// `AllocError` where one of them was refused memory, or memory for the feeders was.
 fn feeders_of<T: Ledger, E: Ledger>(
     alloc: Global,
     done: Vec<Done<T, E>>,
-) -> Result<(Vec<Feeder<T, E>>, bool), AllocError>
-    ensures { IfOk result (λ all. length all.0.items ≡ length done.items) }
+) -> Result<Vec<Feeder<T, E>>, AllocError>
+    ensures { IfOk result (λ feeders. length feeders.items ≡ length done.items) }
 {
     let mut feeders = Vec::new(alloc);
     let mut any_refused = false;
@@ -221,23 +260,26 @@ fn feeders_of<T: Ledger, E: Ledger>(
         feeders.push(feeder)?;
         any_refused |= refused;
     }
-    Ok((feeders, any_refused))
+    if any_refused {
+        Err(AllocError)
+    } else {
+        Ok(feeders)
+    }
 }
 
-/// The book, where it lists each source exactly once, as it stands, and nothing else.
+/// Answers Ok where the book lists each source exactly once, as it stands, and nothing else.
 ///
 /// # Errors
 ///
 /// `Memory` where memory was refused, and else `Uneven` with the number that tells it.
-fn settled<'a>(alloc: Global, sources: &[Source<'a>], book: Book<'a>) -> Result<Book<'a>, WorkFault>
+fn settled<'a>(alloc: Global, sources: &[Source<'a>], book: &Book<'a>) -> Result<(), WorkFault>
     requires { AreNumbered (map plain sources.now) }
-    ensures same { IfOk result (λ settled. settled ≡ book.entry) }
-    ensures even { IfOk result (λ settled. ListsEachOnce (map plain sources.now) settled) }
+    ensures even { OnOk result (ListsEachOnce (map plain sources.now) book.now) }
     ensures uneven { (number : ℕ) → result ≡ Err (WorkFault.Uneven number)
-        → IsUneven (map plain sources.now) book.entry number }
+        → IsUneven (map plain sources.now) book.now number }
 {
-    match uneven(alloc, sources, &book)? {
-        None => Ok(book),
+    match uneven(alloc, sources, book)? {
+        None => Ok(()),
         Some(number) => Err(WorkFault::Uneven(number)),
     }
 }
