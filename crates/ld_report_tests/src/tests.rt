@@ -79,6 +79,7 @@ fn traces_may_arrive_in_any_order(rt: HostRuntime) {
             let told = report(rt.alloc(), &book).expect(&rt, "a report");
             assert_eq!(rt; told.as_slice(), text, "in {order:?}");
             assert_eq!(rt; verdict_of(&book), verdict);
+            drop(book);
         }
     }
 }
@@ -92,6 +93,7 @@ fn a_book_without_traces_is_clean(rt: HostRuntime) {
         b"traces 0 refused 0 events 0 classes 0 dependencies 0\nclean\n".as_slice()
     );
     assert_eq!(rt; verdict_of(&book), Verdict::Clean);
+    drop(book);
 }
 
 // Where memory is, a report of thousands of bytes is told as well as a short one.
@@ -111,6 +113,7 @@ fn a_long_report_is_told(rt: HostRuntime) -> Result<(), Fail> {
     let book = book_of(&rt, rt.alloc(), stream.as_bytes(), &order);
     let told = report(rt.alloc(), &book).expect(&rt, "a report");
     assert_eq!(rt; told.as_slice(), text.as_bytes());
+    drop(book);
     Ok(())
 }
 
@@ -123,7 +126,9 @@ fn book_of<'a, R: Abort>(rt: &R, alloc: Global, stream: &'a [u8], order: &[usize
         let source = sources[*number];
         assert!(rt; source.fits());
         let shown = facts(alloc, source).expect(rt, "the facts of a trace");
-        assert!(rt; book.add(shown).is_ok());
+        let answer = book.add(shown);
+        assert!(rt; answer.is_ok());
+        drop(answer);
     }
     book
 }
