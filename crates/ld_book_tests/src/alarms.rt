@@ -28,7 +28,10 @@ const APART: &[u8] = b"trace a\ndisable t hard\nacquire t H\nacquire t U\n\
 
 /// The alarms of the book of a stream, whose traces are added in this order.
 fn alarms_of<'a, R: Abort>(rt: &R, alloc: Global, bytes: &'a [u8], order: &[usize]) -> Alarms<'a> {
-    book_of(rt, alloc, bytes, order).alarms()
+    let book = book_of(rt, alloc, bytes, order);
+    let alarms = book.alarms();
+    drop(book);
+    alarms
 }
 
 #[test]

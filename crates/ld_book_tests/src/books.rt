@@ -43,20 +43,39 @@ pub(crate) fn facts_of<'a, R: Abort>(
     }
 }
 
+/// Adds a trace that isn't listed. The facts come back where memory is refused.
+pub(crate) fn try_add<'a, R: Abort>(
+    rt: &R,
+    book: &mut Book<'a>,
+    facts: Facts<'a>,
+) -> Option<Facts<'a>> {
+    match book.add(facts) {
+        Ok(()) => None,
+        Err(Refusal::Memory(facts)) => Some(facts),
+        Err(Refusal::Twice(facts)) => {
+            assert!(rt; false);
+            Some(facts)
+        }
+    }
+}
+
+/// Adds a trace that isn't listed, where memory isn't refused.
+pub(crate) fn add_now<'a, R: Abort>(rt: &R, book: &mut Book<'a>, facts: Facts<'a>) {
+    let back = try_add(rt, book, facts);
+    assert!(rt; back.is_none());
+    drop(back);
+}
+
 /// Adds the trace of that number. Where memory is refused the facts come back, the book is as
 /// before, and the call made again answers `Ok`.
 fn add<'a, R: Abort>(rt: &R, alloc: Global, book: &mut Book<'a>, bytes: &'a [u8], number: usize) {
     let facts = facts_of(rt, alloc, bytes, number);
     let before = book.totals();
     let listed = book.listed().len();
-    match book.add(facts) {
-        Ok(()) => {}
-        Err(Refusal::Memory(facts)) => {
-            assert_eq!(rt; book.totals(), before);
-            assert_eq!(rt; book.listed().len(), listed);
-            assert!(rt; book.add(facts).is_ok());
-        }
-        Err(Refusal::Twice(_facts)) => assert!(rt; false),
+    if let Some(facts) = try_add(rt, book, facts) {
+        assert_eq!(rt; book.totals(), before);
+        assert_eq!(rt; book.listed().len(), listed);
+        add_now(rt, book, facts);
     }
 }
 

@@ -60,6 +60,8 @@ fn findings_are_refused_or_whole(rt: HostRuntime) {
     };
     expect_three_cycles(&rt, &findings);
     assert_eq!(rt; book.totals(), totals(3, 0, 6, 3, 3));
+    drop(findings);
+    drop(book);
 }
 
 #[test]
@@ -79,5 +81,7 @@ fn orders_classes_by_the_bytes_of_their_names(rt: HostRuntime) {
         for (row, name) in cycles.iter().zip(wanted) {
             assert_eq!(rt; (row.from, row.to), (*name, *name));
         }
+        drop(findings);
+        drop(book);
     }
 }

@@ -1,7 +1,7 @@
 //! Refused memory, and many traces.
 
-use crate::books::{NONE, THREE_TRACES, book_of, facts_of, totals};
-use ld_book::{Book, Refusal};
+use crate::books::{NONE, THREE_TRACES, add_now, book_of, facts_of, totals, try_add};
+use ld_book::Book;
 use ld_facts::facts;
 use ld_trace::split;
 
@@ -11,17 +11,15 @@ use ld_trace::split;
 fn a_refused_add_changes_nothing(rt: HostRuntime) {
     let mut book = book_of(&rt, rt.alloc(), THREE_TRACES, &[0]);
     let facts = facts_of(&rt, rt.alloc(), THREE_TRACES, 1);
-    if let Err(refusal) = book.add(facts) {
+    if let Some(facts) = try_add(&rt, &mut book, facts) {
         assert_eq!(rt; book.totals(), totals(1, 0, 2, 2, 1));
         assert_eq!(rt; book.edge(b"B", b"C"), None);
         assert!(rt; book.usage(b"C").is_none());
         assert_eq!(rt; book.alarms(), NONE);
-        match refusal {
-            Refusal::Memory(facts) => assert!(rt; book.add(facts).is_ok()),
-            Refusal::Twice(_facts) => assert!(rt; false),
-        }
+        add_now(&rt, &mut book, facts);
     }
     assert_eq!(rt; book.totals(), totals(2, 0, 4, 3, 2));
+    drop(book);
 }
 
 /// Only want of memory may keep a book from growing.
@@ -35,7 +33,8 @@ fn more_than_a_thousand_traces_are_listed(rt: HostRuntime) {
     for source in &sources {
         assert!(rt; source.fits());
         let facts = facts(rt.alloc(), *source).expect(&rt, "the facts of a trace");
-        assert!(rt; book.add(facts).is_ok());
+        add_now(&rt, &mut book, facts);
     }
     assert_eq!(rt; book.totals(), totals(1001, 0, 2002, 2, 1));
+    drop(book);
 }

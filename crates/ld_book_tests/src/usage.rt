@@ -28,6 +28,7 @@ fn expect_usage<'a, R: Abort>(
     for (name, wanted) in usage {
         assert_eq!(rt; told(book.usage(name)), *wanted);
     }
+    drop(book);
 }
 
 #[test]

@@ -22,7 +22,9 @@ fn told<'a, R: AllocGlobal + Abort>(rt: &R, bytes: &'a [u8]) -> Facts<'a> {
 }
 
 fn assert_outcome<R: AllocGlobal + Abort>(rt: &R, bytes: &[u8], outcome: Outcome) {
-    assert_eq!(rt; told(rt, bytes).outcome(), outcome);
+    let facts = told(rt, bytes);
+    assert_eq!(rt; facts.outcome(), outcome);
+    drop(facts);
 }
 
 fn assert_read<R: AllocGlobal + Abort>(rt: &R, bytes: &[u8], events: u64) {
@@ -33,11 +35,20 @@ fn assert_refused<R: AllocGlobal + Abort>(rt: &R, bytes: &[u8], line: u64, fault
     assert_outcome(rt, bytes, Outcome::Refused { line, fault });
 }
 
+/// Asserts how many classes and dependencies it has.
+fn assert_counts<R: AllocGlobal + Abort>(rt: &R, bytes: &[u8], classes: usize, edges: usize) {
+    let facts = told(rt, bytes);
+    assert_eq!(rt; facts.classes().len(), classes);
+    assert_eq!(rt; facts.edges().len(), edges);
+    drop(facts);
+}
+
 /// Asserts that these are its dependencies.
 fn assert_edges<R: AllocGlobal + Abort>(rt: &R, bytes: &[u8], edges: &[EdgeFact]) {
     let facts = told(rt, bytes);
     assert_eq!(rt; facts.edges().len(), edges.len());
     assert!(rt; edges.iter().all(|edge| facts.edges().contains(edge)));
+    drop(facts);
 }
 
 /// Asserts that these are its usage bits.
@@ -45,6 +56,7 @@ fn assert_usage<R: AllocGlobal + Abort>(rt: &R, bytes: &[u8], usage: &[UsageFact
     let facts = told(rt, bytes);
     assert_eq!(rt; facts.usage().len(), usage.len());
     assert!(rt; usage.iter().all(|used| facts.usage().contains(used)));
+    drop(facts);
 }
 
 fn edge(from: u32, to: u32, line: u64) -> EdgeFact {
@@ -59,7 +71,7 @@ fn used(class: u32, bit: Usage, line: u64) -> UsageFact {
 fn a_lock_released_out_of_order_is_no_source(rt: HostRuntime) {
     let bytes = b"acquire t A\nacquire t B\nrelease t A\nacquire t C\n";
     assert_read(&rt, bytes, 4);
-    assert_eq!(rt; told(&rt, bytes).classes().len(), 3);
+    assert_counts(&rt, bytes, 3, 2);
     assert_edges(&rt, bytes, &[edge(0, 1, 3), edge(1, 2, 5)]);
 }
 
@@ -100,8 +112,7 @@ fn a_trace_is_refused_at_its_first_fault(rt: HostRuntime) {
     assert_refused(&rt, bytes, 4, TraceFault::NotHeld);
     let bytes = b"acquire t A\nacquire t B\nlock t C\n";
     assert_refused(&rt, bytes, 4, TraceFault::BadVerb);
-    assert_eq!(rt; told(&rt, bytes).classes().len(), 0);
-    assert_edges(&rt, bytes, &[]);
+    assert_counts(&rt, bytes, 0, 0);
     assert_usage(&rt, bytes, &[]);
 }
 
@@ -240,7 +251,7 @@ fn a_task_holds_48_locks_at_most(rt: HostRuntime) -> Result<(), Fail> {
         text.push_str(format!(in rt.alloc(); "acquire t c{number}\n")?.as_str())?;
     }
     assert_read(&rt, text.as_bytes(), 48);
-    assert_eq!(rt; told(&rt, text.as_bytes()).edges().len(), 1128);
+    assert_counts(&rt, text.as_bytes(), 48, 1128);
     text.push_str("acquire t c49\n")?;
     assert_refused(&rt, text.as_bytes(), 50, TraceFault::TooDeep);
     Ok(())
@@ -274,6 +285,7 @@ fn a_refused_growth_is_told(rt: HostRuntime) -> Result<(), Fail> {
     assert_eq!(rt; facts.edges().len(), 1);
     assert!(rt; facts.edges().contains(&edge(0, 1, 3)));
     assert_eq!(rt; facts.usage().len(), 8);
+    drop(facts);
     Ok(())
 }
 

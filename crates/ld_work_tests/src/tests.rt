@@ -60,10 +60,12 @@ fn feed<'a, T: Ledger, E: Ledger, R: Wait + Abort>(
 ) -> Result<Feeder<T, E>, AllocError> {
     assert!(rt; source.fits());
     let facts = facts(alloc, source)?;
-    match desk.look(rt).submit(&mut feeder, facts) {
-        Ok(()) => {}
-        Err(Refusal::Memory(_)) => return Err(AllocError),
-        Err(Refusal::Twice(_)) => assert!(rt; false),
+    let answer = desk.look(rt).submit(&mut feeder, facts);
+    let is_refused = matches!(answer, Err(Refusal::Memory(_)));
+    assert!(rt; is_refused || answer.is_ok());
+    drop(answer);
+    if is_refused {
+        return Err(AllocError);
     }
     let mut look = desk.look(rt);
     look.covers(&mut feeder);
@@ -115,6 +117,7 @@ where
         assert!(rt; all.book.listed().iter().any(|trace| trace.source == source));
     }
     expect_inversion(rt, &all.book);
+    drop(all);
     Ok(())
 }
 
@@ -130,6 +133,7 @@ fn any_number_of_workers_gives_the_same(rt: HostRuntime) -> Result<(), Fail> {
     for workers in [1, 2, 16] {
         let book = work(&rt, rt.alloc(), &sources, workers, &NoGate).expect(&rt, "a book");
         expect_inversion(&rt, &book);
+        drop(book);
     }
     Ok(())
 }
@@ -148,6 +152,7 @@ fn workers_read_several_traces(rt: HostRuntime) -> Result<(), Fail> {
         assert_eq!(rt; book.edge(b"A", b"B"), witness(0, 3));
         assert_eq!(rt; book.edge(b"B", b"C"), witness(1, 6));
         assert_eq!(rt; book.edge(b"C", b"A"), witness(2, 9));
+        drop(book);
     }
     Ok(())
 }
@@ -167,6 +172,7 @@ where
     let book = work(rt, alloc, &sources, 2, &NoGate).expect(rt, "a book");
     assert_eq!(rt; book.totals().traces, traces);
     assert_eq!(rt; book.totals().events, events);
+    drop(book);
     Ok(())
 }
 
@@ -200,7 +206,10 @@ where
 {
     let sources = sources_of(alloc, INVERSION)?;
     match work(rt, alloc, &sources, workers, &NoGate) {
-        Ok(book) => expect_inversion(rt, &book),
+        Ok(book) => {
+            expect_inversion(rt, &book);
+            drop(book);
+        }
         Err(fault) => assert_eq!(rt; fault, WorkFault::Memory),
     }
     Ok(())
@@ -259,7 +268,7 @@ fn each_worker_passes_with_its_share(rt: HostRuntime) -> Result<(), Fail> {
             passed: [AtomicU64::new(0), AtomicU64::new(0), AtomicU64::new(0)],
             wrong: AtomicU64::new(0),
         };
-        work(&rt, rt.alloc(), &sources, workers, &gate).expect(&rt, "a book");
+        drop(work(&rt, rt.alloc(), &sources, workers, &gate).expect(&rt, "a book"));
         assert_eq!(rt; gate.wrong.load(Ordering::SeqCst), 0);
         for number in 0..3u64 {
             assert_eq!(rt; gate.times(number), 1);
@@ -302,5 +311,6 @@ fn two_workers_meet(rt: HostRuntime) -> Result<(), Fail> {
     let book = work(&rt, rt.alloc(), &sources, 2, &gate).expect(&rt, "a book");
     assert_eq!(rt; gate.met.load(Ordering::SeqCst), 1);
     expect_inversion(&rt, &book);
+    drop(book);
     Ok(())
 }

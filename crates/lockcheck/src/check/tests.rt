@@ -6,18 +6,15 @@ use crate::report::report;
 use crate::streams::{INVERSION, INVERSION_REPORT};
 use ld_trace::StreamFault;
 use ld_work::NoGate;
-use std::test::Fail;
 
 #[test]
-fn two_workers_meet(rt: HostRuntime) -> Result<(), Fail> {
+fn two_workers_meet(rt: HostRuntime) {
     let gate = Meeting::new();
     let checked = check(&rt, rt.alloc(), INVERSION, 2, &gate).expect(&rt, "a book");
     assert!(rt; gate.met());
-    assert_eq!(rt;
-        report(rt.alloc(), &checked.book)?.as_slice(),
-        INVERSION_REPORT
-    );
-    Ok(())
+    let text = report(rt.alloc(), &checked.book).expect(&rt, "a report");
+    assert_eq!(rt; text.as_slice(), INVERSION_REPORT);
+    drop(checked);
 }
 
 #[test]
