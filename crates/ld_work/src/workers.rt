@@ -111,8 +111,13 @@ fn work_at<
     let (desk, feeders) = Desk::<T, E>::new(alloc, traces, events, workers)?;
     let fed = feed(rt, alloc, &desk, sources, gate, feeders);
     let book = gathered(desk, fed)?;
-    settled(alloc, sources, &book)?;
-    Ok(book)
+    match settled(alloc, sources, &book) {
+        Ok(()) => Ok(book),
+        Err(fault) => {
+            drop(book);
+            Err(fault)
+        }
+    }
 }
 
 /// Lets each feeder add the traces of a worker to the desk's book, and gives the feeders back.
@@ -151,7 +156,13 @@ fn gathered<'a, T: Ledger, E: Ledger>(
 ) -> Result<Book<'a>, AllocError>
     requires { IfOk fed (λ feeders. length feeders.items ≡ desk) }
 {
-    let feeders = fed?;
+    let feeders = match fed {
+        Ok(feeders) => feeders,
+        Err(refusal) => {
+            drop(desk);
+            return Err(refusal);
+        }
+    };
     match desk.gather(feeders) {
         Ok(all) => Ok(all.book),
         Err(_) => unreachable!(),
