@@ -2,22 +2,19 @@
 use Rattle.std.proofs.Common.{◌≡◌, ◌≢◌, ◌⊎◌, inl, inr, ◌<◌, ◌++◌, ◌∷◌, [], ◌&&◌, List, ℕ, Bool, true, false, Option, Some, None, is_some, length, map}
 use Rattle.std.proofs.Common.{set, get_or, refl, sym, ap, subst, ◌∙◌, if◌then◌else◌, arith, All, AllPairs, Any}
 use Rattle.std.proofs.lemmas.Bool.{true≢false, and_parts, cases_eq, cases_order, false_from_ne_true}
-use Rattle.std.proofs.lemmas.Bool.Decides.{nat_tests}
 use Rattle.std.proofs.lemmas.Slice.Eq.{bytes_eq-Decides}
 use Rattle.std.proofs.lemmas.List.{get_or-map, get_or-take, get_or-set_same, get_or-set_other, get_or_append_left, get_or_default, length-map, length-set, length_push, map-set, map-append, set-get_or}
 use Rattle.std.proofs.lemmas.List.Elements.{All-push}
 use Rattle.std.proofs.lemmas.List.Quantifiers.{Any-push, all_pairs_push, any-set}
 use Rattle.std.proofs.lemmas.Option.{get_or_from_slice_get, slice_get_within}
-use Rattle.std.specs.Ordering.{is_lt, ord_min}
 use Rattle.std.specs.Str.{bytes_eq}
 use Rattle.ld_class.specs.Names.{IsNameAt, place_of}
 use Rattle.ld_class.proofs.NameLemmas.{place_of-None}
 use Rattle.ld_graph.specs.declared.Edge.{Edge}
 use Rattle.ld_graph.specs.Edges.{IsEdge, IsFirstPlace, Seen, edge}
 use Rattle.ld_rules.specs.declared.outcome.Witness.{Witness}
-use Rattle.ld_rules.specs.contracts.outcome.WitnessOrd.TheImpl.{cmp-value}
 use Rattle.ld_facts.specs.Dependency.{Dependency, same_dependency}
-use Rattle.ld_facts.specs.Union.{earlier, is_before}
+use Rattle.ld_facts.specs.Union.{earlier}
 use Rattle.ld_union.specs.declared.union.Witnessed.{Witnessed}
 use Rattle.ld_union.specs.Inner.Names.{IsLonger}
 use Rattle.ld_union.specs.Inner.Union.{AreNumbered, AreWitnessed, earlier_of, named_edge}
@@ -266,10 +263,3 @@ witnessed-longer classes more graph rows count is longer first witnessed = recor
     same k d within =
         let ends = ends_of_row classes graph rows is k d within in
         λ i. record { from = name (get_or rows k d).edge.from ends.0 i; to = name (get_or rows k d).edge.to ends.1 i }
-
--- the lesser of two witnesses, the known one where they are the same, is the earlier
-pub least_is_earlier : (known witness : Witness) → ord_min cmp-value.it known witness ≡ earlier known witness
-least_is_earlier known witness = ap (λ (b : Bool). if b then witness else known) tests
-  where
-    tests : is_lt (cmp-value.it witness known) ≡ is_before witness known
-    tests = grind (arith, nat_tests)

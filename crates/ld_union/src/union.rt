@@ -204,7 +204,7 @@ impl<'a> Union<'a> {
         match self.graph.edge(edge.from, edge.to) {
             Some(number) => {
                 let known = &mut self.dependencies[number as usize];
-                known.first = known.first.min(witness);
+                known.first = known.first.earlier(witness);
             }
             None => {
                 self.graph.insert(edge.from, edge.to);

@@ -41,7 +41,7 @@ impl UsageRow {
         let before = self.bits;
         let place = place_of(bit);
         let earliest = match self.first[place] {
-            Some(known) => known.min(witness),
+            Some(known) => known.earlier(witness),
             None => witness,
         };
         self.first[place] = Some(earliest);

@@ -3,7 +3,7 @@ use Rattle.std.proofs.lemmas.List.{get_or_read}
 use Rattle.ld_graph.specs.Edges.{with_edge}
 use Rattle.ld_facts.specs.Union.{earlier}
 use Rattle.ld_union.specs.declared.union.Witnessed.{Witnessed}
-use Rattle.ld_union.proofs.UnionLemmas.{found_row, least_is_earlier, numbered-pushed, numbered-set, witnessed-pushed, witnessed-set}
+use Rattle.ld_union.proofs.UnionLemmas.{found_row, numbered-pushed, numbered-set, witnessed-pushed, witnessed-set}
 use Rattle.ld_union.proofs.union.Union.note.Goals as goal
 
 pub returns-in-Some-clause-numbered : goal.returns-in-Some-clause-numbered
@@ -21,7 +21,7 @@ returns-in-Some-clause-noted c first witnessed =
     let at = found_row self.classes self.graph self.dependencies.items c.requires.numbered c.args.edge.from c.args.edge.to c.in-Some.number c.in-Some.ensures in
     witnessed-set self.classes self.graph self.dependencies.items c.requires.numbered c.in-Some.number c.args.edge at.0 at.1 _
     (ap (λ (row : Witnessed). row.edge) c.index_mut-known.ensures.value ∙ at.1 known) c.args.witness
-    (c.min-known.ensures ∙ least_is_earlier known.first c.args.witness ∙ ap (λ (row : Witnessed). earlier row.first c.args.witness)
+    (c.earlier-known.ensures ∙ ap (λ (row : Witnessed). earlier row.first c.args.witness)
     (get_or_read self.dependencies.items c.in-Some.number known at.0 c.index_mut-known.ensures.value _))
     first witnessed
 

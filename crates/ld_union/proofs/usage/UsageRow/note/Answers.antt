@@ -2,7 +2,6 @@ use Rattle.std.proofs.Common.{◌≡◌, ◌∙◌, None, Some, ap, get_or, set,
 use Rattle.ld_class.specs.Usage.{union}
 use Rattle.ld_facts.specs.Usage.{bit_of}
 use Rattle.ld_union.specs.Inner.Union.{earlier_of}
-use Rattle.ld_union.proofs.UnionLemmas.{least_is_earlier}
 use Rattle.ld_union.proofs.UsageLemmas.{row_then}
 use Rattle.ld_union.proofs.usage.UsageRow.note.Goals as goal
 use Rattle.ld_union.proofs.usage.UsageRow.note.Goals.{in-Some, in-None}
@@ -13,7 +12,7 @@ returns-clause-noted c first is =
     let place = c.place_of-place.result in
     let witness = c.args.witness in
     let least : Some c.match-self-place.earliest ≡ earlier_of (get_or row.first place None) (Some witness) = elim c.match-self-place.branch [
-      | in-Some w ↦ ap Some (w.earliest-is ∙ w.min-earliest.ensures ∙ least_is_earlier w.in-Some.known witness) ∙ ap (λ before. earlier_of before (Some witness)) (sym w.in-Some.is)
+      | in-Some w ↦ ap Some (w.earliest-is ∙ w.earlier-earliest.ensures) ∙ ap (λ before. earlier_of before (Some witness)) (sym w.in-Some.is)
       | in-None w ↦ ap Some w.earliest-is ∙ ap (λ before. earlier_of before (Some witness)) (sym w.in-None.is)
     ] in
     ap (λ bits. record { bits = bits; first = set row.first place (Some c.match-self-place.earliest) }) (c.bitor_assign.ensures.after ∙ ap (union row.bits) c.requires)
