@@ -29,6 +29,8 @@ use Rattle.ld_rules.specs.Inner.Levels.{is_interrupt, stack, state_of}
 use Rattle.ld_held.specs.Inner.Locks.{Hold}
 use Rattle.ld_rules.specs.Outcome.{class_acquired, classes, each_once, event_fault, events, is_bad_enable, is_bad_exit, is_badly_nested}
 use Rattle.ld_rules.specs.Outcome.{is_held_at_exit, is_masked, is_not_held, is_one_too_many, tasks}
+use Rattle.ld_facts.specs.declared.scan.Taking.{Taking}
+use Rattle.ld_facts.specs.declared.scan.Taking.TheVariants.{Trying, Waiting}
 use Rattle.ld_facts.specs.Inner.Reading.{AreMany, HasTask, IsAt, IsTask, IsWithin, acquisition, happens}
 use Rattle.ld_facts.specs.Facts.{named, named_use}
 use Rattle.ld_rules.specs.Usage.{uses_at, same_what}
@@ -48,21 +50,21 @@ use Rattle.ld_facts.proofs.UseLemmas.{in_facts-named, in_facts-within, named_use
 
 -- an acquisition is of its task and its lock
 module _ (name : List ℕ) (lock : PlainLock) where
-  pub acquired : (waits : Bool) → lock_acquired (acquisition waits name lock) ≡ Some lock
-  acquired false = refl
-  acquired true = refl
+  pub acquired : (how : Taking) → lock_acquired (acquisition how name lock) ≡ Some lock
+  acquired Trying = refl
+  acquired Waiting = refl
 
-  pub class-acquired : (waits : Bool) → class_acquired (acquisition waits name lock) ≡ Some lock.class
-  class-acquired false = refl
-  class-acquired true = refl
+  pub class-acquired : (how : Taking) → class_acquired (acquisition how name lock) ≡ Some lock.class
+  class-acquired Trying = refl
+  class-acquired Waiting = refl
 
-  pub task-acquired : (waits : Bool) → task_of (acquisition waits name lock) ≡ name
-  task-acquired false = refl
-  task-acquired true = refl
+  pub task-acquired : (how : Taking) → task_of (acquisition how name lock) ≡ name
+  task-acquired Trying = refl
+  task-acquired Waiting = refl
 
-  calm : (waits : Bool) → is_interrupt (acquisition waits name lock) ≡ false
-  calm false = refl
-  calm true = refl
+  calm : (how : Taking) → is_interrupt (acquisition how name lock) ≡ false
+  calm Trying = refl
+  calm Waiting = refl
 
 -- it has none of the later faults
 record NoLater (past : List PlainEvent) (event : PlainEvent) : Type 0 where
@@ -73,44 +75,44 @@ record NoLater (past : List PlainEvent) (event : PlainEvent) : Type 0 where
   holds_none : is_held_at_exit past event ≡ false
   enables : is_bad_enable past event ≡ false
 
-no-later : (past : List PlainEvent) (name : List ℕ) (lock : PlainLock) (waits : Bool) → NoLater past (acquisition waits name lock)
-no-later past name lock false = record { is_held = refl; nests = refl; unmasked = refl; exits = refl; holds_none = refl; enables = refl }
-no-later past name lock true = record { is_held = refl; nests = refl; unmasked = refl; exits = refl; holds_none = refl; enables = refl }
+no-later : (past : List PlainEvent) (name : List ℕ) (lock : PlainLock) (how : Taking) → NoLater past (acquisition how name lock)
+no-later past name lock Trying = record { is_held = refl; nests = refl; unmasked = refl; exits = refl; holds_none = refl; enables = refl }
+no-later past name lock Waiting = record { is_held = refl; nests = refl; unmasked = refl; exits = refl; holds_none = refl; enables = refl }
 
 -- the faults of an acquisition, in their order
-module _ (all : List Position) (old : Scan) (is : IsAt all old) (waits : Bool) (name : List ℕ) (lock : PlainLock) (fits : place_of old.tasks name ≡ None → length old.tasks < MOST_TASKS) where
-  tasks_fit : is_one_too_many MOST_TASKS (tasks (events all)) (task_of (acquisition waits name lock)) ≡ false
-  tasks_fit = rw (task-acquired name lock waits, ← is.tasks) (is_one_too_many-fits MOST_TASKS old.tasks name fits)
+module _ (all : List Position) (old : Scan) (is : IsAt all old) (how : Taking) (name : List ℕ) (lock : PlainLock) (fits : place_of old.tasks name ≡ None → length old.tasks < MOST_TASKS) where
+  tasks_fit : is_one_too_many MOST_TASKS (tasks (events all)) (task_of (acquisition how name lock)) ≡ false
+  tasks_fit = rw (task-acquired name lock how, ← is.tasks) (is_one_too_many-fits MOST_TASKS old.tasks name fits)
 
-  pub fault-classes : place_of old.classes lock.class ≡ None → MOST_CLASSES ≤ length old.classes → event_fault (events all) (acquisition waits name lock) ≡ Some TooManyClasses
+  pub fault-classes : place_of old.classes lock.class ≡ None → MOST_CLASSES ≤ length old.classes → event_fault (events all) (acquisition how name lock) ≡ Some TooManyClasses
   fault-classes new full =
       let many : is_one_too_many MOST_CLASSES (classes (events all)) lock.class ≡ true = rw (← is.classes) (is_one_too_many-full MOST_CLASSES old.classes lock.class new full is.few_classes) in
-      rw (tasks_fit, class-acquired name lock waits, many) refl
+      rw (tasks_fit, class-acquired name lock how, many) refl
 
   module _ (class_fits : place_of old.classes lock.class ≡ None → length old.classes < MOST_CLASSES) where
     classes_fit : is_one_too_many MOST_CLASSES (classes (events all)) lock.class ≡ false
     classes_fit = rw (← is.classes) (is_one_too_many-fits MOST_CLASSES old.classes lock.class class_fits)
 
-    pub fault-deep : length (held_by (events all) name) ≡ MOST_HELD → event_fault (events all) (acquisition waits name lock) ≡ Some TooDeep
+    pub fault-deep : length (held_by (events all) name) ≡ MOST_HELD → event_fault (events all) (acquisition how name lock) ≡ Some TooDeep
     fault-deep deep = rw (
       tasks_fit,
-      class-acquired name lock waits,
+      class-acquired name lock how,
       classes_fit,
-      acquired name lock waits,
-      task-acquired name lock waits,
+      acquired name lock how,
+      task-acquired name lock how,
       eq-eqb
           (length (held_by (events all) name)) MOST_HELD deep,
     ) refl
 
-    pub fault-none : length (held_by (events all) name) < MOST_HELD → event_fault (events all) (acquisition waits name lock) ≡ None
+    pub fault-none : length (held_by (events all) name) < MOST_HELD → event_fault (events all) (acquisition how name lock) ≡ None
     fault-none shallow =
-        let later = no-later (events all) name lock waits in
+        let later = no-later (events all) name lock how in
         rw (
           tasks_fit,
-          class-acquired name lock waits,
+          class-acquired name lock how,
           classes_fit,
-          acquired name lock waits,
-          task-acquired name lock waits,
+          acquired name lock how,
+          task-acquired name lock how,
           ne_eqb
               (length (held_by (events all) name)) MOST_HELD (λ same. omega arith),
           later.is_held,
@@ -190,11 +192,11 @@ module _ (all : List Position) (old : Scan) (is : IsAt all old) (name : List ℕ
   pub length-held : length (held_by (events all) name) ≡ length held_now
   length-held = sym (length-is old.classes held_now frames_now (events all) name before)
 
-  classes-now : (waits : Bool) → new.classes ≡ classes (events all ++ acquisition waits name lock ∷ [])
-  classes-now waits = enters.classes ∙ ap (λ ns. with_name ns lock.class) is.classes ∙ sym (classes-acquires (events all) (acquisition waits name lock) lock.class (class-acquired name lock waits))
+  classes-now : (how : Taking) → new.classes ≡ classes (events all ++ acquisition how name lock ∷ [])
+  classes-now how = enters.classes ∙ ap (λ ns. with_name ns lock.class) is.classes ∙ sym (classes-acquires (events all) (acquisition how name lock) lock.class (class-acquired name lock how))
 
   distinct : AreDistinct new.classes
-  distinct = subst AreDistinct (sym (classes-now true)) (distinct-classes (events all ++ Acquire name lock ∷ []))
+  distinct = subst AreDistinct (sym (classes-now Waiting)) (distinct-classes (events all ++ Acquire name lock ∷ []))
 
   -- the numbers of the classes that were held before are those of the same names now
   holds-now : (other : List Hold) → All (λ hold. IsNameAt old.classes hold.class hold.lock.class) other → All (λ hold. IsNameAt new.classes hold.class hold.lock.class) other
@@ -271,15 +273,15 @@ module _ (all : List Position) (old : Scan) (is : IsAt all old) (name : List ℕ
   used-now = subst (All (IsUse new.classes)) (sym enters.uses) (subst (λ names. All (IsUse names) old.uses) (sym enters.classes) (within_use-more old.classes lock.class old.uses is.used))
 
   -- the lock that is acquired counts under the flags of its task, which stay
-  ons-are : (waits : Bool) → map (named_use new.classes) ons ≡ map (at_line line)
-      (map (on_use Hard) (if is_enabled (events all ++ acquisition waits name lock ∷ []) name Hard then key ∷ [] else []) ++ map (on_use Soft)
-      (if is_enabled (events all ++ acquisition waits name lock ∷ []) name Soft then key ∷ [] else []))
-  ons-are waits =
+  ons-are : (how : Taking) → map (named_use new.classes) ons ≡ map (at_line line)
+      (map (on_use Hard) (if is_enabled (events all ++ acquisition how name lock ∷ []) name Hard then key ∷ [] else []) ++ map (on_use Soft)
+      (if is_enabled (events all ++ acquisition how name lock ∷ []) name Soft then key ∷ [] else []))
+  ons-are how =
       on_facts-named new.classes frames_now line (number ∷ []) (key ∷ []) (ap (λ class. class ∷ []) enters.class.1)
       ∙ (λ i. map (at_line line) (map (on_use Hard) (if enabled Hard i then key ∷ [] else []) ++ map (on_use Soft) (if enabled Soft i then key ∷ [] else [])))
     where
-      enabled : (state : State) → enabled_now state frames_now ≡ is_enabled (events all ++ acquisition waits name lock ∷ []) name state
-      enabled state = enabled-is old.classes held_now frames_now (events all) name before state ∙ sym (is_enabled-quiet (events all) (acquisition waits name lock) name state (calm name lock waits))
+      enabled : (state : State) → enabled_now state frames_now ≡ is_enabled (events all ++ acquisition how name lock ∷ []) name state
+      enabled state = enabled-is old.classes held_now frames_now (events all) name before state ∙ sym (is_enabled-quiet (events all) (acquisition how name lock) name state (calm name lock how))
 
   ins-are : map (named_use new.classes) ins ≡ map (at_line line) (uses_in (contexts (events all) name) (Some lock))
   ins-are =
@@ -289,14 +291,14 @@ module _ (all : List Position) (old : Scan) (is : IsAt all old) (name : List ℕ
   uses-tried : map (named_use new.classes) (fold with_use new.uses ons) ≡ each_once same_what (seen uses_at (all ++ happens line (Try name lock) ∷ []))
   uses-tried =
       uses-named new.classes distinct new.uses ons used-now ons-within
-      ∙ (λ i. fold (with_new same_what) (uses-now i) (ons-are false i))
+      ∙ (λ i. fold (with_new same_what) (uses-now i) (ons-are Trying i))
       ∙ sym (uses_once-push_new all (happens line (Try name lock)))
 
   uses-acquired : map (named_use new.classes) (fold with_use (fold with_use new.uses ins) ons) ≡ each_once same_what (seen uses_at (all ++ happens line (Acquire name lock) ∷ []))
   uses-acquired =
       uses-named new.classes distinct (fold with_use new.uses ins) ons (uses-within new.classes new.uses ins used-now ins-within) ons-within
       ∙ ap (λ known. fold (with_new same_what) known (map (named_use new.classes) ons)) (uses-named new.classes distinct new.uses ins used-now ins-within)
-      ∙ (λ i. fold (with_new same_what) (fold (with_new same_what) (uses-now i) (ins-are i)) (ons-are true i))
+      ∙ (λ i. fold (with_new same_what) (fold (with_new same_what) (uses-now i) (ins-are i)) (ons-are Waiting i))
       ∙ sym (with_uses-append line (uses_once all) (uses_in (contexts (events all) name) (Some lock))
       (map (on_use Hard) (if is_enabled (events all ++ Acquire name lock ∷ []) name Hard then key ∷ [] else []) ++ map (on_use Soft)
       (if is_enabled (events all ++ Acquire name lock ∷ []) name Soft then key ∷ [] else [])))
@@ -304,29 +306,29 @@ module _ (all : List Position) (old : Scan) (is : IsAt all old) (name : List ℕ
 
   -- The task.
 
-  own : (waits : Bool) → IsTask new.classes (held_now ++ top ∷ []) frames_now (events all ++ acquisition waits name lock ∷ []) name
-  own waits = record {
+  own : (how : Taking) → IsTask new.classes (held_now ++ top ∷ []) frames_now (events all ++ acquisition how name lock ∷ []) name
+  own how = record {
     locks = map-append (λ (hold : Hold). hold.lock) held_now (top ∷ []) ∙ ap (λ locks. locks ++ lock ∷ []) before.locks ∙ sym
         (ap (map (λ other. other.lock)) keys ∙ map-append (λ (other : Key). other.lock) (held_by (events all) name)
-        (record { task = task_of (acquisition waits name lock); frame = frame_of (events all) (task_of (acquisition waits name lock)); lock = lock } ∷ []));
+        (record { task = task_of (acquisition how name lock); frame = frame_of (events all) (task_of (acquisition how name lock)); lock = lock } ∷ []));
     classes = All-push (λ hold. IsNameAt new.classes hold.class hold.lock.class) held_now top (holds-now held_now before.classes) enters.class;
     states = before.states ∙ sym (ap (map state_of) quiet);
-    starts = before.starts ∙ sym (starts-kept (events all) (acquisition waits name lock) name quiet);
-    levels = λ state. before.levels state ∙ sym (levels-quiet (events all) (acquisition waits name lock) name state (calm name lock waits));
+    starts = before.starts ∙ sym (starts-kept (events all) (acquisition how name lock) name quiet);
+    levels = λ state. before.levels state ∙ sym (levels-quiet (events all) (acquisition how name lock) name state (calm name lock how));
   }
     where
-      none_entered : (Rattle.ld_rules.specs.Frames.enters (acquisition waits name lock) ≡ None) × (Rattle.ld_rules.specs.Frames.exits (acquisition waits name lock) ≡ None)
-      none_entered = enters_none (acquisition waits name lock) lock (acquired name lock waits)
+      none_entered : (Rattle.ld_rules.specs.Frames.enters (acquisition how name lock) ≡ None) × (Rattle.ld_rules.specs.Frames.exits (acquisition how name lock) ≡ None)
+      none_entered = enters_none (acquisition how name lock) lock (acquired name lock how)
 
-      quiet : stack (events all ++ (acquisition waits name lock) ∷ []) name ≡ stack (events all) name
-      quiet = stack-quiet (events all) name (acquisition waits name lock) none_entered.0 none_entered.1
+      quiet : stack (events all ++ (acquisition how name lock) ∷ []) name ≡ stack (events all) name
+      quiet = stack-quiet (events all) name (acquisition how name lock) none_entered.0 none_entered.1
 
-      own_task : bytes_eq name (task_of (acquisition waits name lock)) ≡ true
-      own_task = (bytes_eq-Decides name (task_of (acquisition waits name lock))).1 (sym (task-acquired name lock waits))
+      own_task : bytes_eq name (task_of (acquisition how name lock)) ≡ true
+      own_task = (bytes_eq-Decides name (task_of (acquisition how name lock))).1 (sym (task-acquired name lock how))
 
-      keys : held_by (events all ++ (acquisition waits name lock) ∷ []) name ≡ held_by (events all) name ++
-          record { task = task_of (acquisition waits name lock); frame = frame_of (events all) (task_of (acquisition waits name lock)); lock = lock } ∷ []
-      keys = held_by-acquires (events all) name (acquisition waits name lock) lock (acquired name lock waits) ∙ rw own_task refl
+      keys : held_by (events all ++ (acquisition how name lock) ∷ []) name ≡ held_by (events all) name ++
+          record { task = task_of (acquisition how name lock); frame = frame_of (events all) (task_of (acquisition how name lock)); lock = lock } ∷ []
+      keys = held_by-acquires (events all) name (acquisition how name lock) lock (acquired name lock how) ∙ rw own_task refl
 
   -- the scan with it, and with these dependencies and usage bits
   abbrev with_top : List EdgeFact → List UsageFact → Scan
@@ -344,25 +346,25 @@ module _ (all : List Position) (old : Scan) (is : IsAt all old) (name : List ℕ
   same : slice_index_or (slice_set new.locks.stacks id (held_now ++ top ∷ [])) id [] ≡ held_now ++ top ∷ []
   same = get_or-set_same new.locks.stacks id (held_now ++ top ∷ []) [] inside
 
-  acquired-by : (waits : Bool) (edges : List EdgeFact) (uses : List UsageFact) → length held_now < MOST_HELD → map (named new.classes) edges ≡
-      each_once same_seen (seen dependencies_at (all ++ happens line (acquisition waits name lock) ∷ [])) → All (IsWithin new.classes) edges → map
-      (named_use new.classes) uses ≡ each_once same_what (seen uses_at (all ++ happens line (acquisition waits name lock) ∷ [])) → All
-      (IsUse new.classes) uses → IsAt (all ++ happens line (acquisition waits name lock) ∷ []) (with_top edges uses)
-  acquired-by waits edges uses room shown within counted used =
-      moved-at all old (acquisition waits name lock) line id (with_top edges uses) is (record {
-        fault = fault-none all old is waits name lock enters.fits enters.few_classes (omega (arith, room, length-held));
+  acquired-by : (how : Taking) (edges : List EdgeFact) (uses : List UsageFact) → length held_now < MOST_HELD → map (named new.classes) edges ≡
+      each_once same_seen (seen dependencies_at (all ++ happens line (acquisition how name lock) ∷ [])) → All (IsWithin new.classes) edges → map
+      (named_use new.classes) uses ≡ each_once same_what (seen uses_at (all ++ happens line (acquisition how name lock) ∷ [])) → All
+      (IsUse new.classes) uses → IsAt (all ++ happens line (acquisition how name lock) ∷ []) (with_top edges uses)
+  acquired-by how edges uses room shown within counted used =
+      moved-at all old (acquisition how name lock) line id (with_top edges uses) is (record {
+        fault = fault-none all old is how name lock enters.fits enters.few_classes (omega (arith, room, length-held));
         tasks = enters.tasks ∙ ap (with_name old.tasks) (sym own_task);
         place = subst (IsNameAt new.tasks id) (sym own_task) enters.place;
         fits = subst (λ task. place_of old.tasks task ≡ None → length old.tasks < MOST_TASKS) (sym own_task) enters.fits;
         many = (length-set new.locks.stacks id (held_now ++ top ∷ []) ∙ enters.many.0, enters.many.1);
-        classes = classes-now waits;
+        classes = classes-now how;
         few_classes = subst (λ (names : List (List ℕ)). length names ≤ MOST_CLASSES) (sym enters.classes) (with_name-few MOST_CLASSES old.classes lock.class enters.few_classes is.few_classes);
         stays = λ n other at. subst (λ names. IsNameAt names n other) (sym enters.classes) (IsNameAt-more old.classes lock.class n other at);
         stacks = λ k apart. get_or-set_other new.locks.stacks id k (held_now ++ top ∷ []) [] apart ∙ enters.stacks k;
         interrupts = λ k apart. enters.interrupts k;
         own =
-            subst (λ held. IsTask new.classes held frames_now (events all ++ acquisition waits name lock ∷ []) (task_of (acquisition waits name lock))) (sym same)
-            (subst (IsTask new.classes (held_now ++ top ∷ []) frames_now (events all ++ acquisition waits name lock ∷ [])) (sym own_task) (own waits));
+            subst (λ held. IsTask new.classes held frames_now (events all ++ acquisition how name lock ∷ []) (task_of (acquisition how name lock))) (sym same)
+            (subst (IsTask new.classes (held_now ++ top ∷ []) frames_now (events all ++ acquisition how name lock ∷ [])) (sym own_task) (own how));
         shallow = omega (arith, ap length same, length-append held_now (top ∷ []), room);
         edges = shown;
         within = within;
@@ -370,13 +372,13 @@ module _ (all : List Position) (old : Scan) (is : IsAt all old) (name : List ℕ
         used = used;
       })
     where
-      own_task : task_of (acquisition waits name lock) ≡ name
-      own_task = task-acquired name lock waits
+      own_task : task_of (acquisition how name lock) ≡ name
+      own_task = task-acquired name lock how
 
   pub tried-at : length held_now < MOST_HELD → IsAt (all ++ happens line (Try name lock) ∷ []) (with_top new.locks.edges (fold with_use new.uses ons))
-  tried-at room = acquired-by false new.locks.edges (fold with_use new.uses ons) room edges-untold within-now uses-tried (uses-within new.classes new.uses ons used-now ons-within)
+  tried-at room = acquired-by Trying new.locks.edges (fold with_use new.uses ons) room edges-untold within-now uses-tried (uses-within new.classes new.uses ons used-now ons-within)
 
   pub acquired-at : length held_now < MOST_HELD → IsAt (all ++ happens line (Acquire name lock) ∷ []) (with_top told_edges (fold with_use (fold with_use new.uses ins) ons))
   acquired-at room =
-      acquired-by true told_edges (fold with_use (fold with_use new.uses ins) ons) room edges-told within-told uses-acquired
+      acquired-by Waiting told_edges (fold with_use (fold with_use new.uses ins) ons) room edges-told within-told uses-acquired
       (uses-within new.classes (fold with_use new.uses ins) ons (uses-within new.classes new.uses ins used-now ins-within) ons-within)

@@ -26,6 +26,8 @@ use Rattle.ld_held.specs.Inner.Interrupts.{fresh, levels_of, starts_of, states_o
 use Rattle.ld_rules.specs.Inner.Levels.{levels, stack, starts_in, state_of}
 use Rattle.ld_held.specs.Inner.Locks.{Hold}
 use Rattle.ld_rules.specs.Outcome.{is_one_too_many, event_fault, events, tasks}
+use Rattle.ld_facts.specs.declared.scan.Taking.{Taking}
+use Rattle.ld_facts.specs.declared.scan.Taking.TheVariants.{Trying, Waiting}
 use Rattle.ld_facts.specs.Inner.Reading.{IsAt, IsTask, acquisition}
 use Rattle.ld_rules.proofs.PlaceLemmas.{alike_from_decides, any_each_once, by_pushes}
 use Rattle.ld_rules.proofs.FlagLemmas.{levels-other, stack-other, states-other}
@@ -177,10 +179,10 @@ scan_too_many_tasks all scan e is_at new full =
     too_many_tasks (events all) e (ap (λ ns. is_one_too_many MOST_TASKS ns (task_of e)) (sym is_at.tasks) ∙ is_one_too_many-full MOST_TASKS scan.tasks (task_of e) new full is_at.few_tasks)
 
 -- the same of an acquisition
-pub acquisition_too_many_tasks : (all : List Position) (scan : Scan) (waits : Bool) (name : List ℕ) (lock : PlainLock) → IsAt all scan → place_of
-    scan.tasks name ≡ None → MOST_TASKS ≤ length scan.tasks → event_fault (events all) (acquisition waits name lock) ≡ Some TooManyTasks
-acquisition_too_many_tasks all scan false name lock is_at new full = scan_too_many_tasks all scan (Try name lock) is_at new full
-acquisition_too_many_tasks all scan true name lock is_at new full = scan_too_many_tasks all scan (Acquire name lock) is_at new full
+pub acquisition_too_many_tasks : (all : List Position) (scan : Scan) (how : Taking) (name : List ℕ) (lock : PlainLock) → IsAt all scan → place_of
+    scan.tasks name ≡ None → MOST_TASKS ≤ length scan.tasks → event_fault (events all) (acquisition how name lock) ≡ Some TooManyTasks
+acquisition_too_many_tasks all scan Trying name lock is_at new full = scan_too_many_tasks all scan (Try name lock) is_at new full
+acquisition_too_many_tasks all scan Waiting name lock is_at new full = scan_too_many_tasks all scan (Acquire name lock) is_at new full
 
 -- one that has not
 pub scan_not_too_many_tasks : (all : List Position) (scan : Scan) (name : List ℕ) → IsAt all scan →

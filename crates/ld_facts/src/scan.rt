@@ -37,6 +37,15 @@ impl From<AllocError> for Stop {
     }
 }
 
+/// How a lock is taken.
+#[derive(Clone, Copy)]
+pub enum Taking {
+    /// The task may have waited.
+    Waiting,
+    /// It took the lock only because that was free.
+    Trying,
+}
+
 /// What the events of a trace so far leave.
 #[derive(Drop)]
 pub struct Scan<'a> {
@@ -79,8 +88,8 @@ impl<'a> Scan<'a> {
             event_fault (events all) (plain_event event.entry) ≡ Some fault }
     {
         match event {
-            Event::Acquire { task, lock } => self.acquire(task, lock, line, true),
-            Event::Try { task, lock } => self.acquire(task, lock, line, false),
+            Event::Acquire { task, lock } => self.acquire(task, lock, line, Taking::Waiting),
+            Event::Try { task, lock } => self.acquire(task, lock, line, Taking::Trying),
             Event::Release { task, lock } => self.release(task, lock),
             Event::Enter { task, state } => self.enter(task, state),
             Event::Exit { task, state } => self.exit(task, state, line),
@@ -89,23 +98,23 @@ impl<'a> Scan<'a> {
         }
     }
 
-    /// An acquisition, which may have waited or not.
+    /// An acquisition.
     fn acquire(
         &mut self,
         task: &'a [u8],
         lock: Lock<'a>,
         line: u64,
-        waits: bool,
+        how: Taking,
     ) -> Result<(), Stop>
         requires many { AreMany self.old }
         ensures many { OnOk result (AreMany self.new) }
         ensures ok { OnOk result ((all : List Position) → IsAt all self.old →
             IsAt (all ++
-            happens line (acquisition waits task.entry.now (plain_lock lock.entry)) ∷ [])
+            happens line (acquisition how task.entry.now (plain_lock lock.entry)) ∷ [])
             self.new) }
         ensures fault { (fault : TraceFault) → result ≡ Err (Stop.Fault fault) →
             (all : List Position) → IsAt all self.old →
-            event_fault (events all) (acquisition waits task.entry.now (plain_lock lock.entry))
+            event_fault (events all) (acquisition how task.entry.now (plain_lock lock.entry))
             ≡ Some fault }
     {
         let task = self.task(task)?;
@@ -113,8 +122,9 @@ impl<'a> Scan<'a> {
         if self.locks.held(task).len() >= MOST_HELD {
             return Err(Stop::Fault(TraceFault::TooDeep));
         }
-        if waits {
-            self.wait(task, class, line)?;
+        match how {
+            Taking::Waiting => self.wait(task, class, line)?,
+            Taking::Trying => {}
         }
         self.take(task, class, lock, line)?;
         Ok(())

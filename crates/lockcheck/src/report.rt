@@ -49,7 +49,9 @@ pub fn report_of<G: Gate + Sync, R: Threads + Wait + Sync>(
         stream_fault bytes.now ≡ Some fault }
 {
     let checked = check(rt, alloc, bytes, workers, gate)?;
-    report_on(alloc, &checked.book)
+    let report = report_on(alloc, &checked.book);
+    drop(checked);
+    report
 }
 
 /// The report of the traces that a book lists, with what it comes to.

@@ -12,6 +12,8 @@ use Rattle.ld_held.specs.declared.edges.EdgeFact.{EdgeFact}
 use Rattle.ld_rules.specs.declared.outcome.TheConstants.{MOST_CLASSES, MOST_HELD, MOST_TASKS}
 use Rattle.ld_held.specs.declared.interrupts.Interrupts.{Interrupts}
 use Rattle.ld_facts.specs.declared.scan.Scan.{Scan}
+use Rattle.ld_facts.specs.declared.scan.Taking.{Taking}
+use Rattle.ld_facts.specs.declared.scan.Taking.TheVariants.{Trying, Waiting}
 use Rattle.ld_facts.specs.Facts.{named, named_use}
 use Rattle.ld_held.specs.Inner.Edges.{edge_to, with_edge}
 use Rattle.ld_held.specs.Inner.Interrupts.{fresh, levels_of, start_now, starts_of, states_of}
@@ -78,10 +80,10 @@ pub record HasTask (old : Scan) (name : List ℕ) (id : ℕ) (new : Scan) : Type
 abbrev pub happens : ℕ → PlainEvent → Position
 happens line event = record { line = line; says = Ok event }
 
--- an acquisition, which may have waited or not
-abbrev pub acquisition : Bool → List ℕ → PlainLock → PlainEvent
-acquisition true task lock = Acquire task lock
-acquisition false task lock = Try task lock
+-- an acquisition by this way of taking a lock
+abbrev pub acquisition : Taking → List ℕ → PlainLock → PlainEvent
+acquisition Waiting task lock = Acquire task lock
+acquisition Trying task lock = Try task lock
 
 -- the scan when the task waits at this line for a lock of the class with this number: the
 -- dependencies are told, and the class is used in the task's contexts

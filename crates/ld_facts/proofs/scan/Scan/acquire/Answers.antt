@@ -15,7 +15,7 @@ use Rattle.ld_held.specs.Inner.Locks.{hold_of}
 use Rattle.ld_facts.specs.Inner.Reading.{IsAt, acquisition, happens, taken}
 use Rattle.ld_held.specs.Inner.Stacks.{plain_held}
 use Rattle.ld_facts.proofs.AcquireLemmas.{acquired-at, entered, fault-classes, fault-deep, length-held, tried-at}
-use Rattle.ld_facts.proofs.scan.Scan.acquire.Goals.{then-waits+in_ok-wait, else-waits}
+use Rattle.ld_facts.proofs.scan.Scan.acquire.Goals.{in-Waiting+in_ok-wait-in-Waiting, in-Trying}
 use Rattle.ld_facts.proofs.scan.Scan.acquire.Goals as goal
 
 pub returns-in_err-task-clause-fault : goal.returns-in_err-task-clause-fault
@@ -24,7 +24,7 @@ returns-in_err-task-clause-fault c fault is all is_at =
     let p = err_from_is_err_and c.from_residual.result c.from_residual.ensures.1 in
     let same : c.in_err-task.field-0.0 ≡ Fault fault = cc (p.1, p.2, is) in
     let at = h (ap Err same) in
-    acquisition_too_many_tasks all c.args.self.now c.args.waits c.args.task.now (plain_lock c.args.lock) is_at at.1 at.2 ∙ ap Some (sym at.0)
+    acquisition_too_many_tasks all c.args.self.now c.args.how c.args.task.now (plain_lock c.args.lock) is_at at.1 at.2 ∙ ap Some (sym at.0)
 
 pub returns-in_err-class-clause-fault : goal.returns-in_err-class-clause-fault
 returns-in_err-class-clause-fault c fault is all is_at =
@@ -35,7 +35,7 @@ returns-in_err-class-clause-fault c fault is all is_at =
     let same = c.in_ok-task.ensures.task.classes in
     let new : place_of c.args.self.now.classes c.args.lock.class.now ≡ None = ap (λ names. place_of names c.args.lock.class.now) (sym same) ∙ why.1 in
     let full : MOST_CLASSES ≤ length c.args.self.now.classes = subst (λ (names : List (List ℕ)). MOST_CLASSES ≤ length names) same why.2 in
-    fault-classes all c.args.self.now is_at c.args.waits c.args.task.now (plain_lock c.args.lock) c.in_ok-task.ensures.task.fits new full ∙ ap Some (sym why.0)
+    fault-classes all c.args.self.now is_at c.args.how c.args.task.now (plain_lock c.args.lock) c.in_ok-task.ensures.task.fits new full ∙ ap Some (sym why.0)
 
 pub returns-then-held-ge-MOST_HELD-clause-fault : goal.returns-then-held-ge-MOST_HELD-clause-fault
 returns-then-held-ge-MOST_HELD-clause-fault c fault is all is_at =
@@ -46,25 +46,25 @@ returns-then-held-ge-MOST_HELD-clause-fault c fault is all is_at =
     let long : length (get_or c.class.new.self.locks.stacks id []) ≡ length c.held.result.now = ap length (sym c.held.ensures) ∙ length-map
     c.held.result.now (λ (held : Held). hold_of (plain_held held)) in
     let same : TooDeep ≡ fault = cc in
-    fault-deep all c.args.self.now is_at c.args.waits c.args.task.now (plain_lock c.args.lock) enters.fits enters.few_classes
+    fault-deep all c.args.self.now is_at c.args.how c.args.task.now (plain_lock c.args.lock) enters.fits enters.few_classes
     (omega (arith, held, long, c.if-held-ge-MOST_HELD.true, ap length (enters.stacks id), is_at.shallow id)) ∙ ap Some same
 
 pub returns-clause-ok : goal.returns-clause-ok
 returns-clause-ok c all is_at =
-    subst (IsAt (all ++ happens c.args.line (acquisition c.args.waits c.args.task.now (plain_lock c.args.lock)) ∷ [])) (sym c.in_ok-take.ensures)
-    (elim c.if-waits.branch [
-      | then-waits+in_ok-wait w ↦
-          subst (λ waits. IsAt (all ++ happens c.args.line (acquisition waits c.args.task.now (plain_lock c.args.lock)) ∷ [])
-          (taken c.if-waits.self c.in_ok-task.task c.in_ok-class.class (plain_lock c.args.lock) c.args.line)) (sym w.if-waits.true)
+    subst (IsAt (all ++ happens c.args.line (acquisition c.args.how c.args.task.now (plain_lock c.args.lock)) ∷ [])) (sym c.in_ok-take.ensures)
+    (elim c.match-how.branch [
+      | in-Waiting+in_ok-wait-in-Waiting w ↦
+          subst (λ how. IsAt (all ++ happens c.args.line (acquisition how c.args.task.now (plain_lock c.args.lock)) ∷ [])
+          (taken c.match-how.self c.in_ok-task.task c.in_ok-class.class (plain_lock c.args.lock) c.args.line)) (sym w.in-Waiting.is)
           (subst (λ (scan : Scan). IsAt (all ++ happens c.args.line (Acquire c.args.task.now (plain_lock c.args.lock)) ∷ [])
-          (taken scan c.in_ok-task.task c.in_ok-class.class (plain_lock c.args.lock) c.args.line)) (sym (w.self-is ∙ w.in_ok-wait.ensures))
+          (taken scan c.in_ok-task.task c.in_ok-class.class (plain_lock c.args.lock) c.args.line)) (sym (w.self-is ∙ w.in_ok-wait-in-Waiting.ensures))
           (acquired-at all c.args.self.now is_at c.args.task.now (plain_lock c.args.lock) c.args.line c.in_ok-task.task c.in_ok-class.class c.class.new.self
           (entered c.args.self.now c.task.new.self c.class.new.self c.args.task.now c.args.lock.class.now c.in_ok-task.task c.in_ok-class.class
           c.in_ok-task.ensures.task c.class.ensures.others c.in_ok-class.ensures.classes c.in_ok-class.ensures.place c.in_ok-class.ensures.fits)
           (omega (arith, ap length (sym c.held.ensures), length-map c.held.result.now (λ (held : Held). hold_of (plain_held held)), c.if-held-ge-MOST_HELD.false))))
-      | else-waits w ↦
-          subst (λ waits. IsAt (all ++ happens c.args.line (acquisition waits c.args.task.now (plain_lock c.args.lock)) ∷ [])
-          (taken c.if-waits.self c.in_ok-task.task c.in_ok-class.class (plain_lock c.args.lock) c.args.line)) (sym w.if-waits.false)
+      | in-Trying w ↦
+          subst (λ how. IsAt (all ++ happens c.args.line (acquisition how c.args.task.now (plain_lock c.args.lock)) ∷ [])
+          (taken c.match-how.self c.in_ok-task.task c.in_ok-class.class (plain_lock c.args.lock) c.args.line)) (sym w.in-Trying.is)
           (subst (λ (scan : Scan). IsAt (all ++ happens c.args.line (Try c.args.task.now (plain_lock c.args.lock)) ∷ [])
           (taken scan c.in_ok-task.task c.in_ok-class.class (plain_lock c.args.lock) c.args.line)) (sym w.self-is)
           (tried-at all c.args.self.now is_at c.args.task.now (plain_lock c.args.lock) c.args.line c.in_ok-task.task c.in_ok-class.class c.class.new.self
