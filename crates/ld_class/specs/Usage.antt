@@ -4,7 +4,7 @@ use Rattle.std.specs.Prelude.{ℕ, Bool, true, false, ◌==◌, List, ◌++◌, 
 use Rattle.std.specs.Int.RustNames.{bit_and, bit_or}
 use Rattle.ld_class.specs.declared.usage.Usage.{Usage}
 
--- acquired with a hard interrupt handler open
+-- acquired, and not by a trylock, with a hard interrupt handler open
 abbrev pub in_hard : Usage
 in_hard = record { 0 = 1 }
 
@@ -12,7 +12,7 @@ in_hard = record { 0 = 1 }
 abbrev pub on_hard : Usage
 on_hard = record { 0 = 2 }
 
--- acquired with a soft interrupt handler open
+-- acquired, and not by a trylock, with a soft interrupt handler open
 abbrev pub in_soft : Usage
 in_soft = record { 0 = 4 }
 

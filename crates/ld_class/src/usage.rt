@@ -7,8 +7,8 @@ use bitflags::{Flag, Flags};
 use std::ops::{BitOr, BitOrAssign};
 
 /// A set of the usage bits of a lock class. For each of the states hard and soft there are two
-/// bits: IN, a lock of the class was acquired with an interrupt handler of that state open, and ON,
-/// one was held where such a handler could interrupt.
+/// bits: IN, a lock of the class was acquired, and not by a trylock, with an interrupt handler of that
+/// state open, and ON, one was held where such a handler could interrupt.
 ///
 /// The operations on sets are those of [`Flags`].
 #[derive(Clone, Copy, PartialEq, Eq, Debug)]

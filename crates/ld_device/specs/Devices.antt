@@ -13,11 +13,12 @@ pub record Device (T : Type 0) : Type 0 where
   -- the last call of `write` or `flush` was a flush that answered Ok
   pub flushed : Bool
 
--- no call failed, and the end is not found yet
+-- no call failed, the end is not found yet, and the last call was no flush
 pub record IsFresh {T : Type 0} (device : Device T) : Type 0 where
   pub read_well : device.read_failed ≡ false
   pub open_yet : device.ended ≡ false
   pub wrote_well : device.write_failed ≡ false
+  pub unflushed : device.flushed ≡ false
 
 -- a read into a buffer with room answered 0
 abbrev pub finds_end : {E : Type 0} → Result ℕ E → List ℕ → Bool

@@ -12,6 +12,8 @@ use std::alloc::{AllocError, Global};
 /// The most bytes that are read of an input: one more than the longest stream has.
 pub const MOST_READ: usize = LONGEST_STREAM + 1;
 
+const _: () = prove!(MOST_READ == (1 << 31) + 1);
+
 // How many bytes one read asks for.
 const CHUNK: usize = 65_536;
 
@@ -70,7 +72,12 @@ fn read_more<I: Input>(
 }
 
 /// Reads the input to its end, or its first `MOST_READ` bytes where it has more than the longest
-/// stream. A read that fails is not tried again.
+/// stream. A read that fails is not tried again. May wait.
+///
+/// # Errors
+///
+/// `Read` exactly where a read failed, and `Memory` where a growth of memory was refused. What was read
+/// until then is lost.
 pub fn read_all<I: Input>(alloc: Global, input: &mut I) -> Result<Vec<u8>, ReadFault>
     requires sound { I.read_failed input.old ≡ false }
     requires open { I.has_ended input.old ≡ false }
@@ -91,7 +98,13 @@ pub fn read_all<I: Input>(alloc: Global, input: &mut I) -> Result<Vec<u8>, ReadF
     Ok(all)
 }
 
-/// Writes the whole text and flushes it. A write or flush that fails is not tried again.
+/// Writes the whole text and flushes it. A write or flush that fails is not tried again. May wait.
+/// Takes no memory.
+///
+/// # Errors
+///
+/// `DeviceFault` exactly where a write or the flush failed, a write that took nothing among them. A
+/// first part of the text was written then, the whole text where the flush failed.
 pub fn send<O: Output>(output: &mut O, text: &[u8]) -> Result<(), DeviceFault>
     requires { O.write_failed output.old ≡ false }
 

@@ -69,7 +69,7 @@ impl Graph {
         }
     }
 
-    /// The number of classes.
+    /// The number of classes. Takes no memory.
     pub fn len(&self) -> usize
         ensures count { result ≡ self.now.classes }
         ensures few { result ≤ MOST_CLASSES }
@@ -77,7 +77,7 @@ impl Graph {
         self.levels.len()
     }
 
-    /// The number of edges.
+    /// The number of edges. Takes no memory.
     pub fn edges(&self) -> u64
         ensures count { result ≡ length self.now.edges }
         ensures ends { (a b : ℕ) → IsEdge self.now.edges a b
@@ -88,14 +88,14 @@ impl Graph {
         self.edges.len() as u64
     }
 
-    /// How many classes can be added without taking memory.
+    /// How many classes can be added without taking memory. Takes none itself.
     pub fn spare_classes(&self) -> usize
         ensures { result ≡ self.now.spare_classes }
     {
         self.spare_classes
     }
 
-    /// How many edges can be inserted without taking memory.
+    /// How many edges can be inserted without taking memory. Takes none itself.
     pub fn spare_edges(&self) -> usize
         ensures { result ≡ self.now.spare_edges }
     {
@@ -146,6 +146,7 @@ impl Graph {
     }
 
     /// The edge's number in order of insertion, from 0 on, or `None` where there is no such edge.
+    /// Takes no memory.
     pub fn edge(&self, a: u32, b: u32) -> Option<u64>
         ensures { MatchOption result (¬ IsEdge self.now.edges a b)
             (IsFirstPlace self.now.edges a b) }
@@ -266,6 +267,7 @@ impl Graph {
     }
 
     /// Whether there is a walk of at least one edge from the class that was searched from to `c`.
+    /// Takes no memory.
     pub fn found(&self, c: u32) -> bool
         requires class { c < self.now.classes }
         requires searched { IsSome self.now.searched }

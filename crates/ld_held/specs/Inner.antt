@@ -1,4 +1,5 @@
--- What only invariants, private functions and proofs cite: a reader of the promises needs none of it.
+-- What invariants and proofs cite, and what the calls of ld_held say to ld_facts: a reader of the
+-- promises needs none of it.
 pub mod Stacks
 pub mod Chains
 pub mod Edges

@@ -1,4 +1,4 @@
-//! Chains of classes: the lists of the classes that a task holds, in order of acquisition.
+//! Chains of classes: the lists of the classes that a task holds in a frame, in order of acquisition.
 ghost use Rattle.std.specs.Prelude.{◌≡◌, ◌<◌, ◌≤◌, ℕ, [], ◌∷◌, ◌++◌, length, slice_index_or, IfOk};
 ghost use Rattle.std.specs.Prelude.{IfSome, OnErr, OnOk};
 ghost use Rattle.std.specs.List.{list_any};

@@ -27,6 +27,8 @@ struct Pair {
 }
 
 /// Dependencies, each pair of classes once, with the line that was told first.
+///
+/// A call answers `AllocError` where a growth of memory was refused.
 #[derive(Drop)]
 pub struct Edges {
     edges: Vec<EdgeFact>,
@@ -47,6 +49,7 @@ impl Model for Edges {
 }
 
 impl Edges {
+    /// No dependencies. Takes no memory.
     pub fn new(alloc: Global) -> Edges
         ensures { result ≡ [] }
     {
@@ -56,6 +59,7 @@ impl Edges {
         }
     }
 
+    /// The dependencies, in the order in which they came.
     pub fn as_slice(&self) -> &[EdgeFact]
         ensures { result.now ≡ self.now }
     {

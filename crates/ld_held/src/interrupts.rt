@@ -29,8 +29,11 @@ pub struct OpenFrame {
 /// soft one, and no other frame over another.
 #[derive(Clone, Copy)]
 pub struct Interrupts {
+    /// The flags outside frames.
     pub outside: Flags,
+    /// The soft frame, where one is open.
     pub soft: Option<OpenFrame>,
+    /// The hard frame, where one is open: over the soft one, where that is open too.
     pub hard: Option<OpenFrame>,
 }
 

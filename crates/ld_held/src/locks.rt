@@ -27,6 +27,9 @@ use std::marker::Model;
 /// What each task holds and where it is, by the task's number, and the dependencies so far.
 ///
 /// Beside them stands a cache: a waiting acquisition whose chain was met before tells nothing anew.
+///
+/// A call answers `AllocError` where a growth of memory was refused. It may have done a part of its
+/// work then, so the owner gives the whole up.
 #[derive(Drop)]
 pub struct Locks<'a> {
     stacks: Stacks<'a>,
@@ -46,6 +49,7 @@ impl<'a> Model for Locks<'a> {
 }
 
 impl<'a> Locks<'a> {
+    /// No task. Takes no memory.
     pub fn new(alloc: Global) -> Locks<'a>
         ensures { result ≡ record { stacks = []; interrupts = []; edges = [] } }
     {

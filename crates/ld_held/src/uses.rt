@@ -24,6 +24,9 @@ pub struct UsageFact {
 }
 
 /// Usage bits, each of each class once, with the line that was told first.
+///
+/// A call answers `AllocError` where a growth of memory was refused. It may have noted some bits then,
+/// so the owner gives the whole up.
 #[derive(Drop)]
 pub struct Uses {
     facts: Vec<UsageFact>,
@@ -44,6 +47,7 @@ impl Model for Uses {
 }
 
 impl Uses {
+    /// No bits. Takes no memory.
     pub fn new(alloc: Global) -> Uses
         ensures { result ≡ [] }
     {
@@ -53,6 +57,7 @@ impl Uses {
         }
     }
 
+    /// The bits, in the order in which they came.
     pub fn as_slice(&self) -> &[UsageFact]
         ensures { result.now ≡ self.now }
     {

@@ -1,12 +1,12 @@
 -- The flag in a frame where nothing was said of it is that at the position just before its enter.
-use Rattle.std.proofs.Common.{◌≡◌, ◌<◌, ◌++◌, ◌∷◌, [], List, ℕ, Bool, false, length, take, drop, Some, refl, ap, sym, subst, ◌∙◌, arith, if◌then◌else◌}
+use Rattle.std.proofs.Common.{◌≡◌, ◌<◌, ◌++◌, ◌∷◌, [], List, ℕ, Bool, false, length, reverse, take, drop, Some, refl, ap, sym, subst, ◌∙◌, arith, if◌then◌else◌}
 use Rattle.std.proofs.lemmas.List.{length_push, take-append-le, take_at}
 use Rattle.std.specs.Option.{unwrap_or}
 use Rattle.ld_trace.specs.declared.event.State.{State}
 use Rattle.ld_trace.specs.Events.{PlainEvent}
 use Rattle.ld_trace.specs.Events.PlainEvent.{Enter}
 use Rattle.ld_rules.specs.Open.{is_some_and}
-use Rattle.ld_rules.specs.Frames.{Frame, state_entered}
+use Rattle.ld_rules.specs.Frames.{Frame, frames, state_entered}
 use Rattle.ld_rules.specs.Flags.{same_state, last_said, flag_in, flag}
 use Rattle.ld_rules.specs.Inner.Levels.{stack}
 use Rattle.ld_rules.proofs.FlagLemmas.{Falls, falls_below, falls_rest, stack_follows}
@@ -40,12 +40,12 @@ stack_around task past = stack_follows task (λ xs fs. AreAround xs task fs) tt 
     )
 
 -- The frames around the innermost one are those that were open just before its enter.
-pub frames-before : (past : List PlainEvent) (task : List ℕ) (inner : Frame) (outer : List Frame) → stack past task ≡ inner ∷ outer → stack (take inner.place past) task ≡ outer
+pub frames-before : (past : List PlainEvent) (task : List ℕ) (inner : Frame) (outer : List Frame) → reverse (frames past task) ≡ inner ∷ outer → reverse (frames (take inner.place past) task) ≡ outer
 frames-before past task inner outer is = (subst (AreAround past task) is (stack_around task past)).1
 
 -- So the flag in the innermost frame, where nothing was said there and the frame isn't one of the
 -- state, is the flag just before the enter.
-pub flag-before : (past : List PlainEvent) (task : List ℕ) (state : State) (inner : Frame) (outer : List Frame) → stack past task ≡ inner ∷ outer →
+pub flag-before : (past : List PlainEvent) (task : List ℕ) (state : State) (inner : Frame) (outer : List Frame) → reverse (frames past task) ≡ inner ∷ outer →
     flag past task state ≡ unwrap_or (last_said past task state (Some inner.place))
     (if is_some_and (same_state state) (state_entered inner.element) then false else flag (take inner.place past) task state)
 flag-before past task state inner outer is =

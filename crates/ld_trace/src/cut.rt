@@ -107,8 +107,8 @@ fn body(bytes: &[u8]) -> Front<'_>
 }
 
 /// The traces of a stream, in order, each as the section behind its header. Where the stream has a
-/// fault there are none, and the fault is `TooLong`, or else that of the first line that has one.
-/// Want of memory is answered only for a stream without fault.
+/// fault there are none, and the fault is `TooLong`, or else that of the first line that has one, of two
+/// on one line `BadHeader`. Want of memory is answered only for a stream without fault.
 pub fn split<'a>(alloc: Global, bytes: &'a [u8]) -> Result<Vec<Source<'a>>, StreamFault>
     ensures fault { IfSome (stream_fault bytes.entry.now) (λ fault. result ≡ Err fault) }
     ensures memory { stream_fault bytes.entry.now ≡ None →

@@ -41,7 +41,7 @@ pub enum Event<'a> {
     Disable { task: &'a [u8], state: State },
 }
 
-/// What is wrong with a line by itself. Where several apply, it is the first.
+/// What is wrong with a line by itself. Where several apply, it is the first in this order.
 #[derive(Clone, Copy, Debug, PartialEq, Eq)]
 pub enum LineFault {
     /// The first field is no verb.

@@ -45,7 +45,7 @@ impl<'a> Source<'a> {
 }
 
 /// Why a stream isn't cut into traces. Where several apply, it is `TooLong`, or else that of the
-/// first line that has one.
+/// first line that has one, of two on one line `BadHeader`.
 #[derive(Clone, Copy, Debug, PartialEq, Eq, Error)]
 pub enum StreamFault {
     /// It has more than 2,147,483,648 bytes.

@@ -78,7 +78,7 @@ impl<'a, T: Ledger, E: Ledger> Locked<'a, T, E> {
 
 /// A book that several threads feed, seen as the number of its feeders.
 ///
-/// The book lists just what the feeders added. `T` and `E` name the desk's ledgers of traces and of
+/// The book has as many traces and events as the feeders added. `T` and `E` name the desk's ledgers of traces and of
 /// events, by which a feeder is known to be of this desk.
 #[derive(Drop)]
 pub struct Desk<'a, T: Ledger, E: Ledger> {

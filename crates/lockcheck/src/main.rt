@@ -28,6 +28,8 @@ use std::{env, io};
 /// The exit status where there is no report.
 const NO_REPORT: u8 = 2;
 
+const _: () = prove!(NO_REPORT == 1 + 1);
+
 fn main(rt: HostRuntime) -> ExitCode {
     let words = match given_words(&rt) {
         Ok(words) => words,

@@ -24,9 +24,9 @@ pub struct Report {
     pub verdict: Verdict,
 }
 
-/// The report of a stream, whose traces that many workers read at once: the numbers of its traces,
-/// events, classes and dependencies, a line for each trace that is refused, and one for each violation.
-/// May wait.
+/// The report of a stream, whose traces that many workers read at once: how many traces it has and how
+/// many are refused, the numbers of events, classes and dependencies, a line for each refused trace, one
+/// for each violation, and a last one that says how many those are. May wait.
 ///
 /// # Errors
 ///

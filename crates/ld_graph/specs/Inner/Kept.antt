@@ -1,4 +1,4 @@
--- What a graph keeps true of its fields. No public contract cites this file.
+-- What a graph keeps true of its fields, and what callers see of them.
 use Rattle.std.specs.Prelude.{◌≡◌, ◌↔◌, ℕ, ◌+◌, ◌<◌, ◌≤◌, ◌^◌, length, Some, vec_len, vec_capacity}
 use Rattle.indexmap.specs.IndexSet.{spare}
 use Rattle.ld_graph.specs.declared.graph.Graph.TheInside.{Inside}

@@ -7,7 +7,7 @@ use Rattle.ld_held.specs.declared.interrupts.Interrupts.{Interrupts}
 use Rattle.ld_held.specs.Inner.Interrupts.{fresh, start_now}
 
 -- a lock that a task holds, without where its names lie in memory: the lock, the number of its
--- class, and the number of the chain of the classes that the task holds up to it
+-- class, and the number of the chain of the classes that the task holds up to it in its frame
 pub record PlainHeld : Type 0 where
   pub lock : PlainLock
   pub class : ℕ

@@ -1,4 +1,5 @@
--- The usage bits of numbered classes, as the scan keeps them. No public contract cites this file.
+-- The usage bits of numbered classes, as the scan keeps them. The calls of ld_held cite it, and nothing that
+-- a caller of ld_facts sees.
 use Rattle.std.specs.Prelude.{ℕ, Bool, ◌&&◌, ◌==◌, List, [], ◌∷◌, ◌++◌, ◌≡◌, map}
 use Rattle.std.specs.Prelude.{reverse, slice_index_or, if◌then◌else◌}
 use Rattle.std.specs.List.{list_any}
