@@ -3,18 +3,12 @@ use Rattle.std.proofs.Common.{◌≡◌, ◌↔◌, ℕ, ◌+◌, ◌<◌, ◌�
 use Rattle.std.proofs.Common.{subst, ◌∙◌, vec_len, vec_capacity}
 use Rattle.indexmap.specs.IndexSet.{spare}
 use Rattle.ld_graph.specs.declared.graph.Graph.TheInside.{Inside}
-use Rattle.ld_graph.specs.Inner.Neighbours.{Listed, IsNear}
+use Rattle.ld_graph.specs.Lists.{Listed, IsNear}
+use Rattle.ld_graph.specs.Inner.Sides.{ListsGrown}
 use Rattle.ld_graph.specs.Edges.{IsEdge}
 use Rattle.ld_graph.specs.Inner.Levels.{level_at}
 use Rattle.ld_graph.specs.Walks.{DistanceIs}
 use Rattle.ld_graph.specs.Inner.Kept.{IsKept}
-
--- the lists are as before, with at least the memory that it had
-pub record ListsGrown (old new : Listed) : Type 0 where
-  pub lists : new.lists ≡ old.lists
-  pub items : new.items ≡ old.items
-  pub class_room : old.class_room ≤ new.class_room
-  pub item_room : old.item_room ≤ new.item_room
 
 pub lists_same : (a : Listed) → ListsGrown a a
 lists_same a = record {
@@ -29,8 +23,8 @@ lists_same a = record {
 pub record HasGrown (old new : Inside) : Type 0 where
   pub keys : new.edges.keys ≡ old.edges.keys
   pub edges : spare old.edges ≤ spare new.edges
-  pub after : ListsGrown old.after new.after
-  pub before : ListsGrown old.before new.before
+  pub after : ListsGrown old.lists.after new.lists.after
+  pub before : ListsGrown old.lists.before new.lists.before
   pub levels : new.levels.items ≡ old.levels.items
   pub len : vec_len new.levels ≡ vec_len old.levels
   pub levels_room : vec_capacity old.levels ≤ vec_capacity new.levels
@@ -49,9 +43,10 @@ IsKept-grown old new g h =
       after_items = g.after.items ∙ h.after_items ∙ sym count;
       before_items = g.before.items ∙ h.before_items ∙ sym count;
       after_edges = λ a b. subst (λ l. IsNear l a b ↔ IsEdge new.edges.keys a b) (sym g.after.lists)
-          (subst (λ k. IsNear old.after.lists a b ↔ IsEdge k a b) (sym g.keys) (h.after_edges a b));
+          (subst (λ k. IsNear old.lists.after.lists a b ↔ IsEdge k a b) (sym g.keys)
+          (h.after_edges a b));
       before_edges = λ a b. subst (λ l. IsNear l a b ↔ IsEdge new.edges.keys b a) (sym
-          g.before.lists) (subst (λ k. IsNear old.before.lists a b
+          g.before.lists) (subst (λ k. IsNear old.lists.before.lists a b
           ↔ IsEdge k b a) (sym g.keys) (h.before_edges a b));
       ends = λ a b e. subst (λ n. (a < n) × (b < n)) (sym g.len) (h.ends a b (subst (λ k. IsEdge k a
           b) g.keys e));
@@ -79,8 +74,8 @@ IsKept-grown old new g h =
 pub IsKept-spare : (g : Inside) (classes edges more_classes more_edges : ℕ) → IsKept g
     → more_classes ≡ max g.spare_classes classes → more_edges ≡ max g.spare_edges edges
     → edges ≤ spare g.edges
-    → vec_len g.levels + classes ≤ g.after.class_room → g.after.items + edges ≤ g.after.item_room
-    → vec_len g.levels + classes ≤ g.before.class_room → g.before.items + edges ≤ g.before.item_room
+    → vec_len g.levels + classes ≤ g.lists.after.class_room → g.lists.after.items + edges ≤ g.lists.after.item_room
+    → vec_len g.levels + classes ≤ g.lists.before.class_room → g.lists.before.items + edges ≤ g.lists.before.item_room
     → vec_len g.levels + classes ≤ vec_capacity g.levels
     → vec_len g.levels + classes ≤ vec_capacity g.queue
     → vec_len g.levels + classes ≤ 2 ^ 30
@@ -124,12 +119,12 @@ IsKept-spare g classes edges more_classes more_edges h m n e a b c d l q f =
     }
 
 -- the neighbours in a graph's lists are classes
-pub after_ends : (g : Inside) → IsKept g → (a b : ℕ) → IsNear g.after.lists a b
-    → b < length g.after.lists
+pub after_ends : (g : Inside) → IsKept g → (a b : ℕ) → IsNear g.lists.after.lists a b
+    → b < length g.lists.after.lists
 after_ends g h a b n = let e = (h.ends a b ((h.after_edges a b).0 n)).1
     in omega (arith, e, h.after_classes)
 
-pub before_ends : (g : Inside) → IsKept g → (a b : ℕ) → IsNear g.before.lists a b
-    → b < length g.before.lists
+pub before_ends : (g : Inside) → IsKept g → (a b : ℕ) → IsNear g.lists.before.lists a b
+    → b < length g.lists.before.lists
 before_ends g h a b n = let e = (h.ends b a ((h.before_edges a b).0 n)).0
     in omega (arith, e, h.before_classes)

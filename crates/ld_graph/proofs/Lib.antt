@@ -4,4 +4,5 @@ pub mod SpreadLemmas
 pub mod SearchLemmas
 pub mod EdgeLemmas
 pub mod KeptLemmas
+pub mod OnceLemmas
 pub mod ShownLemmas

@@ -6,11 +6,12 @@ ghost use Rattle.std.specs.Prelude.{OnOk, MatchOption};
 ghost use Rattle.std.specs.Bool.{OnTrue, OnFalse};
 ghost use Rattle.ld_graph.specs.Edges.{ComesBefore, IsEdge, IsFirstPlace};
 ghost use Rattle.ld_graph.specs.Edges.{empty_graph, with_class, with_edge, with_spares};
+ghost use Rattle.ld_graph.specs.Lists.{IsNear};
 ghost use Rattle.ld_graph.specs.Walks.{DistanceIs, HasWalk, IsShownWalk};
 
 use crate::Edge;
 use crate::levels::measure;
-use crate::lists::Neighbours;
+use crate::lists::{Lists, Side};
 use crate::shown::show;
 use indexmap::IndexSet;
 use std::alloc::{AllocError, Global};
@@ -26,10 +27,7 @@ const _: () = prove!(MOST_CLASSES == 1_073_741_824);
 #[derive(Drop)]
 pub struct Graph {
     edges: IndexSet<Edge>,
-    /// For each class its successors.
-    after: Neighbours,
-    /// For each class its predecessors.
-    before: Neighbours,
+    lists: Lists,
     /// For each class its distance from the searched class.
     levels: Vec<Option<u64>>,
     /// Room for the classes that wait in a search.
@@ -59,8 +57,7 @@ impl Graph {
     {
         Graph {
             edges: IndexSet::new(alloc),
-            after: Neighbours::new(alloc),
-            before: Neighbours::new(alloc),
+            lists: Lists::new(alloc),
             levels: Vec::new(alloc),
             queue: Vec::new(alloc),
             spare_classes: 0,
@@ -86,6 +83,17 @@ impl Graph {
             → slice_get self.now.edges i ≢ slice_get self.now.edges j }
     {
         self.edges.len() as u64
+    }
+
+    /// The lists of successors and predecessors. Takes no memory.
+    pub fn lists(&self) -> &Lists
+        ensures classes { (length result.now.after.lists ≡ self.now.classes)
+            × (length result.now.before.lists ≡ self.now.classes) }
+        ensures after { (x y : ℕ) → IsNear result.now.after.lists x y ↔ IsEdge self.now.edges x y }
+        ensures before { (x y : ℕ) →
+            IsNear result.now.before.lists x y ↔ IsEdge self.now.edges y x }
+    {
+        &self.lists
     }
 
     /// How many classes can be added without taking memory. Takes none itself.
@@ -118,8 +126,7 @@ impl Graph {
     {
         let wanted = self.len() + classes;
         self.edges.reserve(edges)?;
-        self.after.room(classes, edges)?;
-        self.before.room(classes, edges)?;
+        self.lists.room(classes, edges)?;
         self.levels.reserve(classes)?;
         self.queue.clear();
         self.queue.reserve(wanted)?;
@@ -135,8 +142,7 @@ impl Graph {
         ensures graph { self.new ≡ with_class self.old }
     {
         let number = self.len();
-        self.after.add_class();
-        self.before.add_class();
+        self.lists.add_class();
         let Ok(()) = self.levels.push(None) else {
             unreachable!()
         };
@@ -173,8 +179,7 @@ impl Graph {
         let Ok(_) = self.edges.insert(edge) else {
             unreachable!()
         };
-        self.after.push(a, b);
-        self.before.push(b, a);
+        self.lists.push(a, b);
         self.spare_edges -= 1;
         self.searched = None;
         true
@@ -195,7 +200,7 @@ impl Graph {
         let mut levels = Vec::new(alloc);
         levels.resize(self.len(), None)?;
         let mut queue = Vec::with_capacity(alloc, self.len())?;
-        measure(&self.before, to, &mut levels, &mut queue);
+        measure(&self.lists, Side::Before, to, &mut levels, &mut queue);
         Ok(levels)
     }
 
@@ -248,7 +253,7 @@ impl Graph {
         let Some(distance) = distances[a as usize] else {
             return Ok(None);
         };
-        let walk = show(alloc, &self.after, a, b, distance, distances, places)?;
+        let walk = show(alloc, &self.lists, a, b, distance, distances, places)?;
         Ok(Some(walk))
     }
 
@@ -262,7 +267,13 @@ impl Graph {
         if self.searched == Some(from) {
             return;
         }
-        measure(&self.after, from, &mut self.levels, &mut self.queue);
+        measure(
+            &self.lists,
+            Side::After,
+            from,
+            &mut self.levels,
+            &mut self.queue,
+        );
         self.searched = Some(from);
     }
 

@@ -4,9 +4,11 @@
 mod graph;
 mod levels;
 mod lists;
+mod neighbours;
 mod shown;
 
 pub use graph::{Graph, MOST_CLASSES};
+pub use lists::{Lists, Steps};
 
 /// An edge, from one class to another.
 #[derive(Clone, Copy, PartialEq, Eq, Hash, Debug)]

@@ -10,26 +10,26 @@ invariant_of-self c =
     let i = c.self.invariant in
     let len = c.in-Ok.ensures.len in
     let now = ap (λ g. g.spare_classes) c.self.view_is in
-    let after = ap length c.add_class.ensures.lists in
-    let before = ap length c.add_class-2.ensures.lists in
-    let one = length_push {X = List ℕ} c.self.inside.after.lists [] in
-    let two = length_push {X = List ℕ} c.self.inside.before.lists [] in
+    let after = ap length c.add_class.ensures.after.lists in
+    let before = ap length c.add_class.ensures.before.lists in
+    let one = length_push {X = List ℕ} c.self.inside.lists.after.lists [] in
+    let two = length_push {X = List ℕ} c.self.inside.lists.before.lists [] in
     record {
       after_classes = omega (arith, after, one, len, i.after_classes);
       before_classes = omega (arith, before, two, len, i.before_classes);
-      after_items = c.add_class.ensures.items ∙ i.after_items;
-      before_items = c.add_class-2.ensures.items ∙ i.before_items;
+      after_items = c.add_class.ensures.after.items ∙ i.after_items;
+      before_items = c.add_class.ensures.before.items ∙ i.before_items;
       after_edges = near_class (λ a b. IsEdge c.self.inside.edges.keys a b)
-          c.self.inside.after.lists c.add_class.new.self.lists c.add_class.ensures.lists
+          c.self.inside.lists.after.lists c.add_class.new.self.after.lists c.add_class.ensures.after.lists
           i.after_edges;
       before_edges = near_class (λ a b. IsEdge c.self.inside.edges.keys b a)
-          c.self.inside.before.lists c.add_class-2.new.self.lists c.add_class-2.ensures.lists
+          c.self.inside.lists.before.lists c.add_class.new.self.before.lists c.add_class.ensures.before.lists
           i.before_edges;
       ends = λ a b e. let h = i.ends a b e in (omega (arith, h.0, len), omega (arith, h.1, len));
       room_edges = i.room_edges;
       room_after = (
-        omega (arith, len, now, c.requires, i.room_after.0, c.add_class.ensures.room.0),
-        omega (arith, i.room_after.1, c.add_class.ensures.room.1),
+        omega (arith, len, now, c.requires, i.room_after.0, c.add_class.ensures.after.class_room),
+        omega (arith, i.room_after.1, c.add_class.ensures.after.item_room),
       );
       room_before = (
         omega (
@@ -38,12 +38,12 @@ invariant_of-self c =
           now,
           c.requires,
           i.room_before.0,
-          c.add_class-2.ensures.room.0,
+          c.add_class.ensures.before.class_room,
         ),
         omega (
           arith,
           i.room_before.1,
-          c.add_class-2.ensures.room.1,
+          c.add_class.ensures.before.item_room,
         ),
       );
       room_levels = omega (arith, len, now, c.requires, i.room_levels, c.in-Ok.ensures.capacity);

@@ -36,7 +36,7 @@ invariant_of-self c =
           None)) (sym items)
           (subst (λ b. DistanceIs (λ p q. IsEdge c.self.inside.edges.keys q p) x b (get_or
           c.measure.new.levels x None)) (some_same c.args.from a e)
-          (DistanceIs-near c.self.inside.after.lists (λ p q. IsEdge c.self.inside.edges.keys q p)
+          (DistanceIs-near c.self.inside.lists.after.lists (λ p q. IsEdge c.self.inside.edges.keys q p)
           i.after_edges x c.args.from
           (get_or c.measure.new.levels x None) (c.measure.ensures.distances x)));
     }
