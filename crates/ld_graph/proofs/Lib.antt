@@ -5,4 +5,5 @@ pub mod SearchLemmas
 pub mod EdgeLemmas
 pub mod KeptLemmas
 pub mod OnceLemmas
+pub mod SplitLemmas
 pub mod ShownLemmas

@@ -2,4 +2,5 @@
 pub mod Runs
 pub mod Levels
 pub mod Sides
+pub mod Repairs
 pub mod Kept
