@@ -6,4 +6,6 @@ pub mod EdgeLemmas
 pub mod KeptLemmas
 pub mod OnceLemmas
 pub mod SplitLemmas
+pub mod MarkLemmas
+pub mod SoughtLemmas
 pub mod ShownLemmas

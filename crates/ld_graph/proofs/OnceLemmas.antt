@@ -22,7 +22,7 @@ IsDistinct-one_more xs y d free = IsDistinct-push nat_eq_equiv xs y d (by (list_
     by false e = e
     by true e = absurd (free (Contains-from_any {eq = nat_eq} (λ p q h. eqb-true p q h) y xs e))
 
-IsDistinct-none : IsDistinct nat_eq []
+pub IsDistinct-none : IsDistinct nat_eq []
 unfolding IsDistinct
 IsDistinct-none = tt
 

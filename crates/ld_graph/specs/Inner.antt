@@ -3,4 +3,5 @@ pub mod Runs
 pub mod Levels
 pub mod Sides
 pub mod Repairs
+pub mod Marks
 pub mod Kept

@@ -5,7 +5,9 @@ mod graph;
 mod levels;
 mod lists;
 mod neighbours;
+mod search;
 mod shown;
+mod turns;
 
 pub use graph::{Graph, MOST_CLASSES};
 pub use lists::{Lists, Steps};

@@ -1,6 +1,10 @@
 -- What a repair of the ranks says of its working space. No public contract cites this file.
 use Rattle.std.specs.Prelude.{◌≡◌, ℕ, zero, suc, ◌+◌, ◌<◌, ◌≤◌, Bool, not, if◌then◌else◌, List, []}
-use Rattle.std.specs.Prelude.{◌∷◌, ◌++◌, length, slice_index}
+use Rattle.std.specs.Prelude.{◌∷◌, ◌++◌, ◌-◌, ◌⊎◌, length, slice_index, Contains}
+use Rattle.ld_graph.specs.declared.lists.Side.{Side}
+use Rattle.ld_graph.specs.declared.lists.Side.TheVariants.{After, Before}
+use Rattle.ld_graph.specs.Lists.{IsNear, Sides}
+use Rattle.ld_graph.specs.Walks.{HasWalk}
 
 -- of the first n numbers so many pass the test
 abbrev pub count : (ℕ → Bool) → ℕ → ℕ
@@ -20,3 +24,58 @@ split_place p m i = if p i then count p i else count p m + count (λ k. not (p k
 -- the items in their new order
 abbrev pub split : (ℕ → Bool) → (ℕ → ℕ) → ℕ → List ℕ
 split p item m = picked p item m ++ picked (λ k. not (p k)) item m
+
+-- what a search has found, among so many places
+pub record Sought : Type 0 where
+  pub found : List ℕ
+  pub size : ℕ
+
+-- the place was there, or is the last now
+abbrev pub IsAdded : List ℕ → ℕ → List ℕ → Type 0
+IsAdded old place new = (Contains old place × (new ≡ old))
+    ⊎ ((¬ Contains old place) × (new ≡ old ++ place ∷ []))
+
+-- the rank is one of so many from the least one on
+abbrev pub IsInside : (low len rank : ℕ) → Type 0
+IsInside low len rank = (low ≤ rank) × (rank < low + len)
+
+-- the row has the classes whose ranks are in a range, in their order
+pub record IsRow (ranks : List ℕ) (low : ℕ) (row : List ℕ) : Type 0 where
+  pub at : (k : ℕ) → k < length row → (slice_index row k < length ranks)
+      × (slice_index ranks (slice_index row k) ≡ low + k)
+  pub back : (x : ℕ) → x < length ranks → IsInside low (length row) (slice_index ranks x)
+      → slice_index row (slice_index ranks x - low) ≡ x
+
+-- places of classes that are near were added
+pub record IsGrown (near : ℕ → Type 0) (rank : ℕ → ℕ) (low len : ℕ) (old new : List ℕ) : Type 0 where
+  pub longer : length old ≤ length new
+  pub front : (i : ℕ) → i < length old → slice_index new i ≡ slice_index old i
+  pub fresh : (k : ℕ) → Contains new k → Contains old k
+      ⊎ ((x : ℕ) × (near x × ((rank x ≡ low + k) × (k < len))))
+
+-- the class is this one, or a walk leads to it
+abbrev pub Reached : (ℕ → ℕ → Type 0) → ℕ → ℕ → Type 0
+Reached near a b = (a ≡ b) ⊎ HasWalk near a b
+
+-- the places that were found from this one are those of classes that it reaches
+pub record IsSought (near : ℕ → ℕ → Type 0) (row : List ℕ) (start : ℕ) (found : List ℕ) : Type 0 where
+  pub begun : Contains found start
+  pub within : (k : ℕ) → Contains found k → k < length row
+  pub reached : (k : ℕ) → Contains found k → Reached near (slice_index row start)
+      (slice_index row k)
+
+-- of the first n classes that were found, all neighbours in the range were found
+abbrev pub IsClosed : (ℕ → ℕ → Type 0) → (ranks : List ℕ) → (low : ℕ) → (row found : List ℕ)
+    → (n : ℕ) → Type 0
+IsClosed near ranks low row found n = (i y : ℕ) → i < n
+    → near (slice_index row (slice_index found i)) y
+    → IsInside low (length row) (slice_index ranks y)
+    → Contains found (slice_index ranks y - low)
+
+-- the search on this side has ended
+abbrev pub HasEnded : Side → (sides : Sides) → (ranks : List ℕ) → (low : ℕ)
+    → (row behind ahead : List ℕ) → Type 0
+HasEnded Before sides ranks low row behind ahead =
+    IsClosed (IsNear sides.before.lists) ranks low row behind (length behind)
+HasEnded After sides ranks low row behind ahead =
+    IsClosed (IsNear sides.after.lists) ranks low row ahead (length ahead)
