@@ -8,4 +8,6 @@ pub mod OnceLemmas
 pub mod SplitLemmas
 pub mod MarkLemmas
 pub mod SoughtLemmas
+pub mod PartLemmas
+pub mod MendLemmas
 pub mod ShownLemmas

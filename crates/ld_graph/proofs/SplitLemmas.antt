@@ -9,7 +9,7 @@ use Rattle.ld_graph.specs.Inner.Repairs.{count, picked, split_place, split}
 
 -- counting
 module _ (p : ℕ → Bool) where
-  count-le : (n : ℕ) → count p n ≤ n
+  pub count-le : (n : ℕ) → count p n ≤ n
   count-le zero = omega arith
   count-le (suc n) = by (count-le n) (p n) refl
     where
@@ -28,13 +28,13 @@ module _ (p : ℕ → Bool) where
       by h (inr e) false f = let k = h (omega arith) in rw f (omega (arith, k))
 
   -- one that passes counts before all after it
-  count-step : (i n : ℕ) → p i ≡ true → i < n → count p i < count p n
+  pub count-step : (i n : ℕ) → p i ≡ true → i < n → count p i < count p n
   count-step i n e l =
       let h : count p (suc i) ≤ count p n = count-more (suc i) n (omega arith) in
       let s : count p (suc i) ≡ count p i + 1 = rw e refl in
       omega (arith, h, s)
 
-  count-both : (n : ℕ) → count p n + count (λ k. not (p k)) n ≡ n
+  pub count-both : (n : ℕ) → count p n + count (λ k. not (p k)) n ≡ n
   count-both zero = refl
   count-both (suc n) = by (count-both n) (p n) refl
     where

@@ -1,6 +1,7 @@
 -- What a repair of the ranks says of its working space. No public contract cites this file.
-use Rattle.std.specs.Prelude.{◌≡◌, ℕ, zero, suc, ◌+◌, ◌<◌, ◌≤◌, Bool, not, if◌then◌else◌, List, []}
+use Rattle.std.specs.Prelude.{◌≡◌, ◌≢◌, true, false, nat_eq, ℕ, zero, suc, ◌+◌, ◌<◌, ◌≤◌, Bool, not, if◌then◌else◌, List, []}
 use Rattle.std.specs.Prelude.{◌∷◌, ◌++◌, ◌-◌, ◌⊎◌, length, slice_index, Contains}
+use Rattle.std.specs.List.{list_any}
 use Rattle.ld_graph.specs.declared.lists.Side.{Side}
 use Rattle.ld_graph.specs.declared.lists.Side.TheVariants.{After, Before}
 use Rattle.ld_graph.specs.Lists.{IsNear, Sides}
@@ -79,3 +80,55 @@ HasEnded Before sides ranks low row behind ahead =
     IsClosed (IsNear sides.before.lists) ranks low row behind (length behind)
 HasEnded After sides ranks low row behind ahead =
     IsClosed (IsNear sides.after.lists) ranks low row ahead (length ahead)
+
+-- the place is one of those that were found, or is none of them
+abbrev pub is_part : List ℕ → Bool → ℕ → Bool
+is_part found true k = list_any (nat_eq k) found
+is_part found false k = not (list_any (nat_eq k) found)
+
+-- the places that go to the front: what the search backward found, or what the other didn't find
+abbrev pub in_front : Side → (behind ahead : List ℕ) → ℕ → Bool
+in_front Before behind ahead = is_part behind true
+in_front After behind ahead = is_part ahead false
+
+-- the search that ended has found the place that the other one began at
+abbrev pub HasMet : Side → (len : ℕ) → (behind ahead : List ℕ) → Type 0
+HasMet Before len behind ahead = Contains behind 0
+HasMet After len behind ahead = Contains ahead (len - 1)
+
+-- the first n of these classes have the ranks from the least one on, and all else is as before
+pub record IsGiven (moved : List ℕ) (low n : ℕ) (ranks classes new_ranks new_classes : List ℕ) : Type 0 where
+  pub rank_at : (k : ℕ) → k < n → slice_index new_ranks (slice_index moved k) ≡ low + k
+  pub rank_else : (c : ℕ) → ((k : ℕ) → k < n → slice_index moved k ≢ c)
+      → slice_index new_ranks c ≡ slice_index ranks c
+  pub class_at : (k : ℕ) → k < n → slice_index new_classes (low + k) ≡ slice_index moved k
+  pub class_else : (r : ℕ) → (r < low) ⊎ (low + n ≤ r)
+      → slice_index new_classes r ≡ slice_index classes r
+
+-- the ranks, and the class at each rank
+pub record AreInverse (ranks classes : List ℕ) : Type 0 where
+  pub len : length classes ≡ length ranks
+  pub rank_below : (c : ℕ) → c < length ranks → slice_index ranks c < length ranks
+  pub class_below : (r : ℕ) → r < length ranks → slice_index classes r < length ranks
+  pub back : (c : ℕ) → c < length ranks → slice_index classes (slice_index ranks c) ≡ c
+  pub forth : (r : ℕ) → r < length ranks → slice_index ranks (slice_index classes r) ≡ r
+
+-- the ranks from the least one to the greatest one were repaired
+pub record IsMended (step : ℕ → ℕ → Type 0) (low high : ℕ) (ranks classes new_ranks new_classes :
+    List ℕ) (expanded : ℕ) : Type 0 where
+  pub inverse : AreInverse new_ranks new_classes
+  pub len : length new_ranks ≡ length ranks
+  pub rises : (x y : ℕ) → step x y → slice_index new_ranks x < slice_index new_ranks y
+  pub turned : slice_index new_ranks (slice_index classes high)
+      < slice_index new_ranks (slice_index classes low)
+  pub outside : (x : ℕ) → x < length ranks
+      → (slice_index ranks x < low) ⊎ (high < slice_index ranks x)
+      → slice_index new_ranks x ≡ slice_index ranks x
+  pub few : expanded + low ≤ high + 1
+
+-- the ranks stay, since a walk leads from the class of the least one to that of the greatest one
+pub record IsLeft (step : ℕ → ℕ → Type 0) (low high : ℕ) (ranks classes new_ranks new_classes :
+    List ℕ) : Type 0 where
+  pub ranks_same : new_ranks ≡ ranks
+  pub classes_same : new_classes ≡ classes
+  pub walk : Reached step (slice_index classes low) (slice_index classes high)

@@ -1,0 +1,217 @@
+-- The ranks of a range are given anew: what was found goes to one end, and all keep their order.
+use Rattle.std.proofs.Common.{◌≡◌, ◌≢◌, ◌↔◌, ◌⊎◌, inl, inr, ℕ, zero, suc, ◌+◌, ◌-◌, ◌<◌, ◌≤◌, Bool}
+use Rattle.std.proofs.Common.{true, false, true≢false, not, List, [], ◌∷◌, ◌++◌, length, get_or}
+use Rattle.std.proofs.Common.{take, drop, nat_eq, Contains, arith, refl, sym, ap, subst, ◌∙◌}
+use Rattle.std.specs.List.{IsDistinct, list_any}
+use Rattle.std.proofs.lemmas.Bool.{cases_lt, cases_eq, eqb-true}
+use Rattle.std.proofs.lemmas.List.{get_or_default, get_or-take, get_or-drop, length-take-le}
+use Rattle.std.proofs.lemmas.List.{length-drop}
+use Rattle.ld_graph.specs.Inner.Repairs.{AreInverse, IsGiven, IsInside, IsRow, split, split_place}
+use Rattle.ld_graph.proofs.SplitLemmas.{length-split, split-at, split-below, split-onto}
+use Rattle.ld_graph.proofs.SplitLemmas.{split-front, split-rises}
+
+-- the classes of a range of ranks
+abbrev pub row_of : (classes : List ℕ) (low m : ℕ) → List ℕ
+row_of classes low m = take m (drop low classes)
+
+module _ (ranks classes : List ℕ) (low m : ℕ) (h : AreInverse ranks classes)
+    (within : low + m ≤ length classes) where
+  pub length-row : length (row_of classes low m) ≡ m
+  length-row =
+      let d = length-drop low classes in
+      length-take-le m (drop low classes) (omega (arith, d, within))
+
+  pub row_read : (k : ℕ) → k < m → get_or (row_of classes low m) k 0 ≡ get_or classes (low + k) 0
+  row_read k l = get_or-take m (drop low classes) k 0 l ∙ get_or-drop low classes k 0
+
+  pub IsRow-of : IsRow ranks low (row_of classes low m)
+  IsRow-of = record {
+    at = λ k l.
+        let n = length-row in let len = h.len in
+        let b : k < m = omega (arith, l, n) in
+        let e = row_read k b in
+        let r : low + k < length ranks = omega (arith, b, within, len) in
+        let c = h.class_below (low + k) r in
+        (
+          subst (λ z. z < length ranks) (sym e) c,
+          ap (λ z. get_or ranks z 0) e ∙ h.forth (low + k) r,
+        );
+    back = λ x l inside.
+        let n = length-row in
+        let a = inside.0 in let b = inside.1 in
+        let s : low + (get_or ranks x 0 - low) ≡ get_or ranks x 0 = omega (arith, a) in
+        row_read (get_or ranks x 0 - low) (omega (arith, a, b, n))
+        ∙ ap (λ z. get_or classes z 0) s ∙ h.back x l;
+  }
+
+  -- the ranks were given by a split of the row
+  module _ (p : ℕ → Bool) (new_ranks new_classes : List ℕ)
+      (given : IsGiven (split p (λ k. get_or (row_of classes low m) k 0) m) low m ranks classes
+      new_ranks new_classes)
+      (same_ranks : length new_ranks ≡ length ranks)
+      (same_classes : length new_classes ≡ length classes) where
+    abbrev item : ℕ → ℕ
+    item k = get_or (row_of classes low m) k 0
+
+    abbrev moved : List ℕ
+    moved = split p item m
+
+    abbrev rank : ℕ → ℕ
+    rank x = get_or ranks x 0
+
+    -- a place in the range has the rank of its class
+    rank_of : (i : ℕ) → i < m → rank (item i) ≡ low + i
+    rank_of i l = let n = length-row in (IsRow-of.at i (omega (arith, l, n))).1
+
+    below : (i : ℕ) → i < m → item i < length ranks
+    below i l = let n = length-row in (IsRow-of.at i (omega (arith, l, n))).0
+
+    item_of : (x : ℕ) → x < length ranks → IsInside low m (rank x) → item (rank x - low) ≡ x
+    item_of x l inside =
+        let n = length-row in let a = inside.0 in let b = inside.1 in
+        IsRow-of.back x l (a, omega (arith, b, n))
+
+    -- where a place goes
+    new_rank_of : (i : ℕ) → i < m → get_or new_ranks (item i) 0 ≡ low + split_place p m i
+    new_rank_of i l =
+        ap (λ z. get_or new_ranks z 0) (sym (split-at p item m i l))
+        ∙ given.rank_at (split_place p m i) (split-below p item m i l)
+
+    pub new_inside : (x : ℕ) → x < length ranks → IsInside low m (rank x)
+        → get_or new_ranks x 0 ≡ low + split_place p m (rank x - low)
+    new_inside x l inside =
+        let a = inside.0 in let b = inside.1 in
+        ap (λ z. get_or new_ranks z 0) (sym (item_of x l inside))
+        ∙ new_rank_of (rank x - low) (omega (arith, a, b))
+
+    pub new_outside : (x : ℕ) → x < length ranks → (rank x < low) ⊎ (low + m ≤ rank x)
+        → get_or new_ranks x 0 ≡ rank x
+    new_outside x l out = given.rank_else x (λ k b e. none k b e out)
+      where
+        none : (k : ℕ) → k < m → get_or moved k 0 ≡ x → (rank x < low) ⊎ (low + m ≤ rank x) → ⊥
+        none k b e o =
+            let s = split-onto p item m k b in
+            let i = s.1.0 in
+            let at : item s.0 ≡ x = sym (split-at p item m s.0 i)
+            ∙ ap (λ z. get_or moved z 0) s.1.1 ∙ e in
+            let r : rank x ≡ low + s.0 = ap rank (sym at) ∙ rank_of s.0 i in
+            last o r i
+          where
+            last : (rank x < low) ⊎ (low + m ≤ rank x) → {j : ℕ} → rank x ≡ low + j → j < m → ⊥
+            last (inl a) r i = omega (arith, a, r, i)
+            last (inr a) r i = omega (arith, a, r, i)
+
+    pub inside_or : (r : ℕ) → IsInside low m r ⊎ ((r < low) ⊎ (low + m ≤ r))
+    inside_or r = by (cases_lt r low) (cases_lt r (low + m))
+      where
+        by : (r < low) ⊎ (low ≤ r) → (r < low + m) ⊎ (low + m ≤ r)
+            → IsInside low m r ⊎ ((r < low) ⊎ (low + m ≤ r))
+        by (inl a) _ = inr (inl a)
+        by (inr a) (inr b) = inr (inr b)
+        by (inr a) (inl b) = inl (a, b)
+
+    rank_below : (x : ℕ) → x < length ranks → get_or new_ranks x 0 < length new_ranks
+    rank_below x l = by (inside_or (rank x))
+      where
+        by : IsInside low m (rank x) ⊎ ((rank x < low) ⊎ (low + m ≤ rank x))
+            → get_or new_ranks x 0 < length new_ranks
+        by (inl i) =
+            let e = new_inside x l i in let a = i.0 in let b = i.1 in let len = h.len in
+            let s = split-below p item m (rank x - low) (omega (arith, a, b)) in
+            omega (arith, e, s, within, len, same_ranks)
+        by (inr o) = let e = new_outside x l o in let b = h.rank_below x l in
+            omega (arith, e, b, same_ranks)
+
+    -- the class at a rank
+    class_is : (r : ℕ) → r < length ranks → (x : ℕ) × ((x < length ranks)
+        × ((get_or new_classes r 0 ≡ x) × (get_or new_ranks x 0 ≡ r)))
+    class_is r l = by (inside_or r)
+      where
+        by : IsInside low m r ⊎ ((r < low) ⊎ (low + m ≤ r)) → (x : ℕ) × ((x < length ranks)
+            × ((get_or new_classes r 0 ≡ x) × (get_or new_ranks x 0 ≡ r)))
+        by (inl i) =
+            let a = i.0 in let b = i.1 in
+            let k : r - low < m = omega (arith, a, b) in
+            let s = split-onto p item m (r - low) k in
+            let j = s.1.0 in let e = s.1.1 in
+            let q : low + (r - low) ≡ r = omega (arith, a) in
+            (item s.0, (below s.0 j, (
+              ap (λ z. get_or new_classes z 0) (sym q) ∙ given.class_at (r - low) k
+              ∙ ap (λ z. get_or moved z 0) (sym e) ∙ split-at p item m s.0 j,
+              new_rank_of s.0 j ∙ ap (λ z. low + z) e ∙ q,
+            )))
+        by (inr o) =
+            let f = h.forth r l in let c = h.class_below r l in
+            (get_or classes r 0, (c, (given.class_else r o, new_outside (get_or classes r 0) c (subst
+            (λ z. (z < low) ⊎ (low + m ≤ z)) (sym f) o) ∙ f)))
+
+    class_of : (x : ℕ) → x < length ranks → get_or new_classes (get_or new_ranks x 0) 0 ≡ x
+    class_of x l = by (inside_or (rank x))
+      where
+        by : IsInside low m (rank x) ⊎ ((rank x < low) ⊎ (low + m ≤ rank x))
+            → get_or new_classes (get_or new_ranks x 0) 0 ≡ x
+        by (inl i) =
+            let a = i.0 in let b = i.1 in
+            let k : rank x - low < m = omega (arith, a, b) in
+            ap (λ z. get_or new_classes z 0) (new_inside x l i)
+            ∙ given.class_at (split_place p m (rank x - low)) (split-below p item m (rank x - low) k)
+            ∙ split-at p item m (rank x - low) k ∙ item_of x l i
+        by (inr o) = ap (λ z. get_or new_classes z 0) (new_outside x l o)
+            ∙ given.class_else (rank x) o ∙ h.back x l
+
+    pub AreInverse-given : AreInverse new_ranks new_classes
+    AreInverse-given = record {
+      len = let n = h.len in omega (arith, n, same_ranks, same_classes);
+      rank_below = λ x l. rank_below x (omega (arith, l, same_ranks));
+      class_below = λ r l.
+          let c = class_is r (omega (arith, l, same_ranks)) in
+          let b = c.1.0 in let e = c.1.1.0 in
+          omega (arith, b, e, same_ranks);
+      back = λ x l. class_of x (omega (arith, l, same_ranks));
+      forth = λ r l.
+          let c = class_is r (omega (arith, l, same_ranks)) in
+          ap (λ z. get_or new_ranks z 0) c.1.1.0 ∙ c.1.1.1;
+    }
+
+    -- steps go on rising
+    pub rises_given : (x y : ℕ) → x < length ranks → y < length ranks → rank x < rank y
+        → (IsInside low m (rank x) → IsInside low m (rank y) → p (rank y - low) ≡ true
+        → p (rank x - low) ≡ true)
+        → get_or new_ranks x 0 < get_or new_ranks y 0
+    rises_given x y l n up closed = by (inside_or (rank x)) (inside_or (rank y))
+      where
+        by : IsInside low m (rank x) ⊎ ((rank x < low) ⊎ (low + m ≤ rank x))
+            → IsInside low m (rank y) ⊎ ((rank y < low) ⊎ (low + m ≤ rank y))
+            → get_or new_ranks x 0 < get_or new_ranks y 0
+        by (inl i) (inl j) =
+            let e = new_inside x l i in let f = new_inside y n j in
+            let a = i.0 in let b = j.0 in let c = j.1 in
+            let s = split-rises p item m (rank x - low) (rank y - low) (omega (arith, a, b, up))
+            (omega (arith, b, c)) (closed i j) in
+            omega (arith, e, f, s)
+        by (inl i) (inr (inl o)) = let a = i.0 in absurd (omega (arith, a, o, up))
+        by (inl i) (inr (inr o)) =
+            let e = new_inside x l i in let f = new_outside y n (inr o) in
+            let a = i.0 in let b = i.1 in
+            let s = split-below p item m (rank x - low) (omega (arith, a, b)) in
+            omega (arith, e, f, s, o)
+        by (inr (inl o)) (inl j) =
+            let e = new_outside x l (inl o) in let f = new_inside y n j in omega (arith, e, f, o)
+        by (inr (inr o)) (inl j) = let b = j.1 in absurd (omega (arith, b, o, up))
+        by (inr o) (inr q) =
+            let e = new_outside x l o in let f = new_outside y n q in omega (arith, e, f, up)
+
+    -- and one in front comes before one that isn't
+    pub turned_given : (i j : ℕ) → i < m → j < m → p i ≡ true → p j ≡ false
+        → get_or new_ranks (item i) 0 < get_or new_ranks (item j) 0
+    turned_given i j l n e f =
+        let s = split-front p item m i j l e f in
+        let a = new_rank_of i l in let b = new_rank_of j n in
+        omega (arith, s, a, b)
+
+    -- no class is given two ranks
+    pub moved_ends : (k : ℕ) → k < m → get_or moved k 0 < length ranks
+    moved_ends k l =
+        let s = split-onto p item m k l in
+        subst (λ z. z < length ranks) (sym (split-at p item m s.0 s.1.0)
+        ∙ ap (λ z. get_or moved z 0) s.1.1) (below s.0 s.1.0)
