@@ -10,4 +10,5 @@ pub mod MarkLemmas
 pub mod SoughtLemmas
 pub mod PartLemmas
 pub mod MendLemmas
+pub mod EndedLemmas
 pub mod ShownLemmas

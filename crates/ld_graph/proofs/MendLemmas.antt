@@ -44,6 +44,39 @@ module _ (ranks classes : List ℕ) (low m : ℕ) (h : AreInverse ranks classes)
         ∙ ap (λ z. get_or classes z 0) s ∙ h.back x l;
   }
 
+  -- a split row has no class twice
+  module _ (p : ℕ → Bool) where
+    pub split_ends : (k : ℕ) → k < m
+        → get_or (split p (λ i. get_or (row_of classes low m) i 0) m) k 0 < length ranks
+    split_ends k l =
+        let s = split-onto p (λ i. get_or (row_of classes low m) i 0) m k l in
+        let n = length-row in let b = s.1.0 in
+        subst (λ z. z < length ranks)
+        (sym (split-at p (λ i. get_or (row_of classes low m) i 0) m s.0 s.1.0)
+        ∙ ap (λ z. get_or (split p (λ i. get_or (row_of classes low m) i 0) m) z 0) s.1.1)
+        (IsRow-of.at s.0 (omega (arith, b, n))).0
+
+    pub split_once : (j k : ℕ) → j < k → k < m
+        → get_or (split p (λ i. get_or (row_of classes low m) i 0) m) j 0
+        ≢ get_or (split p (λ i. get_or (row_of classes low m) i 0) m) k 0
+    split_once j k a b e =
+        let item : ℕ → ℕ = λ i. get_or (row_of classes low m) i 0 in
+        let c : j < m = omega (arith, a, b) in
+        let s = split-onto p (λ i. get_or (row_of classes low m) i 0) m j c in
+        let t = split-onto p (λ i. get_or (row_of classes low m) i 0) m k b in
+        let n = length-row in
+        let v = s.1.0 in let w = t.1.0 in
+        let same : get_or (row_of classes low m) s.0 0 ≡ get_or (row_of classes low m) t.0 0 =
+        sym (split-at p (λ i. get_or (row_of classes low m) i 0) m s.0 s.1.0)
+        ∙ ap (λ z. get_or (split p (λ i. get_or (row_of classes low m) i 0) m) z 0) s.1.1 ∙ e
+        ∙ ap (λ z. get_or (split p (λ i. get_or (row_of classes low m) i 0) m) z 0) (sym t.1.1)
+        ∙ split-at p (λ i. get_or (row_of classes low m) i 0) m t.0 t.1.0 in
+        let f = sym (IsRow-of.at s.0 (omega (arith, v, n))).1 ∙ ap (λ z. get_or ranks z 0) same
+        ∙ (IsRow-of.at t.0 (omega (arith, w, n))).1 in
+        let g : s.0 ≡ t.0 = omega (arith, f) in
+        let q : j ≡ k = sym s.1.1 ∙ ap (split_place p m) g ∙ t.1.1 in
+        omega (arith, q, a)
+
   -- the ranks were given by a split of the row
   module _ (p : ℕ → Bool) (new_ranks new_classes : List ℕ)
       (given : IsGiven (split p (λ k. get_or (row_of classes low m) k 0) m) low m ranks classes
@@ -208,10 +241,3 @@ module _ (ranks classes : List ℕ) (low m : ℕ) (h : AreInverse ranks classes)
         let s = split-front p item m i j l e f in
         let a = new_rank_of i l in let b = new_rank_of j n in
         omega (arith, s, a, b)
-
-    -- no class is given two ranks
-    pub moved_ends : (k : ℕ) → k < m → get_or moved k 0 < length ranks
-    moved_ends k l =
-        let s = split-onto p item m k l in
-        subst (λ z. z < length ranks) (sym (split-at p item m s.0 s.1.0)
-        ∙ ap (λ z. get_or moved z 0) s.1.1) (below s.0 s.1.0)
