@@ -6,7 +6,8 @@ use Rattle.std.specs.List.{IsDistinct, list_any}
 use Rattle.std.proofs.lemmas.Bool.{cases_lt, cases_eq, eqb-true}
 use Rattle.std.proofs.lemmas.List.{get_or_default, get_or-take, get_or-drop, length-take-le}
 use Rattle.std.proofs.lemmas.List.{length-drop}
-use Rattle.ld_graph.specs.Inner.Repairs.{AreInverse, IsGiven, IsInside, IsRow, split, split_place}
+use Rattle.ld_graph.specs.Inner.Repairs.{AreInverse, IsGiven, IsInside, IsPlan, IsRepaired, IsRow}
+use Rattle.ld_graph.specs.Inner.Repairs.{split, split_place}
 use Rattle.ld_graph.proofs.SplitLemmas.{length-split, split-at, split-below, split-onto}
 use Rattle.ld_graph.proofs.SplitLemmas.{split-front, split-rises}
 
@@ -241,3 +242,116 @@ module _ (ranks classes : List ℕ) (low m : ℕ) (h : AreInverse ranks classes)
         let s = split-front p item m i j l e f in
         let a = new_rank_of i l in let b = new_rank_of j n in
         omega (arith, s, a, b)
+
+-- a plan for the classes from the one that b has to the one that a has
+module _ (step : ℕ → ℕ → Type 0) (ranks classes : List ℕ) (h : AreInverse ranks classes)
+    (a b : ℕ) (a_in : a < length ranks) (b_in : b < length ranks) (low high : ℕ)
+    (low_is : low ≡ get_or ranks b 0) (high_is : high ≡ get_or ranks a 0) (against : low < high)
+    (rises : (x y : ℕ) → step x y → get_or ranks x 0 < get_or ranks y 0)
+    (ends : (x y : ℕ) → step x y → (x < length ranks) × (y < length ranks)) where
+  abbrev row : List ℕ
+  row = row_of classes low (high + 1 - low)
+
+  plan_within : low + (high + 1 - low) ≤ length classes
+  plan_within = let t = h.rank_below a a_in in let len = h.len in
+      omega (arith, t, len, high_is, against)
+
+  pub row_length : length row ≡ high + 1 - low
+  row_length = length-row ranks classes low (high + 1 - low) h plan_within
+
+  pub row_some : 0 < length row
+  row_some = let l = row_length in omega (arith, l, against)
+
+  pub row_is : IsRow ranks low row
+  row_is = IsRow-of ranks classes low (high + 1 - low) h plan_within
+
+  pub row_first : get_or row 0 0 ≡ b
+  row_first =
+      row_read ranks classes low (high + 1 - low) h plan_within 0 (omega (arith, against))
+      ∙ ap (λ z. get_or classes z 0) (let e : low + 0 ≡ get_or ranks b 0 = omega (arith, low_is)
+      in e) ∙ h.back b b_in
+
+  pub row_last : get_or row (high - low) 0 ≡ a
+  row_last =
+      row_read ranks classes low (high + 1 - low) h plan_within (high - low) (omega (arith, against))
+      ∙ ap (λ z. get_or classes z 0) (let e : low + (high - low) ≡ get_or ranks a 0 = omega (arith,
+      high_is, against) in e) ∙ h.back a a_in
+
+  pub row_end : get_or row (length row - 1) 0 ≡ a
+  row_end =
+      let l = row_length in
+      let e : length row - 1 ≡ high - low = omega (arith, l, against) in
+      ap (λ z. get_or row z 0) e ∙ row_last
+
+  module _ (moved : List ℕ) (k : ℕ) (plan : IsPlan step ranks low row moved k) where
+    moved_is : moved ≡ split plan.front (λ i. get_or row i 0) (high + 1 - low)
+    moved_is = plan.in_order ∙ ap (split plan.front (λ i. get_or row i 0)) row_length
+
+    pub moved_length : length moved ≡ high + 1 - low
+    moved_length = ap length moved_is ∙ length-split plan.front (λ i. get_or row i 0) (high + 1 - low)
+
+    pub moved_within : low + length moved ≤ length classes
+    moved_within = let l = moved_length in let w = plan_within in omega (arith, l, w)
+
+    pub moved_ends : (i : ℕ) → i < length moved → get_or moved i 0 < length ranks
+    moved_ends i l =
+        let n = moved_length in
+        subst (λ z. get_or z i 0 < length ranks) (sym moved_is)
+        (split_ends ranks classes low (high + 1 - low) h plan_within plan.front i
+        (omega (arith, l, n)))
+
+    pub moved_once : (i j : ℕ) → i < j → j < length moved → get_or moved i 0 ≢ get_or moved j 0
+    moved_once i j l u =
+        let n = moved_length in
+        subst (λ z. get_or z i 0 ≢ get_or z j 0) (sym moved_is)
+        (split_once ranks classes low (high + 1 - low) h plan_within plan.front i j l
+        (omega (arith, u, n)))
+
+    module _ (new_ranks new_classes : List ℕ)
+        (given : IsGiven moved low (length moved) ranks classes new_ranks new_classes)
+        (same_ranks : length new_ranks ≡ length ranks)
+        (same_classes : length new_classes ≡ length classes) where
+      given_split : IsGiven (split plan.front (λ i. get_or row i 0) (high + 1 - low)) low
+          (high + 1 - low) ranks classes new_ranks new_classes
+      given_split =
+          subst (λ n. IsGiven (split plan.front (λ i. get_or row i 0) (high + 1 - low)) low n ranks
+          classes new_ranks new_classes) moved_length
+          (subst (λ z. IsGiven z low (length moved) ranks classes new_ranks new_classes) moved_is
+          given)
+
+      pub mended_inverse : AreInverse new_ranks new_classes
+      mended_inverse = AreInverse-given ranks classes low (high + 1 - low) h plan_within plan.front
+          new_ranks new_classes given_split same_ranks same_classes
+
+      pub mended : IsRepaired step a b ranks new_ranks k
+      mended = record {
+        len = same_ranks;
+        rises = λ x y s.
+            let e = ends x y s in
+            rises_given ranks classes low (high + 1 - low) h plan_within plan.front new_ranks
+            new_classes given_split same_ranks same_classes x y e.0 e.1 (rises x y s)
+            (λ i j t.
+            let l = row_length in
+            let i1 = i.0 in let i2 = i.1 in let j1 = j.0 in let j2 = j.1 in
+            plan.closed x y s (i1, omega (arith, i2, l)) (j1, omega (arith, j2, l)) t);
+        turned =
+            let l = row_length in
+            let e : length row - 1 ≡ high - low = omega (arith, l, against) in
+            let t = turned_given ranks classes low (high + 1 - low) h plan_within plan.front
+            new_ranks new_classes given_split same_ranks same_classes (high - low) 0
+            (omega (arith, against)) (omega (arith, against))
+            (ap plan.front (sym e) ∙ plan.last) plan.first in
+            subst (λ z. get_or new_ranks z 0 < get_or new_ranks b 0) row_last
+            (subst (λ z. get_or new_ranks (get_or row (high - low) 0) 0 < get_or new_ranks z 0)
+            row_first t);
+        outside = λ x l o. new_outside ranks classes low (high + 1 - low) h plan_within plan.front
+            new_ranks new_classes given_split same_ranks same_classes x l (out x o);
+        few = let f = plan.few in let l = row_length in
+            omega (arith, f, l, low_is, high_is, against);
+      }
+        where
+          out : (x : ℕ) → (get_or ranks x 0 < get_or ranks b 0)
+              ⊎ (get_or ranks a 0 < get_or ranks x 0)
+              → (get_or ranks x 0 < low) ⊎ (low + (high + 1 - low) ≤ get_or ranks x 0)
+          out x (inl o) = inl (omega (arith, o, low_is))
+          out x (inr o) = inr (omega (arith, o, high_is, against))

@@ -4,4 +4,5 @@ pub mod Levels
 pub mod Sides
 pub mod Repairs
 pub mod Marks
+pub mod Ranks
 pub mod Kept

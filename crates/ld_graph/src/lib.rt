@@ -5,6 +5,7 @@ mod graph;
 mod levels;
 mod lists;
 mod neighbours;
+mod ranks;
 mod repair;
 mod search;
 mod shown;

@@ -90,6 +90,7 @@ impl Search {
 
     /// Forgets what was found.
     pub fn clear(&mut self)
+        ensures once { IsDistinct nat_eq self.old.found }
         ensures found { self.new.found ≡ [] }
         ensures size { self.new.size ≡ self.old.size }
     {

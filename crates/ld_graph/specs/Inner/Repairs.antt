@@ -5,6 +5,7 @@ use Rattle.std.specs.List.{list_any}
 use Rattle.ld_graph.specs.declared.lists.Side.{Side}
 use Rattle.ld_graph.specs.declared.lists.Side.TheVariants.{After, Before}
 use Rattle.ld_graph.specs.Lists.{IsNear, Sides}
+use Rattle.ld_graph.specs.Order.{StaysOutside}
 use Rattle.ld_graph.specs.Walks.{HasWalk}
 
 -- of the first n numbers so many pass the test
@@ -113,22 +114,29 @@ pub record AreInverse (ranks classes : List ℕ) : Type 0 where
   pub back : (c : ℕ) → c < length ranks → slice_index classes (slice_index ranks c) ≡ c
   pub forth : (r : ℕ) → r < length ranks → slice_index ranks (slice_index classes r) ≡ r
 
--- the ranks from the least one to the greatest one were repaired
-pub record IsMended (step : ℕ → ℕ → Type 0) (low high : ℕ) (ranks classes new_ranks new_classes :
-    List ℕ) (expanded : ℕ) : Type 0 where
-  pub inverse : AreInverse new_ranks new_classes
-  pub len : length new_ranks ≡ length ranks
-  pub rises : (x y : ℕ) → step x y → slice_index new_ranks x < slice_index new_ranks y
-  pub turned : slice_index new_ranks (slice_index classes high)
-      < slice_index new_ranks (slice_index classes low)
-  pub outside : (x : ℕ) → x < length ranks
-      → (slice_index ranks x < low) ⊎ (high < slice_index ranks x)
-      → slice_index new_ranks x ≡ slice_index ranks x
-  pub few : expanded + low ≤ high + 1
+-- the row has a new order, in which no step goes back and its last class comes before its first
+pub record IsPlan (step : ℕ → ℕ → Type 0) (ranks : List ℕ) (low : ℕ) (row moved : List ℕ)
+    (expanded : ℕ) : Type 0 where
+  pub front : ℕ → Bool
+  pub in_order : moved ≡ split front (slice_index row) (length row)
+  pub closed : (x y : ℕ) → step x y → IsInside low (length row) (slice_index ranks x)
+      → IsInside low (length row) (slice_index ranks y)
+      → front (slice_index ranks y - low) ≡ true → front (slice_index ranks x - low) ≡ true
+  pub last : front (length row - 1) ≡ true
+  pub first : front 0 ≡ false
+  pub few : expanded ≤ length row
 
--- the ranks stay, since a walk leads from the class of the least one to that of the greatest one
-pub record IsLeft (step : ℕ → ℕ → Type 0) (low high : ℕ) (ranks classes new_ranks new_classes :
-    List ℕ) : Type 0 where
-  pub ranks_same : new_ranks ≡ ranks
-  pub classes_same : new_classes ≡ classes
-  pub walk : Reached step (slice_index classes low) (slice_index classes high)
+-- what is seen of the ranks: the rank of each class, the class at each rank, and for how many
+-- classes there is memory
+pub record Ranked : Type 0 where
+  pub ranks : List ℕ
+  pub classes : List ℕ
+  pub room : ℕ
+
+-- the ranks were repaired for an edge from a to b
+pub record IsRepaired (step : ℕ → ℕ → Type 0) (a b : ℕ) (old new : List ℕ) (expanded : ℕ) : Type 0 where
+  pub len : length new ≡ length old
+  pub rises : (x y : ℕ) → step x y → slice_index new x < slice_index new y
+  pub turned : slice_index new a < slice_index new b
+  pub outside : StaysOutside a b old new
+  pub few : expanded + slice_index old b ≤ slice_index old a + 1
