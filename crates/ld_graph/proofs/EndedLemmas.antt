@@ -48,7 +48,7 @@ module _ (step : ℕ → ℕ → Type 0) (ranks : List ℕ)
       let u = Far-rises n s.0 b s.1.1 in
       Far-forward F high closed n s.0 b s.1.1 l (closed a s.0 f s.1.0 (omega (arith, u, l)))
 
-Far-same : (s t : ℕ → ℕ → Type 0) → ((x y : ℕ) → s x y → t x y) → (n a b : ℕ) → Far s n a b
+pub Far-same : (s t : ℕ → ℕ → Type 0) → ((x y : ℕ) → s x y → t x y) → (n a b : ℕ) → Far s n a b
     → Far t n a b
 Far-same s t to zero a b h = to a b h
 Far-same s t to (suc n) a b h = (h.0, (to a h.0 h.1.0, Far-same s t to n h.0 b h.1.1))

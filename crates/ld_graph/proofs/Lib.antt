@@ -12,3 +12,4 @@ pub mod PartLemmas
 pub mod MendLemmas
 pub mod EndedLemmas
 pub mod ShownLemmas
+pub mod PlacedLemmas

@@ -5,4 +5,5 @@ pub mod Sides
 pub mod Repairs
 pub mod Marks
 pub mod Ranks
+pub mod Placed
 pub mod Kept

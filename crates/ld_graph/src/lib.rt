@@ -5,6 +5,7 @@ mod graph;
 mod levels;
 mod lists;
 mod neighbours;
+mod placed;
 mod ranks;
 mod repair;
 mod search;
@@ -13,6 +14,7 @@ mod turns;
 
 pub use graph::{Graph, MOST_CLASSES};
 pub use lists::{Lists, Steps};
+pub use placed::Insert;
 
 /// An edge, from one class to another.
 #[derive(Clone, Copy, PartialEq, Eq, Hash, Debug)]

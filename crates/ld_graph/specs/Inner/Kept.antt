@@ -1,11 +1,18 @@
 -- What a graph keeps true of its fields, and what callers see of them.
-use Rattle.std.specs.Prelude.{◌≡◌, ◌↔◌, ℕ, ◌+◌, ◌<◌, ◌≤◌, ◌^◌, length, Some, vec_len, vec_capacity}
+use Rattle.std.specs.Prelude.{◌≡◌, ◌↔◌, ℕ, ◌+◌, ◌<◌, ◌≤◌, ◌^◌, length, Some, None, Option, vec_len, vec_capacity}
+use Rattle.std.specs.Prelude.{Bool, true, false, List, slice_index}
 use Rattle.indexmap.specs.IndexSet.{spare}
 use Rattle.ld_graph.specs.declared.graph.Graph.TheInside.{Inside}
 use Rattle.ld_graph.specs.Edges.{IsEdge, Seen}
 use Rattle.ld_graph.specs.Lists.{IsNear}
 use Rattle.ld_graph.specs.Inner.Levels.{level_at}
+use Rattle.ld_graph.specs.Order.{HasCycle}
 use Rattle.ld_graph.specs.Walks.{DistanceIs}
+
+-- the ranks, so long as there is no cycle
+abbrev pub order_of : Bool → List ℕ → Option (List ℕ)
+order_of true ranks = None
+order_of false ranks = Some ranks
 
 -- what callers see of the fields
 abbrev pub seen : Inside → Seen
@@ -15,6 +22,7 @@ seen g = record {
   spare_classes = g.spare_classes;
   spare_edges = g.spare_edges;
   searched = g.searched;
+  order = order_of g.has_cycle g.ranks.ranks;
 }
 
 -- what holds of the fields of every graph
@@ -35,7 +43,13 @@ pub record IsKept (g : Inside) : Type 0 where
       × (length g.edges.keys + g.spare_edges ≤ g.lists.before.item_room)
   pub room_levels : vec_len g.levels + g.spare_classes ≤ vec_capacity g.levels
   pub room_queue : vec_len g.levels + g.spare_classes ≤ vec_capacity g.queue
+  pub room_ranks : vec_len g.levels + g.spare_classes ≤ g.ranks.room
   pub few : vec_len g.levels + g.spare_classes ≤ 2 ^ 30
   -- the levels are the distances from the searched class
   pub levels : (a : ℕ) → g.searched ≡ Some a
       → (x : ℕ) → DistanceIs (λ p q. IsEdge g.edges.keys q p) x a (level_at g.levels.items x)
+  -- so long as there is no cycle, each edge goes from a lesser to a greater rank
+  pub ranked : length g.ranks.ranks ≡ vec_len g.levels
+  pub rises : g.has_cycle ≡ false → (x y : ℕ) → IsEdge g.edges.keys x y
+      → slice_index g.ranks.ranks x < slice_index g.ranks.ranks y
+  pub cycle : g.has_cycle ≡ true → HasCycle (IsEdge g.edges.keys)

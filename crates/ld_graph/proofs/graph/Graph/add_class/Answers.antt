@@ -1,8 +1,9 @@
-use Rattle.std.proofs.Common.{ℕ, List, [], arith, ap, length, ◌∙◌}
+use Rattle.std.proofs.Common.{◌<◌, ℕ, List, [], arith, ap, get_or, length, sym, subst, ◌∙◌}
 use Rattle.std.proofs.lemmas.List.{length_push}
 use Rattle.std.proofs.lemmas.Option.{none-some}
 use Rattle.ld_graph.specs.Edges.{IsEdge}
 use Rattle.ld_graph.proofs.EdgeLemmas.{near_class}
+use Rattle.ld_graph.proofs.KeptLemmas.{rises_class}
 use Rattle.ld_graph.proofs.graph.Graph.add_class.Goals as goal
 
 pub invariant_of-self : goal.invariant_of-self
@@ -48,6 +49,23 @@ invariant_of-self c =
       );
       room_levels = omega (arith, len, now, c.requires, i.room_levels, c.in-Ok.ensures.capacity);
       room_queue = omega (arith, len, now, c.requires, i.room_queue);
+      room_ranks = omega (
+        arith,
+        len,
+        now,
+        c.requires,
+        i.room_ranks,
+        c.add_class-2.ensures.room,
+      );
       few = omega (arith, len, now, c.requires, i.few);
+      ranked = let r = ap length c.add_class-2.ensures.ranks in
+          let p = length_push c.self.inside.ranks.ranks (length c.self.inside.ranks.ranks) in
+          omega (arith, r, p, len, i.ranked);
+      rises = λ f x y e.
+          let b = i.ends x y e in
+          subst (λ r. get_or r x 0 < get_or r y 0) (sym c.add_class-2.ensures.ranks)
+          (rises_class c.self.inside.ranks.ranks x y (omega (arith, b, i.ranked))
+          (omega (arith, b, i.ranked)) (i.rises f x y e));
+      cycle = i.cycle;
       levels = λ a e x. absurd (none-some a e);
     }

@@ -1,25 +1,24 @@
 use Rattle.std.proofs.lemmas.List.{length_push, length-set}
 use Rattle.std.proofs.lemmas.Option.{none-some}
 use Rattle.std.proofs.Common.{◌≡◌, ◌<◌, ◌++◌, ◌∷◌, [], ◌↔◌, arith, length, set, vec_len, ap}
-use Rattle.std.proofs.Common.{true≢false, sym, subst, ◌∙◌}
+use Rattle.std.proofs.Common.{true≢false, refl, sym, subst, ◌∙◌}
 use Rattle.ld_graph.specs.Edges.{edge, IsEdge}
 use Rattle.ld_graph.specs.Lists.{IsNear, list_at}
 use Rattle.ld_graph.proofs.EdgeLemmas.{IsEdge-found, insert_key-new, IsNear-edge, IsNear-turned}
 use Rattle.ld_graph.proofs.EdgeLemmas.{ends_push, IsEdge-missing}
+use Rattle.ld_graph.specs.Order.{HasCycle, IsInserted}
+use Rattle.ld_graph.specs.Inner.Kept.{seen}
+use Rattle.ld_graph.proofs.PlacedLemmas.{inserted, made, placed_cycle, placed_length, placed_rises}
 use Rattle.ld_graph.proofs.graph.Graph.insert.Goals as goal
 
-pub returns-then-contains-clause-answer : goal.returns-then-contains-clause-answer
-returns-then-contains-clause-answer c =
-    let there = subst (λ g. IsEdge g.edges c.args.a c.args.b) c.self.view_is
-    (IsEdge-found c.self.inside.edges.keys c.args.a c.args.b (sym c.contains.ensures
-    ∙ c.if-contains.true)) in
-    (λ t. absurd (true≢false (sym t)), λ n. absurd (n there))
-
-pub returns-then-contains-clause-known : goal.returns-then-contains-clause-known
-returns-then-contains-clause-known c =
-    subst (λ g. IsEdge g.edges c.args.a c.args.b) c.self.view_is
-    (IsEdge-found c.self.inside.edges.keys c.args.a c.args.b (sym c.contains.ensures
-    ∙ c.if-contains.true))
+pub returns-then-contains-clause-inserted : goal.returns-then-contains-clause-inserted
+returns-then-contains-clause-inserted c =
+    record {
+      there = subst (λ g. IsEdge g.edges c.args.a c.args.b) c.self.view_is
+          (IsEdge-found c.self.inside.edges.keys c.args.a c.args.b (sym c.contains.ensures
+          ∙ c.if-contains.true));
+      same = refl;
+    }
 
 pub invariant_of-self : goal.invariant_of-self
 invariant_of-self c =
@@ -80,7 +79,16 @@ invariant_of-self c =
       );
       room_levels = i.room_levels;
       room_queue = i.room_queue;
+      room_ranks = omega (arith, i.room_ranks, c.place-answer.ensures.room);
       few = i.few;
+      ranked = placed_length c.self.inside i c.args.a c.args.b c.place-answer.new.has_cycle
+          c.place-answer.new.ranks.ranks c.place-answer.result c.place-answer.ensures.placed ∙ i.ranked;
+      rises = λ f x y e. placed_rises c.self.inside i c.args.a c.args.b c.place-answer.new.has_cycle
+          c.place-answer.new.ranks.ranks c.place-answer.result c.place-answer.ensures.placed f x y
+          (subst (λ k. IsEdge k x y) keys e);
+      cycle = λ t. subst (λ k. HasCycle (IsEdge k)) (sym keys) (placed_cycle c.self.inside i c.args.a
+          c.args.b c.place-answer.new.has_cycle c.place-answer.new.ranks.ranks c.place-answer.result
+          c.place-answer.ensures.placed t);
       levels = λ p e x. absurd (none-some p e);
     }
 
@@ -93,3 +101,42 @@ pub push-requires-clause-before_fresh : goal.push-requires-clause-before_fresh
 push-requires-clause-before_fresh c = λ n.
     IsEdge-missing c.self.inside.edges.keys c.args.a c.args.b (sym c.contains.ensures
     ∙ c.if-contains.false) ((c.self.invariant.before_edges c.args.b c.args.a).0 n)
+
+pub returns-then-contains-clause-new : goal.returns-then-contains-clause-new
+returns-then-contains-clause-new c = λ fresh.
+    absurd (fresh (subst (λ g. IsEdge g.edges c.args.a c.args.b) c.self.view_is
+    (IsEdge-found c.self.inside.edges.keys c.args.a c.args.b (sym c.contains.ensures
+    ∙ c.if-contains.true))))
+
+pub place-answer-requires-clause-turned : goal.place-answer-requires-clause-turned
+place-answer-requires-clause-turned c = λ x y.
+    let i = c.self.invariant in (
+      λ n. (i.before_edges y x).1 ((i.after_edges x y).0 n),
+      λ n. (i.after_edges x y).1 ((i.before_edges y x).0 n),
+    )
+
+pub place-answer-requires-clause-ends : goal.place-answer-requires-clause-ends
+place-answer-requires-clause-ends c = λ x y n.
+    let i = c.self.invariant in
+    let e = i.ends x y ((i.after_edges x y).0 n) in
+    (omega (arith, e, i.ranked), omega (arith, e, i.ranked))
+
+pub place-answer-requires-clause-rises : goal.place-answer-requires-clause-rises
+place-answer-requires-clause-rises c = λ f x y n.
+    let i = c.self.invariant in i.rises f x y ((i.after_edges x y).0 n)
+
+pub returns-clause-inserted : goal.returns-clause-inserted
+returns-clause-inserted c =
+    let keys : c.insert.new.self.keys ≡ c.self.inside.edges.keys ++ edge c.args.a c.args.b ∷ [] =
+    c.in-Ok.ensures.keys ∙ insert_key-new c.self.inside.edges.keys (edge c.args.a c.args.b) (sym
+    c.contains.ensures ∙ c.if-contains.false) in
+    subst (λ g. IsInserted g c.args.a c.args.b c.place-answer.result (record (made c.self.inside
+    c.self.invariant c.args.a c.args.b c.place-answer.new.has_cycle
+    c.place-answer.new.ranks.ranks) { edges = c.insert.new.self.keys })) c.self.view_is
+    (subst (λ k. IsInserted (seen c.self.inside) c.args.a c.args.b c.place-answer.result (record
+    (made c.self.inside c.self.invariant c.args.a c.args.b c.place-answer.new.has_cycle
+    c.place-answer.new.ranks.ranks) { edges = k })) (sym keys)
+    (inserted c.self.inside c.self.invariant c.args.a c.args.b c.place-answer.new.has_cycle
+    c.place-answer.new.ranks.ranks c.place-answer.result c.place-answer.ensures.placed
+    (IsEdge-missing c.self.inside.edges.keys c.args.a c.args.b (sym c.contains.ensures
+    ∙ c.if-contains.false))))

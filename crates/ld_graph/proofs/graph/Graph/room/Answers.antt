@@ -14,6 +14,9 @@ invariant_of-self c = IsKept-grown c.self.inside _ (record {
   len = refl;
   levels_room = omega arith;
   queue_room = omega arith;
+  ranks = refl;
+  ranks_room = omega arith;
+  has_cycle = refl;
   spare_classes = refl;
   spare_edges = refl;
   searched = refl;
@@ -29,6 +32,9 @@ invariant_of-self-in_err-room c = IsKept-grown c.self.inside _ (record {
   len = refl;
   levels_room = omega arith;
   queue_room = omega arith;
+  ranks = refl;
+  ranks_room = omega arith;
+  has_cycle = refl;
   spare_classes = refl;
   spare_edges = refl;
   searched = refl;
@@ -44,6 +50,9 @@ invariant_of-self-in_err-reserve-2 c = IsKept-grown c.self.inside _ (record {
   len = c.reserve-2.ensures.len;
   levels_room = c.reserve-2.ensures.capacity;
   queue_room = omega arith;
+  ranks = refl;
+  ranks_room = omega arith;
+  has_cycle = refl;
   spare_classes = refl;
   spare_edges = refl;
   searched = refl;
@@ -59,6 +68,27 @@ invariant_of-self-in_err-reserve-3 c = IsKept-grown c.self.inside _ (record {
   len = c.reserve-2.ensures.len;
   levels_room = c.reserve-2.ensures.capacity;
   queue_room = omega (arith, c.clear.ensures.capacity, c.reserve-3.ensures.capacity);
+  ranks = refl;
+  ranks_room = omega arith;
+  has_cycle = refl;
+  spare_classes = refl;
+  spare_edges = refl;
+  searched = refl;
+}) c.self.invariant
+
+pub invariant_of-self-in_err-room-2 : goal.invariant_of-self-in_err-room-2
+invariant_of-self-in_err-room-2 c = IsKept-grown c.self.inside _ (record {
+  keys = c.reserve.ensures.keys;
+  edges = c.reserve.ensures.room.0;
+  after = c.room.ensures.after;
+  before = c.room.ensures.before;
+  levels = c.reserve-2.ensures.items;
+  len = c.reserve-2.ensures.len;
+  levels_room = c.reserve-2.ensures.capacity;
+  queue_room = omega (arith, c.clear.ensures.capacity, c.reserve-3.ensures.capacity);
+  ranks = c.room-2.ensures.ranks;
+  ranks_room = c.room-2.ensures.kept;
+  has_cycle = refl;
   spare_classes = refl;
   spare_edges = refl;
   searched = refl;
@@ -74,6 +104,8 @@ invariant_of-self-2 c =
       lists = c.room.new.self;
       levels = c.reserve-2.new.self;
       queue = c.reserve-3.new.self;
+      ranks = c.room-2.new.self;
+      has_cycle = c.self.inside.has_cycle;
       spare_classes = c.self.inside.spare_classes;
       spare_edges = c.self.inside.spare_edges;
       searched = c.self.inside.searched;
@@ -87,7 +119,10 @@ invariant_of-self-2 c =
       len = c.reserve-2.ensures.len;
       levels_room = c.reserve-2.ensures.capacity;
       queue_room = omega (arith, c.clear.ensures.capacity, c.reserve-3.ensures.capacity);
-      spare_classes = refl;
+      ranks = c.room-2.ensures.ranks;
+      ranks_room = c.room-2.ensures.kept;
+  has_cycle = refl;
+  spare_classes = refl;
       spare_edges = refl;
       searched = refl;
     }) c.self.invariant in
@@ -107,4 +142,5 @@ invariant_of-self-2 c =
       c.reserve-3.ensures.len,
       c.clear.ensures.len,
     ))
+    (omega (arith, len, c.len.ensures, c.in_ok-room-2.ensures.room))
     (omega (arith, len, now, c.requires))

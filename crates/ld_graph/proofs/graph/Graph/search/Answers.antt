@@ -30,7 +30,11 @@ invariant_of-self c =
       room_before = i.room_before;
       room_levels = i.room_levels;
       room_queue = omega (arith, i.room_queue, c.measure.ensures.capacity);
+      room_ranks = i.room_ranks;
       few = i.few;
+      ranked = i.ranked;
+      rises = i.rises;
+      cycle = i.cycle;
       levels = λ a e x.
           subst (λ ls. DistanceIs (λ p q. IsEdge c.self.inside.edges.keys q p) x a (get_or ls x
           None)) (sym items)
