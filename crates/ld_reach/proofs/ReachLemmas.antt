@@ -1,15 +1,15 @@
 -- A reach that is spread over classes that wait is exact at the end.
-use Rattle.std.proofs.Common.{◌≡◌, ◌≢◌, ◌↔◌, ℕ, zero, suc, ◌+◌, ◌<◌, ◌≤◌, ◌⊎◌, inl, inr, Bool, true, false, true≢false, List, [], ◌∷◌, ◌++◌, length, get_or, set, Option, Some, None, is_some, Contains, MatchOption, if◌then◌else◌, unwrap_or, vec_len}
+use Rattle.std.proofs.Common.{◌≡◌, ◌≢◌, ◌↔◌, ℕ, zero, suc, ◌+◌, ◌<◌, ◌≤◌, ◌⊎◌, inl, inr, Bool, true, false, true≢false, List, [], ◌∷◌, ◌++◌, length, get_or, set, Option, Some, None, is_some, Contains, MatchOption, drop, take, unwrap_or, vec_len}
 use Rattle.std.proofs.Common.{arith, refl, sym, ap, subst, ◌∙◌}
 use Rattle.std.proofs.lemmas.Bool.{cases_eq, cases_lt, cases_order}
-use Rattle.std.proofs.lemmas.List.{get_or-set_same, get_or-set_other, get_or_past, get_or_append_left, get_or_push, get_or_default, length_push}
-use Rattle.std.proofs.lemmas.List.Elements.{Contains-append_left, Contains-push, Contains-push_cases}
-use Rattle.ld_reach.specs.Inner.Kept.{reached, AreWaiting, IsGiven, IsSpread, all_ahead, none_ahead, ahead_from}
+use Rattle.std.proofs.lemmas.List.{get_or-set_same, get_or-set_other, get_or_past, get_or_append_left, get_or_push, get_or_default, length_push, drop_more, drop-append-le, take-append-le}
+use Rattle.std.proofs.lemmas.List.Elements.{Contains-get_or, Contains-append_cases, Contains-append_left, Contains-push, Contains-push_cases}
+use Rattle.ld_reach.specs.Inner.Kept.{seen, AreReached, IsGiven, IsSpread, all_ahead, none_ahead, ahead_from}
 use Rattle.ld_graph.specs.declared.Edge.{Edge}
 use Rattle.ld_reach.specs.declared.reach.Reach.TheInside.{Inside}
 use Rattle.ld_graph.specs.Edges.{IsEdge, edge}
 use Rattle.ld_reach.specs.Reach.{IsReach, IsSource, Reached}
-use Rattle.ld_graph.specs.Walks.{HasWalk, IsWalk}
+use Rattle.ld_graph.specs.Walks.{HasWalk}
 use Rattle.ld_graph.proofs.SpreadLemmas.{some_same}
 use Rattle.ld_graph.proofs.WalkLemmas.{Far, Far-snoc, IsWalk-Far, HasWalk-Far, IsWalk-same}
 
@@ -18,6 +18,18 @@ is_marked marks x = get_or marks x false ≡ true
 
 abbrev pub has_source : List (Option ℕ) → ℕ → Type 0
 has_source sources x = is_some (get_or sources x None) ≡ true
+
+-- an element is the first one or behind it
+Contains-first : (y : ℕ) (xs : List ℕ) (x : ℕ) → Contains (y ∷ xs) x → Contains xs x ⊎ (y ≡ x)
+Contains-first y xs x c = by (Contains-append_cases (y ∷ []) xs x c)
+  where
+    by : Contains (y ∷ []) x ⊎ Contains xs x → Contains xs x ⊎ (y ≡ x)
+    by (inr h) = inl h
+    by (inl h) = to (Contains-push_cases [] y x h)
+      where
+        to : Contains [] x ⊎ (y ≡ x) → Contains xs x ⊎ (y ≡ x)
+        to (inl n) = absurd (omega (arith, n.1))
+        to (inr same) = inr same
 
 -- a source that is some
 some_source : (o : Option ℕ) → is_some o ≡ true → (s : ℕ) × (o ≡ Some s)
@@ -79,8 +91,8 @@ module _ (step : ℕ → ℕ → Type 0) (seeds : List ℕ) where
     goes (suc n) x y marked h = goes n h.0 y (ended h.0 (next x h.0 marked h.1.0)) h.1.1
 
     -- when no class waits any more, the reach is exact
-    pub spread-reach : (spare expanded : ℕ) → IsReach step seeds (record { sources = sources; marks = marks; spare = spare; expanded = expanded })
-    spread-reach spare expanded = record {
+    pub spread-reach : (reached : List ℕ) (spare expanded : ℕ) → IsReach step seeds (record { sources = sources; marks = marks; reached = reached; spare = spare; expanded = expanded })
+    spread-reach reached spare expanded = record {
       sources = λ c. by c (get_or sources c None) refl;
       marked = λ c. (spread.known c, λ why. back c why);
     }
@@ -128,7 +140,7 @@ module _ (step : ℕ → ℕ → Type 0) (seeds : List ℕ) where
   module _ (ahead left : ℕ → ℕ → Type 0) (class from : ℕ) (sources : List (Option ℕ)) (marks : List Bool) (waiting : List ℕ)
       (new : List (Option ℕ)) (more : List ℕ) (spread : IsSpread step seeds ahead sources marks waiting)
       (source : IsSource step seeds class from) (within : class < length sources)
-      (gone : (x y : ℕ) → ahead x y → left x y ⊎ (y ≡ class)) (given : IsGiven class from sources marks waiting new more) where
+      (gone : (x y : ℕ) → ahead x y → left x y ⊎ (y ≡ class)) (given : IsGiven class from sources waiting new more) where
     pub spread-given : IsSpread step seeds left new marks more
     spread-given = by (get_or sources class None) refl
       where
@@ -156,7 +168,7 @@ module _ (step : ℕ → ℕ → Type 0) (seeds : List ℕ) where
         gets : get_or sources class None ≡ None → IsSpread step seeds left new marks more
         gets free = rw (given.gets free, given.waits free) (record {
           sound = λ x s is. sound x s is (cases_eq x class);
-          covered = λ x s is. covered (get_or marks class false) refl x s is (cases_eq x class);
+          covered = λ x s is. covered x s is (cases_eq x class);
           seeded = spread.seeded;
           known = λ x marked. known x (spread.known x marked);
           closed = λ x y marked h. closed x y (spread.closed x y marked h);
@@ -174,12 +186,9 @@ module _ (step : ℕ → ℕ → Type 0) (seeds : List ℕ) where
                 rw (same, sym equal) source
             sound x s is (inr other) = spread.sound x s (sym (get_or-set_other sources class x (Some from) None other) ∙ is)
 
-            covered : (b : Bool) → get_or marks class false ≡ b → (x s : ℕ) → get_or (set sources class (Some from)) x None ≡ Some s → (x ≡ class) ⊎ (x ≢ class)
-                → is_marked marks x ⊎ Contains (if b then waiting else waiting ++ class ∷ []) x
-            covered true on x s is (inl same) = inl (ap (λ k. get_or marks k false) same ∙ on)
-            covered false on x s is (inl same) = inr (subst (Contains (waiting ++ class ∷ [])) (sym same) (Contains-push waiting class))
-            covered true on x s is (inr other) = spread.covered x s (sym (get_or-set_other sources class x (Some from) None other) ∙ is)
-            covered false on x s is (inr other) = wait (spread.covered x s (sym (get_or-set_other sources class x (Some from) None other) ∙ is))
+            covered : (x s : ℕ) → get_or (set sources class (Some from)) x None ≡ Some s → (x ≡ class) ⊎ (x ≢ class) → is_marked marks x ⊎ Contains (waiting ++ class ∷ []) x
+            covered x s is (inl same) = inr (subst (Contains (waiting ++ class ∷ [])) (sym same) (Contains-push waiting class))
+            covered x s is (inr other) = wait (spread.covered x s (sym (get_or-set_other sources class x (Some from) None other) ∙ is))
               where
                 wait : is_marked marks x ⊎ Contains waiting x → is_marked marks x ⊎ Contains (waiting ++ class ∷ []) x
                 wait (inl m) = inl m
@@ -218,7 +227,7 @@ module _ (step : ℕ → ℕ → Type 0) (seeds : List ℕ) where
 
   -- a class that waited comes to be expanded
   pub spread-popped : (class : ℕ) (sources : List (Option ℕ)) (marks : List Bool) (waiting : List ℕ)
-      → class < length marks → has_source sources class → IsSpread step seeds none_ahead sources marks (waiting ++ class ∷ [])
+      → class < length marks → has_source sources class → IsSpread step seeds none_ahead sources marks (class ∷ waiting)
       → IsSpread step seeds (all_ahead step class) sources (set marks class true) waiting
   spread-popped class sources marks waiting within has spread = record {
     sound = spread.sound;
@@ -228,9 +237,9 @@ module _ (step : ℕ → ℕ → Type 0) (seeds : List ℕ) where
     closed = λ x y on h. closed x y (mark_was marks class x on) h;
   }
     where
-      covered : (x : ℕ) → is_marked marks x ⊎ Contains (waiting ++ class ∷ []) x → is_marked (set marks class true) x ⊎ Contains waiting x
+      covered : (x : ℕ) → is_marked marks x ⊎ Contains (class ∷ waiting) x → is_marked (set marks class true) x ⊎ Contains waiting x
       covered x (inl m) = inl (mark_stays marks class x m)
-      covered x (inr c) = by (Contains-push_cases waiting class x c)
+      covered x (inr c) = by (Contains-first class waiting x c)
         where
           by : Contains waiting x ⊎ (class ≡ x) → is_marked (set marks class true) x ⊎ Contains waiting x
           by (inl w) = inr w
@@ -247,6 +256,25 @@ module _ (step : ℕ → ℕ → Type 0) (seeds : List ℕ) where
           by : none_ahead x y ⊎ has_source sources y → all_ahead step class x y ⊎ has_source sources y
           by (inl n) = absurd n
           by (inr s) = inr s
+
+  -- one that was expanded before waits no more
+  pub spread-passed : (class : ℕ) (sources : List (Option ℕ)) (marks : List Bool) (waiting : List ℕ) → is_marked marks class
+      → IsSpread step seeds none_ahead sources marks (class ∷ waiting) → IsSpread step seeds none_ahead sources marks waiting
+  spread-passed class sources marks waiting on spread = record {
+    sound = spread.sound;
+    covered = λ x s is. covered x (spread.covered x s is);
+    seeded = spread.seeded;
+    known = spread.known;
+    closed = spread.closed;
+  }
+    where
+      covered : (x : ℕ) → is_marked marks x ⊎ Contains (class ∷ waiting) x → is_marked marks x ⊎ Contains waiting x
+      covered x (inl m) = inl m
+      covered x (inr c) = by (Contains-first class waiting x c)
+        where
+          by : Contains waiting x ⊎ (class ≡ x) → is_marked marks x ⊎ Contains waiting x
+          by (inl w) = inr w
+          by (inr same) = inl (subst (is_marked marks) same on)
 
   -- a class that was not expanded becomes a seed
   pub spread-seeded : (class : ℕ) (sources : List (Option ℕ)) (marks : List Bool) → class < length marks
@@ -322,24 +350,6 @@ spread-longer step longer seeds ahead sources marks to back spread = record {
         by (inl n) = absurd n
         by (inr s) = inr s
 
--- what waits but for the last one, once that one is marked
-pub AreWaiting-popped : (sources : List (Option ℕ)) (marks : List Bool) (waiting : List ℕ) (class : ℕ)
-    → AreWaiting sources marks (waiting ++ class ∷ []) → AreWaiting sources (set marks class true) waiting
-AreWaiting-popped sources marks waiting class are = record {
-  each = λ k d within.
-      let was = are.each k d (omega (arith, within, length_push waiting class)) in
-      let same = get_or_append_left waiting (class ∷ []) d k within in
-      let apart : get_or waiting k d ≢ class = λ e. are.once k (length waiting) d within (omega (arith, length_push waiting class))
-          (same ∙ e ∙ sym (get_or_push waiting class d (length waiting) refl)) in
-      let is : (get_or marks (get_or waiting k d) false ≡ false) × has_source sources (get_or waiting k d) =
-          subst (λ x. (get_or marks x false ≡ false) × has_source sources x) same was in
-      (get_or-set_other marks class (get_or waiting k d) true false apart ∙ is.0, is.1);
-  once = λ i j d before within.
-      let left = get_or_append_left waiting (class ∷ []) d i (omega (arith, before, within)) in
-      let right = get_or_append_left waiting (class ∷ []) d j within in
-      λ e. are.once i j d before (omega (arith, within, length_push waiting class)) (left ∙ e ∙ sym right);
-}
-
 -- all steps of a class are ahead at first, and none when its neighbours are gone
 pub ahead-all : (near : List ℕ) (class x y : ℕ) → (x ≡ class) × Contains near y → ahead_from near class 0 x y
 ahead-all near class x y h = (h.0, (h.1.0, (omega arith, h.1.1, get_or_default near h.1.0 0 y h.1.1 ∙ h.1.2)))
@@ -385,15 +395,15 @@ IsEdge-cases before a b x y h = by (Contains-push_cases before (edge a b) (edge 
     by (inr same) = inr (ap (λ (e : Edge). e.from) (sym same), ap (λ (e : Edge). e.to) (sym same))
 
 -- as many marks are seen as there are
-pub marks_len : (r : Inside) (seen : Reached) → reached r ≡ seen → vec_len r.marks ≡ length seen.marks
-marks_len r seen is = r.marks.ok.0 ∙ ap (λ (s : Reached). length s.marks) is
+pub marks_len : (r : Inside) (reach : Reached) → seen r ≡ reach → vec_len r.marks ≡ length reach.marks
+marks_len r reach is = r.marks.ok.0 ∙ ap (λ (s : Reached). length s.marks) is
 
 -- with one edge more, from a class that was not expanded, nothing is ahead
 pub spread-unmarked : (before : List Edge) (seeds : List ℕ) (reach : Reached) (a b : ℕ) → get_or reach.marks a false ≡ false
     → IsReach (IsEdge before) seeds reach → IsSpread (IsEdge (before ++ edge a b ∷ [])) seeds none_ahead reach.sources reach.marks []
 spread-unmarked before seeds reach a b off exact =
     spread-longer (IsEdge before) (IsEdge (before ++ edge a b ∷ [])) seeds none_ahead reach.sources reach.marks
-        (λ x y h. Contains-append_left before (edge a b ∷ []) (edge x y) h) (λ x y on h. by x y on (IsEdge-cases before a b x y h)) (reach-spread (IsEdge before) seeds reach exact)
+    (λ x y h. Contains-append_left before (edge a b ∷ []) (edge x y) h) (λ x y on h. by x y on (IsEdge-cases before a b x y h)) (reach-spread (IsEdge before) seeds reach exact)
   where
     by : (x y : ℕ) → is_marked reach.marks x → IsEdge before x y ⊎ ((x ≡ a) × (y ≡ b)) → IsEdge before x y ⊎ none_ahead x y
     by x y on (inl old) = inl old
@@ -404,7 +414,7 @@ pub spread-edge : (before : List Edge) (seeds : List ℕ) (reach : Reached) (a b
     → IsSpread (IsEdge (before ++ edge a b ∷ [])) seeds (λ x y. (x ≡ a) × (y ≡ b)) reach.sources reach.marks []
 spread-edge before seeds reach a b exact =
     spread-longer (IsEdge before) (IsEdge (before ++ edge a b ∷ [])) seeds (λ x y. (x ≡ a) × (y ≡ b)) reach.sources reach.marks
-        (λ x y h. Contains-append_left before (edge a b ∷ []) (edge x y) h) (λ x y on h. IsEdge-cases before a b x y h) (reach-spread (IsEdge before) seeds reach exact)
+    (λ x y h. Contains-append_left before (edge a b ∷ []) (edge x y) h) (λ x y on h. IsEdge-cases before a b x y h) (reach-spread (IsEdge before) seeds reach exact)
 
 -- the same steps by another relation
 pub spread-same : (step other : ℕ → ℕ → Type 0) (seeds : List ℕ) (ahead : ℕ → ℕ → Type 0) (sources : List (Option ℕ)) (marks : List Bool) (waiting : List ℕ)
@@ -428,8 +438,47 @@ get_or-push_default xs d k = by (cases_order k (length xs))
 
 -- a class more, without source or mark, leaves a reach exact
 pub IsReach-added : (step : ℕ → ℕ → Type 0) (seeds : List ℕ) (reach : Reached) (spare : ℕ) → IsReach step seeds reach
-    → IsReach step seeds (record { sources = reach.sources ++ None ∷ []; marks = reach.marks ++ false ∷ []; spare = spare; expanded = reach.expanded })
+    → IsReach step seeds (record { sources = reach.sources ++ None ∷ []; marks = reach.marks ++ false ∷ []; reached = reach.reached; spare = spare; expanded = reach.expanded })
 IsReach-added step seeds reach spare exact = record {
   sources = λ c. rw (get_or-push_default reach.sources None c) (exact.sources c);
   marked = λ c. rw (get_or-push_default reach.marks false c, get_or-push_default reach.sources None c) (exact.marked c);
 }
+
+-- what is given is given to the part of the list from a place on
+pub IsGiven-drop : (class from : ℕ) (sources : List (Option ℕ)) (reached : List ℕ) (new : List (Option ℕ)) (more : List ℕ) (done : ℕ) → done ≤ length reached
+    → IsGiven class from sources reached new more → IsGiven class from sources (drop done reached) new (drop done more)
+IsGiven-drop class from sources reached new more done within given = record {
+  had = λ has. let same = given.had has in (same.0, ap (drop done) same.1);
+  gets = given.gets;
+  waits = λ none. ap (drop done) (given.waits none) ∙ drop-append-le done reached (class ∷ []) within;
+}
+
+-- and the front of the list stays
+pub IsGiven-front : (class from : ℕ) (sources : List (Option ℕ)) (reached : List ℕ) (new : List (Option ℕ)) (more : List ℕ) (n : ℕ) → n ≤ length reached
+    → IsGiven class from sources reached new more → (take n more ≡ take n reached) × (length reached ≤ length more)
+IsGiven-front class from sources reached new more n within given = by (get_or sources class None) refl
+  where
+    by : (o : Option ℕ) → get_or sources class None ≡ o → (take n more ≡ take n reached) × (length reached ≤ length more)
+    by (Some s) is = let same = (given.had (ap is_some is)).1 in (ap (take n) same, omega (arith, ap length same))
+    by None is = let same = given.waits is in
+        (ap (take n) same ∙ take-append-le n reached (class ∷ []) within, omega (arith, ap length same, length_push reached class))
+
+-- a class of the list is one of the classes, and has a source
+pub AreReached-has : (sources : List (Option ℕ)) (reached : List ℕ) → AreReached sources reached → (k d : ℕ) → k < length reached
+    → has_source sources (get_or reached k d) × (get_or reached k d < length sources)
+AreReached-has sources reached are k d within = (has, by (cases_lt (get_or reached k d) (length sources)))
+  where
+    has : has_source sources (get_or reached k d)
+    has = (are.each (get_or reached k d)).0 (Contains-get_or reached k d within)
+
+    by : (get_or reached k d < length sources) ⊎ (length sources ≤ get_or reached k d) → get_or reached k d < length sources
+    by (inl l) = l
+    by (inr past) = absurd (true≢false (sym has ∙ ap is_some (get_or_past sources (get_or reached k d) None past)))
+
+-- the list is the same where a class is added
+pub AreReached-added : (sources : List (Option ℕ)) (reached : List ℕ) → AreReached sources reached → AreReached (sources ++ None ∷ []) reached
+AreReached-added sources reached are = record { each = λ c. rw (get_or-push_default sources None c) (are.each c) }
+
+-- what waits is the class at the place, and what waits behind it
+pub drop-next : (reached : List ℕ) (done class : ℕ) → done < length reached → class ≡ get_or reached done class → drop done reached ≡ class ∷ drop (done + 1) reached
+drop-next reached done class within is = drop_more reached done class within ∙ ap (λ x. x ∷ drop (done + 1) reached) (sym is)

@@ -1,16 +1,18 @@
 -- What is reached from some seeds.
-use Rattle.std.specs.Prelude.{◌≡◌, ◌↔◌, ◌⊎◌, ℕ, ◌+◌, ◌-◌, ◌<◌, Bool, true, false, List, [], ◌∷◌, ◌++◌, length, Option, None, IsSome, MatchOption, Contains, slice_index_or}
+use Rattle.std.specs.Prelude.{◌≡◌, ◌↔◌, ◌⊎◌, ℕ, ◌-◌, Bool, true, false, List, [], ◌∷◌, ◌++◌, Option, None, IsSome, MatchOption, Contains, slice_index_or}
 use Rattle.ld_graph.specs.Walks.{HasWalk}
 
 -- s is one of the seeds, and a walk of at least one step leads from it to c
 abbrev pub IsSource : (ℕ → ℕ → Type 0) → List ℕ → ℕ → ℕ → Type 0
 IsSource step seeds c s = Contains seeds s × HasWalk step s c
 
--- what is seen of a reach: for each class its source, if it has one, and whether it was expanded; for
--- how many further classes there is memory, and how often a class was expanded so far
+-- what is seen of a reach: for each class its source, if it has one, and whether it was expanded; the
+-- classes with a source, in the order in which they got it; for how many further classes there is
+-- memory, and how often a class was expanded so far
 pub record Reached : Type 0 where
   pub sources : List (Option ℕ)
   pub marks : List Bool
+  pub reached : List ℕ
   pub spare : ℕ
   pub expanded : ℕ
 
@@ -31,7 +33,7 @@ pub record IsReach (step : ℕ → ℕ → Type 0) (seeds : List ℕ) (reach : R
 
 -- of no class, and without memory
 abbrev pub no_reach : Reached
-no_reach = record { sources = []; marks = []; spare = 0; expanded = 0 }
+no_reach = record { sources = []; marks = []; reached = []; spare = 0; expanded = 0 }
 
 -- with one more class, which has no source and was not expanded, and took a spare one
 abbrev pub with_unreached : Reached → Reached

@@ -1,9 +1,9 @@
 //! Which classes walks from some seeds lead to, kept while edges come.
 ghost use Rattle.std.specs.Prelude.{◌≡◌, ◌⊎◌, ◌++◌, ◌∷◌, [], ℕ, List, ◌+◌, ◌<◌, ◌≤◌, ◌^◌, true, false};
-ghost use Rattle.std.specs.Prelude.{All, Contains, None, OnErr, OnOk, count_by, is_none, length};
+ghost use Rattle.std.specs.Prelude.{◌↔◌, drop, take, IsSome, All, Contains, None, OnErr, OnOk, count_by, is_none, length};
 ghost use Rattle.std.specs.Prelude.{slice_index_or, slice_set, vec_capacity, vec_len};
 ghost use Rattle.ld_graph.specs.Edges.{IsEdge, edge};
-ghost use Rattle.ld_reach.specs.Inner.Kept.{AreWaiting, IsGiven, IsSpread, all_ahead, none_ahead};
+ghost use Rattle.ld_reach.specs.Inner.Kept.{AreReached, IsGiven, IsSpread, all_ahead, none_ahead};
 ghost use Rattle.ld_graph.specs.Lists.{IsNear};
 ghost use Rattle.ld_reach.specs.Reach.{IsReach, mark_of, no_reach, source_of, with_unreached};
 ghost use Rattle.ld_graph.specs.Walks.{HasWalk};
@@ -21,8 +21,9 @@ pub struct Reach {
     sources: Vec<Option<u32>>,
     /// For each class whether it was expanded.
     marks: Vec<bool>,
-    /// Room for the classes that wait to be expanded.
-    waiting: Vec<u32>,
+    /// The classes that have a source, in the order in which they got it. The last of them may wait to
+    /// be expanded.
+    reached: Vec<u32>,
     steps: Steps,
     spare: usize,
 }
@@ -32,9 +33,9 @@ impl Model for Reach {
 
     ghost Value = { Reached };
 
-    ghost use Rattle.ld_reach.specs.Inner.Kept.{reached, IsReachKept};
+    ghost use Rattle.ld_reach.specs.Inner.Kept.{seen, IsReachKept};
 
-    ghost view = { reached };
+    ghost view = { seen };
 
     ghost invariant = { IsReachKept };
 }
@@ -48,7 +49,7 @@ impl Reach {
         Reach {
             sources: Vec::new(alloc),
             marks: Vec::new(alloc),
-            waiting: Vec::new(alloc),
+            reached: Vec::new(alloc),
             steps: Steps::new(),
             spare: 0,
         }
@@ -83,11 +84,10 @@ impl Reach {
         ensures exact { (edges : List Edge) (seeds : List ℕ) → IsReach (IsEdge edges) seeds self.old
             → IsReach (IsEdge edges) seeds self.new }
     {
-        let wanted = self.marks.len() + classes;
+        let unreached = self.marks.len() - self.reached.len();
         self.sources.reserve(classes)?;
         self.marks.reserve(classes)?;
-        self.waiting.clear();
-        self.waiting.reserve(wanted)?;
+        self.reached.reserve(unreached + classes)?;
         self.spare = self.spare.max(classes);
         Ok(())
     }
@@ -113,11 +113,12 @@ impl Reach {
             → IsReach (IsEdge graph.now.edges) (seeds ++ c ∷ []) self.new }
         ensures len { length self.new.marks ≡ length self.old.marks }
         ensures spare { self.new.spare ≡ self.old.spare }
+        ensures front { take (length self.old.reached) self.new.reached ≡ self.old.reached }
     {
         if self.marks[c as usize] {
             return;
         }
-        self.waiting.clear();
+        let known = self.reached.len();
         let lists = graph.lists();
         expand(
             lists,
@@ -125,14 +126,15 @@ impl Reach {
             c,
             &mut self.sources,
             &mut self.marks,
-            &mut self.waiting,
+            &mut self.reached,
             &mut self.steps,
         );
         spread(
             lists,
+            known,
             &mut self.sources,
             &mut self.marks,
-            &mut self.waiting,
+            &mut self.reached,
             &mut self.steps,
         );
     }
@@ -148,18 +150,20 @@ impl Reach {
             → IsReach (IsEdge graph.now.edges) seeds self.new }
         ensures len { length self.new.marks ≡ length self.old.marks }
         ensures spare { self.new.spare ≡ self.old.spare }
+        ensures front { take (length self.old.reached) self.new.reached ≡ self.old.reached }
     {
         if !self.marks[a as usize] {
             return;
         }
         let from = self.sources[a as usize].unwrap_or(a);
-        self.waiting.clear();
-        give(b, from, &mut self.sources, &self.marks, &mut self.waiting);
+        let known = self.reached.len();
+        give(b, from, &mut self.sources, &mut self.reached);
         spread(
             graph.lists(),
+            known,
             &mut self.sources,
             &mut self.marks,
-            &mut self.waiting,
+            &mut self.reached,
             &mut self.steps,
         );
     }
@@ -173,6 +177,15 @@ impl Reach {
         self.sources[c as usize]
     }
 
+    /// The classes that have a source, each once, in the order in which they got it. Takes no memory.
+    pub fn reached(&self) -> &[u32]
+        ensures same { result.now ≡ self.now.reached }
+        ensures within { All (λ c. c < length self.now.marks) self.now.reached }
+        ensures each { (c : ℕ) → Contains self.now.reached c ↔ IsSome (source_of self.now c) }
+    {
+        &self.reached
+    }
+
     /// How often a class was expanded so far: no class twice. Takes no memory.
     pub fn expanded(&self) -> u64
         ensures count { result ≡ self.now.expanded }
@@ -183,27 +196,24 @@ impl Reach {
     }
 }
 
-/// Gives the class this source, unless it has one, and lets it wait, unless it was expanded.
-fn give(class: u32, from: u32, sources: &mut [Option<u32>], marks: &[bool], waiting: &mut Vec<u32>)
-    requires same { length sources.old ≡ length marks.now }
-    requires class { class < length marks.now }
-    requires room { vec_len waiting.old + count_by is_none sources.old ≤ vec_capacity waiting.old }
-    requires waits { AreWaiting sources.old marks.now waiting.old.items }
-    ensures room { vec_len waiting.new + count_by is_none sources.new ≤ vec_capacity waiting.new }
-    ensures capacity { vec_capacity waiting.old ≤ vec_capacity waiting.new }
-    ensures waits { AreWaiting sources.new marks.now waiting.new.items }
-    ensures given { IsGiven class from sources.old marks.now waiting.old.items sources.new
-        waiting.new.items }
+/// Gives the class this source, unless it has one, and lets it wait.
+fn give(class: u32, from: u32, sources: &mut [Option<u32>], reached: &mut Vec<u32>)
+    requires class { class < length sources.old }
+    requires listed { AreReached sources.old reached.old.items }
+    requires room { vec_len reached.old + count_by is_none sources.old ≤ vec_capacity reached.old }
+    ensures listed { AreReached sources.new reached.new.items }
+    ensures room { vec_len reached.new + count_by is_none sources.new
+        ≡ vec_len reached.old + count_by is_none sources.old }
+    ensures capacity { vec_capacity reached.old ≤ vec_capacity reached.new }
+    ensures given { IsGiven class from sources.old reached.old.items sources.new reached.new.items }
 {
     if sources[class as usize].is_some() {
         return;
     }
     sources[class as usize] = Some(from);
-    if !marks[class as usize] {
-        let Ok(()) = waiting.push(class) else {
-            unreachable!()
-        };
-    }
+    let Ok(()) = reached.push(class) else {
+        unreachable!()
+    };
 }
 
 /// Expands a class: gives this source to its successors.
@@ -213,7 +223,7 @@ fn expand(
     from: u32,
     sources: &mut [Option<u32>],
     marks: &mut [bool],
-    waiting: &mut Vec<u32>,
+    reached: &mut Vec<u32>,
     steps: &mut Steps,
 )
     requires lists { length lists.now.after.lists ≡ length marks.old }
@@ -223,51 +233,67 @@ fn expand(
     requires fresh { slice_index_or marks.old class false ≡ false }
     requires counted { steps.old ≡ count_by (λ m. m) marks.old }
     requires few { length marks.old ≤ 2 ^ 30 }
-    requires room { vec_len waiting.old + count_by is_none sources.old ≤ vec_capacity waiting.old }
-    requires waits { AreWaiting sources.old (slice_set marks.old class true) waiting.old.items }
+    requires listed { AreReached sources.old reached.old.items }
+    requires room { vec_len reached.old + count_by is_none sources.old ≤ vec_capacity reached.old }
     ensures counted { steps.new ≡ count_by (λ m. m) marks.new }
-    ensures waits { AreWaiting sources.new marks.new waiting.new.items }
-    ensures more { count_by (λ m. m) marks.new ≡ count_by (λ m. m) marks.old + 1 }
-    ensures room { vec_len waiting.new + count_by is_none sources.new ≤ vec_capacity waiting.new }
-    ensures capacity { vec_capacity waiting.old ≤ vec_capacity waiting.new }
-    ensures spread { (seeds : List ℕ)
+    ensures listed { AreReached sources.new reached.new.items }
+    ensures room { vec_len reached.new + count_by is_none sources.new
+        ≡ vec_len reached.old + count_by is_none sources.old }
+    ensures capacity { vec_capacity reached.old ≤ vec_capacity reached.new }
+    ensures front { (n : ℕ) → n ≤ vec_len reached.old
+        → take n reached.new.items ≡ take n reached.old.items }
+    ensures longer { vec_len reached.old ≤ vec_len reached.new }
+    ensures spread { (done : ℕ) (seeds : List ℕ) → done ≤ vec_len reached.old
         → IsSpread (IsNear lists.now.after.lists) seeds
-            (all_ahead (IsNear lists.now.after.lists) class)
-            sources.old (slice_set marks.old class true) waiting.old.items
+        (all_ahead (IsNear lists.now.after.lists) class) sources.old
+        (slice_set marks.old class true) (drop done reached.old.items)
         → Contains seeds from × ((from ≡ class) ⊎ HasWalk (IsNear lists.now.after.lists) from class)
         → IsSpread (IsNear lists.now.after.lists) seeds none_ahead sources.new marks.new
-            waiting.new.items }
+        (drop done reached.new.items) }
 {
     for &next in lists.once(class, marks, steps) {
-        give(next, from, sources, marks, waiting);
+        give(next, from, sources, reached);
     }
 }
 
-/// Expands all classes that wait.
+/// Expands the classes that were reached, from number `known` on, and those that are reached by this.
 fn spread(
     lists: &Lists,
+    known: usize,
     sources: &mut [Option<u32>],
     marks: &mut [bool],
-    waiting: &mut Vec<u32>,
+    reached: &mut Vec<u32>,
     steps: &mut Steps,
 )
     requires lists { length lists.now.after.lists ≡ length marks.old }
+    requires known { known ≤ vec_len reached.old }
     requires ends { (x y : ℕ) → IsNear lists.now.after.lists x y → y < length marks.old }
     requires same { length sources.old ≡ length marks.old }
     requires counted { steps.old ≡ count_by (λ m. m) marks.old }
     requires few { length marks.old ≤ 2 ^ 30 }
-    requires room { vec_len waiting.old + count_by is_none sources.old ≤ vec_capacity waiting.old }
-    requires waits { AreWaiting sources.old marks.old waiting.old.items }
+    requires listed { AreReached sources.old reached.old.items }
+    requires room { vec_len reached.old + count_by is_none sources.old ≤ vec_capacity reached.old }
     ensures counted { steps.new ≡ count_by (λ m. m) marks.new }
-    ensures capacity { vec_capacity waiting.old ≤ vec_capacity waiting.new }
+    ensures listed { AreReached sources.new reached.new.items }
+    ensures room { vec_len reached.new + count_by is_none sources.new
+        ≡ vec_len reached.old + count_by is_none sources.old }
+    ensures capacity { vec_capacity reached.old ≤ vec_capacity reached.new }
+    ensures front { (n : ℕ) → n ≤ vec_len reached.old
+        → take n reached.new.items ≡ take n reached.old.items }
     ensures spread { (seeds : List ℕ)
-        → IsSpread (IsNear lists.now.after.lists) seeds none_ahead sources.old marks.old waiting.old.items
+        → IsSpread (IsNear lists.now.after.lists) seeds none_ahead sources.old marks.old
+        (drop known reached.old.items)
         → IsSpread (IsNear lists.now.after.lists) seeds none_ahead sources.new marks.new [] }
 {
-    while let Some(class) = waiting.pop() {
-        let Some(from) = sources[class as usize] else {
-            unreachable!()
-        };
-        expand(lists, class, from, sources, marks, waiting, steps);
+    let mut done = known;
+    while done < reached.len() {
+        let class = reached[done];
+        done += 1;
+        if !marks[class as usize] {
+            let Some(from) = sources[class as usize] else {
+                unreachable!()
+            };
+            expand(lists, class, from, sources, marks, reached, steps);
+        }
     }
 }

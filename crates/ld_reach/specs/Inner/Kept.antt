@@ -1,39 +1,40 @@
 -- What a reach keeps true of its fields, and what holds while it is spread. No public contract cites
 -- this file.
-use Rattle.std.specs.Prelude.{◌≡◌, ◌⊎◌, ◌↔◌, ℕ, ◌+◌, ◌<◌, ◌≤◌, ◌^◌, Bool, true, false, List, length, Option, None, Some, IsSome, Contains, AllPairs, ◌≢◌, slice_index_or, slice_set, if◌then◌else◌, [], ◌∷◌, ◌++◌, count_by, vec_len, vec_capacity, All}
+use Rattle.std.specs.Prelude.{◌≡◌, ◌⊎◌, ◌↔◌, ℕ, ◌+◌, ◌<◌, ◌≤◌, ◌^◌, Bool, true, false, List, length, Option, None, Some, IsSome, Contains, slice_index_or, slice_set, [], ◌∷◌, ◌++◌, is_none, count_by, vec_len, vec_capacity}
 use Rattle.ld_reach.specs.declared.reach.Reach.TheInside.{Inside}
 use Rattle.ld_reach.specs.Reach.{IsSource, Reached}
 
 -- what callers see of the fields
-abbrev pub reached : Inside → Reached
-reached r = record {
+abbrev pub seen : Inside → Reached
+seen r = record {
   sources = r.sources.items;
   marks = r.marks.items;
+  reached = r.reached.items;
   spare = r.spare;
   expanded = r.steps;
 }
+
+-- the list has the classes with a source
+pub record AreReached (sources : List (Option ℕ)) (reached : List ℕ) : Type 0 where
+  pub each : (c : ℕ) → Contains reached c ↔ IsSome (slice_index_or sources c None)
 
 -- what holds of the fields of every reach
 pub record IsReachKept (r : Inside) : Type 0 where
   pub same : vec_len r.sources ≡ vec_len r.marks
   pub counted : r.steps ≡ count_by (λ m. m) r.marks.items
+  pub listed : AreReached r.sources.items r.reached.items
+  -- each class is in the list once, or has no source
+  pub each_once : vec_len r.reached + count_by is_none r.sources.items ≡ vec_len r.marks
   pub room_sources : vec_len r.marks + r.spare ≤ vec_capacity r.sources
   pub room_marks : vec_len r.marks + r.spare ≤ vec_capacity r.marks
-  pub room_waiting : vec_len r.marks + r.spare ≤ vec_capacity r.waiting
+  pub room_reached : vec_len r.marks + r.spare ≤ vec_capacity r.reached
   pub few : vec_len r.marks + r.spare ≤ 2 ^ 30
 
--- The classes that wait have a source, were not expanded, and each waits once.
-pub record AreWaiting (sources : List (Option ℕ)) (marks : List Bool) (waiting : List ℕ) : Type 0 where
-  pub each : All (λ x. (slice_index_or marks x false ≡ false) × IsSome (slice_index_or sources x None)) waiting
-  pub once : AllPairs (λ x y. x ≢ y) waiting
-
--- The class has this source now, unless it had one, and waits, unless it was expanded or had a source.
-pub record IsGiven (class from : ℕ) (sources : List (Option ℕ)) (marks : List Bool) (waiting : List ℕ)
-    (new_sources : List (Option ℕ)) (new_waiting : List ℕ) : Type 0 where
-  pub had : IsSome (slice_index_or sources class None) → (new_sources ≡ sources) × (new_waiting ≡ waiting)
+-- The class has this source now, unless it had one, and is in the list.
+pub record IsGiven (class from : ℕ) (sources : List (Option ℕ)) (reached : List ℕ) (new_sources : List (Option ℕ)) (new_reached : List ℕ) : Type 0 where
+  pub had : IsSome (slice_index_or sources class None) → (new_sources ≡ sources) × (new_reached ≡ reached)
   pub gets : slice_index_or sources class None ≡ None → new_sources ≡ slice_set sources class (Some from)
-  pub waits : slice_index_or sources class None ≡ None
-      → new_waiting ≡ (if slice_index_or marks class false then waiting else waiting ++ class ∷ [])
+  pub waits : slice_index_or sources class None ≡ None → new_reached ≡ reached ++ class ∷ []
 
 -- What holds while a reach is spread over classes that wait. `ahead` has the steps from marked classes
 -- that were not gone yet.
