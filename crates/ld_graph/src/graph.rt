@@ -99,6 +99,8 @@ impl Graph {
         ensures after { (x y : ℕ) → IsNear result.now.after.lists x y ↔ IsEdge self.now.edges x y }
         ensures before { (x y : ℕ) →
             IsNear result.now.before.lists x y ↔ IsEdge self.now.edges y x }
+        ensures ends { (x y : ℕ) → IsEdge self.now.edges x y
+            → (x < self.now.classes) × (y < self.now.classes) }
     {
         &self.lists
     }

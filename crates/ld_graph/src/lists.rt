@@ -2,7 +2,7 @@
 //! that count.
 
 ghost use Rattle.std.specs.Prelude.{◌≡◌, ◌+◌, ◌<◌, ◌≤◌, ◌^◌, [], ◌∷◌, ◌++◌, OnOk, length};
-ghost use Rattle.std.specs.Prelude.{slice_set, nat_eq};
+ghost use Rattle.std.specs.Prelude.{slice_set, slice_index_or, nat_eq, true, false};
 ghost use Rattle.std.specs.List.{IsDistinct};
 ghost use Rattle.ld_graph.specs.Inner.Sides.{of_side, ListsGrown, HasRoom, IsNextClass};
 ghost use Rattle.ld_graph.specs.Inner.Sides.{IsNextItem};
@@ -92,6 +92,22 @@ impl Lists {
     {
         steps.count += 1;
         self.after.of(c)
+    }
+
+    /// What `after` gives, and puts the mark of the class `c` on, which has to be off. So by one list of
+    /// marks no class' successors are read twice. Takes no memory.
+    pub fn once(&self, c: u32, marks: &mut [bool], steps: &mut Steps) -> &[u32]
+        requires class { c < length self.now.after.lists }
+        requires few { steps.old + 1 < 2 ^ 64 }
+        requires marks { length marks.old ≡ length self.now.after.lists }
+        requires off { slice_index_or marks.old c false ≡ false }
+        ensures near { result.now ≡ list_at self.now.after.lists c }
+        ensures once { IsDistinct nat_eq result.now }
+        ensures step { steps.new ≡ steps.old + 1 }
+        ensures on { marks.new ≡ slice_set marks.old c true }
+    {
+        marks[c as usize] = true;
+        self.after(c, steps)
     }
 
     /// The predecessors of the class `c`, each once. Adds one to the count. Takes no memory.

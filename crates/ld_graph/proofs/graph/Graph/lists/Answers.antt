@@ -12,3 +12,6 @@ pub returns-clause-before : goal.returns-clause-before
 returns-clause-before c =
     subst (λ g. (x y : ℕ) → IsNear c.self.inside.lists.before.lists x y ↔ IsEdge g.edges y x)
     c.self.view_is c.self.invariant.before_edges
+
+pub returns-clause-ends : goal.returns-clause-ends
+returns-clause-ends c = rw (← c.self.view_is) (c.self.invariant.ends)
