@@ -36,7 +36,8 @@ returns-clause-found c = λ old tells are. record {
   cycle = c.cycle_then-self.ensures.found (edges_of old.dependencies) (sym (length_rows old.dependencies) ∙ sym tells.count ∙ sym c.first_edge.ensures)
       (ap (λ n. take n all) c.first_edge.ensures ∙ tells.front) are.cycle;
   conflict = λ state. conflict (bits_of old.usage) tells.bits are.conflict state;
-  forbidden = λ state. forbidden (edges_of old.dependencies) (bits_of old.usage) (edges_kept (edges_of old.dependencies) all c.args.news.now.first_edge tells.front) tells.bits.kept are.forbidden state;
+  forbidden = λ state. forbidden (edges_of old.dependencies) (bits_of old.usage)
+      (edges_kept (edges_of old.dependencies) all c.args.news.now.first_edge tells.front) tells.bits.kept are.forbidden state;
 }
   where
     union : PlainUnion

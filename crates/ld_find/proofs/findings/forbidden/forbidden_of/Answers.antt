@@ -19,4 +19,5 @@ pub returns-then-is_none : goal.returns-then-is_none
 returns-then-is_none c sources shows found =
     subst (AreForbiddenRowsOf sources (λ k. k.0 ≡ c.args.state)) (sym (ap (map plain_forbidden_row) c.new.ensures.items))
     (rows-none forbidden_key (IsForbiddenRow sources) (λ k. IsForbidden sources k.0 k.1.0 k.1.1) (InTurn IsHarder IsPairBefore) (λ k. k.0 ≡ c.args.state)
-    (λ k walk here. found.forbidden c.args.state (sym c.get.ensures ∙ None_from_is_some c.get.result c.if-is_none.ensures) k.1.0 k.1.1 (subst (λ (s : State). IsForbidden sources s k.1.0 k.1.1) here walk)))
+    (λ k walk here. found.forbidden c.args.state (sym c.get.ensures ∙ None_from_is_some c.get.result c.if-is_none.ensures) k.1.0 k.1.1
+    (subst (λ (s : State). IsForbidden sources s k.1.0 k.1.1) here walk)))
