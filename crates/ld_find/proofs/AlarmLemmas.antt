@@ -1,13 +1,12 @@
 -- Cycles in a graph that grew.
-use Rattle.std.proofs.Common.{◌≡◌, ◌⊎◌, inl, inr, ◌++◌, List, ℕ, zero, suc, All, take, drop, map, length, sym, ap, subst, ◌∙◌, take-append-drop}
-use Rattle.std.proofs.lemmas.List.{drop-map}
-use Rattle.std.proofs.lemmas.List.Elements.{All-contains, All-map, Contains-append_cases, Contains-append_right}
+use Rattle.std.proofs.Common.{◌≡◌, ◌⊎◌, inl, inr, ◌++◌, List, ℕ, zero, suc, All, take, drop, length, sym, ap, subst, ◌∙◌, ◌+◌, ◌<◌, arith, take-append-drop}
+use Rattle.std.proofs.lemmas.List.{get_or-drop, get_or_default, length-drop}
+use Rattle.std.proofs.lemmas.List.Elements.{All-contains, Contains-append_cases, Contains-append_right}
 use Rattle.ld_graph.specs.declared.Edge.{Edge}
 use Rattle.ld_graph.specs.Edges.{IsEdge, edge}
 use Rattle.ld_graph.specs.Walks.{HasWalk}
 use Rattle.ld_graph.proofs.WalkLemmas.{Far, HasWalk-Far, IsWalk-Far}
-use Rattle.ld_union.specs.declared.union.Witnessed.{Witnessed}
-use Rattle.ld_find.specs.Inner.Numbers.{IsCycleAt}
+use Rattle.ld_find.specs.Inner.Numbers.{AreOnNoCycle, IsCycleAt}
 
 -- two walks in turn
 Far-append : {A : Type 0} (step : A → A → Type 0) (n m : ℕ) (a b c : A) → Far step n a b → Far step m b c → (k : ℕ) × Far step k a c
@@ -57,16 +56,20 @@ no_cycle-more old more none none_more e cycle = by_edge (Contains-append_cases o
         let far = IsWalk-Far (IsEdge (old ++ more)) e.to e.from cycle.1.0 cycle.1.1 in
         by_walk far.0 known (closed_cases (IsEdge old) (IsEdge more) (IsEdge (old ++ more)) cases far.0 zero e.to e.from far.1.1 cycle.0)
 
--- the same of the rows that came after those of the old edges
-pub no_cycle-rows : (old new : List Edge) (rows : List Witnessed) → map (λ r. r.edge) rows ≡ new → take (length old) new ≡ old → ((e : Edge) → ¬ IsCycleAt old e)
-    → All (λ r. ¬ IsCycleAt new r.edge) (drop (length old) rows) → (e : Edge) → ¬ IsCycleAt new e
-no_cycle-rows old new rows edges front none none_more =
+-- the same of the edges that came after the old ones
+pub no_cycle-grown : (old new : List Edge) → take (length old) new ≡ old → ((e : Edge) → ¬ IsCycleAt old e) → AreOnNoCycle new (length old) (length new) → (e : Edge) → ¬ IsCycleAt new e
+no_cycle-grown old new front none none_more =
     subst (λ all. (e : Edge) → ¬ IsCycleAt all e) (sym is)
-    (no_cycle-more old more none (All-map (λ e. ¬ IsCycleAt (old ++ more) e) (λ r. r.edge) (drop (length old) rows)
-    (subst (λ all. All (λ r. ¬ IsCycleAt all r.edge) (drop (length old) rows)) is none_more)))
+    (no_cycle-more old more none (subst (λ all. All (λ e. ¬ IsCycleAt all e) more) is all_more))
   where
     more : List Edge
-    more = map (λ r. r.edge) (drop (length old) rows)
+    more = drop (length old) new
 
     is : new ≡ old ++ more
-    is = sym (take-append-drop (length old) new) ∙ (λ i. front i ++ drop (length old) (sym edges i)) ∙ ap (λ es. old ++ es) (drop-map (λ r. r.edge) (length old) rows)
+    is = sym (take-append-drop (length old) new) ∙ ap (λ es. es ++ more) front
+
+    all_more : All (λ e. ¬ IsCycleAt new e) more
+    all_more k d within cycle =
+        let below : length old + k < length new = omega (arith, within, length-drop (length old) new) in
+        none_more (length old + k) (omega arith) below
+        (subst (IsCycleAt new) (get_or-drop (length old) new k d ∙ get_or_default new (length old + k) d (edge 0 0) below) cycle)

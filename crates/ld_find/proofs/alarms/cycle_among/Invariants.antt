@@ -1,9 +1,10 @@
-use Rattle.std.proofs.Common.{◌≡◌, All, take}
-use Rattle.ld_find.specs.Inner.Numbers.{IsCycleAt, with_searched}
+use Rattle.std.proofs.Common.{◌≡◌}
+use Rattle.ld_find.specs.Inner.Numbers.{AreOnNoCycle}
+use Rattle.ld_union.specs.Inner.Union.{edges_of, searched_union}
 use Rattle.ld_find.proofs.alarms.cycle_among.Given as goal
 
-abbrev pub invariant-loop-row : goal.invariant-loop-row
-invariant-loop-row l = record {
-  same : l.graph ≡ with_searched l.fn.graph l.graph.searched;
-  none : All (λ r. ¬ IsCycleAt l.fn.graph.edges r.edge) (take l.row-index l.rows);
+abbrev pub invariant-loop-number : goal.invariant-loop-number
+invariant-loop-number l = record {
+  same : l.union ≡ searched_union l.fn.union l.union.searched;
+  none : AreOnNoCycle (edges_of l.fn.union.dependencies) l.first l.number;
 }
