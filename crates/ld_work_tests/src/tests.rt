@@ -294,6 +294,8 @@ impl Gate for Meeting {
             }
             thread::yield_now();
         }
+        // Nobody else need wait for those that didn't come.
+        self.came.fetch_add(self.awaited, Ordering::SeqCst);
     }
 }
 
