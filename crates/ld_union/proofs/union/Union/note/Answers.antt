@@ -28,7 +28,7 @@ returns-in-Some-clause-noted c first witnessed =
 pub returns-in-Ok-clause-numbered : goal.returns-in-Ok-clause-numbered
 returns-in-Ok-clause-numbered c =
     let self = c.args.self.now in
-    let inserted : c.insert.new.self ≡ with_edge self.graph c.args.edge.from c.args.edge.to = search rules in
+    let inserted : c.insert.new.self ≡ with_edge self.graph c.args.edge.from c.args.edge.to c.insert.new.self.order = search rules in
     rw c.in-Ok.ensures.items
     (numbered-pushed self.classes self.graph self.dependencies.items c.requires.numbered c.args.edge (c.requires.from, c.requires.to)
     c.in-None.ensures _ c.insert.new.self refl (ap (λ g. g.classes) inserted) (ap (λ g. g.edges) inserted))
