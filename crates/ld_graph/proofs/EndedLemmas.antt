@@ -1,14 +1,12 @@
 -- What is known where one of two searches in turn has ended.
-use Rattle.std.proofs.Common.{◌≡◌, ◌≢◌, ◌↔◌, ◌⊎◌, inl, inr, ℕ, zero, suc, ◌+◌, ◌-◌, ◌<◌, ◌≤◌, Bool}
-use Rattle.std.proofs.Common.{true, false, true≢false, not, List, [], ◌∷◌, ◌++◌, length, get_or}
+use Rattle.std.proofs.Common.{◌≡◌, ◌≢◌, ◌↔◌, ◌⊎◌, inl, inr, ℕ, zero, suc, ◌+◌, ◌-◌, ◌<◌, ◌≤◌}
+use Rattle.std.proofs.Common.{true, false, true≢false, not, List, ◌++◌, length, get_or}
 use Rattle.std.proofs.Common.{nat_eq, Contains, arith, refl, sym, ap, subst, ◌∙◌}
 use Rattle.std.specs.List.{IsDistinct, list_any}
-use Rattle.std.proofs.lemmas.Bool.{cases_lt, cases_eq, eqb-true}
+use Rattle.std.proofs.lemmas.Bool.{cases_lt, eqb-true}
 use Rattle.std.proofs.lemmas.List.{get_or_default, get_or_append_left, length-append}
 use Rattle.std.proofs.lemmas.List.{get_or-append_right}
 use Rattle.std.proofs.lemmas.List.Elements.{Contains-append_cases, Contains-get_or}
-use Rattle.std.proofs.lemmas.List.Elements.{Contains-push_cases}
-use Rattle.std.proofs.lemmas.Map.Keys.{IsDistinct-head, IsDistinct-tail}
 use Rattle.std.proofs.lemmas.Map.Keys.{IsDistinct-from_apart, apart_from_distinct}
 use Rattle.std.proofs.lemmas.Map.Steps.{length-le_from_distinct_below}
 use Rattle.ld_graph.specs.declared.lists.Side.{Side}
@@ -19,7 +17,6 @@ use Rattle.ld_graph.specs.Inner.Repairs.{in_front, is_part, HasEnded, HasMet}
 use Rattle.ld_graph.specs.Lists.{IsNear, Sides}
 use Rattle.ld_graph.proofs.WalkLemmas.{Far, Far-turned, HasWalk-Far, IsWalk-Far}
 use Rattle.ld_graph.proofs.MarkLemmas.{bool_cases}
-use Rattle.ld_graph.proofs.OnceLemmas.{IsDistinct-one_more}
 use Rattle.ld_graph.proofs.PartLemmas.{any_Contains, Contains_any, any_none}
 
 module _ (step : ℕ → ℕ → Type 0) (ranks : List ℕ)
@@ -127,9 +124,11 @@ module _ (after before : ℕ → ℕ → Type 0) (turned : (x y : ℕ) → after
   -- a walk that the search backward found, turned round
   turned_walk : (x y : ℕ) → HasWalk before x y → (n : ℕ) × Far after n y x
   turned_walk x y w =
-      let f = IsWalk-Far before x y w.0 w.1 in
-      (f.0, Far-turned after f.0 y x (Far-same before (λ p q. after q p) (λ p q h. (turned q p).1 h)
-      f.0 x y f.1.1))
+      let f = IsWalk-Far before x y w.0 w.1 in (
+        f.0,
+        Far-turned after f.0 y x (Far-same before (λ p q. after q p) (λ p q h. (turned q p).1 h)
+            f.0 x y f.1.1),
+      )
 
   turned_reached : (x y : ℕ) → Reached before x y → Reached after y x
   turned_reached x y (inl e) = inl (sym e)
@@ -155,9 +154,14 @@ module _ (after before : ℕ → ℕ → Type 0) (turned : (x y : ℕ) → after
         let c = f.1.1 in let i = c.1 in
         let at : get_or row (get_or behind c.0 0) 0 ≡ y =
         ap (λ z. get_or row z 0) (get_or_default behind c.0 0 (rank y - low) i ∙ c.2)
-        ∙ r.back y f.0 f.1.0 in
-        ((ends x y s).0, (inside, closed c.0 x i (subst (λ z. before z x) (sym at) ((turned x y).0
-        s)) inside))
+        ∙ r.back y f.0 f.1.0 in (
+          (ends x y s).0,
+          (
+            inside,
+            closed c.0 x i (subst (λ z. before z x) (sym at) ((turned x y).0
+                s)) inside,
+          ),
+        )
 
     behind_first : (k : ℕ) → Contains behind k → Contains ahead k → Contains behind 0
     behind_first k b a = to (forth.reached k a)
@@ -187,8 +191,14 @@ module _ (after before : ℕ → ℕ → Type 0) (turned : (x y : ℕ) → after
         → IsInside low (length row) (rank y)
         → is_part behind true (rank y - low) ≡ true → is_part behind true (rank x - low) ≡ true
     behind_front x y s i j e =
-        Contains_any behind (rank x - low) (behind_closed x y ((ends x y s).1, (j, any_Contains behind
-        (rank y - low) e)) s i.0).1.1
+        Contains_any behind (rank x - low) (behind_closed x y (
+          (ends x y s).1,
+          (
+            j,
+            any_Contains behind
+                (rank y - low) e,
+          ),
+        ) s i.0).1.1
 
   -- the search forward has ended
   module _ (closed : IsClosed after ranks low row ahead (length ahead)) where

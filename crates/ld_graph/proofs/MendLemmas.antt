@@ -1,10 +1,9 @@
 -- The ranks of a range are given anew: what was found goes to one end, and all keep their order.
-use Rattle.std.proofs.Common.{◌≡◌, ◌≢◌, ◌↔◌, ◌⊎◌, inl, inr, ℕ, zero, suc, ◌+◌, ◌-◌, ◌<◌, ◌≤◌, Bool}
-use Rattle.std.proofs.Common.{true, false, true≢false, not, List, [], ◌∷◌, ◌++◌, length, get_or}
-use Rattle.std.proofs.Common.{take, drop, nat_eq, Contains, arith, refl, sym, ap, subst, ◌∙◌}
-use Rattle.std.specs.List.{IsDistinct, list_any}
-use Rattle.std.proofs.lemmas.Bool.{cases_lt, cases_eq, eqb-true}
-use Rattle.std.proofs.lemmas.List.{get_or_default, get_or-take, get_or-drop, length-take-le}
+use Rattle.std.proofs.Common.{◌≡◌, ◌≢◌, ◌⊎◌, inl, inr, ℕ, ◌+◌, ◌-◌, ◌<◌, ◌≤◌, Bool}
+use Rattle.std.proofs.Common.{true, false, List, length, get_or}
+use Rattle.std.proofs.Common.{take, drop, arith, sym, ap, subst, ◌∙◌}
+use Rattle.std.proofs.lemmas.Bool.{cases_lt}
+use Rattle.std.proofs.lemmas.List.{get_or-take, get_or-drop, length-take-le}
 use Rattle.std.proofs.lemmas.List.{length-drop}
 use Rattle.ld_graph.specs.Inner.Repairs.{AreInverse, IsGiven, IsInside, IsPlan, IsRepaired, IsRow}
 use Rattle.ld_graph.specs.Inner.Repairs.{split, split_place}
@@ -32,8 +31,7 @@ module _ (ranks classes : List ℕ) (low m : ℕ) (h : AreInverse ranks classes)
         let b : k < m = omega (arith, l, n) in
         let e = row_read k b in
         let r : low + k < length ranks = omega (arith, b, within, len) in
-        let c = h.class_below (low + k) r in
-        (
+        let c = h.class_below (low + k) r in (
           subst (λ z. z < length ranks) (sym e) c,
           ap (λ z. get_or ranks z 0) e ∙ h.forth (low + k) r,
         );
@@ -168,16 +166,29 @@ module _ (ranks classes : List ℕ) (low m : ℕ) (h : AreInverse ranks classes)
             let k : r - low < m = omega (arith, a, b) in
             let s = split-onto p item m (r - low) k in
             let j = s.1.0 in let e = s.1.1 in
-            let q : low + (r - low) ≡ r = omega (arith, a) in
-            (item s.0, (below s.0 j, (
-              ap (λ z. get_or new_classes z 0) (sym q) ∙ given.class_at (r - low) k
-              ∙ ap (λ z. get_or moved z 0) (sym e) ∙ split-at p item m s.0 j,
-              new_rank_of s.0 j ∙ ap (λ z. low + z) e ∙ q,
-            )))
+            let q : low + (r - low) ≡ r = omega (arith, a) in (
+              item s.0,
+              (
+                below s.0 j,
+                (
+                  ap (λ z. get_or new_classes z 0) (sym q) ∙ given.class_at (r - low) k
+                      ∙ ap (λ z. get_or moved z 0) (sym e) ∙ split-at p item m s.0 j,
+                  new_rank_of s.0 j ∙ ap (λ z. low + z) e ∙ q,
+                ),
+              ),
+            )
         by (inr o) =
-            let f = h.forth r l in let c = h.class_below r l in
-            (get_or classes r 0, (c, (given.class_else r o, new_outside (get_or classes r 0) c (subst
-            (λ z. (z < low) ⊎ (low + m ≤ z)) (sym f) o) ∙ f)))
+            let f = h.forth r l in let c = h.class_below r l in (
+              get_or classes r 0,
+              (
+                c,
+                (
+                  given.class_else r o,
+                  new_outside (get_or classes r 0) c (subst
+                      (λ z. (z < low) ⊎ (low + m ≤ z)) (sym f) o) ∙ f,
+                ),
+              ),
+            )
 
     class_of : (x : ℕ) → x < length ranks → get_or new_classes (get_or new_ranks x 0) 0 ≡ x
     class_of x l = by (inside_or (rank x))
@@ -274,8 +285,11 @@ module _ (step : ℕ → ℕ → Type 0) (ranks classes : List ℕ) (h : AreInve
   pub row_last : get_or row (high - low) 0 ≡ a
   row_last =
       row_read ranks classes low (high + 1 - low) h plan_within (high - low) (omega (arith, against))
-      ∙ ap (λ z. get_or classes z 0) (let e : low + (high - low) ≡ get_or ranks a 0 = omega (arith,
-      high_is, against) in e) ∙ h.back a a_in
+      ∙ ap (λ z. get_or classes z 0) (let e : low + (high - low) ≡ get_or ranks a 0 = omega (
+        arith,
+        high_is,
+        against,
+      ) in e) ∙ h.back a a_in
 
   pub row_end : get_or row (length row - 1) 0 ≡ a
   row_end =

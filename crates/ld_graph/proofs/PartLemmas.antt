@@ -1,6 +1,6 @@
 -- The part of a row that was found, and its rest.
-use Rattle.std.proofs.Common.{◌≡◌, ◌⊎◌, inl, inr, ℕ, zero, suc, ◌+◌, ◌≤◌, Bool, true, false, not}
-use Rattle.std.proofs.Common.{true≢false, if◌then◌else◌, List, [], ◌∷◌, ◌++◌, nat_eq, Contains, arith, refl, sym}
+use Rattle.std.proofs.Common.{◌≡◌, ◌⊎◌, inl, inr, ℕ, zero, suc, ◌+◌, Bool, true, false, not}
+use Rattle.std.proofs.Common.{true≢false, if◌then◌else◌, List, [], ◌∷◌, ◌++◌, nat_eq, Contains, refl, sym}
 use Rattle.std.proofs.Common.{ap, ◌∙◌}
 use Rattle.std.proofs.Math.Bool.{beq}
 use Rattle.std.specs.List.{list_any}

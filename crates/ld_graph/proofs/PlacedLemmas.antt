@@ -1,6 +1,6 @@
 -- What the insert of an edge answers is so.
-use Rattle.std.proofs.Common.{◌≡◌, ◌↔◌, ◌⊎◌, inl, inr, ℕ, zero, suc, ◌+◌, ◌<◌, ◌≤◌, Bool, true, false}
-use Rattle.std.proofs.Common.{true≢false, List, [], ◌∷◌, ◌++◌, length, get_or, Some, None, IfSome}
+use Rattle.std.proofs.Common.{◌≡◌, ◌⊎◌, inl, inr, ℕ, suc, ◌+◌, ◌<◌, ◌≤◌, Bool, true, false}
+use Rattle.std.proofs.Common.{true≢false, List, [], ◌∷◌, ◌++◌, length, get_or, Some, IfSome}
 use Rattle.std.proofs.Common.{Contains, arith, refl, sym, ap, subst, ◌∙◌}
 use Rattle.std.proofs.lemmas.List.Elements.{Contains-append_left, Contains-get_or, Contains-push}
 use Rattle.ld_graph.specs.declared.graph.Graph.TheInside.{Inside}
@@ -15,7 +15,7 @@ use Rattle.ld_graph.specs.Inner.Placed.{IsPlaced}
 use Rattle.ld_graph.specs.Inner.Repairs.{AreInverse, Reached}
 use Rattle.ld_graph.proofs.EdgeLemmas.{IsEdge-push}
 use Rattle.ld_graph.proofs.EndedLemmas.{Far-rises, Far-same}
-use Rattle.ld_graph.proofs.WalkLemmas.{Far, HasWalk-Far, IsWalk-Far}
+use Rattle.ld_graph.proofs.WalkLemmas.{HasWalk-Far, IsWalk-Far}
 
 -- where ranks rise along the steps there is no cycle
 pub acyclic : (step : ℕ → ℕ → Type 0) (ranks : List ℕ)
@@ -29,22 +29,34 @@ acyclic step ranks rises w =
 pub HasCycle-more : (edges : List Edge) (a b : ℕ) → HasCycle (IsEdge edges)
     → HasCycle (IsEdge (edges ++ edge a b ∷ []))
 HasCycle-more edges a b w =
-    let f = IsWalk-Far (IsEdge edges) w.0 w.0 w.1.0 w.1.1 in
-    (w.0, HasWalk-Far (IsEdge (edges ++ edge a b ∷ [])) f.0 w.0 w.0 (Far-same (IsEdge edges) (IsEdge
-    (edges ++ edge a b ∷ [])) (λ x y e. Contains-append_left edges (edge a b ∷ []) (edge x y) e) f.0
-    w.0 w.0 f.1.1))
+    let f = IsWalk-Far (IsEdge edges) w.0 w.0 w.1.0 w.1.1 in (
+      w.0,
+      HasWalk-Far (IsEdge (edges ++ edge a b ∷ [])) f.0 w.0 w.0 (Far-same (IsEdge edges) (IsEdge
+          (edges ++ edge a b ∷ [])) (λ x y e. Contains-append_left edges (edge a b ∷ []) (edge x y) e) f.0
+          w.0 w.0 f.1.1),
+    )
 
 -- an edge to where a walk leads to it closes a cycle
 pub HasCycle-closed : (edges : List Edge) (a b : ℕ) → Reached (IsEdge edges) b a
     → HasCycle (IsEdge (edges ++ edge a b ∷ []))
-HasCycle-closed edges a b (inl e) =
-    (a, HasWalk-Far (IsEdge (edges ++ edge a b ∷ [])) 0 a a (subst (λ z. IsEdge (edges ++ edge a b
-    ∷ []) a z) e (Contains-push edges (edge a b))))
+HasCycle-closed edges a b (inl e) = (
+  a,
+  HasWalk-Far (IsEdge (edges ++ edge a b ∷ [])) 0 a a (subst (λ z. IsEdge (edges ++ edge a b
+      ∷ []) a z) e (Contains-push edges (edge a b))),
+)
 HasCycle-closed edges a b (inr w) =
-    let f = IsWalk-Far (IsEdge edges) b a w.0 w.1 in
-    (a, HasWalk-Far (IsEdge (edges ++ edge a b ∷ [])) (suc f.0) a a (b, (Contains-push edges (edge a
-    b), Far-same (IsEdge edges) (IsEdge (edges ++ edge a b ∷ [])) (λ x y e. Contains-append_left
-    edges (edge a b ∷ []) (edge x y) e) f.0 b a f.1.1)))
+    let f = IsWalk-Far (IsEdge edges) b a w.0 w.1 in (
+      a,
+      HasWalk-Far (IsEdge (edges ++ edge a b ∷ [])) (suc f.0) a a (
+        b,
+        (
+          Contains-push edges (edge a
+              b),
+          Far-same (IsEdge edges) (IsEdge (edges ++ edge a b ∷ [])) (λ x y e. Contains-append_left
+              edges (edge a b ∷ []) (edge x y) e) f.0 b a f.1.1,
+        ),
+      ),
+    )
 
 Reached-same : (s t : ℕ → ℕ → Type 0) → ((x y : ℕ) → s x y → t x y) → (a b : ℕ) → Reached s a b
     → Reached t a b

@@ -1,6 +1,6 @@
 -- A row of items is split in two: the front ones first, in their order, then the others in theirs.
 use Rattle.std.proofs.Common.{◌≡◌, ◌≢◌, ◌⊎◌, inl, inr, ℕ, zero, suc, ◌+◌, ◌-◌, ◌<◌, ◌≤◌, Bool, true}
-use Rattle.std.proofs.Common.{false, true≢false, not, if◌then◌else◌, List, [], ◌∷◌, ◌++◌, length}
+use Rattle.std.proofs.Common.{false, true≢false, not, [], ◌∷◌, length}
 use Rattle.std.proofs.Common.{get_or, arith, refl, sym, ap, subst, ◌∙◌}
 use Rattle.std.proofs.lemmas.Bool.{cases_lt, cases_eq}
 use Rattle.std.proofs.lemmas.List.{get_or_append_left, get_or_push, length_push}
@@ -80,8 +80,11 @@ module _ (p : ℕ → Bool) where
         by g true f (inr q) =
             let a : i < n = omega arith in
             let s = count-step i n e a in let k = length-picked n in
-            rw f (get_or_append_left (picked p item n) (item n ∷ []) 0 (count p i) (omega (arith,
-            s, k)) ∙ g a)
+            rw f (get_or_append_left (picked p item n) (item n ∷ []) 0 (count p i) (omega (
+              arith,
+              s,
+              k,
+            )) ∙ g a)
         by g false f (inl q) = absurd (true≢false (sym e ∙ ap p q ∙ f))
         by g false f (inr q) = rw f (g (omega arith))
 

@@ -115,6 +115,13 @@ impl Ranks {
             ((self.new.ranks ≡ self.old.ranks) × Reached (IsNear lists.now.after.lists) b a)
             (IsRepaired (IsNear lists.now.after.lists) a b self.old.ranks self.new.ranks) }
     {
-        mend(lists, &mut self.ranks, &mut self.classes, a, b, &mut self.space)
+        mend(
+            lists,
+            &mut self.ranks,
+            &mut self.classes,
+            a,
+            b,
+            &mut self.space,
+        )
     }
 }

@@ -57,13 +57,7 @@ fn split_row(row: &[u32], search: &Search, front: bool, moved: &mut Vec<u32>)
 
 /// Puts the classes of the row in their new order, by the search that has ended, and answers whether
 /// the searches are apart. Where they have met there is no such order.
-fn reorder(
-    ended: Side,
-    row: &[u32],
-    behind: &Search,
-    ahead: &Search,
-    moved: &mut Vec<u32>,
-) -> bool
+fn reorder(ended: Side, row: &[u32], behind: &Search, ahead: &Search, moved: &mut Vec<u32>) -> bool
     requires some { 0 < length row.now }
     requires behind { length row.now ≤ behind.now.size }
     requires ahead { length row.now ≤ ahead.now.size }
@@ -74,7 +68,7 @@ fn reorder(
         (¬ HasMet ended (length row.now) behind.now.found ahead.now.found) }
     ensures items { OnTrue result (moved.new.items
         ≡ split (in_front ended behind.now.found ahead.now.found) (slice_index row.now)
-            (length row.now)) }
+        (length row.now)) }
     ensures capacity { vec_capacity moved.old ≤ vec_capacity moved.new }
 {
     match ended {
@@ -114,7 +108,7 @@ fn plan(lists: &Lists, ranks: &[u32], low: u32, row: &[u32], space: &mut Space) 
     requires room { length row.now ≤ vec_capacity space.old.moved }
     ensures plan { MatchOption result
         (Reached (IsNear lists.now.after.lists) (slice_index row.now 0)
-            (slice_index row.now (length row.now - 1)))
+        (slice_index row.now (length row.now - 1)))
         (IsPlan (IsNear lists.now.after.lists) ranks.now low row.now space.new.moved.items) }
     ensures behind { (space.new.behind.found ≡ [])
         × (space.new.behind.size ≡ space.old.behind.size) }
@@ -123,16 +117,16 @@ fn plan(lists: &Lists, ranks: &[u32], low: u32, row: &[u32], space: &mut Space) 
     ensures room { vec_capacity space.old.moved ≤ vec_capacity space.new.moved }
 {
     let mut steps = Steps::new();
-    let Space { behind, ahead, moved } = space;
+    let Space {
+        behind,
+        ahead,
+        moved,
+    } = space;
     let ended = search_in_turn(lists, &mut steps, ranks, low, row, behind, ahead);
     let apart = reorder(ended, row, behind, ahead, moved);
     behind.clear();
     ahead.clear();
-    if apart {
-        Some(steps.count())
-    } else {
-        None
-    }
+    if apart { Some(steps.count()) } else { None }
 }
 
 /// Gives these classes the ranks from `low` on, in this order.

@@ -71,11 +71,23 @@ pub fn search_in_turn(
     ahead.add(0);
     let mut done = 0;
     while let Some(place) = behind.place(done) {
-        expand(lists.before(row[place as usize], steps), ranks, low, row.len(), behind);
+        expand(
+            lists.before(row[place as usize], steps),
+            ranks,
+            low,
+            row.len(),
+            behind,
+        );
         let Some(place) = ahead.place(done) else {
             return Side::After;
         };
-        expand(lists.after(row[place as usize], steps), ranks, low, row.len(), ahead);
+        expand(
+            lists.after(row[place as usize], steps),
+            ranks,
+            low,
+            row.len(),
+            ahead,
+        );
         done += 1;
     }
     Side::Before

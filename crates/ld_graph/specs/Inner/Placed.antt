@@ -1,5 +1,5 @@
 -- What an edge that is new does to the ranks. No public contract cites this file.
-use Rattle.std.specs.Prelude.{◌≡◌, ℕ, ◌<◌, Bool, true, false, List, length, slice_index}
+use Rattle.std.specs.Prelude.{◌≡◌, ℕ, ◌<◌, Bool, true, false, List, slice_index}
 use Rattle.ld_graph.specs.declared.placed.Insert.{Insert}
 use Rattle.ld_graph.specs.declared.placed.Insert.TheVariants.{Known, Kept, Moved, Closed, AfterCycle}
 use Rattle.ld_graph.specs.Inner.Repairs.{IsRepaired, Reached}

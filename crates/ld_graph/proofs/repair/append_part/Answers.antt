@@ -1,4 +1,4 @@
-use Rattle.std.proofs.Common.{◌≡◌, ◌++◌, ap, arith, get_or, length, Bool, true, false, ◌∙◌, sym}
+use Rattle.std.proofs.Common.{◌≡◌, ap, arith, get_or, length, true, ◌∙◌}
 use Rattle.std.proofs.lemmas.List.{length-append}
 use Rattle.ld_graph.specs.Inner.Repairs.{is_part, picked}
 use Rattle.ld_graph.proofs.SplitLemmas.{count-step, length-picked}

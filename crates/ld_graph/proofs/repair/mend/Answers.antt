@@ -1,8 +1,8 @@
-use Rattle.std.proofs.Common.{◌≡◌, ◌≢◌, ◌+◌, ◌<◌, ◌≤◌, ℕ, List, arith, get_or, length, refl, subst, sym}
-use Rattle.ld_graph.specs.Inner.Repairs.{AreInverse, IsGiven, IsRepaired, Reached}
+use Rattle.std.proofs.Common.{◌≢◌, ◌+◌, ◌<◌, ◌≤◌, ℕ, get_or, length, refl, subst, sym}
+use Rattle.ld_graph.specs.Inner.Repairs.{IsGiven, Reached}
 use Rattle.ld_graph.specs.Lists.{IsNear}
 use Rattle.ld_graph.proofs.MendLemmas.{mended, mended_inverse, moved_ends, moved_once, moved_within}
-use Rattle.ld_graph.proofs.MendLemmas.{row_end, row_first, row_of}
+use Rattle.ld_graph.proofs.MendLemmas.{row_end, row_first}
 use Rattle.ld_graph.proofs.repair.mend.Goals as goal
 
 pub returns-in_err-expanded-clause-ranks : goal.returns-in_err-expanded-clause-ranks
@@ -15,9 +15,12 @@ returns-in_err-expanded-clause-ranks c =
     c.requires.inverse c.args.a c.args.b c.requires.a c.requires.b
     (get_or c.args.ranks.now c.args.b 0) (get_or c.args.ranks.now c.args.a 0) refl refl
     c.requires.against c.requires.rises c.requires.ends in
-    rw c.from_residual.ensures (refl, subst (λ z. Reached (IsNear c.args.lists.now.after.lists) z
-    c.args.a) first (subst (Reached (IsNear c.args.lists.now.after.lists) _) end
-    c.in_err-expanded.ensures.plan))
+    rw c.from_residual.ensures (
+      refl,
+      subst (λ z. Reached (IsNear c.args.lists.now.after.lists) z
+          c.args.a) first (subst (Reached (IsNear c.args.lists.now.after.lists) _) end
+          c.in_err-expanded.ensures.plan),
+    )
 
 pub give_ranks-requires-clause-within : goal.give_ranks-requires-clause-within
 give_ranks-requires-clause-within c =

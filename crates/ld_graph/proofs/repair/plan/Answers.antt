@@ -1,4 +1,4 @@
-use Rattle.std.proofs.Common.{◌<◌, ℕ, arith, get_or, length}
+use Rattle.std.proofs.Common.{arith}
 use Rattle.ld_graph.specs.Inner.Repairs.{in_front}
 use Rattle.ld_graph.proofs.EndedLemmas.{apart_few, back_first, front_closed, front_last, met_reached}
 use Rattle.ld_graph.proofs.repair.plan.Goals as goal

@@ -1,5 +1,4 @@
-use Rattle.std.proofs.Common.{◌∙◌, ◌-◌, sym, subst, length}
-use Rattle.ld_graph.specs.Inner.Repairs.{HasMet}
+use Rattle.std.proofs.Common.{◌∙◌, ◌-◌, sym, length}
 use Rattle.ld_graph.proofs.PartLemmas.{any_Contains}
 use Rattle.ld_graph.proofs.repair.reorder.Goals as goal
 

@@ -1,8 +1,8 @@
-use Rattle.std.proofs.Common.{◌≡◌, ◌++◌, ◌∙◌, ap, arith, get_or, length, not}
+use Rattle.std.proofs.Common.{◌∙◌, ap, arith, get_or, length, not}
 use Rattle.std.proofs.lemmas.List.{length-append}
 use Rattle.ld_graph.specs.Inner.Repairs.{is_part, picked}
 use Rattle.ld_graph.proofs.SplitLemmas.{count-le, count-both, length-picked}
-use Rattle.ld_graph.proofs.PartLemmas.{count-same, part_rest, picked-same}
+use Rattle.ld_graph.proofs.PartLemmas.{count-same, part_rest}
 use Rattle.ld_graph.proofs.repair.split_row.Goals as goal
 
 pub append_part-requires-clause-room : goal.append_part-requires-clause-room
@@ -22,5 +22,14 @@ append_part-requires-2-clause-room c =
     (length c.args.row.now)) in
     let k = length-picked (is_part c.args.search.now.found c.args.front) (λ k. get_or
     c.args.row.now k 0) (length c.args.row.now) in
-    omega (arith, b, s, l, k, c.requires.room, c.clear.ensures.len, c.clear.ensures.capacity,
-    c.append_part.ensures.capacity)
+    omega (
+      arith,
+      b,
+      s,
+      l,
+      k,
+      c.requires.room,
+      c.clear.ensures.len,
+      c.clear.ensures.capacity,
+      c.append_part.ensures.capacity,
+    )

@@ -1,4 +1,4 @@
-use Rattle.std.proofs.Common.{Contains, arith, get_or, refl}
+use Rattle.std.proofs.Common.{arith, get_or, refl}
 use Rattle.std.proofs.lemmas.List.Elements.{Contains-get_or}
 use Rattle.ld_graph.proofs.MarkLemmas.{AreLeft-next, AreLeft-all}
 use Rattle.ld_graph.proofs.search.unmark.Goals as goal

@@ -1,7 +1,6 @@
-use Rattle.std.proofs.Common.{◌≡◌, ◌+◌, ◌-◌, ◌<◌, ℕ, Contains, List, length, arith, get_or, subst, sym}
-use Rattle.ld_graph.specs.Inner.Repairs.{IsClosed, IsSought}
+use Rattle.std.proofs.Common.{◌-◌, Contains, length, arith, get_or, subst}
 use Rattle.ld_graph.specs.Lists.{IsNear}
-use Rattle.ld_graph.proofs.SoughtLemmas.{Contains-read, IsSought-begun, sought_few, turn_closed}
+use Rattle.ld_graph.proofs.SoughtLemmas.{Contains-read, sought_few, turn_closed}
 use Rattle.ld_graph.proofs.SoughtLemmas.{turn_sought}
 use Rattle.ld_graph.proofs.turns.search_in_turn.Goals as goal
 

@@ -1,7 +1,7 @@
 use Rattle.std.proofs.lemmas.List.{length_push, length-set}
 use Rattle.std.proofs.lemmas.Option.{none-some}
 use Rattle.std.proofs.Common.{◌≡◌, ◌<◌, ◌++◌, ◌∷◌, [], ◌↔◌, arith, length, set, vec_len, ap}
-use Rattle.std.proofs.Common.{true≢false, refl, sym, subst, ◌∙◌}
+use Rattle.std.proofs.Common.{refl, sym, subst, ◌∙◌}
 use Rattle.ld_graph.specs.Edges.{edge, IsEdge}
 use Rattle.ld_graph.specs.Lists.{IsNear, list_at}
 use Rattle.ld_graph.proofs.EdgeLemmas.{IsEdge-found, insert_key-new, IsNear-edge, IsNear-turned}

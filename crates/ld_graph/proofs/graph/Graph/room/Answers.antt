@@ -121,8 +121,8 @@ invariant_of-self-2 c =
       queue_room = omega (arith, c.clear.ensures.capacity, c.reserve-3.ensures.capacity);
       ranks = c.room-2.ensures.ranks;
       ranks_room = c.room-2.ensures.kept;
-  has_cycle = refl;
-  spare_classes = refl;
+      has_cycle = refl;
+      spare_classes = refl;
       spare_edges = refl;
       searched = refl;
     }) c.self.invariant in

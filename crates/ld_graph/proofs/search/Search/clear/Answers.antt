@@ -16,14 +16,13 @@ invariant_of-self c =
       arith,
       c.unmark.auto.marks,
       c.deref_mut.ensures.len,
-    )) in
-    (
+    )) in (
       rw c.clear.ensures.items (subst (λ m. AreMarked m []) (sym items)
-      (AreMarked-cleared c.deref_mut.result.now c.unmark.new.marks c.self.inside.found.items
-      (subst (λ m. AreMarked m c.self.inside.found.items) (sym c.deref_mut.ensures.value)
-      c.self.invariant.0)
-      (subst (λ f. (k : ℕ) → get_or c.unmark.new.marks k false ≡ true
-      → (get_or c.deref_mut.result.now k false ≡ true) × (¬ Contains f k)) c.deref.ensures.value
-      c.unmark.ensures))),
+          (AreMarked-cleared c.deref_mut.result.now c.unmark.new.marks c.self.inside.found.items
+          (subst (λ m. AreMarked m c.self.inside.found.items) (sym c.deref_mut.ensures.value)
+          c.self.invariant.0)
+          (subst (λ f. (k : ℕ) → get_or c.unmark.new.marks k false ≡ true
+          → (get_or c.deref_mut.result.now k false ≡ true) × (¬ Contains f k)) c.deref.ensures.value
+          c.unmark.ensures))),
       omega (arith, c.self.invariant.1, c.clear.ensures.capacity),
     )

@@ -1,4 +1,4 @@
-use Rattle.std.proofs.Common.{◌≡◌, ◌∙◌, ap, subst, arith, nat_eq, length, ◌<◌, false, get_or, sym}
+use Rattle.std.proofs.Common.{◌∙◌, ap, arith, nat_eq, length, ◌<◌, false}
 use Rattle.std.specs.List.{list_any}
 use Rattle.std.proofs.lemmas.List.{get_or_read}
 use Rattle.ld_graph.proofs.MarkLemmas.{has_exact}

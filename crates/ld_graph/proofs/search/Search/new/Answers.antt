@@ -1,5 +1,4 @@
-use Rattle.std.proofs.Common.{arith, sym, subst}
-use Rattle.ld_graph.specs.Inner.Marks.{AreMarked}
+use Rattle.std.proofs.Common.{arith}
 use Rattle.ld_graph.proofs.MarkLemmas.{AreMarked-none}
 use Rattle.ld_graph.proofs.search.Search.new.Goals as goal
 

@@ -10,11 +10,10 @@ invariant_of-self-2 c =
     ++ replicate (c.args.size - vec_len c.self.inside.marks) false =
     c.in_ok-resize.ensures.items ∙ ap (λ l. l ++ replicate (c.args.size
     - vec_len c.self.inside.marks) false) (take_all c.args.size c.self.inside.marks.items
-    (omega (arith, c.if-size-len.false, c.len.ensures))) in
-    (
+    (omega (arith, c.if-size-len.false, c.len.ensures))) in (
       subst (λ m. AreMarked m c.reserve.new.self.items) (sym items)
-      (subst (AreMarked (c.self.inside.marks.items
-      ++ replicate (c.args.size - vec_len c.self.inside.marks) false)) (sym c.reserve.ensures.items)
-      (AreMarked-more c.self.inside.marks.items c.self.inside.found.items c.self.invariant.0 _)),
+          (subst (AreMarked (c.self.inside.marks.items
+          ++ replicate (c.args.size - vec_len c.self.inside.marks) false)) (sym c.reserve.ensures.items)
+          (AreMarked-more c.self.inside.marks.items c.self.inside.found.items c.self.invariant.0 _)),
       omega (arith, c.in_ok-resize.ensures.len, c.in_ok-reserve.ensures.ok),
     )
