@@ -1,3 +1,4 @@
+pub mod ClosingLemmas
 pub mod EachOnceLemmas
 pub mod NameLemmas
 pub mod NewsLemmas

@@ -7,11 +7,13 @@ ghost use Rattle.ld_facts.specs.Dependency.{Dependency};
 ghost use Rattle.ld_facts.specs.Facts.{IsKnown};
 ghost use Rattle.ld_facts.specs.Union.{dependencies_of};
 ghost use Rattle.ld_union.specs.Inner.Names.{ArePlaces};
-ghost use Rattle.ld_union.specs.Inner.Union.{AreNumbered, AreWitnessed, edges_of, named_edge};
+ghost use Rattle.ld_graph.specs.Edges.{Seen};
+ghost use Rattle.ld_graph.specs.Order.{IsInserted};
+ghost use Rattle.ld_union.specs.Inner.Union.{AreNumbered, AreWitnessed, IsClosing, edges_of, named_edge};
 ghost use Rattle.ld_union.specs.Inner.Union.{with_dependencies, with_seen};
 
 use ld_facts::{Facts, Witness};
-use ld_graph::{Edge, Graph};
+use ld_graph::{Edge, Graph, Insert};
 use std::alloc::{AllocError, Global};
 
 /// An edge of the graph, and where its dependency was first seen.
@@ -29,6 +31,8 @@ pub(crate) struct Dependencies {
     pub(crate) graph: Graph,
     /// The edges of the graph, by their numbers.
     pub(crate) rows: Vec<Witnessed>,
+    /// The edge with which the first cycle came.
+    pub(crate) closing: Option<Edge>,
 }
 
 impl Dependencies {
@@ -36,10 +40,12 @@ impl Dependencies {
     pub(crate) fn new(alloc: Global) -> Dependencies
         ensures graph { result.graph ≡ empty_graph }
         ensures rows { result.rows.items ≡ [] }
+        ensures closing { IsClosing [] result.closing }
     {
         Dependencies {
             graph: Graph::new(alloc),
             rows: Vec::new(alloc),
+            closing: None,
         }
     }
 
@@ -51,6 +57,7 @@ impl Dependencies {
         ensures graph { self.new.graph
             ≡ with_spares self.old.graph self.new.graph.spare_classes self.new.graph.spare_edges }
         ensures rows { self.new.rows.items ≡ self.old.rows.items }
+        ensures closing { self.new.closing ≡ self.old.closing }
         ensures spare_classes { OnOk result (classes ≤ self.new.graph.spare_classes) }
         ensures spare_edges { OnOk result (edges ≤ self.new.graph.spare_edges) }
         ensures spare_rows { OnOk result
@@ -68,6 +75,7 @@ impl Dependencies {
         ensures edges { self.new.graph.edges ≡ self.old.graph.edges }
         ensures room { self.new.graph.spare_edges ≡ self.old.graph.spare_edges }
         ensures rows { self.new.rows ≡ self.old.rows }
+        ensures closing { self.new.closing ≡ self.old.closing }
     {
         for _ in self.graph.len()..count {
             self.graph.add_class();
@@ -88,6 +96,8 @@ impl Dependencies {
         ensures edges { self.new.graph.edges ≡ edges_of self.new.rows.items }
         ensures front { take (length self.old.rows.items) (edges_of self.new.rows.items)
             ≡ edges_of self.old.rows.items }
+        ensures closing { IsClosing (edges_of self.old.rows.items) self.old.closing
+            → IsClosing (edges_of self.new.rows.items) self.new.closing }
         ensures numbered { (classes : List (List ℕ)) → length classes ≡ self.old.graph.classes
             → AreNumbered classes self.old.rows.items → AreNumbered classes self.new.rows.items }
         ensures witnesses { (classes : List (List ℕ)) → length classes ≡ self.old.graph.classes
@@ -127,6 +137,8 @@ impl Dependencies {
             → vec_len self.new.rows + n ≤ vec_capacity self.new.rows }
         ensures front { (n : ℕ) → n ≤ length self.old.rows.items
             → take n (edges_of self.new.rows.items) ≡ take n (edges_of self.old.rows.items) }
+        ensures closing { IsClosing (edges_of self.old.rows.items) self.old.closing
+            → IsClosing (edges_of self.new.rows.items) self.new.closing }
         ensures numbered { (classes : List (List ℕ)) → length classes ≡ self.old.graph.classes
             → AreNumbered classes self.old.rows.items → AreNumbered classes self.new.rows.items }
         ensures noted { (classes : List (List ℕ)) → length classes ≡ self.old.graph.classes
@@ -142,7 +154,8 @@ impl Dependencies {
                 known.first = known.first.earlier(witness);
             }
             None => {
-                self.graph.insert(edge.from, edge.to);
+                let answer = self.graph.insert(edge.from, edge.to);
+                self.closing = closing_then(self.closing, edge, answer);
                 let seen = Witnessed {
                     edge,
                     first: witness,
@@ -152,5 +165,16 @@ impl Dependencies {
                 };
             }
         }
+    }
+}
+
+/// The edge with which the first cycle came, once the insert of an edge gave this answer.
+fn closing_then(closing: Option<Edge>, edge: Edge, answer: Insert) -> Option<Edge>
+    ensures { (old new : Seen) → IsInserted old edge.from edge.to answer new
+        → IsClosing old.edges closing → IsClosing new.edges result }
+{
+    match answer {
+        Insert::Closed => Some(edge),
+        _ => closing,
     }
 }

@@ -8,7 +8,7 @@ ghost use Rattle.ld_facts.specs.Dependency.{Dependency};
 ghost use Rattle.ld_facts.specs.Usage.{Use};
 ghost use Rattle.ld_union.specs.Inner.News.{Tells};
 ghost use Rattle.ld_union.specs.Inner.Union.{Adds, AreNumbered, AreUsed, AreWitnessed, edges_of};
-ghost use Rattle.ld_union.specs.Inner.Union.{known_row};
+ghost use Rattle.ld_union.specs.Inner.Union.{IsClosing, known_row};
 
 use crate::dependencies::{Dependencies, Witnessed};
 use crate::names::intern_all;
@@ -16,7 +16,7 @@ use crate::news::News;
 use crate::usage::{UsageRow, add_usage};
 use ld_class::Classes;
 use ld_facts::{Facts, Witness};
-use ld_graph::Graph;
+use ld_graph::{Edge, Graph};
 use std::alloc::{AllocError, Global};
 use std::marker::Model;
 
@@ -45,7 +45,7 @@ impl<'a> Model for Union<'a> {
     } };
 
     ghost invariant = { λ u. IsUnion u.classes u.dependencies.graph u.dependencies.rows.items
-        u.usage.items };
+        u.usage.items u.dependencies.closing };
 }
 
 impl<'a> Union<'a> {
@@ -124,6 +124,14 @@ impl<'a> Union<'a> {
         ensures numbered { AreNumbered self.now.classes self.now.dependencies }
     {
         &self.dependencies.graph
+    }
+
+    /// An edge on a cycle, the one with which the first cycle came, or `None` where there is no cycle. Takes
+    /// no memory.
+    pub fn closing(&self) -> Option<Edge>
+        ensures { IsClosing (edges_of self.now.dependencies) result }
+    {
+        self.dependencies.closing
     }
 
     /// Searches for the classes that walks from `from` lead to, which `found` then tells. Takes no

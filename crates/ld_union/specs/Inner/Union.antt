@@ -1,11 +1,12 @@
 -- What is kept of some traces, with numbers for their classes. No contract of a `Book` cites this file.
-use Rattle.std.specs.Prelude.{◌≡◌, ◌≢◌, ℕ, ◌<◌, ◌≤◌, ◌++◌, List, flat_map, length, map, slice_index_or, [], All, AllPairs, Any, Option, Some, None, IsSome, option_map, if◌then◌else◌}
+use Rattle.std.specs.Prelude.{◌≡◌, ◌≢◌, ℕ, ◌<◌, ◌≤◌, ◌++◌, List, flat_map, length, map, slice_index_or, [], All, AllPairs, Any, Option, Some, None, IsSome, option_map, MatchOption, if◌then◌else◌}
 use Rattle.std.specs.Option.{is_some}
 use Rattle.ld_class.specs.declared.names.TheConstants.{MAX_NAMES}
 use Rattle.ld_class.specs.Names.{AreDistinct, place_of}
 use Rattle.ld_trace.specs.Sources.{PlainSource}
 use Rattle.ld_graph.specs.declared.Edge.{Edge}
 use Rattle.ld_graph.specs.Edges as graphs
+use Rattle.ld_graph.specs.Walks.{HasWalk}
 use Rattle.ld_rules.specs.declared.outcome.Witness.{Witness}
 use Rattle.ld_facts.specs.Dependency.{Dependency, Seen, least_line, same_dependency}
 use Rattle.ld_facts.specs.Union.{classes_of, dependency_witness, earlier, union_classes, use_witness}
@@ -85,14 +86,23 @@ pub record PlainUnion : Type 0 where
   pub usage : List UsageRow
   pub searched : Option ℕ
 
+-- the edge is there, and a walk leads back from its second class to its first
+abbrev pub IsCycleAt : List Edge → Edge → Type 0
+IsCycleAt edges e = graphs.IsEdge edges e.from e.to × HasWalk (graphs.IsEdge edges) e.to e.from
+
+-- an edge on a cycle, and none exactly where there is no cycle
+abbrev pub IsClosing : List Edge → Option Edge → Type 0
+IsClosing edges closing = MatchOption closing (¬ ((e : Edge) × IsCycleAt edges e)) (IsCycleAt edges)
+
 -- What a union keeps true of its fields: the graph has the classes and the edges, and each class has a row of
 -- usage.
-pub record IsUnion (classes : List (List ℕ)) (graph : graphs.Seen) (dependencies : List Witnessed) (usage : List UsageRow) : Type 0 where
+pub record IsUnion (classes : List (List ℕ)) (graph : graphs.Seen) (dependencies : List Witnessed) (usage : List UsageRow) (closed_by : Option Edge) : Type 0 where
   pub numbered : AreNumbered classes dependencies
   pub few : length classes ≤ MAX_NAMES
   pub count : graph.classes ≡ length classes
   pub edges : graph.edges ≡ edges_of dependencies
   pub rows : length usage ≡ length classes
+  pub closing : IsClosing (edges_of dependencies) closed_by
 
 -- The union is what these sources show together.
 pub record Shows (sources : List PlainSource) (union : PlainUnion) : Type 0 where

@@ -20,6 +20,7 @@ loop-seen-init c = record {
   spare_edges = search rules;
   spare_rows = search rules;
   front = let rows = c.args.self.now.rows.items in ap (λ n. take n (edges_of rows)) (length_rows rows) ∙ take-length (edges_of rows);
+  closing = λ was. was;
   numbered = λ classes same numbered. numbered;
   witnesses = λ classes same numbered places first witnessed. subst (AreWitnessed classes c.args.self.now.rows.items)
       (λ i what. none_noted same_dependency same_dependency-true (named c.args.facts.now.classes) c.args.facts.now.edges (first what) c.source-number.result.number what i) witnessed;
@@ -46,6 +47,7 @@ loop-seen-preserved c =
           c.note.ensures.front (length old)
           (omega (arith, ap length c.loop-seen.invariant.front, length-take (length old) (edges_of c.loop-seen.self.rows.items), length_rows old, length_rows c.loop-seen.self.rows.items))
           ∙ c.loop-seen.invariant.front;
+      closing = λ was. c.note.ensures.closing (c.loop-seen.invariant.closing was);
       numbered = λ classes same numbered. c.note.ensures.numbered classes (same ∙ sym c.loop-seen.invariant.count) (c.loop-seen.invariant.numbered classes same numbered);
       witnesses = λ classes same numbered are first witnessed.
           let seen : Dependency = named_edge classes (record { from = get_or places told.from 0; to = get_or places told.to 0 }) in

@@ -3,7 +3,7 @@ use Rattle.ld_rules.specs.declared.outcome.Witness.{Witness}
 use Rattle.ld_facts.specs.Dependency.{Dependency}
 use Rattle.ld_facts.specs.Facts.{named}
 use Rattle.ld_union.specs.Inner.Names.{ArePlaces}
-use Rattle.ld_union.specs.Inner.Union.{AreNumbered, AreWitnessed, edges_of, with_dependencies}
+use Rattle.ld_union.specs.Inner.Union.{AreNumbered, AreWitnessed, IsClosing, edges_of, with_dependencies}
 use Rattle.ld_union.proofs.dependencies.Dependencies.add.Given as goal
 
 abbrev pub invariant-loop-seen : goal.invariant-loop-seen
@@ -13,6 +13,7 @@ invariant-loop-seen l = record {
   spare_edges : length l.facts.edges ≤ l.self.graph.spare_edges + l.seen-index;
   spare_rows : vec_len l.self.rows + (length l.facts.edges - l.seen-index) ≤ vec_capacity l.self.rows;
   front : take (length l.fn.self.rows.items) (edges_of l.self.rows.items) ≡ edges_of l.fn.self.rows.items;
+  closing : IsClosing (edges_of l.fn.self.rows.items) l.fn.self.closing → IsClosing (edges_of l.self.rows.items) l.self.closing;
   numbered : (classes : List (List ℕ)) → length classes ≡ l.fn.self.graph.classes → AreNumbered classes l.fn.self.rows.items → AreNumbered classes l.self.rows.items;
   witnesses : (classes : List (List ℕ)) → length classes ≡ l.fn.self.graph.classes → AreNumbered classes l.fn.self.rows.items → ArePlaces classes l.facts.classes l.places
       → (first : Dependency → Option Witness) → AreWitnessed classes l.fn.self.rows.items first

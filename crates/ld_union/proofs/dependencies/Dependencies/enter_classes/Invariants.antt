@@ -8,4 +8,5 @@ invariant-loop l = record {
   edges : l.self.graph.edges ≡ l.fn.self.graph.edges;
   spare : l.self.graph.spare_edges ≡ l.fn.self.graph.spare_edges;
   rows : l.self.rows ≡ l.fn.self.rows;
+  closing : l.self.closing ≡ l.fn.self.closing;
 }

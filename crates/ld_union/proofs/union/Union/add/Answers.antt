@@ -1,4 +1,4 @@
-use Rattle.std.proofs.Common.{◌≡◌, ◌-◌, ◌++◌, ◌∷◌, ◌∙◌, [], None, List, ℕ, ap, arith, length, replicate, subst, sym, take}
+use Rattle.std.proofs.Common.{rules, ◌≡◌, ◌-◌, ◌++◌, ◌∷◌, ◌∙◌, [], None, List, ℕ, ap, arith, length, replicate, subst, sym, take}
 use Rattle.std.proofs.lemmas.List.{take_all, with_items_is}
 use Rattle.std.specs.Vec.{with_items}
 use Rattle.ld_facts.specs.Union.{uses_of}
@@ -6,7 +6,7 @@ use Rattle.ld_union.specs.declared.dependencies.Witnessed.{Witnessed}
 use Rattle.ld_union.specs.declared.usage.UsageRow.{UsageRow}
 use Rattle.ld_union.specs.Inner.Names.{ArePlaces, IsLonger, with_names}
 use Rattle.ld_union.specs.Inner.News.{Tells, TellsBits}
-use Rattle.ld_union.specs.Inner.Union.{Adds, AreNumbered, AreUsed, AreWitnessed, PlainUnion, edges_of, with_uses}
+use Rattle.ld_union.specs.Inner.Union.{Adds, AreNumbered, AreUsed, AreWitnessed, IsClosing, PlainUnion, edges_of, with_uses}
 use Rattle.ld_union.specs.Usage.{bits_of, row_of}
 use Rattle.ld_union.proofs.NewsLemmas.{tells-longer, tells-then}
 use Rattle.ld_union.proofs.SourceLemmas.{adds-source}
@@ -102,3 +102,15 @@ returns-clause-told c =
       front = (λ i. take ((first ∙ ap length (sym (rows c))) i) (edges_of c.add.new.self.rows.items)) ∙ c.add.ensures.front ∙ ap edges_of (rows c);
       bits = subst (λ all. TellsBits (bits_of (old_usage c)) (bits_of all) c.add_usage.new.bits.items) (sym (written c)) (tells c);
     })
+
+pub invariant_of-self-2 : goal.invariant_of-self-2
+invariant_of-self-2 c = record {
+  numbered = c.add.ensures.numbered (classes c) (entered c) (numbered c);
+  few = search rules;
+  count = c.add.ensures.classes ∙ sym (entered c);
+  edges = c.add.ensures.edges;
+  rows = omega (arith, ap length (written c), c.add_usage.ensures.len, ap length c.deref_mut.ensures.value, c.resize.new.self.ok.0, c.in-Ok.ensures.len, c.len-2.ensures.len);
+  closing = c.add.ensures.closing
+      (subst {A = List Witnessed} (λ all. IsClosing (edges_of all) c.enter_classes.new.self.closing) (sym (rows c))
+      (subst (IsClosing (edges_of (old_rows c))) (sym (c.enter_classes.ensures.closing ∙ c.in_ok-room.ensures.closing)) c.self.invariant.closing));
+}
