@@ -51,7 +51,7 @@ impl News {
         self.first_edge
     }
 
-    /// The new usage bits, each once, in no promised order. Takes no memory.
+    /// The new usage bits, in no promised order. Takes no memory.
     pub fn bits(&self) -> &[NewBit]
         ensures { result.now ≡ self.now.bits }
     {

@@ -53,10 +53,11 @@ with_seen first seen witness what = earlier_of (first what) (if same_dependency 
 abbrev pub with_dependencies : (Dependency → Option Witness) → ℕ → List (Seen Dependency) → Dependency → Option Witness
 with_dependencies first number shown what = earlier_of (first what) (seen_in number (least_line same_dependency shown what))
 
--- the same of usage
+-- the first witnesses, where this bit of a class was seen there too
 abbrev pub with_use : (Use → Option Witness) → Use → Witness → Use → Option Witness
 with_use first seen witness what = earlier_of (first what) (if same_use what seen then Some witness else None)
 
+-- the first witnesses, where a trace of this number shows these uses too
 abbrev pub with_uses : (Use → Option Witness) → ℕ → List (Seen Use) → Use → Option Witness
 with_uses first number shown what = earlier_of (first what) (seen_in number (least_line same_use shown what))
 
@@ -104,14 +105,16 @@ pub record IsUnion (classes : List (List ℕ)) (graph : graphs.Seen) (dependenci
   pub rows : length usage ≡ length classes
   pub closing : IsClosing (edges_of dependencies) closed_by
 
--- The union is what these sources show together.
+-- The union is what these sources show together. Each union is numbered: it is said here for what knows of a
+-- union no more than this.
 pub record Shows (sources : List PlainSource) (union : PlainUnion) : Type 0 where
   pub numbered : AreNumbered union.classes union.dependencies
   pub classes : union.classes ≡ union_classes sources
   pub witnesses : AreWitnessed union.classes union.dependencies (dependency_witness sources)
   pub used : AreUsed union.classes union.usage (use_witness sources)
 
--- Whatever sources the union showed, it shows these too. Classes keep their numbers.
+-- Of whatever sources the union showed what they show, it now shows what those and these show. Classes keep
+-- their numbers, and no more came than these have.
 pub record Adds (more : List PlainSource) (old new : PlainUnion) : Type 0 where
   pub shows : (sources : List PlainSource) → Shows sources old → Shows (sources ++ more) new
   pub longer : IsLonger old.classes new.classes (length (flat_map classes_of more))
