@@ -17,7 +17,8 @@ use Rattle.ld_facts.specs.Uses.{none}
 use Rattle.ld_find.specs.declared.alarms.Forbidden.{Forbidden}
 use Rattle.ld_find.specs.declared.alarms.Found.{Found}
 use Rattle.ld_find.specs.Alarms.{AreExact, IsExact}
-use Rattle.ld_find.specs.Inner.Numbers.{AreFound, AreOnNoCycle, BitsGrow, EdgesGrow, IsConflictAt, IsCycleAt, IsForbiddenAt, named_alarms, named_pair, of_state}
+use Rattle.ld_union.specs.Inner.Union.{IsCycleAt}
+use Rattle.ld_find.specs.Inner.Numbers.{AreFound, BitsGrow, EdgesGrow, IsConflictAt, IsForbiddenAt, named_alarms, named_pair, of_state}
 use Rattle.ld_find.specs.Inner.Rows.{IsOfEach}
 use Rattle.ld_find.specs.Violations.{IsConflict, IsCycle, IsForbidden}
 use Rattle.ld_trace.specs.Sources.{PlainSource}
@@ -25,7 +26,6 @@ use Rattle.ld_union.specs.declared.news.NewBit.{NewBit}
 use Rattle.ld_union.specs.declared.usage.UsageRow.{UsageRow}
 use Rattle.ld_union.specs.Inner.News.{HasBitAt, TellsBits, new_bit}
 use Rattle.ld_union.specs.Usage.{bits_of}
-use Rattle.ld_find.proofs.AlarmLemmas.{no_cycle-grown}
 use Rattle.ld_union.proofs.NewsLemmas.{row_within}
 
 module _ {A : Type 0} (P Q : A → Type 0) (kept : (x : A) → P x → Q x) (found : Option A) (exact : IsExact P found) where
@@ -62,16 +62,6 @@ module _ (state : State) (usage more : List Usage) (bits : BitsGrow usage more) 
 pub edges_kept : (old new : List Edge) (n : ℕ) → take n new ≡ old → EdgesGrow old new
 edges_kept old new n front a b there =
     subst (λ all. IsEdge all a b) (ap (λ es. es ++ drop n new) (sym front) ∙ take-append-drop n new) (Contains-append_left old (drop n new) (edge a b) there)
-
--- a cycle that was looked for among the edges that came
-pub cycle_looked : (edges new : List Edge) (first : ℕ) → length edges ≡ first → take first new ≡ edges
-    → (before : Option Edge) → is_some before ≡ false → IsExact (IsCycleAt edges) before
-    → (found : Option Edge) → MatchOption found (AreOnNoCycle new first (length new)) (IsCycleAt new) → IsExact (IsCycleAt new) found
-cycle_looked edges new first count front (Some e) absent exact found here = absurd (true≢false absent)
-cycle_looked edges new first count front None absent exact (Some e) here = here
-cycle_looked edges new first count front None absent exact None here = λ any.
-    no_cycle-grown edges new (subst (λ n. take n new ≡ edges) (sym count) front) (λ e cycle. exact (e, cycle))
-    (subst (λ n. AreOnNoCycle new n (length new)) (sym count) here) any.0 any.1
 
 -- whether a class has a bit
 bit_cases : (usage : List Usage) (c : ℕ) (bit : Bit) → HasBitAt usage c bit ⊎ (¬ HasBitAt usage c bit)

@@ -1,4 +1,3 @@
-pub mod AlarmLemmas
 pub mod CycleLemmas
 pub mod ForbiddenLemmas
 pub mod FoundLemmas

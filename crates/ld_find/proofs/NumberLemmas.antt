@@ -18,7 +18,8 @@ use Rattle.ld_find.specs.declared.alarms.Forbidden.{Forbidden}
 use Rattle.ld_find.specs.declared.alarms.Found.{Found}
 use Rattle.ld_union.specs.declared.dependencies.Witnessed.{Witnessed}
 use Rattle.ld_find.specs.Alarms.{AreExact, IsExact}
-use Rattle.ld_find.specs.Inner.Numbers.{AreBitsOf, AreFound, AreWithin, IsConflictAt, IsCycleAt, IsForbiddenAt, named_alarms, of_state}
+use Rattle.ld_union.specs.Inner.Union.{IsCycleAt}
+use Rattle.ld_find.specs.Inner.Numbers.{AreBitsOf, AreFound, AreWithin, IsConflictAt, IsForbiddenAt, named_alarms, of_state}
 use Rattle.ld_union.specs.Inner.News.{HasBitAt}
 use Rattle.ld_union.specs.Inner.Union.{AreNumbered, AreWitnessed, PlainUnion, edges_of, named_edge, searched_union}
 use Rattle.ld_union.proofs.NewsLemmas.{bit_within}

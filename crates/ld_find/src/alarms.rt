@@ -7,8 +7,8 @@ ghost use Rattle.ld_facts.specs.Usage.{usage_of};
 ghost use Rattle.ld_facts.specs.Uses.{none};
 ghost use Rattle.ld_facts.specs.Usage.Bit.{In, On};
 ghost use Rattle.ld_find.specs.Alarms.{IsExact, plain_alarms};
-ghost use Rattle.ld_find.specs.Inner.Numbers.{AreFound, AreOnNoCycle, AreWithin, BitsGrow, EdgesGrow};
-ghost use Rattle.ld_find.specs.Inner.Numbers.{IsConflictAt, IsCycleAt, IsForbiddenAt, IsFoundAt};
+ghost use Rattle.ld_find.specs.Inner.Numbers.{AreFound, AreWithin, BitsGrow, EdgesGrow};
+ghost use Rattle.ld_find.specs.Inner.Numbers.{IsConflictAt, IsForbiddenAt, IsFoundAt};
 ghost use Rattle.ld_find.specs.Inner.Numbers.{IsNothing, IsTold, named_alarms, named_pair};
 ghost use Rattle.ld_union.specs.Inner.News.{Tells, TellsBits};
 ghost use Rattle.ld_union.specs.Inner.Union.{PlainUnion, edges_of, searched_union};
@@ -85,8 +85,9 @@ impl Found {
     }
 
     /// Looks for each kind of which nothing was found yet, after what `news` tells came to the union:
-    /// for a cycle at the new edges, for a conflict at the new bits, and for a forbidden walk where
-    /// anything is new. What was found stays: nothing that traces show is taken back. Takes no memory.
+    /// for a conflict at the new bits, and for a forbidden walk where anything is new. The union knows
+    /// whether there is a cycle. What was found stays: nothing that traces show is taken back. Takes no
+    /// memory.
     pub fn look(&mut self, union: &mut Union<'_>, news: &News)
         requires { IsTold union.old news.now }
         ensures found { (old : PlainUnion) → Tells old union.old news.now
@@ -98,7 +99,7 @@ impl Found {
             return;
         }
         let bits = news.bits();
-        self.cycle = cycle_then(self.cycle, union, news.first_edge());
+        self.cycle = union.closing();
         self.conflict = PerState {
             hard: conflict_then(self.conflict.hard, union.usage(), bits, State::Hard),
             soft: conflict_then(self.conflict.soft, union.usage(), bits, State::Soft),
@@ -134,21 +135,6 @@ fn is_nothing_new(union: &Union<'_>, news: &News) -> bool
     ensures bits { IsTrue result → news.now.bits ≡ [] }
 {
     union.dependencies().len() <= news.first_edge() && news.bits().is_empty()
-}
-
-/// The edge on a cycle that was found before, or else one that is on a cycle since the edges from
-/// number `first` on came.
-fn cycle_then(found: Option<Edge>, union: &mut Union<'_>, first: usize) -> Option<Edge>
-    ensures found { (edges : List Edge) → length edges ≡ first
-        → take first (edges_of union.old.dependencies) ≡ edges
-        → IsExact (IsCycleAt edges) found
-        → IsExact (IsCycleAt (edges_of union.old.dependencies)) result }
-    ensures same { union.new ≡ searched_union union.old union.new.searched }
-{
-    if found.is_some() {
-        return found;
-    }
-    cycle_among(union, first)
 }
 
 /// The class with both bits of the state that was found before, or else one that has them since these
@@ -218,24 +204,6 @@ fn end_names<'a>(classes: &Classes<'a>, walk: Option<Forbidden>) -> Option<(&'a 
 {
     let walk = walk?;
     Some((classes.name(walk.from), classes.name(walk.to)))
-}
-
-/// An edge from number `first` on that is on a cycle, or `None` where none is. Takes no memory.
-fn cycle_among(union: &mut Union<'_>, first: usize) -> Option<Edge>
-    ensures cycle { MatchOption result
-        (AreOnNoCycle (edges_of union.old.dependencies) first
-        (length (edges_of union.old.dependencies)))
-        (IsCycleAt (edges_of union.old.dependencies)) }
-    ensures same { union.new ≡ searched_union union.old union.new.searched }
-{
-    for number in first..union.dependencies().len() {
-        let edge = union.dependencies()[number].edge;
-        union.search(edge.to);
-        if union.found(edge.from) {
-            return Some(edge);
-        }
-    }
-    None
 }
 
 /// A class with one of these bits that has both bits of the state, or `None` where none has.

@@ -14,7 +14,7 @@ use Rattle.ld_facts.specs.Usage.Bit.{In, On}
 use Rattle.ld_find.specs.declared.alarms.Found.{Found}
 use Rattle.ld_find.specs.declared.states.PerState.{PerState}
 use Rattle.ld_union.specs.Inner.News.{HasBitAt, PlainNews, Tells}
-use Rattle.ld_union.specs.Inner.Union.{PlainUnion}
+use Rattle.ld_union.specs.Inner.Union.{IsCycleAt, PlainUnion}
 use Rattle.ld_find.specs.Alarms.{IsExact, PlainAlarms}
 use Rattle.ld_find.specs.Violations.{HasBit}
 
@@ -22,14 +22,6 @@ use Rattle.ld_find.specs.Violations.{HasBit}
 abbrev pub of_state : {T : Type 0} → PerState T → State → T
 of_state each Hard = each.hard
 of_state each Soft = each.soft
-
--- the edge is there, and a walk leads back from its second class to its first
-abbrev pub IsCycleAt : List Edge → Edge → Type 0
-IsCycleAt edges e = IsEdge edges e.from e.to × HasWalk (IsEdge edges) e.to e.from
-
--- none of these edges from the number `first` on, below `end`, is on a cycle
-abbrev pub AreOnNoCycle : List Edge → (first end : ℕ) → Type 0
-AreOnNoCycle edges first end = (k : ℕ) → first ≤ k → k < end → ¬ IsCycleAt edges (slice_index_or edges k (edge 0 0))
 
 -- the class has both bits of the state
 abbrev pub IsConflictAt : List Usage → State → ℕ → Type 0

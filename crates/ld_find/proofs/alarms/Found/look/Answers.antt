@@ -33,8 +33,7 @@ Looked state before found union = (edges : List Edge) (usage : List Usage) → E
 
 pub returns-clause-found : goal.returns-clause-found
 returns-clause-found c = λ old tells are. record {
-  cycle = c.cycle_then-self.ensures.found (edges_of old.dependencies) (sym (length_rows old.dependencies) ∙ sym tells.count ∙ sym c.first_edge.ensures)
-      (ap (λ n. take n all) c.first_edge.ensures ∙ tells.front) are.cycle;
+  cycle = c.closing-self.ensures;
   conflict = λ state. conflict (bits_of old.usage) tells.bits are.conflict state;
   forbidden = λ state. forbidden (edges_of old.dependencies) (bits_of old.usage)
       (edges_kept (edges_of old.dependencies) all c.args.news.now.first_edge tells.front) tells.bits.kept are.forbidden state;
@@ -47,10 +46,10 @@ returns-clause-found c = λ old tells are. record {
     all = edges_of c.args.union.now.dependencies
 
     usage : c.usage.result.now ≡ c.args.union.now.usage
-    usage = c.usage.ensures.same ∙ ap (λ (u : PlainUnion). u.usage) c.cycle_then-self.ensures.same
+    usage = c.usage.ensures.same
 
     usage_again : c.usage-2.result.now ≡ c.args.union.now.usage
-    usage_again = c.usage-2.ensures.same ∙ ap (λ (u : PlainUnion). u.usage) c.cycle_then-self.ensures.same
+    usage_again = c.usage-2.ensures.same
 
     tells_of : (before : List Usage) (rows : List UsageRow) → rows ≡ c.args.union.now.usage → TellsBits before (bits_of c.args.union.now.usage) c.args.news.now.bits
         → TellsBits before (bits_of rows) c.bits-bits.result.now
@@ -71,8 +70,8 @@ returns-clause-found c = λ old tells are. record {
         → IsExact (λ (w : Forbidden). IsForbiddenAt all (bits_of c.args.union.now.usage) state w.from w.to)
         (of_state (record { hard = c.forbidden_then.result; soft = c.forbidden_then-2.result }) state)
     forbidden edges before grow bits are Hard =
-        subst (Looked Hard c.args.self.now.forbidden.hard c.forbidden_then.result) c.cycle_then-self.ensures.same c.forbidden_then.ensures.found edges before grow bits (are Hard)
+        c.forbidden_then.ensures.found edges before grow bits (are Hard)
     forbidden edges before grow bits are Soft =
         subst (Looked Soft c.args.self.now.forbidden.soft c.forbidden_then-2.result)
-        (c.forbidden_then.ensures.same ∙ ap (λ u. searched_union u c.forbidden_then.new.union.searched) c.cycle_then-self.ensures.same)
+        c.forbidden_then.ensures.same
         c.forbidden_then-2.ensures.found edges before grow bits (are Soft)
