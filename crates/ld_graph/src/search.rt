@@ -2,6 +2,7 @@
 
 ghost use Rattle.std.specs.Prelude.{◌≡◌, ℕ, ◌<◌, ◌≤◌, [], nat_eq, Contains, OnOk, true, false};
 ghost use Rattle.std.specs.Prelude.{length, slice_index, slice_index_or, MatchOption};
+ghost use Rattle.std.specs.Prelude.{◌↔◌, IsTrue};
 ghost use Rattle.std.specs.List.{IsDistinct, list_any};
 ghost use Rattle.ld_graph.specs.Inner.Repairs.{IsAdded};
 
@@ -86,6 +87,14 @@ impl Search {
     {
         let _ = &self.marks;
         self.found.get(number).copied()
+    }
+
+    /// Whether no more than so many places were found.
+    pub fn ends_at(&self, number: usize) -> bool
+        ensures { IsTrue result ↔ (length self.now.found ≤ number) }
+    {
+        let _ = &self.marks;
+        self.found.len() <= number
     }
 
     /// Forgets what was found.

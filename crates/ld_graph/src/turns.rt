@@ -78,6 +78,9 @@ pub fn search_in_turn(
             row.len(),
             behind,
         );
+        if behind.ends_at(done + 1) {
+            return Side::Before;
+        }
         let Some(place) = ahead.place(done) else {
             return Side::After;
         };

@@ -1,4 +1,4 @@
-use Rattle.std.proofs.Common.{◌-◌, Contains, length, arith, get_or, subst}
+use Rattle.std.proofs.Common.{◌+◌, ◌-◌, ◌≤◌, Contains, length, arith, get_or, subst}
 use Rattle.ld_graph.specs.Lists.{IsNear}
 use Rattle.ld_graph.proofs.SoughtLemmas.{Contains-read, sought_few, turn_closed}
 use Rattle.ld_graph.proofs.SoughtLemmas.{turn_sought}
@@ -117,3 +117,31 @@ loop-place-preserved c =
 pub returns-clause-ended : goal.returns-clause-ended
 returns-clause-ended c = λ i y l.
     c.loop-place.invariant.behind_closed i y (omega (arith, l, c.in_default.ensures.place))
+
+pub returns-then-ends_at-clause-behind : goal.returns-then-ends_at-clause-behind
+returns-then-ends_at-clause-behind c =
+    turn_sought c.args.lists.now.before.lists c.args.ranks.now c.args.low c.args.row.now
+    c.requires.row c.requires.before c.loop-place.done c.in-Some.place c.before-in-Some.result.now
+    c.before-in-Some.ensures.near c.loop-place.behind.found c.expand.new.search.found
+    c.in-Some.ensures.place.0 c.in-Some.ensures.place.1 c.expand.ensures.grown
+    (length c.args.row.now - 1) c.loop-place.invariant.behind
+
+pub returns-then-ends_at-clause-ended : goal.returns-then-ends_at-clause-ended
+returns-then-ends_at-clause-ended c =
+    let few : length c.expand.new.search.found ≤ c.loop-place.done + 1 =
+    c.ends_at.ensures.0 c.if-ends_at.true in
+    let closed = turn_closed c.args.lists.now.before.lists c.args.ranks.now c.args.low
+    c.args.row.now c.requires.row c.requires.before c.loop-place.done c.in-Some.place
+    c.before-in-Some.result.now c.before-in-Some.ensures.near c.loop-place.behind.found
+    c.expand.new.search.found c.in-Some.ensures.place.0 c.in-Some.ensures.place.1
+    c.expand.ensures.grown c.loop-place.invariant.behind_closed c.expand.ensures.taken in
+    λ i y l. closed i y (omega (arith, l, few))
+
+pub overflow_add-done-in-Some : goal.overflow_add-done-in-Some
+overflow_add-done-in-Some c =
+    let i = c.loop-place.invariant in
+    let few = sought_few (IsNear c.args.lists.now.before.lists) c.args.ranks.now c.args.low
+    c.args.row.now c.requires.row c.requires.before (length c.args.row.now - 1)
+    c.loop-place.behind.found i.behind c.in-Some.ensures.once in
+    let l = c.in-Some.ensures.place.0 in
+    omega (arith, few, l, c.requires.few)
