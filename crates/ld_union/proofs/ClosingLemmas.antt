@@ -55,11 +55,10 @@ cycle-some edges cycle = let far = IsWalk-Far (IsEdge edges) cycle.0 cycle.0 cyc
 
 -- an edge on a cycle stays on it
 cycle-stays : (edges : List Edge) (added e : Edge) → IsCycleAt edges e → IsCycleAt (edges ++ added ∷ []) e
-cycle-stays edges added e cycle =
-    (
-      kept e.from e.to cycle.0,
-      (cycle.1.0, IsWalk-same (IsEdge edges) (IsEdge (edges ++ added ∷ [])) kept e.to e.from cycle.1.0 cycle.1.1),
-    )
+cycle-stays edges added e cycle = (
+  kept e.from e.to cycle.0,
+  (cycle.1.0, IsWalk-same (IsEdge edges) (IsEdge (edges ++ added ∷ [])) kept e.to e.from cycle.1.0 cycle.1.1),
+)
   where
     kept : (a b : ℕ) → IsEdge edges a b → IsEdge (edges ++ added ∷ []) a b
     kept a b there = Contains-append_left edges (added ∷ []) (edge a b) there

@@ -178,7 +178,7 @@ module _ (before : List Usage) (rows : List UsageRow) (told : List NewBit) (is :
       by : (k : ℕ) (b : Bit) → ¬ HasBitAt before k b → HasBitAt (bits_of rows) k b ⊎ ((k ≡ c) × (b ≡ bit_of bit)) → Contains told (new_bit k b)
       by k b old (inl there) = is.all k b there old
       by k b old (inr this) = is.all k b
-          (subst (λ m. HasBitAt (bits_of rows) m b) (sym this.0) 
+          (subst (λ m. HasBitAt (bits_of rows) m b) (sym this.0)
           (ap (λ u. has_bit u (usage_of b)) was ∙ ap (λ x. has_bit (get_or rows c d).bits (usage_of x)) this.1 ∙ ap (has_bit (get_or rows c d).bits) (sym one) ∙ known)) old
 
   -- where it hadn't, the bit is

@@ -193,7 +193,7 @@ impl Gate for Meeting {
             return;
         }
         for _ in 0..10_000_000u64 {
-            if self.came.load(Ordering::SeqCst) == self.wanted {
+            if self.came.load(Ordering::SeqCst) >= self.wanted {
                 self.met.store(true, Ordering::SeqCst);
                 return;
             }

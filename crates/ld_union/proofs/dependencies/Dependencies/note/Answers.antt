@@ -70,7 +70,7 @@ returns-in-Ok-clause-closing c was =
     let graph = c.insert-answer.new.self in
     let inserted : graph ≡ with_edge c.args.self.now.graph c.args.edge.from c.args.edge.to graph.order = c.insert-answer.ensures.new c.in-None.ensures in
     let same : edges_of c.push.new.self.items ≡ graph.edges =
-        ap edges_of c.in-Ok.ensures.items ∙ map-append (λ (row : Witnessed). row.edge) c.args.self.now.rows.items _
-        ∙ ap (λ edges. edges ++ c.args.edge ∷ []) (sym c.requires.edges) ∙ sym (ap (λ (g : Seen). g.edges) inserted) in
+    ap edges_of c.in-Ok.ensures.items ∙ map-append (λ (row : Witnessed). row.edge) c.args.self.now.rows.items _
+    ∙ ap (λ edges. edges ++ c.args.edge ∷ []) (sym c.requires.edges) ∙ sym (ap (λ (g : Seen). g.edges) inserted) in
     subst (λ edges. IsClosing edges c.closing_then-self.result) (sym same)
     (c.closing_then-self.ensures c.args.self.now.graph graph c.insert-answer.ensures.inserted (subst (λ edges. IsClosing edges c.args.self.now.closing) (sym c.requires.edges) was))
