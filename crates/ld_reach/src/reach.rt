@@ -59,6 +59,7 @@ impl Reach {
     pub fn len(&self) -> usize
         ensures count { result ≡ length self.now.marks }
         ensures each { result ≡ length self.now.sources }
+        ensures few { result ≤ MOST_CLASSES }
     {
         self.marks.len()
     }
