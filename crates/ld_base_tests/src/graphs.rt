@@ -5,7 +5,7 @@ ghost use Rattle.std.specs.Prelude.{◌≡◌, ℕ, length, slice_index_or, None
 ghost use Rattle.ld_graph.specs.Edges.{IsEdge};
 ghost use Rattle.ld_graph.specs.Walks.{DistanceIs};
 
-use ld_graph::{Graph, MOST_CLASSES};
+use ld_graph::{Graph, Insert, MOST_CLASSES};
 use std::alloc::Global;
 use std::process::Abort;
 
@@ -28,10 +28,31 @@ fn add_classes<R: Abort>(rt: &R, graph: &mut Graph, count: u32) {
     }
 }
 
-fn insert<R: Abort>(rt: &R, graph: &mut Graph, a: u32, b: u32) -> bool {
+fn insert<R: Abort>(rt: &R, graph: &mut Graph, a: u32, b: u32) -> Insert {
     assert!(rt; (a as usize) < graph.len() && (b as usize) < graph.len());
     assert!(rt; graph.spare_edges() > 0);
     graph.insert(a, b)
+}
+
+/// Inserts an edge that is not there yet.
+fn insert_new<R: Abort>(rt: &R, graph: &mut Graph, a: u32, b: u32) {
+    let count = graph.edges();
+    assert!(rt; insert(rt, graph, a, b) != Insert::Known);
+    assert!(rt; graph.edges() > count);
+}
+
+/// Inserts an edge for which the ranks are repaired, by at most so many lists.
+fn insert_moved<R: Abort>(rt: &R, graph: &mut Graph, a: u32, b: u32, most: u64) {
+    match insert(rt, graph, a, b) {
+        Insert::Moved { expanded } => assert!(rt; expanded <= most),
+        _ => panic!(rt; "no repair"),
+    }
+}
+
+fn rank<R: Abort>(rt: &R, graph: &Graph, class: u32) -> u32 {
+    let order = graph.order().expect(rt, "an order");
+    assert!(rt; (class as usize) < order.len());
+    order[class as usize]
 }
 
 fn distances<R: Abort>(rt: &R, alloc: Global, graph: &Graph, to: u32) -> Vec<Option<u64>>
@@ -149,12 +170,21 @@ fn circle(rt: HostRuntime) {
     let mut graph = Graph::new(alloc);
     make_room(&rt, &mut graph, 4, 5);
     add_classes(&rt, &mut graph, 4);
-    assert!(rt; insert(&rt, &mut graph, 0, 1));
-    assert!(rt; insert(&rt, &mut graph, 2, 0));
-    assert!(rt; !insert(&rt, &mut graph, 0, 1));
-    assert!(rt; insert(&rt, &mut graph, 1, 2));
-    assert!(rt; insert(&rt, &mut graph, 3, 3));
-    assert!(rt; !insert(&rt, &mut graph, 0, 1));
+    for class in 0..4 {
+        assert_eq!(rt; rank(&rt, &graph, class), class);
+    }
+    assert_eq!(rt; insert(&rt, &mut graph, 0, 1), Insert::Kept);
+    insert_moved(&rt, &mut graph, 2, 0, 3);
+    assert!(rt; rank(&rt, &graph, 2) < rank(&rt, &graph, 0));
+    assert!(rt; rank(&rt, &graph, 0) < rank(&rt, &graph, 1));
+    assert_eq!(rt; rank(&rt, &graph, 3), 3);
+    assert_eq!(rt; insert(&rt, &mut graph, 0, 1), Insert::Known);
+    assert!(rt; rank(&rt, &graph, 2) < rank(&rt, &graph, 0));
+    assert_eq!(rt; insert(&rt, &mut graph, 1, 2), Insert::Closed);
+    assert!(rt; graph.order().is_none());
+    assert_eq!(rt; insert(&rt, &mut graph, 3, 3), Insert::AfterCycle);
+    assert_eq!(rt; insert(&rt, &mut graph, 0, 1), Insert::Known);
+    assert!(rt; graph.order().is_none());
     expect_circle(&rt, alloc, &mut graph);
     // Where a growth of this graph is refused, each answer is as before, the last search's too.
     assert!(rt; graph.len() == 4);
@@ -176,7 +206,7 @@ fn two_ways(rt: HostRuntime) {
     make_room(&rt, &mut graph, 4, 4);
     add_classes(&rt, &mut graph, 4);
     for (a, b) in [(0, 1), (0, 2), (1, 3), (2, 3)] {
-        assert!(rt; insert(&rt, &mut graph, a, b));
+        insert_new(&rt, &mut graph, a, b);
     }
     expect_walk(&rt, alloc, &graph, (0, 3), &[0, 1, 2, 3], &[0, 1, 3]);
     expect_walk(&rt, alloc, &graph, (0, 3), &[0, 2, 1, 3], &[0, 2, 3]);
@@ -192,7 +222,7 @@ fn a_long_way(rt: HostRuntime) {
     make_room(&rt, &mut graph, 2_000, 2_000);
     add_classes(&rt, &mut graph, 2_000);
     for a in 0..1_999 {
-        assert!(rt; insert(&rt, &mut graph, a, a + 1));
+        insert_new(&rt, &mut graph, a, a + 1);
     }
     let distances = distances(&rt, alloc, &graph, 1_999);
     assert!(rt; !distances.is_empty());
@@ -202,4 +232,129 @@ fn a_long_way(rt: HostRuntime) {
     let walk = walk(&rt, alloc, &graph, 0, 1_999, &places).expect(&rt, "a walk");
     assert_eq!(rt; walk.len(), 2_000);
     drop(graph);
+}
+
+#[test]
+fn edge_to_itself(rt: HostRuntime) {
+    let mut graph = Graph::new(rt.alloc());
+    make_room(&rt, &mut graph, 1, 1);
+    add_classes(&rt, &mut graph, 1);
+    assert_eq!(rt; rank(&rt, &graph, 0), 0);
+    assert_eq!(rt; insert(&rt, &mut graph, 0, 0), Insert::Closed);
+    assert!(rt; graph.order().is_none());
+    drop(graph);
+}
+
+#[test]
+fn ends_outside_the_range(rt: HostRuntime) {
+    let mut graph = Graph::new(rt.alloc());
+    make_room(&rt, &mut graph, 6, 5);
+    add_classes(&rt, &mut graph, 6);
+    assert_eq!(rt; insert(&rt, &mut graph, 0, 5), Insert::Kept);
+    insert_moved(&rt, &mut graph, 4, 1, 4);
+    assert!(rt; rank(&rt, &graph, 4) < rank(&rt, &graph, 1));
+    assert_eq!(rt; rank(&rt, &graph, 0), 0);
+    assert_eq!(rt; rank(&rt, &graph, 5), 5);
+    assert_eq!(rt; insert(&rt, &mut graph, 1, 4), Insert::Closed);
+    assert!(rt; graph.order().is_none());
+    assert_eq!(rt; insert(&rt, &mut graph, 5, 0), Insert::AfterCycle);
+    assert_eq!(rt; insert(&rt, &mut graph, 0, 5), Insert::Known);
+    drop(graph);
+}
+
+/// How many classes the random graphs have.
+const FEW: usize = 6;
+
+/// A slow closure over the pairs of these classes: which class a walk leads to from which.
+#[derive(Drop)]
+struct Closure {
+    edges: [bool; 36],
+    walks: [bool; 36],
+}
+
+/// What an insert of the edge is to answer, by the closure and by which end was ranked first.
+fn wanted<R: Abort>(rt: &R, closure: &Closure, a: usize, b: usize, in_order: bool) -> Insert {
+    assert!(rt; a < FEW && b < FEW);
+    let mut cyclic = false;
+    for class in 0..FEW {
+        cyclic |= closure.walks[class * FEW + class];
+    }
+    if closure.edges[a * FEW + b] {
+        Insert::Known
+    } else if cyclic {
+        Insert::AfterCycle
+    } else if a == b || closure.walks[b * FEW + a] {
+        Insert::Closed
+    } else if in_order {
+        Insert::Kept
+    } else {
+        Insert::Moved { expanded: 0 }
+    }
+}
+
+/// Adds an edge to the closure.
+fn close<R: Abort>(rt: &R, closure: &mut Closure, a: usize, b: usize) {
+    assert!(rt; a < FEW && b < FEW);
+    closure.edges[a * FEW + b] = true;
+    for x in 0..FEW {
+        for y in 0..FEW {
+            let from = x == a || closure.walks[x * FEW + a];
+            let to = y == b || closure.walks[b * FEW + y];
+            closure.walks[x * FEW + y] |= from && to;
+        }
+    }
+}
+
+/// Asserts that the ranks are those of an order, by each edge of the closure.
+fn expect_order<R: Abort>(rt: &R, graph: &Graph, closure: &Closure) {
+    for x in 0..FEW {
+        for y in 0..FEW {
+            if closure.edges[x * FEW + y] {
+                assert!(rt; rank(rt, graph, x as u32) < rank(rt, graph, y as u32));
+            }
+            if x != y {
+                assert!(rt; rank(rt, graph, x as u32) != rank(rt, graph, y as u32));
+            }
+        }
+    }
+}
+
+/// Inserts edges in an order that depends on the seed, each against the closure.
+fn expect_as_closure<R: Abort>(rt: &R, graph: &mut Graph, seed: u32) {
+    let mut closure = Closure {
+        edges: [false; 36],
+        walks: [false; 36],
+    };
+    let mut state = seed;
+    for _ in 0..20 {
+        state = state.wrapping_mul(1_664_525).wrapping_add(1_013_904_223);
+        let a = (state >> 16) as usize % FEW;
+        let b = (state >> 24) as usize % FEW;
+        let in_order = graph.order().is_some()
+            && rank(rt, graph, a as u32) < rank(rt, graph, b as u32);
+        let wanted = wanted(rt, &closure, a, b, in_order);
+        let answer = match insert(rt, graph, a as u32, b as u32) {
+            Insert::Moved { .. } => Insert::Moved { expanded: 0 },
+            answer => answer,
+        };
+        assert_eq!(rt; answer, wanted);
+        close(rt, &mut closure, a, b);
+        if matches!(wanted, Insert::Closed | Insert::AfterCycle) {
+            assert!(rt; graph.order().is_none());
+        }
+        if graph.order().is_some() {
+            expect_order(rt, graph, &closure);
+        }
+    }
+}
+
+#[test]
+fn random_edges(rt: HostRuntime) {
+    for seed in 1..21 {
+        let mut graph = Graph::new(rt.alloc());
+        make_room(&rt, &mut graph, FEW, 20);
+        add_classes(&rt, &mut graph, FEW as u32);
+        expect_as_closure(&rt, &mut graph, seed);
+        drop(graph);
+    }
 }

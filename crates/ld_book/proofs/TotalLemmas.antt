@@ -9,17 +9,17 @@ use Rattle.std.proofs.lemmas.Map.Made.{length-from_same_keys}
 use Rattle.std.specs.Bool.{Decides}
 use Rattle.std.specs.List.{cons_option, list_any, reduce}
 use Rattle.ld_class.proofs.Mapped.{list_any-map}
-use Rattle.ld_graph.specs.Edges.{Seen, edge}
+use Rattle.ld_graph.specs.Edges.{edge}
 use Rattle.ld_trace.specs.Sources.{PlainSource}
 use Rattle.ld_rules.specs.declared.outcome.Witness.{Witness}
 use Rattle.ld_facts.specs.Dependency as dependencies
 use Rattle.ld_facts.specs.Dependency.{Dependency, least_line, same_dependency}
 use Rattle.ld_facts.specs.Union.{dependencies_of, dependency_witness, first_of, union_dependencies}
 use Rattle.ld_rules.proofs.PlaceLemmas.{alike_from_decides, any_each_once}
-use Rattle.ld_union.specs.declared.union.Witnessed.{Witnessed}
+use Rattle.ld_union.specs.declared.dependencies.Witnessed.{Witnessed}
 use Rattle.ld_union.specs.Inner.Union.{AreNumbered, AreWitnessed, named_edge, seen_in}
 use Rattle.ld_union.proofs.EachOnceLemmas.{IsDistinct-each_once, IsEquivalence-from_decides}
-use Rattle.ld_union.proofs.UnionLemmas.{apart_rows, length_rows, same_dependency-refl, same_dependency-true}
+use Rattle.ld_union.proofs.UnionLemmas.{apart_rows, same_dependency-refl, same_dependency-true}
 
 same_dependency-decides : (a b : Dependency) → Decides (same_dependency a b) (a ≡ b)
 same_dependency-decides a b = (same_dependency-true a b, λ is. subst (λ c. same_dependency a c ≡ true) is (same_dependency-refl a))
@@ -72,12 +72,11 @@ rows_any classes rows first witnessed what = by (is_some (first what)) refl
     by false is = false_from_ne_true _ (absent is)
 
 -- the edges are as many as the dependencies of the union
-pub length-edges : (classes : List (List ℕ)) (graph : Seen) (rows : List Witnessed) (sources : List PlainSource) → AreNumbered classes graph rows →
+pub length-edges : (classes : List (List ℕ)) (rows : List Witnessed) (sources : List PlainSource) → AreNumbered classes rows →
     AreWitnessed classes rows (dependency_witness sources)
-    → length graph.edges ≡ length (union_dependencies sources)
-length-edges classes graph rows sources is witnessed =
-    sym (length_rows classes graph rows is)
-    ∙ sym (length-map rows (λ r. named_edge classes r.edge))
+    → length rows ≡ length (union_dependencies sources)
+length-edges classes rows sources is witnessed =
+    sym (length-map rows (λ r. named_edge classes r.edge))
     ∙ length-from_same_keys (IsEquivalence-from_decides same_dependency same_dependency-decides) (map (λ r. named_edge classes r.edge) rows) (union_dependencies sources)
     (IsDistinct-from_apart same_dependency (map (λ r. named_edge classes r.edge) rows) apart)
     (IsDistinct-each_once same_dependency same_dependency-decides shown)
@@ -100,4 +99,4 @@ length-edges classes graph rows sources is witnessed =
         (get_or (map (λ (r : Witnessed). named_edge classes r.edge) rows) i d) (get_or (map (λ (r : Witnessed). named_edge classes r.edge) rows) j d) ≡ false
     apart i j d before within =
         let in_rows : j < length rows = subst (λ n. j < n) (length-map rows (λ r. named_edge classes r.edge)) within in
-        false_from_ne_true _ (λ same. apart_rows classes graph rows is i j no_row before in_rows (sym (named i d (omega arith)) ∙ same_dependency-true _ _ same ∙ named j d in_rows))
+        false_from_ne_true _ (λ same. apart_rows classes rows is i j no_row before in_rows (sym (named i d (omega arith)) ∙ same_dependency-true _ _ same ∙ named j d in_rows))

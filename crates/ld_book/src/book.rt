@@ -13,7 +13,7 @@ use crate::totals::{Totals, events_of, refused_of};
 use indexmap::IndexSet;
 use ld_facts::{Facts, Listed, Witness};
 use ld_find::{Alarms, Findings, Found, findings_of};
-use ld_union::{Union, UsageRow};
+use ld_union::{News, Union, UsageRow};
 use std::alloc::{AllocError, Global};
 use std::marker::Model;
 
@@ -41,8 +41,8 @@ pub struct Book<'a> {
     union: Union<'a>,
     /// A violation of each kind that the traces show.
     found: Found,
-    /// The numbers of the classes of the trace that was added last. A spare for the next one.
-    places: Vec<u32>,
+    /// What was new in the trace that was added last. It keeps its memory for the next one.
+    news: News,
 }
 
 impl<'a> Model for Book<'a> {
@@ -56,7 +56,14 @@ impl<'a> Model for Book<'a> {
 
     ghost view = { λ b. sources_of b.listed.items };
 
-    ghost invariant = { λ b. IsKept b.listed.items b.numbers.keys b.events b.refused b.union b.found };
+    ghost invariant = { λ b. IsKept (record {
+      listed = b.listed.items;
+      keys = b.numbers.keys;
+      events = b.events;
+      refused = b.refused;
+      union = b.union;
+      found = b.found;
+    }) };
 }
 
 impl<'a> Book<'a> {
@@ -71,7 +78,7 @@ impl<'a> Book<'a> {
             refused: 0,
             union: Union::new(alloc),
             found: Found::new(),
-            places: Vec::new(alloc),
+            news: News::new(alloc),
         }
     }
 
@@ -110,11 +117,8 @@ impl<'a> Book<'a> {
         let outcome = facts.outcome();
         self.listed.reserve(1)?;
         self.numbers.reserve(1)?;
-        self.union.add_classes(facts, &mut self.places)?;
-        let known = self.union.dependencies.len();
-        self.union.add_dependencies(facts, &self.places);
-        let bits_came = self.union.add_usage(facts, &self.places);
-        self.found.look(&mut self.union, known, bits_came);
+        self.union.add(facts, &mut self.news)?;
+        self.found.look(&mut self.union, &self.news);
         self.events += events_of(outcome);
         self.refused += refused_of(outcome);
         let Ok(_) = self.numbers.insert(source.number) else {
@@ -146,8 +150,8 @@ impl<'a> Book<'a> {
             traces: self.listed.len() as u64,
             refused: self.refused,
             events: self.events,
-            classes: self.union.classes.len() as u64,
-            dependencies: self.union.graph.edges(),
+            classes: self.union.classes().len() as u64,
+            dependencies: self.union.dependencies().len() as u64,
         }
     }
 
@@ -156,7 +160,7 @@ impl<'a> Book<'a> {
     pub fn alarms(&self) -> Alarms<'a>
         ensures { AreExact self.now (plain_alarms result) }
     {
-        self.found.named(&self.union.classes)
+        self.found.named(self.union.classes())
     }
 
     /// Every violation that the traces show, in the order of the report, with the first witnesses and

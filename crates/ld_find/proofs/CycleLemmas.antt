@@ -1,16 +1,16 @@
 -- Dependencies on cycles, by the numbers of their classes, and the walks that their rows show.
 use Rattle.std.proofs.Common.{◌≡◌, ◌≢◌, ◌⊎◌, inl, inr, ◌<◌, List, ℕ, suc, false, [], ◌∷◌, Option, None, Some, is_some, length, refl, sym, ap, subst, ◌∙◌}
 use Rattle.std.proofs.lemmas.Bool.{true≢false, cases_eq}
-use Rattle.ld_graph.specs.Edges.{IsEdge, Seen}
+use Rattle.ld_graph.specs.Edges.{IsEdge}
 use Rattle.ld_graph.specs.Walks.{DistanceIs, HasWalk, IsShownWalk}
 use Rattle.ld_graph.proofs.WalkLemmas.{HasWalk-Far, IsWalk-Far}
 use Rattle.ld_trace.specs.Sources.{PlainSource}
 use Rattle.ld_facts.specs.Union.{dependency_witness}
-use Rattle.ld_union.specs.declared.union.Witnessed.{Witnessed}
+use Rattle.ld_union.specs.declared.dependencies.Witnessed.{Witnessed}
 use Rattle.ld_find.specs.Findings.{IsBefore, IsShown, PlainCycleRow}
 use Rattle.ld_find.specs.Inner.Order.{name_of}
 use Rattle.ld_find.specs.Inner.Rows.{IsCycleRowOf}
-use Rattle.ld_union.specs.Inner.Union.{AreNumbered, AreWitnessed}
+use Rattle.ld_union.specs.Inner.Union.{AreNumbered, AreWitnessed, edges_of}
 use Rattle.ld_find.specs.Violations.{Depends, IsCycle, Leads}
 use Rattle.ld_find.proofs.NumberLemmas.{depends_from_edge, edge_from_named, walk_from_leads}
 
@@ -27,27 +27,27 @@ pub no_walk : {A : Type 0} (step : A → A → Type 0) (a b : A) (distance : Opt
 no_walk step a b None is none = is
 no_walk step a b (Some n) is none = absurd (true≢false none)
 
-module _ (classes : List (List ℕ)) (graph : Seen) (rows : List Witnessed) (is : AreNumbered classes graph rows)
+module _ (classes : List (List ℕ)) (rows : List Witnessed) (is : AreNumbered classes rows)
     (sources : List PlainSource) (witnessed : AreWitnessed classes rows (dependency_witness sources)) where
   -- no cycle, where there is no edge
-  pub no_cycle-edge : (a b : ℕ) → a < length classes → b < length classes → ¬ IsEdge graph.edges a b → ¬ IsCycle sources (name_of classes a) (name_of classes b)
+  pub no_cycle-edge : (a b : ℕ) → a < length classes → b < length classes → ¬ IsEdge (edges_of rows) a b → ¬ IsCycle sources (name_of classes a) (name_of classes b)
   no_cycle-edge a b at_a at_b none cycle =
-      none (edge_from_named classes graph rows is sources witnessed a b (name_of classes a) (name_of classes b) (at_a, refl) (at_b, refl) cycle.0)
+      none (edge_from_named classes rows is sources witnessed a b (name_of classes a) (name_of classes b) (at_a, refl) (at_b, refl) cycle.0)
 
   -- nor where there is no walk back
-  pub no_cycle-walk : (a b : ℕ) → a < length classes → b < length classes → ¬ HasWalk (IsEdge graph.edges) b a → ¬ IsCycle sources (name_of classes a) (name_of classes b)
+  pub no_cycle-walk : (a b : ℕ) → a < length classes → b < length classes → ¬ HasWalk (IsEdge (edges_of rows)) b a → ¬ IsCycle sources (name_of classes a) (name_of classes b)
   no_cycle-walk a b at_a at_b none cycle =
-      none (walk_from_leads classes graph rows is sources witnessed b a (name_of classes b) (name_of classes a) (at_b, refl) (at_a, refl) cycle.1)
+      none (walk_from_leads classes rows is sources witnessed b a (name_of classes b) (name_of classes a) (at_b, refl) (at_a, refl) cycle.1)
 
   -- a class to which no walk leads from itself has no dependency on a cycle
-  pub no_cycle-from : (a : ℕ) (to : List ℕ) → a < length classes → ¬ HasWalk (IsEdge graph.edges) a a → ¬ IsCycle sources (name_of classes a) to
+  pub no_cycle-from : (a : ℕ) (to : List ℕ) → a < length classes → ¬ HasWalk (IsEdge (edges_of rows)) a a → ¬ IsCycle sources (name_of classes a) to
   no_cycle-from a to at_a none cycle =
       let far = IsWalk-Far (Depends sources) to (name_of classes a) cycle.1.0 cycle.1.1 in
-      none (walk_from_leads classes graph rows is sources witnessed a a (name_of classes a) (name_of classes a) (at_a, refl) (at_a, refl)
+      none (walk_from_leads classes rows is sources witnessed a a (name_of classes a) (name_of classes a) (at_a, refl) (at_a, refl)
       (HasWalk-Far (Depends sources) (suc far.0) (name_of classes a) (name_of classes a) (to, (cycle.0, far.1.1))))
 
   -- the row of an edge from a class to itself, or with a shown walk back
-  pub cycle-row : (a b : ℕ) (row : PlainCycleRow) → a < length classes → b < length classes → IsEdge graph.edges a b
+  pub cycle-row : (a b : ℕ) (row : PlainCycleRow) → a < length classes → b < length classes → IsEdge (edges_of rows) a b
       → row.from ≡ name_of classes a → row.to ≡ name_of classes b → dependency_witness sources (record { from = name_of classes a; to = name_of classes b }) ≡ Some row.at
       → (b ≡ a → row.via ≡ []) → (b ≢ a → IsShown sources (name_of classes b) (name_of classes a) row.via)
       → IsCycleRowOf sources (name_of classes a) (name_of classes b) row
@@ -63,7 +63,7 @@ module _ (classes : List (List ℕ)) (graph : Seen) (rows : List Witnessed) (is 
   )
     where
       depends : Depends sources (name_of classes a) (name_of classes b)
-      depends = depends_from_edge classes graph rows is sources witnessed a b there
+      depends = depends_from_edge classes rows is sources witnessed a b there
 
       back : (b ≡ a) ⊎ (b ≢ a) → Leads sources (name_of classes b) (name_of classes a)
       back (inl same) = HasWalk-Far (Depends sources) 0 (name_of classes b) (name_of classes a)

@@ -1,6 +1,6 @@
 -- The rows of forbidden walks.
 use Rattle.std.proofs.Common.{◌≡◌, ◌<◌, List, ℕ, length, is_some, refl, sym, ap, subst, ◌∙◌}
-use Rattle.ld_graph.specs.Edges.{IsEdge, Seen}
+use Rattle.ld_graph.specs.Edges.{IsEdge}
 use Rattle.ld_graph.specs.Walks.{HasWalk}
 use Rattle.ld_trace.specs.declared.event.State.{State}
 use Rattle.ld_trace.specs.Sources.{PlainSource}
@@ -8,11 +8,11 @@ use Rattle.ld_rules.specs.declared.outcome.Witness.{Witness}
 use Rattle.ld_facts.specs.Union.{dependency_witness, use_witness}
 use Rattle.ld_facts.specs.Usage.{Bit}
 use Rattle.ld_facts.specs.Usage.Bit.{In, On}
-use Rattle.ld_union.specs.declared.union.Witnessed.{Witnessed}
+use Rattle.ld_union.specs.declared.dependencies.Witnessed.{Witnessed}
 use Rattle.ld_find.specs.Findings.{IsBefore, IsShown, PlainForbiddenRow, shown_marks}
 use Rattle.ld_find.specs.Inner.Order.{name_of}
 use Rattle.ld_find.specs.Inner.Rows.{IsNoted, IsTurnedRowOf}
-use Rattle.ld_union.specs.Inner.Union.{AreNumbered, AreWitnessed}
+use Rattle.ld_union.specs.Inner.Union.{AreNumbered, AreWitnessed, edges_of}
 use Rattle.ld_find.specs.Violations.{Depends, HasBit, IsForbidden}
 use Rattle.ld_find.proofs.CycleLemmas.{HasWalk-shown}
 use Rattle.ld_find.proofs.NumberLemmas.{walk_from_leads}
@@ -57,8 +57,8 @@ module _ (sources : List PlainSource) where
       walk = subst (λ n. IsShown sources n row.to row.via) (sym from.same) (subst (λ n. IsShown sources x n row.via) (sym to.same) shown)
 
 -- no forbidden walk, where there is no walk
-pub no_forbidden-walk : (classes : List (List ℕ)) (graph : Seen) (rows : List Witnessed) → AreNumbered classes graph rows →
+pub no_forbidden-walk : (classes : List (List ℕ)) (rows : List Witnessed) → AreNumbered classes rows →
     (sources : List PlainSource) → AreWitnessed classes rows (dependency_witness sources)
-    → (state : State) (a b : ℕ) → a < length classes → b < length classes → ¬ HasWalk (IsEdge graph.edges) a b → ¬ IsForbidden sources state (name_of classes a) (name_of classes b)
-no_forbidden-walk classes graph rows is sources witnessed state a b at_a at_b none forbidden =
-    none (walk_from_leads classes graph rows is sources witnessed a b (name_of classes a) (name_of classes b) (at_a, refl) (at_b, refl) forbidden.2)
+    → (state : State) (a b : ℕ) → a < length classes → b < length classes → ¬ HasWalk (IsEdge (edges_of rows)) a b → ¬ IsForbidden sources state (name_of classes a) (name_of classes b)
+no_forbidden-walk classes rows is sources witnessed state a b at_a at_b none forbidden =
+    none (walk_from_leads classes rows is sources witnessed a b (name_of classes a) (name_of classes b) (at_a, refl) (at_b, refl) forbidden.2)

@@ -1,29 +1,32 @@
 -- What was found stays exact as edges and bits come.
-use Rattle.std.proofs.Common.{option_map, ◌≡◌, ◌<◌, ◌≤◌, ◌-◌, ◌++◌, ◌∙◌, [], arith, take-append-drop, MatchOption, List, ℕ, Bool, true, false, Option}
-use Rattle.std.proofs.Common.{Some, None, is_some, All, refl, take, drop, length, map, get_or, sym, ap, subst}
+use Rattle.std.proofs.Common.{option_map, ◌≡◌, ◌⊎◌, inl, inr, ◌<◌, ◌≤◌, ◌++◌, ◌∙◌, [], arith, take-append-drop, MatchOption, List, ℕ, Bool, true, false, Option}
+use Rattle.std.proofs.Common.{Some, None, is_some, All, Contains, refl, take, drop, length, get_or, sym, ap, subst}
 use Rattle.std.proofs.lemmas.Bool.{true≢false}
-use Rattle.std.proofs.lemmas.List.{length-drop, take_all}
-use Rattle.std.proofs.lemmas.List.Elements.{Contains-append_left}
+use Rattle.std.proofs.lemmas.List.{take_all}
+use Rattle.std.proofs.lemmas.List.Elements.{All-contains, Contains-append_left}
 use Rattle.ld_class.specs.declared.usage.Usage.{Usage}
+use Rattle.ld_class.specs.Usage.{has_bit}
 use Rattle.ld_graph.specs.declared.Edge.{Edge}
-use Rattle.ld_graph.specs.Edges.{IsEdge, Seen, edge}
+use Rattle.ld_graph.specs.Edges.{IsEdge, edge}
 use Rattle.ld_graph.specs.Walks.{HasWalk}
 use Rattle.ld_graph.proofs.WalkLemmas.{IsWalk-same}
 use Rattle.ld_trace.specs.declared.event.State.{State}
-use Rattle.ld_facts.specs.Usage.{Bit}
+use Rattle.ld_facts.specs.Usage.{Bit, bit_of, usage_of}
 use Rattle.ld_facts.specs.Usage.Bit.{In, On}
+use Rattle.ld_facts.specs.Uses.{none}
 use Rattle.ld_find.specs.declared.alarms.Forbidden.{Forbidden}
 use Rattle.ld_find.specs.declared.alarms.Found.{Found}
-use Rattle.ld_union.specs.declared.union.Witnessed.{Witnessed}
-use Rattle.ld_find.specs.Alarms.{AreExact, IsExact, state_place}
-use Rattle.ld_find.specs.Inner.Numbers.{AreFound, AreRowsOf, BitsGrow, EdgesGrow, HasBitAt, IsConflictAt, IsCycleAt, IsForbiddenAt, named_alarms, named_pair}
+use Rattle.ld_find.specs.Alarms.{AreExact, IsExact}
+use Rattle.ld_union.specs.Inner.Union.{IsCycleAt}
+use Rattle.ld_find.specs.Inner.Numbers.{AreFound, BitsGrow, EdgesGrow, IsConflictAt, IsForbiddenAt, named_alarms, named_pair, of_state}
 use Rattle.ld_find.specs.Inner.Rows.{IsOfEach}
 use Rattle.ld_find.specs.Violations.{IsConflict, IsCycle, IsForbidden}
 use Rattle.ld_trace.specs.Sources.{PlainSource}
-use Rattle.ld_union.specs.Inner.Union.{AreNumbered}
-use Rattle.ld_find.proofs.AlarmLemmas.{no_cycle-rows}
-use Rattle.ld_find.proofs.NumberLemmas.{row_within}
-use Rattle.ld_union.proofs.UnionLemmas.{edge_of_row, ends_of_row}
+use Rattle.ld_union.specs.declared.news.NewBit.{NewBit}
+use Rattle.ld_union.specs.declared.usage.UsageRow.{UsageRow}
+use Rattle.ld_union.specs.Inner.News.{HasBitAt, TellsBits, new_bit}
+use Rattle.ld_union.specs.Usage.{bits_of}
+use Rattle.ld_union.proofs.NewsLemmas.{row_within}
 
 module _ {A : Type 0} (P Q : A → Type 0) (kept : (x : A) → P x → Q x) (found : Option A) (exact : IsExact P found) where
   -- one that was found stays
@@ -42,65 +45,85 @@ module _ {A : Type 0} (P Q : A → Type 0) (kept : (x : A) → P x → Q x) (fou
       by None none = λ any. none (any.0, back any.0 any.1)
       by (Some x) is = kept x is
 
-walk_kept : (old new : List Edge) → ((a b : ℕ) → IsEdge old a b → IsEdge new a b) → (a b : ℕ) → HasWalk (IsEdge old) a b → HasWalk (IsEdge new) a b
+walk_kept : (old new : List Edge) → EdgesGrow old new → (a b : ℕ) → HasWalk (IsEdge old) a b → HasWalk (IsEdge new) a b
 walk_kept old new kept a b walk = (walk.0, IsWalk-same (IsEdge old) (IsEdge new) kept a b walk.0 walk.1)
 
-pub cycle_kept : (old new : List Edge) → ((a b : ℕ) → IsEdge old a b → IsEdge new a b) → (e : Edge) → IsCycleAt old e → IsCycleAt new e
+pub cycle_kept : (old new : List Edge) → EdgesGrow old new → (e : Edge) → IsCycleAt old e → IsCycleAt new e
 cycle_kept old new kept e cycle = (kept e.from e.to cycle.0, walk_kept old new kept e.to e.from cycle.1)
 
-module _ (state : State) (usage more : List Usage) (came : Bool) (bits : BitsGrow usage more came) where
+module _ (state : State) (usage more : List Usage) (bits : BitsGrow usage more) where
   pub conflict_kept : (c : ℕ) → IsConflictAt usage state c → IsConflictAt more state c
-  conflict_kept c conflict = (bits.kept c (In state) conflict.0, bits.kept c (On state) conflict.1)
+  conflict_kept c conflict = (bits c (In state) conflict.0, bits c (On state) conflict.1)
 
-  pub conflict_back : came ≡ false → (c : ℕ) → IsConflictAt more state c → IsConflictAt usage state c
-  conflict_back none c conflict = (bits.same none c (In state) conflict.0, bits.same none c (On state) conflict.1)
-
-  module _ (edges all : List Edge) (grow : EdgesGrow edges all came) where
-    pub forbidden_kept : (w : Forbidden) → IsForbiddenAt edges usage state w.from w.to → IsForbiddenAt all more state w.from w.to
-    forbidden_kept w walk = (bits.kept w.from (In state) walk.0, (bits.kept w.to (On state) walk.1.0, walk_kept edges all grow.kept w.from w.to walk.1.1))
-
-    pub forbidden_back : came ≡ false → (w : Forbidden) → IsForbiddenAt all more state w.from w.to → IsForbiddenAt edges usage state w.from w.to
-    forbidden_back none w walk = (bits.same none w.from (In state) walk.0, (bits.same none w.to (On state) walk.1.0, walk_kept all edges (grow.same none) w.from w.to walk.1.1))
-
--- the rows of the graph's edges
-pub rows_of_graph : (classes : List (List ℕ)) (graph : Seen) (rows : List Witnessed) → AreNumbered classes graph rows → AreRowsOf graph rows
-rows_of_graph classes graph rows is = λ k d within.
-    let e : Edge = (get_or rows k d).edge in
-    let ends = ends_of_row classes graph rows is k d within in
-    (edge_of_row classes graph rows is e.from e.to k d within refl, subst (λ n. e.from < n) (sym is.count) ends.0, subst (λ n. e.to < n) (sym is.count) ends.1)
+  pub forbidden_kept : (edges all : List Edge) → EdgesGrow edges all → (w : Forbidden) → IsForbiddenAt edges usage state w.from w.to → IsForbiddenAt all more state w.from w.to
+  forbidden_kept edges all grow w walk = (bits w.from (In state) walk.0, (bits w.to (On state) walk.1.0, walk_kept edges all grow w.from w.to walk.1.1))
 
 -- edges that stand in front are still there
-pub edges_kept : (old new : List Edge) (n : ℕ) → take n new ≡ old → (a b : ℕ) → IsEdge old a b → IsEdge new a b
+pub edges_kept : (old new : List Edge) (n : ℕ) → take n new ≡ old → EdgesGrow old new
 edges_kept old new n front a b there =
     subst (λ all. IsEdge all a b) (ap (λ es. es ++ drop n new) (sym front) ∙ take-append-drop n new) (Contains-append_left old (drop n new) (edge a b) there)
 
--- a cycle that was looked for among the edges that came
-pub cycle_looked : (edges new : List Edge) (rows : List Witnessed) (known : ℕ) → map (λ r. r.edge) rows ≡ new → length edges ≡ known → take known new ≡ edges
-    → (before : Option Edge) → is_some before ≡ false → IsExact (IsCycleAt edges) before
-    → (found : Option Edge) → MatchOption found (All (λ r. ¬ IsCycleAt new r.edge) (take (length rows - known) (drop known rows))) (IsCycleAt new) → IsExact (IsCycleAt new) found
-cycle_looked edges new rows known edges_are count front (Some e) absent exact found here = absurd (true≢false absent)
-cycle_looked edges new rows known edges_are count front None absent exact (Some e) here = here
-cycle_looked edges new rows known edges_are count front None absent exact None here = λ any.
-    let fresh : take (length rows - known) (drop known rows) ≡ drop known rows = take_all (length rows - known) (drop known rows) (omega (arith, length-drop known rows)) in
-    no_cycle-rows edges new rows edges_are (subst (λ n. take n new ≡ edges) (sym count) front) (λ e cycle. exact (e, cycle))
-    (subst (λ n. All (λ r. ¬ IsCycleAt new r.edge) (drop n rows)) (sym count) (subst (All (λ r. ¬ IsCycleAt new r.edge)) fresh here)) any.0 any.1
+-- whether a class has a bit
+bit_cases : (usage : List Usage) (c : ℕ) (bit : Bit) → HasBitAt usage c bit ⊎ (¬ HasBitAt usage c bit)
+bit_cases usage c bit = by (has_bit (get_or usage c none) (usage_of bit)) refl
+  where
+    by : (b : Bool) → has_bit (get_or usage c none) (usage_of bit) ≡ b → HasBitAt usage c bit ⊎ (¬ HasBitAt usage c bit)
+    by true is = inl is
+    by false is = inr (λ has. true≢false (sym has ∙ is))
 
-pub edges_grow : (edges all : List Edge) (known : ℕ) (came : Bool) → take known all ≡ edges → (came ≡ false → length all ≤ known) → EdgesGrow edges all came
-edges_grow edges all known came front none = record {
-  kept = edges_kept edges all known front;
-  same = λ nothing a b there. subst (λ es. IsEdge es a b) (sym (take_all known all (none nothing)) ∙ front) there;
+module _ (usage more : List Usage) (told : List NewBit) (tells : TellsBits usage more told) where
+  -- where no bit is told, none came
+  pub bits_back : told ≡ [] → BitsGrow more usage
+  bits_back nothing c bit has = by (bit_cases usage c bit)
+    where
+      by : HasBitAt usage c bit ⊎ (¬ HasBitAt usage c bit) → HasBitAt usage c bit
+      by (inl there) = there
+      by (inr new) =
+          let at : Contains [] (new_bit c bit) = subst (λ all. Contains all (new_bit c bit)) nothing (tells.all c bit has new) in
+          absurd (omega (arith, at.1))
+
+  -- the classes of what is told have rows
+  pub told_within : (rows : List UsageRow) → more ≡ bits_of rows → All (λ (t : NewBit). t.class < length rows) told
+  told_within rows are k d within =
+      row_within rows (get_or told k d).class (bit_of (get_or told k d).bit)
+      (subst (λ all. HasBitAt all (get_or told k d).class (bit_of (get_or told k d).bit)) are (tells.each k d within).now)
+
+  -- a conflict that was looked for at the bits that came
+  pub conflict_looked : (state : State) (before : Option ℕ) → is_some before ≡ false → IsExact (IsConflictAt usage state) before
+      → (found : Option ℕ) → MatchOption found (All (λ (t : NewBit). ¬ IsConflictAt more state t.class) told) (IsConflictAt more state) → IsExact (IsConflictAt more state) found
+  conflict_looked state (Some c) absent exact found here = absurd (true≢false absent)
+  conflict_looked state None absent exact (Some c) here = here
+  conflict_looked state None absent exact None here = λ any. by any.0 any.1 (bit_cases usage any.0 (In state)) (bit_cases usage any.0 (On state))
+    where
+      at_new : (c : ℕ) (bit : Bit) → IsConflictAt more state c → HasBitAt more c bit → ¬ HasBitAt usage c bit → ⊥
+      at_new c bit conflict has new = All-contains (λ (t : NewBit). ¬ IsConflictAt more state t.class) told (new_bit c bit) here (tells.all c bit has new) conflict
+
+      by : (c : ℕ) → IsConflictAt more state c → HasBitAt usage c (In state) ⊎ (¬ HasBitAt usage c (In state))
+          → HasBitAt usage c (On state) ⊎ (¬ HasBitAt usage c (On state)) → ⊥
+      by c conflict (inl acquired) (inl held) = exact (c, (acquired, held))
+      by c conflict (inl acquired) (inr new) = at_new c (On state) conflict conflict.1 new
+      by c conflict (inr new) held = at_new c (In state) conflict conflict.0 new
+
+-- where nothing came, what was found is all
+pub found_same : (edges all : List Edge) (usage more : List Usage) → EdgesGrow edges all → EdgesGrow all edges → BitsGrow usage more → BitsGrow more usage
+    → (found : Found) → AreFound edges usage found → AreFound all more found
+found_same edges all usage more grow back bits bits_back found are = record {
+  cycle = is_all (IsCycleAt edges) (IsCycleAt all) (cycle_kept edges all grow) found.cycle are.cycle (cycle_kept all edges back);
+  conflict = λ state.
+      is_all (IsConflictAt usage state) (IsConflictAt more state) (conflict_kept state usage more bits) (of_state found.conflict state) (are.conflict state)
+      (conflict_kept state more usage bits_back);
+  forbidden = λ state.
+      is_all (λ (w : Forbidden). IsForbiddenAt edges usage state w.from w.to) (λ (w : Forbidden). IsForbiddenAt all more state w.from w.to)
+      (forbidden_kept state usage more bits edges all grow) (of_state found.forbidden state) (are.forbidden state) (forbidden_kept state more usage bits_back all edges back);
 }
 
--- what is said of bits holds where edges count too
-pub bits_grow : (usage now : List Usage) (bits came : Bool) → BitsGrow usage now bits → (came ≡ false → bits ≡ false) → BitsGrow usage now came
-bits_grow usage now bits came grow none = record {
-  kept = grow.kept;
-  same = λ nothing. grow.same (none nothing);
-}
+-- nothing came, where all edges are those that there were
+pub edges_back : (old new : List Edge) (n : ℕ) → take n new ≡ old → length new ≤ n → EdgesGrow new old
+edges_back old new n front past a b there = subst (λ es. IsEdge es a b) (sym (take_all n new past) ∙ front) there
 
 -- no classes have nothing
-pub nothing_found : (found : Found) → found.cycle ≡ None → ((state : State) → get_or found.conflict (state_place state) None ≡ None) →
-    ((state : State) → get_or found.forbidden (state_place state) None ≡ None) → AreFound [] [] found
+pub nothing_found : (found : Found) → found.cycle ≡ None → ((state : State) → of_state found.conflict state ≡ None) →
+    ((state : State) → of_state found.forbidden state ≡ None) → AreFound [] [] found
 nothing_found found cycle conflict forbidden = record {
   cycle = subst (IsExact (IsCycleAt [])) (sym cycle) (λ any. no_edge any.0.from any.0.to any.1.0);
   conflict = λ state. subst (IsExact (IsConflictAt [] state)) (sym (conflict state)) (λ any. no_bits any.0 (In state) any.1.0);

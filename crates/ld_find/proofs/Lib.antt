@@ -1,8 +1,7 @@
-pub mod AlarmLemmas
 pub mod CycleLemmas
 pub mod ForbiddenLemmas
 pub mod FoundLemmas
-pub mod GrowLemmas
+pub mod BitLemmas
 pub mod NumberLemmas
 pub mod OrderLemmas
 pub mod PassedLemmas

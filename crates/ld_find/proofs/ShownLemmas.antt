@@ -2,14 +2,14 @@
 use Rattle.std.proofs.Common.{◌≡◌, ◌<◌, ◌≤◌, ◌+◌, All, List, ℕ, suc, [], ◌∷◌, length, map, refl, sym, ap, subst, ◌∙◌}
 use Rattle.std.proofs.lemmas.List.{length-map}
 use Rattle.std.proofs.lemmas.List.Elements.{All-cons, All-nil}
-use Rattle.ld_graph.specs.Edges.{ComesBefore, IsEdge, Seen}
+use Rattle.ld_graph.specs.Edges.{ComesBefore, IsEdge}
 use Rattle.ld_graph.specs.Walks.{IsDistance, IsNext, IsShownWalk, IsWalk, LeadsTo, ShownFrom}
 use Rattle.ld_trace.specs.Sources.{PlainSource}
 use Rattle.ld_facts.specs.Union.{dependency_witness}
-use Rattle.ld_union.specs.declared.union.Witnessed.{Witnessed}
+use Rattle.ld_union.specs.declared.dependencies.Witnessed.{Witnessed}
 use Rattle.ld_find.specs.Findings.{IsBefore, IsShown}
 use Rattle.ld_find.specs.Inner.Order.{IsOrder, name_of}
-use Rattle.ld_union.specs.Inner.Union.{AreNumbered, AreWitnessed}
+use Rattle.ld_union.specs.Inner.Union.{AreNumbered, AreWitnessed, edges_of}
 use Rattle.ld_find.specs.Violations.{Depends}
 use Rattle.ld_find.proofs.NumberLemmas.{depends_from_edge, edge_from_depends}
 use Rattle.ld_find.proofs.OrderLemmas.{comes_before_from_before}
@@ -111,36 +111,36 @@ module _ {A B : Type 0} (f : A → B) (Within : A → Type 0) (s : A → A → T
     IsShownWalk-map a b (x ∷ more) at_a at_b h = (ap f h.0, ShownFrom-map a b more at_a at_b h.1)
 
 -- names for numbers
-module _ (classes : List (List ℕ)) (graph : Seen) (rows : List Witnessed) (is : AreNumbered classes graph rows) where
+module _ (classes : List (List ℕ)) (rows : List Witnessed) (is : AreNumbered classes rows) where
   abbrev IsClass : ℕ → Type 0
   IsClass c = c < length classes
 
-  ends : (x y : ℕ) → IsEdge graph.edges x y → IsClass y
-  ends x y there = (ends_of_edge classes graph rows is x y there).1
+  ends : (x y : ℕ) → IsEdge (edges_of rows) x y → IsClass y
+  ends x y there = (ends_of_edge classes rows is x y there).1
 
   -- two classes have two names
   name-once : (x y : ℕ) → IsClass x → IsClass y → name_of classes x ≡ name_of classes y → x ≡ y
   name-once x y at_x at_y same = is.distinct x y (name_of classes y) (at_x, same) (at_y, refl)
 
   -- the numbers of a shown walk are classes
-  pub shown_within : (places : List ℕ) (a b : ℕ) (walk : List ℕ) → IsClass a → IsClass b → IsShownWalk (IsEdge graph.edges) (ComesBefore places) a b walk → All IsClass walk
-  shown_within places = IsShownWalk-within (IsEdge graph.edges) (ComesBefore places) IsClass ends
+  pub shown_within : (places : List ℕ) (a b : ℕ) (walk : List ℕ) → IsClass a → IsClass b → IsShownWalk (IsEdge (edges_of rows)) (ComesBefore places) a b walk → All IsClass walk
+  shown_within places = IsShownWalk-within (IsEdge (edges_of rows)) (ComesBefore places) IsClass ends
 
   module _ (sources : List PlainSource) (witnessed : AreWitnessed classes rows (dependency_witness sources)) where
-    keeps : (x y : ℕ) → IsEdge graph.edges x y → Depends sources (name_of classes x) (name_of classes y)
-    keeps = depends_from_edge classes graph rows is sources witnessed
+    keeps : (x y : ℕ) → IsEdge (edges_of rows) x y → Depends sources (name_of classes x) (name_of classes y)
+    keeps = depends_from_edge classes rows is sources witnessed
 
     -- each class on which a class's name depends has a number
-    comes : (x : ℕ) (q : List ℕ) → IsClass x → Depends sources (name_of classes x) q → (y : ℕ) × (IsEdge graph.edges x y × (name_of classes y ≡ q))
+    comes : (x : ℕ) (q : List ℕ) → IsClass x → Depends sources (name_of classes x) q → (y : ℕ) × (IsEdge (edges_of rows) x y × (name_of classes y ≡ q))
     comes x q at_x depends =
-        let found = edge_from_depends classes graph rows is sources witnessed (name_of classes x) q depends in
+        let found = edge_from_depends classes rows is sources witnessed (name_of classes x) q depends in
         let ends_there = found.1.1 in
         let same : found.0 ≡ x = name-once found.0 x ends_there.0.0 at_x ends_there.0.1 in
-        (found.1.0, (subst (λ p. IsEdge graph.edges p found.1.0) same ends_there.2, ends_there.1.1))
+        (found.1.0, (subst (λ p. IsEdge (edges_of rows) p found.1.0) same ends_there.2, ends_there.1.1))
 
     -- the shown walk of two numbers is that of their names
     pub shown_named : (numbers places : List ℕ) → IsOrder classes numbers places → (a b : ℕ) (walk : List ℕ) → IsClass a → IsClass b
-        → IsShownWalk (IsEdge graph.edges) (ComesBefore places) a b walk → IsShown sources (name_of classes a) (name_of classes b) (map (name_of classes) walk)
+        → IsShownWalk (IsEdge (edges_of rows)) (ComesBefore places) a b walk → IsShown sources (name_of classes a) (name_of classes b) (map (name_of classes) walk)
     shown_named numbers places order a b walk at_a at_b shown =
-        IsShownWalk-map (name_of classes) IsClass (IsEdge graph.edges) (Depends sources) keeps ends comes name-once (ComesBefore places) IsBefore
+        IsShownWalk-map (name_of classes) IsClass (IsEdge (edges_of rows)) (Depends sources) keeps ends comes name-once (ComesBefore places) IsBefore
         (comes_before_from_before classes numbers places order) a b walk at_a at_b shown

@@ -1,25 +1,25 @@
 //! A violation of each kind, as they are found by the numbers of the classes.
 ghost use Rattle.std.specs.Prelude.{◌≡◌, ◌↔◌, ℕ, ◌<◌, ◌≤◌, true, length, All, IsSome, IsTrue};
 ghost use Rattle.std.specs.Prelude.{MatchOption};
-ghost use Rattle.std.specs.Prelude.{map, take, [], List, Some, IfSome, option_map, slice_index_or};
-ghost use Rattle.ld_class.specs.declared.names.TheConstants.{MAX_NAMES};
+ghost use Rattle.std.specs.Prelude.{take, [], List, Some, IfSome, option_map, slice_index_or};
 ghost use Rattle.ld_class.specs.Usage.{has_bit};
 ghost use Rattle.ld_facts.specs.Usage.{usage_of};
 ghost use Rattle.ld_facts.specs.Uses.{none};
 ghost use Rattle.ld_facts.specs.Usage.Bit.{In, On};
 ghost use Rattle.ld_find.specs.Alarms.{IsExact, plain_alarms};
-ghost use Rattle.ld_find.specs.Inner.Numbers.{AreFound, AreRowsOf, AreWithin, BitsGrow, EdgesGrow};
-ghost use Rattle.ld_find.specs.Inner.Numbers.{IsConflictAt, IsCycleAt, IsForbiddenAt, IsFoundAt, IsNothing};
-ghost use Rattle.ld_find.specs.Inner.Numbers.{named_alarms, named_pair, with_searched};
+ghost use Rattle.ld_find.specs.Inner.Numbers.{AreFound, AreWithin, BitsGrow, EdgesGrow};
+ghost use Rattle.ld_find.specs.Inner.Numbers.{IsConflictAt, IsForbiddenAt, IsFoundAt};
+ghost use Rattle.ld_find.specs.Inner.Numbers.{IsNothing, IsTold, named_alarms, named_pair};
+ghost use Rattle.ld_union.specs.Inner.News.{Tells, TellsBits};
+ghost use Rattle.ld_union.specs.Inner.Union.{PlainUnion, edges_of, searched_union};
 ghost use Rattle.ld_union.specs.Usage.{bits_of};
-ghost use Rattle.ld_find.specs.Inner.Numbers.{searched_union};
-ghost use Rattle.ld_union.specs.Inner.Union.{HasRows, IsNumbered};
 
+use crate::states::PerState;
 use bitflags::Flags;
 use ld_class::{Classes, Usage};
-use ld_graph::{Edge, Graph};
+use ld_graph::Edge;
 use ld_trace::State;
-use ld_union::{Union, UsageRow, Witnessed};
+use ld_union::{NewBit, News, Union, UsageRow};
 
 /// For each kind of violation one that the traces show, or none where they show none of the kind.
 /// Where there are two states, the hard one comes first.
@@ -41,9 +41,9 @@ pub struct Found {
     /// An edge on a cycle.
     pub cycle: Option<Edge>,
     /// A class with both bits of the state.
-    pub conflict: [Option<u32>; 2],
+    pub conflict: PerState<Option<u32>>,
     /// A forbidden walk of the state.
-    pub forbidden: [Option<Forbidden>; 2],
+    pub forbidden: PerState<Option<Forbidden>>,
 }
 
 /// A walk that may not be, by the numbers of its ends.
@@ -62,8 +62,14 @@ impl Found {
     {
         Found {
             cycle: None,
-            conflict: [None; 2],
-            forbidden: [None; 2],
+            conflict: PerState {
+                hard: None,
+                soft: None,
+            },
+            forbidden: PerState {
+                hard: None,
+                soft: None,
+            },
         }
     }
 
@@ -71,46 +77,37 @@ impl Found {
     pub(crate) fn is_nothing(&self) -> bool
         ensures { result ≡ true → IsNothing self.now }
     {
-        let [hard_conflict, soft_conflict] = self.conflict;
-        let [hard_forbidden, soft_forbidden] = self.forbidden;
         self.cycle.is_none()
-            && hard_conflict.is_none()
-            && soft_conflict.is_none()
-            && hard_forbidden.is_none()
-            && soft_forbidden.is_none()
+            && self.conflict.hard.is_none()
+            && self.conflict.soft.is_none()
+            && self.forbidden.hard.is_none()
+            && self.forbidden.soft.is_none()
     }
 
-    /// Looks for each kind of which nothing was found yet, after edges from number `known` on came to
-    /// the union, and also bits where `bits_came` holds. What was found stays: nothing that traces
-    /// show is taken back. Where nothing came, nothing is looked for. Takes no memory.
-    pub fn look(&mut self, union: &mut Union<'_>, known: usize, bits_came: bool)
-        requires numbered { IsNumbered union.old }
-        requires rows { HasRows union.old }
-        requires few { length union.old.classes ≤ MAX_NAMES }
-        requires known { known ≤ length union.old.graph.edges }
-        ensures found { (edges : List Edge) (usage : List Usage)
-            → take known union.old.graph.edges ≡ edges
-            → BitsGrow usage (bits_of union.old.usage.items) bits_came
-            → AreFound edges usage self.old
-            → AreFound union.old.graph.edges (bits_of union.old.usage.items) self.new }
-        ensures same { union.new ≡ searched_union union.old union.new.graph.searched }
+    /// Looks for each kind of which nothing was found yet, after what `news` tells came to the union:
+    /// for a conflict at the new bits, and for a forbidden walk where anything is new. The union knows
+    /// whether there is a cycle. What was found stays: nothing that traces show is taken back. Takes no
+    /// memory.
+    pub fn look(&mut self, union: &mut Union<'_>, news: &News)
+        requires { IsTold union.old news.now }
+        ensures found { (old : PlainUnion) → Tells old union.old news.now
+            → AreFound (edges_of old.dependencies) (bits_of old.usage) self.old
+            → AreFound (edges_of union.old.dependencies) (bits_of union.old.usage) self.new }
+        ensures same { union.new ≡ searched_union union.old union.new.searched }
     {
-        let rows = union.dependencies.as_slice();
-        let usage = union.usage.as_slice();
-        let graph = &mut union.graph;
-        let edges_came = known < rows.len();
-        let came = edges_came || bits_came;
-        self.cycle = cycle_then(self.cycle, graph, rows, known);
-        let [hard, soft] = self.conflict;
-        self.conflict = [
-            conflict_then(hard, usage, State::Hard, bits_came),
-            conflict_then(soft, usage, State::Soft, bits_came),
-        ];
-        let [hard, soft] = self.forbidden;
-        self.forbidden = [
-            forbidden_then(hard, graph, usage, State::Hard, came),
-            forbidden_then(soft, graph, usage, State::Soft, came),
-        ];
+        if is_nothing_new(union, news) {
+            return;
+        }
+        let bits = news.bits();
+        self.cycle = union.closing();
+        self.conflict = PerState {
+            hard: conflict_then(self.conflict.hard, union.usage(), bits, State::Hard),
+            soft: conflict_then(self.conflict.soft, union.usage(), bits, State::Soft),
+        };
+        self.forbidden = PerState {
+            hard: forbidden_then(self.forbidden.hard, union, State::Hard),
+            soft: forbidden_then(self.forbidden.soft, union, State::Soft),
+        };
     }
 
     /// The alarms with the names of the classes.
@@ -118,79 +115,66 @@ impl Found {
         requires { AreWithin (length classes.now) self.now }
         ensures { plain_alarms result ≡ named_alarms classes.now self.now }
     {
-        let [hard_conflict, soft_conflict] = self.conflict;
-        let [hard_forbidden, soft_forbidden] = self.forbidden;
         Alarms {
             cycle: edge_names(classes, self.cycle),
             conflict: [
-                name_of(classes, hard_conflict),
-                name_of(classes, soft_conflict),
+                name_of(classes, self.conflict.hard),
+                name_of(classes, self.conflict.soft),
             ],
             forbidden: [
-                end_names(classes, hard_forbidden),
-                end_names(classes, soft_forbidden),
+                end_names(classes, self.forbidden.hard),
+                end_names(classes, self.forbidden.soft),
             ],
         }
     }
 }
 
-/// The edge on a cycle that was found before, or else one that is on a cycle since the edges from
-/// number `known` on came.
-fn cycle_then(
-    found: Option<Edge>,
-    graph: &mut Graph,
-    rows: &[Witnessed],
-    known: usize,
-) -> Option<Edge>
-    requires known { known ≤ length rows.now }
-    requires rows { map (λ r. r.edge) rows.now ≡ graph.old.edges }
-    requires ends { AreRowsOf graph.old rows.now }
-    ensures found { (edges : List Edge) → length edges ≡ known
-        → take known graph.old.edges ≡ edges
-        → IsExact (IsCycleAt edges) found → IsExact (IsCycleAt graph.old.edges) result }
-    ensures same { graph.new ≡ with_searched graph.old graph.new.searched }
+/// Whether nothing is told, so that the union is as before.
+fn is_nothing_new(union: &Union<'_>, news: &News) -> bool
+    ensures edges { IsTrue result → length union.now.dependencies ≤ news.now.first_edge }
+    ensures bits { IsTrue result → news.now.bits ≡ [] }
+{
+    union.dependencies().len() <= news.first_edge() && news.bits().is_empty()
+}
+
+/// The class with both bits of the state that was found before, or else one that has them since these
+/// bits came.
+fn conflict_then(
+    found: Option<u32>,
+    rows: &[UsageRow],
+    bits: &[NewBit],
+    state: State,
+) -> Option<u32>
+    requires { All (λ told. told.class < length rows.now) bits.now }
+    ensures { (usage : List Usage) → TellsBits usage (bits_of rows.now) bits.now
+        → IsExact (IsConflictAt usage state) found
+        → IsExact (IsConflictAt (bits_of rows.now) state) result }
 {
     if found.is_some() {
         return found;
     }
-    cycle_among(graph, &rows[known..])
-}
-
-/// The class with both bits of the state that was found before, or else one that has them since bits
-/// came.
-fn conflict_then(found: Option<u32>, rows: &[UsageRow], state: State, came: bool) -> Option<u32>
-    requires { length rows.now ≤ MAX_NAMES }
-    ensures { (usage : List Usage) → BitsGrow usage (bits_of rows.now) came
-        → IsExact (IsConflictAt usage state) found
-        → IsExact (IsConflictAt (bits_of rows.now) state) result }
-{
-    if found.is_some() || !came {
-        return found;
-    }
-    conflict_among(rows, state)
+    conflict_among(rows, bits, state)
 }
 
 /// The forbidden walk of the state that was found before, or else one that is there since edges or
 /// bits came.
 fn forbidden_then(
     found: Option<Forbidden>,
-    graph: &mut Graph,
-    rows: &[UsageRow],
+    union: &mut Union<'_>,
     state: State,
-    came: bool,
 ) -> Option<Forbidden>
-    requires classes { length rows.now ≤ graph.old.classes }
-    requires few { length rows.now ≤ MAX_NAMES }
-    ensures found { (edges : List Edge) (usage : List Usage) → EdgesGrow edges graph.old.edges came
-        → BitsGrow usage (bits_of rows.now) came
+    ensures found { (edges : List Edge) (usage : List Usage)
+        → EdgesGrow edges (edges_of union.old.dependencies)
+        → BitsGrow usage (bits_of union.old.usage)
         → IsExact (λ w. IsForbiddenAt edges usage state w.from w.to) found
-        → IsExact (λ w. IsForbiddenAt graph.old.edges (bits_of rows.now) state w.from w.to) result }
-    ensures same { graph.new ≡ with_searched graph.old graph.new.searched }
+        → IsExact (λ w. IsForbiddenAt (edges_of union.old.dependencies) (bits_of union.old.usage)
+        state w.from w.to) result }
+    ensures same { union.new ≡ searched_union union.old union.new.searched }
 {
-    if found.is_some() || !came {
+    if found.is_some() {
         return found;
     }
-    forbidden_walk(graph, rows, state)
+    forbidden_walk(union, state)
 }
 
 /// The names of the edge's classes, if there is one.
@@ -222,31 +206,16 @@ fn end_names<'a>(classes: &Classes<'a>, walk: Option<Forbidden>) -> Option<(&'a 
     Some((classes.name(walk.from), classes.name(walk.to)))
 }
 
-/// A dependency of these that is on a cycle, or `None` where none is. Takes no memory.
-fn cycle_among(graph: &mut Graph, rows: &[Witnessed]) -> Option<Edge>
-    requires { AreRowsOf graph.old rows.now }
-    ensures cycle { MatchOption result (All (λ r. ¬ IsCycleAt graph.old.edges r.edge) rows.now)
-        (IsCycleAt graph.old.edges) }
-    ensures same { graph.new ≡ with_searched graph.old graph.new.searched }
+/// A class with one of these bits that has both bits of the state, or `None` where none has.
+fn conflict_among(rows: &[UsageRow], bits: &[NewBit], state: State) -> Option<u32>
+    requires { All (λ told. told.class < length rows.now) bits.now }
+    ensures { MatchOption result
+        (All (λ told. ¬ IsConflictAt (bits_of rows.now) state told.class) bits.now)
+        (IsConflictAt (bits_of rows.now) state) }
 {
-    for row in rows {
-        let edge = row.edge;
-        graph.search(edge.to);
-        if graph.found(edge.from) {
-            return Some(edge);
-        }
-    }
-    None
-}
-
-/// A class that has both bits of the state, or `None` where none has.
-fn conflict_among(rows: &[UsageRow], state: State) -> Option<u32>
-    requires { length rows.now ≤ MAX_NAMES }
-    ensures { IsExact (IsConflictAt (bits_of rows.now) state) result }
-{
-    for class in 0..rows.len() {
-        if conflict_at(rows, class, state) {
-            return Some(class as u32);
+    for told in bits {
+        if conflict_at(rows, told.class as usize, state) {
+            return Some(told.class);
         }
     }
     None
@@ -262,21 +231,19 @@ fn conflict_at(rows: &[UsageRow], class: usize, state: State) -> bool
 
 /// Two classes with a forbidden walk of the state from one to the other, or `None` where there are
 /// none. Takes no memory.
-fn forbidden_walk(graph: &mut Graph, rows: &[UsageRow], state: State) -> Option<Forbidden>
-    requires classes { length rows.now ≤ graph.old.classes }
-    requires few { length rows.now ≤ MAX_NAMES }
-    ensures found { IsExact (λ w. IsForbiddenAt graph.old.edges (bits_of rows.now) state w.from w.to)
-        result }
-    ensures same { graph.new ≡ with_searched graph.old graph.new.searched }
+fn forbidden_walk(union: &mut Union<'_>, state: State) -> Option<Forbidden>
+    ensures found { IsExact (λ w. IsForbiddenAt (edges_of union.old.dependencies)
+        (bits_of union.old.usage) state w.from w.to) result }
+    ensures same { union.new ≡ searched_union union.old union.new.searched }
 {
-    if !any_has(rows, on_bit(state)) {
+    if !any_has(union.usage(), on_bit(state)) {
         return None;
     }
-    for from in 0..rows.len() {
-        if has(rows, from, in_bit(state)) {
+    for from in 0..union.usage().len() {
+        if has(union.usage(), from, in_bit(state)) {
             let from = from as u32;
-            graph.search(from);
-            if let Some(to) = first_found(graph, rows, state) {
+            union.search(from);
+            if let Some(to) = first_found(union, state) {
                 return Some(Forbidden { from, to });
             }
         }
@@ -286,15 +253,14 @@ fn forbidden_walk(graph: &mut Graph, rows: &[UsageRow], state: State) -> Option<
 
 /// The first class that was found and is held where handlers of the state can interrupt, or `None`
 /// where there is none.
-fn first_found(graph: &Graph, rows: &[UsageRow], state: State) -> Option<u32>
-    requires classes { length rows.now ≤ graph.now.classes }
-    requires few { length rows.now ≤ MAX_NAMES }
-    requires searched { IsSome graph.now.searched }
-    ensures { (from : ℕ) → graph.now.searched ≡ Some from
-        → IsExact (IsFoundAt graph.now.edges (bits_of rows.now) state from) result }
+fn first_found(union: &Union<'_>, state: State) -> Option<u32>
+    requires { IsSome union.now.searched }
+    ensures { (from : ℕ) → union.now.searched ≡ Some from
+        → IsExact (IsFoundAt (edges_of union.now.dependencies) (bits_of union.now.usage) state from)
+        result }
 {
-    for class in 0..rows.len() {
-        if has(rows, class, on_bit(state)) && graph.found(class as u32) {
+    for class in 0..union.usage().len() {
+        if has(union.usage(), class, on_bit(state)) && union.found(class as u32) {
             return Some(class as u32);
         }
     }

@@ -4,7 +4,7 @@ ghost use Rattle.ld_trace.specs.Sources.{PlainSource};
 ghost use Rattle.ld_facts.specs.Union.{dependency_witness, use_witness};
 ghost use Rattle.ld_find.specs.Findings.{AreFindings, plain_findings};
 ghost use Rattle.ld_find.specs.Inner.Rows.{IsOfEach};
-ghost use Rattle.ld_union.specs.Inner.Union.{AreUsed, AreWitnessed, HasRows, IsNumbered};
+ghost use Rattle.ld_union.specs.Inner.Union.{Shows};
 
 mod conflicts;
 mod cycles;
@@ -46,11 +46,8 @@ pub fn findings_of<'a>(
     union: &Union<'a>,
     found: &Found,
 ) -> Result<Findings<'a>, AllocError>
-    requires numbered { IsNumbered union.now }
-    requires rows { HasRows union.now }
     ensures { IfOk result (λ findings. (sources : List PlainSource)
-        → AreWitnessed union.now.classes union.now.dependencies.items (dependency_witness sources)
-        → AreUsed union.now.classes union.now.usage.items (use_witness sources)
+        → Shows sources union.now
         → IsOfEach sources found.now
         → AreFindings sources (plain_findings findings)) }
 {
@@ -61,8 +58,8 @@ pub fn findings_of<'a>(
             forbidden: Rows::from(Vec::new(alloc)),
         });
     }
-    let order = Order::new(alloc, &union.classes)?;
-    let cycles = cycle_rows(alloc, union, &order, found.cycle.is_some())?;
+    let order = Order::new(alloc, union.classes())?;
+    let cycles = cycle_rows(alloc, union, &order, found)?;
     let conflicts = conflict_rows(alloc, union, &order)?;
     let forbidden = forbidden_rows(alloc, union, &order, found)?;
     Ok(Findings {

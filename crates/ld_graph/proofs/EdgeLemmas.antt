@@ -7,6 +7,7 @@ use Rattle.std.specs.List.{list_any, IsDistinct}
 use Rattle.std.proofs.lemmas.Map.Keys.{apart_from_distinct}
 use Rattle.std.proofs.lemmas.List.{get_or_append_left, get_or_push, get_or_past, get_or-set_same}
 use Rattle.std.proofs.lemmas.List.{get_or-set_other, length_push}
+use Rattle.std.proofs.lemmas.List.Folds.{list_any_at}
 use Rattle.std.proofs.lemmas.List.Elements.{Contains-append_left, Contains-push}
 use Rattle.std.proofs.lemmas.List.Elements.{Contains-push_cases}
 use Rattle.std.proofs.lemmas.Bool.{cases_eq, cases_lt, eqb-true, eq-eqb}
@@ -16,7 +17,7 @@ use Rattle.indexmap.proofs.CallerLemmas.{Contains-list_any}
 use Rattle.ld_graph.specs.declared.Edge.{Edge}
 use Rattle.ld_graph.specs.Edges.{edge, IsEdge, IsFirstPlace}
 use Rattle.ld_graph.specs.Walks.{HasWalk, DistanceIs}
-use Rattle.ld_graph.specs.Inner.Neighbours.{list_at, IsNear}
+use Rattle.ld_graph.specs.Lists.{list_at, IsNear}
 use Rattle.ld_graph.proofs.WalkLemmas.{HasWalk-turned, DistanceIs-same}
 use Rattle.indexmap.specs.IndexSet.{insert_key}
 
@@ -41,6 +42,13 @@ same_edge-refl x = ap (λ b. b && nat_eq x.to x.to) (eq-eqb x.from x.from refl)
 pub IsEdge-found : (edges : List Edge) (a b : ℕ) → list_any (same_edge (edge a b)) edges ≡ true
     → IsEdge edges a b
 IsEdge-found edges a b e = Contains-list_any same_edge same_edge-≡ edges (edge a b) e
+
+-- an edge that no test finds isn't there
+pub IsEdge-missing : (edges : List Edge) (a b : ℕ) → list_any (same_edge (edge a b)) edges ≡ false
+    → ¬ IsEdge edges a b
+IsEdge-missing edges a b e h =
+    true≢false (sym (list_any_at (same_edge (edge a b)) edges h.0 (edge a b) h.1
+    (ap (λ x. same_edge (edge a b) x) h.2 ∙ same_edge-refl (edge a b))) ∙ e)
 
 pub IsFirstPlace-position : (edges : List Edge) (a b i : ℕ)
     → position (same_edge (edge a b)) edges ≡ Some i → IsFirstPlace edges a b i

@@ -1,20 +1,17 @@
 -- A graph keeps its invariant as its memory grows.
 use Rattle.std.proofs.Common.{◌≡◌, ◌↔◌, ℕ, ◌+◌, ◌<◌, ◌≤◌, ◌^◌, max, length, arith, refl, sym, ap}
-use Rattle.std.proofs.Common.{subst, ◌∙◌, vec_len, vec_capacity}
+use Rattle.std.proofs.Common.{subst, ◌∙◌, get_or, vec_len, vec_capacity}
+use Rattle.std.proofs.Common.{List, [], ◌∷◌, ◌++◌}
+use Rattle.std.proofs.lemmas.List.{get_or_append_left}
 use Rattle.indexmap.specs.IndexSet.{spare}
 use Rattle.ld_graph.specs.declared.graph.Graph.TheInside.{Inside}
-use Rattle.ld_graph.specs.Inner.Neighbours.{Listed, IsNear}
+use Rattle.ld_graph.specs.Lists.{Listed, IsNear}
+use Rattle.ld_graph.specs.Inner.Sides.{ListsGrown}
 use Rattle.ld_graph.specs.Edges.{IsEdge}
 use Rattle.ld_graph.specs.Inner.Levels.{level_at}
+use Rattle.ld_graph.specs.Order.{HasCycle}
 use Rattle.ld_graph.specs.Walks.{DistanceIs}
 use Rattle.ld_graph.specs.Inner.Kept.{IsKept}
-
--- the lists are as before, with at least the memory that it had
-pub record ListsGrown (old new : Listed) : Type 0 where
-  pub lists : new.lists ≡ old.lists
-  pub items : new.items ≡ old.items
-  pub class_room : old.class_room ≤ new.class_room
-  pub item_room : old.item_room ≤ new.item_room
 
 pub lists_same : (a : Listed) → ListsGrown a a
 lists_same a = record {
@@ -29,12 +26,15 @@ lists_same a = record {
 pub record HasGrown (old new : Inside) : Type 0 where
   pub keys : new.edges.keys ≡ old.edges.keys
   pub edges : spare old.edges ≤ spare new.edges
-  pub after : ListsGrown old.after new.after
-  pub before : ListsGrown old.before new.before
+  pub after : ListsGrown old.lists.after new.lists.after
+  pub before : ListsGrown old.lists.before new.lists.before
   pub levels : new.levels.items ≡ old.levels.items
   pub len : vec_len new.levels ≡ vec_len old.levels
   pub levels_room : vec_capacity old.levels ≤ vec_capacity new.levels
   pub queue_room : vec_capacity old.queue ≤ vec_capacity new.queue
+  pub ranks : new.ranks.ranks ≡ old.ranks.ranks
+  pub ranks_room : old.ranks.room ≤ new.ranks.room
+  pub has_cycle : new.has_cycle ≡ old.has_cycle
   pub spare_classes : new.spare_classes ≡ old.spare_classes
   pub spare_edges : new.spare_edges ≡ old.spare_edges
   pub searched : new.searched ≡ old.searched
@@ -49,9 +49,10 @@ IsKept-grown old new g h =
       after_items = g.after.items ∙ h.after_items ∙ sym count;
       before_items = g.before.items ∙ h.before_items ∙ sym count;
       after_edges = λ a b. subst (λ l. IsNear l a b ↔ IsEdge new.edges.keys a b) (sym g.after.lists)
-          (subst (λ k. IsNear old.after.lists a b ↔ IsEdge k a b) (sym g.keys) (h.after_edges a b));
+          (subst (λ k. IsNear old.lists.after.lists a b ↔ IsEdge k a b) (sym g.keys)
+          (h.after_edges a b));
       before_edges = λ a b. subst (λ l. IsNear l a b ↔ IsEdge new.edges.keys b a) (sym
-          g.before.lists) (subst (λ k. IsNear old.before.lists a b
+          g.before.lists) (subst (λ k. IsNear old.lists.before.lists a b
           ↔ IsEdge k b a) (sym g.keys) (h.before_edges a b));
       ends = λ a b e. subst (λ n. (a < n) × (b < n)) (sym g.len) (h.ends a b (subst (λ k. IsEdge k a
           b) g.keys e));
@@ -73,19 +74,25 @@ IsKept-grown old new g h =
           (subst (λ l. DistanceIs (λ p q. IsEdge old.edges.keys q p) x a (level_at l x)) (sym
           g.levels)
           (h.levels a (sym g.searched ∙ e) x));
+      room_ranks = omega (arith, classes, h.room_ranks, g.ranks_room, g.spare_classes);
+      ranked = ap length g.ranks ∙ h.ranked ∙ sym g.len;
+      rises = λ f x y e. subst (λ r. get_or r x 0 < get_or r y 0) (sym g.ranks)
+          (h.rises (sym g.has_cycle ∙ f) x y (subst (λ k. IsEdge k x y) g.keys e));
+      cycle = λ t. subst (λ k. HasCycle (IsEdge k)) (sym g.keys) (h.cycle (sym g.has_cycle ∙ t));
     }
 
 -- where there is memory for more, the spares may be more
 pub IsKept-spare : (g : Inside) (classes edges more_classes more_edges : ℕ) → IsKept g
     → more_classes ≡ max g.spare_classes classes → more_edges ≡ max g.spare_edges edges
     → edges ≤ spare g.edges
-    → vec_len g.levels + classes ≤ g.after.class_room → g.after.items + edges ≤ g.after.item_room
-    → vec_len g.levels + classes ≤ g.before.class_room → g.before.items + edges ≤ g.before.item_room
+    → vec_len g.levels + classes ≤ g.lists.after.class_room → g.lists.after.items + edges ≤ g.lists.after.item_room
+    → vec_len g.levels + classes ≤ g.lists.before.class_room → g.lists.before.items + edges ≤ g.lists.before.item_room
     → vec_len g.levels + classes ≤ vec_capacity g.levels
     → vec_len g.levels + classes ≤ vec_capacity g.queue
+    → vec_len g.levels + classes ≤ g.ranks.room
     → vec_len g.levels + classes ≤ 2 ^ 30
     → IsKept (record g { spare_classes = more_classes; spare_edges = more_edges })
-IsKept-spare g classes edges more_classes more_edges h m n e a b c d l q f =
+IsKept-spare g classes edges more_classes more_edges h m n e a b c d l q r f =
     let after = h.after_items in
     let before = h.before_items in
     record {
@@ -119,17 +126,30 @@ IsKept-spare g classes edges more_classes more_edges h m n e a b c d l q f =
       );
       room_levels = omega (arith, m, l, h.room_levels);
       room_queue = omega (arith, m, q, h.room_queue);
+      room_ranks = omega (arith, m, r, h.room_ranks);
       few = omega (arith, m, f, h.few);
       levels = h.levels;
+      ranked = h.ranked;
+      rises = h.rises;
+      cycle = h.cycle;
     }
 
 -- the neighbours in a graph's lists are classes
-pub after_ends : (g : Inside) → IsKept g → (a b : ℕ) → IsNear g.after.lists a b
-    → b < length g.after.lists
+pub after_ends : (g : Inside) → IsKept g → (a b : ℕ) → IsNear g.lists.after.lists a b
+    → b < length g.lists.after.lists
 after_ends g h a b n = let e = (h.ends a b ((h.after_edges a b).0 n)).1
     in omega (arith, e, h.after_classes)
 
-pub before_ends : (g : Inside) → IsKept g → (a b : ℕ) → IsNear g.before.lists a b
-    → b < length g.before.lists
+pub before_ends : (g : Inside) → IsKept g → (a b : ℕ) → IsNear g.lists.before.lists a b
+    → b < length g.lists.before.lists
 before_ends g h a b n = let e = (h.ends b a ((h.before_edges a b).0 n)).0
     in omega (arith, e, h.before_classes)
+
+-- a class that comes last leaves the ranks of the others
+pub rises_class : (ranks : List ℕ) (x y : ℕ) → x < length ranks → y < length ranks
+    → get_or ranks x 0 < get_or ranks y 0
+    → get_or (ranks ++ length ranks ∷ []) x 0 < get_or (ranks ++ length ranks ∷ []) y 0
+rises_class ranks x y l m h =
+    let a = get_or_append_left ranks (length ranks ∷ []) 0 x l in
+    let b = get_or_append_left ranks (length ranks ∷ []) 0 y m in
+    omega (arith, a, b, h)

@@ -4,4 +4,12 @@ pub mod SpreadLemmas
 pub mod SearchLemmas
 pub mod EdgeLemmas
 pub mod KeptLemmas
+pub mod OnceLemmas
+pub mod SplitLemmas
+pub mod MarkLemmas
+pub mod SoughtLemmas
+pub mod PartLemmas
+pub mod MendLemmas
+pub mod EndedLemmas
 pub mod ShownLemmas
+pub mod PlacedLemmas

@@ -8,7 +8,6 @@ use Rattle.std.proofs.lemmas.List.{get_or-set_other, get_or_past, get_or_default
 use Rattle.std.proofs.lemmas.List.Sums.{sum_by-set, count_by-le-length}
 use Rattle.std.proofs.lemmas.Bool.{cases_lt, cases_eq}
 use Rattle.std.proofs.lemmas.List.Elements.{Contains-get_or}
-use Rattle.ld_graph.specs.Inner.Neighbours.{IsNear, list_at}
 use Rattle.ld_graph.specs.Inner.Levels.{level_at, HasLevel, Spreads}
 
 pub some_same : (k l : ℕ) → Some k ≡ Some l → k ≡ l
@@ -175,8 +174,6 @@ all_none levels n l h x = by (cases_lt x n)
 pub count_none : (levels : List (Option ℕ)) → count_by is_none levels ≤ length levels
 count_none levels = count_by-le-length is_none levels
 
--- an element of a class's list is its neighbour
-pub near_here : (lists : List (List ℕ)) (c : ℕ) (near : List ℕ) → near ≡ list_at lists c → (k : ℕ)
-    → k < length near → IsNear lists c (get_or near k 0)
-near_here lists c near e k l = subst (λ n. Contains n (get_or near k 0)) e (Contains-get_or near k 0
-    l)
+-- an element that is read is in the list
+pub near_here : (near : List ℕ) (k : ℕ) → k < length near → Contains near (get_or near k 0)
+near_here near k l = Contains-get_or near k 0 l

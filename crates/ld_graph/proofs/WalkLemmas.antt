@@ -51,7 +51,7 @@ module _ {A : Type 0} (step : A → A → Type 0) where
 
 -- a walk turned round is a walk of the steps turned round
 module _ {A : Type 0} (step : A → A → Type 0) where
-  Far-snoc : (n : ℕ) (a x b : A) → Far step n a x → step x b → Far step (suc n) a b
+  pub Far-snoc : (n : ℕ) (a x b : A) → Far step n a x → step x b → Far step (suc n) a b
   Far-snoc zero a x b h s = (x, (h, s))
   Far-snoc (suc n) a x b h s = (h.0, (h.1.0, Far-snoc n h.0 x b h.1.1 s))
 

@@ -1,6 +1,6 @@
 -- A graph as its callers see it. Classes are numbers, from 0 on.
 use Rattle.std.specs.Prelude.{◌≡◌, ◌≢◌, ℕ, ◌+◌, ◌-◌, ◌<◌, List, [], ◌∷◌, ◌++◌, Option, None, Some}
-use Rattle.std.specs.Prelude.{Contains, slice_get, slice_index, ◌⊎◌}
+use Rattle.std.specs.Prelude.{Contains, length, slice_get, slice_index, ◌⊎◌}
 use Rattle.ld_graph.specs.declared.Edge.{Edge}
 
 -- the edge from one class to another
@@ -23,13 +23,15 @@ ComesBefore places x y =
     ⊎ ((slice_index places x ≡ slice_index places y) × (x < y))
 
 -- a graph: how many classes it has, its edges in order of insertion, for how many more of both it
--- has memory, and the class that was searched from last, if no class or edge was added since
+-- has memory, the class that was searched from last, if no class or edge was added since, and the
+-- rank of each class, so long as there is no cycle
 pub record Seen : Type 0 where
   pub classes : ℕ
   pub edges : List Edge
   pub spare_classes : ℕ
   pub spare_edges : ℕ
   pub searched : Option ℕ
+  pub order : Option (List ℕ)
 
 -- no class, no edge and no memory
 abbrev pub empty_graph : Seen
@@ -39,7 +41,13 @@ empty_graph = record {
   spare_classes = 0;
   spare_edges = 0;
   searched = None;
+  order = Some [];
 }
+
+-- the ranks with one more class, which is ranked last
+abbrev pub with_last : Option (List ℕ) → Option (List ℕ)
+with_last None = None
+with_last (Some ranks) = Some (ranks ++ length ranks ∷ [])
 
 -- the graph with one more class, which took a spare one
 abbrev pub with_class : Seen → Seen
@@ -47,14 +55,16 @@ with_class g = record g {
   classes = g.classes + 1;
   spare_classes = g.spare_classes - 1;
   searched = None;
+  order = with_last g.order;
 }
 
--- the graph with one more edge, which took a spare one
-abbrev pub with_edge : Seen → ℕ → ℕ → Seen
-with_edge g a b = record g {
+-- the graph with one more edge, which took a spare one, and with this order
+abbrev pub with_edge : Seen → ℕ → ℕ → Option (List ℕ) → Seen
+with_edge g a b order = record g {
   edges = g.edges ++ edge a b ∷ [];
   spare_edges = g.spare_edges - 1;
   searched = None;
+  order = order;
 }
 
 -- the graph with other spares

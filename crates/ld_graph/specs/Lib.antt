@@ -1,3 +1,5 @@
 pub mod Walks
 pub mod Edges
+pub mod Lists
+pub mod Order
 pub mod Inner

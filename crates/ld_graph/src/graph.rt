@@ -3,14 +3,17 @@
 ghost use Rattle.std.specs.Prelude.{◌≡◌, ◌≢◌, ℕ, ◌+◌, ◌<◌, ◌≤◌, ◌↔◌, length, slice_get};
 ghost use Rattle.std.specs.Prelude.{slice_index_or, None, Some, IsTrue, IsSome, IfOk, IfSome};
 ghost use Rattle.std.specs.Prelude.{OnOk, MatchOption};
-ghost use Rattle.std.specs.Bool.{OnTrue, OnFalse};
 ghost use Rattle.ld_graph.specs.Edges.{ComesBefore, IsEdge, IsFirstPlace};
 ghost use Rattle.ld_graph.specs.Edges.{empty_graph, with_class, with_edge, with_spares};
+ghost use Rattle.ld_graph.specs.Lists.{IsNear};
+ghost use Rattle.ld_graph.specs.Order.{HasCycle, IsInserted, IsOrder};
 ghost use Rattle.ld_graph.specs.Walks.{DistanceIs, HasWalk, IsShownWalk};
 
 use crate::Edge;
 use crate::levels::measure;
-use crate::lists::Neighbours;
+use crate::lists::{Lists, Side};
+use crate::placed::{Insert, place};
+use crate::ranks::Ranks;
 use crate::shown::show;
 use indexmap::IndexSet;
 use std::alloc::{AllocError, Global};
@@ -26,10 +29,10 @@ const _: () = prove!(MOST_CLASSES == 1_073_741_824);
 #[derive(Drop)]
 pub struct Graph {
     edges: IndexSet<Edge>,
-    /// For each class its successors.
-    after: Neighbours,
-    /// For each class its predecessors.
-    before: Neighbours,
+    lists: Lists,
+    /// The ranks, which are repaired so long as there is no cycle.
+    ranks: Ranks,
+    has_cycle: bool,
     /// For each class its distance from the searched class.
     levels: Vec<Option<u64>>,
     /// Room for the classes that wait in a search.
@@ -59,8 +62,9 @@ impl Graph {
     {
         Graph {
             edges: IndexSet::new(alloc),
-            after: Neighbours::new(alloc),
-            before: Neighbours::new(alloc),
+            lists: Lists::new(alloc),
+            ranks: Ranks::new(alloc),
+            has_cycle: false,
             levels: Vec::new(alloc),
             queue: Vec::new(alloc),
             spare_classes: 0,
@@ -86,6 +90,19 @@ impl Graph {
             → slice_get self.now.edges i ≢ slice_get self.now.edges j }
     {
         self.edges.len() as u64
+    }
+
+    /// The lists of successors and predecessors. Takes no memory.
+    pub fn lists(&self) -> &Lists
+        ensures classes { (length result.now.after.lists ≡ self.now.classes)
+            × (length result.now.before.lists ≡ self.now.classes) }
+        ensures after { (x y : ℕ) → IsNear result.now.after.lists x y ↔ IsEdge self.now.edges x y }
+        ensures before { (x y : ℕ) →
+            IsNear result.now.before.lists x y ↔ IsEdge self.now.edges y x }
+        ensures ends { (x y : ℕ) → IsEdge self.now.edges x y
+            → (x < self.now.classes) × (y < self.now.classes) }
+    {
+        &self.lists
     }
 
     /// How many classes can be added without taking memory. Takes none itself.
@@ -118,11 +135,11 @@ impl Graph {
     {
         let wanted = self.len() + classes;
         self.edges.reserve(edges)?;
-        self.after.room(classes, edges)?;
-        self.before.room(classes, edges)?;
+        self.lists.room(classes, edges)?;
         self.levels.reserve(classes)?;
         self.queue.clear();
         self.queue.reserve(wanted)?;
+        self.ranks.room(wanted)?;
         self.spare_classes = self.spare_classes.max(classes);
         self.spare_edges = self.spare_edges.max(edges);
         Ok(())
@@ -135,8 +152,8 @@ impl Graph {
         ensures graph { self.new ≡ with_class self.old }
     {
         let number = self.len();
-        self.after.add_class();
-        self.before.add_class();
+        self.lists.add_class();
+        self.ranks.add_class();
         let Ok(()) = self.levels.push(None) else {
             unreachable!()
         };
@@ -155,29 +172,42 @@ impl Graph {
         Some(number as u64)
     }
 
-    /// Inserts the edge from `a` to `b`, which takes a spare one, and answers whether it is new. An
-    /// edge that is there already changes nothing. Takes no memory.
-    pub fn insert(&mut self, a: u32, b: u32) -> bool
+    /// Inserts the edge from `a` to `b`, which takes a spare one, and keeps the order. An edge that is
+    /// there already changes nothing. Takes no memory.
+    pub fn insert(&mut self, a: u32, b: u32) -> Insert
         requires a { a < self.old.classes }
         requires b { b < self.old.classes }
         requires room { 0 < self.old.spare_edges }
-        ensures answer { IsTrue result ↔ (¬ IsEdge self.old.edges a b) }
-        ensures new { OnTrue result (self.new ≡ with_edge self.old a b) }
-        ensures known { OnFalse result (IsEdge self.old.edges a b) }
-        ensures same { OnFalse result (self.new ≡ self.old) }
+        ensures inserted { IsInserted self.old a b result self.new }
+        ensures new { (¬ IsEdge self.old.edges a b)
+            → self.new ≡ with_edge self.old a b self.new.order }
     {
         let edge = Edge { from: a, to: b };
         if self.edges.contains(&edge) {
-            return false;
+            return Insert::Known;
         }
+        let answer = place(&self.lists, &mut self.ranks, &mut self.has_cycle, a, b);
         let Ok(_) = self.edges.insert(edge) else {
             unreachable!()
         };
-        self.after.push(a, b);
-        self.before.push(b, a);
+        self.lists.push(a, b);
         self.spare_edges -= 1;
         self.searched = None;
-        true
+        answer
+    }
+
+    /// The rank of each class, where every edge goes from a lesser to a greater one, or `None` where
+    /// there is a cycle. Takes no memory.
+    pub fn order(&self) -> Option<&[u32]>
+        ensures order { MatchOption result (HasCycle (IsEdge self.now.edges))
+            (λ ranks. IsOrder (IsEdge self.now.edges) self.now.classes ranks.now) }
+        ensures value { MatchOption result (self.now.order ≡ None)
+            (λ ranks. self.now.order ≡ Some ranks.now) }
+    {
+        if self.has_cycle {
+            return None;
+        }
+        Some(self.ranks.ranks())
     }
 
     /// For each class the least number of edges, at least one, of a walk from it to `to`, or `None`
@@ -195,7 +225,7 @@ impl Graph {
         let mut levels = Vec::new(alloc);
         levels.resize(self.len(), None)?;
         let mut queue = Vec::with_capacity(alloc, self.len())?;
-        measure(&self.before, to, &mut levels, &mut queue);
+        measure(&self.lists, Side::Before, to, &mut levels, &mut queue);
         Ok(levels)
     }
 
@@ -248,7 +278,7 @@ impl Graph {
         let Some(distance) = distances[a as usize] else {
             return Ok(None);
         };
-        let walk = show(alloc, &self.after, a, b, distance, distances, places)?;
+        let walk = show(alloc, &self.lists, a, b, distance, distances, places)?;
         Ok(Some(walk))
     }
 
@@ -262,7 +292,13 @@ impl Graph {
         if self.searched == Some(from) {
             return;
         }
-        measure(&self.after, from, &mut self.levels, &mut self.queue);
+        measure(
+            &self.lists,
+            Side::After,
+            from,
+            &mut self.levels,
+            &mut self.queue,
+        );
         self.searched = Some(from);
     }
 

@@ -4,9 +4,17 @@
 mod graph;
 mod levels;
 mod lists;
+mod neighbours;
+mod placed;
+mod ranks;
+mod repair;
+mod search;
 mod shown;
+mod turns;
 
 pub use graph::{Graph, MOST_CLASSES};
+pub use lists::{Lists, Steps};
+pub use placed::Insert;
 
 /// An edge, from one class to another.
 #[derive(Clone, Copy, PartialEq, Eq, Hash, Debug)]

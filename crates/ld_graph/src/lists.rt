@@ -1,167 +1,174 @@
-//! For each class the list of its neighbours, kept so that a new neighbour takes no memory once
-//! there is room for it, and so that each list is a slice.
+//! For each class its successors and its predecessors, which are read one list at a time, by calls
+//! that count.
 
-ghost use Rattle.std.specs.Prelude.{◌≡◌, ◌+◌, ◌*◌, ◌<◌, ◌≤◌, [], ◌∷◌, ◌++◌, OnOk, max};
-ghost use Rattle.std.specs.Prelude.{length, take, drop, slice_set, vec_len, vec_capacity};
-ghost use Rattle.ld_graph.specs.Inner.Neighbours.{list_at};
-ghost use Rattle.ld_graph.specs.Inner.Runs.{HasWay};
+ghost use Rattle.std.specs.Prelude.{◌≡◌, ◌+◌, ◌<◌, ◌≤◌, ◌^◌, [], ◌∷◌, ◌++◌, OnOk, length};
+ghost use Rattle.std.specs.Prelude.{slice_set, slice_index_or, nat_eq, true, false};
+ghost use Rattle.std.specs.List.{IsDistinct};
+ghost use Rattle.ld_graph.specs.Inner.Sides.{of_side, ListsGrown, HasRoom, IsNextClass};
+ghost use Rattle.ld_graph.specs.Inner.Sides.{IsNextItem};
+ghost use Rattle.ld_graph.specs.Lists.{IsNear, list_at};
 
+use crate::neighbours::Neighbours;
 use std::alloc::{AllocError, Global};
 use std::marker::Model;
 
-/// How many slots there must be for each neighbour: a list that grows out of its slots moves to
-/// twice as many, and those that it leaves stay unused.
-const SLOTS_EACH: usize = 4;
-
-/// Where the list of a class lies among the slots.
-#[derive(Clone, Copy)]
-pub struct Run {
-    start: usize,
-    len: usize,
-    /// How many slots there are for it.
-    room: usize,
-}
-
-/// For each class a list of classes.
+/// How many lists of neighbours were read.
 #[derive(Drop)]
-pub struct Neighbours {
-    runs: Vec<Run>,
-    slots: Vec<u32>,
-    items: usize,
+pub struct Steps {
+    count: u64,
 }
 
-impl Model for Neighbours {
-    ghost use Rattle.std.specs.Prelude.{◌/◌, map, vec_len, vec_capacity};
-    ghost use Rattle.ld_graph.specs.Inner.Neighbours.{Listed};
+impl Model for Steps {
+    ghost use Rattle.std.specs.Prelude.{ℕ};
 
-    ghost Value = { Listed };
+    ghost Value = { ℕ };
 
-    ghost use Rattle.ld_graph.specs.Inner.Runs.{items_of, AreRuns};
-
-    ghost view = { λ n. record {
-      lists = map (items_of n.slots.items) n.runs.items;
-      items = n.items;
-      class_room = vec_capacity n.runs;
-      item_room = vec_capacity n.slots / 4;
-    } };
-
-    ghost invariant = { λ n. AreRuns n.runs.items n.slots.items n.items };
+    ghost view = { λ s. s.count };
 }
 
-impl Neighbours {
-    /// No class.
-    pub fn new(alloc: Global) -> Neighbours
-        ensures lists { result.lists ≡ [] }
-        ensures items { result.items ≡ 0 }
+impl Steps {
+    /// No list was read. Takes no memory.
+    pub fn new() -> Steps
+        ensures { result ≡ 0 }
     {
-        Neighbours {
-            runs: Vec::new(alloc),
-            slots: Vec::new(alloc),
-            items: 0,
+        Steps { count: 0 }
+    }
+
+    /// The number of lists that were read. Takes no memory.
+    pub fn count(&self) -> u64
+        ensures { result ≡ self.now }
+    {
+        self.count
+    }
+}
+
+/// Which neighbours are meant.
+#[derive(Clone, Copy)]
+pub enum Side {
+    /// The successors.
+    After,
+    /// The predecessors.
+    Before,
+}
+
+/// A graph's lists: for each class its successors and its predecessors.
+#[derive(Drop)]
+pub struct Lists {
+    after: Neighbours,
+    before: Neighbours,
+}
+
+impl Model for Lists {
+    ghost use Rattle.ld_graph.specs.Lists.{Sides};
+
+    ghost Value = { Sides };
+
+    ghost use Rattle.ld_graph.specs.Inner.Sides.{HasEachOnce};
+
+    ghost view = { λ l. record { after = l.after; before = l.before } };
+
+    ghost invariant = { λ l. HasEachOnce l.after.lists × HasEachOnce l.before.lists };
+}
+
+impl Lists {
+    /// No class.
+    pub(crate) fn new(alloc: Global) -> Lists
+        ensures after { (result.after.lists ≡ []) × (result.after.items ≡ 0) }
+        ensures before { (result.before.lists ≡ []) × (result.before.items ≡ 0) }
+    {
+        Lists {
+            after: Neighbours::new(alloc),
+            before: Neighbours::new(alloc),
         }
     }
 
-    /// Makes memory for so many further classes and neighbours.
-    pub fn room(&mut self, classes: usize, items: usize) -> Result<(), AllocError>
-        ensures same { (self.new.lists ≡ self.old.lists) × (self.new.items ≡ self.old.items) }
-        ensures kept { (self.old.class_room ≤ self.new.class_room)
-            × (self.old.item_room ≤ self.new.item_room) }
-        ensures classes { OnOk result (length self.old.lists + classes ≤ self.new.class_room) }
-        ensures items { OnOk result (self.old.items + items ≤ self.new.item_room) }
+    /// The successors of the class `c`, each once. Adds one to the count. Takes no memory.
+    pub fn after(&self, c: u32, steps: &mut Steps) -> &[u32]
+        requires class { c < length self.now.after.lists }
+        requires few { steps.old + 1 < 2 ^ 64 }
+        ensures near { result.now ≡ list_at self.now.after.lists c }
+        ensures once { IsDistinct nat_eq result.now }
+        ensures step { steps.new ≡ steps.old + 1 }
     {
-        let Some(count) = self.items.checked_add(items) else {
-            return Err(AllocError);
-        };
-        let Some(slots) = count.checked_mul(SLOTS_EACH) else {
-            return Err(AllocError);
-        };
-        self.runs.reserve(classes)?;
-        self.slots.reserve(slots.saturating_sub(self.slots.len()))
+        steps.count += 1;
+        self.after.of(c)
+    }
+
+    /// What `after` gives, and puts the mark of the class `c` on, which has to be off. So by one list of
+    /// marks no class' successors are read twice. Takes no memory.
+    pub fn once(&self, c: u32, marks: &mut [bool], steps: &mut Steps) -> &[u32]
+        requires class { c < length self.now.after.lists }
+        requires few { steps.old + 1 < 2 ^ 64 }
+        requires marks { length marks.old ≡ length self.now.after.lists }
+        requires off { slice_index_or marks.old c false ≡ false }
+        ensures near { result.now ≡ list_at self.now.after.lists c }
+        ensures once { IsDistinct nat_eq result.now }
+        ensures step { steps.new ≡ steps.old + 1 }
+        ensures on { marks.new ≡ slice_set marks.old c true }
+    {
+        marks[c as usize] = true;
+        self.after(c, steps)
+    }
+
+    /// The predecessors of the class `c`, each once. Adds one to the count. Takes no memory.
+    pub fn before(&self, c: u32, steps: &mut Steps) -> &[u32]
+        requires class { c < length self.now.before.lists }
+        requires few { steps.old + 1 < 2 ^ 64 }
+        ensures near { result.now ≡ list_at self.now.before.lists c }
+        ensures once { IsDistinct nat_eq result.now }
+        ensures step { steps.new ≡ steps.old + 1 }
+    {
+        steps.count += 1;
+        self.before.of(c)
+    }
+
+    /// The neighbours of a class on one side.
+    pub(crate) fn near(&self, side: Side, class: u32, steps: &mut Steps) -> &[u32]
+        requires class { class < length (of_side side self.now) }
+        requires few { steps.old + 1 < 2 ^ 64 }
+        ensures near { result.now ≡ list_at (of_side side self.now) class }
+        ensures step { steps.new ≡ steps.old + 1 }
+    {
+        match side {
+            Side::After => self.after(class, steps),
+            Side::Before => self.before(class, steps),
+        }
+    }
+
+    /// Makes memory for so many further classes and edges.
+    pub(crate) fn room(&mut self, classes: usize, edges: usize) -> Result<(), AllocError>
+        ensures after { ListsGrown self.old.after self.new.after }
+        ensures before { ListsGrown self.old.before self.new.before }
+        ensures after_room { OnOk result (HasRoom self.new.after classes edges) }
+        ensures before_room { OnOk result (HasRoom self.new.before classes edges) }
+    {
+        self.after.room(classes, edges)?;
+        self.before.room(classes, edges)
     }
 
     /// Adds a class that has no neighbour.
-    pub fn add_class(&mut self)
-        requires { length self.old.lists < self.old.class_room }
-        ensures lists { self.new.lists ≡ self.old.lists ++ [] ∷ [] }
-        ensures items { self.new.items ≡ self.old.items }
-        ensures room { (self.old.class_room ≤ self.new.class_room)
-            × (self.old.item_room ≤ self.new.item_room) }
+    pub(crate) fn add_class(&mut self)
+        requires after { length self.old.after.lists < self.old.after.class_room }
+        requires before { length self.old.before.lists < self.old.before.class_room }
+        ensures after { IsNextClass self.old.after self.new.after }
+        ensures before { IsNextClass self.old.before self.new.before }
     {
-        let run = Run {
-            start: 0,
-            len: 0,
-            room: 0,
-        };
-        let Ok(()) = self.runs.push(run) else {
-            unreachable!()
-        };
+        self.after.add_class();
+        self.before.add_class();
     }
 
-    /// Adds a neighbour to the list of a class.
-    pub fn push(&mut self, class: u32, neighbour: u32)
-        requires class { class < length self.old.lists }
-        requires room { self.old.items < self.old.item_room }
-        ensures lists { self.new.lists
-            ≡ slice_set self.old.lists class (list_at self.old.lists class ++ neighbour ∷ []) }
-        ensures items { self.new.items ≡ self.old.items + 1 }
-        ensures room { (self.old.class_room ≤ self.new.class_room)
-            × (self.old.item_room ≤ self.new.item_room) }
+    /// Adds the edge from `a` to `b`.
+    pub(crate) fn push(&mut self, a: u32, b: u32)
+        requires a { a < length self.old.after.lists }
+        requires b { b < length self.old.before.lists }
+        requires after_room { self.old.after.items < self.old.after.item_room }
+        requires before_room { self.old.before.items < self.old.before.item_room }
+        requires after_fresh { ¬ IsNear self.old.after.lists a b }
+        requires before_fresh { ¬ IsNear self.old.before.lists b a }
+        ensures after { IsNextItem self.old.after a b self.new.after }
+        ensures before { IsNextItem self.old.before b a self.new.before }
     {
-        let run = make_way(&mut self.slots, self.runs[class as usize]);
-        self.slots[run.start + run.len] = neighbour;
-        self.runs[class as usize] = Run {
-            len: run.len + 1,
-            ..run
-        };
-        self.items += 1;
-    }
-
-    /// The list of a class.
-    pub fn of(&self, class: u32) -> &[u32]
-        requires { class < length self.now.lists }
-        ensures { result.now ≡ list_at self.now.lists class }
-    {
-        let run = self.runs[class as usize];
-        &self.slots[run.start..run.start + run.len]
-    }
-}
-
-/// Appends a copy of so many slots, from `start` on. Takes no memory.
-fn copy_to_end(slots: &mut Vec<u32>, start: usize, len: usize)
-    requires within { start + len ≤ vec_len slots.old }
-    requires room { vec_len slots.old + len ≤ vec_capacity slots.old }
-    ensures items { slots.new.items ≡ slots.old.items ++ take len (drop start slots.old.items) }
-    ensures capacity { vec_capacity slots.old ≤ vec_capacity slots.new }
-{
-    for i in 0..len {
-        let item = slots[start + i];
-        let Ok(()) = slots.push(item) else {
-            unreachable!()
-        };
-    }
-}
-
-/// Gives the run room for one more item: where it is full, by a move to the end of the slots. Takes
-/// no memory.
-fn make_way(slots: &mut Vec<u32>, run: Run) -> Run
-    requires within { (run.len ≤ run.room) × (run.start + run.room ≤ vec_len slots.old) }
-    requires room { run.len ≡ run.room
-        → vec_len slots.old + max 1 (2 * run.len) ≤ vec_capacity slots.old }
-    ensures way { HasWay slots.old.items run slots.new.items result }
-    ensures capacity { vec_capacity slots.old ≤ vec_capacity slots.new }
-{
-    if run.len < run.room {
-        return run;
-    }
-    let start = slots.len();
-    let room = (2 * run.len).max(1);
-    copy_to_end(slots, run.start, run.len);
-    let Ok(()) = slots.resize(start + room, 0) else {
-        unreachable!()
-    };
-    Run {
-        start,
-        len: run.len,
-        room,
+        self.after.push(a, b);
+        self.before.push(b, a);
     }
 }

@@ -4,10 +4,10 @@ ghost use Rattle.std.specs.Prelude.{◌≡◌, ℕ, ◌<◌, ◌↔◌, length, 
 ghost use Rattle.std.specs.Prelude.{IsTrue, IfOk, MatchOption};
 ghost use Rattle.ld_graph.specs.Edges.{ComesBefore};
 ghost use Rattle.ld_graph.specs.Inner.Levels.{IsLeast, level_at};
-ghost use Rattle.ld_graph.specs.Inner.Neighbours.{IsNear};
+ghost use Rattle.ld_graph.specs.Lists.{IsNear};
 ghost use Rattle.ld_graph.specs.Walks.{DistanceIs, IsShownWalk};
 
-use crate::lists::Neighbours;
+use crate::lists::{Lists, Steps};
 use std::alloc::{AllocError, Global};
 
 /// Whether `x` comes before `y`: by place, then by number.
@@ -43,29 +43,30 @@ fn nearest(near: &[u32], level: u64, levels: &[Option<u64>], places: &[u32]) -> 
 /// The shown walk from `a` to `b`, where each class's level is its distance to `b`.
 pub fn show(
     alloc: Global,
-    lists: &Neighbours,
+    lists: &Lists,
     a: u32,
     b: u32,
     distance: u64,
     levels: &[Option<u64>],
     places: &[u32],
 ) -> Result<Vec<u32>, AllocError>
-    requires a { a < length lists.now.lists }
-    requires levels { length levels.now ≡ length lists.now.lists }
-    requires places { length places.now ≡ length lists.now.lists }
-    requires ends { (x y : ℕ) → IsNear lists.now.lists x y → y < length lists.now.lists }
-    requires distances { (x : ℕ) → DistanceIs (IsNear lists.now.lists) x b (level_at levels.now x) }
+    requires a { a < length lists.now.after.lists }
+    requires levels { length levels.now ≡ length lists.now.after.lists }
+    requires places { length places.now ≡ length lists.now.after.lists }
+    requires ends { (x y : ℕ) → IsNear lists.now.after.lists x y → y < length lists.now.after.lists }
+    requires distances { (x : ℕ) → DistanceIs (IsNear lists.now.after.lists) x b (level_at levels.now x) }
     requires distance { level_at levels.now a ≡ Some distance }
     ensures { IfOk result (λ walk.
-        IsShownWalk (IsNear lists.now.lists) (ComesBefore places.now) a b walk.items) }
+        IsShownWalk (IsNear lists.now.after.lists) (ComesBefore places.now) a b walk.items) }
 {
     let mut walk = Vec::new(alloc);
     walk.push(a)?;
     let mut last = a;
     let mut left = distance;
+    let mut steps = Steps::new();
     while left > 1 {
         left -= 1;
-        let Some(near) = nearest(lists.of(last), left, levels, places) else {
+        let Some(near) = nearest(lists.after(last, &mut steps), left, levels, places) else {
             unreachable!()
         };
         walk.push(near)?;

@@ -1,5 +1,5 @@
 -- What is kept of dependencies, after one more was seen.
-use Rattle.std.proofs.Common.{◌≡◌, ◌≢◌, ◌⊎◌, inl, inr, ◌<◌, ◌++◌, ◌∷◌, [], ◌&&◌, List, ℕ, Bool, true, false, Option, Some, None, is_some, length, map}
+use Rattle.std.proofs.Common.{◌≡◌, ◌≢◌, ◌⊎◌, inl, inr, ◌<◌, ◌++◌, ◌∷◌, [], ◌&&◌, List, ℕ, Bool, true, false, Option, Some, None, is_some, length}
 use Rattle.std.proofs.Common.{set, get_or, refl, sym, ap, subst, ◌∙◌, if◌then◌else◌, arith, All, AllPairs, Any}
 use Rattle.std.proofs.lemmas.Bool.{true≢false, and_parts, cases_eq, cases_order, false_from_ne_true}
 use Rattle.std.proofs.lemmas.Slice.Eq.{bytes_eq-Decides}
@@ -8,16 +8,16 @@ use Rattle.std.proofs.lemmas.List.Elements.{All-push}
 use Rattle.std.proofs.lemmas.List.Quantifiers.{Any-push, all_pairs_push, any-set}
 use Rattle.std.proofs.lemmas.Option.{get_or_from_slice_get, slice_get_within}
 use Rattle.std.specs.Str.{bytes_eq}
-use Rattle.ld_class.specs.Names.{IsNameAt, place_of}
+use Rattle.ld_class.specs.Names.{AreDistinct, IsNameAt, place_of}
 use Rattle.ld_class.proofs.NameLemmas.{place_of-None}
 use Rattle.ld_graph.specs.declared.Edge.{Edge}
-use Rattle.ld_graph.specs.Edges.{IsEdge, IsFirstPlace, Seen, edge}
+use Rattle.ld_graph.specs.Edges.{IsEdge, IsFirstPlace, edge}
 use Rattle.ld_rules.specs.declared.outcome.Witness.{Witness}
 use Rattle.ld_facts.specs.Dependency.{Dependency, same_dependency}
 use Rattle.ld_facts.specs.Union.{earlier}
-use Rattle.ld_union.specs.declared.union.Witnessed.{Witnessed}
+use Rattle.ld_union.specs.declared.dependencies.Witnessed.{Witnessed}
 use Rattle.ld_union.specs.Inner.Names.{IsLonger}
-use Rattle.ld_union.specs.Inner.Union.{AreNumbered, AreWitnessed, earlier_of, named_edge}
+use Rattle.ld_union.specs.Inner.Union.{AreNumbered, AreWitnessed, earlier_of, edges_of, named_edge}
 
 -- equal dependencies have equal names
 pub same_dependency-true : (a b : Dependency) → same_dependency a b ≡ true → a ≡ b
@@ -49,23 +49,44 @@ seen_cases before witness true h = inl refl
 seen_cases None witness false h = absurd (true≢false (sym h))
 seen_cases (Some w) witness false h = inr refl
 
-module _ (classes : List (List ℕ)) (graph : Seen) (rows : List Witnessed) (is : AreNumbered classes graph rows) where
+module _ (rows : List Witnessed) where
   -- a row for each edge
-  pub length_rows : length rows ≡ length graph.edges
-  length_rows = sym (length-map rows (λ r. r.edge)) ∙ ap length is.edges
+  pub length_rows : length rows ≡ length (edges_of rows)
+  length_rows = sym (length-map rows (λ r. r.edge))
 
   -- the edge of a row
-  pub at_row : (k : ℕ) (d : Witnessed) (e : Edge) → k < length rows → get_or graph.edges k e ≡ (get_or rows k d).edge
-  at_row k d e within = ap (λ edges. get_or edges k e) (sym is.edges) ∙ get_or-map (λ r. r.edge) rows k d e within
+  pub at_row : (k : ℕ) (d : Witnessed) (e : Edge) → k < length rows → get_or (edges_of rows) k e ≡ (get_or rows k d).edge
+  at_row k d e within = get_or-map (λ r. r.edge) rows k d e within
 
+  -- the row of an edge that was found
+  pub found_row : (a b n : ℕ) → IsFirstPlace (edges_of rows) a b n → (n < length rows) × ((d : Witnessed) → (get_or rows n d).edge ≡ edge a b)
+  found_row a b n found =
+      let within : n < length rows = subst (λ m. n < m) (sym length_rows) (slice_get_within (edges_of rows) n (edge a b) found.there) in
+      (within, λ d. sym (at_row n d (edge a b) within) ∙ get_or_from_slice_get (edges_of rows) n (edge a b) (edge a b) found.there)
+
+  -- an edge that has a row is one of them
+  pub edge_of_row : (a b k : ℕ) (d : Witnessed) → k < length rows → (get_or rows k d).edge ≡ edge a b → IsEdge (edges_of rows) a b
+  edge_of_row a b k d within same = (k, subst (λ m. k < m) length_rows within, at_row k d (edge a b) within ∙ same)
+
+-- one more row, and one in place of another with the same edge
+pub edges-pushed : (rows : List Witnessed) (r : Witnessed) (e : Edge) → r.edge ≡ e → edges_of (rows ++ r ∷ []) ≡ edges_of rows ++ e ∷ []
+edges-pushed rows r e same = map-append (λ x. x.edge) rows (r ∷ []) ∙ (λ i. edges_of rows ++ same i ∷ [])
+
+pub edges-set : (rows : List Witnessed) (n : ℕ) (e : Edge) → n < length rows → ((d : Witnessed) → (get_or rows n d).edge ≡ e) → (r : Witnessed) → r.edge ≡ e → edges_of (set rows n r) ≡ edges_of rows
+edges-set rows n e within at r same =
+    map-set (λ x. x.edge) rows n r
+    ∙ ap (set (edges_of rows) n) (same ∙ sym (at r) ∙ sym (get_or-map (λ x. x.edge) rows n r r.edge within))
+    ∙ set-get_or (edges_of rows) n r.edge
+
+module _ (classes : List (List ℕ)) (rows : List Witnessed) (is : AreNumbered classes rows) where
   -- an edge lies between two classes
-  pub ends_of_edge : (a b : ℕ) → IsEdge graph.edges a b → (a < length classes) × (b < length classes)
+  pub ends_of_edge : (a b : ℕ) → IsEdge (edges_of rows) a b → (a < length classes) × (b < length classes)
   ends_of_edge a b there = subst (λ (e : Edge). (e.from < length classes) × (e.to < length classes)) there.2 (is.ends there.0 (edge a b) there.1)
 
   -- and so does that of a row
   pub ends_of_row : (k : ℕ) (d : Witnessed) → k < length rows → ((get_or rows k d).edge.from < length classes) × ((get_or rows k d).edge.to < length classes)
   ends_of_row k d within =
-      ends_of_edge (get_or rows k d).edge.from (get_or rows k d).edge.to (k, subst (λ m. k < m) length_rows within, at_row k d (get_or rows k d).edge within)
+      ends_of_edge (get_or rows k d).edge.from (get_or rows k d).edge.to (k, subst (λ m. k < m) (length_rows rows) within, at_row rows k d (get_or rows k d).edge within)
 
   -- edges that stand for the same dependency are the same
   edge_from_named : (e f : Edge) → (e.from < length classes) × (e.to < length classes) → (f.from < length classes) × (f.to < length classes)
@@ -79,18 +100,8 @@ module _ (classes : List (List ℕ)) (graph : Seen) (rows : List Witnessed) (is 
   pub apart_rows : (i j : ℕ) (d : Witnessed) → i < j → j < length rows → named_edge classes (get_or rows i d).edge ≢ named_edge classes (get_or rows j d).edge
   apart_rows i j d before within same =
       let i_within : i < length rows = omega arith in
-      is.once i j d.edge before (subst (λ m. j < m) length_rows within)
-      (at_row i d d.edge i_within ∙ edge_from_named (get_or rows i d).edge (get_or rows j d).edge (ends_of_row i d i_within) (ends_of_row j d within) same ∙ sym (at_row j d d.edge within))
-
-  -- the row of an edge that was found
-  pub found_row : (a b n : ℕ) → IsFirstPlace graph.edges a b n → (n < length rows) × ((d : Witnessed) → (get_or rows n d).edge ≡ edge a b)
-  found_row a b n found =
-      let within : n < length rows = subst (λ m. n < m) (sym length_rows) (slice_get_within graph.edges n (edge a b) found.there) in
-      (within, λ d. sym (at_row n d (edge a b) within) ∙ get_or_from_slice_get graph.edges n (edge a b) (edge a b) found.there)
-
-  -- an edge that has a row is in the graph
-  pub edge_of_row : (a b k : ℕ) (d : Witnessed) → k < length rows → (get_or rows k d).edge ≡ edge a b → IsEdge graph.edges a b
-  edge_of_row a b k d within same = (k, subst (λ m. k < m) length_rows within, at_row k d (edge a b) within ∙ same)
+      is.once i j d.edge before (subst (λ m. j < m) (length_rows rows) within)
+      (at_row rows i d d.edge i_within ∙ edge_from_named (get_or rows i d).edge (get_or rows j d).edge (ends_of_row i d i_within) (ends_of_row j d within) same ∙ sym (at_row rows j d d.edge within))
 
   module _ (first : Dependency → Option Witness) (witnessed : AreWitnessed classes rows first) (what : Dependency) where
     -- what no row stands for has no first witness
@@ -111,14 +122,15 @@ module _ (classes : List (List ℕ)) (graph : Seen) (rows : List Witnessed) (is 
     none_to unknown = none_from_rows (λ k d within same. place_of-None classes what.to (get_or rows k d).edge.to unknown ((ends_of_row k d within).1, ap (λ (x : Dependency). x.to) same))
 
     -- and one whose edge isn't in the graph
-    pub none_edge : (a b : ℕ) → IsNameAt classes a what.from → IsNameAt classes b what.to → ¬ IsEdge graph.edges a b → first what ≡ None
+    pub none_edge : (a b : ℕ) → IsNameAt classes a what.from → IsNameAt classes b what.to → ¬ IsEdge (edges_of rows) a b → first what ≡ None
     none_edge a b from to new = none_from_rows (λ k d within same.
-        new (edge_of_row a b k d within (edge_from_named (get_or rows k d).edge (edge a b) (ends_of_row k d within) (from.0, to.0) (same ∙ (λ i. record { from = sym from.1 i; to = sym to.1 i })))))
+        new (edge_of_row rows a b k d within (edge_from_named (get_or rows k d).edge (edge a b) (ends_of_row k d within) (from.0, to.0)
+        (same ∙ (λ i. record { from = sym from.1 i; to = sym to.1 i })))))
 
     -- the witness of an edge that was found
-    pub first_at : (a b n : ℕ) (d : Witnessed) → IsNameAt classes a what.from → IsNameAt classes b what.to → IsFirstPlace graph.edges a b n → Some (get_or rows n d).first ≡ first what
+    pub first_at : (a b n : ℕ) (d : Witnessed) → IsNameAt classes a what.from → IsNameAt classes b what.to → IsFirstPlace (edges_of rows) a b n → Some (get_or rows n d).first ≡ first what
     first_at a b n d from to found =
-        let at = found_row a b n found in
+        let at = found_row rows a b n found in
         sym (witnessed.each n d at.0) ∙ ap (λ e. first (named_edge classes e)) (at.1 d) ∙ ap first (λ i. record { from = from.1 i; to = to.1 i })
 
   module _ (e : Edge) (e_ends : (e.from < length classes) × (e.to < length classes)) where
@@ -142,19 +154,17 @@ module _ (classes : List (List ℕ)) (graph : Seen) (rows : List Witnessed) (is 
       here_first = ap (λ (b : Bool). earlier_of (first (named_edge classes e)) (if b then Some witness else None)) (same_dependency-refl (named_edge classes e))
 
     -- e is in no row: one more is put last
-    module _ (new : ¬ IsEdge graph.edges e.from e.to) where
+    module _ (new : ¬ IsEdge (edges_of rows) e.from e.to) where
       differs : (k : ℕ) (d : Witnessed) → k < length rows → (get_or rows k d).edge ≢ e
-      differs k d within same = new (edge_of_row e.from e.to k d within same)
+      differs k d within same = new (edge_of_row rows e.from e.to k d within same)
 
-      pub numbered-pushed : (r : Witnessed) (after : Seen) → r.edge ≡ e → after.classes ≡ graph.classes → after.edges ≡ graph.edges ++ e ∷ [] → AreNumbered classes after (rows ++ r ∷ [])
-      numbered-pushed r after same classes_same edges_are = record {
+      pub numbered-pushed : (r : Witnessed) → r.edge ≡ e → AreNumbered classes (rows ++ r ∷ [])
+      numbered-pushed r same = record {
         distinct = is.distinct;
-        count = classes_same ∙ is.count;
-        edges = map-append (λ x. x.edge) rows (r ∷ []) ∙ (λ i. is.edges i ++ same i ∷ []) ∙ sym edges_are;
-        ends = subst (All (λ x. (x.from < length classes) × (x.to < length classes))) (sym edges_are)
-            (All-push (λ x. (x.from < length classes) × (x.to < length classes)) graph.edges e is.ends e_ends);
-        once = subst (AllPairs (λ x y. x ≢ y)) (sym edges_are) (all_pairs_push (λ x y. x ≢ y) graph.edges e is.once
-            (λ k d within same_edge. new (k, within, get_or_default graph.edges k e d within ∙ same_edge)));
+        ends = subst (All (λ x. (x.from < length classes) × (x.to < length classes))) (sym (edges-pushed rows r e same))
+            (All-push (λ x. (x.from < length classes) × (x.to < length classes)) (edges_of rows) e is.ends e_ends);
+        once = subst (AllPairs (λ x y. x ≢ y)) (sym (edges-pushed rows r e same)) (all_pairs_push (λ x y. x ≢ y) (edges_of rows) e is.once
+            (λ k d within same_edge. new (k, within, get_or_default (edges_of rows) k e d within ∙ same_edge)));
       }
 
       none_before : (first : Dependency → Option Witness) → AreWitnessed classes rows first → first (named_edge classes e) ≡ None
@@ -181,17 +191,11 @@ module _ (classes : List (List ℕ)) (graph : Seen) (rows : List Witnessed) (is 
 
   -- e is in row n: it gets the earlier witness
   module _ (n : ℕ) (e : Edge) (within : n < length rows) (at : (d : Witnessed) → (get_or rows n d).edge ≡ e) (r : Witnessed) (same : r.edge ≡ e) where
-    pub numbered-set : AreNumbered classes graph (set rows n r)
+    pub numbered-set : AreNumbered classes (set rows n r)
     numbered-set = record {
       distinct = is.distinct;
-      count = is.count;
-      edges =
-          map-set (λ x. x.edge) rows n r
-          ∙ ap (set (map (λ x. x.edge) rows) n) (same ∙ sym (at r) ∙ sym (get_or-map (λ x. x.edge) rows n r r.edge within))
-          ∙ set-get_or (map (λ x. x.edge) rows) n r.edge
-          ∙ is.edges;
-      ends = is.ends;
-      once = is.once;
+      ends = subst (All (λ x. (x.from < length classes) × (x.to < length classes))) (sym (edges-set rows n e within at r same)) is.ends;
+      once = subst (AllPairs (λ x y. x ≢ y)) (sym (edges-set rows n e within at r same)) is.once;
     }
 
     e_ends : (e.from < length classes) × (e.to < length classes)
@@ -203,8 +207,8 @@ module _ (classes : List (List ℕ)) (graph : Seen) (rows : List Witnessed) (is 
       where
         by : (k ≡ n) ⊎ ((k < n) ⊎ (n < k)) → ⊥
         by (inl equal) = k_differs equal
-        by (inr (inl before)) = is.once k n e before (subst (λ m. n < m) length_rows within) (at_row k d e k_within ∙ same_edge ∙ sym (at_row n d e within ∙ at d))
-        by (inr (inr after)) = is.once n k e after (subst (λ m. k < m) length_rows k_within) (at_row n d e within ∙ at d ∙ sym (at_row k d e k_within ∙ same_edge))
+        by (inr (inl before)) = is.once k n e before (subst (λ m. n < m) (length_rows rows) within) (at_row rows k d e k_within ∙ same_edge ∙ sym (at_row rows n d e within ∙ at d))
+        by (inr (inr after)) = is.once n k e after (subst (λ m. k < m) (length_rows rows) k_within) (at_row rows n d e within ∙ at d ∙ sym (at_row rows k d e k_within ∙ same_edge))
 
     pub witnessed-set : (witness : Witness) → r.first ≡ earlier (get_or rows n r).first witness → (first : Dependency → Option Witness) → AreWitnessed classes rows first
         → AreWitnessed classes (set rows n r) (λ what. earlier_of (first what) (if same_dependency what (named_edge classes e) then Some witness else None))
@@ -247,9 +251,9 @@ module _ (classes : List (List ℕ)) (graph : Seen) (rows : List Witnessed) (is 
                 by_place (inr other) = (found.0, found.1, subst (λ m. found.0 < m) (sym (length-set rows n r)) found.2, get_or-set_other rows n found.0 r found.1 other ∙ found.3, found.4)
 
 -- more classes change nothing of the dependencies that are kept
-pub witnessed-longer : (classes more : List (List ℕ)) (graph : Seen) (rows : List Witnessed) (count : ℕ) → AreNumbered classes graph rows → IsLonger classes more count
+pub witnessed-longer : (classes more : List (List ℕ)) (rows : List Witnessed) (count : ℕ) → AreNumbered classes rows → IsLonger classes more count
     → (first : Dependency → Option Witness) → AreWitnessed classes rows first → AreWitnessed more rows first
-witnessed-longer classes more graph rows count is longer first witnessed = record {
+witnessed-longer classes more rows count is longer first witnessed = record {
   each = λ k d within. ap first (same k d within) ∙ witnessed.each k d within;
   all = λ what h.
       let at = witnessed.all what h in
@@ -261,5 +265,12 @@ witnessed-longer classes more graph rows count is longer first witnessed = recor
 
     same : (k : ℕ) (d : Witnessed) → k < length rows → named_edge more (get_or rows k d).edge ≡ named_edge classes (get_or rows k d).edge
     same k d within =
-        let ends = ends_of_row classes graph rows is k d within in
+        let ends = ends_of_row classes rows is k d within in
         λ i. record { from = name (get_or rows k d).edge.from ends.0 i; to = name (get_or rows k d).edge.to ends.1 i }
+
+pub numbered-longer : (classes more : List (List ℕ)) (rows : List Witnessed) (count : ℕ) → AreDistinct more → AreNumbered classes rows → IsLonger classes more count → AreNumbered more rows
+numbered-longer classes more rows count distinct is longer = record {
+  distinct = distinct;
+  ends = λ k d within. let ends = is.ends k d within in (omega (arith, ends.0, longer.least), omega (arith, ends.1, longer.least));
+  once = is.once;
+}

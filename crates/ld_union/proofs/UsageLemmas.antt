@@ -3,7 +3,7 @@ use Rattle.std.proofs.Common.{◌≡◌, ◌≢◌, ◌⊎◌, inl, inr, ◌-◌
 use Rattle.std.proofs.Common.{is_some, length, map, fold, set, take, replicate, get_or, refl, sym, ap, ◌∙◌, if◌then◌else◌, arith, length-append, w8}
 use Rattle.std.proofs.lemmas.Bool.{true≢false, and_parts, cases_eq, cases_order, false_from_ne_true}
 use Rattle.std.proofs.lemmas.List.{get_or-map, get_or-take, get_or-set_same, get_or-set_other, get_or_append_left, get_or-append_right}
-use Rattle.std.proofs.lemmas.List.{get_or-replicate, length-map, length-replicate, length-set, map-set, same_lists, set-get_or, take_all}
+use Rattle.std.proofs.lemmas.List.{get_or-replicate, length-map, length-replicate, length-set, same_lists, take_all}
 use Rattle.std.proofs.lemmas.Slice.Eq.{bytes_eq-Decides}
 use Rattle.std.specs.Int.{trailing_zeros}
 use Rattle.std.specs.List.{position_or_len}
@@ -18,8 +18,7 @@ use Rattle.ld_facts.specs.Usage.{Bit, Use, same_bit, same_use, usage_of}
 use Rattle.ld_facts.specs.Usage.Bit.{In, On}
 use Rattle.ld_union.specs.declared.usage.UsageRow.{UsageRow}
 use Rattle.ld_union.specs.Inner.Names.{IsLonger}
-use Rattle.ld_union.specs.Usage.{bits_of}
-use Rattle.ld_union.specs.Inner.Union.{AreUsed, earlier_of, of_class, with_bit}
+use Rattle.ld_union.specs.Inner.Union.{AreUsed, earlier_of, of_class, with_bit, with_use}
 use Rattle.ld_union.specs.Usage.{bits, row_of, witnessed_bits}
 use Rattle.ld_union.proofs.UnionLemmas.{earlier_of-none, seen_cases}
 
@@ -136,10 +135,6 @@ module _ (first : Bit → Option Witness) (witness : Witness) where
       (λ i. record { bits = union (is i).bits (usage_of bit); first = set (is i).first (at i) ((least ∙ (λ j. earlier_of (get_or (is j).first (at j) None) (Some witness))) i) })
       ∙ (λ i. record { bits = bits_then bit i; first = witnesses_then bit i })
 
--- the first witnesses, once this was seen there
-abbrev pub then_used : (Use → Option Witness) → Use → Witness → Use → Option Witness
-then_used first seen witness what = earlier_of (first what) (if same_use what seen then Some witness else None)
-
 module _ (classes : List (List ℕ)) (rows : List UsageRow) (first : Use → Option Witness) (used : AreUsed classes rows first) where
   pub length_used : length rows ≡ length classes
   length_used = ap length used.each ∙ length-map classes (λ class. row_of (of_class first class))
@@ -161,13 +156,13 @@ module _ (classes : List (List ℕ)) (rows : List UsageRow) (first : Use → Opt
     this_use = record { class = get_or classes c []; bit = bit }
 
     -- the class's own row
-    own_row : row_of (with_bit (of_class first this_use.class) bit witness) ≡ row_of (of_class (then_used first this_use witness) this_use.class)
+    own_row : row_of (with_bit (of_class first this_use.class) bit witness) ≡ row_of (of_class (with_use first this_use witness) this_use.class)
     own_row =
         let same : true ≡ bytes_eq this_use.class this_use.class = sym ((bytes_eq-Decides this_use.class this_use.class).1 refl) in
         λ i. row_of (λ b. earlier_of (of_class first this_use.class b) (if same i && same_bit b bit then Some witness else None))
 
     -- other classes keep theirs
-    other_row : (k : ℕ) → k < length classes → k ≢ c → row_of (of_class first (get_or classes k [])) ≡ row_of (of_class (then_used first this_use witness) (get_or classes k []))
+    other_row : (k : ℕ) → k < length classes → k ≢ c → row_of (of_class first (get_or classes k [])) ≡ row_of (of_class (with_use first this_use witness) (get_or classes k []))
     other_row k k_within differs =
         let apart : bytes_eq (get_or classes k []) this_use.class ≡ false = false_from_ne_true _
         (λ same. differs (distinct k c this_use.class (k_within, (bytes_eq-Decides (get_or classes k []) this_use.class).0 same) (within, refl))) in
@@ -175,14 +170,14 @@ module _ (classes : List (List ℕ)) (rows : List UsageRow) (first : Use → Opt
         (λ i. row_of (λ b. earlier_of-none (of_class first (get_or classes k []) b) i))
         ∙ (λ i. row_of (λ b. earlier_of (of_class first (get_or classes k []) b) (if tests i && same_bit b bit then Some witness else None)))
 
-    pub used-seen : (row : UsageRow) → row ≡ row_of (with_bit (of_class first this_use.class) bit witness) → AreUsed classes (set rows c row) (then_used first this_use witness)
+    pub used-seen : (row : UsageRow) → row ≡ row_of (with_bit (of_class first this_use.class) bit witness) → AreUsed classes (set rows c row) (with_use first this_use witness)
     used-seen row is = record {
       each = same_lists (set rows c row) (map row_then_of classes) lengths at;
       known = λ what h. known what (seen_cases (first what) witness (same_use what this_use) h);
     }
       where
         row_then_of : List ℕ → UsageRow
-        row_then_of class = row_of (of_class (then_used first this_use witness) class)
+        row_then_of class = row_of (of_class (with_use first this_use witness) class)
 
         lengths : length (set rows c row) ≡ length (map row_then_of classes)
         lengths = length-set rows c row ∙ length_used ∙ sym (length-map classes row_then_of)
@@ -260,10 +255,3 @@ module _ (classes : List (List ℕ)) (rows : List UsageRow) (first : Use → Opt
             by (inl same) = new_at k d (omega (arith, same)) within
             by (inr (inl before)) = old_at k d before
             by (inr (inr after)) = new_at k d (omega (arith, after)) within
-
--- a row that keeps its bits
-pub bits_kept : (rows : List UsageRow) (c : ℕ) (d row : UsageRow) → c < length rows → row.bits ≡ (get_or rows c d).bits → bits_of (set rows c row) ≡ bits_of rows
-bits_kept rows c d row within same =
-    map-set (λ (r : UsageRow). r.bits) rows c row
-    ∙ ap (set (bits_of rows) c) (same ∙ sym (get_or-map (λ (r : UsageRow). r.bits) rows c d d.bits within))
-    ∙ set-get_or (bits_of rows) c d.bits

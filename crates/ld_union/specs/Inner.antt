@@ -2,3 +2,4 @@
 -- reader of the promises needs none of it.
 pub mod Names
 pub mod Union
+pub mod News

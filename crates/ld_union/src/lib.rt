@@ -2,9 +2,13 @@
 //! each with the place where it was first seen.
 #![tactic(auto)]
 
+mod dependencies;
 mod names;
+mod news;
 mod union;
 mod usage;
 
-pub use union::{Union, Witnessed};
+pub use dependencies::Witnessed;
+pub use news::{NewBit, News};
+pub use union::Union;
 pub use usage::UsageRow;

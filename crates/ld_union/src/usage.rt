@@ -1,15 +1,21 @@
 //! Usage of the classes over all traces.
-ghost use Rattle.std.specs.Prelude.{◌≡◌, None, Option};
-ghost use Rattle.std.specs.Bool.{OnFalse};
+ghost use Rattle.std.specs.Prelude.{◌≡◌, ℕ, ◌+◌, ◌<◌, ◌≤◌, List, [], All, None, Option, true, false};
+ghost use Rattle.std.specs.Prelude.{length, slice_index_or, vec_len, vec_capacity};
+ghost use Rattle.std.specs.Bool.{OnFalse, OnTrue};
 ghost use Rattle.std.specs.List.{position_or_len};
-ghost use Rattle.ld_rules.specs.declared.outcome.Witness.{Witness};
-ghost use Rattle.ld_facts.specs.Usage.{Bit, IsBit, bit_of, same_bit};
-ghost use Rattle.ld_union.specs.Inner.Union.{with_bit};
-ghost use Rattle.ld_union.specs.Usage.{bits, row_of};
+ghost use Rattle.ld_class.specs.Names.{AreDistinct};
+ghost use Rattle.ld_class.specs.Usage.{has_bit, union};
+ghost use Rattle.ld_facts.specs.Union.{uses_of};
+ghost use Rattle.ld_facts.specs.Usage.{Bit, IsBit, Use, bit_of, same_bit};
+ghost use Rattle.ld_union.specs.Inner.Names.{ArePlaces};
+ghost use Rattle.ld_union.specs.Inner.News.{TellsBits};
+ghost use Rattle.ld_union.specs.Inner.Union.{AreUsed, with_bit, with_use, with_uses};
+ghost use Rattle.ld_union.specs.Usage.{bits, bits_of, row_of};
 
+use crate::news::NewBit;
 use bitflags::Flags;
 use ld_class::Usage;
-use ld_facts::Witness;
+use ld_facts::{Facts, Witness};
 
 /// The usage of a class, over all traces.
 #[derive(Clone, Copy, Debug, PartialEq, Eq)]
@@ -36,9 +42,11 @@ impl UsageRow {
         requires { IsBit bit }
         ensures noted { (first : Bit → Option Witness) → self.old ≡ row_of first
             → self.new ≡ row_of (with_bit first (bit_of bit) witness) }
-        ensures known { OnFalse result (self.new.bits ≡ self.old.bits) }
+        ensures bits { self.new.bits ≡ union self.old.bits bit }
+        ensures new { OnTrue result (has_bit self.old.bits bit ≡ false) }
+        ensures known { OnFalse result (has_bit self.old.bits bit ≡ true) }
     {
-        let before = self.bits;
+        let known = self.bits.contains(bit);
         let place = place_of(bit);
         let earliest = match self.first[place] {
             Some(known) => known.earlier(witness),
@@ -46,7 +54,7 @@ impl UsageRow {
         };
         self.first[place] = Some(earliest);
         self.bits |= bit;
-        self.bits != before
+        !known
     }
 
     /// Where the bit was first seen, or `None` where the class doesn't have it.
@@ -65,4 +73,61 @@ fn place_of(bit: Usage) -> usize
     ensures { result ≡ position_or_len (same_bit (bit_of bit)) bits }
 {
     bit.bits().trailing_zeros() as usize
+}
+
+/// Notes the usage of a trace whose classes have these numbers, each bit of a class where it was seen
+/// first, and tells the bits that are new.
+pub(crate) fn add_usage(
+    rows: &mut [UsageRow],
+    facts: &Facts<'_>,
+    places: &[u32],
+    bits: &mut Vec<NewBit>,
+)
+    requires count { length places.now ≡ length facts.now.classes }
+    requires within { All (λ place. place < length rows.old) places.now }
+    requires none { bits.old.items ≡ [] }
+    requires room { vec_len bits.old + length facts.now.usage ≤ vec_capacity bits.old }
+    ensures len { length rows.new ≡ length rows.old }
+    ensures used { (classes : List (List ℕ)) → AreDistinct classes
+        → ArePlaces classes facts.now.classes places.now
+        → (first : Use → Option Witness) → AreUsed classes rows.old first
+        → AreUsed classes rows.new
+        (with_uses first facts.now.source.number (uses_of facts.now.source)) }
+    ensures told { TellsBits (bits_of rows.old) (bits_of rows.new) bits.new.items }
+{
+    let number = facts.source().number;
+    for seen in facts.usage() {
+        let shown = NewBit {
+            class: places[seen.class as usize],
+            bit: seen.bit,
+        };
+        let witness = Witness {
+            number,
+            line: seen.line,
+        };
+        note_use(rows, shown, witness, bits);
+    }
+}
+
+/// Notes that the bit of the class was seen there, unless it was seen earlier, and tells it where it is
+/// new.
+fn note_use(rows: &mut [UsageRow], shown: NewBit, witness: Witness, bits: &mut Vec<NewBit>)
+    requires class { shown.class < length rows.old }
+    requires bit { IsBit shown.bit }
+    requires room { vec_len bits.old < vec_capacity bits.old }
+    ensures len { length rows.new ≡ length rows.old }
+    ensures room { (n : ℕ) → vec_len bits.old + (n + 1) ≤ vec_capacity bits.old
+        → vec_len bits.new + n ≤ vec_capacity bits.new }
+    ensures used { (classes : List (List ℕ)) → AreDistinct classes
+        → (first : Use → Option Witness) → AreUsed classes rows.old first
+        → AreUsed classes rows.new (with_use first
+        (record { class = slice_index_or classes shown.class []; bit = bit_of shown.bit }) witness) }
+    ensures told { (before : List Usage) → TellsBits before (bits_of rows.old) bits.old.items
+        → TellsBits before (bits_of rows.new) bits.new.items }
+{
+    if rows[shown.class as usize].note(shown.bit, witness) {
+        let Ok(()) = bits.push(shown) else {
+            unreachable!()
+        };
+    }
 }

@@ -1,1 +1,2 @@
 pub mod EvenLemmas
+pub mod JobLemmas

@@ -1,2 +1,4 @@
 pub mod Desk
 pub mod Work
+-- what callers of the tickets cite
+pub use Rattle.ld_tickets.specs.Draw

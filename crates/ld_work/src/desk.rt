@@ -201,15 +201,12 @@ impl<'a, T: Ledger, E: Ledger> Desk<'a, T, E> {
             book,
             mut trace_sum,
             mut event_sum,
-            no_traces: mut all_traces,
-            no_events: mut all_events,
+            no_traces,
+            no_events,
         } = self.locked.into_inner();
-        for feeder in feeders {
-            all_traces.merge(feeder.traces);
-            all_events.merge(feeder.events);
-        }
-        trace_sum.audit(&mut all_traces);
-        event_sum.audit(&mut all_events);
+        let (mut traces, mut events) = joined(feeders, no_traces, no_events);
+        trace_sum.audit(&mut traces);
+        event_sum.audit(&mut events);
         let totals = book.totals();
         let tally = Tally {
             traces: totals.traces,
@@ -256,4 +253,24 @@ impl<'d, 'a, T: Ledger, E: Ledger> Look<'d, 'a, T, E> {
     {
         self.guard.covers(feeder)
     }
+}
+
+/// These shares with those of all feeders.
+fn joined<T: Ledger, E: Ledger>(
+    feeders: Vec<Feeder<T, E>>,
+    mut traces: Share<T>,
+    mut events: Share<E>,
+) -> (Share<T>, Share<E>)
+    requires traces { (traces.parts ≡ 0) × (traces.amount ≡ 0) }
+    requires events { (events.parts ≡ 0) × (events.amount ≡ 0) }
+    ensures parts { (result.0.parts ≡ length feeders.items)
+        × (result.1.parts ≡ length feeders.items) }
+    ensures sum { record { traces = result.0.amount; events = result.1.amount }
+        ≡ sum_of feeders.items }
+{
+    for feeder in feeders {
+        traces.merge(feeder.traces);
+        events.merge(feeder.events);
+    }
+    (traces, events)
 }

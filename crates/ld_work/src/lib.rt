@@ -10,4 +10,5 @@ mod workers;
 pub use desk::{Back, Desk, Gathered, Look};
 pub use feeder::{Feeder, MOST_FEEDERS, Tally};
 pub use gate::{Gate, NoGate};
+pub use ld_tickets::{DrawSeat, Drawn, Tickets};
 pub use workers::{WorkFault, work};

@@ -1,6 +1,7 @@
 //! Reads traces by several workers at once.
 ghost use Rattle.std.specs.Prelude.{◌≡◌, ◌≤◌, ◌<◌, ℕ, All, Err, IfOk, OnOk, length, map};
 ghost use Rattle.ld_trace.specs.Sources.{AreNumbered, Fits, plain};
+ghost use Rattle.ld_tickets.specs.Draw.{IsSeatOf};
 ghost use Rattle.ld_work.specs.Work.{IsUneven, ListsEachOnce};
 
 use crate::desk::Desk;
@@ -9,6 +10,7 @@ use crate::feeder::{Feeder, MOST_FEEDERS};
 use crate::gate::Gate;
 use ld_book::{Book, Refusal};
 use ld_facts::facts;
+use ld_tickets::{DrawSeat, Tickets};
 use ld_trace::{MOST_TRACES, Source};
 use std::alloc::{AllocError, Global};
 use std::marker::Brand;
@@ -46,6 +48,7 @@ impl From<AllocError> for WorkFault {
 struct Job<T: Ledger, E: Ledger> {
     worker: usize,
     feeder: Feeder<T, E>,
+    seat: DrawSeat,
 }
 
 /// What a worker leaves.
@@ -56,9 +59,10 @@ struct Done<T: Ledger, E: Ledger> {
     refused: bool,
 }
 
-/// The book of these sources, read by that many workers at once. Worker w of W reads the traces whose
-/// number is w more than a multiple of W, the least first, and passes the gate before each. Where no
-/// thread can be started, workers do their work one after another. May wait.
+/// The book of these sources, read by that many workers at once. Each worker draws the number of its
+/// next trace, the least that is left, and passes the gate before it reads that trace. So one long
+/// trace holds up no other. Where no thread can be started, workers do their work one after another.
+/// May wait.
 ///
 /// # Errors
 ///
@@ -124,7 +128,7 @@ fn work_at<
 ///
 /// # Errors
 ///
-/// `AllocError` where memory was refused, to a worker or for the feeders.
+/// `AllocError` where memory was refused, to a worker or for the tickets or the feeders.
 fn feed<
     'a,
     T: Ledger + Send + Sync,
@@ -139,13 +143,14 @@ fn feed<
     gate: &G,
     feeders: Vec<Feeder<T, E>>,
 ) -> Result<Vec<Feeder<T, E>>, AllocError>
-    requires some { 0 < length feeders.items }
+    requires some { (1 ≤ length feeders.items) × (length feeders.items ≤ MOST_FEEDERS) }
     requires few { length sources.now ≤ MOST_TRACES }
     requires fit { All (λ source. Fits (plain source)) sources.now }
     ensures { IfOk result (λ fed. length fed.items ≡ length feeders.items) }
 {
-    let jobs = jobs_of(alloc, feeders)?;
-    let done = run(rt, alloc, desk, sources, gate, jobs)?;
+    let (tickets, seats) = Tickets::new(alloc, sources.len() as u64, feeders.len())?;
+    let jobs = jobs_of(alloc, feeders, seats)?;
+    let done = run(rt, alloc, desk, &tickets, sources, gate, jobs)?;
     feeders_of(alloc, done)
 }
 
@@ -169,18 +174,26 @@ fn gathered<'a, T: Ledger, E: Ledger>(
     }
 }
 
-/// A job for each feeder.
+/// A job for each feeder, with a seat.
 fn jobs_of<T: Ledger, E: Ledger>(
     alloc: Global,
     feeders: Vec<Feeder<T, E>>,
+    seats: Vec<DrawSeat>,
 ) -> Result<Vec<Job<T, E>>, AllocError>
-    ensures { IfOk result (λ jobs. length jobs.items ≡ length feeders.items) }
+    requires { length seats.items ≡ length feeders.items }
+    ensures count { IfOk result (λ jobs. length jobs.items ≡ length feeders.items) }
+    ensures seats { IfOk result (λ jobs. map (λ job. job.seat) jobs.items ≡ seats.items) }
 {
-    feeders
-        .into_iter()
-        .enumerate()
-        .map(|(worker, feeder)| Job { worker, feeder })
-        .collect(alloc)
+    let mut jobs = Vec::new(alloc);
+    for (feeder, seat) in feeders.into_iter().zip(seats) {
+        let worker = jobs.len();
+        jobs.push(Job {
+            worker,
+            feeder,
+            seat,
+        })?;
+    }
+    Ok(jobs)
 }
 
 /// Does all jobs, each in a thread of its own where one can be started.
@@ -194,43 +207,46 @@ fn run<
     rt: &R,
     alloc: Global,
     desk: &Desk<'a, T, E>,
+    tickets: &Tickets,
     sources: &[Source<'a>],
     gate: &G,
     jobs: Vec<Job<T, E>>,
 ) -> Result<Vec<Done<T, E>>, AllocError>
-    requires some { 0 < length jobs.items }
-    requires few { length sources.now ≤ MOST_TRACES }
+    requires numbers { tickets.now.n ≡ length sources.now }
+    requires seats { All (λ job. IsSeatOf tickets.now job.seat) jobs.items }
     requires fit { All (λ source. Fits (plain source)) sources.now }
     ensures { IfOk result (λ done. length done.items ≡ length jobs.items) }
 {
-    let workers = jobs.len();
     thread::map_vec(
         rt,
         jobs,
-        &|job: Job<T, E>| { run_one(rt, alloc, desk, sources, workers, gate, job) },
+        &|job: Job<T, E>| { run_one(rt, alloc, desk, tickets, sources, gate, job) },
     )
 }
 
-/// Does one job: reads the worker's traces in turn, until memory is refused.
+/// Does one job: draws the numbers of traces and reads these, until none is left or memory is refused.
 fn run_one<'a, T: Ledger, E: Ledger, G: Gate, R: Wait>(
     rt: &R,
     alloc: Global,
     desk: &Desk<'a, T, E>,
+    tickets: &Tickets,
     sources: &[Source<'a>],
-    workers: usize,
     gate: &G,
     job: Job<T, E>,
 ) -> Done<T, E>
-    requires some { 0 < workers }
-    requires few { length sources.now ≤ MOST_TRACES }
+    requires numbers { tickets.now.n ≡ length sources.now }
+    requires seat { IsSeatOf tickets.now job.seat }
     requires fit { All (λ source. Fits (plain source)) sources.now }
 {
-    let Job { worker, mut feeder } = job;
+    let Job {
+        worker,
+        mut feeder,
+        mut seat,
+    } = job;
     let mut refused = false;
-    for place in (worker..sources.len()).step_by(workers) {
-        let source = sources[place];
-        gate.pass(worker as u64, source.number);
-        refused = submit(rt, alloc, desk, source, &mut feeder).is_err();
+    while let Some(number) = tickets.draw(&mut seat) {
+        gate.pass(worker as u64, number);
+        refused = submit(rt, alloc, desk, sources[number as usize], &mut feeder).is_err();
         if refused {
             break;
         }

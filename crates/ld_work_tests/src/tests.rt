@@ -50,6 +50,19 @@ fn expect_inversion<R: Abort>(rt: &R, book: &Book<'_>) {
     assert_eq!(rt; book.edge(b"B", b"A"), witness(1, 8));
 }
 
+/// Asserts that the book has the totals and the witnesses of `THREE_TRACES`.
+fn expect_three_traces<R: Abort>(rt: &R, book: &Book<'_>) {
+    let totals = book.totals();
+    assert_eq!(rt; totals.traces, 3);
+    assert_eq!(rt; totals.refused, 0);
+    assert_eq!(rt; totals.events, 6);
+    assert_eq!(rt; totals.classes, 3);
+    assert_eq!(rt; totals.dependencies, 3);
+    assert_eq!(rt; book.edge(b"A", b"B"), witness(0, 3));
+    assert_eq!(rt; book.edge(b"B", b"C"), witness(1, 6));
+    assert_eq!(rt; book.edge(b"C", b"A"), witness(2, 9));
+}
+
 /// Adds a trace, and looks at what the book has then.
 fn feed<'a, T: Ledger, E: Ledger, R: Wait + Abort>(
     rt: &R,
@@ -143,15 +156,7 @@ fn workers_read_several_traces(rt: HostRuntime) -> Result<(), Fail> {
     let sources = sources_of(rt.alloc(), THREE_TRACES)?;
     for workers in [1, 2, 16] {
         let book = work(&rt, rt.alloc(), &sources, workers, &NoGate).expect(&rt, "a book");
-        let totals = book.totals();
-        assert_eq!(rt; totals.traces, 3);
-        assert_eq!(rt; totals.refused, 0);
-        assert_eq!(rt; totals.events, 6);
-        assert_eq!(rt; totals.classes, 3);
-        assert_eq!(rt; totals.dependencies, 3);
-        assert_eq!(rt; book.edge(b"A", b"B"), witness(0, 3));
-        assert_eq!(rt; book.edge(b"B", b"C"), witness(1, 6));
-        assert_eq!(rt; book.edge(b"C", b"A"), witness(2, 9));
+        expect_three_traces(&rt, &book);
         drop(book);
     }
     Ok(())
@@ -225,92 +230,119 @@ fn a_refused_growth_in_any_worker_is_memory(rt: HostRuntime) -> Result<(), Fail>
     expect_inversion_or_memory(&rt, rt.alloc(), 4)
 }
 
-/// Sees whether each worker passes with its own numbers, the least first.
-#[derive(Drop)]
-struct Shares {
-    workers: u64,
-    /// How often each number passed.
-    passed: [AtomicU64; 3],
-    wrong: AtomicU64,
+/// As many counters, each at 0.
+pub fn zeros(alloc: Global, count: usize) -> Result<Vec<AtomicU64>, AllocError>
+    ensures { IfOk result (λ counts. length counts.items ≡ count) }
+{
+    (0..count).map(|_| AtomicU64::new(0)).collect(alloc)
 }
 
-impl Gate for Shares {
-    fn pass(&self, worker: u64, number: u64) {
-        let is_own = number.checked_rem(self.workers) == Some(worker);
-        let is_next = match number.checked_sub(self.workers) {
-            Some(before) => self.times(before) == 1,
-            None => true,
-        };
-        if !is_own || !is_next {
-            self.wrong.fetch_add(1, Ordering::SeqCst);
-        }
-        if let Some(times) = self.passed.get(number as usize) {
-            times.fetch_add(1, Ordering::SeqCst);
-        }
+/// Adds one to the counter at a place.
+fn count_at(counts: &[AtomicU64], place: u64) {
+    if let Some(count) = counts.get(place as usize) {
+        count.fetch_add(1, Ordering::SeqCst);
     }
 }
 
-impl Shares {
-    fn times(&self, number: u64) -> u64 {
-        match self.passed.get(number as usize) {
-            Some(times) => times.load(Ordering::SeqCst),
-            None => 0,
+/// Asserts that the first counters are at 1, as many as are said, and all others at 0.
+pub fn expect_first_once<R: Abort>(rt: &R, counts: &[AtomicU64], first: usize) {
+    for (place, count) in counts.iter().enumerate() {
+        let wanted = if place < first { 1 } else { 0 };
+        assert_eq!(rt; count.load(Ordering::SeqCst), wanted);
+    }
+}
+
+/// Counts passes, and holds those of the first numbers until some more came, for a while.
+#[derive(Drop)]
+struct Meeting {
+    /// The passes of numbers below this one are held.
+    held: u64,
+    /// How many passes they wait for, themselves included.
+    awaited: u64,
+    came: AtomicU64,
+    /// How many held passes saw as many come.
+    met: AtomicU64,
+    by_worker: Vec<AtomicU64>,
+    by_number: Vec<AtomicU64>,
+}
+
+impl Meeting {
+    fn new(alloc: Global, held: u64, awaited: u64) -> Result<Meeting, AllocError> {
+        Ok(Meeting {
+            held,
+            awaited,
+            came: AtomicU64::new(0),
+            met: AtomicU64::new(0),
+            by_worker: zeros(alloc, 16)?,
+            by_number: zeros(alloc, 16)?,
+        })
+    }
+}
+
+impl Gate for Meeting {
+    fn pass(&self, worker: u64, number: u64) {
+        count_at(&self.by_worker, worker);
+        count_at(&self.by_number, number);
+        self.came.fetch_add(1, Ordering::SeqCst);
+        if number >= self.held {
+            return;
         }
+        for _ in 0..10_000_000u64 {
+            if self.came.load(Ordering::SeqCst) >= self.awaited {
+                self.met.fetch_add(1, Ordering::SeqCst);
+                return;
+            }
+            thread::yield_now();
+        }
+        // Nobody else need wait for those that didn't come.
+        self.came.fetch_add(self.awaited, Ordering::SeqCst);
     }
 }
 
 #[test]
-fn each_worker_passes_with_its_share(rt: HostRuntime) -> Result<(), Fail> {
+fn each_number_passes_once(rt: HostRuntime) -> Result<(), Fail> {
     let sources = sources_of(rt.alloc(), THREE_TRACES)?;
-    for workers in [1usize, 2, 3, 16] {
-        let gate = Shares {
-            workers: workers as u64,
-            passed: [AtomicU64::new(0), AtomicU64::new(0), AtomicU64::new(0)],
-            wrong: AtomicU64::new(0),
-        };
+    for workers in [1, 2, 3, 16] {
+        let gate = Meeting::new(rt.alloc(), 0, 0)?;
         drop(work(&rt, rt.alloc(), &sources, workers, &gate).expect(&rt, "a book"));
-        assert_eq!(rt; gate.wrong.load(Ordering::SeqCst), 0);
-        for number in 0..3u64 {
-            assert_eq!(rt; gate.times(number), 1);
-        }
+        expect_first_once(&rt, &gate.by_number, 3);
     }
     Ok(())
-}
-
-/// Holds the worker of number 0 until number 1 came, for a while, and records whether it did.
-#[derive(Drop)]
-struct Meeting {
-    came: AtomicU64,
-    met: AtomicU64,
-}
-
-impl Gate for Meeting {
-    fn pass(&self, _worker: u64, number: u64) {
-        if number == 1 {
-            self.came.store(1, Ordering::SeqCst);
-        }
-        if number == 0 {
-            for _ in 0..10_000_000u64 {
-                if self.came.load(Ordering::SeqCst) == 1 {
-                    self.met.store(1, Ordering::SeqCst);
-                    return;
-                }
-                thread::yield_now();
-            }
-        }
-    }
 }
 
 #[test]
 fn two_workers_meet(rt: HostRuntime) -> Result<(), Fail> {
     let sources = sources_of(rt.alloc(), INVERSION)?;
-    let gate = Meeting {
-        came: AtomicU64::new(0),
-        met: AtomicU64::new(0),
-    };
+    let gate = Meeting::new(rt.alloc(), 1, 2)?;
     let book = work(&rt, rt.alloc(), &sources, 2, &gate).expect(&rt, "a book");
     assert_eq!(rt; gate.met.load(Ordering::SeqCst), 1);
     expect_inversion(&rt, &book);
     drop(book);
+    Ok(())
+}
+
+// While one worker is held at number 0, the other one reads all the rest.
+#[test]
+fn two_numbers_before_zero(rt: HostRuntime) -> Result<(), Fail> {
+    let sources = sources_of(rt.alloc(), THREE_TRACES)?;
+    let gate = Meeting::new(rt.alloc(), 1, 3)?;
+    let book = work(&rt, rt.alloc(), &sources, 2, &gate).expect(&rt, "a book");
+    assert_eq!(rt; gate.met.load(Ordering::SeqCst), 1);
+    expect_three_traces(&rt, &book);
+    drop(book);
+    Ok(())
+}
+
+#[test]
+fn sixteen_workers_meet(rt: HostRuntime) -> Result<(), Fail> {
+    let mut stream = Vec::new(rt.alloc());
+    for _ in 0..16 {
+        stream.extend_from_slice(b"trace x\nacquire t A\nacquire t B\n")?;
+    }
+    let sources = sources_of(rt.alloc(), &stream)?;
+    let gate = Meeting::new(rt.alloc(), 16, 16)?;
+    drop(work(&rt, rt.alloc(), &sources, 16, &gate).expect(&rt, "a book"));
+    assert_eq!(rt; gate.met.load(Ordering::SeqCst), 16);
+    expect_first_once(&rt, &gate.by_worker, 16);
     Ok(())
 }

@@ -5,7 +5,7 @@ ghost use Rattle.std.specs.Prelude.{◌≡◌, ◌<◌, [], false, true, Some};
 use crate::devices::{DeviceFault, Input, Output};
 use ld_work::Gate;
 use std::alloc::Global;
-use std::sync::atomic::{AtomicBool, Ordering};
+use std::sync::atomic::{AtomicBool, AtomicU64, Ordering};
 use std::thread;
 
 /// Gives the bytes of a slice, at most some of them a call.
@@ -163,17 +163,20 @@ impl Output for FakeWriter {
     }
 }
 
-/// Holds the worker of number 0 until number 1 came, for a while, and records whether it did.
+/// Holds the worker of number 0 until so many other numbers came, for a while, and records whether they
+/// did.
 #[derive(Drop)]
 pub struct Meeting {
-    came: AtomicBool,
+    wanted: u64,
+    came: AtomicU64,
     met: AtomicBool,
 }
 
 impl Meeting {
-    pub fn new() -> Meeting {
+    pub fn of(wanted: u64) -> Meeting {
         Meeting {
-            came: AtomicBool::new(false),
+            wanted,
+            came: AtomicU64::new(0),
             met: AtomicBool::new(false),
         }
     }
@@ -185,17 +188,16 @@ impl Meeting {
 
 impl Gate for Meeting {
     fn pass(&self, _worker: u64, number: u64) {
-        if number == 1 {
-            self.came.store(true, Ordering::SeqCst);
+        if number > 0 {
+            self.came.fetch_add(1, Ordering::SeqCst);
+            return;
         }
-        if number == 0 {
-            for _ in 0..10_000_000u64 {
-                if self.came.load(Ordering::SeqCst) {
-                    self.met.store(true, Ordering::SeqCst);
-                    return;
-                }
-                thread::yield_now();
+        for _ in 0..10_000_000u64 {
+            if self.came.load(Ordering::SeqCst) >= self.wanted {
+                self.met.store(true, Ordering::SeqCst);
+                return;
             }
+            thread::yield_now();
         }
     }
 }

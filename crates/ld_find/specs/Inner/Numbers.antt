@@ -1,30 +1,27 @@
 -- Violations by the numbers of the classes, and what the numbers stand for. No contract of a `Book`
 -- cites this file.
-use Rattle.std.specs.Prelude.{◌≡◌, ◌↔◌, ℕ, ◌<◌, ◌≤◌, Bool, true, false, List, [], length, slice_index_or, All, Option, None, IfSome, IsSome, option_map}
+use Rattle.std.specs.Prelude.{◌≡◌, ◌↔◌, ℕ, ◌<◌, ◌≤◌, List, [], length, slice_index_or, None, IfSome, IsSome, option_map}
 use Rattle.ld_class.specs.declared.usage.Usage.{Usage}
 use Rattle.ld_class.specs.Names.{place_of}
-use Rattle.ld_class.specs.Usage.{has_bit}
 use Rattle.ld_graph.specs.declared.Edge.{Edge}
-use Rattle.ld_graph.specs.Edges.{IsEdge, Seen}
+use Rattle.ld_graph.specs.Edges.{IsEdge, edge}
 use Rattle.ld_graph.specs.Walks.{HasWalk}
 use Rattle.ld_trace.specs.declared.event.State.{State}
+use Rattle.ld_trace.specs.declared.event.State.TheVariants.{Hard, Soft}
 use Rattle.ld_trace.specs.Sources.{PlainSource}
-use Rattle.ld_facts.specs.Usage.{Bit, usage_of}
+use Rattle.ld_facts.specs.Usage.{Bit}
 use Rattle.ld_facts.specs.Usage.Bit.{In, On}
-use Rattle.ld_facts.specs.Uses.{none}
 use Rattle.ld_find.specs.declared.alarms.Found.{Found}
-use Rattle.ld_union.specs.declared.union.Union.{Union}
-use Rattle.ld_union.specs.declared.union.Witnessed.{Witnessed}
-use Rattle.ld_find.specs.Alarms.{IsExact, PlainAlarms, state_place}
+use Rattle.ld_find.specs.declared.states.PerState.{PerState}
+use Rattle.ld_union.specs.Inner.News.{HasBitAt, PlainNews, Tells}
+use Rattle.ld_union.specs.Inner.Union.{IsCycleAt, PlainUnion}
+use Rattle.ld_find.specs.Alarms.{IsExact, PlainAlarms}
 use Rattle.ld_find.specs.Violations.{HasBit}
 
--- the edge is there, and a walk leads back from its second class to its first
-abbrev pub IsCycleAt : List Edge → Edge → Type 0
-IsCycleAt edges e = IsEdge edges e.from e.to × HasWalk (IsEdge edges) e.to e.from
-
--- the class has this bit; a class that has no bits of its own has none
-abbrev pub HasBitAt : List Usage → ℕ → Bit → Type 0
-HasBitAt usage class bit = has_bit (slice_index_or usage class none) (usage_of bit) ≡ true
+-- that of the state
+abbrev pub of_state : {T : Type 0} → PerState T → State → T
+of_state each Hard = each.hard
+of_state each Soft = each.soft
 
 -- the class has both bits of the state
 abbrev pub IsConflictAt : List Usage → State → ℕ → Type 0
@@ -38,26 +35,17 @@ IsFoundAt edges usage state from class = HasBitAt usage class (On state) × HasW
 abbrev pub IsForbiddenAt : List Edge → List Usage → State → ℕ → ℕ → Type 0
 IsForbiddenAt edges usage state x y = HasBitAt usage x (In state) × IsFoundAt edges usage state x y
 
--- the graph, but for what was searched from
-abbrev pub with_searched : Seen → Option ℕ → Seen
-with_searched graph searched = record graph { searched = searched }
-
-abbrev pub searched_union : Union → Option ℕ → Union
-searched_union union searched = record union { graph = with_searched union.graph searched }
-
--- the rows stand for edges of the graph
-abbrev pub AreRowsOf : Seen → List Witnessed → Type 0
-AreRowsOf graph rows = All (λ r. IsEdge graph.edges r.edge.from r.edge.to × (r.edge.from < graph.classes) × (r.edge.to < graph.classes)) rows
-
--- the edges grew: each that was there is there, and no other where none came
-pub record EdgesGrow (old new : List Edge) (came : Bool) : Type 0 where
-  pub kept : (a b : ℕ) → IsEdge old a b → IsEdge new a b
-  pub same : came ≡ false → (a b : ℕ) → IsEdge new a b → IsEdge old a b
+-- the edges grew: each that was there is there
+abbrev pub EdgesGrow : List Edge → List Edge → Type 0
+EdgesGrow old new = (a b : ℕ) → IsEdge old a b → IsEdge new a b
 
 -- and so did the bits
-pub record BitsGrow (old new : List Usage) (came : Bool) : Type 0 where
-  pub kept : (class : ℕ) (bit : Bit) → HasBitAt old class bit → HasBitAt new class bit
-  pub same : came ≡ false → (class : ℕ) (bit : Bit) → HasBitAt new class bit → HasBitAt old class bit
+abbrev pub BitsGrow : List Usage → List Usage → Type 0
+BitsGrow old new = (class : ℕ) (bit : Bit) → HasBitAt old class bit → HasBitAt new class bit
+
+-- what is told is what is new of this union to one before it
+abbrev pub IsTold : PlainUnion → PlainNews → Type 0
+IsTold union news = (old : PlainUnion) × Tells old union news
 
 -- each class has the bits that its name has in the union of these sources
 pub record AreBitsOf (classes : List (List ℕ)) (usage : List Usage) (sources : List PlainSource) : Type 0 where
@@ -68,20 +56,20 @@ pub record AreBitsOf (classes : List (List ℕ)) (usage : List Usage) (sources :
 -- what was found is exact, by number
 pub record AreFound (edges : List Edge) (usage : List Usage) (found : Found) : Type 0 where
   pub cycle : IsExact (IsCycleAt edges) found.cycle
-  pub conflict : (state : State) → IsExact (IsConflictAt usage state) (slice_index_or found.conflict (state_place state) None)
-  pub forbidden : (state : State) → IsExact (λ f. IsForbiddenAt edges usage state f.from f.to) (slice_index_or found.forbidden (state_place state) None)
+  pub conflict : (state : State) → IsExact (IsConflictAt usage state) (of_state found.conflict state)
+  pub forbidden : (state : State) → IsExact (λ f. IsForbiddenAt edges usage state f.from f.to) (of_state found.forbidden state)
 
 -- nothing was found
 pub record IsNothing (found : Found) : Type 0 where
   pub cycle : found.cycle ≡ None
-  pub conflict : (state : State) → slice_index_or found.conflict (state_place state) None ≡ None
-  pub forbidden : (state : State) → slice_index_or found.forbidden (state_place state) None ≡ None
+  pub conflict : (state : State) → of_state found.conflict state ≡ None
+  pub forbidden : (state : State) → of_state found.forbidden state ≡ None
 
 -- the numbers that were found are below the count
 pub record AreWithin (count : ℕ) (found : Found) : Type 0 where
   pub cycle : IfSome found.cycle (λ e. (e.from < count) × (e.to < count))
-  pub conflict : (state : State) → IfSome (slice_index_or found.conflict (state_place state) None) (λ c. c < count)
-  pub forbidden : (state : State) → IfSome (slice_index_or found.forbidden (state_place state) None) (λ f. (f.from < count) × (f.to < count))
+  pub conflict : (state : State) → IfSome (of_state found.conflict state) (λ c. c < count)
+  pub forbidden : (state : State) → IfSome (of_state found.forbidden state) (λ f. (f.from < count) × (f.to < count))
 
 -- the names of two numbers
 abbrev pub named_pair : List (List ℕ) → ℕ → ℕ → List ℕ × List ℕ
@@ -91,6 +79,6 @@ named_pair classes a b = (slice_index_or classes a [], slice_index_or classes b 
 abbrev pub named_alarms : List (List ℕ) → Found → PlainAlarms
 named_alarms classes found = record {
   cycle = option_map (λ e. named_pair classes e.from e.to) found.cycle;
-  conflict = λ state. option_map (λ c. slice_index_or classes c []) (slice_index_or found.conflict (state_place state) None);
-  forbidden = λ state. option_map (λ f. named_pair classes f.from f.to) (slice_index_or found.forbidden (state_place state) None);
+  conflict = λ state. option_map (λ c. slice_index_or classes c []) (of_state found.conflict state);
+  forbidden = λ state. option_map (λ f. named_pair classes f.from f.to) (of_state found.forbidden state);
 }

@@ -1,6 +1,6 @@
 -- The rows of violations as their makers give them. No contract of a `Book` cites this file.
 use Rattle.std.specs.Prelude.{◌≡◌, ◌<◌, ℕ, List, length, slice_index_or, Option, None, Some}
-use Rattle.ld_graph.specs.Edges.{IsEdge, Seen}
+use Rattle.ld_graph.specs.Edges.{IsEdge}
 use Rattle.ld_graph.specs.Walks.{DistanceIs}
 use Rattle.ld_trace.specs.declared.event.State.{State}
 use Rattle.ld_trace.specs.Sources.{PlainSource}
@@ -8,7 +8,8 @@ use Rattle.ld_rules.specs.declared.outcome.Witness.{Witness}
 use Rattle.ld_facts.specs.Union.{use_witness}
 use Rattle.ld_facts.specs.Usage.{Bit}
 use Rattle.ld_find.specs.declared.alarms.Found.{Found}
-use Rattle.ld_find.specs.Alarms.{state_place}
+use Rattle.ld_find.specs.Inner.Numbers.{of_state}
+use Rattle.ld_union.specs.Inner.Union.{PlainUnion, edges_of}
 use Rattle.ld_find.specs.Findings.{AreRows, InTurn, IsBefore, IsConflictRow, IsCycleRow, IsForbiddenRow, IsHarder, IsPairBefore, PlainConflictRow}
 use Rattle.ld_find.specs.Findings.{PlainCycleRow, PlainForbiddenRow, conflict_key, cycle_key, forbidden_key, shown_marks}
 use Rattle.ld_find.specs.Inner.Order.{class_at, name_of}
@@ -17,9 +18,9 @@ use Rattle.ld_find.specs.Violations.{IsConflict, IsCycle, IsForbidden}
 -- where none of a kind was found, there is none
 pub record IsOfEach (sources : List PlainSource) (found : Found) : Type 0 where
   pub cycle : found.cycle ≡ None → (a b : List ℕ) → ¬ IsCycle sources a b
-  pub conflict : (state : State) → slice_index_or found.conflict (state_place state) None ≡ None
+  pub conflict : (state : State) → of_state found.conflict state ≡ None
       → (class : List ℕ) → ¬ IsConflict sources state class
-  pub forbidden : (state : State) → slice_index_or found.forbidden (state_place state) None ≡ None
+  pub forbidden : (state : State) → of_state found.forbidden state ≡ None
       → (a b : List ℕ) → ¬ IsForbidden sources state a b
 
 -- of these keys exactly the rows that are owed, each once and in order
@@ -78,10 +79,10 @@ pub record IsNoted (sources : List PlainSource) (class : List ℕ) (bit : Bit) (
   pub shown : marks ≡ shown_marks sources class
   pub first : use_witness sources (record { class = class; bit = bit }) ≡ Some at
 
--- for each class its distance to this one
-pub record AreDistances (graph : Seen) (to : ℕ) (distances : List (Option ℕ)) : Type 0 where
-  pub len : length distances ≡ graph.classes
-  pub each : (c : ℕ) → DistanceIs (IsEdge graph.edges) c to (slice_index_or distances c None)
+-- for each class of a union its distance to this one
+pub record AreDistances (union : PlainUnion) (to : ℕ) (distances : List (Option ℕ)) : Type 0 where
+  pub len : length distances ≡ length union.classes
+  pub each : (c : ℕ) → DistanceIs (IsEdge (edges_of union.dependencies)) c to (slice_index_or distances c None)
 
 -- the name is one of the first of these classes, which are so many
 abbrev pub IsPassed : List (List ℕ) → List ℕ → ℕ → List ℕ → Type 0

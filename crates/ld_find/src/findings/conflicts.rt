@@ -5,7 +5,7 @@ ghost use Rattle.ld_facts.specs.Union.{use_witness};
 ghost use Rattle.ld_find.specs.Findings.{AreConflictRows, plain_conflict_row};
 ghost use Rattle.ld_find.specs.Inner.Order.{IsOrder, name_of};
 ghost use Rattle.ld_find.specs.Inner.Rows.{AreConflictRowsOf, IsConflictRowOf};
-ghost use Rattle.ld_union.specs.Inner.Union.{AreUsed, HasRows};
+ghost use Rattle.ld_union.specs.Inner.Union.{Shows};
 ghost use Rattle.ld_find.specs.Violations.{IsConflict};
 
 use crate::alarms::{in_bit, on_bit};
@@ -37,10 +37,9 @@ pub(crate) fn conflict_rows<'a>(
     union: &Union<'a>,
     order: &Order,
 ) -> Result<Vec<ConflictRow<'a>>, AllocError>
-    requires rows { HasRows union.now }
     requires order { IsOrder union.now.classes order.now.numbers.items order.now.places.items }
     ensures { IfOk result (λ rows. (sources : List PlainSource)
-        → AreUsed union.now.classes union.now.usage.items (use_witness sources)
+        → Shows sources union.now
         → AreConflictRows sources (map plain_conflict_row rows.items)) }
 {
     let mut rows = conflicts_of(alloc, union, order, State::Hard)?;
@@ -56,10 +55,9 @@ fn conflicts_of<'a>(
     order: &Order,
     state: State,
 ) -> Result<Vec<ConflictRow<'a>>, AllocError>
-    requires rows { HasRows union.now }
     requires order { IsOrder union.now.classes order.now.numbers.items order.now.places.items }
     ensures { IfOk result (λ rows. (sources : List PlainSource)
-        → AreUsed union.now.classes union.now.usage.items (use_witness sources)
+        → Shows sources union.now
         → AreConflictRowsOf sources (λ p. p.0 ≡ state) (map plain_conflict_row rows.items)) }
 {
     let mut rows = Vec::new(alloc);
@@ -73,10 +71,9 @@ fn conflicts_of<'a>(
 
 /// The row of the class, or `None` where it has no conflict of the state.
 fn conflict_row<'a>(union: &Union<'a>, class: u32, state: State) -> Option<ConflictRow<'a>>
-    requires rows { HasRows union.now }
     requires class { class < length union.now.classes }
     ensures { (sources : List PlainSource)
-        → AreUsed union.now.classes union.now.usage.items (use_witness sources)
+        → Shows sources union.now
         → MatchOption result (¬ IsConflict sources state (name_of union.now.classes class))
         (λ row. IsConflictRowOf sources state (name_of union.now.classes class)
         (plain_conflict_row row)) }

@@ -1,13 +1,14 @@
 //! The dependencies that are on cycles.
-ghost use Rattle.std.specs.Prelude.{false, ℕ, ◌≡◌, ◌<◌, IfOk, List, MatchOption, length, map};
+ghost use Rattle.std.specs.Prelude.{◌≡◌, ◌<◌, IfOk, List, MatchOption, length, map};
 ghost use Rattle.ld_trace.specs.Sources.{PlainSource};
 ghost use Rattle.ld_facts.specs.Union.{dependency_witness};
 ghost use Rattle.ld_find.specs.Findings.{AreCycleRows, plain_cycle_row};
 ghost use Rattle.ld_find.specs.Inner.Order.{IsOrder, name_of};
-ghost use Rattle.ld_find.specs.Inner.Rows.{AreCycleRowsOf, AreDistances, IsCycleRowOf};
-ghost use Rattle.ld_union.specs.Inner.Union.{AreWitnessed, IsNumbered};
+ghost use Rattle.ld_find.specs.Inner.Rows.{AreCycleRowsOf, AreDistances, IsCycleRowOf, IsOfEach};
+ghost use Rattle.ld_union.specs.Inner.Union.{Shows};
 ghost use Rattle.ld_find.specs.Violations.{IsCycle};
 
+use crate::alarms::Found;
 use crate::findings::walks::{Target, walk_names};
 use crate::order::Order;
 use crate::rows::Rows;
@@ -34,17 +35,16 @@ pub(crate) fn cycle_rows<'a>(
     alloc: Global,
     union: &Union<'a>,
     order: &Order,
-    found: bool,
+    found: &Found,
 ) -> Result<Vec<CycleRow<'a>>, AllocError>
-    requires numbered { IsNumbered union.now }
     requires order { IsOrder union.now.classes order.now.numbers.items order.now.places.items }
     ensures { IfOk result (λ rows. (sources : List PlainSource)
-        → AreWitnessed union.now.classes union.now.dependencies.items (dependency_witness sources)
-        → (found ≡ false → (a b : List ℕ) → ¬ IsCycle sources a b)
+        → Shows sources union.now
+        → IsOfEach sources found.now
         → AreCycleRows sources (map plain_cycle_row rows.items)) }
 {
     let mut rows = Vec::new(alloc);
-    if !found {
+    if found.cycle.is_none() {
         return Ok(rows);
     }
     for from in &order.numbers {
@@ -61,16 +61,15 @@ fn cycles_from<'a>(
     order: &Order,
     from: u32,
 ) -> Result<Vec<CycleRow<'a>>, AllocError>
-    requires numbered { IsNumbered union.now }
     requires order { IsOrder union.now.classes order.now.numbers.items order.now.places.items }
     requires from { from < length union.now.classes }
     ensures { IfOk result (λ rows. (sources : List PlainSource)
-        → AreWitnessed union.now.classes union.now.dependencies.items (dependency_witness sources)
+        → Shows sources union.now
         → AreCycleRowsOf sources (λ p. p.0 ≡ name_of union.now.classes from)
         (map plain_cycle_row rows.items)) }
 {
     let mut rows = Vec::new(alloc);
-    let target = Target::new(alloc, &union.graph, from)?;
+    let target = Target::new(alloc, union, from)?;
     if target.distances[from as usize].is_none() {
         return Ok(rows);
     }
@@ -91,13 +90,12 @@ fn cycle_row<'a>(
     target: &Target,
     to: u32,
 ) -> Result<Option<CycleRow<'a>>, AllocError>
-    requires numbered { IsNumbered union.now }
     requires order { IsOrder union.now.classes order.now.numbers.items order.now.places.items }
     requires class { target.now.class < length union.now.classes }
-    requires distances { AreDistances union.now.graph target.now.class target.now.distances.items }
+    requires distances { AreDistances union.now target.now.class target.now.distances.items }
     requires to { to < length union.now.classes }
     ensures { IfOk result (λ row. (sources : List PlainSource)
-        → AreWitnessed union.now.classes union.now.dependencies.items (dependency_witness sources)
+        → Shows sources union.now
         → MatchOption row
         (¬ IsCycle sources (name_of union.now.classes target.now.class)
         (name_of union.now.classes to))
@@ -107,7 +105,7 @@ fn cycle_row<'a>(
     if target.distances[to as usize].is_none() {
         return Ok(None);
     }
-    let Some(number) = union.graph.edge(target.class, to) else {
+    let Some(number) = union.graph().edge(target.class, to) else {
         return Ok(None);
     };
     let via = if to == target.class {
@@ -120,9 +118,9 @@ fn cycle_row<'a>(
         via
     };
     Ok(Some(CycleRow {
-        from: union.classes.name(target.class),
-        to: union.classes.name(to),
-        at: union.dependencies[number as usize].first,
+        from: union.classes().name(target.class),
+        to: union.classes().name(to),
+        at: union.dependencies()[number as usize].first,
         via,
     }))
 }

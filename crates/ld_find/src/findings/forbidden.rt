@@ -1,5 +1,5 @@
 //! The forbidden walks.
-ghost use Rattle.std.specs.Prelude.{false, ℕ, ◌≡◌, ◌<◌, IfOk, List, MatchOption, length, map};
+ghost use Rattle.std.specs.Prelude.{◌≡◌, ◌<◌, IfOk, List, MatchOption, length, map};
 ghost use Rattle.ld_trace.specs.Sources.{PlainSource};
 ghost use Rattle.ld_facts.specs.Union.{dependency_witness, use_witness};
 ghost use Rattle.ld_facts.specs.Usage.Bit.{On};
@@ -7,7 +7,7 @@ ghost use Rattle.ld_find.specs.Findings.{AreForbiddenRows, plain_forbidden_row};
 ghost use Rattle.ld_find.specs.Inner.Order.{IsOrder, name_of};
 ghost use Rattle.ld_find.specs.Inner.Rows.{AreDistances, AreForbiddenRowsOf, AreTurnedRows};
 ghost use Rattle.ld_find.specs.Inner.Rows.{AreTurnedRowsOf, IsNoted, IsOfEach, IsTurnedRowOf};
-ghost use Rattle.ld_union.specs.Inner.Union.{AreUsed, AreWitnessed, HasRows, IsNumbered};
+ghost use Rattle.ld_union.specs.Inner.Union.{Shows};
 ghost use Rattle.ld_find.specs.Violations.{IsForbidden};
 
 use crate::alarms::{Found, in_bit, on_bit};
@@ -49,18 +49,14 @@ pub(crate) fn forbidden_rows<'a>(
     order: &Order,
     found: &Found,
 ) -> Result<Vec<ForbiddenRow<'a>>, AllocError>
-    requires numbered { IsNumbered union.now }
-    requires rows { HasRows union.now }
     requires order { IsOrder union.now.classes order.now.numbers.items order.now.places.items }
     ensures { IfOk result (λ rows. (sources : List PlainSource)
-        → AreWitnessed union.now.classes union.now.dependencies.items (dependency_witness sources)
-        → AreUsed union.now.classes union.now.usage.items (use_witness sources)
+        → Shows sources union.now
         → IsOfEach sources found.now
         → AreForbiddenRows sources (map plain_forbidden_row rows.items)) }
 {
-    let [hard_walk, soft_walk] = found.forbidden;
-    let mut rows = forbidden_of(alloc, union, order, State::Hard, hard_walk.is_some())?;
-    let mut soft = forbidden_of(alloc, union, order, State::Soft, soft_walk.is_some())?;
+    let mut rows = forbidden_of(alloc, union, order, State::Hard, found)?;
+    let mut soft = forbidden_of(alloc, union, order, State::Soft, found)?;
     rows.append(&mut soft)?;
     Ok(rows)
 }
@@ -71,18 +67,15 @@ fn forbidden_of<'a>(
     union: &Union<'a>,
     order: &Order,
     state: State,
-    found: bool,
+    found: &Found,
 ) -> Result<Vec<ForbiddenRow<'a>>, AllocError>
-    requires numbered { IsNumbered union.now }
-    requires rows { HasRows union.now }
     requires order { IsOrder union.now.classes order.now.numbers.items order.now.places.items }
     ensures { IfOk result (λ rows. (sources : List PlainSource)
-        → AreWitnessed union.now.classes union.now.dependencies.items (dependency_witness sources)
-        → AreUsed union.now.classes union.now.usage.items (use_witness sources)
-        → (found ≡ false → (a b : List ℕ) → ¬ IsForbidden sources state a b)
+        → Shows sources union.now
+        → IsOfEach sources found.now
         → AreForbiddenRowsOf sources (λ p. p.0 ≡ state) (map plain_forbidden_row rows.items)) }
 {
-    if !found {
+    if found.forbidden.get(state).is_none() {
         return Ok(Vec::new(alloc));
     }
     let mut rows = forbidden_by_end(alloc, union, order, state)?;
@@ -97,12 +90,9 @@ fn forbidden_by_end<'a>(
     order: &Order,
     state: State,
 ) -> Result<Vec<ForbiddenRow<'a>>, AllocError>
-    requires numbered { IsNumbered union.now }
-    requires rows { HasRows union.now }
     requires order { IsOrder union.now.classes order.now.numbers.items order.now.places.items }
     ensures { IfOk result (λ rows. (sources : List PlainSource)
-        → AreWitnessed union.now.classes union.now.dependencies.items (dependency_witness sources)
-        → AreUsed union.now.classes union.now.usage.items (use_witness sources)
+        → Shows sources union.now
         → AreTurnedRows sources state (map plain_forbidden_row rows.items)) }
 {
     let mut rows = Vec::new(alloc);
@@ -121,13 +111,10 @@ fn forbidden_to<'a>(
     state: State,
     to: u32,
 ) -> Result<Vec<ForbiddenRow<'a>>, AllocError>
-    requires numbered { IsNumbered union.now }
-    requires rows { HasRows union.now }
     requires order { IsOrder union.now.classes order.now.numbers.items order.now.places.items }
     requires to { to < length union.now.classes }
     ensures { IfOk result (λ rows. (sources : List PlainSource)
-        → AreWitnessed union.now.classes union.now.dependencies.items (dependency_witness sources)
-        → AreUsed union.now.classes union.now.usage.items (use_witness sources)
+        → Shows sources union.now
         → AreTurnedRowsOf sources state (λ p. p.0 ≡ name_of union.now.classes to)
         (map plain_forbidden_row rows.items)) }
 {
@@ -135,7 +122,7 @@ fn forbidden_to<'a>(
     let Some(held) = noted(union, to, on_bit(state)) else {
         return Ok(rows);
     };
-    let target = Target::new(alloc, &union.graph, to)?;
+    let target = Target::new(alloc, union, to)?;
     for from in &order.numbers {
         if let Some(row) = forbidden_row(alloc, union, order, &target, held, state, *from)? {
             rows.push(row)?;
@@ -155,19 +142,16 @@ fn forbidden_row<'a>(
     state: State,
     from: u32,
 ) -> Result<Option<ForbiddenRow<'a>>, AllocError>
-    requires numbered { IsNumbered union.now }
-    requires rows { HasRows union.now }
     requires order { IsOrder union.now.classes order.now.numbers.items order.now.places.items }
     requires class { target.now.class < length union.now.classes }
-    requires distances { AreDistances union.now.graph target.now.class target.now.distances.items }
+    requires distances { AreDistances union.now target.now.class target.now.distances.items }
     requires held { (sources : List PlainSource)
-        → AreUsed union.now.classes union.now.usage.items (use_witness sources)
+        → Shows sources union.now
         → IsNoted sources (name_of union.now.classes target.now.class) (On state)
         held.name.now held.marks held.at }
     requires from { from < length union.now.classes }
     ensures { IfOk result (λ row. (sources : List PlainSource)
-        → AreWitnessed union.now.classes union.now.dependencies.items (dependency_witness sources)
-        → AreUsed union.now.classes union.now.usage.items (use_witness sources)
+        → Shows sources union.now
         → MatchOption row
         (¬ IsForbidden sources state (name_of union.now.classes from)
         (name_of union.now.classes target.now.class))

@@ -5,7 +5,7 @@ ghost use Rattle.ld_facts.specs.Union.{use_witness};
 ghost use Rattle.ld_facts.specs.Usage.{Bit, IsBit, bit_of};
 ghost use Rattle.ld_find.specs.Inner.Order.{name_of};
 ghost use Rattle.ld_find.specs.Inner.Rows.{IsNoted};
-ghost use Rattle.ld_union.specs.Inner.Union.{AreUsed, HasRows};
+ghost use Rattle.ld_union.specs.Inner.Union.{Shows};
 ghost use Rattle.ld_find.specs.Violations.{HasBit};
 
 use ld_class::Usage;
@@ -24,18 +24,17 @@ pub(crate) struct UsedClass<'a> {
 
 /// What the rows say of a class that has the bit, or `None` where it doesn't have it.
 pub(crate) fn noted<'a>(union: &Union<'a>, class: u32, bit: Usage) -> Option<UsedClass<'a>>
-    requires rows { HasRows union.now }
     requires class { class < length union.now.classes }
     requires bit { IsBit bit }
     ensures { (sources : List PlainSource)
-        → AreUsed union.now.classes union.now.usage.items (use_witness sources)
+        → Shows sources union.now
         → MatchOption result (¬ HasBit sources (name_of union.now.classes class) (bit_of bit))
         (λ n. IsNoted sources (name_of union.now.classes class) (bit_of bit)
         n.name.now n.marks n.at) }
 {
-    let usage = &union.usage[class as usize];
+    let usage = &union.usage()[class as usize];
     Some(UsedClass {
-        name: union.classes.name(class),
+        name: union.classes().name(class),
         marks: usage.bits.marks(),
         at: usage.witness(bit)?,
     })

@@ -7,12 +7,11 @@ ghost use Rattle.ld_facts.specs.Union.{dependency_witness};
 ghost use Rattle.ld_find.specs.Findings.{IsShown, plain_names};
 ghost use Rattle.ld_find.specs.Inner.Order.{IsOrder, name_of};
 ghost use Rattle.ld_find.specs.Inner.Rows.{AreDistances};
-ghost use Rattle.ld_union.specs.Inner.Union.{AreWitnessed, IsNumbered};
+ghost use Rattle.ld_union.specs.Inner.Union.{Shows, edges_of};
 
 use crate::order::Order;
 use crate::rows::Rows;
 use ld_class::Classes;
-use ld_graph::Graph;
 use ld_union::Union;
 use std::alloc::{AllocError, Global};
 
@@ -25,13 +24,13 @@ pub(crate) struct Target {
 
 impl Target {
     /// Searches for the walks to the class.
-    pub(crate) fn new(alloc: Global, graph: &Graph, class: u32) -> Result<Target, AllocError>
-        requires { class < graph.now.classes }
+    pub(crate) fn new(alloc: Global, union: &Union<'_>, class: u32) -> Result<Target, AllocError>
+        requires { class < length union.now.classes }
         ensures class { IfOk result (λ target. target.class ≡ class) }
         ensures distances { IfOk result (λ target.
-            AreDistances graph.now class target.distances.items) }
+            AreDistances union.now class target.distances.items) }
     {
-        let distances = graph.distances(alloc, class)?;
+        let distances = union.graph().distances(alloc, class)?;
         Ok(Target { class, distances })
     }
 }
@@ -44,23 +43,28 @@ pub(crate) fn walk_names<'a>(
     target: &Target,
     from: u32,
 ) -> Result<Option<Rows<&'a [u8]>>, AllocError>
-    requires numbered { IsNumbered union.now }
     requires order { IsOrder union.now.classes order.now.numbers.items order.now.places.items }
     requires class { target.now.class < length union.now.classes }
-    requires distances { AreDistances union.now.graph target.now.class target.now.distances.items }
+    requires distances { AreDistances union.now target.now.class target.now.distances.items }
     requires from { from < length union.now.classes }
     ensures { IfOk result (λ via. MatchOption via
-        (¬ HasWalk (IsEdge union.now.graph.edges) from target.now.class)
+        (¬ HasWalk (IsEdge (edges_of union.now.dependencies)) from target.now.class)
         (λ names. (sources : List PlainSource)
-        → AreWitnessed union.now.classes union.now.dependencies.items (dependency_witness sources)
+        → Shows sources union.now
         → IsShown sources (name_of union.now.classes from)
         (name_of union.now.classes target.now.class) (plain_names names))) }
 {
-    let walk = union.graph.walk_along(alloc, from, target.class, &target.distances, &order.places)?;
+    let walk = union.graph().walk_along(
+        alloc,
+        from,
+        target.class,
+        &target.distances,
+        &order.places,
+    )?;
     let Some(walk) = walk else {
         return Ok(None);
     };
-    let names = names_of(alloc, &union.classes, &walk)?;
+    let names = names_of(alloc, union.classes(), &walk)?;
     Ok(Some(Rows::from(names)))
 }
 

@@ -1,16 +1,19 @@
 -- What is kept of some traces, with numbers for their classes. No contract of a `Book` cites this file.
-use Rattle.std.specs.Prelude.{◌≡◌, ◌≢◌, ℕ, ◌+◌, ◌<◌, ◌≤◌, List, length, map, slice_index_or, [], All, AllPairs, Any, Option, Some, None, IsSome, option_map, if◌then◌else◌, vec_len, vec_capacity}
+use Rattle.std.specs.Prelude.{◌≡◌, ◌≢◌, ℕ, ◌<◌, ◌≤◌, ◌++◌, List, flat_map, length, map, slice_index_or, [], All, AllPairs, Any, Option, Some, None, IsSome, option_map, MatchOption, if◌then◌else◌}
 use Rattle.std.specs.Option.{is_some}
+use Rattle.ld_class.specs.declared.names.TheConstants.{MAX_NAMES}
 use Rattle.ld_class.specs.Names.{AreDistinct, place_of}
+use Rattle.ld_trace.specs.Sources.{PlainSource}
 use Rattle.ld_graph.specs.declared.Edge.{Edge}
-use Rattle.ld_graph.specs.Edges.{Seen}
+use Rattle.ld_graph.specs.Edges as graphs
+use Rattle.ld_graph.specs.Walks.{HasWalk}
 use Rattle.ld_rules.specs.declared.outcome.Witness.{Witness}
-use Rattle.ld_facts.specs.Dependency.{Dependency, same_dependency}
-use Rattle.ld_facts.specs.Union.{earlier}
-use Rattle.ld_facts.specs.Usage.{Bit, Use, same_bit}
-use Rattle.ld_union.specs.declared.union.Union.{Union}
-use Rattle.ld_union.specs.declared.union.Witnessed.{Witnessed}
+use Rattle.ld_facts.specs.Dependency.{Dependency, Seen, least_line, same_dependency}
+use Rattle.ld_facts.specs.Union.{classes_of, dependency_witness, earlier, union_classes, use_witness}
+use Rattle.ld_facts.specs.Usage.{Bit, Use, same_bit, same_use}
+use Rattle.ld_union.specs.declared.dependencies.Witnessed.{Witnessed}
 use Rattle.ld_union.specs.declared.usage.UsageRow.{UsageRow}
+use Rattle.ld_union.specs.Inner.Names.{IsLonger}
 use Rattle.ld_union.specs.Usage.{row_of}
 
 -- the dependency that an edge stands for
@@ -32,28 +35,31 @@ pub record AreWitnessed (classes : List (List ℕ)) (rows : List Witnessed) (fir
   pub each : All (λ r. first (named_edge classes r.edge) ≡ Some r.first) rows
   pub all : (what : Dependency) → IsSome (first what) → Any (λ r. named_edge classes r.edge ≡ what) rows
 
--- Numbers stand for the classes, and the rows are the edges of the graph, by their numbers.
-pub record AreNumbered (classes : List (List ℕ)) (graph : Seen) (rows : List Witnessed) : Type 0 where
+-- the edges of the rows, by their numbers
+abbrev pub edges_of : List Witnessed → List Edge
+edges_of rows = map (λ r. r.edge) rows
+
+-- Numbers stand for the classes, and each row is an edge between two of them, of which there is no other.
+pub record AreNumbered (classes : List (List ℕ)) (rows : List Witnessed) : Type 0 where
   pub distinct : AreDistinct classes
-  pub count : graph.classes ≡ length classes
-  pub edges : map (λ r. r.edge) rows ≡ graph.edges
-  pub ends : All (λ e. (e.from < length classes) × (e.to < length classes)) graph.edges
-  pub once : AllPairs (λ e f. e ≢ f) graph.edges
+  pub ends : All (λ e. (e.from < length classes) × (e.to < length classes)) (edges_of rows)
+  pub once : AllPairs (λ e f. e ≢ f) (edges_of rows)
 
-abbrev pub IsNumbered : Union → Type 0
-IsNumbered union = AreNumbered union.classes union.graph union.dependencies.items
+-- the first witnesses, where this dependency was seen there too: of each the earlier one
+abbrev pub with_seen : (Dependency → Option Witness) → Dependency → Witness → Dependency → Option Witness
+with_seen first seen witness what = earlier_of (first what) (if same_dependency what seen then Some witness else None)
 
--- there is memory for so many further dependencies
-pub record HasRoom (union : Union) (edges : ℕ) : Type 0 where
-  pub graph : edges ≤ union.graph.spare_edges
-  pub rows : vec_len union.dependencies + edges ≤ vec_capacity union.dependencies
+-- the first witnesses, where a trace of this number shows these dependencies too
+abbrev pub with_dependencies : (Dependency → Option Witness) → ℕ → List (Seen Dependency) → Dependency → Option Witness
+with_dependencies first number shown what = earlier_of (first what) (seen_in number (least_line same_dependency shown what))
 
--- what is kept after one more dependency was seen there: of each dependency the earlier witness
-abbrev pub Notes : Union → Edge → Witness → Union → Type 0
-Notes old edge witness new =
-    (first : Dependency → Option Witness) → AreWitnessed old.classes old.dependencies.items first
-    → AreWitnessed new.classes new.dependencies.items
-    (λ what. earlier_of (first what) (if same_dependency what (named_edge old.classes edge) then Some witness else None))
+-- the first witnesses, where this bit of a class was seen there too
+abbrev pub with_use : (Use → Option Witness) → Use → Witness → Use → Option Witness
+with_use first seen witness what = earlier_of (first what) (if same_use what seen then Some witness else None)
+
+-- the first witnesses, where a trace of this number shows these uses too
+abbrev pub with_uses : (Use → Option Witness) → ℕ → List (Seen Use) → Use → Option Witness
+with_uses first number shown what = earlier_of (first what) (seen_in number (least_line same_use shown what))
 
 -- the first witness of each bit of this class
 abbrev pub of_class : (Use → Option Witness) → List ℕ → Bit → Option Witness
@@ -64,10 +70,6 @@ pub record AreUsed (classes : List (List ℕ)) (rows : List UsageRow) (first : U
   pub each : rows ≡ map (λ class. row_of (of_class first class)) classes
   pub known : (what : Use) → IsSome (first what) → IsSome (place_of classes what.class)
 
--- as many rows as classes
-abbrev pub HasRows : Union → Type 0
-HasRows union = length union.usage.items ≡ length union.classes
-
 -- the row of a class that is one of these
 abbrev pub known_row : List (List ℕ) → (Use → Option Witness) → List ℕ → Option UsageRow
 known_row classes first class = if is_some (place_of classes class) then Some (row_of (of_class first class)) else None
@@ -75,3 +77,48 @@ known_row classes first class = if is_some (place_of classes class) then Some (r
 -- the first witnesses of a class's bits, once this one was seen there
 abbrev pub with_bit : (Bit → Option Witness) → Bit → Witness → Bit → Option Witness
 with_bit first bit witness b = earlier_of (first b) (if same_bit b bit then Some witness else None)
+
+-- A union, without where its names lie in memory: the classes and the edges between them, each in the order
+-- of their numbers, for each class its usage, and the class that was searched from last, if no class or edge
+-- was added since.
+pub record PlainUnion : Type 0 where
+  pub classes : List (List ℕ)
+  pub dependencies : List Witnessed
+  pub usage : List UsageRow
+  pub searched : Option ℕ
+
+-- the edge is there, and a walk leads back from its second class to its first
+abbrev pub IsCycleAt : List Edge → Edge → Type 0
+IsCycleAt edges e = graphs.IsEdge edges e.from e.to × HasWalk (graphs.IsEdge edges) e.to e.from
+
+-- an edge on a cycle, and none exactly where there is no cycle
+abbrev pub IsClosing : List Edge → Option Edge → Type 0
+IsClosing edges closing = MatchOption closing (¬ ((e : Edge) × IsCycleAt edges e)) (IsCycleAt edges)
+
+-- What a union keeps true of its fields: the graph has the classes and the edges, and each class has a row of
+-- usage.
+pub record IsUnion (classes : List (List ℕ)) (graph : graphs.Seen) (dependencies : List Witnessed) (usage : List UsageRow) (closed_by : Option Edge) : Type 0 where
+  pub numbered : AreNumbered classes dependencies
+  pub few : length classes ≤ MAX_NAMES
+  pub count : graph.classes ≡ length classes
+  pub edges : graph.edges ≡ edges_of dependencies
+  pub rows : length usage ≡ length classes
+  pub closing : IsClosing (edges_of dependencies) closed_by
+
+-- The union is what these sources show together. Each union is numbered: it is said here for what knows of a
+-- union no more than this.
+pub record Shows (sources : List PlainSource) (union : PlainUnion) : Type 0 where
+  pub numbered : AreNumbered union.classes union.dependencies
+  pub classes : union.classes ≡ union_classes sources
+  pub witnesses : AreWitnessed union.classes union.dependencies (dependency_witness sources)
+  pub used : AreUsed union.classes union.usage (use_witness sources)
+
+-- Of whatever sources the union showed what they show, it now shows what those and these show. Classes keep
+-- their numbers, and no more came than these have.
+pub record Adds (more : List PlainSource) (old new : PlainUnion) : Type 0 where
+  pub shows : (sources : List PlainSource) → Shows sources old → Shows (sources ++ more) new
+  pub longer : IsLonger old.classes new.classes (length (flat_map classes_of more))
+
+-- the union, but for what was searched from
+abbrev pub searched_union : PlainUnion → Option ℕ → PlainUnion
+searched_union union searched = record union { searched = searched }

@@ -3,17 +3,28 @@
 use super::{CheckFault, check};
 use crate::fakes::Meeting;
 use crate::report::report;
-use crate::streams::{INVERSION, INVERSION_REPORT};
+use crate::streams::{INVERSION, INVERSION_REPORT, THREE_TRACES, THREE_TRACES_REPORT};
 use ld_trace::StreamFault;
 use ld_work::NoGate;
 
 #[test]
 fn two_workers_meet(rt: HostRuntime) {
-    let gate = Meeting::new();
+    let gate = Meeting::of(1);
     let checked = check(&rt, rt.alloc(), INVERSION, 2, &gate).expect(&rt, "a book");
     assert!(rt; gate.met());
     let text = report(rt.alloc(), &checked.book).expect(&rt, "a report");
     assert_eq!(rt; text.as_slice(), INVERSION_REPORT);
+    drop(checked);
+}
+
+// While one worker is held at number 0, the other one reads both other traces.
+#[test]
+fn two_numbers_before_zero(rt: HostRuntime) {
+    let gate = Meeting::of(2);
+    let checked = check(&rt, rt.alloc(), THREE_TRACES, 2, &gate).expect(&rt, "a book");
+    assert!(rt; gate.met());
+    let text = report(rt.alloc(), &checked.book).expect(&rt, "a report");
+    assert_eq!(rt; text.as_slice(), THREE_TRACES_REPORT);
     drop(checked);
 }
 

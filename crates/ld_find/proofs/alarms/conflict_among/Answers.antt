@@ -1,13 +1,17 @@
-use Rattle.std.proofs.Common.{arith, below_more, length, sym, ◌<◌, ◌∙◌}
+use Rattle.std.proofs.Common.{◌∙◌, All, arith, subst, sym}
 use Rattle.std.proofs.lemmas.Bool.{true≢false}
-use Rattle.ld_facts.specs.Usage.Bit.{In}
-use Rattle.ld_find.proofs.NumberLemmas.{row_within}
+use Rattle.std.proofs.lemmas.List.{take_all}
+use Rattle.std.proofs.lemmas.List.Elements.{All-more}
+use Rattle.ld_union.specs.declared.news.NewBit.{NewBit}
+use Rattle.ld_find.specs.Inner.Numbers.{IsConflictAt}
+use Rattle.ld_union.specs.Usage.{bits_of}
 use Rattle.ld_find.proofs.alarms.conflict_among.Goals as goal
 
-pub loop-class-preserved : goal.loop-class-preserved
-loop-class-preserved c = below_more _ _ c.loop-class.invariant (λ conflict. true≢false (sym (c.conflict_at.ensures.1 conflict) ∙ c.if-conflict_at.false))
+pub loop-told-preserved : goal.loop-told-preserved
+loop-told-preserved c =
+    All-more (λ (t : NewBit). ¬ IsConflictAt (bits_of c.args.rows.now) c.args.state t.class) c.args.bits.now c.loop-told.told-index _ c.loop-told-test.true c.loop-told.invariant
+    (λ conflict. true≢false (sym (c.conflict_at.ensures.1 conflict) ∙ c.if-conflict_at.false))
 
 pub returns : goal.returns
-returns c = λ any.
-    let within : any.0 < length c.args.rows.now = row_within c.args.rows.now any.0 (In c.args.state) any.1.0 in
-    c.loop-class.invariant any.0 (omega arith) any.1
+returns c =
+    subst (All (λ (t : NewBit). ¬ IsConflictAt (bits_of c.args.rows.now) c.args.state t.class)) (take_all c.loop-told.told-index c.args.bits.now (omega arith)) c.loop-told.invariant

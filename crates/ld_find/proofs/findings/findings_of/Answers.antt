@@ -3,11 +3,11 @@ use Rattle.ld_find.specs.Findings.{AreConflictRows, AreCycleRows, AreForbiddenRo
 use Rattle.ld_find.specs.Findings.{IsHarder, IsPairBefore, conflict_key, cycle_key, forbidden_key, plain_conflict_row, plain_cycle_row}
 use Rattle.ld_find.specs.Findings.{plain_forbidden_row}
 use Rattle.ld_find.specs.Violations.{IsConflict, IsCycle, IsForbidden}
-use Rattle.ld_find.proofs.RowLemmas.{None_from_is_some, rows-absent}
+use Rattle.ld_find.proofs.RowLemmas.{rows-absent}
 use Rattle.ld_find.proofs.findings.findings_of.Goals as goal
 
 pub returns-then-is_nothing : goal.returns-then-is_nothing
-returns-then-is_nothing c sources witnessed used found =
+returns-then-is_nothing c sources shows found =
     let nothing = c.is_nothing.ensures c.if-is_nothing.true in
     record {
       cycles =
@@ -22,10 +22,10 @@ returns-then-is_nothing c sources witnessed used found =
     }
 
 pub returns : goal.returns
-returns c sources witnessed used found = record {
+returns c sources shows found = record {
   cycles =
       subst (AreCycleRows sources) (sym (ap (map plain_cycle_row) c.from-2.ensures))
-      (c.in_ok-cycles.ensures sources witnessed (λ none. found.cycle (None_from_is_some c.args.found.now.cycle (sym c.is_some.ensures ∙ none))));
-  conflicts = subst (AreConflictRows sources) (sym (ap (map plain_conflict_row) c.from-3.ensures)) (c.in_ok-conflicts.ensures sources used);
-  forbidden = subst (AreForbiddenRows sources) (sym (ap (map plain_forbidden_row) c.from-4.ensures)) (c.in_ok-forbidden.ensures sources witnessed used found);
+      (c.in_ok-cycles.ensures sources shows found);
+  conflicts = subst (AreConflictRows sources) (sym (ap (map plain_conflict_row) c.from-3.ensures)) (c.in_ok-conflicts.ensures sources shows);
+  forbidden = subst (AreForbiddenRows sources) (sym (ap (map plain_forbidden_row) c.from-4.ensures)) (c.in_ok-forbidden.ensures sources shows found);
 }

@@ -1,8 +1,7 @@
-use Rattle.std.proofs.Common.{◌≡◌, Contains, below_more, ◌<◌, ℕ, length, arith, Some, None, subst}
+use Rattle.std.proofs.Common.{◌≡◌, Contains, below_more, ◌<◌, length, arith, Some, None}
 use Rattle.std.proofs.Common.{get_or}
 use Rattle.std.proofs.lemmas.List.{get_or-set_same}
-use Rattle.ld_graph.specs.Inner.Neighbours.{IsNear}
-use Rattle.ld_graph.specs.Inner.Levels.{HasLevel, level_at}
+use Rattle.ld_graph.specs.Inner.Levels.{level_at}
 use Rattle.ld_graph.proofs.SpreadLemmas.{near_all, near_here, Spreads-more, some_is, none_is}
 use Rattle.ld_graph.proofs.SpreadLemmas.{count_marked, kept_marked}
 use Rattle.ld_graph.proofs.levels.expand.Goals as goal
@@ -10,66 +9,61 @@ use Rattle.ld_graph.proofs.levels.expand.Goals.{then-is_none+in-Ok, else-is_none
 
 pub bounds-levels-x : goal.bounds-levels-x
 bounds-levels-x c =
-    let n = c.requires.ends (get_or c.of-near.result.now c.loop-x.x-index 0)
-    (near_here c.args.lists.now.lists c.args.class c.of-near.result.now c.of-near.ensures
-    c.loop-x.x-index c.loop-x-test.true) in
+    let n = c.requires.ends (get_or c.args.near.now c.loop-x.x-index 0)
+    (near_here c.args.near.now c.loop-x.x-index c.loop-x-test.true) in
     let l = c.loop-x.auto.levels in
     omega (arith, n, l)
 
 pub bounds-levels-x-then-is_none : goal.bounds-levels-x-then-is_none
 bounds-levels-x-then-is_none c =
-    let n = c.requires.ends (get_or c.of-near.result.now c.loop-x.x-index 0)
-    (near_here c.args.lists.now.lists c.args.class c.of-near.result.now c.of-near.ensures
-    c.loop-x.x-index c.loop-x-test.true) in
+    let n = c.requires.ends (get_or c.args.near.now c.loop-x.x-index 0)
+    (near_here c.args.near.now c.loop-x.x-index c.loop-x-test.true) in
     let l = c.loop-x.auto.levels in
     omega (arith, n, l)
 
 pub unreachable-requires : goal.unreachable-requires
 unreachable-requires c =
-    let n = c.requires.ends (get_or c.of-near.result.now c.loop-x.x-index 0)
-    (near_here c.args.lists.now.lists c.args.class c.of-near.result.now c.of-near.ensures
-    c.loop-x.x-index c.loop-x-test.true) in
+    let n = c.requires.ends (get_or c.args.near.now c.loop-x.x-index 0)
+    (near_here c.args.near.now c.loop-x.x-index c.loop-x-test.true) in
     let l = c.loop-x.auto.levels in
-    let free : level_at c.loop-x.levels (get_or c.of-near.result.now c.loop-x.x-index 0) ≡ None =
-    none_is (level_at c.loop-x.levels (get_or c.of-near.result.now c.loop-x.x-index 0))
+    let free : level_at c.loop-x.levels (get_or c.args.near.now c.loop-x.x-index 0) ≡ None =
+    none_is (level_at c.loop-x.levels (get_or c.args.near.now c.loop-x.x-index 0))
     c.if-is_none.ensures in
-    let m = count_marked c.loop-x.levels (get_or c.of-near.result.now c.loop-x.x-index 0)
+    let m = count_marked c.loop-x.levels (get_or c.args.near.now c.loop-x.x-index 0)
     c.args.level (omega (arith, n, l)) free in
     let i = c.loop-x.invariant in
     omega (arith, m, i.count, i.capacity, c.requires.room, c.in_default.ensures.full)
 
 pub loop-x-preserved : goal.loop-x-preserved
 loop-x-preserved c =
-    let here = near_here c.args.lists.now.lists c.args.class c.of-near.result.now c.of-near.ensures
-    c.loop-x.x-index c.loop-x-test.true in
-    let n = c.requires.ends (get_or c.of-near.result.now c.loop-x.x-index 0) here in
+    let here = near_here c.args.near.now c.loop-x.x-index c.loop-x-test.true in
+    let n = c.requires.ends (get_or c.args.near.now c.loop-x.x-index 0) here in
     let l = c.loop-x.auto.levels in
-    let within : get_or c.of-near.result.now c.loop-x.x-index 0 < length c.loop-x.levels = omega
+    let within : get_or c.args.near.now c.loop-x.x-index 0 < length c.loop-x.levels = omega
     (arith, n, l) in
     let i = c.loop-x.invariant in
     elim c.if-is_none.branch [
       | then-is_none+in-Ok w ↦
-          let free : level_at c.loop-x.levels (get_or c.of-near.result.now c.loop-x.x-index 0) ≡
-          None = none_is (level_at c.loop-x.levels (get_or c.of-near.result.now c.loop-x.x-index
+          let free : level_at c.loop-x.levels (get_or c.args.near.now c.loop-x.x-index 0) ≡
+          None = none_is (level_at c.loop-x.levels (get_or c.args.near.now c.loop-x.x-index
           0)) w.if-is_none.ensures in
           rw (w.levels-is, w.queue-is) (record {
-            count = let m = count_marked c.loop-x.levels (get_or c.of-near.result.now
+            count = let m = count_marked c.loop-x.levels (get_or c.args.near.now
                 c.loop-x.x-index 0) c.args.level within free
                 in omega (arith, m, i.count, w.in-Ok.ensures.len);
             capacity = omega (arith, i.capacity, w.in-Ok.ensures.capacity);
-            spread = rw w.in-Ok.ensures.items (Spreads-more (IsNear c.args.lists.now.lists
-                c.args.class) c.args.level c.args.levels.now c.args.queue.now.items
-                c.loop-x.levels c.loop-x.queue.items i.spread (get_or c.of-near.result.now
+            spread = rw w.in-Ok.ensures.items (Spreads-more (Contains c.args.near.now) c.args.level c.args.levels.now c.args.queue.now.items
+                c.loop-x.levels c.loop-x.queue.items i.spread (get_or c.args.near.now
                 c.loop-x.x-index 0) here within free);
             reached = below_more _ _
                 (λ k b. let r = i.reached k b in (
                   r.0,
                   kept_marked c.loop-x.levels (get_or
-                      c.of-near.result.now c.loop-x.x-index 0) c.args.level free (get_or
-                      c.of-near.result.now k 0) r.0 r.1,
+                      c.args.near.now c.loop-x.x-index 0) c.args.level free (get_or
+                      c.args.near.now k 0) r.0 r.1,
                 )) (
                   c.args.level,
-                  get_or-set_same c.loop-x.levels (get_or c.of-near.result.now
+                  get_or-set_same c.loop-x.levels (get_or c.args.near.now
                       c.loop-x.x-index 0) (Some c.args.level) None within,
                 );
           })
@@ -79,12 +73,11 @@ loop-x-preserved c =
             capacity = i.capacity;
             spread = i.spread;
             reached = below_more _ _ i.reached (some_is (level_at c.loop-x.levels (get_or
-                c.of-near.result.now c.loop-x.x-index 0)) w.if-is_none.ensures);
+                c.args.near.now c.loop-x.x-index 0)) w.if-is_none.ensures);
           })
     ]
 
 pub returns-clause-reached : goal.returns-clause-reached
 returns-clause-reached c =
-    subst (λ near. (x : ℕ) → Contains near x → HasLevel c.loop-x.levels x) c.of-near.ensures
-    (near_all c.of-near.result.now c.loop-x.levels c.loop-x.x-index (omega arith)
-    c.loop-x.invariant.reached)
+    near_all c.args.near.now c.loop-x.levels c.loop-x.x-index (omega arith)
+    c.loop-x.invariant.reached

@@ -1,41 +1,42 @@
 use Rattle.std.proofs.Common.{◌≡◌, ◌-◌, ℕ, Contains, Some, arith, subst}
 use Rattle.ld_graph.specs.Inner.Levels.{IsLeast, level_at}
-use Rattle.ld_graph.specs.Inner.Neighbours.{IsNear}
+use Rattle.ld_graph.specs.Lists.{IsNear}
 use Rattle.ld_graph.proofs.ShownLemmas.{next_there, next_distance, next_shown}
 use Rattle.ld_graph.proofs.shown.show.Goals as goal
 
 pub nearest-requires-clause-levels : goal.nearest-requires-clause-levels
 nearest-requires-clause-levels c = λ x h.
-    let e = c.requires.ends c.loop-left.last x (subst (λ n. Contains n x) c.of.ensures h)
+    let e = c.requires.ends c.loop-left.last x (subst (λ n. Contains n x) c.after.ensures.near h)
     in omega (arith, e, c.requires.levels)
 
 pub nearest-requires-clause-places : goal.nearest-requires-clause-places
 nearest-requires-clause-places c = λ x h.
-    let e = c.requires.ends c.loop-left.last x (subst (λ n. Contains n x) c.of.ensures h)
+    let e = c.requires.ends c.loop-left.last x (subst (λ n. Contains n x) c.after.ensures.near h)
     in omega (arith, e, c.requires.places)
 
 pub unreachable-requires : goal.unreachable-requires
 unreachable-requires c =
-    next_there c.args.lists.now.lists c.args.places.now c.args.levels.now c.args.b
+    next_there c.args.lists.now.after.lists c.args.places.now c.args.levels.now c.args.b
     c.requires.distances c.loop-left.last c.loop-left.left c.loop-left-test.true
     c.loop-left.invariant.distance
     (subst (λ n. (x : ℕ) → Contains n x → level_at c.args.levels.now x ≡ Some (c.loop-left.left - 1)
-    → ⊥) c.of.ensures c.in_default.ensures)
+    → ⊥) c.after.ensures.near c.in_default.ensures)
 
 pub loop-left-preserved : goal.loop-left-preserved
 loop-left-preserved c =
-    let least : IsLeast (IsNear c.args.lists.now.lists c.loop-left.last) (c.loop-left.left - 1)
+    let least : IsLeast (IsNear c.args.lists.now.after.lists c.loop-left.last) (c.loop-left.left - 1)
     c.args.levels.now c.args.places.now c.in-Some.near =
     subst (λ n. IsLeast (Contains n) (c.loop-left.left - 1) c.args.levels.now c.args.places.now
-    c.in-Some.near) c.of.ensures c.in-Some.ensures in
+    c.in-Some.near) c.after.ensures.near c.in-Some.ensures in
     record {
       within = c.requires.ends c.loop-left.last c.in-Some.near least.is_near;
       some = omega arith;
-      distance = next_distance c.args.lists.now.lists c.args.places.now c.args.levels.now c.args.b
+      steps = omega arith;
+      distance = next_distance c.args.lists.now.after.lists c.args.places.now c.args.levels.now c.args.b
           c.requires.distances c.loop-left.last c.loop-left.left c.loop-left-test.true
           c.loop-left.invariant.distance c.in-Some.near least;
       shown = rw c.in_ok-push-2.ensures.items
-          (next_shown c.args.lists.now.lists c.args.places.now c.args.levels.now c.args.b
+          (next_shown c.args.lists.now.after.lists c.args.places.now c.args.levels.now c.args.b
           c.requires.distances c.loop-left.last c.loop-left.left c.loop-left-test.true
           c.loop-left.invariant.distance c.in-Some.near least c.args.a c.loop-left.walk.items
           c.loop-left.invariant.shown);

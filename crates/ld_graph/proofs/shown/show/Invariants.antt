@@ -1,16 +1,17 @@
-use Rattle.std.proofs.Common.{◌<◌, ◌≤◌, ℕ, List, ◌++◌, length}
+use Rattle.std.proofs.Common.{◌≡◌, ◌+◌, ◌<◌, ◌≤◌, ℕ, List, ◌++◌, length}
 use Rattle.ld_graph.specs.Edges.{ComesBefore}
-use Rattle.ld_graph.specs.Inner.Neighbours.{IsNear}
+use Rattle.ld_graph.specs.Lists.{IsNear}
 use Rattle.ld_graph.specs.Walks.{IsDistance, ShownFrom, IsShownWalk}
 use Rattle.ld_graph.proofs.shown.show.Given as goal
 
 abbrev pub invariant-loop-left : goal.invariant-loop-left
 invariant-loop-left l = record {
-  within : l.last < length l.lists.lists;
+  within : l.last < length l.lists.after.lists;
   some : 1 ≤ l.left;
-  distance : IsDistance (IsNear l.lists.lists) l.last l.b l.left;
-  shown : (rest : List ℕ) → ShownFrom (IsNear l.lists.lists) (ComesBefore l.places) l.last l.b rest
-      → IsShownWalk (IsNear l.lists.lists) (ComesBefore l.places) l.a l.b (l.walk.items ++ rest);
+  steps : l.steps + l.left ≡ l.distance;
+  distance : IsDistance (IsNear l.lists.after.lists) l.last l.b l.left;
+  shown : (rest : List ℕ) → ShownFrom (IsNear l.lists.after.lists) (ComesBefore l.places) l.last l.b rest
+      → IsShownWalk (IsNear l.lists.after.lists) (ComesBefore l.places) l.a l.b (l.walk.items ++ rest);
 }
 
 abbrev pub decreases-loop-left : goal.decreases-loop-left

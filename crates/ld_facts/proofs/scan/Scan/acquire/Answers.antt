@@ -3,13 +3,13 @@ use Rattle.std.proofs.lemmas.Result.{err_from_is_err_and}
 use Rattle.ld_trace.specs.Events.{plain_lock}
 use Rattle.ld_facts.specs.declared.scan.Stop.TheVariants.{Fault}
 use Rattle.ld_facts.proofs.TaskLemmas.{acquisition_too_many_tasks}
-use Rattle.std.proofs.Common.{◌≤◌, None, List, ℕ, length, get_or, subst, arith, ◌++◌, ◌∷◌, []}
+use Rattle.std.proofs.Common.{◌<◌, ◌≤◌, None, List, ℕ, length, get_or, subst, arith, ◌++◌, ◌∷◌, []}
 use Rattle.std.proofs.lemmas.List.{length-map}
 use Rattle.ld_class.specs.Names.{place_of}
 use Rattle.ld_trace.specs.Events.PlainEvent.{Acquire, Try}
 use Rattle.ld_rules.specs.declared.fault.TraceFault.TheVariants.{TooDeep}
 use Rattle.ld_held.specs.declared.held.Held.{Held}
-use Rattle.ld_rules.specs.declared.outcome.TheConstants.{MOST_CLASSES}
+use Rattle.ld_rules.specs.declared.outcome.TheConstants.{MOST_CLASSES, MOST_HELD}
 use Rattle.ld_facts.specs.declared.scan.Scan.{Scan}
 use Rattle.ld_held.specs.Inner.Locks.{hold_of}
 use Rattle.ld_facts.specs.Inner.Reading.{IsAt, acquisition, happens, taken}
@@ -51,24 +51,21 @@ returns-then-held-ge-MOST_HELD-clause-fault c fault is all is_at =
 
 pub returns-clause-ok : goal.returns-clause-ok
 returns-clause-ok c all is_at =
-    subst (IsAt (all ++ happens c.args.line (acquisition c.args.how c.args.task.now (plain_lock c.args.lock)) ∷ [])) (sym c.in_ok-take.ensures)
+    let id = c.in_ok-task.task in
+    let class = c.in_ok-class.class in
+    let lock = plain_lock c.args.lock in
+    let enters = entered c.args.self.now c.task.new.self c.class.new.self c.args.task.now c.args.lock.class.now id class
+    c.in_ok-task.ensures.task c.class.ensures.others c.in_ok-class.ensures.classes c.in_ok-class.ensures.place c.in_ok-class.ensures.fits in
+    let shallow : length (get_or c.class.new.self.locks.stacks id []) < MOST_HELD =
+    omega (arith, ap length (sym c.held.ensures), length-map c.held.result.now (λ (held : Held). hold_of (plain_held held)), c.if-held-ge-MOST_HELD.false) in
+    subst (IsAt (all ++ happens c.args.line (acquisition c.args.how c.args.task.now lock) ∷ [])) (sym c.in_ok-take.ensures)
     (elim c.match-how.branch [
       | in-Waiting+in_ok-wait-in-Waiting w ↦
-          subst (λ how. IsAt (all ++ happens c.args.line (acquisition how c.args.task.now (plain_lock c.args.lock)) ∷ [])
-          (taken c.match-how.self c.in_ok-task.task c.in_ok-class.class (plain_lock c.args.lock) c.args.line)) (sym w.in-Waiting.is)
-          (subst (λ (scan : Scan). IsAt (all ++ happens c.args.line (Acquire c.args.task.now (plain_lock c.args.lock)) ∷ [])
-          (taken scan c.in_ok-task.task c.in_ok-class.class (plain_lock c.args.lock) c.args.line)) (sym (w.self-is ∙ w.in_ok-wait-in-Waiting.ensures))
-          (acquired-at all c.args.self.now is_at c.args.task.now (plain_lock c.args.lock) c.args.line c.in_ok-task.task c.in_ok-class.class c.class.new.self
-          (entered c.args.self.now c.task.new.self c.class.new.self c.args.task.now c.args.lock.class.now c.in_ok-task.task c.in_ok-class.class
-          c.in_ok-task.ensures.task c.class.ensures.others c.in_ok-class.ensures.classes c.in_ok-class.ensures.place c.in_ok-class.ensures.fits)
-          (omega (arith, ap length (sym c.held.ensures), length-map c.held.result.now (λ (held : Held). hold_of (plain_held held)), c.if-held-ge-MOST_HELD.false))))
+          subst (λ how. IsAt (all ++ happens c.args.line (acquisition how c.args.task.now lock) ∷ []) (taken c.match-how.self id class lock c.args.line)) (sym w.in-Waiting.is)
+          (subst (λ (scan : Scan). IsAt (all ++ happens c.args.line (Acquire c.args.task.now lock) ∷ []) (taken scan id class lock c.args.line)) (sym (w.self-is ∙ w.in_ok-wait-in-Waiting.ensures))
+          (acquired-at all c.args.self.now is_at c.args.task.now lock c.args.line id class c.class.new.self enters shallow))
       | in-Trying w ↦
-          subst (λ how. IsAt (all ++ happens c.args.line (acquisition how c.args.task.now (plain_lock c.args.lock)) ∷ [])
-          (taken c.match-how.self c.in_ok-task.task c.in_ok-class.class (plain_lock c.args.lock) c.args.line)) (sym w.in-Trying.is)
-          (subst (λ (scan : Scan). IsAt (all ++ happens c.args.line (Try c.args.task.now (plain_lock c.args.lock)) ∷ [])
-          (taken scan c.in_ok-task.task c.in_ok-class.class (plain_lock c.args.lock) c.args.line)) (sym w.self-is)
-          (tried-at all c.args.self.now is_at c.args.task.now (plain_lock c.args.lock) c.args.line c.in_ok-task.task c.in_ok-class.class c.class.new.self
-          (entered c.args.self.now c.task.new.self c.class.new.self c.args.task.now c.args.lock.class.now c.in_ok-task.task c.in_ok-class.class
-          c.in_ok-task.ensures.task c.class.ensures.others c.in_ok-class.ensures.classes c.in_ok-class.ensures.place c.in_ok-class.ensures.fits)
-          (omega (arith, ap length (sym c.held.ensures), length-map c.held.result.now (λ (held : Held). hold_of (plain_held held)), c.if-held-ge-MOST_HELD.false))))
+          subst (λ how. IsAt (all ++ happens c.args.line (acquisition how c.args.task.now lock) ∷ []) (taken c.match-how.self id class lock c.args.line)) (sym w.in-Trying.is)
+          (subst (λ (scan : Scan). IsAt (all ++ happens c.args.line (Try c.args.task.now lock) ∷ []) (taken scan id class lock c.args.line)) (sym w.self-is)
+          (tried-at all c.args.self.now is_at c.args.task.now lock c.args.line id class c.class.new.self enters shallow))
     ])

@@ -1,78 +1,77 @@
-use Rattle.std.proofs.Common.{arith, ◌≡◌, ◌≤◌, ◌∷◌, ◌∙◌, [], None, List, ap, false, get_or, length, sym, subst}
-use Rattle.std.proofs.lemmas.Bool.{ltb-false}
-use Rattle.std.proofs.lemmas.List.{length-take-le}
+use Rattle.std.proofs.Common.{◌≡◌, ◌≤◌, ◌∙◌, List, Option, ap, arith, length, subst, sym, take}
+use Rattle.ld_class.specs.declared.usage.Usage.{Usage}
 use Rattle.ld_graph.specs.declared.Edge.{Edge}
-use Rattle.ld_graph.specs.Edges.{Seen}
 use Rattle.ld_trace.specs.declared.event.State.{State}
 use Rattle.ld_trace.specs.declared.event.State.TheVariants.{Hard, Soft}
-use Rattle.ld_find.specs.declared.alarms.Forbidden.{Forbidden}
 use Rattle.ld_union.specs.declared.usage.UsageRow.{UsageRow}
-use Rattle.ld_find.specs.Alarms.{IsExact, state_place}
-use Rattle.ld_find.specs.Inner.Numbers.{AreRowsOf, BitsGrow, EdgesGrow, IsConflictAt, IsForbiddenAt}
+use Rattle.ld_union.specs.Inner.News.{TellsBits}
+use Rattle.ld_union.specs.Inner.Union.{PlainUnion, edges_of, searched_union}
 use Rattle.ld_union.specs.Usage.{bits_of}
-use Rattle.ld_find.proofs.FoundLemmas.{bits_grow, edges_grow, rows_of_graph}
+use Rattle.ld_find.specs.declared.alarms.Forbidden.{Forbidden}
+use Rattle.ld_find.specs.Alarms.{IsExact}
+use Rattle.ld_find.specs.Inner.Numbers.{BitsGrow, EdgesGrow, IsConflictAt, IsForbiddenAt, of_state}
+use Rattle.ld_find.proofs.FoundLemmas.{bits_back, edges_back, edges_kept, found_same}
 use Rattle.ld_union.proofs.UnionLemmas.{length_rows}
 use Rattle.ld_find.proofs.alarms.Found.look.Goals as goal
-use Rattle.ld_find.proofs.alarms.Found.look.Goals.{else-edges_came, then-edges_came}
 
-pub cycle_then-self-requires-clause-ends : goal.cycle_then-self-requires-clause-ends
-cycle_then-self-requires-clause-ends c =
+pub returns-then-is_nothing_new-clause-found : goal.returns-then-is_nothing_new-clause-found
+returns-then-is_nothing_new-clause-found c = λ old tells are.
     let union = c.args.union.now in
-    subst (AreRowsOf union.graph) (sym c.as_slice-rows.ensures.value) (rows_of_graph union.classes union.graph union.dependencies.items c.requires.numbered)
+    let news = c.args.news.now in
+    let all = edges_of union.dependencies in
+    let none = c.if-is_nothing_new.true in
+    let past : length all ≤ news.first_edge = omega (arith, c.is_nothing_new.ensures.edges none, length_rows union.dependencies) in
+    found_same (edges_of old.dependencies) all (bits_of old.usage) (bits_of union.usage)
+    (edges_kept (edges_of old.dependencies) all news.first_edge tells.front) (edges_back (edges_of old.dependencies) all news.first_edge tells.front past)
+    tells.bits.kept (bits_back (bits_of old.usage) (bits_of union.usage) news.bits tells.bits (c.is_nothing_new.ensures.bits none)) c.args.self.now are
+
+-- what a look for a forbidden walk says of a union
+abbrev Looked : State → Option Forbidden → Option Forbidden → PlainUnion → Type 0
+Looked state before found union = (edges : List Edge) (usage : List Usage) → EdgesGrow edges (edges_of union.dependencies) → BitsGrow usage (bits_of union.usage)
+    → IsExact (λ (w : Forbidden). IsForbiddenAt edges usage state w.from w.to) before
+    → IsExact (λ (w : Forbidden). IsForbiddenAt (edges_of union.dependencies) (bits_of union.usage) state w.from w.to) found
 
 pub returns-clause-found : goal.returns-clause-found
-returns-clause-found c edges usage front grow found = record {
-  cycle = c.cycle_then-self.ensures.found edges (ap length (sym front) ∙ length-take-le c.args.known all c.requires.known) front found.cycle;
-  conflict = λ state. subst (λ rows. IsExact (IsConflictAt (bits_of rows) state)
-      (get_or (c.conflict_then.result ∷ c.conflict_then-2.result ∷ []) (state_place state) None)) same_usage (conflict state);
-  forbidden = λ state. subst (λ rows. IsExact (λ (f : Forbidden). IsForbiddenAt all (bits_of rows) state f.from f.to)
-      (get_or (c.forbidden_then.result ∷ c.forbidden_then-2.result ∷ []) (state_place state) None)) same_usage (forbidden state);
+returns-clause-found c = λ old tells are. record {
+  cycle = c.closing-self.ensures;
+  conflict = λ state. conflict (bits_of old.usage) tells.bits are.conflict state;
+  forbidden = λ state. forbidden (edges_of old.dependencies) (bits_of old.usage)
+      (edges_kept (edges_of old.dependencies) all c.args.news.now.first_edge tells.front) tells.bits.kept are.forbidden state;
 }
   where
+    union : PlainUnion
+    union = c.args.union.now
+
     all : List Edge
-    all = c.args.union.now.graph.edges
+    all = edges_of c.args.union.now.dependencies
 
-    rows : List UsageRow
-    rows = c.as_slice-usage.result.now
+    usage : c.usage.result.now ≡ c.args.union.now.usage
+    usage = c.usage.ensures.same
 
-    same_usage : rows ≡ c.args.union.now.usage.items
-    same_usage = c.as_slice-usage.ensures.value
+    usage_again : c.usage-2.result.now ≡ c.args.union.now.usage
+    usage_again = c.usage-2.ensures.same
 
-    same_rows : length c.args.union.now.dependencies.items ≡ length all
-    same_rows = length_rows c.args.union.now.classes c.args.union.now.graph c.args.union.now.dependencies.items c.requires.numbered
+    tells_of : (before : List Usage) (rows : List UsageRow) → rows ≡ c.args.union.now.usage → TellsBits before (bits_of c.args.union.now.usage) c.args.news.now.bits
+        → TellsBits before (bits_of rows) c.bits-bits.result.now
+    tells_of before rows same tells = subst (λ rs. TellsBits before (bits_of rs) c.bits-bits.result.now) (sym same)
+        (subst (TellsBits before (bits_of c.args.union.now.usage)) (sym c.bits-bits.ensures) tells)
 
-    none : c.if-edges_came.came ≡ false → (c.args.bits_came ≡ false) × (length all ≤ c.args.known)
-    none nothing = elim c.if-edges_came.branch [
-      | then-edges_came w ↦
-          let past = ltb-false c.args.known (length c.as_slice-rows.result.now) (sym w.came-is ∙ nothing) in
-          absurd (omega (arith, past, w.if-edges_came.true))
-      | else-edges_came w ↦ (sym w.came-is ∙ nothing, subst (λ n. n ≤ c.args.known) (ap length c.as_slice-rows.ensures.value ∙ same_rows) w.if-edges_came.false)
-    ]
+    conflict : (before : List Usage) → TellsBits before (bits_of c.args.union.now.usage) c.args.news.now.bits
+        → ((state : State) → IsExact (IsConflictAt before state) (of_state c.args.self.now.conflict state)) → (state : State)
+        → IsExact (IsConflictAt (bits_of c.args.union.now.usage) state) (of_state (record { hard = c.conflict_then.result; soft = c.conflict_then-2.result }) state)
+    conflict before tells are Hard =
+        subst (λ rows. IsExact (IsConflictAt (bits_of rows) Hard) c.conflict_then.result) usage (c.conflict_then.ensures before (tells_of before c.usage.result.now usage tells) (are Hard))
+    conflict before tells are Soft =
+        subst (λ rows. IsExact (IsConflictAt (bits_of rows) Soft) c.conflict_then-2.result) usage_again
+        (c.conflict_then-2.ensures before (tells_of before c.usage-2.result.now usage_again tells) (are Soft))
 
-    bits : BitsGrow usage (bits_of rows) c.args.bits_came
-    bits = subst (λ rs. BitsGrow usage (bits_of rs) c.args.bits_came) (sym same_usage) grow
-
-    grown_bits : BitsGrow usage (bits_of rows) c.if-edges_came.came
-    grown_bits = bits_grow usage (bits_of rows) c.args.bits_came c.if-edges_came.came bits (λ nothing. (none nothing).0)
-
-    grown_edges : EdgesGrow edges all c.if-edges_came.came
-    grown_edges = edges_grow edges all c.args.known c.if-edges_came.came front (λ nothing. (none nothing).1)
-
-    searched : c.cycle_then-self.new.graph.edges ≡ all
-    searched = ap (λ (g : Seen). g.edges) c.cycle_then-self.ensures.same
-
-    searched_again : c.forbidden_then.new.graph.edges ≡ all
-    searched_again = ap (λ (g : Seen). g.edges) c.forbidden_then.ensures.same ∙ searched
-
-    conflict : (state : State) → IsExact (IsConflictAt (bits_of rows) state) (get_or (c.conflict_then.result ∷ c.conflict_then-2.result ∷ []) (state_place state) None)
-    conflict Hard = c.conflict_then.ensures usage bits (found.conflict Hard)
-    conflict Soft = c.conflict_then-2.ensures usage bits (found.conflict Soft)
-
-    forbidden : (state : State) → IsExact (λ (f : Forbidden). IsForbiddenAt all (bits_of rows) state f.from f.to)
-        (get_or (c.forbidden_then.result ∷ c.forbidden_then-2.result ∷ []) (state_place state) None)
-    forbidden Hard =
-        subst (λ es. IsExact (λ (f : Forbidden). IsForbiddenAt es (bits_of rows) Hard f.from f.to) c.forbidden_then.result) searched
-        (c.forbidden_then.ensures.found edges usage (subst (λ es. EdgesGrow edges es c.if-edges_came.came) (sym searched) grown_edges) grown_bits (found.forbidden Hard))
-    forbidden Soft =
-        subst (λ es. IsExact (λ (f : Forbidden). IsForbiddenAt es (bits_of rows) Soft f.from f.to) c.forbidden_then-2.result) searched_again
-        (c.forbidden_then-2.ensures.found edges usage (subst (λ es. EdgesGrow edges es c.if-edges_came.came) (sym searched_again) grown_edges) grown_bits (found.forbidden Soft))
+    forbidden : (edges : List Edge) (before : List Usage) → EdgesGrow edges all → BitsGrow before (bits_of c.args.union.now.usage)
+        → ((state : State) → IsExact (λ (w : Forbidden). IsForbiddenAt edges before state w.from w.to) (of_state c.args.self.now.forbidden state)) → (state : State)
+        → IsExact (λ (w : Forbidden). IsForbiddenAt all (bits_of c.args.union.now.usage) state w.from w.to)
+        (of_state (record { hard = c.forbidden_then.result; soft = c.forbidden_then-2.result }) state)
+    forbidden edges before grow bits are Hard =
+        c.forbidden_then.ensures.found edges before grow bits (are Hard)
+    forbidden edges before grow bits are Soft =
+        subst (Looked Soft c.args.self.now.forbidden.soft c.forbidden_then-2.result)
+        c.forbidden_then.ensures.same
+        c.forbidden_then-2.ensures.found edges before grow bits (are Soft)

@@ -2,7 +2,7 @@ use Rattle.std.proofs.Common.{◌≡◌, ◌∷◌, [], List, ℕ, None, get_or,
 use Rattle.ld_trace.specs.declared.event.State.{State}
 use Rattle.ld_trace.specs.declared.event.State.TheVariants.{Hard, Soft}
 use Rattle.ld_find.specs.Alarms.{state_place}
-use Rattle.ld_find.specs.Inner.Numbers.{named_pair}
+use Rattle.ld_find.specs.Inner.Numbers.{named_pair, of_state}
 use Rattle.ld_find.proofs.alarms.Found.named.Goals as goal
 
 pub name_of-requires : goal.name_of-requires
@@ -25,11 +25,11 @@ returns c = λ i. record {
 }
   where
     conflict : (state : State) → option_map (λ name. name.now) (get_or (c.name_of.result ∷ c.name_of-2.result ∷ []) (state_place state) None)
-        ≡ option_map (λ class. get_or c.args.classes.now class []) (get_or c.args.self.now.conflict (state_place state) None)
+        ≡ option_map (λ class. get_or c.args.classes.now class []) (of_state c.args.self.now.conflict state)
     conflict Hard = c.name_of.ensures
     conflict Soft = c.name_of-2.ensures
 
     forbidden : (state : State) → option_map {U = List ℕ × List ℕ} (λ p. (p.0.now, p.1.now)) (get_or (c.end_names.result ∷ c.end_names-2.result ∷ []) (state_place state) None)
-        ≡ option_map (λ w. named_pair c.args.classes.now w.from w.to) (get_or c.args.self.now.forbidden (state_place state) None)
+        ≡ option_map (λ w. named_pair c.args.classes.now w.from w.to) (of_state c.args.self.now.forbidden state)
     forbidden Hard = c.end_names.ensures
     forbidden Soft = c.end_names-2.ensures

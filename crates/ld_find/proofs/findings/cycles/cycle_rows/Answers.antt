@@ -6,11 +6,11 @@ use Rattle.ld_find.specs.Inner.Rows.{AreCycleRowsOf, IsPassed}
 use Rattle.ld_find.specs.Violations.{IsCycle}
 use Rattle.ld_find.proofs.NumberLemmas.{edge_from_depends}
 use Rattle.ld_find.proofs.PassedLemmas.{name_at, passed_all, rows-next}
-use Rattle.ld_find.proofs.RowLemmas.{rows-absent, rows-all}
+use Rattle.ld_find.proofs.RowLemmas.{None_from_is_some, rows-absent, rows-all}
 use Rattle.ld_find.proofs.findings.cycles.cycle_rows.Goals as goal
 
 pub loop-from-preserved : goal.loop-from-preserved
-loop-from-preserved c sources witnessed =
+loop-from-preserved c sources shows =
     let union = c.args.union.now in
     let classes = union.classes in
     let numbers = c.args.order.now.numbers.items in
@@ -23,22 +23,22 @@ loop-from-preserved c sources witnessed =
     plain_cycle_row c.loop-from.rows.items c.in_ok-more.more.items in
     subst (AreCycleRowsOf sources (λ p. IsPassed classes numbers (i + 1) p.0)) (sym items)
     (rows-next classes numbers c.args.order.now.places.items c.requires.order cycle_key (IsCycleRow sources) (λ p. IsCycle sources p.0 p.1) IsBefore i
-    before more within (c.loop-from.invariant sources witnessed)
-    (subst (λ n. AreCycleRowsOf sources (λ p. p.0 ≡ n) more) name (c.in_ok-more.ensures sources witnessed)))
+    before more within (c.loop-from.invariant sources shows)
+    (subst (λ n. AreCycleRowsOf sources (λ p. p.0 ≡ n) more) name (c.in_ok-more.ensures sources shows)))
 
 pub returns : goal.returns
-returns c sources witnessed none =
+returns c sources shows found =
     let union = c.args.union.now in
     let numbers = c.args.order.now.numbers.items in
     let i = c.loop-from.from-index in
     let past : length numbers ≤ i = subst (λ ns. length ns ≤ i) c.deref-from-items.ensures.value c.loop-from-test.false in
     rows-all cycle_key (IsCycleRow sources) (λ p. IsCycle sources p.0 p.1) IsPairBefore (λ p. IsPassed union.classes numbers i p.0) (map plain_cycle_row c.loop-from.rows.items)
     (λ p owed.
-    let found = edge_from_depends union.classes union.graph union.dependencies.items c.requires.numbered sources witnessed p.0 p.1 owed.0 in
-    passed_all union.classes numbers c.args.order.now.places.items c.requires.order found.0 i p.0 past found.1.1.0)
-    (c.loop-from.invariant sources witnessed)
+    let at = edge_from_depends union.classes union.dependencies shows.numbered sources shows.witnesses p.0 p.1 owed.0 in
+    passed_all union.classes numbers c.args.order.now.places.items c.requires.order at.0 i p.0 past at.1.1.0)
+    (c.loop-from.invariant sources shows)
 
-pub returns-then-not-found : goal.returns-then-not-found
-returns-then-not-found c sources witnessed none =
+pub returns-then-is_none : goal.returns-then-is_none
+returns-then-is_none c sources shows found =
     subst (AreCycleRows sources) (sym (ap (map plain_cycle_row) c.new-rows.ensures.items))
-    (rows-absent cycle_key (IsCycleRow sources) (λ p. IsCycle sources p.0 p.1) IsPairBefore (λ p cycle. none c.if-not-found.true p.0 p.1 cycle))
+    (rows-absent cycle_key (IsCycleRow sources) (λ p. IsCycle sources p.0 p.1) IsPairBefore (λ p cycle. found.cycle (None_from_is_some c.args.found.now.cycle c.if-is_none.ensures) p.0 p.1 cycle))

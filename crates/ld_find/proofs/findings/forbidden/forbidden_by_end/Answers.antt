@@ -12,7 +12,7 @@ use Rattle.ld_union.proofs.UsageLemmas.{number_of}
 use Rattle.ld_find.proofs.findings.forbidden.forbidden_by_end.Goals as goal
 
 pub loop-to-preserved : goal.loop-to-preserved
-loop-to-preserved c sources witnessed used =
+loop-to-preserved c sources shows =
     let classes = c.args.union.now.classes in
     let numbers = c.args.order.now.numbers.items in
     let state = c.args.state in
@@ -25,11 +25,11 @@ loop-to-preserved c sources witnessed used =
     map-append plain_forbidden_row c.loop-to.rows.items c.in_ok-more.more.items in
     subst (AreTurnedRowsOf sources state (λ p. IsPassed classes numbers (i + 1) p.0)) (sym items)
     (rows-next classes numbers c.args.order.now.places.items c.requires.order turned_key (IsRowIn sources state)
-    (λ p. IsForbidden sources state p.1 p.0) IsBefore i before more within (c.loop-to.invariant sources witnessed used)
-    (subst (λ n. AreTurnedRowsOf sources state (λ p. p.0 ≡ n) more) name (c.in_ok-more.ensures sources witnessed used)))
+    (λ p. IsForbidden sources state p.1 p.0) IsBefore i before more within (c.loop-to.invariant sources shows)
+    (subst (λ n. AreTurnedRowsOf sources state (λ p. p.0 ≡ n) more) name (c.in_ok-more.ensures sources shows)))
 
 pub returns : goal.returns
-returns c sources witnessed used =
+returns c sources shows =
     let union = c.args.union.now in
     let numbers = c.args.order.now.numbers.items in
     let state = c.args.state in
@@ -37,6 +37,6 @@ returns c sources witnessed used =
     let past : length numbers ≤ i = subst (λ ns. length ns ≤ i) c.deref-to-items.ensures.value c.loop-to-test.false in
     rows-all turned_key (IsRowIn sources state) (λ p. IsForbidden sources state p.1 p.0) IsPairBefore (λ p. IsPassed union.classes numbers i p.0) (map plain_forbidden_row c.loop-to.rows.items)
     (λ p owed.
-    let at = number_of union.classes union.usage.items (use_witness sources) used (record { class = p.0; bit = On state }) owed.1 in
+    let at = number_of union.classes union.usage (use_witness sources) shows.used (record { class = p.0; bit = On state }) owed.1 in
     passed_all union.classes numbers c.args.order.now.places.items c.requires.order at.0 i p.0 past at.1)
-    (c.loop-to.invariant sources witnessed used)
+    (c.loop-to.invariant sources shows)

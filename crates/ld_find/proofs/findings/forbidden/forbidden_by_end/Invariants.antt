@@ -1,12 +1,10 @@
 use Rattle.std.proofs.Common.{List, map}
 use Rattle.ld_trace.specs.Sources.{PlainSource}
-use Rattle.ld_facts.specs.Union.{dependency_witness, use_witness}
 use Rattle.ld_find.specs.Inner.Rows.{AreTurnedRowsOf, IsPassed}
 use Rattle.ld_find.specs.Findings.{plain_forbidden_row}
-use Rattle.ld_union.specs.Inner.Union.{AreUsed, AreWitnessed}
+use Rattle.ld_union.specs.Inner.Union.{Shows}
 use Rattle.ld_find.proofs.findings.forbidden.forbidden_by_end.Given as goal
 
 abbrev pub invariant-loop-to : goal.invariant-loop-to
-invariant-loop-to l = (sources : List PlainSource) → AreWitnessed l.union.classes l.union.dependencies.items (dependency_witness sources)
-    → AreUsed l.union.classes l.union.usage.items (use_witness sources)
+invariant-loop-to l = (sources : List PlainSource) → Shows sources l.union
     → AreTurnedRowsOf sources l.state (λ p. IsPassed l.union.classes l.order.numbers.items l.to-index p.0) (map plain_forbidden_row l.rows.items)

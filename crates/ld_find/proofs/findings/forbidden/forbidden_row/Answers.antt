@@ -9,13 +9,13 @@ use Rattle.ld_find.proofs.WitnessLemmas.{bit_of-usage_of}
 use Rattle.ld_find.proofs.findings.forbidden.forbidden_row.Goals as goal
 
 pub returns-in_default-2 : goal.returns-in_default-2
-returns-in_default-2 c sources witnessed used =
+returns-in_default-2 c sources shows =
     let union = c.args.union.now in
-    no_forbidden-walk union.classes union.graph union.dependencies.items c.requires.numbered sources witnessed c.args.state c.args.from c.args.target.now.class c.requires.from c.requires.class
+    no_forbidden-walk union.classes union.dependencies shows.numbered sources shows.witnesses c.args.state c.args.from c.args.target.now.class c.requires.from c.requires.class
     (MatchOption-at_none _ _ c.in_default-2.is c.in_ok-via.ensures)
 
 pub returns : goal.returns
-returns c sources witnessed used =
+returns c sources shows =
     let union = c.args.union.now in
     let a = name_of union.classes c.args.from in
     let b = name_of union.classes c.args.target.now.class in
@@ -31,6 +31,6 @@ returns c sources witnessed used =
       unsafe_at = held.at;
       via = c.in-Some-2.via;
     }))
-    (subst (λ bit. IsNoted sources a bit acquired.name.now acquired.marks acquired.at) (bit_of-usage_of (In c.args.state) c.in_bit.result c.in_bit.ensures) (c.in-Some.ensures sources used))
-    (c.requires.held sources used)
-    (MatchOption-at_some _ _ c.in-Some-2.via c.in-Some-2.is c.in_ok-via.ensures sources witnessed)
+    (subst (λ bit. IsNoted sources a bit acquired.name.now acquired.marks acquired.at) (bit_of-usage_of (In c.args.state) c.in_bit.result c.in_bit.ensures) (c.in-Some.ensures sources shows))
+    (c.requires.held sources shows)
+    (MatchOption-at_some _ _ c.in-Some-2.via c.in-Some-2.is c.in_ok-via.ensures sources shows)

@@ -1,18 +1,17 @@
-use Rattle.std.proofs.Common.{◌≡◌, ◌∙◌, ◌++◌, None, get_or, map, subst, sym, ap}
+use Rattle.std.proofs.Common.{◌≡◌, ◌∙◌, ◌++◌, map, subst, sym, ap}
 use Rattle.std.proofs.lemmas.List.{map-append}
-use Rattle.ld_trace.specs.declared.event.State.TheVariants.{Hard, Soft}
 use Rattle.ld_find.specs.Findings.{AreForbiddenRows, IsForbiddenRow, IsPairBefore, forbidden_key, plain_forbidden_row}
 use Rattle.ld_find.specs.Violations.{IsForbidden}
-use Rattle.ld_find.proofs.RowLemmas.{None_from_is_some, rows-states}
+use Rattle.ld_find.proofs.RowLemmas.{rows-states}
 use Rattle.ld_find.proofs.findings.forbidden.forbidden_rows.Goals as goal
 
 pub returns : goal.returns
-returns c sources witnessed used found =
+returns c sources shows found =
     let hard = map plain_forbidden_row c.in_ok-rows.rows.items in
     let soft = map plain_forbidden_row c.in_ok-soft.soft.items in
     let items : map plain_forbidden_row c.append.new.self.items ≡ hard ++ soft = ap (map plain_forbidden_row) c.in_ok-append.ensures.items ∙
     map-append plain_forbidden_row c.in_ok-rows.rows.items c.in_ok-soft.soft.items in
     subst (AreForbiddenRows sources) (sym items)
     (rows-states forbidden_key (IsForbiddenRow sources) (λ p. IsForbidden sources p.0 p.1.0 p.1.1) IsPairBefore hard soft
-    (c.in_ok-rows.ensures sources witnessed used (λ none. found.forbidden Hard (None_from_is_some (get_or c.args.found.now.forbidden 0 None) (sym c.is_some.ensures ∙ none))))
-    (c.in_ok-soft.ensures sources witnessed used (λ none. found.forbidden Soft (None_from_is_some (get_or c.args.found.now.forbidden 1 None) (sym c.is_some-2.ensures ∙ none)))))
+    (c.in_ok-rows.ensures sources shows found)
+    (c.in_ok-soft.ensures sources shows found))

@@ -15,15 +15,15 @@ use Rattle.ld_find.proofs.findings.forbidden.forbidden_to.Goals as goal
 use Rattle.ld_find.proofs.findings.forbidden.forbidden_to.Goals.{in-Some-2+in_ok-push, in_default-2}
 
 pub forbidden_row-requires-clause-held : goal.forbidden_row-requires-clause-held
-forbidden_row-requires-clause-held c sources used =
+forbidden_row-requires-clause-held c sources shows =
     let classes = c.args.union.now.classes in
     let held = c.in-Some.held in
     subst (λ class. IsNoted sources (name_of classes class) (On c.args.state) held.name.now held.marks held.at) (sym c.in_ok-target.ensures.class)
     (subst (λ bit. IsNoted sources (name_of classes c.args.to) bit held.name.now held.marks held.at)
-    (bit_of-usage_of (On c.args.state) c.on_bit.result c.on_bit.ensures) (c.in-Some.ensures sources used))
+    (bit_of-usage_of (On c.args.state) c.on_bit.result c.on_bit.ensures) (c.in-Some.ensures sources shows))
 
 pub loop-from-preserved : goal.loop-from-preserved
-loop-from-preserved c sources witnessed used =
+loop-from-preserved c sources shows =
     let classes = c.args.union.now.classes in
     let numbers = c.args.order.now.numbers.items in
     let state = c.args.state in
@@ -40,7 +40,7 @@ loop-from-preserved c sources witnessed used =
       | in-Some-2+in_ok-push w ↦
           let row = plain_forbidden_row w.in-Some-2.row in
           let told = MatchOption-at_some (¬ IsForbidden sources state (name_of classes from) (name_of classes class))
-          (λ r. IsTurnedRowOf sources state (name_of classes class) (name_of classes from) (plain_forbidden_row r)) w.in-Some-2.row w.in-Some-2.is (c.in_ok-row.ensures sources witnessed used) in
+          (λ r. IsTurnedRowOf sources state (name_of classes class) (name_of classes from) (plain_forbidden_row r)) w.in-Some-2.row w.in-Some-2.is (c.in_ok-row.ensures sources shows) in
           let is : IsTurnedRowOf sources state to (name_at classes numbers i) row = subst (λ n. IsTurnedRowOf sources state to n row) name
           (subst (λ n. IsTurnedRowOf sources state n (name_of classes from) row) same told) in
           let items : map plain_forbidden_row c.match-branch-3.rows.items ≡ before ++ row ∷ [] = ap
@@ -48,22 +48,22 @@ loop-from-preserved c sources witnessed used =
           map-append plain_forbidden_row c.loop-from.rows.items (w.in-Some-2.row ∷ []) in
           subst (AreTurnedRowsOf sources state (λ p. (p.0 ≡ to) × IsPassed classes numbers (i + 1) p.1)) (sym items)
           (rows-more classes numbers c.args.order.now.places.items c.requires.order turned_key (IsRowIn sources state) owed IsBefore to i before
-          (row ∷ []) within (c.loop-from.invariant sources witnessed used)
+          (row ∷ []) within (c.loop-from.invariant sources shows)
           (rows-one turned_key (IsRowIn sources state) owed IsPairBefore (to, name_at classes numbers i) row is.0 is.1))
       | in_default-2 w ↦
           let told = MatchOption-at_none (¬ IsForbidden sources state (name_of classes from) (name_of classes class))
-          (λ r. IsTurnedRowOf sources state (name_of classes class) (name_of classes from) (plain_forbidden_row r)) w.in_default-2.is (c.in_ok-row.ensures sources witnessed used) in
+          (λ r. IsTurnedRowOf sources state (name_of classes class) (name_of classes from) (plain_forbidden_row r)) w.in_default-2.is (c.in_ok-row.ensures sources shows) in
           let none : ¬ IsForbidden sources state (name_at classes numbers i) to = subst (λ n. ¬ IsForbidden sources state n to) name
           (subst (λ n. ¬ IsForbidden sources state (name_of classes from) n) same told) in
           let items : map plain_forbidden_row c.match-branch-3.rows.items ≡ before ++ [] = ap (λ (rows : Vec _ _). map plain_forbidden_row rows.items) w.rows-is ∙ sym (append-nil before) in
           subst (AreTurnedRowsOf sources state (λ p. (p.0 ≡ to) × IsPassed classes numbers (i + 1) p.1)) (sym items)
           (rows-more classes numbers c.args.order.now.places.items c.requires.order turned_key (IsRowIn sources state) owed IsBefore to i before []
-          within (c.loop-from.invariant sources witnessed used)
+          within (c.loop-from.invariant sources shows)
           (rows-not turned_key (IsRowIn sources state) owed IsPairBefore (to, name_at classes numbers i) none))
     ]
 
 pub returns : goal.returns
-returns c sources witnessed used =
+returns c sources shows =
     let union = c.args.union.now in
     let numbers = c.args.order.now.numbers.items in
     let state = c.args.state in
@@ -74,6 +74,6 @@ returns c sources witnessed used =
     (λ p. (p.0 ≡ to) × IsPassed union.classes numbers i p.1) (λ p. p.0 ≡ to) (map plain_forbidden_row c.loop-from.rows.items)
     (λ p here. here.0)
     (λ p owed here.
-    let at = number_of union.classes union.usage.items (use_witness sources) used (record { class = p.1; bit = In state }) owed.0 in
+    let at = number_of union.classes union.usage (use_witness sources) shows.used (record { class = p.1; bit = In state }) owed.0 in
     (here, passed_all union.classes numbers c.args.order.now.places.items c.requires.order at.0 i p.1 past at.1))
-    (c.loop-from.invariant sources witnessed used)
+    (c.loop-from.invariant sources shows)

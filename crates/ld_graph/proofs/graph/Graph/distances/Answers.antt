@@ -21,6 +21,6 @@ returns-clause-each c =
     items)
     (subst (λ g. DistanceIs (IsEdge g.edges) x c.args.to (get_or c.measure.new.levels x None))
     c.self.view_is
-    (DistanceIs-near c.self.inside.before.lists (IsEdge c.self.inside.edges.keys)
+    (DistanceIs-near c.self.inside.lists.before.lists (IsEdge c.self.inside.edges.keys)
     c.self.invariant.before_edges x c.args.to
     (get_or c.measure.new.levels x None) (c.measure.ensures.distances x)))

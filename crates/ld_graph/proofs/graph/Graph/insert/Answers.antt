@@ -1,25 +1,24 @@
 use Rattle.std.proofs.lemmas.List.{length_push, length-set}
 use Rattle.std.proofs.lemmas.Option.{none-some}
 use Rattle.std.proofs.Common.{◌≡◌, ◌<◌, ◌++◌, ◌∷◌, [], ◌↔◌, arith, length, set, vec_len, ap}
-use Rattle.std.proofs.Common.{true≢false, sym, subst, ◌∙◌}
+use Rattle.std.proofs.Common.{refl, sym, subst, ◌∙◌}
 use Rattle.ld_graph.specs.Edges.{edge, IsEdge}
-use Rattle.ld_graph.specs.Inner.Neighbours.{IsNear, list_at}
+use Rattle.ld_graph.specs.Lists.{IsNear, list_at}
 use Rattle.ld_graph.proofs.EdgeLemmas.{IsEdge-found, insert_key-new, IsNear-edge, IsNear-turned}
-use Rattle.ld_graph.proofs.EdgeLemmas.{ends_push}
+use Rattle.ld_graph.proofs.EdgeLemmas.{ends_push, IsEdge-missing}
+use Rattle.ld_graph.specs.Order.{HasCycle, IsInserted}
+use Rattle.ld_graph.specs.Inner.Kept.{seen}
+use Rattle.ld_graph.proofs.PlacedLemmas.{inserted, made, placed_cycle, placed_length, placed_rises}
 use Rattle.ld_graph.proofs.graph.Graph.insert.Goals as goal
 
-pub returns-then-contains-clause-answer : goal.returns-then-contains-clause-answer
-returns-then-contains-clause-answer c =
-    let there = subst (λ g. IsEdge g.edges c.args.a c.args.b) c.self.view_is
-    (IsEdge-found c.self.inside.edges.keys c.args.a c.args.b (sym c.contains.ensures
-    ∙ c.if-contains.true)) in
-    (λ t. absurd (true≢false (sym t)), λ n. absurd (n there))
-
-pub returns-then-contains-clause-known : goal.returns-then-contains-clause-known
-returns-then-contains-clause-known c =
-    subst (λ g. IsEdge g.edges c.args.a c.args.b) c.self.view_is
-    (IsEdge-found c.self.inside.edges.keys c.args.a c.args.b (sym c.contains.ensures
-    ∙ c.if-contains.true))
+pub returns-then-contains-clause-inserted : goal.returns-then-contains-clause-inserted
+returns-then-contains-clause-inserted c =
+    record {
+      there = subst (λ g. IsEdge g.edges c.args.a c.args.b) c.self.view_is
+          (IsEdge-found c.self.inside.edges.keys c.args.a c.args.b (sym c.contains.ensures
+          ∙ c.if-contains.true));
+      same = refl;
+    }
 
 pub invariant_of-self : goal.invariant_of-self
 invariant_of-self c =
@@ -30,56 +29,114 @@ invariant_of-self c =
     let count = ap length keys ∙ length_push c.self.inside.edges.keys (edge c.args.a c.args.b) in
     let classes = ap (λ g. g.classes) c.self.view_is in
     let spare = ap (λ g. g.spare_edges) c.self.view_is in
-    let after = ap length c.push.ensures.lists ∙ length-set c.self.inside.after.lists c.args.a
-    (list_at c.self.inside.after.lists c.args.a ++ c.args.b ∷ []) in
-    let before = ap length c.push-2.ensures.lists ∙ length-set c.self.inside.before.lists c.args.b
-    (list_at c.self.inside.before.lists c.args.b ++ c.args.a ∷ []) in
+    let after = ap length c.push.ensures.after.lists ∙ length-set c.self.inside.lists.after.lists c.args.a
+    (list_at c.self.inside.lists.after.lists c.args.a ++ c.args.b ∷ []) in
+    let before = ap length c.push.ensures.before.lists ∙ length-set c.self.inside.lists.before.lists c.args.b
+    (list_at c.self.inside.lists.before.lists c.args.b ++ c.args.a ∷ []) in
     let a : c.args.a < vec_len c.self.inside.levels = omega (arith, classes, c.requires.a) in
     let b : c.args.b < vec_len c.self.inside.levels = omega (arith, classes, c.requires.b) in
     record {
       after_classes = omega (arith, after, i.after_classes);
       before_classes = omega (arith, before, i.before_classes);
-      after_items = omega (arith, c.push.ensures.items, i.after_items, count);
-      before_items = omega (arith, c.push-2.ensures.items, i.before_items, count);
+      after_items = omega (arith, c.push.ensures.after.items, i.after_items, count);
+      before_items = omega (arith, c.push.ensures.before.items, i.before_items, count);
       after_edges = λ x y.
-          subst (λ l. IsNear l x y ↔ IsEdge c.insert.new.self.keys x y) (sym c.push.ensures.lists)
-          (subst (λ k. IsNear (set c.self.inside.after.lists c.args.a (list_at
-          c.self.inside.after.lists c.args.a ++ c.args.b ∷ [])) x y ↔ IsEdge k x y) (sym keys)
-          (IsNear-edge c.self.inside.after.lists c.self.inside.edges.keys c.args.a c.args.b (omega
+          subst (λ l. IsNear l x y ↔ IsEdge c.insert.new.self.keys x y) (sym c.push.ensures.after.lists)
+          (subst (λ k. IsNear (set c.self.inside.lists.after.lists c.args.a (list_at
+          c.self.inside.lists.after.lists c.args.a ++ c.args.b ∷ [])) x y ↔ IsEdge k x y) (sym keys)
+          (IsNear-edge c.self.inside.lists.after.lists c.self.inside.edges.keys c.args.a c.args.b (omega
           (arith, a, i.after_classes)) i.after_edges x y));
       before_edges = λ x y.
-          subst (λ l. IsNear l x y ↔ IsEdge c.insert.new.self.keys y x) (sym c.push-2.ensures.lists)
-          (subst (λ k. IsNear (set c.self.inside.before.lists c.args.b (list_at
-          c.self.inside.before.lists c.args.b ++ c.args.a ∷ [])) x y ↔ IsEdge k y x) (sym keys)
-          (IsNear-turned c.self.inside.before.lists c.self.inside.edges.keys c.args.a c.args.b
+          subst (λ l. IsNear l x y ↔ IsEdge c.insert.new.self.keys y x) (sym c.push.ensures.before.lists)
+          (subst (λ k. IsNear (set c.self.inside.lists.before.lists c.args.b (list_at
+          c.self.inside.lists.before.lists c.args.b ++ c.args.a ∷ [])) x y ↔ IsEdge k y x) (sym keys)
+          (IsNear-turned c.self.inside.lists.before.lists c.self.inside.edges.keys c.args.a c.args.b
           (omega (arith, b, i.before_classes)) i.before_edges x y));
       ends = λ x y e. ends_push c.self.inside.edges.keys c.args.a c.args.b (vec_len
           c.self.inside.levels) a b i.ends x y (subst (λ k. IsEdge k x y) keys e);
       room_edges = omega (arith, spare, c.requires.room, i.room_edges, c.insert.ensures.spare);
       room_after = (
-        omega (arith, i.room_after.0, c.push.ensures.room.0),
+        omega (arith, i.room_after.0, c.push.ensures.after.class_room),
         omega (
           arith,
           count,
           spare,
           c.requires.room,
           i.room_after.1,
-          c.push.ensures.room.1,
+          c.push.ensures.after.item_room,
         ),
       );
       room_before = (
-        omega (arith, i.room_before.0, c.push-2.ensures.room.0),
+        omega (arith, i.room_before.0, c.push.ensures.before.class_room),
         omega (
           arith,
           count,
           spare,
           c.requires.room,
           i.room_before.1,
-          c.push-2.ensures.room.1,
+          c.push.ensures.before.item_room,
         ),
       );
       room_levels = i.room_levels;
       room_queue = i.room_queue;
+      room_ranks = omega (arith, i.room_ranks, c.place-answer.ensures.room);
       few = i.few;
+      ranked = placed_length c.self.inside i c.args.a c.args.b c.place-answer.new.has_cycle
+          c.place-answer.new.ranks.ranks c.place-answer.result c.place-answer.ensures.placed ∙ i.ranked;
+      rises = λ f x y e. placed_rises c.self.inside i c.args.a c.args.b c.place-answer.new.has_cycle
+          c.place-answer.new.ranks.ranks c.place-answer.result c.place-answer.ensures.placed f x y
+          (subst (λ k. IsEdge k x y) keys e);
+      cycle = λ t. subst (λ k. HasCycle (IsEdge k)) (sym keys) (placed_cycle c.self.inside i c.args.a
+          c.args.b c.place-answer.new.has_cycle c.place-answer.new.ranks.ranks c.place-answer.result
+          c.place-answer.ensures.placed t);
       levels = λ p e x. absurd (none-some p e);
     }
+
+pub push-requires-clause-after_fresh : goal.push-requires-clause-after_fresh
+push-requires-clause-after_fresh c = λ n.
+    IsEdge-missing c.self.inside.edges.keys c.args.a c.args.b (sym c.contains.ensures
+    ∙ c.if-contains.false) ((c.self.invariant.after_edges c.args.a c.args.b).0 n)
+
+pub push-requires-clause-before_fresh : goal.push-requires-clause-before_fresh
+push-requires-clause-before_fresh c = λ n.
+    IsEdge-missing c.self.inside.edges.keys c.args.a c.args.b (sym c.contains.ensures
+    ∙ c.if-contains.false) ((c.self.invariant.before_edges c.args.b c.args.a).0 n)
+
+pub returns-then-contains-clause-new : goal.returns-then-contains-clause-new
+returns-then-contains-clause-new c = λ fresh.
+    absurd (fresh (subst (λ g. IsEdge g.edges c.args.a c.args.b) c.self.view_is
+    (IsEdge-found c.self.inside.edges.keys c.args.a c.args.b (sym c.contains.ensures
+    ∙ c.if-contains.true))))
+
+pub place-answer-requires-clause-turned : goal.place-answer-requires-clause-turned
+place-answer-requires-clause-turned c = λ x y.
+    let i = c.self.invariant in (
+      λ n. (i.before_edges y x).1 ((i.after_edges x y).0 n),
+      λ n. (i.after_edges x y).1 ((i.before_edges y x).0 n),
+    )
+
+pub place-answer-requires-clause-ends : goal.place-answer-requires-clause-ends
+place-answer-requires-clause-ends c = λ x y n.
+    let i = c.self.invariant in
+    let e = i.ends x y ((i.after_edges x y).0 n) in
+    (omega (arith, e, i.ranked), omega (arith, e, i.ranked))
+
+pub place-answer-requires-clause-rises : goal.place-answer-requires-clause-rises
+place-answer-requires-clause-rises c = λ f x y n.
+    let i = c.self.invariant in i.rises f x y ((i.after_edges x y).0 n)
+
+pub returns-clause-inserted : goal.returns-clause-inserted
+returns-clause-inserted c =
+    let keys : c.insert.new.self.keys ≡ c.self.inside.edges.keys ++ edge c.args.a c.args.b ∷ [] =
+    c.in-Ok.ensures.keys ∙ insert_key-new c.self.inside.edges.keys (edge c.args.a c.args.b) (sym
+    c.contains.ensures ∙ c.if-contains.false) in
+    subst (λ g. IsInserted g c.args.a c.args.b c.place-answer.result (record (made c.self.inside
+    c.self.invariant c.args.a c.args.b c.place-answer.new.has_cycle
+    c.place-answer.new.ranks.ranks) { edges = c.insert.new.self.keys })) c.self.view_is
+    (subst (λ k. IsInserted (seen c.self.inside) c.args.a c.args.b c.place-answer.result (record
+    (made c.self.inside c.self.invariant c.args.a c.args.b c.place-answer.new.has_cycle
+    c.place-answer.new.ranks.ranks) { edges = k })) (sym keys)
+    (inserted c.self.inside c.self.invariant c.args.a c.args.b c.place-answer.new.has_cycle
+    c.place-answer.new.ranks.ranks c.place-answer.result c.place-answer.ensures.placed
+    (IsEdge-missing c.self.inside.edges.keys c.args.a c.args.b (sym c.contains.ensures
+    ∙ c.if-contains.false))))

@@ -30,13 +30,17 @@ invariant_of-self c =
       room_before = i.room_before;
       room_levels = i.room_levels;
       room_queue = omega (arith, i.room_queue, c.measure.ensures.capacity);
+      room_ranks = i.room_ranks;
       few = i.few;
+      ranked = i.ranked;
+      rises = i.rises;
+      cycle = i.cycle;
       levels = λ a e x.
           subst (λ ls. DistanceIs (λ p q. IsEdge c.self.inside.edges.keys q p) x a (get_or ls x
           None)) (sym items)
           (subst (λ b. DistanceIs (λ p q. IsEdge c.self.inside.edges.keys q p) x b (get_or
           c.measure.new.levels x None)) (some_same c.args.from a e)
-          (DistanceIs-near c.self.inside.after.lists (λ p q. IsEdge c.self.inside.edges.keys q p)
+          (DistanceIs-near c.self.inside.lists.after.lists (λ p q. IsEdge c.self.inside.edges.keys q p)
           i.after_edges x c.args.from
           (get_or c.measure.new.levels x None) (c.measure.ensures.distances x)));
     }

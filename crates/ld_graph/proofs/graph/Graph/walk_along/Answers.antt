@@ -1,6 +1,6 @@
 use Rattle.std.proofs.Common.{get_or, None, sym, subst}
 use Rattle.ld_graph.specs.Edges.{ComesBefore, IsEdge}
-use Rattle.ld_graph.specs.Inner.Neighbours.{IsNear}
+use Rattle.ld_graph.specs.Lists.{IsNear}
 use Rattle.ld_graph.specs.Walks.{DistanceIs, IsShownWalk}
 use Rattle.ld_graph.proofs.EdgeLemmas.{DistanceIs-along}
 use Rattle.ld_graph.proofs.KeptLemmas.{after_ends}
@@ -12,7 +12,7 @@ show-requires-clause-ends c = after_ends c.self.inside c.self.invariant
 
 pub show-requires-clause-distances : goal.show-requires-clause-distances
 show-requires-clause-distances c = λ x.
-    DistanceIs-along c.self.inside.after.lists (IsEdge c.self.inside.edges.keys)
+    DistanceIs-along c.self.inside.lists.after.lists (IsEdge c.self.inside.edges.keys)
     c.self.invariant.after_edges x c.args.b (get_or c.args.distances.now x None)
     (subst (λ g. DistanceIs (IsEdge g.edges) x c.args.b (get_or c.args.distances.now x None))
     (sym c.self.view_is) (c.requires.each x))
@@ -21,6 +21,6 @@ pub returns : goal.returns
 returns c =
     subst (λ g. IsShownWalk (IsEdge g.edges) (ComesBefore c.args.places.now) c.args.a c.args.b
     c.in_ok-walk.walk.items) c.self.view_is
-    (IsShownWalk-same (IsNear c.self.inside.after.lists) (IsEdge c.self.inside.edges.keys)
+    (IsShownWalk-same (IsNear c.self.inside.lists.after.lists) (IsEdge c.self.inside.edges.keys)
     (ComesBefore c.args.places.now) c.self.invariant.after_edges
     c.args.a c.args.b c.in_ok-walk.walk.items c.in_ok-walk.ensures)

@@ -6,10 +6,10 @@ use Rattle.ld_union.proofs.UsageLemmas.{row_at}
 use Rattle.ld_union.proofs.union.Union.usage_row.Goals as goal
 
 pub returns : goal.returns
-returns c first used =
-    let self = c.args.self.now in
+returns c = rw (← c.self.view_is) (λ first used.
+    let union = c.self.inside in
     let name = c.args.name.now in
     let class = c.in_ok-class.class in
-    let at = place_of-Some self.classes name class (sym c.in_ok-class.ensures.place) in
-    ap Some (c.index.ensures ∙ row_at self.classes self.usage.items first used class c.index.result.now at.0 ∙ ap (λ n. row_of (of_class first n)) at.1)
-    ∙ ap (λ place. if is_some place then Some (row_of (of_class first name)) else None) c.in_ok-class.ensures.place
+    let at = place_of-Some union.classes name class (sym c.in_ok-class.ensures.place) in
+    ap Some (c.index.ensures ∙ row_at union.classes union.usage.items first used class c.index.result.now at.0 ∙ ap (λ n. row_of (of_class first n)) at.1)
+    ∙ ap (λ place. if is_some place then Some (row_of (of_class first name)) else None) c.in_ok-class.ensures.place)

@@ -1,0 +1,161 @@
+-- Exactly those places have a mark that were found.
+use Rattle.std.proofs.Common.{◌≡◌, ◌≢◌, ◌⊎◌, inl, inr, ℕ, ◌+◌, ◌-◌, ◌<◌, ◌≤◌, Bool, true}
+use Rattle.std.proofs.Common.{false}
+use Rattle.std.proofs.Common.{true≢false, List, [], ◌∷◌, ◌++◌, length, get_or, set, replicate}
+use Rattle.std.proofs.Common.{nat_eq, Contains, arith, refl, sym, ap, subst, ◌∙◌}
+use Rattle.std.specs.List.{list_any}
+use Rattle.std.proofs.lemmas.Bool.{cases_lt, cases_eq, eqb-true}
+use Rattle.std.proofs.lemmas.Cmp.{nat_eq_equiv}
+use Rattle.std.proofs.lemmas.Map.Views.{Contains-from_any, list_any-from_Contains}
+use Rattle.std.proofs.lemmas.Map.Steps.{length-le_from_distinct_below}
+use Rattle.std.proofs.lemmas.List.{get_or_past, get_or-set_same, get_or-set_other, length-set}
+use Rattle.std.proofs.lemmas.List.{length_push, get_or_append_left, get_or-append-add}
+use Rattle.std.proofs.lemmas.List.{get_or-replicate, length-replicate, get_or_default}
+use Rattle.std.proofs.lemmas.List.Elements.{Contains-push, Contains-push_cases}
+use Rattle.std.proofs.lemmas.List.Elements.{Contains-append_left}
+use Rattle.ld_graph.specs.Inner.Marks.{AreMarked}
+use Rattle.ld_graph.proofs.OnceLemmas.{IsDistinct-none, IsDistinct-one_more}
+
+pub bool_cases : (b : Bool) → (b ≡ true) ⊎ (b ≡ false)
+bool_cases true = inl refl
+bool_cases false = inr refl
+
+pub AreMarked-none : AreMarked [] []
+AreMarked-none = record {
+  once = IsDistinct-none;
+  marked = λ k. (
+    λ e. absurd (true≢false (sym e ∙ get_or_past [] k false (omega arith))),
+    λ h. let l = h.1 in absurd (omega (arith, l)),
+  );
+}
+
+module _ (marks : List Bool) (found : List ℕ) (h : AreMarked marks found) where
+  pub found_below : (k : ℕ) → Contains found k → k < length marks
+  found_below k n = by (cases_lt k (length marks))
+    where
+      by : (k < length marks) ⊎ (length marks ≤ k) → k < length marks
+      by (inl l) = l
+      by (inr l) = absurd (true≢false (sym ((h.marked k).1 n) ∙ get_or_past marks k false l))
+
+  pub found_few : length found ≤ length marks
+  found_few = length-le_from_distinct_below found (length marks) h.once
+      (λ q e. found_below q (Contains-from_any {eq = nat_eq} (λ x y t. eqb-true x y t) q found e))
+
+  pub unmarked : (k : ℕ) → get_or marks k false ≡ false → ¬ Contains found k
+  unmarked k e n = true≢false (sym ((h.marked k).1 n) ∙ e)
+
+  pub has_exact : (k : ℕ) → get_or marks k false ≡ list_any (nat_eq k) found
+  has_exact k = by (bool_cases (get_or marks k false)) (bool_cases (list_any (nat_eq k) found))
+    where
+      by : (get_or marks k false ≡ true) ⊎ (get_or marks k false ≡ false)
+          → (list_any (nat_eq k) found ≡ true) ⊎ (list_any (nat_eq k) found ≡ false)
+          → get_or marks k false ≡ list_any (nat_eq k) found
+      by (inl a) (inl b) = a ∙ sym b
+      by (inr a) (inr b) = a ∙ sym b
+      by (inl a) (inr b) = absurd (true≢false (sym (list_any-from_Contains nat_eq_equiv k found
+          ((h.marked k).0 a)) ∙ b))
+      by (inr a) (inl b) = absurd (unmarked k a (Contains-from_any {eq = nat_eq} (λ x y t. eqb-true
+          x y t) k found b))
+
+  module _ (place : ℕ) (within : place < length marks) (free : get_or marks place false ≡ false) where
+    pub AreMarked-add : AreMarked (set marks place true) (found ++ place ∷ [])
+    AreMarked-add = record {
+      once = IsDistinct-one_more found place h.once (unmarked place free);
+      marked = λ k. (λ e. to k (cases_eq k place) e, λ n. back k (cases_eq k place) n);
+    }
+      where
+        to : (k : ℕ) → (k ≡ place) ⊎ (k ≢ place) → get_or (set marks place true) k false ≡ true
+            → Contains (found ++ place ∷ []) k
+        to k (inl e) _ = subst (Contains (found ++ place ∷ [])) (sym e) (Contains-push found place)
+        to k (inr e) m = Contains-append_left found (place ∷ []) k ((h.marked k).0
+            (sym (get_or-set_other marks place k true false e) ∙ m))
+
+        old : (k : ℕ) → k ≢ place → Contains found k ⊎ (place ≡ k) → Contains found k
+        old k e (inl n) = n
+        old k e (inr n) = absurd (e (sym n))
+
+        back : (k : ℕ) → (k ≡ place) ⊎ (k ≢ place) → Contains (found ++ place ∷ []) k
+            → get_or (set marks place true) k false ≡ true
+        back k (inl e) _ = ap (λ z. get_or (set marks place true) z false) e
+            ∙ get_or-set_same marks place true false within
+        back k (inr e) n = get_or-set_other marks place k true false e
+            ∙ (h.marked k).1 (old k e (Contains-push_cases found place k n))
+
+  pub AreMarked-more : (n : ℕ) → AreMarked (marks ++ replicate n false) found
+  AreMarked-more n = record {
+    once = h.once;
+    marked = λ k. (λ e. (h.marked k).0 (sym (same k) ∙ e), λ c. same k ∙ (h.marked k).1 c);
+  }
+    where
+      past : (k : ℕ) → length marks ≤ k → get_or (marks ++ replicate n false) k false ≡ false
+      past k l = last (cases_lt (k - length marks) n)
+        where
+          at : get_or (marks ++ replicate n false) k false
+              ≡ get_or (replicate n false) (k - length marks) false
+          at = let e : k ≡ length marks + (k - length marks) = omega (arith, l) in
+              ap (λ z. get_or (marks ++ replicate n false) z false) e
+              ∙ get_or-append-add marks (replicate n false) (k - length marks) false
+
+          last : (k - length marks < n) ⊎ (n ≤ k - length marks)
+              → get_or (marks ++ replicate n false) k false ≡ false
+          last (inl b) = at ∙ get_or-replicate n (k - length marks) false false b
+          last (inr b) = at ∙ get_or_past (replicate n false) (k - length marks) false
+              (let r = length-replicate {A = Bool} n false in omega (arith, b, r))
+
+      same : (k : ℕ) → get_or (marks ++ replicate n false) k false ≡ get_or marks k false
+      same k = by (cases_lt k (length marks))
+        where
+          by : (k < length marks) ⊎ (length marks ≤ k)
+              → get_or (marks ++ replicate n false) k false ≡ get_or marks k false
+          by (inl l) = get_or_append_left marks (replicate n false) false k l
+          by (inr l) = past k l ∙ sym (get_or_past marks k false l)
+
+-- one that isn't marked is a further one
+pub found_less : (marks : List Bool) (found : List ℕ) (place : ℕ) → AreMarked marks found
+    → place < length marks → get_or marks place false ≡ false → length found < length marks
+found_less marks found place h within free =
+    let few = found_few (set marks place true) (found ++ place ∷ []) (AreMarked-add marks found h
+    place within free) in
+    let a = length-set marks place true in let b = length_push found place in
+    omega (arith, few, a, b)
+
+-- the marks that are left, where those of the first n were taken away
+abbrev pub AreLeft : (old new : List Bool) → List ℕ → ℕ → Type 0
+AreLeft old new found n = (k : ℕ) → get_or new k false ≡ true
+    → (get_or old k false ≡ true) × ((i : ℕ) → i < n → get_or found i 0 ≢ k)
+
+pub AreLeft-next : (old new : List Bool) (found : List ℕ) (n place : ℕ) → AreLeft old new found n
+    → place ≡ get_or found n 0 → place < length new
+    → AreLeft old (set new place false) found (n + 1)
+AreLeft-next old new found n place h e within k t = by (cases_eq k place)
+  where
+    by : (k ≡ place) ⊎ (k ≢ place)
+        → (get_or old k false ≡ true) × ((i : ℕ) → i < n + 1 → get_or found i 0 ≢ k)
+    by (inl q) = absurd (true≢false (sym t ∙ ap (λ z. get_or (set new place false) z false) q
+        ∙ get_or-set_same new place false false within))
+    by (inr q) =
+        let g = h k (sym (get_or-set_other new place k false false q) ∙ t) in
+        (g.0, λ i l r. two g.1 i l r (cases_eq i n))
+      where
+        two : ((i : ℕ) → i < n → get_or found i 0 ≢ k) → (i : ℕ) → i < n + 1 → get_or found i 0 ≡ k
+            → (i ≡ n) ⊎ (i ≢ n) → ⊥
+        two g i l r (inl s) = q (sym r ∙ ap (λ z. get_or found z 0) s ∙ sym e)
+        two g i l r (inr s) = g i (omega arith) r
+
+pub AreLeft-all : (old new : List Bool) (found : List ℕ) (n : ℕ) → AreLeft old new found n
+    → length found ≤ n
+    → (k : ℕ) → get_or new k false ≡ true → (get_or old k false ≡ true) × (¬ Contains found k)
+AreLeft-all old new found n h l k e =
+    let g = h k e in
+    (g.0, λ c. let a = c.1 in g.1 c.0 (omega (arith, a, l)) (get_or_default found c.0 0 k a ∙ c.2))
+
+pub AreMarked-cleared : (old new : List Bool) (found : List ℕ) → AreMarked old found
+    → ((k : ℕ) → get_or new k false ≡ true → (get_or old k false ≡ true) × (¬ Contains found k))
+    → AreMarked new []
+AreMarked-cleared old new found h left = record {
+  once = IsDistinct-none;
+  marked = λ k. (
+    λ e. let g = left k e in absurd (g.1 ((h.marked k).0 g.0)),
+    λ c. let b = c.1 in absurd (omega (arith, b)),
+  );
+}

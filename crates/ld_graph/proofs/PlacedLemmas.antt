@@ -1,0 +1,166 @@
+-- What the insert of an edge answers is so.
+use Rattle.std.proofs.Common.{◌≡◌, ◌⊎◌, inl, inr, ℕ, suc, ◌+◌, ◌<◌, ◌≤◌, Bool, true, false}
+use Rattle.std.proofs.Common.{true≢false, List, [], ◌∷◌, ◌++◌, length, get_or, Some, IfSome}
+use Rattle.std.proofs.Common.{Contains, arith, refl, sym, ap, subst, ◌∙◌}
+use Rattle.std.proofs.lemmas.List.Elements.{Contains-append_left, Contains-get_or, Contains-push}
+use Rattle.ld_graph.specs.declared.graph.Graph.TheInside.{Inside}
+use Rattle.ld_graph.specs.declared.placed.Insert.{Insert}
+use Rattle.ld_graph.specs.declared.placed.Insert.TheVariants.{Known, Kept, Moved, Closed, AfterCycle}
+use Rattle.ld_graph.specs.declared.Edge.{Edge}
+use Rattle.ld_graph.specs.Edges.{edge, IsEdge, Seen, with_edge}
+use Rattle.ld_graph.specs.Order.{HasCycle, IsInserted, IsOrder, StaysOutside}
+use Rattle.ld_graph.specs.Lists.{IsNear}
+use Rattle.ld_graph.specs.Inner.Kept.{IsKept, order_of, seen}
+use Rattle.ld_graph.specs.Inner.Placed.{IsPlaced}
+use Rattle.ld_graph.specs.Inner.Repairs.{AreInverse, Reached}
+use Rattle.ld_graph.proofs.EdgeLemmas.{IsEdge-push}
+use Rattle.ld_graph.proofs.EndedLemmas.{Far-rises, Far-same}
+use Rattle.ld_graph.proofs.WalkLemmas.{HasWalk-Far, IsWalk-Far}
+
+-- where ranks rise along the steps there is no cycle
+pub acyclic : (step : ℕ → ℕ → Type 0) (ranks : List ℕ)
+    → ((x y : ℕ) → step x y → get_or ranks x 0 < get_or ranks y 0) → ¬ HasCycle step
+acyclic step ranks rises w =
+    let f = IsWalk-Far step w.0 w.0 w.1.0 w.1.1 in
+    let l = Far-rises step ranks rises f.0 w.0 w.0 f.1.1 in
+    omega (arith, l)
+
+-- a cycle stays one
+pub HasCycle-more : (edges : List Edge) (a b : ℕ) → HasCycle (IsEdge edges)
+    → HasCycle (IsEdge (edges ++ edge a b ∷ []))
+HasCycle-more edges a b w =
+    let f = IsWalk-Far (IsEdge edges) w.0 w.0 w.1.0 w.1.1 in (
+      w.0,
+      HasWalk-Far (IsEdge (edges ++ edge a b ∷ [])) f.0 w.0 w.0 (Far-same (IsEdge edges) (IsEdge
+          (edges ++ edge a b ∷ [])) (λ x y e. Contains-append_left edges (edge a b ∷ []) (edge x y) e) f.0
+          w.0 w.0 f.1.1),
+    )
+
+-- an edge to where a walk leads to it closes a cycle
+pub HasCycle-closed : (edges : List Edge) (a b : ℕ) → Reached (IsEdge edges) b a
+    → HasCycle (IsEdge (edges ++ edge a b ∷ []))
+HasCycle-closed edges a b (inl e) = (
+  a,
+  HasWalk-Far (IsEdge (edges ++ edge a b ∷ [])) 0 a a (subst (λ z. IsEdge (edges ++ edge a b
+      ∷ []) a z) e (Contains-push edges (edge a b))),
+)
+HasCycle-closed edges a b (inr w) =
+    let f = IsWalk-Far (IsEdge edges) b a w.0 w.1 in (
+      a,
+      HasWalk-Far (IsEdge (edges ++ edge a b ∷ [])) (suc f.0) a a (
+        b,
+        (
+          Contains-push edges (edge a
+              b),
+          Far-same (IsEdge edges) (IsEdge (edges ++ edge a b ∷ [])) (λ x y e. Contains-append_left
+              edges (edge a b ∷ []) (edge x y) e) f.0 b a f.1.1,
+        ),
+      ),
+    )
+
+Reached-same : (s t : ℕ → ℕ → Type 0) → ((x y : ℕ) → s x y → t x y) → (a b : ℕ) → Reached s a b
+    → Reached t a b
+Reached-same s t to a b (inl e) = inl e
+Reached-same s t to a b (inr w) =
+    let f = IsWalk-Far s a b w.0 w.1 in
+    inr (HasWalk-Far t f.0 a b (Far-same s t to f.0 a b f.1.1))
+
+module _ (g : Inside) (h : IsKept g) (a b : ℕ) (now : Bool) (ranks : List ℕ) where
+  abbrev Placed : Insert → Type 0
+  Placed answer = IsPlaced (IsNear g.lists.after.lists) a b answer g.has_cycle now g.ranks.ranks ranks
+
+  pub placed_length : (answer : Insert) → Placed answer → length ranks ≡ length g.ranks.ranks
+  placed_length Known p = absurd p
+  placed_length Kept p = ap length p.1.1.0
+  placed_length (Moved k) p = p.1.1.1.len
+  placed_length Closed p = ap length p.1.1.0
+  placed_length AfterCycle p = ap length p.1.1
+
+  pub placed_rises : (answer : Insert) → Placed answer → now ≡ false
+      → (x y : ℕ) → IsEdge (g.edges.keys ++ edge a b ∷ []) x y → get_or ranks x 0 < get_or ranks y 0
+  placed_rises Known p f x y e = absurd p
+  placed_rises Kept p f x y e = by (IsEdge-push g.edges.keys a b x y e)
+    where
+      by : IsEdge g.edges.keys x y ⊎ ((a ≡ x) × (b ≡ y)) → get_or ranks x 0 < get_or ranks y 0
+      by (inl o) = subst (λ r. get_or r x 0 < get_or r y 0) (sym p.1.1.0) (h.rises p.0 x y o)
+      by (inr o) = subst (λ z. get_or ranks z 0 < get_or ranks y 0) o.0 (subst (λ z. get_or ranks a
+          0 < get_or ranks z 0) o.1 (subst (λ r. get_or r a 0 < get_or r b 0) (sym p.1.1.0)
+          p.1.1.1))
+  placed_rises (Moved k) p f x y e = by (IsEdge-push g.edges.keys a b x y e)
+    where
+      by : IsEdge g.edges.keys x y ⊎ ((a ≡ x) × (b ≡ y)) → get_or ranks x 0 < get_or ranks y 0
+      by (inl o) = p.1.1.1.rises x y ((h.after_edges x y).1 o)
+      by (inr o) = subst (λ z. get_or ranks z 0 < get_or ranks y 0) o.0 (subst (λ z. get_or ranks a
+          0 < get_or ranks z 0) o.1 p.1.1.1.turned)
+  placed_rises Closed p f x y e = absurd (true≢false (sym p.1.0 ∙ f))
+  placed_rises AfterCycle p f x y e = absurd (true≢false (sym p.1.0 ∙ f))
+
+  near_edges : (x y : ℕ) → IsNear g.lists.after.lists x y → IsEdge g.edges.keys x y
+  near_edges x y n = (h.after_edges x y).0 n
+
+  pub placed_cycle : (answer : Insert) → Placed answer → now ≡ true
+      → HasCycle (IsEdge (g.edges.keys ++ edge a b ∷ []))
+  placed_cycle Known p t = absurd p
+  placed_cycle Kept p t = absurd (true≢false (sym t ∙ p.1.0))
+  placed_cycle (Moved k) p t = absurd (true≢false (sym t ∙ p.1.0))
+  placed_cycle Closed p t = HasCycle-closed g.edges.keys a b (Reached-same (IsNear
+      g.lists.after.lists) (IsEdge g.edges.keys) near_edges b a p.1.1.1)
+  placed_cycle AfterCycle p t = HasCycle-more g.edges.keys a b (h.cycle p.0)
+
+  abbrev pub made : Seen
+  made = with_edge (seen g) a b (order_of now ranks)
+
+  pub inserted : (answer : Insert) → Placed answer → ¬ IsEdge g.edges.keys a b
+      → IsInserted (seen g) a b answer made
+  inserted Known p fresh = absurd p
+  inserted Kept p fresh = record {
+    fresh = fresh;
+    no_cycle = acyclic (IsEdge (g.edges.keys ++ edge a b ∷ [])) ranks (placed_rises Kept p p.1.0);
+    ranks = subst (λ z. IfSome (order_of z g.ranks.ranks) (λ r. get_or r a 0 < get_or r b 0)) (sym
+        p.0) p.1.1.1;
+    graph = ap (λ o. with_edge (seen g) a b o) (ap (λ z. order_of z ranks) p.1.0
+        ∙ ap (λ r. Some r) p.1.1.0 ∙ sym (ap (λ z. order_of z g.ranks.ranks) p.0));
+  }
+  inserted (Moved k) p fresh = record {
+    fresh = fresh;
+    no_cycle = acyclic (IsEdge (g.edges.keys ++ edge a b ∷ [])) ranks (placed_rises (Moved k) p
+        p.1.0);
+    ranks = subst (λ z. IfSome (order_of z g.ranks.ranks) (λ r. IfSome (order_of now ranks) (λ m.
+        (get_or r b 0 < get_or r a 0) × (StaysOutside a b r m) × (k + get_or r b 0 ≤ get_or r a 0
+        + 1)))) (sym p.0)
+        (subst (λ z. IfSome (order_of z ranks) (λ m. (get_or g.ranks.ranks b 0 < get_or
+        g.ranks.ranks a 0) × (StaysOutside a b g.ranks.ranks m) × (k + get_or g.ranks.ranks b 0
+        ≤ get_or g.ranks.ranks a 0 + 1))) (sym p.1.0)
+        (p.1.1.0, p.1.1.1.outside, p.1.1.1.few));
+    graph = refl;
+  }
+  inserted Closed p fresh = record {
+    fresh = fresh;
+    no_cycle = acyclic (IsEdge g.edges.keys) g.ranks.ranks (h.rises p.0);
+    cycle = placed_cycle Closed p p.1.0;
+    graph = ap (λ z. with_edge (seen g) a b (order_of z ranks)) p.1.0;
+  }
+  inserted AfterCycle p fresh = record {
+    fresh = fresh;
+    cycle = h.cycle p.0;
+    graph = ap (λ z. with_edge (seen g) a b (order_of z ranks)) p.1.0;
+  }
+
+-- the ranks of an acyclic graph are an order
+pub IsOrder-kept : (g : Inside) → IsKept g → (classes : List ℕ) → AreInverse g.ranks.ranks classes
+    → g.has_cycle ≡ false → IsOrder (IsEdge (seen g).edges) (seen g).classes g.ranks.ranks
+IsOrder-kept g h classes i f = record {
+  len = h.ranked;
+  below = λ c l.
+      let n = h.ranked in let b = i.rank_below c (omega (arith, l, n)) in omega (arith, b, n);
+  once = λ c d l m e.
+      let n = h.ranked in
+      sym (i.back c (omega (arith, l, n))) ∙ ap (λ z. get_or classes z 0) e
+      ∙ i.back d (omega (arith, m, n));
+  each = λ r l.
+      let n = h.ranked in
+      let b = i.class_below r (omega (arith, l, n)) in
+      subst (Contains g.ranks.ranks) (i.forth r (omega (arith, l, n)))
+      (Contains-get_or g.ranks.ranks (get_or classes r 0) 0 b);
+  rises = h.rises f;
+}

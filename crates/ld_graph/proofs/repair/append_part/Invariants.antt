@@ -1,0 +1,10 @@
+use Rattle.std.proofs.Common.{◌≡◌, ◌≤◌, ◌++◌, get_or, vec_capacity}
+use Rattle.ld_graph.specs.Inner.Repairs.{is_part, picked}
+use Rattle.ld_graph.proofs.repair.append_part.Given as goal
+
+abbrev pub invariant-loop-place : goal.invariant-loop-place
+invariant-loop-place l = record {
+  items : l.moved.items ≡ l.fn.moved.items
+      ++ picked (is_part l.search.found l.found) (λ k. get_or l.row k 0) l.place;
+  capacity : vec_capacity l.fn.moved ≤ vec_capacity l.moved;
+}

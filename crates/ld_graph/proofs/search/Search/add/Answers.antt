@@ -1,0 +1,42 @@
+use Rattle.std.proofs.Common.{◌≡◌, ◌<◌, ◌∙◌, inl, ap, subst, arith, sym, length, false}
+use Rattle.std.proofs.Common.{Contains, get_or, set, true, refl}
+use Rattle.std.proofs.lemmas.List.{get_or_read}
+use Rattle.ld_graph.specs.Inner.Marks.{AreMarked}
+use Rattle.ld_graph.proofs.MarkLemmas.{AreMarked-add, found_less}
+use Rattle.ld_graph.proofs.search.Search.add.Goals as goal
+
+pub invariant_of-self : goal.invariant_of-self
+invariant_of-self c =
+    let size = ap (λ s. s.size) c.self.view_is in
+    let within : c.args.place < length c.self.inside.marks.items = omega (arith, size, c.requires) in
+    let free : get_or c.self.inside.marks.items c.args.place false ≡ false =
+    sym (get_or_read c.self.inside.marks.items c.args.place c.index.result.now within
+    c.index.ensures false) ∙ c.if-not-index.true in (
+      subst (AreMarked (set c.self.inside.marks.items c.args.place true)) (sym c.in-Ok.ensures.items)
+          (AreMarked-add c.self.inside.marks.items c.self.inside.found.items c.self.invariant.0
+          c.args.place within free),
+      omega (arith, c.self.invariant.1, c.in-Ok.ensures.capacity),
+    )
+
+pub unreachable-requires : goal.unreachable-requires
+unreachable-requires c =
+    let size = ap (λ s. s.size) c.self.view_is in
+    let within : c.args.place < length c.self.inside.marks.items = omega (arith, size, c.requires) in
+    let free : get_or c.self.inside.marks.items c.args.place false ≡ false =
+    sym (get_or_read c.self.inside.marks.items c.args.place c.index.result.now within
+    c.index.ensures false) ∙ c.if-not-index.true in
+    let less = found_less c.self.inside.marks.items c.self.inside.found.items c.args.place
+    c.self.invariant.0 within free in
+    omega (arith, less, c.self.invariant.1, c.in_default.ensures.full)
+
+pub returns-else-not-index-clause-found : goal.returns-else-not-index-clause-found
+returns-else-not-index-clause-found c =
+    let size = ap (λ s. s.size) c.self.view_is in
+    let within : c.args.place < length c.self.inside.marks.items = omega (arith, size, c.requires) in
+    let read = get_or_read c.self.inside.marks.items c.args.place c.index.result.now within
+    c.index.ensures false in
+    inl (
+      subst (λ s. Contains s.found c.args.place) c.self.view_is
+          ((c.self.invariant.0.marked c.args.place).0 (sym read ∙ c.if-not-index.false)),
+      refl,
+    )

@@ -1,0 +1,142 @@
+-- What a repair of the ranks says of its working space. No public contract cites this file.
+use Rattle.std.specs.Prelude.{◌≡◌, ◌≢◌, true, false, nat_eq, ℕ, zero, suc, ◌+◌, ◌<◌, ◌≤◌, Bool, not, if◌then◌else◌, List, []}
+use Rattle.std.specs.Prelude.{◌∷◌, ◌++◌, ◌-◌, ◌⊎◌, length, slice_index, Contains}
+use Rattle.std.specs.List.{list_any}
+use Rattle.ld_graph.specs.declared.lists.Side.{Side}
+use Rattle.ld_graph.specs.declared.lists.Side.TheVariants.{After, Before}
+use Rattle.ld_graph.specs.Lists.{IsNear, Sides}
+use Rattle.ld_graph.specs.Order.{StaysOutside}
+use Rattle.ld_graph.specs.Walks.{HasWalk}
+
+-- of the first n numbers so many pass the test
+abbrev pub count : (ℕ → Bool) → ℕ → ℕ
+count p zero = 0
+count p (suc n) = count p n + (if p n then 1 else 0)
+
+-- of the first n items those whose places pass the test, in their order
+abbrev pub picked : (ℕ → Bool) → (ℕ → ℕ) → ℕ → List ℕ
+picked p item zero = []
+picked p item (suc n) = if p n then picked p item n ++ item n ∷ [] else picked p item n
+
+-- the place that place i of m goes to where those that pass the test go to the front, and all keep
+-- their order
+abbrev pub split_place : (ℕ → Bool) → (m i : ℕ) → ℕ
+split_place p m i = if p i then count p i else count p m + count (λ k. not (p k)) i
+
+-- the items in their new order
+abbrev pub split : (ℕ → Bool) → (ℕ → ℕ) → ℕ → List ℕ
+split p item m = picked p item m ++ picked (λ k. not (p k)) item m
+
+-- what a search has found, among so many places
+pub record Sought : Type 0 where
+  pub found : List ℕ
+  pub size : ℕ
+
+-- the place was there, or is the last now
+abbrev pub IsAdded : List ℕ → ℕ → List ℕ → Type 0
+IsAdded old place new = (Contains old place × (new ≡ old))
+    ⊎ ((¬ Contains old place) × (new ≡ old ++ place ∷ []))
+
+-- the rank is one of so many from the least one on
+abbrev pub IsInside : (low len rank : ℕ) → Type 0
+IsInside low len rank = (low ≤ rank) × (rank < low + len)
+
+-- the row has the classes whose ranks are in a range, in their order
+pub record IsRow (ranks : List ℕ) (low : ℕ) (row : List ℕ) : Type 0 where
+  pub at : (k : ℕ) → k < length row → (slice_index row k < length ranks)
+      × (slice_index ranks (slice_index row k) ≡ low + k)
+  pub back : (x : ℕ) → x < length ranks → IsInside low (length row) (slice_index ranks x)
+      → slice_index row (slice_index ranks x - low) ≡ x
+
+-- places of classes that are near were added
+pub record IsGrown (near : ℕ → Type 0) (rank : ℕ → ℕ) (low len : ℕ) (old new : List ℕ) : Type 0 where
+  pub longer : length old ≤ length new
+  pub front : (i : ℕ) → i < length old → slice_index new i ≡ slice_index old i
+  pub fresh : (k : ℕ) → Contains new k → Contains old k
+      ⊎ ((x : ℕ) × (near x × ((rank x ≡ low + k) × (k < len))))
+
+-- the class is this one, or a walk leads to it
+abbrev pub Reached : (ℕ → ℕ → Type 0) → ℕ → ℕ → Type 0
+Reached near a b = (a ≡ b) ⊎ HasWalk near a b
+
+-- the places that were found from this one are those of classes that it reaches
+pub record IsSought (near : ℕ → ℕ → Type 0) (row : List ℕ) (start : ℕ) (found : List ℕ) : Type 0 where
+  pub begun : Contains found start
+  pub within : (k : ℕ) → Contains found k → k < length row
+  pub reached : (k : ℕ) → Contains found k → Reached near (slice_index row start)
+      (slice_index row k)
+
+-- of the first n classes that were found, all neighbours in the range were found
+abbrev pub IsClosed : (ℕ → ℕ → Type 0) → (ranks : List ℕ) → (low : ℕ) → (row found : List ℕ)
+    → (n : ℕ) → Type 0
+IsClosed near ranks low row found n = (i y : ℕ) → i < n
+    → near (slice_index row (slice_index found i)) y
+    → IsInside low (length row) (slice_index ranks y)
+    → Contains found (slice_index ranks y - low)
+
+-- the search on this side has ended
+abbrev pub HasEnded : Side → (sides : Sides) → (ranks : List ℕ) → (low : ℕ)
+    → (row behind ahead : List ℕ) → Type 0
+HasEnded Before sides ranks low row behind ahead =
+    IsClosed (IsNear sides.before.lists) ranks low row behind (length behind)
+HasEnded After sides ranks low row behind ahead =
+    IsClosed (IsNear sides.after.lists) ranks low row ahead (length ahead)
+
+-- the place is one of those that were found, or is none of them
+abbrev pub is_part : List ℕ → Bool → ℕ → Bool
+is_part found true k = list_any (nat_eq k) found
+is_part found false k = not (list_any (nat_eq k) found)
+
+-- the places that go to the front: what the search backward found, or what the other didn't find
+abbrev pub in_front : Side → (behind ahead : List ℕ) → ℕ → Bool
+in_front Before behind ahead = is_part behind true
+in_front After behind ahead = is_part ahead false
+
+-- the search that ended has found the place that the other one began at
+abbrev pub HasMet : Side → (len : ℕ) → (behind ahead : List ℕ) → Type 0
+HasMet Before len behind ahead = Contains behind 0
+HasMet After len behind ahead = Contains ahead (len - 1)
+
+-- the first n of these classes have the ranks from the least one on, and all else is as before
+pub record IsGiven (moved : List ℕ) (low n : ℕ) (ranks classes new_ranks new_classes : List ℕ) : Type 0 where
+  pub rank_at : (k : ℕ) → k < n → slice_index new_ranks (slice_index moved k) ≡ low + k
+  pub rank_else : (c : ℕ) → ((k : ℕ) → k < n → slice_index moved k ≢ c)
+      → slice_index new_ranks c ≡ slice_index ranks c
+  pub class_at : (k : ℕ) → k < n → slice_index new_classes (low + k) ≡ slice_index moved k
+  pub class_else : (r : ℕ) → (r < low) ⊎ (low + n ≤ r)
+      → slice_index new_classes r ≡ slice_index classes r
+
+-- the ranks, and the class at each rank
+pub record AreInverse (ranks classes : List ℕ) : Type 0 where
+  pub len : length classes ≡ length ranks
+  pub rank_below : (c : ℕ) → c < length ranks → slice_index ranks c < length ranks
+  pub class_below : (r : ℕ) → r < length ranks → slice_index classes r < length ranks
+  pub back : (c : ℕ) → c < length ranks → slice_index classes (slice_index ranks c) ≡ c
+  pub forth : (r : ℕ) → r < length ranks → slice_index ranks (slice_index classes r) ≡ r
+
+-- the row has a new order, in which no step goes back and its last class comes before its first
+pub record IsPlan (step : ℕ → ℕ → Type 0) (ranks : List ℕ) (low : ℕ) (row moved : List ℕ)
+    (expanded : ℕ) : Type 0 where
+  pub front : ℕ → Bool
+  pub in_order : moved ≡ split front (slice_index row) (length row)
+  pub closed : (x y : ℕ) → step x y → IsInside low (length row) (slice_index ranks x)
+      → IsInside low (length row) (slice_index ranks y)
+      → front (slice_index ranks y - low) ≡ true → front (slice_index ranks x - low) ≡ true
+  pub last : front (length row - 1) ≡ true
+  pub first : front 0 ≡ false
+  pub few : expanded ≤ length row
+
+-- what is seen of the ranks: the rank of each class, the class at each rank, and for how many
+-- classes there is memory
+pub record Ranked : Type 0 where
+  pub ranks : List ℕ
+  pub classes : List ℕ
+  pub room : ℕ
+
+-- the ranks were repaired for an edge from a to b
+pub record IsRepaired (step : ℕ → ℕ → Type 0) (a b : ℕ) (old new : List ℕ) (expanded : ℕ) : Type 0 where
+  pub len : length new ≡ length old
+  pub rises : (x y : ℕ) → step x y → slice_index new x < slice_index new y
+  pub turned : slice_index new a < slice_index new b
+  pub outside : StaysOutside a b old new
+  pub few : expanded + slice_index old b ≤ slice_index old a + 1

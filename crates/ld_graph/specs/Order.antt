@@ -1,0 +1,70 @@
+-- An order of a graph's classes, and what an insert makes of it.
+use Rattle.std.specs.Prelude.{◌≡◌, ℕ, ◌<◌, ◌≤◌, ◌⊎◌, List, length, slice_index, Contains}
+use Rattle.std.specs.Prelude.{◌+◌, IfSome, None}
+use Rattle.ld_graph.specs.declared.placed.Insert.{Insert}
+use Rattle.ld_graph.specs.declared.placed.Insert.TheVariants.{Known, Kept, Moved, Closed, AfterCycle}
+use Rattle.ld_graph.specs.Edges.{IsEdge, Seen, with_edge}
+use Rattle.ld_graph.specs.Walks.{HasWalk}
+
+-- an order of n classes: a list with one rank per class, the ranks being 0 to n - 1, each once, and
+-- every step goes from a lesser to a greater rank
+pub record IsOrder (step : ℕ → ℕ → Type 0) (n : ℕ) (ranks : List ℕ) : Type 0 where
+  pub len : length ranks ≡ n
+  pub below : (c : ℕ) → c < n → slice_index ranks c < n
+  pub once : (c d : ℕ) → c < n → d < n → slice_index ranks c ≡ slice_index ranks d → c ≡ d
+  pub each : (r : ℕ) → r < n → Contains ranks r
+  pub rises : (x y : ℕ) → step x y → slice_index ranks x < slice_index ranks y
+
+-- there is a walk that ends where it begins
+abbrev pub HasCycle : (ℕ → ℕ → Type 0) → Type 0
+HasCycle step = (c : ℕ) × HasWalk step c c
+
+-- every class whose old rank is outside the range from b's old rank to a's keeps its rank
+abbrev pub StaysOutside : (a b : ℕ) (old new : List ℕ) → Type 0
+StaysOutside a b old new = (x : ℕ) → x < length old
+    → (slice_index old x < slice_index old b) ⊎ (slice_index old a < slice_index old x)
+    → slice_index new x ≡ slice_index old x
+
+-- the edge from a to b was there, and nothing changes
+pub record IsKnown (old : Seen) (a b : ℕ) (new : Seen) : Type 0 where
+  pub there : IsEdge old.edges a b
+  pub same : new ≡ old
+
+-- the edge was added without a cycle, and a's rank was below b's: all ranks stay
+pub record IsInOrder (old : Seen) (a b : ℕ) (new : Seen) : Type 0 where
+  pub fresh : ¬ IsEdge old.edges a b
+  pub no_cycle : ¬ HasCycle (IsEdge new.edges)
+  pub ranks : IfSome old.order (λ ranks. slice_index ranks a < slice_index ranks b)
+  pub graph : new ≡ with_edge old a b old.order
+
+-- the edge was added without a cycle, and a's rank was above b's: only ranks in the range from b's
+-- to a's change, and at most as many lists were read as there are ranks in it
+pub record IsMoved (old : Seen) (a b expanded : ℕ) (new : Seen) : Type 0 where
+  pub fresh : ¬ IsEdge old.edges a b
+  pub no_cycle : ¬ HasCycle (IsEdge new.edges)
+  pub ranks : IfSome old.order (λ ranks. IfSome new.order (λ moved.
+      (slice_index ranks b < slice_index ranks a)
+      × (StaysOutside a b ranks moved)
+      × (expanded + slice_index ranks b ≤ slice_index ranks a + 1)))
+  pub graph : new ≡ with_edge old a b new.order
+
+-- the edge was added, and the first cycle came with it
+pub record IsClosing (old : Seen) (a b : ℕ) (new : Seen) : Type 0 where
+  pub fresh : ¬ IsEdge old.edges a b
+  pub no_cycle : ¬ HasCycle (IsEdge old.edges)
+  pub cycle : HasCycle (IsEdge new.edges)
+  pub graph : new ≡ with_edge old a b None
+
+-- the edge was added, and there was a cycle before
+pub record IsAfterCycle (old : Seen) (a b : ℕ) (new : Seen) : Type 0 where
+  pub fresh : ¬ IsEdge old.edges a b
+  pub cycle : HasCycle (IsEdge old.edges)
+  pub graph : new ≡ with_edge old a b None
+
+-- what the insert of the edge from a to b answers, and what it makes of the graph
+abbrev pub IsInserted : (old : Seen) (a b : ℕ) → Insert → (new : Seen) → Type 0
+IsInserted old a b Known new = IsKnown old a b new
+IsInserted old a b Kept new = IsInOrder old a b new
+IsInserted old a b (Moved expanded) new = IsMoved old a b expanded new
+IsInserted old a b Closed new = IsClosing old a b new
+IsInserted old a b AfterCycle new = IsAfterCycle old a b new

@@ -1,0 +1,59 @@
+//! What the insert of an edge does to the ranks.
+
+ghost use Rattle.std.specs.Prelude.{◌≡◌, ◌↔◌, ℕ, ◌<◌, false, length, slice_index};
+ghost use Rattle.ld_graph.specs.Inner.Placed.{IsPlaced};
+ghost use Rattle.ld_graph.specs.Lists.{IsNear};
+
+use crate::lists::Lists;
+use crate::ranks::Ranks;
+
+/// What an insert has done.
+#[derive(Clone, Copy, PartialEq, Eq, Debug)]
+pub enum Insert {
+    /// The edge was there already, and nothing has changed.
+    Known,
+    /// The edge was added, and all ranks stand.
+    Kept,
+    /// The edge was added, and the ranks were repaired.
+    Moved {
+        /// How many lists of neighbours were read for it.
+        expanded: u64,
+    },
+    /// The edge was added, and the first cycle is there now.
+    Closed,
+    /// The edge was added, and there was a cycle before.
+    AfterCycle,
+}
+
+/// Makes the ranks fit an edge from `a` to `b` that is about to come, or notes that it closes a
+/// cycle.
+pub fn place(lists: &Lists, ranks: &mut Ranks, has_cycle: &mut bool, a: u32, b: u32) -> Insert
+    requires a { a < length ranks.old.ranks }
+    requires b { b < length ranks.old.ranks }
+    requires classes { (length lists.now.after.lists ≡ length ranks.old.ranks)
+        × (length lists.now.before.lists ≡ length ranks.old.ranks) }
+    requires turned { (x y : ℕ) → IsNear lists.now.after.lists x y
+        ↔ IsNear lists.now.before.lists y x }
+    requires ends { (x y : ℕ) → IsNear lists.now.after.lists x y
+        → (x < length ranks.old.ranks) × (y < length ranks.old.ranks) }
+    requires rises { has_cycle.old ≡ false → (x y : ℕ) → IsNear lists.now.after.lists x y
+        → slice_index ranks.old.ranks x < slice_index ranks.old.ranks y }
+    ensures room { ranks.new.room ≡ ranks.old.room }
+    ensures placed { IsPlaced (IsNear lists.now.after.lists) a b result has_cycle.old has_cycle.new
+        ranks.old.ranks ranks.new.ranks }
+{
+    if *has_cycle {
+        return Insert::AfterCycle;
+    }
+    let (from, to) = (ranks.ranks()[a as usize], ranks.ranks()[b as usize]);
+    if from < to {
+        return Insert::Kept;
+    }
+    if a != b {
+        if let Some(expanded) = ranks.repair(lists, a, b) {
+            return Insert::Moved { expanded };
+        }
+    }
+    *has_cycle = true;
+    Insert::Closed
+}

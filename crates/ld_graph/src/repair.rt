@@ -1,0 +1,195 @@
+//! A repair of the ranks from one rank to another.
+
+ghost use Rattle.std.specs.Prelude.{◌≡◌, ◌≢◌, ◌↔◌, ◌⊎◌, ℕ, ◌+◌, ◌-◌, ◌^◌, ◌<◌, ◌≤◌, [], ◌++◌, not};
+ghost use Rattle.std.specs.Prelude.{length, slice_index, vec_len, vec_capacity, MatchOption};
+ghost use Rattle.std.specs.Bool.{OnTrue, OnFalse};
+ghost use Rattle.ld_graph.specs.Inner.Repairs.{AreInverse, HasMet, IsGiven, IsPlan, IsRepaired};
+ghost use Rattle.ld_graph.specs.Inner.Repairs.{IsRow, Reached};
+ghost use Rattle.ld_graph.specs.Inner.Repairs.{count, in_front, is_part, picked, split};
+ghost use Rattle.ld_graph.specs.Lists.{IsNear};
+
+use crate::lists::{Lists, Side, Steps};
+use crate::search::Search;
+use crate::turns::search_in_turn;
+
+/// Room for a repair.
+#[derive(Drop)]
+pub struct Space {
+    pub behind: Search,
+    pub ahead: Search,
+    pub moved: Vec<u32>,
+}
+
+/// Appends those classes of the row whose places were found, or those whose places weren't, in
+/// their order.
+fn append_part(row: &[u32], search: &Search, found: bool, moved: &mut Vec<u32>)
+    requires size { length row.now ≤ search.now.size }
+    requires few { length row.now ≤ 2 ^ 30 }
+    requires room { vec_len moved.old + count (is_part search.now.found found) (length row.now)
+        ≤ vec_capacity moved.old }
+    ensures items { moved.new.items ≡ moved.old.items
+        ++ picked (is_part search.now.found found) (slice_index row.now) (length row.now) }
+    ensures capacity { vec_capacity moved.old ≤ vec_capacity moved.new }
+{
+    for place in 0..row.len() {
+        if search.has(place as u32) == found {
+            let Ok(()) = moved.push(row[place]) else {
+                unreachable!()
+            };
+        }
+    }
+}
+
+/// Puts those classes of the row first whose places were found, or those whose places weren't, and
+/// then the others, all in their order.
+fn split_row(row: &[u32], search: &Search, front: bool, moved: &mut Vec<u32>)
+    requires size { length row.now ≤ search.now.size }
+    requires few { length row.now ≤ 2 ^ 30 }
+    requires room { length row.now ≤ vec_capacity moved.old }
+    ensures items { moved.new.items
+        ≡ split (is_part search.now.found front) (slice_index row.now) (length row.now) }
+    ensures capacity { vec_capacity moved.old ≤ vec_capacity moved.new }
+{
+    moved.clear();
+    append_part(row, search, front, moved);
+    append_part(row, search, !front, moved);
+}
+
+/// Puts the classes of the row in their new order, by the search that has ended, and answers whether
+/// the searches are apart. Where they have met there is no such order.
+fn reorder(ended: Side, row: &[u32], behind: &Search, ahead: &Search, moved: &mut Vec<u32>) -> bool
+    requires some { 0 < length row.now }
+    requires behind { length row.now ≤ behind.now.size }
+    requires ahead { length row.now ≤ ahead.now.size }
+    requires few { length row.now ≤ 2 ^ 30 }
+    requires room { length row.now ≤ vec_capacity moved.old }
+    ensures met { OnFalse result (HasMet ended (length row.now) behind.now.found ahead.now.found) }
+    ensures apart { OnTrue result
+        (¬ HasMet ended (length row.now) behind.now.found ahead.now.found) }
+    ensures items { OnTrue result (moved.new.items
+        ≡ split (in_front ended behind.now.found ahead.now.found) (slice_index row.now)
+        (length row.now)) }
+    ensures capacity { vec_capacity moved.old ≤ vec_capacity moved.new }
+{
+    match ended {
+        Side::Before => {
+            if behind.has(0) {
+                return false;
+            }
+            split_row(row, behind, true, moved);
+        }
+        Side::After => {
+            if ahead.has(row.len() as u32 - 1) {
+                return false;
+            }
+            split_row(row, ahead, false, moved);
+        }
+    }
+    true
+}
+
+/// Finds a new order of the classes of the row, in which no edge goes back and the last one comes
+/// before the first, leaves it in `space.moved` and answers how many lists were read. Answers `None`
+/// where there is no such order, since a walk leads from the first class to the last.
+fn plan(lists: &Lists, ranks: &[u32], low: u32, row: &[u32], space: &mut Space) -> Option<u64>
+    requires row { IsRow ranks.now low row.now }
+    requires some { 0 < length row.now }
+    requires few { length row.now ≤ 2 ^ 30 }
+    requires classes { (length lists.now.after.lists ≡ length ranks.now)
+        × (length lists.now.before.lists ≡ length ranks.now) }
+    requires turned { (x y : ℕ) → IsNear lists.now.after.lists x y
+        ↔ IsNear lists.now.before.lists y x }
+    requires ends { (x y : ℕ) → IsNear lists.now.after.lists x y
+        → (x < length ranks.now) × (y < length ranks.now) }
+    requires rises { (x y : ℕ) → IsNear lists.now.after.lists x y
+        → slice_index ranks.now x < slice_index ranks.now y }
+    requires behind { (space.old.behind.found ≡ []) × (length row.now ≤ space.old.behind.size) }
+    requires ahead { (space.old.ahead.found ≡ []) × (length row.now ≤ space.old.ahead.size) }
+    requires room { length row.now ≤ vec_capacity space.old.moved }
+    ensures plan { MatchOption result
+        (Reached (IsNear lists.now.after.lists) (slice_index row.now 0)
+        (slice_index row.now (length row.now - 1)))
+        (IsPlan (IsNear lists.now.after.lists) ranks.now low row.now space.new.moved.items) }
+    ensures behind { (space.new.behind.found ≡ [])
+        × (space.new.behind.size ≡ space.old.behind.size) }
+    ensures ahead { (space.new.ahead.found ≡ [])
+        × (space.new.ahead.size ≡ space.old.ahead.size) }
+    ensures room { vec_capacity space.old.moved ≤ vec_capacity space.new.moved }
+{
+    let mut steps = Steps::new();
+    let Space {
+        behind,
+        ahead,
+        moved,
+    } = space;
+    let ended = search_in_turn(lists, &mut steps, ranks, low, row, behind, ahead);
+    let apart = reorder(ended, row, behind, ahead, moved);
+    behind.clear();
+    ahead.clear();
+    if apart { Some(steps.count()) } else { None }
+}
+
+/// Gives these classes the ranks from `low` on, in this order.
+fn give_ranks(moved: &[u32], low: u32, ranks: &mut [u32], classes: &mut [u32])
+    requires within { low + length moved.now ≤ length classes.old }
+    requires few { length classes.old ≤ 2 ^ 30 }
+    requires ends { (k : ℕ) → k < length moved.now
+        → slice_index moved.now k < length ranks.old }
+    requires once { (j k : ℕ) → j < k → k < length moved.now
+        → slice_index moved.now j ≢ slice_index moved.now k }
+    ensures { IsGiven moved.now low (length moved.now)
+        ranks.old classes.old ranks.new classes.new }
+{
+    let mut rank = low;
+    for class in moved {
+        ranks[*class as usize] = rank;
+        classes[rank as usize] = *class;
+        rank += 1;
+    }
+}
+
+/// Repairs the ranks, and the class at each rank, for an edge from `a` to `b` that goes against
+/// them, and answers how many lists were read. Answers `None`, and changes nothing, where a walk leads
+/// from `b` to `a`.
+pub fn mend(
+    lists: &Lists,
+    ranks: &mut [u32],
+    classes: &mut [u32],
+    a: u32,
+    b: u32,
+    space: &mut Space,
+) -> Option<u64>
+    requires inverse { AreInverse ranks.old classes.old }
+    requires a { a < length ranks.old }
+    requires b { b < length ranks.old }
+    requires against { slice_index ranks.old b < slice_index ranks.old a }
+    requires few { length ranks.old ≤ 2 ^ 30 }
+    requires classes { (length lists.now.after.lists ≡ length ranks.old)
+        × (length lists.now.before.lists ≡ length ranks.old) }
+    requires turned { (x y : ℕ) → IsNear lists.now.after.lists x y
+        ↔ IsNear lists.now.before.lists y x }
+    requires ends { (x y : ℕ) → IsNear lists.now.after.lists x y
+        → (x < length ranks.old) × (y < length ranks.old) }
+    requires rises { (x y : ℕ) → IsNear lists.now.after.lists x y
+        → slice_index ranks.old x < slice_index ranks.old y }
+    requires behind { (space.old.behind.found ≡ [])
+        × (length ranks.old ≤ space.old.behind.size) }
+    requires ahead { (space.old.ahead.found ≡ []) × (length ranks.old ≤ space.old.ahead.size) }
+    requires room { length ranks.old ≤ vec_capacity space.old.moved }
+    ensures ranks { MatchOption result
+        ((ranks.new ≡ ranks.old) × Reached (IsNear lists.now.after.lists) b a)
+        (IsRepaired (IsNear lists.now.after.lists) a b ranks.old ranks.new) }
+    ensures inverse { AreInverse ranks.new classes.new }
+    ensures behind { (space.new.behind.found ≡ [])
+        × (space.new.behind.size ≡ space.old.behind.size) }
+    ensures ahead { (space.new.ahead.found ≡ [])
+        × (space.new.ahead.size ≡ space.old.ahead.size) }
+    ensures room { vec_capacity space.old.moved ≤ vec_capacity space.new.moved }
+{
+    let low = ranks[b as usize];
+    let high = ranks[a as usize];
+    let row = &classes[low as usize..high as usize + 1];
+    let expanded = plan(lists, ranks, low, row, space)?;
+    give_ranks(&space.moved, low, ranks, classes);
+    Some(expanded)
+}

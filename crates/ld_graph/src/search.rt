@@ -1,0 +1,120 @@
+//! What a search of a repair has found.
+
+ghost use Rattle.std.specs.Prelude.{◌≡◌, ℕ, ◌<◌, ◌≤◌, [], nat_eq, Contains, OnOk, true, false};
+ghost use Rattle.std.specs.Prelude.{length, slice_index, slice_index_or, MatchOption};
+ghost use Rattle.std.specs.Prelude.{◌↔◌, IsTrue};
+ghost use Rattle.std.specs.List.{IsDistinct, list_any};
+ghost use Rattle.ld_graph.specs.Inner.Repairs.{IsAdded};
+
+use std::alloc::{AllocError, Global};
+use std::marker::Model;
+
+/// The places that a search has found, in the order in which it found them.
+#[derive(Drop)]
+pub struct Search {
+    found: Vec<u32>,
+    /// For each place whether it was found.
+    marks: Vec<bool>,
+}
+
+impl Model for Search {
+    ghost use Rattle.ld_graph.specs.Inner.Repairs.{Sought};
+
+    ghost Value = { Sought };
+
+    ghost use Rattle.ld_graph.specs.Inner.Marks.{AreMarked};
+    ghost use Rattle.std.specs.Prelude.{◌≤◌, vec_len, vec_capacity};
+
+    ghost view = { λ s. record { found = s.found.items; size = vec_len s.marks } };
+
+    ghost invariant = { λ s. AreMarked s.marks.items s.found.items
+        × (vec_len s.marks ≤ vec_capacity s.found) };
+}
+
+impl Search {
+    /// A search among no places.
+    pub fn new(alloc: Global) -> Search
+        ensures found { result.found ≡ [] }
+    {
+        Search {
+            found: Vec::new(alloc),
+            marks: Vec::new(alloc),
+        }
+    }
+
+    /// Takes the memory for a search among so many places.
+    pub fn room(&mut self, size: usize) -> Result<(), AllocError>
+        ensures found { self.new.found ≡ self.old.found }
+        ensures kept { self.old.size ≤ self.new.size }
+        ensures size { OnOk result (size ≤ self.new.size) }
+    {
+        if size <= self.marks.len() {
+            return Ok(());
+        }
+        self.found.reserve(size)?;
+        self.marks.resize(size, false)?;
+        Ok(())
+    }
+
+    /// Finds a place. One that was found stays where it is.
+    pub fn add(&mut self, place: u32)
+        requires { place < self.old.size }
+        ensures found { IsAdded self.old.found place self.new.found }
+        ensures size { self.new.size ≡ self.old.size }
+    {
+        if !self.marks[place as usize] {
+            self.marks[place as usize] = true;
+            let Ok(()) = self.found.push(place) else {
+                unreachable!()
+            };
+        }
+    }
+
+    /// Whether the place was found.
+    pub fn has(&self, place: u32) -> bool
+        requires { place < self.now.size }
+        ensures { result ≡ list_any (nat_eq place) self.now.found }
+    {
+        self.marks[place as usize]
+    }
+
+    /// The place that was found as number `number`, from 0 on, if so many were found.
+    pub fn place(&self, number: usize) -> Option<u32>
+        ensures place { MatchOption result (length self.now.found ≤ number)
+            (λ k. (number < length self.now.found) × (k ≡ slice_index self.now.found number)) }
+        ensures once { IsDistinct nat_eq self.now.found }
+        ensures below { (k : ℕ) → Contains self.now.found k → k < self.now.size }
+    {
+        let _ = &self.marks;
+        self.found.get(number).copied()
+    }
+
+    /// Whether no more than so many places were found.
+    pub fn ends_at(&self, number: usize) -> bool
+        ensures { IsTrue result ↔ (length self.now.found ≤ number) }
+    {
+        let _ = &self.marks;
+        self.found.len() <= number
+    }
+
+    /// Forgets what was found.
+    pub fn clear(&mut self)
+        ensures once { IsDistinct nat_eq self.old.found }
+        ensures found { self.new.found ≡ [] }
+        ensures size { self.new.size ≡ self.old.size }
+    {
+        unmark(&mut self.marks, &self.found);
+        self.found.clear();
+    }
+}
+
+/// Takes the marks of these places away.
+fn unmark(marks: &mut [bool], found: &[u32])
+    requires { (k : ℕ) → Contains found.now k → k < length marks.old }
+    ensures { (k : ℕ) → slice_index_or marks.new k false ≡ true
+        → (slice_index_or marks.old k false ≡ true) × (¬ Contains found.now k) }
+{
+    for place in found {
+        marks[*place as usize] = false;
+    }
+}

@@ -1,0 +1,97 @@
+//! Two searches that take turns, from both ends of a range of ranks.
+
+ghost use Rattle.std.specs.Prelude.{◌≡◌, ℕ, ◌+◌, ◌-◌, ◌*◌, ◌^◌, ◌<◌, ◌≤◌, [], length, slice_index};
+ghost use Rattle.std.specs.Prelude.{Contains, MatchOption};
+ghost use Rattle.ld_graph.specs.Inner.Repairs.{HasEnded, IsGrown, IsInside, IsRow, IsSought};
+ghost use Rattle.ld_graph.specs.Lists.{IsNear};
+
+use crate::lists::{Lists, Side, Steps};
+use crate::search::Search;
+
+/// The place of a rank in the range of so many ranks from the least one on, if it is in it.
+fn place_of(rank: u32, low: u32, len: usize) -> Option<u32>
+    ensures { MatchOption result (¬ IsInside low len rank)
+        (λ k. (rank ≡ low + k) × (k < len)) }
+{
+    let place = rank.checked_sub(low)?;
+    if (place as usize) < len {
+        Some(place)
+    } else {
+        None
+    }
+}
+
+/// Finds those of these classes whose ranks are in the range.
+fn expand(near: &[u32], ranks: &[u32], low: u32, len: usize, search: &mut Search)
+    requires ends { (x : ℕ) → Contains near.now x → x < length ranks.now }
+    requires size { len ≤ search.old.size }
+    ensures size { search.new.size ≡ search.old.size }
+    ensures grown { IsGrown (Contains near.now) (slice_index ranks.now) low len
+        search.old.found search.new.found }
+    ensures taken { (x : ℕ) → Contains near.now x → IsInside low len (slice_index ranks.now x)
+        → Contains search.new.found (slice_index ranks.now x - low) }
+{
+    for x in near {
+        if let Some(place) = place_of(ranks[*x as usize], low, len) {
+            search.add(place);
+        }
+    }
+}
+
+/// Searches backward from the last class of the range and forward from its first, one class each in
+/// turn and within the range alone, until one side has ended, and answers which.
+pub fn search_in_turn(
+    lists: &Lists,
+    steps: &mut Steps,
+    ranks: &[u32],
+    low: u32,
+    row: &[u32],
+    behind: &mut Search,
+    ahead: &mut Search,
+) -> Side
+    requires row { IsRow ranks.now low row.now }
+    requires some { 0 < length row.now }
+    requires few { length row.now ≤ 2 ^ 30 }
+    requires classes { (length lists.now.after.lists ≡ length ranks.now)
+        × (length lists.now.before.lists ≡ length ranks.now) }
+    requires after { (x y : ℕ) → IsNear lists.now.after.lists x y → y < length ranks.now }
+    requires before { (x y : ℕ) → IsNear lists.now.before.lists x y → y < length ranks.now }
+    requires behind { (behind.old.found ≡ []) × (length row.now ≤ behind.old.size) }
+    requires ahead { (ahead.old.found ≡ []) × (length row.now ≤ ahead.old.size) }
+    requires steps { steps.old + 2 * length row.now < 2 ^ 64 }
+    ensures size { (behind.new.size ≡ behind.old.size) × (ahead.new.size ≡ ahead.old.size) }
+    ensures behind { IsSought (IsNear lists.now.before.lists) row.now (length row.now - 1)
+        behind.new.found }
+    ensures ahead { IsSought (IsNear lists.now.after.lists) row.now 0 ahead.new.found }
+    ensures ended { HasEnded result lists.now ranks.now low row.now
+        behind.new.found ahead.new.found }
+    ensures steps { steps.new ≤ steps.old + length behind.new.found + length ahead.new.found }
+{
+    behind.add(row.len() as u32 - 1);
+    ahead.add(0);
+    let mut done = 0;
+    while let Some(place) = behind.place(done) {
+        expand(
+            lists.before(row[place as usize], steps),
+            ranks,
+            low,
+            row.len(),
+            behind,
+        );
+        if behind.ends_at(done + 1) {
+            return Side::Before;
+        }
+        let Some(place) = ahead.place(done) else {
+            return Side::After;
+        };
+        expand(
+            lists.after(row[place as usize], steps),
+            ranks,
+            low,
+            row.len(),
+            ahead,
+        );
+        done += 1;
+    }
+    Side::Before
+}

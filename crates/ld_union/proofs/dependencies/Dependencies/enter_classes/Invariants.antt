@@ -1,0 +1,12 @@
+use Rattle.std.proofs.Common.{◌≡◌, ◌+◌, ◌≤◌}
+use Rattle.ld_union.proofs.dependencies.Dependencies.enter_classes.Given as goal
+
+abbrev pub invariant-loop : goal.invariant-loop
+invariant-loop l = record {
+  so_far : l.self.graph.classes ≡ l.counter;
+  room : l.count ≤ l.self.graph.classes + l.self.graph.spare_classes;
+  edges : l.self.graph.edges ≡ l.fn.self.graph.edges;
+  spare : l.self.graph.spare_edges ≡ l.fn.self.graph.spare_edges;
+  rows : l.self.rows ≡ l.fn.self.rows;
+  closing : l.self.closing ≡ l.fn.self.closing;
+}

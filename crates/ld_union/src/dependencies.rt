@@ -1,0 +1,180 @@
+//! The dependencies between numbered classes, each with the place where it was first seen.
+ghost use Rattle.std.specs.Prelude.{◌≡◌, ℕ, ◌+◌, ◌<◌, ◌≤◌, List, Option, OnErr, OnOk, [], All};
+ghost use Rattle.std.specs.Prelude.{length, take, vec_len, vec_capacity};
+ghost use Rattle.ld_graph.specs.declared.graph.TheConstants.{MOST_CLASSES};
+ghost use Rattle.ld_graph.specs.Edges.{empty_graph, with_spares};
+ghost use Rattle.ld_facts.specs.Dependency.{Dependency};
+ghost use Rattle.ld_facts.specs.Facts.{IsKnown};
+ghost use Rattle.ld_facts.specs.Union.{dependencies_of};
+ghost use Rattle.ld_union.specs.Inner.Names.{ArePlaces};
+ghost use Rattle.ld_graph.specs.Edges.{Seen};
+ghost use Rattle.ld_graph.specs.Order.{IsInserted};
+ghost use Rattle.ld_union.specs.Inner.Union.{AreNumbered, AreWitnessed, IsClosing, edges_of, named_edge};
+ghost use Rattle.ld_union.specs.Inner.Union.{with_dependencies, with_seen};
+
+use ld_facts::{Facts, Witness};
+use ld_graph::{Edge, Graph, Insert};
+use std::alloc::{AllocError, Global};
+
+/// An edge of the graph, and where its dependency was first seen.
+#[derive(Clone, Copy, Debug)]
+pub struct Witnessed {
+    /// The edge, from the class that was held to the one that was acquired under it.
+    pub edge: Edge,
+    /// Where the dependency was first seen: the least trace number first, then the least line.
+    pub first: Witness,
+}
+
+/// The dependencies between some numbered classes.
+#[derive(Drop)]
+pub(crate) struct Dependencies {
+    pub(crate) graph: Graph,
+    /// The edges of the graph, by their numbers.
+    pub(crate) rows: Vec<Witnessed>,
+    /// The edge with which the first cycle came.
+    pub(crate) closing: Option<Edge>,
+}
+
+impl Dependencies {
+    /// Those of no classes.
+    pub(crate) fn new(alloc: Global) -> Dependencies
+        ensures graph { result.graph ≡ empty_graph }
+        ensures rows { result.rows.items ≡ [] }
+        ensures closing { IsClosing [] result.closing }
+    {
+        Dependencies {
+            graph: Graph::new(alloc),
+            rows: Vec::new(alloc),
+            closing: None,
+        }
+    }
+
+    /// Takes the memory for so many further classes and dependencies.
+    ///
+    /// `AllocError` where memory was refused. Nothing has changed in either case but spares.
+    pub(crate) fn room(&mut self, classes: usize, edges: usize) -> Result<(), AllocError>
+        requires { self.old.graph.classes + classes ≤ MOST_CLASSES }
+        ensures graph { self.new.graph
+            ≡ with_spares self.old.graph self.new.graph.spare_classes self.new.graph.spare_edges }
+        ensures rows { self.new.rows.items ≡ self.old.rows.items }
+        ensures closing { self.new.closing ≡ self.old.closing }
+        ensures spare_classes { OnOk result (classes ≤ self.new.graph.spare_classes) }
+        ensures spare_edges { OnOk result (edges ≤ self.new.graph.spare_edges) }
+        ensures spare_rows { OnOk result
+            (vec_len self.new.rows + edges ≤ vec_capacity self.new.rows) }
+    {
+        self.rows.reserve(edges)?;
+        self.graph.room(classes, edges)
+    }
+
+    /// Adds classes until there are so many.
+    pub(crate) fn enter_classes(&mut self, count: usize)
+        requires fewer { self.old.graph.classes ≤ count }
+        requires room { count ≤ self.old.graph.classes + self.old.graph.spare_classes }
+        ensures count { self.new.graph.classes ≡ count }
+        ensures edges { self.new.graph.edges ≡ self.old.graph.edges }
+        ensures room { self.new.graph.spare_edges ≡ self.old.graph.spare_edges }
+        ensures rows { self.new.rows ≡ self.old.rows }
+        ensures closing { self.new.closing ≡ self.old.closing }
+    {
+        for _ in self.graph.len()..count {
+            self.graph.add_class();
+        }
+    }
+
+    /// Notes the dependencies of a trace whose classes have these numbers, each where it was seen
+    /// first.
+    pub(crate) fn add(&mut self, facts: &Facts<'_>, places: &[u32])
+        requires edges { self.old.graph.edges ≡ edges_of self.old.rows.items }
+        requires count { length places.now ≡ length facts.now.classes }
+        requires within { All (λ place. place < self.old.graph.classes) places.now }
+        requires spare_edges { length facts.now.edges ≤ self.old.graph.spare_edges }
+        requires spare_rows { vec_len self.old.rows + length facts.now.edges
+            ≤ vec_capacity self.old.rows }
+        ensures known { IsKnown facts.now }
+        ensures classes { self.new.graph.classes ≡ self.old.graph.classes }
+        ensures edges { self.new.graph.edges ≡ edges_of self.new.rows.items }
+        ensures front { take (length self.old.rows.items) (edges_of self.new.rows.items)
+            ≡ edges_of self.old.rows.items }
+        ensures closing { IsClosing (edges_of self.old.rows.items) self.old.closing
+            → IsClosing (edges_of self.new.rows.items) self.new.closing }
+        ensures numbered { (classes : List (List ℕ)) → length classes ≡ self.old.graph.classes
+            → AreNumbered classes self.old.rows.items → AreNumbered classes self.new.rows.items }
+        ensures witnesses { (classes : List (List ℕ)) → length classes ≡ self.old.graph.classes
+            → AreNumbered classes self.old.rows.items
+            → ArePlaces classes facts.now.classes places.now
+            → (first : Dependency → Option Witness)
+            → AreWitnessed classes self.old.rows.items first
+            → AreWitnessed classes self.new.rows.items
+            (with_dependencies first facts.now.source.number
+            (dependencies_of facts.now.source)) }
+    {
+        let number = facts.source().number;
+        for seen in facts.edges() {
+            let edge = Edge {
+                from: places[seen.from as usize],
+                to: places[seen.to as usize],
+            };
+            let witness = Witness {
+                number,
+                line: seen.line,
+            };
+            self.note(edge, witness);
+        }
+    }
+
+    /// Notes that the dependency was seen there, unless it was seen earlier.
+    fn note(&mut self, edge: Edge, witness: Witness)
+        requires edges { self.old.graph.edges ≡ edges_of self.old.rows.items }
+        requires from { edge.from < self.old.graph.classes }
+        requires to { edge.to < self.old.graph.classes }
+        requires spare_edges { 0 < self.old.graph.spare_edges }
+        requires spare_rows { vec_len self.old.rows < vec_capacity self.old.rows }
+        ensures classes { self.new.graph.classes ≡ self.old.graph.classes }
+        ensures edges { self.new.graph.edges ≡ edges_of self.new.rows.items }
+        ensures spare_edges { self.old.graph.spare_edges ≤ self.new.graph.spare_edges + 1 }
+        ensures spare_rows { (n : ℕ) → vec_len self.old.rows + (n + 1) ≤ vec_capacity self.old.rows
+            → vec_len self.new.rows + n ≤ vec_capacity self.new.rows }
+        ensures front { (n : ℕ) → n ≤ length self.old.rows.items
+            → take n (edges_of self.new.rows.items) ≡ take n (edges_of self.old.rows.items) }
+        ensures closing { IsClosing (edges_of self.old.rows.items) self.old.closing
+            → IsClosing (edges_of self.new.rows.items) self.new.closing }
+        ensures numbered { (classes : List (List ℕ)) → length classes ≡ self.old.graph.classes
+            → AreNumbered classes self.old.rows.items → AreNumbered classes self.new.rows.items }
+        ensures noted { (classes : List (List ℕ)) → length classes ≡ self.old.graph.classes
+            → AreNumbered classes self.old.rows.items
+            → (first : Dependency → Option Witness)
+            → AreWitnessed classes self.old.rows.items first
+            → AreWitnessed classes self.new.rows.items
+            (with_seen first (named_edge classes edge) witness) }
+    {
+        match self.graph.edge(edge.from, edge.to) {
+            Some(number) => {
+                let known = &mut self.rows[number as usize];
+                known.first = known.first.earlier(witness);
+            }
+            None => {
+                let answer = self.graph.insert(edge.from, edge.to);
+                self.closing = closing_then(self.closing, edge, answer);
+                let seen = Witnessed {
+                    edge,
+                    first: witness,
+                };
+                let Ok(()) = self.rows.push(seen) else {
+                    unreachable!()
+                };
+            }
+        }
+    }
+}
+
+/// The edge with which the first cycle came, once the insert of an edge gave this answer.
+fn closing_then(closing: Option<Edge>, edge: Edge, answer: Insert) -> Option<Edge>
+    ensures { (old new : Seen) → IsInserted old edge.from edge.to answer new
+        → IsClosing old.edges closing → IsClosing new.edges result }
+{
+    match answer {
+        Insert::Closed => Some(edge),
+        _ => closing,
+    }
+}

@@ -1,0 +1,60 @@
+//! What one more trace showed for the first time.
+ghost use Rattle.std.specs.Prelude.{◌≡◌, [], OnErr, OnOk, vec_len, vec_capacity};
+
+use ld_class::Usage;
+use std::alloc::{AllocError, Global};
+use std::marker::Model;
+
+/// A usage bit that a class didn't have before.
+#[derive(Clone, Copy, Debug, PartialEq, Eq)]
+pub struct NewBit {
+    /// The number of the class.
+    pub class: u32,
+    /// The bit, alone.
+    pub bit: Usage,
+}
+
+/// What was new to a union in the trace that was added last: the edges from a number on, and usage
+/// bits. It keeps its memory for the next trace.
+#[derive(Drop)]
+pub struct News {
+    pub(crate) first_edge: usize,
+    pub(crate) bits: Vec<NewBit>,
+    /// The numbers of the trace's classes, by their places in the trace.
+    pub(crate) places: Vec<u32>,
+}
+
+impl Model for News {
+    ghost use Rattle.ld_union.specs.Inner.News.{PlainNews};
+
+    ghost Value = { PlainNews };
+
+    ghost view = { λ n. record { first_edge = n.first_edge; bits = n.bits.items } };
+}
+
+impl News {
+    /// Nothing new to a union of no traces. Takes no memory.
+    pub fn new(alloc: Global) -> News
+        ensures { result ≡ record { first_edge = 0; bits = [] } }
+    {
+        News {
+            first_edge: 0,
+            bits: Vec::new(alloc),
+            places: Vec::new(alloc),
+        }
+    }
+
+    /// The number from which on edges are new. Takes no memory.
+    pub fn first_edge(&self) -> usize
+        ensures { result ≡ self.now.first_edge }
+    {
+        self.first_edge
+    }
+
+    /// The new usage bits, in no promised order. Takes no memory.
+    pub fn bits(&self) -> &[NewBit]
+        ensures { result.now ≡ self.now.bits }
+    {
+        &self.bits
+    }
+}
