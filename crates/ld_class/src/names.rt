@@ -5,6 +5,7 @@ ghost use Rattle.ld_class.specs.Names.{place_of, with_name, IsNameAt, AreDistinc
 
 use indexmap::IndexSet;
 use std::alloc::{AllocError, Global};
+use std::hash::{Hash, Hasher};
 use std::marker::Model;
 
 /// The most names that a `Classes` holds: more than a whole stream of traces can have, and few
@@ -14,13 +15,31 @@ pub const MAX_NAMES: usize = 1 << 30;
 // Clauses cite the constant, so they would hold with any other number that fits.
 const _: () = prove!(MAX_NAMES == 1_073_741_824);
 
+/// A name as a key: its bytes are hashed by one write, where a slice hashes them one by one.
+#[derive(Clone, Copy, PartialEq, Eq)]
+struct Name<'a>(&'a [u8]);
+
+impl<'a> Hash for Name<'a> {
+    ghost use Rattle.std.specs.Prelude.{[], ◌∷◌};
+    ghost use Rattle.std.specs.Cmp.Rules.{hashing};
+    ghost use Rattle.std.proofs.Common.{rules};
+
+    ghost hash_input = { λ name. name.0.now ∷ [] };
+
+    ghost respects_eq = { Prim.search (hashing, rules) };
+
+    fn hash<H: Hasher>(&self, state: &mut H) {
+        state.write(self.0);
+    }
+}
+
 /// Distinct names in the order in which each was first interned. A name's place in that order,
 /// counted from 0, is its number.
 ///
 /// The names are borrowed: no byte of them is copied.
 #[derive(Drop)]
 pub struct Classes<'a> {
-    names: IndexSet<&'a [u8]>,
+    names: IndexSet<Name<'a>>,
 }
 
 impl<'a> Model for Classes<'a> {
@@ -30,10 +49,10 @@ impl<'a> Model for Classes<'a> {
 
     ghost Value = { List (List ℕ) };
 
-    ghost view = { λ c. map (λ name. name.now) c.names.keys };
+    ghost view = { λ c. map (λ name. name.0.now) c.names.keys };
 
     ghost invariant = { λ c. (length c.names.keys ≤ MAX_NAMES)
-        × AreDistinct (map (λ name. name.now) c.names.keys) };
+        × AreDistinct (map (λ name. name.0.now) c.names.keys) };
 }
 
 impl<'a> Classes<'a> {
@@ -75,7 +94,7 @@ impl<'a> Classes<'a> {
         ensures kept { (id : ℕ) → id < length self.old
             → IsNameAt self.new id (slice_index_or self.old id []) }
     {
-        let (place, _) = self.names.insert_full(name)?;
+        let (place, _) = self.names.insert_full(Name(name))?;
         Ok(place as u32)
     }
 
@@ -84,7 +103,7 @@ impl<'a> Classes<'a> {
         ensures place { result ≡ place_of self.now name.now }
         ensures exact { (id : ℕ) → (result ≡ Some id) ↔ IsNameAt self.now id name.now }
     {
-        let place = self.names.get_index_of(&name)?;
+        let place = self.names.get_index_of(&Name(name))?;
         Some(place as u32)
     }
 
@@ -94,7 +113,7 @@ impl<'a> Classes<'a> {
         ensures name { result.now ≡ slice_index_or self.now id [] }
         ensures place { place_of self.now result.now ≡ Some id }
     {
-        self.names.as_slice()[id as usize]
+        self.names.as_slice()[id as usize].0
     }
 
     /// Keeps the first `n` names, or all where there are no more. The memory stays for later ones.

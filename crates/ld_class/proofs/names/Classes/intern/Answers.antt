@@ -33,7 +33,7 @@ invariant_of-self-2 c = (
 
 pub returns-clause-names : goal.returns-clause-names
 returns-clause-names c =
-    ap shown c.in_ok-place.ensures.keys ∙ insert_key-shown c.self.inside.names.keys c.args.name
+    ap shown c.in_ok-place.ensures.keys ∙ insert_key-shown c.self.inside.names.keys (record { 0 = c.args.name })
     ∙ ap (λ names. with_name names c.args.name.now) c.self.view_is
 
 pub returns-clause-place : goal.returns-clause-place
