@@ -8,6 +8,7 @@ use ld_trace::{MOST_TRACES, Source, split};
 use ld_work::{Back, Desk, Feeder, Gate, MOST_FEEDERS, NoGate, Tally, WorkFault, work};
 use std::alloc::{AllocError, Global};
 use std::marker::Brand;
+use std::ops::Range;
 use std::process::Abort;
 use std::sync::Wait;
 use std::sync::atomic::{AtomicU64, Ordering};
@@ -88,6 +89,15 @@ fn feed<'a, T: Ledger, E: Ledger, R: Wait + Abort>(
     Ok(feeder)
 }
 
+/// The number of the trace that the desk's book lists first.
+fn first_listed<T: Ledger, E: Ledger, R: Wait>(rt: &R, desk: &Desk<'_, T, E>) -> Option<u64> {
+    desk.look(rt)
+        .book()
+        .listed()
+        .first()
+        .map(|trace| trace.source.number)
+}
+
 /// Two threads add a trace each to a desk, which is then gathered.
 fn two_feeders<T, E, R>(rt: &R, alloc: Global, traces: Blank, events: Blank) -> Result<(), Fail>
 where
@@ -119,9 +129,13 @@ where
     assert_eq!(rt; first.tally(), one);
     assert_eq!(rt; second.tally(), one);
     assert!(rt; feeders.push(first).is_ok());
+    // Either of the two may have come first, and is to stay the first.
+    let listed = first_listed(rt, &desk);
+    assert!(rt; listed.is_some());
     let back = desk.gather(feeders).err().expect(rt, "one feeder back");
     let Back { desk, mut feeders } = back;
     assert_eq!(rt; feeders.len(), 1);
+    assert_eq!(rt; first_listed(rt, &desk), listed);
     assert!(rt; feeders.push(second).is_ok());
     let all = desk.gather(feeders).ok().expect(rt, "both feeders");
     assert_eq!(rt; all.tally.traces, 2);
@@ -129,6 +143,10 @@ where
     for source in [ab, ba] {
         assert!(rt; all.book.listed().iter().any(|trace| trace.source == source));
     }
+    assert_eq!(rt;
+        all.book.listed().first().map(|trace| trace.source.number),
+        listed
+    );
     expect_inversion(rt, &all.book);
     drop(all);
     Ok(())
@@ -194,10 +212,13 @@ fn many_traces_are_read(rt: HostRuntime) -> Result<(), Fail> {
 #[test]
 fn a_long_trace_is_read(rt: HostRuntime) -> Result<(), Fail> {
     let mut stream = b"trace x\n".to_vec(rt.alloc())?;
-    for _ in 0..50_000 {
+    for _ in 0..10_000 {
+        stream.extend_from_slice(
+            b"# a long trace has many bytes, and as many as a million of them are still read\n",
+        )?;
         stream.extend_from_slice(b"acquire t A\nrelease t A\n")?;
     }
-    expect_totals(&rt, rt.alloc(), &stream, 1, 100_000)
+    expect_totals(&rt, rt.alloc(), &stream, 1, 20_000)
 }
 
 /// Asserts that this many workers give the book of `INVERSION`, or that memory was refused.
@@ -252,13 +273,14 @@ pub fn expect_first_once<R: Abort>(rt: &R, counts: &[AtomicU64], first: usize) {
     }
 }
 
-/// Counts passes, and holds those of the first numbers until some more came, for a while.
+/// Counts passes, and holds those of some numbers until more came, for a while.
 #[derive(Drop)]
 struct Meeting {
-    /// The passes of numbers below this one are held.
-    held: u64,
+    /// The passes of these numbers are held.
+    held: Range<u64>,
     /// How many passes they wait for, themselves included.
     awaited: u64,
+    /// How many passes came, of whichever worker and number.
     came: AtomicU64,
     /// How many held passes saw as many come.
     met: AtomicU64,
@@ -267,7 +289,7 @@ struct Meeting {
 }
 
 impl Meeting {
-    fn new(alloc: Global, held: u64, awaited: u64) -> Result<Meeting, AllocError> {
+    fn new(alloc: Global, held: Range<u64>, awaited: u64) -> Result<Meeting, AllocError> {
         Ok(Meeting {
             held,
             awaited,
@@ -284,7 +306,7 @@ impl Gate for Meeting {
         count_at(&self.by_worker, worker);
         count_at(&self.by_number, number);
         self.came.fetch_add(1, Ordering::SeqCst);
-        if number >= self.held {
+        if !self.held.contains(&number) {
             return;
         }
         for _ in 0..10_000_000u64 {
@@ -303,8 +325,10 @@ impl Gate for Meeting {
 fn each_number_passes_once(rt: HostRuntime) -> Result<(), Fail> {
     let sources = sources_of(rt.alloc(), THREE_TRACES)?;
     for workers in [1, 2, 3, 16] {
-        let gate = Meeting::new(rt.alloc(), 0, 0)?;
+        let gate = Meeting::new(rt.alloc(), 0..0, 0)?;
         drop(work(&rt, rt.alloc(), &sources, workers, &gate).expect(&rt, "a book"));
+        // Those of numbers that no source has are told by nothing else.
+        assert_eq!(rt; gate.came.load(Ordering::SeqCst), 3);
         expect_first_once(&rt, &gate.by_number, 3);
     }
     Ok(())
@@ -313,7 +337,7 @@ fn each_number_passes_once(rt: HostRuntime) -> Result<(), Fail> {
 #[test]
 fn two_workers_meet(rt: HostRuntime) -> Result<(), Fail> {
     let sources = sources_of(rt.alloc(), INVERSION)?;
-    let gate = Meeting::new(rt.alloc(), 1, 2)?;
+    let gate = Meeting::new(rt.alloc(), 0..1, 2)?;
     let book = work(&rt, rt.alloc(), &sources, 2, &gate).expect(&rt, "a book");
     assert_eq!(rt; gate.met.load(Ordering::SeqCst), 1);
     expect_inversion(&rt, &book);
@@ -321,15 +345,18 @@ fn two_workers_meet(rt: HostRuntime) -> Result<(), Fail> {
     Ok(())
 }
 
-// While one worker is held at number 0, the other one reads all the rest.
+// While one worker is held at number 0, the other one reads all the rest; and so with each other number,
+// so that no shares that are settled beforehand do, in whichever way they are dealt.
 #[test]
 fn two_numbers_before_zero(rt: HostRuntime) -> Result<(), Fail> {
     let sources = sources_of(rt.alloc(), THREE_TRACES)?;
-    let gate = Meeting::new(rt.alloc(), 1, 3)?;
-    let book = work(&rt, rt.alloc(), &sources, 2, &gate).expect(&rt, "a book");
-    assert_eq!(rt; gate.met.load(Ordering::SeqCst), 1);
-    expect_three_traces(&rt, &book);
-    drop(book);
+    for held in 0..3 {
+        let gate = Meeting::new(rt.alloc(), held..held + 1, 3)?;
+        let book = work(&rt, rt.alloc(), &sources, 2, &gate).expect(&rt, "a book");
+        assert_eq!(rt; gate.met.load(Ordering::SeqCst), 1);
+        expect_three_traces(&rt, &book);
+        drop(book);
+    }
     Ok(())
 }
 
@@ -340,7 +367,7 @@ fn sixteen_workers_meet(rt: HostRuntime) -> Result<(), Fail> {
         stream.extend_from_slice(b"trace x\nacquire t A\nacquire t B\n")?;
     }
     let sources = sources_of(rt.alloc(), &stream)?;
-    let gate = Meeting::new(rt.alloc(), 16, 16)?;
+    let gate = Meeting::new(rt.alloc(), 0..16, 16)?;
     drop(work(&rt, rt.alloc(), &sources, 16, &gate).expect(&rt, "a book"));
     assert_eq!(rt; gate.met.load(Ordering::SeqCst), 16);
     expect_first_once(&rt, &gate.by_worker, 16);
