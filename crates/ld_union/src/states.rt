@@ -1,11 +1,11 @@
 //! One of each interrupt state.
 ghost use Rattle.std.specs.Prelude.{◌≡◌};
-ghost use Rattle.ld_find.specs.Inner.Numbers.{of_state};
+ghost use Rattle.ld_union.specs.Inner.States.{of_state};
 
 use ld_trace::State;
 
 /// One for each of the two states.
-#[derive(Clone, Copy, Debug, PartialEq, Eq)]
+#[derive(Clone, Copy, Debug, Drop, PartialEq, Eq)]
 pub struct PerState<T> {
     /// That of hard.
     pub hard: T,
