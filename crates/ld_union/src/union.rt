@@ -149,6 +149,7 @@ impl<'a> Union<'a> {
         ensures same { result.now ≡ of_state self.now.reached state }
         ensures within { All (λ class. class < length self.now.classes)
             (of_state self.now.reached state) }
+        ensures rows { length self.now.usage ≡ length self.now.classes }
         ensures each { (class : ℕ) → Contains (of_state self.now.reached state) class
             ↔ ((from : ℕ) × IsSourceAt (edges_of self.now.dependencies)
             (bits_of self.now.usage) state class from) }
