@@ -28,5 +28,6 @@ loop-told-preserved c =
 
 pub returns : goal.returns
 returns c =
-    subst (All (λ (told : NewBit). told.bit ≡ usage_of (On c.args.state) → (from : ℕ) → ¬ IsForbiddenAt (edges_of c.args.union.now.dependencies) (bits_of c.args.union.now.usage) c.args.state from told.class))
+    subst (All (λ (told : NewBit). told.bit ≡ usage_of (On c.args.state) → (from : ℕ)
+    → ¬ IsForbiddenAt (edges_of c.args.union.now.dependencies) (bits_of c.args.union.now.usage) c.args.state from told.class))
     (take_all c.loop-told.told-index c.args.bits.now (omega arith)) c.loop-told.invariant

@@ -14,9 +14,11 @@ source-requires-in-Soft c = subst (λ n. c.args.class < n) (ap (λ (union : Plai
 pub returns-in-Hard : goal.returns-in-Hard
 returns-in-Hard c = rw (← c.self.view_is, c.in-Hard.is)
     (let union = c.self.inside in
-    source_at (length union.classes) (edges_of union.dependencies.rows.items) (bits_of union.usage.items) Hard union.dependencies.reach.hard (c.self.invariant.reached Hard) c.args.class c.source.result c.source.ensures)
+    source_at (length union.classes) (edges_of union.dependencies.rows.items) (bits_of union.usage.items) Hard union.dependencies.reach.hard (c.self.invariant.reached Hard)
+    c.args.class c.source.result c.source.ensures)
 
 pub returns-in-Soft : goal.returns-in-Soft
 returns-in-Soft c = rw (← c.self.view_is, c.in-Soft.is)
     (let union = c.self.inside in
-    source_at (length union.classes) (edges_of union.dependencies.rows.items) (bits_of union.usage.items) Soft union.dependencies.reach.soft (c.self.invariant.reached Soft) c.args.class c.source-in-Soft.result c.source-in-Soft.ensures)
+    source_at (length union.classes) (edges_of union.dependencies.rows.items) (bits_of union.usage.items) Soft union.dependencies.reach.soft (c.self.invariant.reached Soft)
+    c.args.class c.source-in-Soft.result c.source-in-Soft.ensures)
