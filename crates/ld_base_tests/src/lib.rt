@@ -1,4 +1,4 @@
-//! Tests of `ld_trace`, `ld_class` and `ld_graph` by their public calls, so that these aren't proved
+//! Tests of `ld_trace`, `ld_class`, `ld_graph` and `ld_reach` by their public calls, so that these aren't proved
 //! once more for them.
 #![tactic(auto)]
 
@@ -8,6 +8,8 @@ mod classes;
 mod events;
 #[cfg(test)]
 mod graphs;
+#[cfg(test)]
+mod reaches;
 #[cfg(test)]
 mod streams;
 #[cfg(test)]

@@ -15,8 +15,7 @@ use Rattle.ld_book.specs.Inner.Kept.{Fields, IsKept}
 use Rattle.ld_book.specs.Totals.{events, events_read, is_refused, refused}
 use Rattle.ld_find.specs.Inner.Numbers.{AreFound}
 use Rattle.ld_union.specs.Usage.{bits_of}
-use Rattle.ld_union.specs.Inner.Union.{Adds, PlainUnion, Shows, edges_of, searched_union}
-use Rattle.ld_union.proofs.SourceLemmas.{shows-searched}
+use Rattle.ld_union.specs.Inner.Union.{Adds, Shows, edges_of}
 
 -- the test of the numbers that are kept
 pub listed_any : (listed : List Listed) (keys : List ℕ) (number : ℕ) → keys ≡ map (λ l. l.source.number) listed → list_any (nat_eq number) keys ≡ is_listed (sources_of listed) number
@@ -25,9 +24,8 @@ listed_any listed keys number numbers =
     ∙ list_any-map (λ (l : Listed). l.source.number) (nat_eq number) listed
     ∙ sym (list_any-map (λ (l : Listed). plain l.source) (λ source. nat_eq number source.number) listed)
 
--- One more trace came to the fields of a book: it was added to the union, in which then something was
--- searched for.
-pub record Enters (old : Fields) (last : Listed) (facts : Known) (added : PlainUnion) (new : Fields) : Type 0 where
+-- One more trace came to the fields of a book.
+pub record Enters (old : Fields) (last : Listed) (facts : Known) (new : Fields) : Type 0 where
   pub known : IsKnown facts
   pub source : plain last.source ≡ facts.source
   pub outcome : last.outcome ≡ facts.outcome
@@ -35,13 +33,12 @@ pub record Enters (old : Fields) (last : Listed) (facts : Known) (added : PlainU
   pub keys : new.keys ≡ old.keys ++ last.source.number ∷ []
   pub events : new.events ≡ old.events + events_read last.outcome
   pub refused : new.refused ≡ old.refused + cond (is_refused last.outcome) 1 0
-  pub adds : Adds (facts.source ∷ []) old.union added
-  pub searched : new.union ≡ searched_union added new.union.searched
+  pub adds : Adds (facts.source ∷ []) old.union new.union
   pub exact : AreFound (edges_of new.union.dependencies) (bits_of new.union.usage) new.found
 
 -- what is kept of some traces and one more
-pub kept-push : (old new : Fields) (last : Listed) (facts : Known) (added : PlainUnion) → IsKept old → Enters old last facts added new → IsKept new
-kept-push old new last facts added is enters = record {
+pub kept-push : (old new : Fields) (last : Listed) (facts : Known) → IsKept old → Enters old last facts new → IsKept new
+kept-push old new last facts is enters = record {
   outcomes = subst AreOutcomes (sym enters.listed) (All-push (λ l. l.outcome ≡ outcome (plain l.source)) old.listed last is.outcomes here);
   fit = subst (All (λ l. Fits (plain l.source))) (sym enters.listed)
       (All-push (λ l. Fits (plain l.source)) old.listed last is.fit (subst Fits (sym enters.source) enters.known.fits));
@@ -62,13 +59,10 @@ kept-push old new last facts added is enters = record {
       ∙ ap refused (sym sources);
   shows =
       subst (λ all. Shows all new.union) (sym sources)
-      (subst (Shows (sources_of old.listed ++ plain last.source ∷ [])) (sym enters.searched)
-      (shows-searched (sources_of old.listed ++ plain last.source ∷ []) added new.union.searched
-      (subst (λ source. Shows (sources_of old.listed ++ source ∷ []) added) (sym enters.source) (enters.adds.shows (sources_of old.listed) is.shows))));
+      (subst (λ source. Shows (sources_of old.listed ++ source ∷ []) new.union) (sym enters.source) (enters.adds.shows (sources_of old.listed) is.shows));
   few =
-      let same : length new.union.classes ≡ length added.classes = ap (λ (union : PlainUnion). length union.classes) enters.searched in
       let more : length (flat_map classes_of (facts.source ∷ [])) ≡ length facts.classes = ap length (append-nil (classes_of facts.source) ∙ sym enters.known.classes) in
-      omega (arith, same, more, ap length enters.listed, length_push old.listed last, is.few, enters.adds.longer.most, enters.known.few);
+      omega (arith, more, ap length enters.listed, length_push old.listed last, is.few, enters.adds.longer.most, enters.known.few);
   exact = enters.exact;
 }
   where

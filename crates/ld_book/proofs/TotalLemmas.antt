@@ -17,7 +17,7 @@ use Rattle.ld_facts.specs.Dependency.{Dependency, least_line, same_dependency}
 use Rattle.ld_facts.specs.Union.{dependencies_of, dependency_witness, first_of, union_dependencies}
 use Rattle.ld_rules.proofs.PlaceLemmas.{alike_from_decides, any_each_once}
 use Rattle.ld_union.specs.declared.dependencies.Witnessed.{Witnessed}
-use Rattle.ld_union.specs.Inner.Union.{AreNumbered, AreWitnessed, named_edge, seen_in}
+use Rattle.ld_union.specs.Inner.Union.{AreBetween, AreWitnessed, named_edge, seen_in}
 use Rattle.ld_union.proofs.EachOnceLemmas.{IsDistinct-each_once, IsEquivalence-from_decides}
 use Rattle.ld_union.proofs.UnionLemmas.{apart_rows, same_dependency-refl, same_dependency-true}
 
@@ -72,7 +72,7 @@ rows_any classes rows first witnessed what = by (is_some (first what)) refl
     by false is = false_from_ne_true _ (absent is)
 
 -- the edges are as many as the dependencies of the union
-pub length-edges : (classes : List (List ℕ)) (rows : List Witnessed) (sources : List PlainSource) → AreNumbered classes rows →
+pub length-edges : (classes : List (List ℕ)) (rows : List Witnessed) (sources : List PlainSource) → AreBetween classes rows →
     AreWitnessed classes rows (dependency_witness sources)
     → length rows ≡ length (union_dependencies sources)
 length-edges classes rows sources is witnessed =

@@ -118,7 +118,7 @@ impl<'a> Book<'a> {
         self.listed.reserve(1)?;
         self.numbers.reserve(1)?;
         self.union.add(facts, &mut self.news)?;
-        self.found.look(&mut self.union, &self.news);
+        self.found.look(&self.union, &self.news);
         self.events += events_of(outcome);
         self.refused += refused_of(outcome);
         let Ok(_) = self.numbers.insert(source.number) else {

@@ -10,7 +10,7 @@ use Rattle.ld_union.specs.declared.dependencies.Witnessed.{Witnessed}
 use Rattle.ld_find.specs.Findings.{IsBefore, IsShown, PlainCycleRow}
 use Rattle.ld_find.specs.Inner.Order.{name_of}
 use Rattle.ld_find.specs.Inner.Rows.{IsCycleRowOf}
-use Rattle.ld_union.specs.Inner.Union.{AreNumbered, AreWitnessed, edges_of}
+use Rattle.ld_union.specs.Inner.Union.{AreBetween, AreWitnessed, edges_of}
 use Rattle.ld_find.specs.Violations.{Depends, IsCycle, Leads}
 use Rattle.ld_find.proofs.NumberLemmas.{depends_from_edge, edge_from_named, walk_from_leads}
 
@@ -27,7 +27,7 @@ pub no_walk : {A : Type 0} (step : A → A → Type 0) (a b : A) (distance : Opt
 no_walk step a b None is none = is
 no_walk step a b (Some n) is none = absurd (true≢false none)
 
-module _ (classes : List (List ℕ)) (rows : List Witnessed) (is : AreNumbered classes rows)
+module _ (classes : List (List ℕ)) (rows : List Witnessed) (is : AreBetween classes rows)
     (sources : List PlainSource) (witnessed : AreWitnessed classes rows (dependency_witness sources)) where
   -- no cycle, where there is no edge
   pub no_cycle-edge : (a b : ℕ) → a < length classes → b < length classes → ¬ IsEdge (edges_of rows) a b → ¬ IsCycle sources (name_of classes a) (name_of classes b)

@@ -12,7 +12,7 @@ use Rattle.ld_union.specs.declared.dependencies.Witnessed.{Witnessed}
 use Rattle.ld_find.specs.Findings.{IsBefore, IsShown, PlainForbiddenRow, shown_marks}
 use Rattle.ld_find.specs.Inner.Order.{name_of}
 use Rattle.ld_find.specs.Inner.Rows.{IsNoted, IsTurnedRowOf}
-use Rattle.ld_union.specs.Inner.Union.{AreNumbered, AreWitnessed, edges_of}
+use Rattle.ld_union.specs.Inner.Union.{AreBetween, AreWitnessed, edges_of}
 use Rattle.ld_find.specs.Violations.{Depends, HasBit, IsForbidden}
 use Rattle.ld_find.proofs.CycleLemmas.{HasWalk-shown}
 use Rattle.ld_find.proofs.NumberLemmas.{walk_from_leads}
@@ -57,7 +57,7 @@ module _ (sources : List PlainSource) where
       walk = subst (λ n. IsShown sources n row.to row.via) (sym from.same) (subst (λ n. IsShown sources x n row.via) (sym to.same) shown)
 
 -- no forbidden walk, where there is no walk
-pub no_forbidden-walk : (classes : List (List ℕ)) (rows : List Witnessed) → AreNumbered classes rows →
+pub no_forbidden-walk : (classes : List (List ℕ)) (rows : List Witnessed) → AreBetween classes rows →
     (sources : List PlainSource) → AreWitnessed classes rows (dependency_witness sources)
     → (state : State) (a b : ℕ) → a < length classes → b < length classes → ¬ HasWalk (IsEdge (edges_of rows)) a b → ¬ IsForbidden sources state (name_of classes a) (name_of classes b)
 no_forbidden-walk classes rows is sources witnessed state a b at_a at_b none forbidden =

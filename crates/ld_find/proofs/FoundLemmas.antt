@@ -1,32 +1,33 @@
 -- What was found stays exact as edges and bits come.
-use Rattle.std.proofs.Common.{option_map, ◌≡◌, ◌⊎◌, inl, inr, ◌<◌, ◌≤◌, ◌++◌, ◌∙◌, [], arith, take-append-drop, MatchOption, List, ℕ, Bool, true, false, Option}
-use Rattle.std.proofs.Common.{Some, None, is_some, All, Contains, refl, take, drop, length, get_or, sym, ap, subst}
+use Rattle.std.proofs.Common.{option_map, ◌≡◌, ◌↔◌, ◌⊎◌, inl, inr, ◌<◌, ◌++◌, ◌∙◌, [], arith, take-append-drop, MatchOption, List, ℕ, true, false, Option}
+use Rattle.std.proofs.Common.{Some, None, is_some, All, Contains, refl, take, drop, get_or, sym, ap, subst}
 use Rattle.std.proofs.lemmas.Bool.{true≢false}
-use Rattle.std.proofs.lemmas.List.{take_all}
-use Rattle.std.proofs.lemmas.List.Elements.{All-contains, Contains-append_left}
+use Rattle.std.proofs.lemmas.List.Elements.{All-contains, Contains-append_cases, Contains-append_left}
 use Rattle.ld_class.specs.declared.usage.Usage.{Usage}
-use Rattle.ld_class.specs.Usage.{has_bit}
 use Rattle.ld_graph.specs.declared.Edge.{Edge}
 use Rattle.ld_graph.specs.Edges.{IsEdge, edge}
 use Rattle.ld_graph.specs.Walks.{HasWalk}
 use Rattle.ld_graph.proofs.WalkLemmas.{IsWalk-same}
 use Rattle.ld_trace.specs.declared.event.State.{State}
-use Rattle.ld_facts.specs.Usage.{Bit, bit_of, usage_of}
+use Rattle.ld_facts.specs.Usage.{Bit, usage_of}
 use Rattle.ld_facts.specs.Usage.Bit.{In, On}
 use Rattle.ld_facts.specs.Uses.{none}
 use Rattle.ld_find.specs.declared.alarms.Forbidden.{Forbidden}
 use Rattle.ld_find.specs.declared.alarms.Found.{Found}
 use Rattle.ld_find.specs.Alarms.{AreExact, IsExact}
-use Rattle.ld_union.specs.Inner.Union.{IsCycleAt}
-use Rattle.ld_find.specs.Inner.Numbers.{AreFound, BitsGrow, EdgesGrow, IsConflictAt, IsForbiddenAt, named_alarms, named_pair, of_state}
+use Rattle.ld_union.specs.Inner.Union.{IsCycleAt, PlainUnion, edges_of}
+use Rattle.ld_find.specs.Inner.Numbers.{AreFound, BitsGrow, EdgesGrow, IsConflictAt, IsForbiddenAt, named_alarms, named_pair}
 use Rattle.ld_find.specs.Inner.Rows.{IsOfEach}
 use Rattle.ld_find.specs.Violations.{IsConflict, IsCycle, IsForbidden}
 use Rattle.ld_trace.specs.Sources.{PlainSource}
 use Rattle.ld_union.specs.declared.news.NewBit.{NewBit}
-use Rattle.ld_union.specs.declared.usage.UsageRow.{UsageRow}
-use Rattle.ld_union.specs.Inner.News.{HasBitAt, TellsBits, new_bit}
+use Rattle.ld_union.specs.Inner.Bits.{HasBitAt, new_bit}
+use Rattle.ld_union.specs.Inner.News.{PlainNews, Tells, TellsBits}
+use Rattle.ld_union.specs.Inner.Reached.{IsSourceAt}
+use Rattle.ld_union.specs.Inner.States.{of_state}
 use Rattle.ld_union.specs.Usage.{bits_of}
 use Rattle.ld_union.proofs.NewsLemmas.{row_within}
+use Rattle.ld_union.proofs.ReachedLemmas.{bit_cases}
 
 module _ {A : Type 0} (P Q : A → Type 0) (kept : (x : A) → P x → Q x) (found : Option A) (exact : IsExact P found) where
   -- one that was found stays
@@ -37,19 +38,8 @@ module _ {A : Type 0} (P Q : A → Type 0) (kept : (x : A) → P x → Q x) (fou
       by None none there = absurd (true≢false (sym there))
       by (Some x) is there = kept x is
 
-  -- where none came, what was found is all
-  pub is_all : ((x : A) → Q x → P x) → IsExact Q found
-  is_all back = by found exact
-    where
-      by : (o : Option A) → IsExact P o → IsExact Q o
-      by None none = λ any. none (any.0, back any.0 any.1)
-      by (Some x) is = kept x is
-
 walk_kept : (old new : List Edge) → EdgesGrow old new → (a b : ℕ) → HasWalk (IsEdge old) a b → HasWalk (IsEdge new) a b
 walk_kept old new kept a b walk = (walk.0, IsWalk-same (IsEdge old) (IsEdge new) kept a b walk.0 walk.1)
-
-pub cycle_kept : (old new : List Edge) → EdgesGrow old new → (e : Edge) → IsCycleAt old e → IsCycleAt new e
-cycle_kept old new kept e cycle = (kept e.from e.to cycle.0, walk_kept old new kept e.to e.from cycle.1)
 
 module _ (state : State) (usage more : List Usage) (bits : BitsGrow usage more) where
   pub conflict_kept : (c : ℕ) → IsConflictAt usage state c → IsConflictAt more state c
@@ -63,31 +53,7 @@ pub edges_kept : (old new : List Edge) (n : ℕ) → take n new ≡ old → Edge
 edges_kept old new n front a b there =
     subst (λ all. IsEdge all a b) (ap (λ es. es ++ drop n new) (sym front) ∙ take-append-drop n new) (Contains-append_left old (drop n new) (edge a b) there)
 
--- whether a class has a bit
-bit_cases : (usage : List Usage) (c : ℕ) (bit : Bit) → HasBitAt usage c bit ⊎ (¬ HasBitAt usage c bit)
-bit_cases usage c bit = by (has_bit (get_or usage c none) (usage_of bit)) refl
-  where
-    by : (b : Bool) → has_bit (get_or usage c none) (usage_of bit) ≡ b → HasBitAt usage c bit ⊎ (¬ HasBitAt usage c bit)
-    by true is = inl is
-    by false is = inr (λ has. true≢false (sym has ∙ is))
-
 module _ (usage more : List Usage) (told : List NewBit) (tells : TellsBits usage more told) where
-  -- where no bit is told, none came
-  pub bits_back : told ≡ [] → BitsGrow more usage
-  bits_back nothing c bit has = by (bit_cases usage c bit)
-    where
-      by : HasBitAt usage c bit ⊎ (¬ HasBitAt usage c bit) → HasBitAt usage c bit
-      by (inl there) = there
-      by (inr new) =
-          let at : Contains [] (new_bit c bit) = subst (λ all. Contains all (new_bit c bit)) nothing (tells.all c bit has new) in
-          absurd (omega (arith, at.1))
-
-  -- the classes of what is told have rows
-  pub told_within : (rows : List UsageRow) → more ≡ bits_of rows → All (λ (t : NewBit). t.class < length rows) told
-  told_within rows are k d within =
-      row_within rows (get_or told k d).class (bit_of (get_or told k d).bit)
-      (subst (λ all. HasBitAt all (get_or told k d).class (bit_of (get_or told k d).bit)) are (tells.each k d within).now)
-
   -- a conflict that was looked for at the bits that came
   pub conflict_looked : (state : State) (before : Option ℕ) → is_some before ≡ false → IsExact (IsConflictAt usage state) before
       → (found : Option ℕ) → MatchOption found (All (λ (t : NewBit). ¬ IsConflictAt more state t.class) told) (IsConflictAt more state) → IsExact (IsConflictAt more state) found
@@ -104,22 +70,50 @@ module _ (usage more : List Usage) (told : List NewBit) (tells : TellsBits usage
       by c conflict (inl acquired) (inr new) = at_new c (On state) conflict conflict.1 new
       by c conflict (inr new) held = at_new c (In state) conflict conflict.0 new
 
--- where nothing came, what was found is all
-pub found_same : (edges all : List Edge) (usage more : List Usage) → EdgesGrow edges all → EdgesGrow all edges → BitsGrow usage more → BitsGrow more usage
-    → (found : Found) → AreFound edges usage found → AreFound all more found
-found_same edges all usage more grow back bits bits_back found are = record {
-  cycle = is_all (IsCycleAt edges) (IsCycleAt all) (cycle_kept edges all grow) found.cycle are.cycle (cycle_kept all edges back);
-  conflict = λ state.
-      is_all (IsConflictAt usage state) (IsConflictAt more state) (conflict_kept state usage more bits) (of_state found.conflict state) (are.conflict state)
-      (conflict_kept state more usage bits_back);
-  forbidden = λ state.
-      is_all (λ (w : Forbidden). IsForbiddenAt edges usage state w.from w.to) (λ (w : Forbidden). IsForbiddenAt all more state w.from w.to)
-      (forbidden_kept state usage more bits edges all grow) (of_state found.forbidden state) (are.forbidden state) (forbidden_kept state more usage bits_back all edges back);
-}
+-- a forbidden walk that was looked for at the classes that were reached since, and at the bits that came
+module _ (old new : PlainUnion) (news : PlainNews) (tells : Tells old new news) (state : State)
+    (each : (class : ℕ) → Contains (of_state new.reached state) class ↔ ((from : ℕ) × IsSourceAt (edges_of new.dependencies) (bits_of new.usage) state class from)) where
+  abbrev WasOne : Forbidden → Type 0
+  WasOne w = IsForbiddenAt (edges_of old.dependencies) (bits_of old.usage) state w.from w.to
 
--- nothing came, where all edges are those that there were
-pub edges_back : (old new : List Edge) (n : ℕ) → take n new ≡ old → length new ≤ n → EdgesGrow new old
-edges_back old new n front past a b there = subst (λ es. IsEdge es a b) (sym (take_all n new past) ∙ front) there
+  abbrev IsOne : Forbidden → Type 0
+  IsOne w = IsForbiddenAt (edges_of new.dependencies) (bits_of new.usage) state w.from w.to
+
+  abbrev NoneTo : ℕ → Type 0
+  NoneTo class = (from : ℕ) → ¬ IsForbiddenAt (edges_of new.dependencies) (bits_of new.usage) state from class
+
+  no_walk : (¬ ((w : Forbidden) × WasOne w)) → All NoneTo (drop (of_state news.first_reached state) (of_state new.reached state))
+      → All (λ (t : NewBit). t.bit ≡ usage_of (On state) → NoneTo t.class) news.bits → (walk : Forbidden) → ¬ IsOne walk
+  no_walk none reached held walk is = by (bit_cases (bits_of old.usage) walk.to (On state))
+    where
+      count : ℕ
+      count = of_state news.first_reached state
+
+      now : List ℕ
+      now = of_state new.reached state
+
+      there : Contains now walk.to
+      there = (each walk.to).1 (walk.from, (is.0, is.1.1))
+
+      before : HasBitAt (bits_of old.usage) walk.to (On state) → Contains (take count now) walk.to ⊎ Contains (drop count now) walk.to → ⊥
+      before held_before (inl known) =
+          let source = tells.from state walk.to (subst (λ all. Contains all walk.to) (tells.still state) known) in
+          none (record { from = source.0; to = walk.to }, (source.1.0, (held_before, source.1.1)))
+      before held_before (inr since) = All-contains NoneTo (drop count now) walk.to reached since walk.from is
+
+      by : HasBitAt (bits_of old.usage) walk.to (On state) ⊎ (¬ HasBitAt (bits_of old.usage) walk.to (On state)) → ⊥
+      by (inl held_before) =
+          before held_before (Contains-append_cases (take count now) (drop count now) walk.to (subst (λ all. Contains all walk.to) (sym (take-append-drop count now)) there))
+      by (inr unheld) =
+          All-contains (λ (t : NewBit). t.bit ≡ usage_of (On state) → NoneTo t.class) news.bits (new_bit walk.to (On state)) held
+          (tells.bits.all walk.to (On state) is.1.0 unheld) refl walk.from is
+
+  pub forbidden_looked : (before found : Option Forbidden) → is_some before ≡ false → IsExact WasOne before
+      → All NoneTo (drop (of_state news.first_reached state) (of_state new.reached state))
+      → MatchOption found (All (λ (t : NewBit). t.bit ≡ usage_of (On state) → NoneTo t.class) news.bits) IsOne → IsExact IsOne found
+  forbidden_looked (Some w) found absent was reached held = absurd (true≢false absent)
+  forbidden_looked None (Some w) absent was reached held = held
+  forbidden_looked None None absent was reached held = λ any. no_walk was reached held any.0 any.1
 
 -- no classes have nothing
 pub nothing_found : (found : Found) → found.cycle ≡ None → ((state : State) → of_state found.conflict state ≡ None) →

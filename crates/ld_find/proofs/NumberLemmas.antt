@@ -19,9 +19,10 @@ use Rattle.ld_find.specs.declared.alarms.Found.{Found}
 use Rattle.ld_union.specs.declared.dependencies.Witnessed.{Witnessed}
 use Rattle.ld_find.specs.Alarms.{AreExact, IsExact}
 use Rattle.ld_union.specs.Inner.Union.{IsCycleAt}
-use Rattle.ld_find.specs.Inner.Numbers.{AreBitsOf, AreFound, AreWithin, IsConflictAt, IsForbiddenAt, named_alarms, of_state}
-use Rattle.ld_union.specs.Inner.News.{HasBitAt}
-use Rattle.ld_union.specs.Inner.Union.{AreNumbered, AreWitnessed, PlainUnion, edges_of, named_edge, searched_union}
+use Rattle.ld_find.specs.Inner.Numbers.{AreBitsOf, AreFound, AreWithin, IsConflictAt, IsForbiddenAt, named_alarms}
+use Rattle.ld_union.specs.Inner.Bits.{HasBitAt}
+use Rattle.ld_union.specs.Inner.States.{of_state}
+use Rattle.ld_union.specs.Inner.Union.{AreBetween, AreWitnessed, edges_of, named_edge}
 use Rattle.ld_union.proofs.NewsLemmas.{bit_within}
 use Rattle.ld_find.specs.Violations.{Depends, HasBit, IsConflict, IsCycle, IsForbidden, Leads}
 use Rattle.ld_union.proofs.UnionLemmas.{at_row, ends_of_edge, length_rows}
@@ -37,7 +38,7 @@ some_number classes name there = by (place_of classes name) refl
     by None is = absurd (true≢false (sym there ∙ ap is_some is))
     by (Some c) is = (c, place_of-Some classes name c is)
 
-module _ (classes : List (List ℕ)) (rows : List Witnessed) (is : AreNumbered classes rows)
+module _ (classes : List (List ℕ)) (rows : List Witnessed) (is : AreBetween classes rows)
     (sources : List PlainSource) (witnessed : AreWitnessed classes rows (dependency_witness sources)) where
   -- a class's name
   abbrev name : ℕ → List ℕ
@@ -109,11 +110,6 @@ module _ (classes : List (List ℕ)) (rows : List Witnessed) (is : AreNumbered c
       let b = found.1.0 in
       (edge a b, (found.1.1.2, walk_from_leads b a y x found.1.1.1 found.1.1.0 cycle.1))
 
--- a search changes nothing but what was searched from
-pub searched_same : (old before after : PlainUnion) (a : ℕ) → before ≡ searched_union old before.searched → after ≡ searched_union before (Some a) → after ≡ searched_union old after.searched
-searched_same old before after a same is =
-    is ∙ ap (λ u. searched_union u (Some a)) same ∙ ap (λ (u : PlainUnion). searched_union old u.searched) (sym is)
-
 -- what is said of the value that is there
 pub at_some : {A : Type 0} (P : A → Type 0) (o : Option A) (x : A) → o ≡ Some x → IfSome o P → P x
 at_some P o x is h = subst (λ r. IfSome r P) is h
@@ -139,7 +135,7 @@ module _ (classes : List (List ℕ)) (usage : List Usage) (sources : List PlainS
       absent (at.0, (bit_numbered at.0 any.0 (In state) at.1 any.1.0, bit_numbered at.0 any.0 (On state) at.1 any.1.1))
   conflict_exact state (Some c) is = (bit_named c (In state) is.0, bit_named c (On state) is.1)
 
-  module _ (rows : List Witnessed) (is : AreNumbered classes rows) (witnessed : AreWitnessed classes rows (dependency_witness sources)) where
+  module _ (rows : List Witnessed) (is : AreBetween classes rows) (witnessed : AreWitnessed classes rows (dependency_witness sources)) where
     cycle_exact : (found : Option Edge) → IsExact (IsCycleAt (edges_of rows)) found → IsExact {A = List ℕ × List ℕ} (λ p. IsCycle sources p.0 p.1)
         (option_map (λ (e : Edge). (get_or classes e.from [], get_or classes e.to [])) found)
     cycle_exact None absent = λ any. absent (cycle_numbered classes rows is sources witnessed any.0.0 any.0.1 any.1)

@@ -20,7 +20,7 @@ use Rattle.std.specs.Ordering.{ordering_reverse, ordering_then}
 use Rattle.ld_class.specs.Names.{AreDistinct, IsNameAt}
 use Rattle.ld_graph.specs.Edges.{ComesBefore}
 use Rattle.ld_find.specs.Findings.{IsBefore}
-use Rattle.ld_find.specs.Inner.Order.{IsOrder, name_of}
+use Rattle.ld_find.specs.Inner.Order.{AreByName, name_of}
 
 -- no name comes before itself
 pub not_before_itself : (a : List ℕ) → ¬ IsBefore a a
@@ -30,7 +30,7 @@ not_before_itself a before = true≢false (sym (ap is_lt before) ∙ ap is_lt (t
 pub not_before_both : (a b : List ℕ) → IsBefore a b → ¬ IsBefore b a
 not_before_both a b ab ba = not_before_itself a (nat_list_cmp_total.trans a b a ab ba)
 
-module _ (classes : List (List ℕ)) (numbers places : List ℕ) (is : IsOrder classes numbers places) where
+module _ (classes : List (List ℕ)) (numbers places : List ℕ) (is : AreByName classes numbers places) where
   -- a class's place in the order
   abbrev place_in_order : ℕ → ℕ
   place_in_order c = get_or places c 0

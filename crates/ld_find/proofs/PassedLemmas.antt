@@ -4,7 +4,7 @@ use Rattle.std.proofs.lemmas.Bool.{cases_order}
 use Rattle.std.proofs.lemmas.List.{get_or_default}
 use Rattle.ld_class.specs.Names.{IsNameAt}
 use Rattle.ld_find.specs.Findings.{InTurn, IsBefore}
-use Rattle.ld_find.specs.Inner.Order.{IsOrder, class_at, name_of}
+use Rattle.ld_find.specs.Inner.Order.{AreByName, class_at, name_of}
 use Rattle.ld_find.specs.Inner.Rows.{AreRowsOf, IsPassed}
 use Rattle.ld_find.proofs.RowLemmas.{rows-append}
 
@@ -27,7 +27,7 @@ module _ (classes : List (List ℕ)) (numbers : List ℕ) where
       by (inr (inl low)) = inl (h.0, (low, h.1.1))
       by (inr (inr high)) = absurd (omega (arith, high, h.1.0))
 
-  module _ (places : List ℕ) (order : IsOrder classes numbers places) where
+  module _ (places : List ℕ) (order : AreByName classes numbers places) where
     passed_before : (i : ℕ) (name : List ℕ) → i < length numbers → IsPassed classes numbers i name → IsBefore name (name_at i)
     passed_before i name within h = subst (λ n. IsBefore n (name_at i)) h.1.1 (order.rising h.0 i h.1.0 within)
 

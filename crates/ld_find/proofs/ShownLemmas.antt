@@ -8,8 +8,8 @@ use Rattle.ld_trace.specs.Sources.{PlainSource}
 use Rattle.ld_facts.specs.Union.{dependency_witness}
 use Rattle.ld_union.specs.declared.dependencies.Witnessed.{Witnessed}
 use Rattle.ld_find.specs.Findings.{IsBefore, IsShown}
-use Rattle.ld_find.specs.Inner.Order.{IsOrder, name_of}
-use Rattle.ld_union.specs.Inner.Union.{AreNumbered, AreWitnessed, edges_of}
+use Rattle.ld_find.specs.Inner.Order.{AreByName, name_of}
+use Rattle.ld_union.specs.Inner.Union.{AreBetween, AreWitnessed, edges_of}
 use Rattle.ld_find.specs.Violations.{Depends}
 use Rattle.ld_find.proofs.NumberLemmas.{depends_from_edge, edge_from_depends}
 use Rattle.ld_find.proofs.OrderLemmas.{comes_before_from_before}
@@ -111,7 +111,7 @@ module _ {A B : Type 0} (f : A → B) (Within : A → Type 0) (s : A → A → T
     IsShownWalk-map a b (x ∷ more) at_a at_b h = (ap f h.0, ShownFrom-map a b more at_a at_b h.1)
 
 -- names for numbers
-module _ (classes : List (List ℕ)) (rows : List Witnessed) (is : AreNumbered classes rows) where
+module _ (classes : List (List ℕ)) (rows : List Witnessed) (is : AreBetween classes rows) where
   abbrev IsClass : ℕ → Type 0
   IsClass c = c < length classes
 
@@ -139,7 +139,7 @@ module _ (classes : List (List ℕ)) (rows : List Witnessed) (is : AreNumbered c
         (found.1.0, (subst (λ p. IsEdge (edges_of rows) p found.1.0) same ends_there.2, ends_there.1.1))
 
     -- the shown walk of two numbers is that of their names
-    pub shown_named : (numbers places : List ℕ) → IsOrder classes numbers places → (a b : ℕ) (walk : List ℕ) → IsClass a → IsClass b
+    pub shown_named : (numbers places : List ℕ) → AreByName classes numbers places → (a b : ℕ) (walk : List ℕ) → IsClass a → IsClass b
         → IsShownWalk (IsEdge (edges_of rows)) (ComesBefore places) a b walk → IsShown sources (name_of classes a) (name_of classes b) (map (name_of classes) walk)
     shown_named numbers places order a b walk at_a at_b shown =
         IsShownWalk-map (name_of classes) IsClass (IsEdge (edges_of rows)) (Depends sources) keeps ends comes name-once (ComesBefore places) IsBefore

@@ -3,4 +3,3 @@ pub mod Alarms
 pub mod Inner
 pub mod Findings
 pub use Rattle.ld_union.specs.Usage
-pub use Rattle.ld_union.specs.Inner.Union

@@ -1,25 +1,22 @@
 //! A violation of each kind, as they are found by the numbers of the classes.
-ghost use Rattle.std.specs.Prelude.{◌≡◌, ◌↔◌, ℕ, ◌<◌, ◌≤◌, true, length, All, IsSome, IsTrue};
-ghost use Rattle.std.specs.Prelude.{MatchOption};
-ghost use Rattle.std.specs.Prelude.{take, [], List, Some, IfSome, option_map, slice_index_or};
+ghost use Rattle.std.specs.Prelude.{◌≡◌, ◌↔◌, ℕ, ◌<◌, true, length, All, IsTrue, MatchOption};
+ghost use Rattle.std.specs.Prelude.{[], List, IfSome, option_map, slice_index_or};
 ghost use Rattle.ld_class.specs.Usage.{has_bit};
 ghost use Rattle.ld_facts.specs.Usage.{usage_of};
 ghost use Rattle.ld_facts.specs.Uses.{none};
 ghost use Rattle.ld_facts.specs.Usage.Bit.{In, On};
 ghost use Rattle.ld_find.specs.Alarms.{IsExact, plain_alarms};
-ghost use Rattle.ld_find.specs.Inner.Numbers.{AreFound, AreWithin, BitsGrow, EdgesGrow};
-ghost use Rattle.ld_find.specs.Inner.Numbers.{IsConflictAt, IsForbiddenAt, IsFoundAt};
+ghost use Rattle.ld_find.specs.Inner.Numbers.{AreFound, AreWithin, IsConflictAt, IsForbiddenAt};
 ghost use Rattle.ld_find.specs.Inner.Numbers.{IsNothing, IsTold, named_alarms, named_pair};
 ghost use Rattle.ld_union.specs.Inner.News.{Tells, TellsBits};
-ghost use Rattle.ld_union.specs.Inner.Union.{PlainUnion, edges_of, searched_union};
+ghost use Rattle.ld_union.specs.Inner.Union.{PlainUnion, edges_of};
 ghost use Rattle.ld_union.specs.Usage.{bits_of};
 
-use crate::states::PerState;
 use bitflags::Flags;
 use ld_class::{Classes, Usage};
 use ld_graph::Edge;
 use ld_trace::State;
-use ld_union::{NewBit, News, Union, UsageRow};
+use ld_union::{NewBit, News, PerState, Union, UsageRow};
 
 /// For each kind of violation one that the traces show, or none where they show none of the kind.
 /// Where there are two states, the hard one comes first.
@@ -84,20 +81,16 @@ impl Found {
             && self.forbidden.soft.is_none()
     }
 
-    /// Looks for each kind of which nothing was found yet, after what `news` tells came to the union:
-    /// for a conflict at the new bits, and for a forbidden walk where anything is new. The union knows
-    /// whether there is a cycle. What was found stays: nothing that traces show is taken back. Takes no
-    /// memory.
-    pub fn look(&mut self, union: &mut Union<'_>, news: &News)
-        requires { IsTold union.old news.now }
-        ensures found { (old : PlainUnion) → Tells old union.old news.now
+    /// Looks for each kind of which nothing was found yet, where what `news` tells could have made one:
+    /// for a conflict at the new bits, and for a forbidden walk at the classes that were reached since and
+    /// at the new bits. The union knows whether there is a cycle. What was found stays: nothing that traces
+    /// show is taken back. Takes no memory.
+    pub fn look(&mut self, union: &Union<'_>, news: &News)
+        requires { IsTold union.now news.now }
+        ensures { (old : PlainUnion) → Tells old union.now news.now
             → AreFound (edges_of old.dependencies) (bits_of old.usage) self.old
-            → AreFound (edges_of union.old.dependencies) (bits_of union.old.usage) self.new }
-        ensures same { union.new ≡ searched_union union.old union.new.searched }
+            → AreFound (edges_of union.now.dependencies) (bits_of union.now.usage) self.new }
     {
-        if is_nothing_new(union, news) {
-            return;
-        }
         let bits = news.bits();
         self.cycle = union.closing();
         self.conflict = PerState {
@@ -105,8 +98,8 @@ impl Found {
             soft: conflict_then(self.conflict.soft, union.usage(), bits, State::Soft),
         };
         self.forbidden = PerState {
-            hard: forbidden_then(self.forbidden.hard, union, State::Hard),
-            soft: forbidden_then(self.forbidden.soft, union, State::Soft),
+            hard: forbidden_then(self.forbidden.hard, union, news, State::Hard),
+            soft: forbidden_then(self.forbidden.soft, union, news, State::Soft),
         };
     }
 
@@ -129,14 +122,6 @@ impl Found {
     }
 }
 
-/// Whether nothing is told, so that the union is as before.
-fn is_nothing_new(union: &Union<'_>, news: &News) -> bool
-    ensures edges { IsTrue result → length union.now.dependencies ≤ news.now.first_edge }
-    ensures bits { IsTrue result → news.now.bits ≡ [] }
-{
-    union.dependencies().len() <= news.first_edge() && news.bits().is_empty()
-}
-
 /// The class with both bits of the state that was found before, or else one that has them since these
 /// bits came.
 fn conflict_then(
@@ -156,25 +141,29 @@ fn conflict_then(
     conflict_among(rows, bits, state)
 }
 
-/// The forbidden walk of the state that was found before, or else one that is there since edges or
-/// bits came.
+/// The forbidden walk of the state that was found before, or else one that is there since what is told
+/// came: to a class that was reached since, or to one that has the other bit since.
 fn forbidden_then(
     found: Option<Forbidden>,
-    union: &mut Union<'_>,
+    union: &Union<'_>,
+    news: &News,
     state: State,
 ) -> Option<Forbidden>
-    ensures found { (edges : List Edge) (usage : List Usage)
-        → EdgesGrow edges (edges_of union.old.dependencies)
-        → BitsGrow usage (bits_of union.old.usage)
-        → IsExact (λ w. IsForbiddenAt edges usage state w.from w.to) found
-        → IsExact (λ w. IsForbiddenAt (edges_of union.old.dependencies) (bits_of union.old.usage)
+    requires { IsTold union.now news.now }
+    ensures { (old : PlainUnion) → Tells old union.now news.now
+        → IsExact (λ w. IsForbiddenAt (edges_of old.dependencies) (bits_of old.usage)
+        state w.from w.to) found
+        → IsExact (λ w. IsForbiddenAt (edges_of union.now.dependencies) (bits_of union.now.usage)
         state w.from w.to) result }
-    ensures same { union.new ≡ searched_union union.old union.new.searched }
 {
     if found.is_some() {
         return found;
     }
-    forbidden_walk(union, state)
+    let reached = &union.reached(state)[news.first_reached(state)..];
+    if let Some(walk) = walk_to_reached(union, reached, state) {
+        return Some(walk);
+    }
+    walk_to_held(union, news.bits(), state)
 }
 
 /// The names of the edge's classes, if there is one.
@@ -229,55 +218,58 @@ fn conflict_at(rows: &[UsageRow], class: usize, state: State) -> bool
     has(rows, class, in_bit(state)) && has(rows, class, on_bit(state))
 }
 
-/// Two classes with a forbidden walk of the state from one to the other, or `None` where there are
-/// none. Takes no memory.
-fn forbidden_walk(union: &mut Union<'_>, state: State) -> Option<Forbidden>
-    ensures found { IsExact (λ w. IsForbiddenAt (edges_of union.old.dependencies)
-        (bits_of union.old.usage) state w.from w.to) result }
-    ensures same { union.new ≡ searched_union union.old union.new.searched }
+/// A forbidden walk of the state to one of these classes, or `None` where there is none.
+fn walk_to_reached(union: &Union<'_>, classes: &[u32], state: State) -> Option<Forbidden>
+    requires { All (λ class. class < length union.now.classes) classes.now }
+    ensures { MatchOption result
+        (All (λ class. (from : ℕ) → ¬ IsForbiddenAt (edges_of union.now.dependencies)
+        (bits_of union.now.usage) state from class) classes.now)
+        (λ w. IsForbiddenAt (edges_of union.now.dependencies) (bits_of union.now.usage)
+        state w.from w.to) }
 {
-    if !any_has(union.usage(), on_bit(state)) {
-        return None;
+    for &class in classes {
+        if let Some(walk) = walk_to(union, class, state) {
+            return Some(walk);
+        }
     }
-    for from in 0..union.usage().len() {
-        if has(union.usage(), from, in_bit(state)) {
-            let from = from as u32;
-            union.search(from);
-            if let Some(to) = first_found(union, state) {
-                return Some(Forbidden { from, to });
+    None
+}
+
+/// A forbidden walk of the state to a class that has with these bits the one of a class that is held where
+/// handlers of the state can interrupt, or `None` where there is none.
+fn walk_to_held(union: &Union<'_>, bits: &[NewBit], state: State) -> Option<Forbidden>
+    requires { All (λ told. told.class < length union.now.classes) bits.now }
+    ensures { MatchOption result
+        (All (λ told. told.bit ≡ usage_of (On state) → (from : ℕ) →
+        ¬ IsForbiddenAt (edges_of union.now.dependencies) (bits_of union.now.usage)
+        state from told.class) bits.now)
+        (λ w. IsForbiddenAt (edges_of union.now.dependencies) (bits_of union.now.usage)
+        state w.from w.to) }
+{
+    for told in bits {
+        if told.bit == on_bit(state) {
+            if let Some(walk) = walk_to(union, told.class, state) {
+                return Some(walk);
             }
         }
     }
     None
 }
 
-/// The first class that was found and is held where handlers of the state can interrupt, or `None`
-/// where there is none.
-fn first_found(union: &Union<'_>, state: State) -> Option<u32>
-    requires { IsSome union.now.searched }
-    ensures { (from : ℕ) → union.now.searched ≡ Some from
-        → IsExact (IsFoundAt (edges_of union.now.dependencies) (bits_of union.now.usage) state from)
-        result }
+/// A forbidden walk of the state to the class, or `None` where there is none.
+fn walk_to(union: &Union<'_>, class: u32, state: State) -> Option<Forbidden>
+    requires { class < length union.now.classes }
+    ensures { MatchOption result
+        ((from : ℕ) → ¬ IsForbiddenAt (edges_of union.now.dependencies)
+        (bits_of union.now.usage) state from class)
+        (λ w. IsForbiddenAt (edges_of union.now.dependencies) (bits_of union.now.usage)
+        state w.from w.to) }
 {
-    for class in 0..union.usage().len() {
-        if has(union.usage(), class, on_bit(state)) && union.found(class as u32) {
-            return Some(class as u32);
-        }
+    if !has(union.usage(), class as usize, on_bit(state)) {
+        return None;
     }
-    None
-}
-
-/// Whether a class has the bit.
-fn any_has(rows: &[UsageRow], bit: Usage) -> bool
-    ensures { (c : ℕ) → c < length rows.now
-        → has_bit (slice_index_or (bits_of rows.now) c none) bit ≡ true → IsTrue result }
-{
-    for class in 0..rows.len() {
-        if has(rows, class, bit) {
-            return true;
-        }
-    }
-    false
+    let from = union.source(state, class)?;
+    Some(Forbidden { from, to: class })
 }
 
 /// Whether the class has the bit.

@@ -6,9 +6,8 @@ mod alarms;
 mod findings;
 mod order;
 mod rows;
-mod states;
 
 pub use alarms::{Alarms, Forbidden, Found};
 pub use findings::{ConflictRow, CycleRow, Findings, ForbiddenRow, findings_of};
+pub use ld_union::PerState;
 pub use rows::Rows;
-pub use states::PerState;

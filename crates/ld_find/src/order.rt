@@ -4,7 +4,7 @@ ghost use Rattle.std.specs.Prelude.{IfOk};
 ghost use Rattle.std.specs.List.{range_with_len};
 ghost use Rattle.ld_class.specs.Names.{AreDistinct, IsNameAt};
 ghost use Rattle.ld_find.specs.Findings.{IsBefore};
-ghost use Rattle.ld_find.specs.Inner.Order.{IsOrder, class_at, name_of};
+ghost use Rattle.ld_find.specs.Inner.Order.{AreByName, class_at, name_of};
 
 use ld_class::Classes;
 use std::alloc::{AllocError, Global};
@@ -23,7 +23,7 @@ impl Order {
     ///
     /// `AllocError` where memory was refused.
     pub(crate) fn new(alloc: Global, classes: &Classes<'_>) -> Result<Order, AllocError>
-        ensures { IfOk result (λ order. IsOrder classes.now order.numbers.items order.places.items) }
+        ensures { IfOk result (λ order. AreByName classes.now order.numbers.items order.places.items) }
     {
         let numbers = numbers_by_name(alloc, classes)?;
         let places = places_of(alloc, classes, &numbers)?;

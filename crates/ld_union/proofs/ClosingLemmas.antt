@@ -1,5 +1,5 @@
 -- The edge with which the first cycle came.
-use Rattle.std.proofs.Common.{◌≡◌, ◌⊎◌, inl, inr, ◌++◌, ◌∷◌, [], List, ℕ, zero, suc, Option, None, Some, MatchOption, refl, sym, ap, subst, ◌∙◌}
+use Rattle.std.proofs.Common.{◌≡◌, ◌⊎◌, inl, inr, ◌++◌, ◌∷◌, [], List, ℕ, zero, suc, Option, None, Some, refl, sym, ap, subst}
 use Rattle.std.proofs.lemmas.List.Elements.{Contains-append_left, Contains-push, Contains-push_cases}
 use Rattle.ld_graph.specs.declared.Edge.{Edge}
 use Rattle.ld_graph.specs.declared.placed.Insert.{Insert}
@@ -8,7 +8,7 @@ use Rattle.ld_graph.specs.Edges.{IsEdge, Seen, edge, with_edge}
 use Rattle.ld_graph.specs.Order.{HasCycle, IsInserted}
 use Rattle.ld_graph.specs.Walks.{HasWalk}
 use Rattle.ld_graph.proofs.WalkLemmas.{Far, HasWalk-Far, IsWalk-Far, IsWalk-same}
-use Rattle.ld_union.specs.Inner.Union.{IsClosing, IsCycleAt}
+use Rattle.ld_union.specs.Inner.Union.{IsCycleEdge, IsCycleAt}
 
 -- two walks in turn
 Far-append : {A : Type 0} (step : A → A → Type 0) (n m : ℕ) (a b c : A) → Far step n a b → Far step m b c → (k : ℕ) × Far step k a c
@@ -89,18 +89,18 @@ cycle-closed edges a b none cycle =
 
 -- what the closing edge is once an edge was inserted
 module _ (old new : Seen) (a b : ℕ) where
-  pub closing-closed : IsInserted old a b Closed new → IsClosing new.edges (Some (edge a b))
+  pub closing-closed : IsInserted old a b Closed new → IsCycleEdge new.edges (Some (edge a b))
   closing-closed inserted =
       let same : new.edges ≡ old.edges ++ edge a b ∷ [] = ap (λ (g : Seen). g.edges) inserted.graph in
       subst (λ edges. IsCycleAt edges (edge a b)) (sym same)
       (cycle-closed old.edges a b inserted.no_cycle (subst (λ edges. HasCycle (IsEdge edges)) same inserted.cycle))
 
-  grown : (closing : Option Edge) (order : Option (List ℕ)) → new ≡ with_edge old a b order → ¬ HasCycle (IsEdge new.edges) → IsClosing old.edges closing → IsClosing new.edges closing
+  grown : (closing : Option Edge) (order : Option (List ℕ)) → new ≡ with_edge old a b order → ¬ HasCycle (IsEdge new.edges) → IsCycleEdge old.edges closing → IsCycleEdge new.edges closing
   grown None order is none closing = no_cycle-none new.edges none
   grown (Some e) order is none closing = subst (λ edges. IsCycleAt edges e) (sym (ap (λ (g : Seen). g.edges) is)) (cycle-stays old.edges (edge a b) e closing)
 
-  pub closing-other : (closing : Option Edge) (answer : Insert) → (answer ≡ Closed → ⊥) → IsInserted old a b answer new → IsClosing old.edges closing → IsClosing new.edges closing
-  closing-other closing Known other inserted was = subst (λ (g : Seen). IsClosing g.edges closing) (sym inserted.same) was
+  pub closing-other : (closing : Option Edge) (answer : Insert) → (answer ≡ Closed → ⊥) → IsInserted old a b answer new → IsCycleEdge old.edges closing → IsCycleEdge new.edges closing
+  closing-other closing Known other inserted was = subst (λ (g : Seen). IsCycleEdge g.edges closing) (sym inserted.same) was
   closing-other closing Kept other inserted was = grown closing old.order inserted.graph inserted.no_cycle was
   closing-other closing (Moved expanded) other inserted was = grown closing new.order inserted.graph inserted.no_cycle was
   closing-other closing Closed other inserted was = absurd (other refl)

@@ -2,6 +2,7 @@ pub mod ClosingLemmas
 pub mod EachOnceLemmas
 pub mod NameLemmas
 pub mod NewsLemmas
+pub mod ReachedLemmas
 pub mod SeenLemmas
 pub mod SourceLemmas
 pub mod UnionLemmas

@@ -1,5 +1,5 @@
 -- What is told of bits, as rows are noted.
-use Rattle.std.proofs.Common.{◌≡◌, ◌≢◌, ◌⊎◌, inl, inr, ◌-◌, ◌<◌, ◌≤◌, ◌||◌, ◌++◌, ◌∷◌, ◌∙◌, [], List, ℕ, Bool, true, false, None, Contains}
+use Rattle.std.proofs.Common.{◌≡◌, ◌≢◌, ◌⊎◌, inl, inr, ◌-◌, ◌<◌, ◌≤◌, ◌||◌, ◌++◌, ◌∷◌, ◌∙◌, [], List, ℕ, Bool, true, false, None, All, Contains}
 use Rattle.std.proofs.Common.{length, set, replicate, get_or, refl, sym, ap, subst, arith, length-append}
 use Rattle.std.proofs.lemmas.Bool.{true≢false, cases_eq, cases_lt}
 use Rattle.std.proofs.lemmas.List.{get_or-map, get_or-set_same, get_or-set_other, get_or_append_left, get_or-append_right, get_or-replicate, get_or_past}
@@ -14,7 +14,8 @@ use Rattle.ld_facts.specs.Usage.Bit.{In, On}
 use Rattle.ld_facts.specs.Uses.{none}
 use Rattle.ld_union.specs.declared.news.NewBit.{NewBit}
 use Rattle.ld_union.specs.declared.usage.UsageRow.{UsageRow}
-use Rattle.ld_union.specs.Inner.News.{HasBitAt, IsNew, TellsBits, new_bit}
+use Rattle.ld_union.specs.Inner.Bits.{HasBitAt, new_bit}
+use Rattle.ld_union.specs.Inner.News.{IsNew, TellsBits}
 use Rattle.ld_union.specs.Usage.{bits_of, row_of}
 
 -- a class without bits of its own has none
@@ -33,6 +34,13 @@ bit_within usage c bit has = by (cases_lt c (length usage))
 
 pub row_within : (rows : List UsageRow) (c : ℕ) (bit : Bit) → HasBitAt (bits_of rows) c bit → c < length rows
 row_within rows c bit has = subst (λ n. c < n) (length-map rows (λ (row : UsageRow). row.bits)) (bit_within (bits_of rows) c bit has)
+
+-- what is told is one bit each, of a class that has a row
+pub told_within : (before : List Usage) (rows : List UsageRow) (told : List NewBit) → TellsBits before (bits_of rows) told → All (λ (t : NewBit). t.class < length rows) told
+told_within before rows told tells k d within = row_within rows (get_or told k d).class (bit_of (get_or told k d).bit) (tells.each k d within).now
+
+pub told_one : (before after : List Usage) (told : List NewBit) → TellsBits before after told → All (λ (t : NewBit). IsBit t.bit) told
+told_one before after told tells k d within = (tells.each k d within).one
 
 -- whether two bits are the same
 same_set : (a b : Bit) → (a ≡ b) ⊎ (has_bit (usage_of a) (usage_of b) ≡ false)

@@ -1,5 +1,5 @@
 -- What a union shows when one more source is added.
-use Rattle.std.proofs.Common.{◌≡◌, ◌++◌, ◌∷◌, [], ◌∙◌, Bool, List, ℕ, Option, Some, None, filter_map, flat_map, length, refl, sym, ap, subst, append_assoc}
+use Rattle.std.proofs.Common.{◌≡◌, ◌++◌, ◌∷◌, [], ◌∙◌, Bool, List, Option, Some, None, filter_map, flat_map, length, refl, sym, ap, subst, append_assoc}
 use Rattle.std.proofs.lemmas.List.{append-nil}
 use Rattle.std.proofs.lemmas.List.Elements.{filter_map-append}
 use Rattle.std.proofs.lemmas.List.Sums.{fold-append}
@@ -13,7 +13,7 @@ use Rattle.ld_facts.specs.Outcome.{each_once}
 use Rattle.ld_facts.specs.Union.{classes_of, dependencies_of, dependency_witness, earlier, first_of, first_witness, use_witness, uses_of}
 use Rattle.ld_facts.specs.Usage.{Use, same_use}
 use Rattle.ld_union.specs.Inner.Names.{IsLonger, with_names}
-use Rattle.ld_union.specs.Inner.Union.{Adds, AreNumbered, AreUsed, AreWitnessed, PlainUnion, Shows, earlier_of, searched_union, seen_in, with_dependencies, with_uses}
+use Rattle.ld_union.specs.Inner.Union.{Adds, AreBetween, AreUsed, AreWitnessed, PlainUnion, earlier_of, seen_in, with_dependencies, with_uses}
 use Rattle.ld_union.proofs.NameLemmas.{with_names-each_once}
 use Rattle.ld_union.proofs.UnionLemmas.{earlier_of-none}
 
@@ -39,7 +39,7 @@ shown-push [] source = append-nil (classes_of source)
 shown-push (first ∷ sources) source = ap (λ xs. classes_of first ++ xs) (shown-push sources source) ∙ sym (append_assoc (classes_of first) (flat_map classes_of sources) (classes_of source))
 
 -- a union to which the facts of a source were added
-pub adds-source : (old new : PlainUnion) (known : Known) → IsKnown known → AreNumbered new.classes new.dependencies
+pub adds-source : (old new : PlainUnion) (known : Known) → IsKnown known → AreBetween new.classes new.dependencies
     → new.classes ≡ with_names old.classes known.classes → IsLonger old.classes new.classes (length known.classes)
     → ((first : Dependency → Option Witness) → AreWitnessed old.classes old.dependencies first
     → AreWitnessed new.classes new.dependencies (with_dependencies first known.source.number (dependencies_of known.source)))
@@ -59,7 +59,3 @@ adds-source old new known known_is numbered classes longer witnessed used = reco
   };
   longer = subst (IsLonger old.classes new.classes) (ap length (known_is.classes ∙ sym (append-nil (classes_of known.source)))) longer;
 }
-
--- a search changes nothing of what is shown
-pub shows-searched : (sources : List PlainSource) (union : PlainUnion) (searched : Option ℕ) → Shows sources union → Shows sources (searched_union union searched)
-shows-searched sources union searched is = record { numbered = is.numbered; classes = is.classes; witnesses = is.witnesses; used = is.used }

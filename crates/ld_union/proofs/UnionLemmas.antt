@@ -17,7 +17,7 @@ use Rattle.ld_facts.specs.Dependency.{Dependency, same_dependency}
 use Rattle.ld_facts.specs.Union.{earlier}
 use Rattle.ld_union.specs.declared.dependencies.Witnessed.{Witnessed}
 use Rattle.ld_union.specs.Inner.Names.{IsLonger}
-use Rattle.ld_union.specs.Inner.Union.{AreNumbered, AreWitnessed, earlier_of, edges_of, named_edge}
+use Rattle.ld_union.specs.Inner.Union.{AreBetween, AreWitnessed, earlier_of, edges_of, named_edge}
 
 -- equal dependencies have equal names
 pub same_dependency-true : (a b : Dependency) → same_dependency a b ≡ true → a ≡ b
@@ -78,7 +78,7 @@ edges-set rows n e within at r same =
     ∙ ap (set (edges_of rows) n) (same ∙ sym (at r) ∙ sym (get_or-map (λ x. x.edge) rows n r r.edge within))
     ∙ set-get_or (edges_of rows) n r.edge
 
-module _ (classes : List (List ℕ)) (rows : List Witnessed) (is : AreNumbered classes rows) where
+module _ (classes : List (List ℕ)) (rows : List Witnessed) (is : AreBetween classes rows) where
   -- an edge lies between two classes
   pub ends_of_edge : (a b : ℕ) → IsEdge (edges_of rows) a b → (a < length classes) × (b < length classes)
   ends_of_edge a b there = subst (λ (e : Edge). (e.from < length classes) × (e.to < length classes)) there.2 (is.ends there.0 (edge a b) there.1)
@@ -158,7 +158,7 @@ module _ (classes : List (List ℕ)) (rows : List Witnessed) (is : AreNumbered c
       differs : (k : ℕ) (d : Witnessed) → k < length rows → (get_or rows k d).edge ≢ e
       differs k d within same = new (edge_of_row rows e.from e.to k d within same)
 
-      pub numbered-pushed : (r : Witnessed) → r.edge ≡ e → AreNumbered classes (rows ++ r ∷ [])
+      pub numbered-pushed : (r : Witnessed) → r.edge ≡ e → AreBetween classes (rows ++ r ∷ [])
       numbered-pushed r same = record {
         distinct = is.distinct;
         ends = subst (All (λ x. (x.from < length classes) × (x.to < length classes))) (sym (edges-pushed rows r e same))
@@ -191,7 +191,7 @@ module _ (classes : List (List ℕ)) (rows : List Witnessed) (is : AreNumbered c
 
   -- e is in row n: it gets the earlier witness
   module _ (n : ℕ) (e : Edge) (within : n < length rows) (at : (d : Witnessed) → (get_or rows n d).edge ≡ e) (r : Witnessed) (same : r.edge ≡ e) where
-    pub numbered-set : AreNumbered classes (set rows n r)
+    pub numbered-set : AreBetween classes (set rows n r)
     numbered-set = record {
       distinct = is.distinct;
       ends = subst (All (λ x. (x.from < length classes) × (x.to < length classes))) (sym (edges-set rows n e within at r same)) is.ends;
@@ -251,7 +251,7 @@ module _ (classes : List (List ℕ)) (rows : List Witnessed) (is : AreNumbered c
                 by_place (inr other) = (found.0, found.1, subst (λ m. found.0 < m) (sym (length-set rows n r)) found.2, get_or-set_other rows n found.0 r found.1 other ∙ found.3, found.4)
 
 -- more classes change nothing of the dependencies that are kept
-pub witnessed-longer : (classes more : List (List ℕ)) (rows : List Witnessed) (count : ℕ) → AreNumbered classes rows → IsLonger classes more count
+pub witnessed-longer : (classes more : List (List ℕ)) (rows : List Witnessed) (count : ℕ) → AreBetween classes rows → IsLonger classes more count
     → (first : Dependency → Option Witness) → AreWitnessed classes rows first → AreWitnessed more rows first
 witnessed-longer classes more rows count is longer first witnessed = record {
   each = λ k d within. ap first (same k d within) ∙ witnessed.each k d within;
@@ -268,7 +268,7 @@ witnessed-longer classes more rows count is longer first witnessed = record {
         let ends = ends_of_row classes rows is k d within in
         λ i. record { from = name (get_or rows k d).edge.from ends.0 i; to = name (get_or rows k d).edge.to ends.1 i }
 
-pub numbered-longer : (classes more : List (List ℕ)) (rows : List Witnessed) (count : ℕ) → AreDistinct more → AreNumbered classes rows → IsLonger classes more count → AreNumbered more rows
+pub numbered-longer : (classes more : List (List ℕ)) (rows : List Witnessed) (count : ℕ) → AreDistinct more → AreBetween classes rows → IsLonger classes more count → AreBetween more rows
 numbered-longer classes more rows count distinct is longer = record {
   distinct = distinct;
   ends = λ k d within. let ends = is.ends k d within in (omega (arith, ends.0, longer.least), omega (arith, ends.1, longer.least));

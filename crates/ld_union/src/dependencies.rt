@@ -1,19 +1,29 @@
-//! The dependencies between numbered classes, each with the place where it was first seen.
+//! The dependencies between numbered classes, each with the place where it was first seen, and where
+//! they lead.
 ghost use Rattle.std.specs.Prelude.{◌≡◌, ℕ, ◌+◌, ◌<◌, ◌≤◌, List, Option, OnErr, OnOk, [], All};
 ghost use Rattle.std.specs.Prelude.{length, take, vec_len, vec_capacity};
 ghost use Rattle.ld_graph.specs.declared.graph.TheConstants.{MOST_CLASSES};
+ghost use Rattle.ld_trace.specs.declared.event.State.{State};
+ghost use Rattle.ld_graph.specs.Edges.{IsEdge};
+ghost use Rattle.ld_reach.specs.Reach.{IsReach, no_reach};
+ghost use Rattle.ld_union.specs.Inner.Reached.{AreInFront, HaveClasses, IsSeeded, StayExact};
+ghost use Rattle.ld_union.specs.Inner.States.{of_state};
 ghost use Rattle.ld_graph.specs.Edges.{empty_graph, with_spares};
 ghost use Rattle.ld_facts.specs.Dependency.{Dependency};
 ghost use Rattle.ld_facts.specs.Facts.{IsKnown};
+ghost use Rattle.ld_facts.specs.Usage.{IsBit};
 ghost use Rattle.ld_facts.specs.Union.{dependencies_of};
 ghost use Rattle.ld_union.specs.Inner.Names.{ArePlaces};
 ghost use Rattle.ld_graph.specs.Edges.{Seen};
 ghost use Rattle.ld_graph.specs.Order.{IsInserted};
-ghost use Rattle.ld_union.specs.Inner.Union.{AreNumbered, AreWitnessed, IsClosing, edges_of, named_edge};
+ghost use Rattle.ld_union.specs.Inner.Union.{AreBetween, AreWitnessed, IsCycleEdge, edges_of, named_edge};
 ghost use Rattle.ld_union.specs.Inner.Union.{with_dependencies, with_seen};
 
+use crate::news::NewBit;
+use crate::states::PerState;
 use ld_facts::{Facts, Witness};
 use ld_graph::{Edge, Graph, Insert};
+use ld_reach::Reach;
 use std::alloc::{AllocError, Global};
 
 /// An edge of the graph, and where its dependency was first seen.
@@ -33,6 +43,8 @@ pub(crate) struct Dependencies {
     pub(crate) rows: Vec<Witnessed>,
     /// The edge with which the first cycle came.
     pub(crate) closing: Option<Edge>,
+    /// For each state what classes with the bit that its handlers acquire them lead to.
+    pub(crate) reach: PerState<Reach>,
 }
 
 impl Dependencies {
@@ -40,12 +52,16 @@ impl Dependencies {
     pub(crate) fn new(alloc: Global) -> Dependencies
         ensures graph { result.graph ≡ empty_graph }
         ensures rows { result.rows.items ≡ [] }
-        ensures closing { IsClosing [] result.closing }
+        ensures closing { IsCycleEdge [] result.closing }
+        ensures hard { result.reach.hard ≡ no_reach }
+        ensures soft { result.reach.soft ≡ no_reach }
+        ensures exact { (state : State) → IsReach (IsEdge []) [] (of_state result.reach state) }
     {
         Dependencies {
             graph: Graph::new(alloc),
             rows: Vec::new(alloc),
             closing: None,
+            reach: PerState::<Reach>::new(alloc),
         }
     }
 
@@ -53,7 +69,8 @@ impl Dependencies {
     ///
     /// `AllocError` where memory was refused. Nothing has changed in either case but spares.
     pub(crate) fn room(&mut self, classes: usize, edges: usize) -> Result<(), AllocError>
-        requires { self.old.graph.classes + classes ≤ MOST_CLASSES }
+        requires classes { self.old.graph.classes + classes ≤ MOST_CLASSES }
+        requires reach { HaveClasses self.old.graph.classes self.old.reach }
         ensures graph { self.new.graph
             ≡ with_spares self.old.graph self.new.graph.spare_classes self.new.graph.spare_edges }
         ensures rows { self.new.rows.items ≡ self.old.rows.items }
@@ -62,8 +79,18 @@ impl Dependencies {
         ensures spare_edges { OnOk result (edges ≤ self.new.graph.spare_edges) }
         ensures spare_rows { OnOk result
             (vec_len self.new.rows + edges ≤ vec_capacity self.new.rows) }
+        ensures hard { self.new.reach.hard
+            ≡ record self.old.reach.hard { spare = self.new.reach.hard.spare } }
+        ensures soft { self.new.reach.soft
+            ≡ record self.old.reach.soft { spare = self.new.reach.soft.spare } }
+        ensures reach { HaveClasses self.old.graph.classes self.new.reach }
+        ensures spare_hard { OnOk result (classes ≤ self.new.reach.hard.spare) }
+        ensures spare_soft { OnOk result (classes ≤ self.new.reach.soft.spare) }
+        ensures exact { (edges : List Edge)
+            → StayExact edges edges self.old.reach self.new.reach }
     {
         self.rows.reserve(edges)?;
+        self.reach.room(classes)?;
         self.graph.room(classes, edges)
     }
 
@@ -71,14 +98,23 @@ impl Dependencies {
     pub(crate) fn enter_classes(&mut self, count: usize)
         requires fewer { self.old.graph.classes ≤ count }
         requires room { count ≤ self.old.graph.classes + self.old.graph.spare_classes }
+        requires reach { HaveClasses self.old.graph.classes self.old.reach }
+        requires hard { count ≤ self.old.graph.classes + self.old.reach.hard.spare }
+        requires soft { count ≤ self.old.graph.classes + self.old.reach.soft.spare }
         ensures count { self.new.graph.classes ≡ count }
         ensures edges { self.new.graph.edges ≡ self.old.graph.edges }
         ensures room { self.new.graph.spare_edges ≡ self.old.graph.spare_edges }
         ensures rows { self.new.rows ≡ self.old.rows }
         ensures closing { self.new.closing ≡ self.old.closing }
+        ensures reach { HaveClasses count self.new.reach }
+        ensures hard { self.new.reach.hard.reached ≡ self.old.reach.hard.reached }
+        ensures soft { self.new.reach.soft.reached ≡ self.old.reach.soft.reached }
+        ensures exact { (edges : List Edge)
+            → StayExact edges edges self.old.reach self.new.reach }
     {
         for _ in self.graph.len()..count {
             self.graph.add_class();
+            self.reach.add_class();
         }
     }
 
@@ -88,6 +124,7 @@ impl Dependencies {
         requires edges { self.old.graph.edges ≡ edges_of self.old.rows.items }
         requires count { length places.now ≡ length facts.now.classes }
         requires within { All (λ place. place < self.old.graph.classes) places.now }
+        requires reach { HaveClasses self.old.graph.classes self.old.reach }
         requires spare_edges { length facts.now.edges ≤ self.old.graph.spare_edges }
         requires spare_rows { vec_len self.old.rows + length facts.now.edges
             ≤ vec_capacity self.old.rows }
@@ -96,12 +133,16 @@ impl Dependencies {
         ensures edges { self.new.graph.edges ≡ edges_of self.new.rows.items }
         ensures front { take (length self.old.rows.items) (edges_of self.new.rows.items)
             ≡ edges_of self.old.rows.items }
-        ensures closing { IsClosing (edges_of self.old.rows.items) self.old.closing
-            → IsClosing (edges_of self.new.rows.items) self.new.closing }
+        ensures reach { HaveClasses self.new.graph.classes self.new.reach }
+        ensures reached { AreInFront self.old.reach self.new.reach }
+        ensures exact { StayExact (edges_of self.old.rows.items) (edges_of self.new.rows.items)
+            self.old.reach self.new.reach }
+        ensures closing { IsCycleEdge (edges_of self.old.rows.items) self.old.closing
+            → IsCycleEdge (edges_of self.new.rows.items) self.new.closing }
         ensures numbered { (classes : List (List ℕ)) → length classes ≡ self.old.graph.classes
-            → AreNumbered classes self.old.rows.items → AreNumbered classes self.new.rows.items }
+            → AreBetween classes self.old.rows.items → AreBetween classes self.new.rows.items }
         ensures witnesses { (classes : List (List ℕ)) → length classes ≡ self.old.graph.classes
-            → AreNumbered classes self.old.rows.items
+            → AreBetween classes self.old.rows.items
             → ArePlaces classes facts.now.classes places.now
             → (first : Dependency → Option Witness)
             → AreWitnessed classes self.old.rows.items first
@@ -128,6 +169,7 @@ impl Dependencies {
         requires edges { self.old.graph.edges ≡ edges_of self.old.rows.items }
         requires from { edge.from < self.old.graph.classes }
         requires to { edge.to < self.old.graph.classes }
+        requires reach { HaveClasses self.old.graph.classes self.old.reach }
         requires spare_edges { 0 < self.old.graph.spare_edges }
         requires spare_rows { vec_len self.old.rows < vec_capacity self.old.rows }
         ensures classes { self.new.graph.classes ≡ self.old.graph.classes }
@@ -137,12 +179,16 @@ impl Dependencies {
             → vec_len self.new.rows + n ≤ vec_capacity self.new.rows }
         ensures front { (n : ℕ) → n ≤ length self.old.rows.items
             → take n (edges_of self.new.rows.items) ≡ take n (edges_of self.old.rows.items) }
-        ensures closing { IsClosing (edges_of self.old.rows.items) self.old.closing
-            → IsClosing (edges_of self.new.rows.items) self.new.closing }
+        ensures reach { HaveClasses self.new.graph.classes self.new.reach }
+        ensures reached { AreInFront self.old.reach self.new.reach }
+        ensures exact { StayExact (edges_of self.old.rows.items) (edges_of self.new.rows.items)
+            self.old.reach self.new.reach }
+        ensures closing { IsCycleEdge (edges_of self.old.rows.items) self.old.closing
+            → IsCycleEdge (edges_of self.new.rows.items) self.new.closing }
         ensures numbered { (classes : List (List ℕ)) → length classes ≡ self.old.graph.classes
-            → AreNumbered classes self.old.rows.items → AreNumbered classes self.new.rows.items }
+            → AreBetween classes self.old.rows.items → AreBetween classes self.new.rows.items }
         ensures noted { (classes : List (List ℕ)) → length classes ≡ self.old.graph.classes
-            → AreNumbered classes self.old.rows.items
+            → AreBetween classes self.old.rows.items
             → (first : Dependency → Option Witness)
             → AreWitnessed classes self.old.rows.items first
             → AreWitnessed classes self.new.rows.items
@@ -156,6 +202,7 @@ impl Dependencies {
             None => {
                 let answer = self.graph.insert(edge.from, edge.to);
                 self.closing = closing_then(self.closing, edge, answer);
+                self.reach.along(&self.graph, edge);
                 let seen = Witnessed {
                     edge,
                     first: witness,
@@ -166,12 +213,30 @@ impl Dependencies {
             }
         }
     }
+
+    /// Makes each class a seed of the state of which it got the bit that handlers acquire it.
+    pub(crate) fn seed_all(&mut self, bits: &[NewBit])
+        requires reach { HaveClasses self.old.graph.classes self.old.reach }
+        requires within { All (λ told. told.class < self.old.graph.classes) bits.now }
+        requires one { All (λ told. IsBit told.bit) bits.now }
+        ensures graph { self.new.graph ≡ self.old.graph }
+        ensures rows { self.new.rows ≡ self.old.rows }
+        ensures closing { self.new.closing ≡ self.old.closing }
+        ensures reach { HaveClasses self.old.graph.classes self.new.reach }
+        ensures reached { AreInFront self.old.reach self.new.reach }
+        ensures exact { (state : State) (seeds : List ℕ)
+            → IsReach (IsEdge self.old.graph.edges) seeds (of_state self.old.reach state)
+            → IsSeeded self.old.graph.edges seeds state bits.now
+            (of_state self.new.reach state) }
+    {
+        self.reach.seed_all(&self.graph, bits);
+    }
 }
 
 /// The edge with which the first cycle came, once the insert of an edge gave this answer.
 fn closing_then(closing: Option<Edge>, edge: Edge, answer: Insert) -> Option<Edge>
     ensures { (old new : Seen) → IsInserted old edge.from edge.to answer new
-        → IsClosing old.edges closing → IsClosing new.edges result }
+        → IsCycleEdge old.edges closing → IsCycleEdge new.edges result }
 {
     match answer {
         Insert::Closed => Some(edge),

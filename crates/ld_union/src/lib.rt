@@ -5,10 +5,13 @@
 mod dependencies;
 mod names;
 mod news;
+mod reaches;
+mod states;
 mod union;
 mod usage;
 
 pub use dependencies::Witnessed;
 pub use news::{NewBit, News};
+pub use states::PerState;
 pub use union::Union;
 pub use usage::UsageRow;

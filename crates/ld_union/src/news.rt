@@ -1,7 +1,10 @@
 //! What one more trace showed for the first time.
 ghost use Rattle.std.specs.Prelude.{◌≡◌, [], OnErr, OnOk, vec_len, vec_capacity};
+ghost use Rattle.ld_union.specs.Inner.States.{of_state};
 
+use crate::states::PerState;
 use ld_class::Usage;
+use ld_trace::State;
 use std::alloc::{AllocError, Global};
 use std::marker::Model;
 
@@ -14,12 +17,13 @@ pub struct NewBit {
     pub bit: Usage,
 }
 
-/// What was new to a union in the trace that was added last: the edges from a number on, and usage
-/// bits. It keeps its memory for the next trace.
+/// What was new to a union in the trace that was added last: the edges from a number on, usage bits, and
+/// the classes that were reached from a place on. It keeps its memory for the next trace.
 #[derive(Drop)]
 pub struct News {
     pub(crate) first_edge: usize,
     pub(crate) bits: Vec<NewBit>,
+    pub(crate) first_reached: PerState<usize>,
     /// The numbers of the trace's classes, by their places in the trace.
     pub(crate) places: Vec<u32>,
 }
@@ -29,17 +33,26 @@ impl Model for News {
 
     ghost Value = { PlainNews };
 
-    ghost view = { λ n. record { first_edge = n.first_edge; bits = n.bits.items } };
+    ghost view = { λ n. record {
+      first_edge = n.first_edge;
+      bits = n.bits.items;
+      first_reached = n.first_reached;
+    } };
 }
 
 impl News {
     /// Nothing new to a union of no traces. Takes no memory.
     pub fn new(alloc: Global) -> News
-        ensures { result ≡ record { first_edge = 0; bits = [] } }
+        ensures { result ≡ record {
+          first_edge = 0;
+          bits = [];
+          first_reached = record { hard = 0; soft = 0 };
+        } }
     {
         News {
             first_edge: 0,
             bits: Vec::new(alloc),
+            first_reached: PerState { hard: 0, soft: 0 },
             places: Vec::new(alloc),
         }
     }
@@ -56,5 +69,13 @@ impl News {
         ensures { result.now ≡ self.now.bits }
     {
         &self.bits
+    }
+
+    /// The place from which on the classes that the union tells as reached were reached since. Takes no
+    /// memory.
+    pub fn first_reached(&self, state: State) -> usize
+        ensures { result ≡ of_state self.now.first_reached state }
+    {
+        self.first_reached.get(state)
     }
 }

@@ -1,14 +1,15 @@
 //! What some traces show together, with numbers for their classes.
-ghost use Rattle.std.specs.Prelude.{◌≡◌, ◌↔◌, ℕ, ◌+◌, ◌<◌, ◌≤◌, [], ◌∷◌, None, Some, Option};
-ghost use Rattle.std.specs.Prelude.{length, IfSome, IsSome, IsTrue, OnErr, OnOk};
+ghost use Rattle.std.specs.Prelude.{◌≡◌, ◌↔◌, ℕ, ◌+◌, ◌<◌, ◌≤◌, [], ◌∷◌, Option};
+ghost use Rattle.std.specs.Prelude.{length, All, Contains, MatchOption, OnErr, OnOk};
 ghost use Rattle.ld_class.specs.declared.names.TheConstants.{MAX_NAMES};
-ghost use Rattle.ld_graph.specs.Edges.{IsEdge};
-ghost use Rattle.ld_graph.specs.Walks.{HasWalk};
 ghost use Rattle.ld_facts.specs.Dependency.{Dependency};
 ghost use Rattle.ld_facts.specs.Usage.{Use};
 ghost use Rattle.ld_union.specs.Inner.News.{Tells};
-ghost use Rattle.ld_union.specs.Inner.Union.{Adds, AreNumbered, AreUsed, AreWitnessed, edges_of};
-ghost use Rattle.ld_union.specs.Inner.Union.{IsClosing, known_row};
+ghost use Rattle.ld_union.specs.Inner.Reached.{IsSourceAt};
+ghost use Rattle.ld_union.specs.Inner.States.{of_state};
+ghost use Rattle.ld_union.specs.Inner.Union.{Adds, AreBetween, AreUsed, AreWitnessed, edges_of};
+ghost use Rattle.ld_union.specs.Inner.Union.{IsCycleEdge, known_row};
+ghost use Rattle.ld_union.specs.Usage.{bits_of};
 
 use crate::dependencies::{Dependencies, Witnessed};
 use crate::names::intern_all;
@@ -17,6 +18,7 @@ use crate::usage::{UsageRow, add_usage};
 use ld_class::Classes;
 use ld_facts::{Facts, Witness};
 use ld_graph::{Edge, Graph};
+use ld_trace::State;
 use std::alloc::{AllocError, Global};
 use std::marker::Model;
 
@@ -33,6 +35,7 @@ pub struct Union<'a> {
 }
 
 impl<'a> Model for Union<'a> {
+    ghost use Rattle.ld_union.specs.Inner.Reached.{reached_by};
     ghost use Rattle.ld_union.specs.Inner.Union.{IsUnion, PlainUnion};
 
     ghost Value = { PlainUnion };
@@ -41,18 +44,23 @@ impl<'a> Model for Union<'a> {
       classes = u.classes;
       dependencies = u.dependencies.rows.items;
       usage = u.usage.items;
-      searched = u.dependencies.graph.searched;
+      reached = reached_by u.dependencies.reach;
     } };
 
     ghost invariant = { λ u. IsUnion u.classes u.dependencies.graph u.dependencies.rows.items
-        u.usage.items u.dependencies.closing };
+        u.usage.items u.dependencies.closing u.dependencies.reach };
 }
 
 impl<'a> Union<'a> {
     /// What no traces show. Takes no memory.
     pub fn new(alloc: Global) -> Union<'a>
         ensures { result
-            ≡ record { classes = []; dependencies = []; usage = []; searched = None } }
+            ≡ record {
+              classes = [];
+              dependencies = [];
+              usage = [];
+              reached = record { hard = []; soft = [] };
+            } }
     {
         Union {
             classes: Classes::new(alloc),
@@ -73,6 +81,8 @@ impl<'a> Union<'a> {
         ensures told { OnOk result (Tells self.old self.new news.new) }
         ensures refused { OnErr result (self.new ≡ self.old) }
     {
+        news.first_edge = self.dependencies.rows.len();
+        news.first_reached = self.dependencies.reach.counts();
         let classes = facts.classes().len();
         self.dependencies.room(classes, facts.edges().len())?;
         self.usage.reserve(classes)?;
@@ -84,9 +94,9 @@ impl<'a> Union<'a> {
         let Ok(()) = self.usage.resize(self.classes.len(), UsageRow::unused()) else {
             unreachable!()
         };
-        news.first_edge = self.dependencies.rows.len();
         self.dependencies.add(facts, &news.places);
         add_usage(&mut self.usage, facts, &news.places, &mut news.bits);
+        self.dependencies.seed_all(&news.bits);
         Ok(())
     }
 
@@ -102,7 +112,7 @@ impl<'a> Union<'a> {
     /// first seen. Takes no memory.
     pub fn dependencies(&self) -> &[Witnessed]
         ensures same { result.now ≡ self.now.dependencies }
-        ensures numbered { AreNumbered self.now.classes self.now.dependencies }
+        ensures numbered { AreBetween self.now.classes self.now.dependencies }
     {
         &self.dependencies.rows
     }
@@ -120,8 +130,7 @@ impl<'a> Union<'a> {
     pub fn graph(&self) -> &Graph
         ensures classes { result.now.classes ≡ length self.now.classes }
         ensures edges { result.now.edges ≡ edges_of self.now.dependencies }
-        ensures searched { result.now.searched ≡ self.now.searched }
-        ensures numbered { AreNumbered self.now.classes self.now.dependencies }
+        ensures numbered { AreBetween self.now.classes self.now.dependencies }
     {
         &self.dependencies.graph
     }
@@ -129,29 +138,41 @@ impl<'a> Union<'a> {
     /// An edge on a cycle, the one with which the first cycle came, or `None` where there is no cycle. Takes
     /// no memory.
     pub fn closing(&self) -> Option<Edge>
-        ensures { IsClosing (edges_of self.now.dependencies) result }
+        ensures { IsCycleEdge (edges_of self.now.dependencies) result }
     {
         self.dependencies.closing
     }
 
-    /// Searches for the classes that walks from `from` lead to, which `found` then tells. Takes no
-    /// memory.
-    pub fn search(&mut self, from: u32)
-        requires { from < length self.old.classes }
-        ensures { self.new ≡ record self.old { searched = Some from } }
+    /// The classes to which a walk leads from a class that handlers of the state acquire, in the order in
+    /// which they were reached. Takes no memory.
+    pub fn reached(&self, state: State) -> &[u32]
+        ensures same { result.now ≡ of_state self.now.reached state }
+        ensures within { All (λ class. class < length self.now.classes)
+            (of_state self.now.reached state) }
+        ensures rows { length self.now.usage ≡ length self.now.classes }
+        ensures each { (class : ℕ) → Contains (of_state self.now.reached state) class
+            ↔ ((from : ℕ) × IsSourceAt (edges_of self.now.dependencies)
+            (bits_of self.now.usage) state class from) }
     {
-        self.dependencies.graph.search(from);
+        match state {
+            State::Hard => self.dependencies.reach.hard.reached(),
+            State::Soft => self.dependencies.reach.soft.reached(),
+        }
     }
 
-    /// Whether a walk of at least one edge leads from the class that was searched from to `class`.
-    /// Takes no memory.
-    pub fn found(&self, class: u32) -> bool
-        requires class { class < length self.now.classes }
-        requires searched { IsSome self.now.searched }
-        ensures { IfSome self.now.searched (λ from.
-            IsTrue result ↔ HasWalk (IsEdge (edges_of self.now.dependencies)) from class) }
+    /// A class that handlers of the state acquire and from which a walk leads to `class`, or `None` where
+    /// there is none. Takes no memory.
+    pub fn source(&self, state: State, class: u32) -> Option<u32>
+        requires { class < length self.now.classes }
+        ensures { MatchOption result
+            ((from : ℕ) → ¬ IsSourceAt (edges_of self.now.dependencies)
+            (bits_of self.now.usage) state class from)
+            (IsSourceAt (edges_of self.now.dependencies) (bits_of self.now.usage) state class) }
     {
-        self.dependencies.graph.found(class)
+        match state {
+            State::Hard => self.dependencies.reach.hard.source(class),
+            State::Soft => self.dependencies.reach.soft.source(class),
+        }
     }
 
     /// Where the dependency was first seen, or `None` where the traces don't show it. Takes no memory.

@@ -4,36 +4,27 @@ use Rattle.std.specs.Prelude.{◌≡◌, ◌↔◌, ℕ, ◌<◌, ◌≤◌, Lis
 use Rattle.ld_class.specs.declared.usage.Usage.{Usage}
 use Rattle.ld_class.specs.Names.{place_of}
 use Rattle.ld_graph.specs.declared.Edge.{Edge}
-use Rattle.ld_graph.specs.Edges.{IsEdge, edge}
+use Rattle.ld_graph.specs.Edges.{IsEdge}
 use Rattle.ld_graph.specs.Walks.{HasWalk}
 use Rattle.ld_trace.specs.declared.event.State.{State}
-use Rattle.ld_trace.specs.declared.event.State.TheVariants.{Hard, Soft}
 use Rattle.ld_trace.specs.Sources.{PlainSource}
 use Rattle.ld_facts.specs.Usage.{Bit}
 use Rattle.ld_facts.specs.Usage.Bit.{In, On}
 use Rattle.ld_find.specs.declared.alarms.Found.{Found}
-use Rattle.ld_find.specs.declared.states.PerState.{PerState}
-use Rattle.ld_union.specs.Inner.News.{HasBitAt, PlainNews, Tells}
+use Rattle.ld_union.specs.Inner.Bits.{HasBitAt}
+use Rattle.ld_union.specs.Inner.News.{PlainNews, Tells}
+use Rattle.ld_union.specs.Inner.States.{of_state}
 use Rattle.ld_union.specs.Inner.Union.{IsCycleAt, PlainUnion}
 use Rattle.ld_find.specs.Alarms.{IsExact, PlainAlarms}
 use Rattle.ld_find.specs.Violations.{HasBit}
-
--- that of the state
-abbrev pub of_state : {T : Type 0} → PerState T → State → T
-of_state each Hard = each.hard
-of_state each Soft = each.soft
 
 -- the class has both bits of the state
 abbrev pub IsConflictAt : List Usage → State → ℕ → Type 0
 IsConflictAt usage state class = HasBitAt usage class (In state) × HasBitAt usage class (On state)
 
--- the class has the state's second bit, and a walk leads to it
-abbrev pub IsFoundAt : List Edge → List Usage → State → ℕ → ℕ → Type 0
-IsFoundAt edges usage state from class = HasBitAt usage class (On state) × HasWalk (IsEdge edges) from class
-
 -- x has the state's first bit, y its second one, and a walk leads from x to y
 abbrev pub IsForbiddenAt : List Edge → List Usage → State → ℕ → ℕ → Type 0
-IsForbiddenAt edges usage state x y = HasBitAt usage x (In state) × IsFoundAt edges usage state x y
+IsForbiddenAt edges usage state x y = HasBitAt usage x (In state) × (HasBitAt usage y (On state) × HasWalk (IsEdge edges) x y)
 
 -- the edges grew: each that was there is there
 abbrev pub EdgesGrow : List Edge → List Edge → Type 0

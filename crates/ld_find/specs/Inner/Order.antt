@@ -11,7 +11,7 @@ abbrev pub class_at : List ℕ → ℕ → ℕ
 class_at numbers i = slice_index_or numbers i 0
 
 -- each number once, in the order of the names, and for each class its place there
-pub record IsOrder (classes : List (List ℕ)) (numbers places : List ℕ) : Type 0 where
+pub record AreByName (classes : List (List ℕ)) (numbers places : List ℕ) : Type 0 where
   pub count : length numbers ≡ length classes
   pub within : All (λ c. c < length classes) numbers
   pub every : (c : ℕ) → c < length classes → Contains numbers c

@@ -3,7 +3,7 @@ ghost use Rattle.std.specs.Prelude.{◌≡◌, ◌<◌, IfOk, List, MatchOption,
 ghost use Rattle.ld_trace.specs.Sources.{PlainSource};
 ghost use Rattle.ld_facts.specs.Union.{use_witness};
 ghost use Rattle.ld_find.specs.Findings.{AreConflictRows, plain_conflict_row};
-ghost use Rattle.ld_find.specs.Inner.Order.{IsOrder, name_of};
+ghost use Rattle.ld_find.specs.Inner.Order.{AreByName, name_of};
 ghost use Rattle.ld_find.specs.Inner.Rows.{AreConflictRowsOf, IsConflictRowOf};
 ghost use Rattle.ld_union.specs.Inner.Union.{Shows};
 ghost use Rattle.ld_find.specs.Violations.{IsConflict};
@@ -37,7 +37,7 @@ pub(crate) fn conflict_rows<'a>(
     union: &Union<'a>,
     order: &Order,
 ) -> Result<Vec<ConflictRow<'a>>, AllocError>
-    requires order { IsOrder union.now.classes order.now.numbers.items order.now.places.items }
+    requires order { AreByName union.now.classes order.now.numbers.items order.now.places.items }
     ensures { IfOk result (λ rows. (sources : List PlainSource)
         → Shows sources union.now
         → AreConflictRows sources (map plain_conflict_row rows.items)) }
@@ -55,7 +55,7 @@ fn conflicts_of<'a>(
     order: &Order,
     state: State,
 ) -> Result<Vec<ConflictRow<'a>>, AllocError>
-    requires order { IsOrder union.now.classes order.now.numbers.items order.now.places.items }
+    requires order { AreByName union.now.classes order.now.numbers.items order.now.places.items }
     ensures { IfOk result (λ rows. (sources : List PlainSource)
         → Shows sources union.now
         → AreConflictRowsOf sources (λ p. p.0 ≡ state) (map plain_conflict_row rows.items)) }

@@ -3,7 +3,7 @@ ghost use Rattle.std.specs.Prelude.{◌≡◌, ◌<◌, IfOk, List, MatchOption,
 ghost use Rattle.ld_trace.specs.Sources.{PlainSource};
 ghost use Rattle.ld_facts.specs.Union.{dependency_witness};
 ghost use Rattle.ld_find.specs.Findings.{AreCycleRows, plain_cycle_row};
-ghost use Rattle.ld_find.specs.Inner.Order.{IsOrder, name_of};
+ghost use Rattle.ld_find.specs.Inner.Order.{AreByName, name_of};
 ghost use Rattle.ld_find.specs.Inner.Rows.{AreCycleRowsOf, AreDistances, IsCycleRowOf, IsOfEach};
 ghost use Rattle.ld_union.specs.Inner.Union.{Shows};
 ghost use Rattle.ld_find.specs.Violations.{IsCycle};
@@ -37,7 +37,7 @@ pub(crate) fn cycle_rows<'a>(
     order: &Order,
     found: &Found,
 ) -> Result<Vec<CycleRow<'a>>, AllocError>
-    requires order { IsOrder union.now.classes order.now.numbers.items order.now.places.items }
+    requires order { AreByName union.now.classes order.now.numbers.items order.now.places.items }
     ensures { IfOk result (λ rows. (sources : List PlainSource)
         → Shows sources union.now
         → IsOfEach sources found.now
@@ -61,7 +61,7 @@ fn cycles_from<'a>(
     order: &Order,
     from: u32,
 ) -> Result<Vec<CycleRow<'a>>, AllocError>
-    requires order { IsOrder union.now.classes order.now.numbers.items order.now.places.items }
+    requires order { AreByName union.now.classes order.now.numbers.items order.now.places.items }
     requires from { from < length union.now.classes }
     ensures { IfOk result (λ rows. (sources : List PlainSource)
         → Shows sources union.now
@@ -90,7 +90,7 @@ fn cycle_row<'a>(
     target: &Target,
     to: u32,
 ) -> Result<Option<CycleRow<'a>>, AllocError>
-    requires order { IsOrder union.now.classes order.now.numbers.items order.now.places.items }
+    requires order { AreByName union.now.classes order.now.numbers.items order.now.places.items }
     requires class { target.now.class < length union.now.classes }
     requires distances { AreDistances union.now target.now.class target.now.distances.items }
     requires to { to < length union.now.classes }

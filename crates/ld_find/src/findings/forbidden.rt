@@ -4,7 +4,7 @@ ghost use Rattle.ld_trace.specs.Sources.{PlainSource};
 ghost use Rattle.ld_facts.specs.Union.{dependency_witness, use_witness};
 ghost use Rattle.ld_facts.specs.Usage.Bit.{On};
 ghost use Rattle.ld_find.specs.Findings.{AreForbiddenRows, plain_forbidden_row};
-ghost use Rattle.ld_find.specs.Inner.Order.{IsOrder, name_of};
+ghost use Rattle.ld_find.specs.Inner.Order.{AreByName, name_of};
 ghost use Rattle.ld_find.specs.Inner.Rows.{AreDistances, AreForbiddenRowsOf, AreTurnedRows};
 ghost use Rattle.ld_find.specs.Inner.Rows.{AreTurnedRowsOf, IsNoted, IsOfEach, IsTurnedRowOf};
 ghost use Rattle.ld_union.specs.Inner.Union.{Shows};
@@ -49,7 +49,7 @@ pub(crate) fn forbidden_rows<'a>(
     order: &Order,
     found: &Found,
 ) -> Result<Vec<ForbiddenRow<'a>>, AllocError>
-    requires order { IsOrder union.now.classes order.now.numbers.items order.now.places.items }
+    requires order { AreByName union.now.classes order.now.numbers.items order.now.places.items }
     ensures { IfOk result (λ rows. (sources : List PlainSource)
         → Shows sources union.now
         → IsOfEach sources found.now
@@ -69,7 +69,7 @@ fn forbidden_of<'a>(
     state: State,
     found: &Found,
 ) -> Result<Vec<ForbiddenRow<'a>>, AllocError>
-    requires order { IsOrder union.now.classes order.now.numbers.items order.now.places.items }
+    requires order { AreByName union.now.classes order.now.numbers.items order.now.places.items }
     ensures { IfOk result (λ rows. (sources : List PlainSource)
         → Shows sources union.now
         → IsOfEach sources found.now
@@ -90,7 +90,7 @@ fn forbidden_by_end<'a>(
     order: &Order,
     state: State,
 ) -> Result<Vec<ForbiddenRow<'a>>, AllocError>
-    requires order { IsOrder union.now.classes order.now.numbers.items order.now.places.items }
+    requires order { AreByName union.now.classes order.now.numbers.items order.now.places.items }
     ensures { IfOk result (λ rows. (sources : List PlainSource)
         → Shows sources union.now
         → AreTurnedRows sources state (map plain_forbidden_row rows.items)) }
@@ -111,7 +111,7 @@ fn forbidden_to<'a>(
     state: State,
     to: u32,
 ) -> Result<Vec<ForbiddenRow<'a>>, AllocError>
-    requires order { IsOrder union.now.classes order.now.numbers.items order.now.places.items }
+    requires order { AreByName union.now.classes order.now.numbers.items order.now.places.items }
     requires to { to < length union.now.classes }
     ensures { IfOk result (λ rows. (sources : List PlainSource)
         → Shows sources union.now
@@ -142,7 +142,7 @@ fn forbidden_row<'a>(
     state: State,
     from: u32,
 ) -> Result<Option<ForbiddenRow<'a>>, AllocError>
-    requires order { IsOrder union.now.classes order.now.numbers.items order.now.places.items }
+    requires order { AreByName union.now.classes order.now.numbers.items order.now.places.items }
     requires class { target.now.class < length union.now.classes }
     requires distances { AreDistances union.now target.now.class target.now.distances.items }
     requires held { (sources : List PlainSource)

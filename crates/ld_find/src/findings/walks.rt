@@ -5,7 +5,7 @@ ghost use Rattle.ld_graph.specs.Walks.{HasWalk};
 ghost use Rattle.ld_trace.specs.Sources.{PlainSource};
 ghost use Rattle.ld_facts.specs.Union.{dependency_witness};
 ghost use Rattle.ld_find.specs.Findings.{IsShown, plain_names};
-ghost use Rattle.ld_find.specs.Inner.Order.{IsOrder, name_of};
+ghost use Rattle.ld_find.specs.Inner.Order.{AreByName, name_of};
 ghost use Rattle.ld_find.specs.Inner.Rows.{AreDistances};
 ghost use Rattle.ld_union.specs.Inner.Union.{Shows, edges_of};
 
@@ -43,7 +43,7 @@ pub(crate) fn walk_names<'a>(
     target: &Target,
     from: u32,
 ) -> Result<Option<Rows<&'a [u8]>>, AllocError>
-    requires order { IsOrder union.now.classes order.now.numbers.items order.now.places.items }
+    requires order { AreByName union.now.classes order.now.numbers.items order.now.places.items }
     requires class { target.now.class < length union.now.classes }
     requires distances { AreDistances union.now target.now.class target.now.distances.items }
     requires from { from < length union.now.classes }

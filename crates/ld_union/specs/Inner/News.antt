@@ -1,20 +1,15 @@
 -- What one more trace showed for the first time. No contract of a `Book` cites this file.
-use Rattle.std.specs.Prelude.{◌≡◌, ℕ, true, List, length, take, slice_index_or, All, Contains}
+use Rattle.std.specs.Prelude.{◌≡◌, ℕ, List, length, take, All, Contains}
 use Rattle.ld_class.specs.declared.usage.Usage.{Usage}
-use Rattle.ld_class.specs.Usage.{has_bit}
-use Rattle.ld_facts.specs.Usage.{Bit, IsBit, bit_of, usage_of}
-use Rattle.ld_facts.specs.Uses.{none}
+use Rattle.ld_trace.specs.declared.event.State.{State}
+use Rattle.ld_facts.specs.Usage.{Bit, IsBit, bit_of}
 use Rattle.ld_union.specs.declared.news.NewBit.{NewBit}
+use Rattle.ld_union.specs.declared.states.PerState.{PerState}
+use Rattle.ld_union.specs.Inner.Bits.{HasBitAt, new_bit}
+use Rattle.ld_union.specs.Inner.Reached.{IsSourceAt}
+use Rattle.ld_union.specs.Inner.States.{of_state}
 use Rattle.ld_union.specs.Inner.Union.{PlainUnion, edges_of}
 use Rattle.ld_union.specs.Usage.{bits_of}
-
--- the class has this bit; a class that has no bits of its own has none
-abbrev pub HasBitAt : List Usage → ℕ → Bit → Type 0
-HasBitAt usage class bit = has_bit (slice_index_or usage class none) (usage_of bit) ≡ true
-
--- this bit of this class
-abbrev pub new_bit : ℕ → Bit → NewBit
-new_bit class bit = record { class = class; bit = usage_of bit }
 
 -- it is one bit, which the class has now and didn't have before
 pub record IsNew (old new : List Usage) (told : NewBit) : Type 0 where
@@ -28,13 +23,20 @@ pub record TellsBits (old new : List Usage) (told : List NewBit) : Type 0 where
   pub each : All (IsNew old new) told
   pub all : (class : ℕ) (bit : Bit) → HasBitAt new class bit → ¬ HasBitAt old class bit → Contains told (new_bit class bit)
 
--- what is told: the number from which on edges are new, and the new bits
+-- what is told: the number from which on edges are new, the new bits, and for each state the place from which
+-- on classes are reached since
 pub record PlainNews : Type 0 where
   pub first_edge : ℕ
   pub bits : List NewBit
+  pub first_reached : PerState ℕ
 
--- The edges below the number are those that there were, and just the new bits are told.
+-- The edges below the number are those that there were, just the new bits are told, and the classes in front
+-- of the place are those that were reached.
 pub record Tells (old new : PlainUnion) (news : PlainNews) : Type 0 where
   pub count : news.first_edge ≡ length old.dependencies
   pub front : take news.first_edge (edges_of new.dependencies) ≡ edges_of old.dependencies
   pub bits : TellsBits (bits_of old.usage) (bits_of new.usage) news.bits
+  pub reached : (state : State) → of_state news.first_reached state ≡ length (of_state old.reached state)
+  pub still : (state : State) → take (of_state news.first_reached state) (of_state new.reached state) ≡ of_state old.reached state
+  pub from : (state : State) (class : ℕ) → Contains (of_state old.reached state) class
+      → (from : ℕ) × IsSourceAt (edges_of old.dependencies) (bits_of old.usage) state class from

@@ -3,18 +3,23 @@ use Rattle.std.specs.Prelude.{◌≡◌, ◌≢◌, ℕ, ◌<◌, ◌≤◌, ◌
 use Rattle.std.specs.Option.{is_some}
 use Rattle.ld_class.specs.declared.names.TheConstants.{MAX_NAMES}
 use Rattle.ld_class.specs.Names.{AreDistinct, place_of}
+use Rattle.ld_trace.specs.declared.event.State.{State}
 use Rattle.ld_trace.specs.Sources.{PlainSource}
 use Rattle.ld_graph.specs.declared.Edge.{Edge}
 use Rattle.ld_graph.specs.Edges as graphs
 use Rattle.ld_graph.specs.Walks.{HasWalk}
+use Rattle.ld_reach.specs.Reach.{Reached}
 use Rattle.ld_rules.specs.declared.outcome.Witness.{Witness}
 use Rattle.ld_facts.specs.Dependency.{Dependency, Seen, least_line, same_dependency}
 use Rattle.ld_facts.specs.Union.{classes_of, dependency_witness, earlier, union_classes, use_witness}
 use Rattle.ld_facts.specs.Usage.{Bit, Use, same_bit, same_use}
 use Rattle.ld_union.specs.declared.dependencies.Witnessed.{Witnessed}
+use Rattle.ld_union.specs.declared.states.PerState.{PerState}
 use Rattle.ld_union.specs.declared.usage.UsageRow.{UsageRow}
 use Rattle.ld_union.specs.Inner.Names.{IsLonger}
-use Rattle.ld_union.specs.Usage.{row_of}
+use Rattle.ld_union.specs.Inner.Reached.{IsReachOf}
+use Rattle.ld_union.specs.Inner.States.{of_state}
+use Rattle.ld_union.specs.Usage.{bits_of, row_of}
 
 -- the dependency that an edge stands for
 abbrev pub named_edge : List (List ℕ) → Edge → Dependency
@@ -40,7 +45,7 @@ abbrev pub edges_of : List Witnessed → List Edge
 edges_of rows = map (λ r. r.edge) rows
 
 -- Numbers stand for the classes, and each row is an edge between two of them, of which there is no other.
-pub record AreNumbered (classes : List (List ℕ)) (rows : List Witnessed) : Type 0 where
+pub record AreBetween (classes : List (List ℕ)) (rows : List Witnessed) : Type 0 where
   pub distinct : AreDistinct classes
   pub ends : All (λ e. (e.from < length classes) × (e.to < length classes)) (edges_of rows)
   pub once : AllPairs (λ e f. e ≢ f) (edges_of rows)
@@ -79,36 +84,37 @@ abbrev pub with_bit : (Bit → Option Witness) → Bit → Witness → Bit → O
 with_bit first bit witness b = earlier_of (first b) (if same_bit b bit then Some witness else None)
 
 -- A union, without where its names lie in memory: the classes and the edges between them, each in the order
--- of their numbers, for each class its usage, and the class that was searched from last, if no class or edge
--- was added since.
+-- of their numbers, for each class its usage, and for each state the classes to which a walk leads from one
+-- that handlers of the state acquire, in the order in which they were reached.
 pub record PlainUnion : Type 0 where
   pub classes : List (List ℕ)
   pub dependencies : List Witnessed
   pub usage : List UsageRow
-  pub searched : Option ℕ
+  pub reached : PerState (List ℕ)
 
 -- the edge is there, and a walk leads back from its second class to its first
 abbrev pub IsCycleAt : List Edge → Edge → Type 0
 IsCycleAt edges e = graphs.IsEdge edges e.from e.to × HasWalk (graphs.IsEdge edges) e.to e.from
 
 -- an edge on a cycle, and none exactly where there is no cycle
-abbrev pub IsClosing : List Edge → Option Edge → Type 0
-IsClosing edges closing = MatchOption closing (¬ ((e : Edge) × IsCycleAt edges e)) (IsCycleAt edges)
+abbrev pub IsCycleEdge : List Edge → Option Edge → Type 0
+IsCycleEdge edges closing = MatchOption closing (¬ ((e : Edge) × IsCycleAt edges e)) (IsCycleAt edges)
 
--- What a union keeps true of its fields: the graph has the classes and the edges, and each class has a row of
--- usage.
-pub record IsUnion (classes : List (List ℕ)) (graph : graphs.Seen) (dependencies : List Witnessed) (usage : List UsageRow) (closed_by : Option Edge) : Type 0 where
-  pub numbered : AreNumbered classes dependencies
+-- What a union keeps true of its fields: the graph has the classes and the edges, each class has a row of
+-- usage, and for each state it is known what is reached.
+pub record IsUnion (classes : List (List ℕ)) (graph : graphs.Seen) (dependencies : List Witnessed) (usage : List UsageRow) (closed_by : Option Edge) (reach : PerState Reached) : Type 0 where
+  pub numbered : AreBetween classes dependencies
   pub few : length classes ≤ MAX_NAMES
   pub count : graph.classes ≡ length classes
   pub edges : graph.edges ≡ edges_of dependencies
   pub rows : length usage ≡ length classes
-  pub closing : IsClosing (edges_of dependencies) closed_by
+  pub closing : IsCycleEdge (edges_of dependencies) closed_by
+  pub reached : (state : State) → IsReachOf (length classes) (edges_of dependencies) (bits_of usage) state (of_state reach state)
 
 -- The union is what these sources show together. Each union is numbered: it is said here for what knows of a
 -- union no more than this.
 pub record Shows (sources : List PlainSource) (union : PlainUnion) : Type 0 where
-  pub numbered : AreNumbered union.classes union.dependencies
+  pub numbered : AreBetween union.classes union.dependencies
   pub classes : union.classes ≡ union_classes sources
   pub witnesses : AreWitnessed union.classes union.dependencies (dependency_witness sources)
   pub used : AreUsed union.classes union.usage (use_witness sources)
@@ -118,7 +124,3 @@ pub record Shows (sources : List PlainSource) (union : PlainUnion) : Type 0 wher
 pub record Adds (more : List PlainSource) (old new : PlainUnion) : Type 0 where
   pub shows : (sources : List PlainSource) → Shows sources old → Shows (sources ++ more) new
   pub longer : IsLonger old.classes new.classes (length (flat_map classes_of more))
-
--- the union, but for what was searched from
-abbrev pub searched_union : PlainUnion → Option ℕ → PlainUnion
-searched_union union searched = record union { searched = searched }

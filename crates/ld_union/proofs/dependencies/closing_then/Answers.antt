@@ -1,5 +1,4 @@
 use Rattle.std.proofs.Common.{subst}
-use Rattle.ld_graph.specs.Edges.{Seen}
 use Rattle.ld_graph.specs.Order.{IsInserted}
 use Rattle.ld_union.proofs.ClosingLemmas.{closing-closed, closing-other}
 use Rattle.ld_union.proofs.dependencies.closing_then.Goals as goal

@@ -1,10 +1,7 @@
-use Rattle.std.proofs.Common.{◌≡◌, ◌+◌, ◌*◌, ◌<◌, ◌≤◌, ◌^◌, ◌++◌, ◌∷◌, [], ◌∙◌, ap, arith, length, nat_eq, subst, sym, false, if◌then◌else◌, Bool, List, ℕ}
+use Rattle.std.proofs.Common.{◌≡◌, ◌+◌, ◌*◌, ◌<◌, ◌≤◌, ◌^◌, ◌++◌, ◌∷◌, [], ◌∙◌, ap, arith, length, nat_eq, subst, false, if◌then◌else◌, Bool, List, ℕ}
 use Rattle.std.specs.List.{IsDistinct, list_any}
 use Rattle.ld_rules.specs.declared.outcome.Listed.{Listed}
 use Rattle.ld_book.specs.Book.{is_listed}
-use Rattle.ld_find.specs.Inner.Numbers.{AreFound}
-use Rattle.ld_union.specs.Inner.Union.{PlainUnion, edges_of}
-use Rattle.ld_union.specs.Usage.{bits_of}
 use Rattle.ld_book.specs.Totals.{events_read}
 use Rattle.ld_book.proofs.BookLemmas.{kept-push, listed_any}
 use Rattle.ld_book.proofs.BoundLemmas.{events_fit, few_listed}
@@ -42,9 +39,7 @@ invariant_of-self-2 c =
     c.in-Ok.ensures.keys
     ∙ ap (λ (ks : List ℕ). if list_any (nat_eq number) ks then ks else ks ++ number ∷ []) c.reserve-2.ensures.keys
     ∙ ap (λ (b : Bool). if b then keys else keys ++ number ∷ []) absent in
-    let found : AreFound (edges_of c.add.new.self.dependencies) (bits_of c.add.new.self.usage) c.look.new.self =
-    c.look.ensures.found c.self.inside.union c.in_ok-add.ensures.told c.self.invariant.exact in
-    kept-push _ _ last c.args.facts.now c.add.new.self c.self.invariant (record {
+    kept-push _ _ last c.args.facts.now c.self.invariant (record {
       known = c.source-source.ensures.known;
       source = c.source-source.ensures.source;
       outcome = c.outcome-outcome.ensures;
@@ -53,6 +48,5 @@ invariant_of-self-2 c =
       events = ap (λ n. c.self.inside.events + n) c.events_of.ensures;
       refused = ap (λ n. c.self.inside.refused + n) c.refused_of.ensures;
       adds = c.in_ok-add.ensures.added;
-      searched = c.look.ensures.same;
-      exact = subst (λ (union : PlainUnion). AreFound (edges_of union.dependencies) (bits_of union.usage) c.look.new.self) (sym c.look.ensures.same) found;
+      exact = c.look.ensures c.self.inside.union c.in_ok-add.ensures.told c.self.invariant.exact;
     })

@@ -2,7 +2,8 @@ use Rattle.std.proofs.Common.{◌≡◌, ◌∷◌, [], List, ℕ, None, get_or,
 use Rattle.ld_trace.specs.declared.event.State.{State}
 use Rattle.ld_trace.specs.declared.event.State.TheVariants.{Hard, Soft}
 use Rattle.ld_find.specs.Alarms.{state_place}
-use Rattle.ld_find.specs.Inner.Numbers.{named_pair, of_state}
+use Rattle.ld_find.specs.Inner.Numbers.{named_pair}
+use Rattle.ld_union.specs.Inner.States.{of_state}
 use Rattle.ld_find.proofs.alarms.Found.named.Goals as goal
 
 pub name_of-requires : goal.name_of-requires

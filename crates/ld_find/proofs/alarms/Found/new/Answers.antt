@@ -2,8 +2,8 @@ use Rattle.std.proofs.Common.{◌≡◌, Option, None, ℕ, refl}
 use Rattle.ld_trace.specs.declared.event.State.{State}
 use Rattle.ld_trace.specs.declared.event.State.TheVariants.{Hard, Soft}
 use Rattle.ld_find.specs.declared.alarms.Forbidden.{Forbidden}
-use Rattle.ld_find.specs.declared.states.PerState.{PerState}
-use Rattle.ld_find.specs.Inner.Numbers.{of_state}
+use Rattle.ld_union.specs.declared.states.PerState.{PerState}
+use Rattle.ld_union.specs.Inner.States.{of_state}
 use Rattle.ld_find.proofs.FoundLemmas.{nothing_found}
 use Rattle.ld_find.proofs.alarms.Found.new.Goals as goal
 

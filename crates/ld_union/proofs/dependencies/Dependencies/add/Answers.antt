@@ -6,6 +6,7 @@ use Rattle.ld_facts.specs.Dependency.{Dependency, least_line, same_dependency}
 use Rattle.ld_facts.specs.Facts.{named}
 use Rattle.ld_facts.specs.Union.{dependencies_of}
 use Rattle.ld_union.specs.Inner.Union.{AreWitnessed, earlier_of, edges_of, named_edge, seen_in}
+use Rattle.ld_union.proofs.ReachedLemmas.{in_front-same, in_front-then}
 use Rattle.ld_union.proofs.SeenLemmas.{all_noted, dependencies_once, none_noted, one_noted}
 use Rattle.ld_union.proofs.UnionLemmas.{length_rows, same_dependency-true}
 use Rattle.ld_union.proofs.dependencies.Dependencies.add.Goals as goal
@@ -20,6 +21,9 @@ loop-seen-init c = record {
   spare_edges = search rules;
   spare_rows = search rules;
   front = let rows = c.args.self.now.rows.items in ap (λ n. take n (edges_of rows)) (length_rows rows) ∙ take-length (edges_of rows);
+  reach = search rules;
+  reached = in_front-same c.args.self.now.reach;
+  exact = λ state seeds is. is;
   closing = λ was. was;
   numbered = λ classes same numbered. numbered;
   witnesses = λ classes same numbered places first witnessed. subst (AreWitnessed classes c.args.self.now.rows.items)
@@ -47,6 +51,9 @@ loop-seen-preserved c =
           c.note.ensures.front (length old)
           (omega (arith, ap length c.loop-seen.invariant.front, length-take (length old) (edges_of c.loop-seen.self.rows.items), length_rows old, length_rows c.loop-seen.self.rows.items))
           ∙ c.loop-seen.invariant.front;
+      reach = c.note.ensures.reach;
+      reached = in_front-then c.args.self.now.reach c.loop-seen.self.reach c.note.new.self.reach c.loop-seen.invariant.reached c.note.ensures.reached;
+      exact = λ state seeds is. c.note.ensures.exact state seeds (c.loop-seen.invariant.exact state seeds is);
       closing = λ was. c.note.ensures.closing (c.loop-seen.invariant.closing was);
       numbered = λ classes same numbered. c.note.ensures.numbered classes (same ∙ sym c.loop-seen.invariant.count) (c.loop-seen.invariant.numbered classes same numbered);
       witnesses = λ classes same numbered are first witnessed.

@@ -1,4 +1,6 @@
-use Rattle.std.proofs.Common.{◌≡◌, ◌+◌, ◌≤◌}
+use Rattle.std.proofs.Common.{◌≡◌, ◌+◌, ◌≤◌, List}
+use Rattle.ld_graph.specs.declared.Edge.{Edge}
+use Rattle.ld_union.specs.Inner.Reached.{HaveClasses, StayExact}
 use Rattle.ld_union.proofs.dependencies.Dependencies.enter_classes.Given as goal
 
 abbrev pub invariant-loop : goal.invariant-loop
@@ -9,4 +11,10 @@ invariant-loop l = record {
   spare : l.self.graph.spare_edges ≡ l.fn.self.graph.spare_edges;
   rows : l.self.rows ≡ l.fn.self.rows;
   closing : l.self.closing ≡ l.fn.self.closing;
+  reach : HaveClasses l.self.graph.classes l.self.reach;
+  room_hard : l.count ≤ l.self.graph.classes + l.self.reach.hard.spare;
+  room_soft : l.count ≤ l.self.graph.classes + l.self.reach.soft.spare;
+  hard : l.self.reach.hard.reached ≡ l.fn.self.reach.hard.reached;
+  soft : l.self.reach.soft.reached ≡ l.fn.self.reach.soft.reached;
+  exact : (edges : List Edge) → StayExact edges edges l.fn.self.reach l.self.reach;
 }

@@ -1,9 +1,11 @@
 use Rattle.std.proofs.Common.{◌≡◌, ◌++◌, ◌∷◌, [], ◌<◌, ◌∙◌, refl, ap, subst, sym, take}
 use Rattle.std.proofs.lemmas.List.{get_or_read, map-append}
 use Rattle.ld_graph.specs.Edges.{IsEdge, IsFirstPlace, Seen, with_edge}
+use Rattle.ld_reach.specs.Reach.{IsReach}
 use Rattle.ld_facts.specs.Union.{earlier}
 use Rattle.ld_union.specs.declared.dependencies.Witnessed.{Witnessed}
-use Rattle.ld_union.specs.Inner.Union.{IsClosing, edges_of}
+use Rattle.ld_union.specs.Inner.States.{of_state}
+use Rattle.ld_union.specs.Inner.Union.{IsCycleEdge, edges_of}
 use Rattle.ld_union.proofs.UnionLemmas.{edges-set, found_row, numbered-pushed, numbered-set, witnessed-pushed, witnessed-set}
 use Rattle.ld_union.proofs.dependencies.Dependencies.note.Goals as goal
 
@@ -62,7 +64,7 @@ returns-in-Some-clause-closing c was =
     let e = c.args.edge in
     let known = c.index_mut-known.result.now in
     let at = found_row rows e.from e.to c.in-Some.number (subst (λ edges. IsFirstPlace edges e.from e.to c.in-Some.number) c.requires.edges c.in-Some.ensures) in
-    subst (λ edges. IsClosing edges c.args.self.now.closing)
+    subst (λ edges. IsCycleEdge edges c.args.self.now.closing)
     (sym (edges-set rows c.in-Some.number e at.0 at.1 _ (ap (λ (row : Witnessed). row.edge) c.index_mut-known.ensures.value ∙ at.1 known))) was
 
 pub returns-in-Ok-clause-closing : goal.returns-in-Ok-clause-closing
@@ -72,5 +74,14 @@ returns-in-Ok-clause-closing c was =
     let same : edges_of c.push.new.self.items ≡ graph.edges =
     ap edges_of c.in-Ok.ensures.items ∙ map-append (λ (row : Witnessed). row.edge) c.args.self.now.rows.items _
     ∙ ap (λ edges. edges ++ c.args.edge ∷ []) (sym c.requires.edges) ∙ sym (ap (λ (g : Seen). g.edges) inserted) in
-    subst (λ edges. IsClosing edges c.closing_then-self.result) (sym same)
-    (c.closing_then-self.ensures c.args.self.now.graph graph c.insert-answer.ensures.inserted (subst (λ edges. IsClosing edges c.args.self.now.closing) (sym c.requires.edges) was))
+    subst (λ edges. IsCycleEdge edges c.closing_then-self.result) (sym same)
+    (c.closing_then-self.ensures c.args.self.now.graph graph c.insert-answer.ensures.inserted (subst (λ edges. IsCycleEdge edges c.args.self.now.closing) (sym c.requires.edges) was))
+
+pub returns-in-Some-clause-exact : goal.returns-in-Some-clause-exact
+returns-in-Some-clause-exact c state seeds is =
+    let rows = c.args.self.now.rows.items in
+    let e = c.args.edge in
+    let known = c.index_mut-known.result.now in
+    let at = found_row rows e.from e.to c.in-Some.number (subst (λ edges. IsFirstPlace edges e.from e.to c.in-Some.number) c.requires.edges c.in-Some.ensures) in
+    subst (λ edges. IsReach (IsEdge edges) seeds (of_state c.args.self.now.reach state))
+    (sym (edges-set rows c.in-Some.number e at.0 at.1 _ (ap (λ (row : Witnessed). row.edge) c.index_mut-known.ensures.value ∙ at.1 known))) is

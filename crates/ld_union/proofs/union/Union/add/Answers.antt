@@ -1,21 +1,29 @@
-use Rattle.std.proofs.Common.{rules, ◌≡◌, ◌-◌, ◌++◌, ◌∷◌, ◌∙◌, [], None, List, ℕ, ap, arith, length, replicate, subst, sym, take}
+use Rattle.std.proofs.Common.{rules, All, Contains, ◌<◌, ◌≡◌, ◌-◌, ◌++◌, ◌∷◌, ◌∙◌, [], None, List, ℕ, ap, arith, length, replicate, subst, sym, take}
 use Rattle.std.proofs.lemmas.List.{take_all, with_items_is}
 use Rattle.std.specs.Vec.{with_items}
+use Rattle.ld_graph.specs.Edges.{IsEdge}
+use Rattle.ld_reach.specs.Reach.{IsReach, Reached}
+use Rattle.ld_trace.specs.declared.event.State.{State}
+use Rattle.ld_trace.specs.declared.event.State.TheVariants.{Hard, Soft}
 use Rattle.ld_facts.specs.Union.{uses_of}
 use Rattle.ld_union.specs.declared.dependencies.Witnessed.{Witnessed}
+use Rattle.ld_union.specs.declared.news.NewBit.{NewBit}
 use Rattle.ld_union.specs.declared.usage.UsageRow.{UsageRow}
 use Rattle.ld_union.specs.Inner.Names.{ArePlaces, IsLonger, with_names}
 use Rattle.ld_union.specs.Inner.News.{Tells, TellsBits}
-use Rattle.ld_union.specs.Inner.Union.{Adds, AreNumbered, AreUsed, AreWitnessed, IsClosing, PlainUnion, edges_of, with_uses}
+use Rattle.ld_union.specs.Inner.Reached.{AreInFront, IsReachOf, IsSeeded, reached_by}
+use Rattle.ld_union.specs.Inner.States.{of_state}
+use Rattle.ld_union.specs.Inner.Union.{Adds, AreBetween, AreUsed, AreWitnessed, IsCycleEdge, PlainUnion, edges_of, with_uses}
 use Rattle.ld_union.specs.Usage.{bits_of, row_of}
-use Rattle.ld_union.proofs.NewsLemmas.{tells-longer, tells-then}
+use Rattle.ld_union.proofs.NewsLemmas.{tells-longer, tells-then, told_within}
+use Rattle.ld_union.proofs.ReachedLemmas.{in_front-equal, in_front-then, reach-seeded, reached_at, source_some, union-kept}
 use Rattle.ld_union.proofs.SourceLemmas.{adds-source}
 use Rattle.ld_union.proofs.UnionLemmas.{numbered-longer, witnessed-longer}
 use Rattle.ld_union.proofs.UsageLemmas.{used-longer}
 use Rattle.ld_union.proofs.union.Union.add.Goals as goal
 
 -- What is known once all was noted.
-module _ (c : goal.After-self-1) where
+module _ (c : goal.After-seed_all) where
   abbrev old_rows : List Witnessed
   old_rows = c.self.inside.dependencies.rows.items
 
@@ -44,8 +52,8 @@ module _ (c : goal.After-self-1) where
   entered : length classes ≡ c.enter_classes.new.self.graph.classes
   entered = sym (c.enter_classes.ensures.count ∙ c.len.ensures.len)
 
-  numbered : AreNumbered classes c.enter_classes.new.self.rows.items
-  numbered = subst (AreNumbered classes) (sym rows) (numbered-longer c.self.inside.classes classes old_rows count c.len.ensures.distinct c.self.invariant.numbered longer)
+  numbered : AreBetween classes c.enter_classes.new.self.rows.items
+  numbered = subst (AreBetween classes) (sym rows) (numbered-longer c.self.inside.classes classes old_rows count c.len.ensures.distinct c.self.invariant.numbered longer)
 
   -- before the usage was noted
   usage : c.deref_mut.result.now ≡ take (length classes) old_usage ++ replicate (length classes - length old_usage) (row_of (λ bit. None))
@@ -60,15 +68,21 @@ module _ (c : goal.After-self-1) where
 
   -- the union before and after
   abbrev before : PlainUnion
-  before = record { classes = c.self.inside.classes; dependencies = old_rows; usage = old_usage; searched = c.self.inside.dependencies.graph.searched }
+  before = record { classes = c.self.inside.classes; dependencies = old_rows; usage = old_usage; reached = reached_by c.self.inside.dependencies.reach }
+
+  abbrev with_rows : List Witnessed → PlainUnion
+  with_rows all = record {
+    classes = classes;
+    dependencies = all;
+    usage = (with_items c.resize.new.self c.add_usage.new.rows).items;
+    reached = reached_by c.seed_all.new.self.reach;
+  }
 
   abbrev after : PlainUnion
-  after = record {
-    classes = classes;
-    dependencies = c.add.new.self.rows.items;
-    usage = (with_items c.resize.new.self c.add_usage.new.rows).items;
-    searched = c.add.new.self.graph.searched;
-  }
+  after = with_rows c.seed_all.new.self.rows.items
+
+  same_rows : c.add.new.self.rows.items ≡ c.seed_all.new.self.rows.items
+  same_rows = sym (ap (λ r. r.items) c.seed_all.ensures.rows)
 
   tells : TellsBits (bits_of old_usage) (bits_of c.add_usage.new.rows) c.add_usage.new.bits.items
   tells =
@@ -79,12 +93,44 @@ module _ (c : goal.After-self-1) where
       (tells-longer old_usage (length classes - length old_usage)))
       c.add_usage.ensures.told
 
+  told : TellsBits (bits_of old_usage) (bits_of (with_items c.resize.new.self c.add_usage.new.rows).items) c.add_usage.new.bits.items
+  told = subst (λ all. TellsBits (bits_of old_usage) (bits_of all) c.add_usage.new.bits.items) (sym written) tells
+
+  -- what was reached stands in front
+  in_front : AreInFront c.self.inside.dependencies.reach c.seed_all.new.self.reach
+  in_front =
+      in_front-then c.self.inside.dependencies.reach c.enter_classes.new.self.reach c.seed_all.new.self.reach
+      (in_front-equal c.self.inside.dependencies.reach c.enter_classes.new.self.reach
+      (c.enter_classes.ensures.hard ∙ ap (λ (r : Reached). r.reached) c.in_ok-room.ensures.hard)
+      (c.enter_classes.ensures.soft ∙ ap (λ (r : Reached). r.reached) c.in_ok-room.ensures.soft))
+      (in_front-then c.enter_classes.new.self.reach c.add.new.self.reach c.seed_all.new.self.reach c.add.ensures.reached c.seed_all.ensures.reached)
+
+  counted : (state : State) → of_state c.counts-news-inside.result state ≡ length (of_state (reached_by c.self.inside.dependencies.reach) state)
+  counted Hard = c.counts-news-inside.ensures.hard
+  counted Soft = c.counts-news-inside.ensures.soft
+
+  -- each reach is exact for the seeds that it had and for those that came
+  seeded : (state : State) → IsReachOf (length classes) (edges_of c.add.new.self.rows.items) (bits_of (with_items c.resize.new.self c.add_usage.new.rows).items) state
+      (of_state c.seed_all.new.self.reach state)
+  seeded state =
+      let was = c.self.invariant.reached state in
+      let entered_exact = c.enter_classes.ensures.exact (edges_of old_rows) state was.seeds (c.in_ok-room.ensures.exact (edges_of old_rows) state was.seeds was.exact) in
+      let added = c.add.ensures.exact state was.seeds
+      (subst {A = List Witnessed} (λ all. IsReach (IsEdge (edges_of all)) was.seeds (of_state c.enter_classes.new.self.reach state)) (sym rows) entered_exact) in
+      reach-seeded (edges_of c.add.new.self.rows.items) (bits_of old_usage) (bits_of (with_items c.resize.new.self c.add_usage.new.rows).items)
+      c.add_usage.new.bits.items told state (length classes) was.seeds was.seeded (of_state c.seed_all.new.self.reach state)
+      (c.seed_all.ensures.reach state ∙ c.add.ensures.classes ∙ sym entered)
+      (subst (λ edges. IsSeeded edges was.seeds state c.add_usage.new.bits.items (of_state c.seed_all.new.self.reach state)) c.add.ensures.edges
+      (rw (← c.deref-3.ensures.value) (c.seed_all.ensures.exact state was.seeds
+      (subst (λ edges. IsReach (IsEdge edges) was.seeds (of_state c.add.new.self.reach state)) (sym c.add.ensures.edges) added))))
+
 pub returns-clause-added : goal.returns-clause-added
 returns-clause-added c =
     let these = classes c in
     let named = c.args.facts.now.classes in
     subst (λ union. Adds (c.args.facts.now.source ∷ []) union (after c)) c.self.view_is
-    (adds-source (before c) (after c) c.args.facts.now c.add.ensures.known (c.add.ensures.numbered these (entered c) (numbered c)) (names c) (longer c)
+    (subst (λ all. Adds (c.args.facts.now.source ∷ []) (before c) (with_rows c all)) (same_rows c)
+    (adds-source (before c) (with_rows c c.add.new.self.rows.items) c.args.facts.now c.add.ensures.known (c.add.ensures.numbered these (entered c) (numbered c)) (names c) (longer c)
     (λ first witnessed.
     c.add.ensures.witnesses these (entered c) (numbered c) (subst (ArePlaces these named) (sym c.deref.ensures.value) (places c)) first
     (subst (λ all. AreWitnessed these all first) (sym (rows c))
@@ -92,25 +138,93 @@ returns-clause-added c =
     (λ first used.
     subst (λ all. AreUsed these all (with_uses first c.args.facts.now.source.number (uses_of c.args.facts.now.source))) (sym (written c))
     (c.add_usage.ensures.used these c.len.ensures.distinct (subst (ArePlaces these named) (sym c.deref-2.ensures.value) (places c)) first
-    (subst (λ all. AreUsed these all first) (sym (usage c)) (used-longer c.self.inside.classes (old_usage c) first used these (count c) c.len.ensures.distinct (longer c))))))
+    (subst (λ all. AreUsed these all first) (sym (usage c)) (used-longer c.self.inside.classes (old_usage c) first used these (count c) c.len.ensures.distinct (longer c)))))))
 
 pub returns-clause-told : goal.returns-clause-told
 returns-clause-told c =
-    let first : c.len-news-inside.result ≡ length (old_rows c) = c.len-news-inside.ensures ∙ c.enter_classes.new.self.rows.ok.0 ∙ ap length (rows c) in
-    subst (λ union. Tells union (after c) (record { first_edge = c.len-news-inside.result; bits = c.add_usage.new.bits.items })) c.self.view_is (record {
+    let union = c.self.inside in
+    let first : c.len-news-inside.result ≡ length (old_rows c) = c.len-news-inside.ensures ∙ union.dependencies.rows.ok.0 in
+    let reach = union.dependencies.reach in
+    let more = c.seed_all.new.self.reach in
+    subst (λ union. Tells union (after c) (record { first_edge = c.len-news-inside.result; bits = c.add_usage.new.bits.items; first_reached = c.counts-news-inside.result })) c.self.view_is (record {
       count = first;
-      front = (λ i. take ((first ∙ ap length (sym (rows c))) i) (edges_of c.add.new.self.rows.items)) ∙ c.add.ensures.front ∙ ap edges_of (rows c);
-      bits = subst (λ all. TellsBits (bits_of (old_usage c)) (bits_of all) c.add_usage.new.bits.items) (sym (written c)) (tells c);
+      front =
+          (λ i. take ((first ∙ ap length (sym (rows c))) i) (edges_of (sym (same_rows c) i)))
+          ∙ c.add.ensures.front
+          ∙ ap edges_of (rows c);
+      bits = told c;
+      reached = counted c;
+      still = λ state.
+          (λ i. take ((counted c state ∙ ap length (reached_at reach state)) i) (reached_at more state i))
+          ∙ in_front c state
+          ∙ sym (reached_at reach state);
+      from = λ state class there.
+          source_some (length union.classes) (edges_of (old_rows c)) (bits_of (old_usage c)) state (of_state reach state) (c.self.invariant.reached state) class
+          (c.counts-news-inside.ensures.sources state class (subst (λ all. Contains all class) (reached_at reach state) there));
     })
 
+pub enter_classes-requires-clause-reach : goal.enter_classes-requires-clause-reach
+enter_classes-requires-clause-reach c = rw c.in_ok-room.ensures.graph c.in_ok-room.ensures.reach
+
+pub seed_all-requires-clause-within : goal.seed_all-requires-clause-within
+seed_all-requires-clause-within c =
+    let rows = c.add_usage.new.rows in
+    let told = c.add_usage.new.bits.items in
+    let count : length rows ≡ c.add.new.self.graph.classes = omega (
+      arith,
+      c.add_usage.ensures.len,
+      ap length c.deref_mut.ensures.value,
+      c.resize.new.self.ok.0,
+      c.in-Ok.ensures.len,
+      c.len-2.ensures.len,
+      c.add.ensures.classes,
+      c.enter_classes.ensures.count,
+      c.len.ensures.len,
+    ) in
+    rw c.deref-3.ensures.value
+    (subst (λ n. All (λ (bit : NewBit). bit.class < n) told) count (told_within (bits_of c.deref_mut.result.now) rows told c.add_usage.ensures.told))
+
+pub invariant_of-self : goal.invariant_of-self
+invariant_of-self c =
+    let union = c.self.inside in
+    let these = union.dependencies in
+    rw (c.room.ensures.graph, c.room.ensures.rows, c.room.ensures.closing)
+    (union-kept union.classes these.graph these.rows.items union.usage.items these.closing these.reach c.room.new.self.reach _ _
+    c.self.invariant c.room.ensures.reach (c.room.ensures.exact (edges_of these.rows.items)))
+
+pub invariant_of-self-in_err-reserve : goal.invariant_of-self-in_err-reserve
+invariant_of-self-in_err-reserve c =
+    let union = c.self.inside in
+    let these = union.dependencies in
+    rw (c.room.ensures.graph, c.room.ensures.rows, c.room.ensures.closing, c.in_err-reserve.ensures.items)
+    (union-kept union.classes these.graph these.rows.items union.usage.items these.closing these.reach c.room.new.self.reach _ _
+    c.self.invariant c.room.ensures.reach (c.room.ensures.exact (edges_of these.rows.items)))
+
+pub invariant_of-self-in_err-reserve-2 : goal.invariant_of-self-in_err-reserve-2
+invariant_of-self-in_err-reserve-2 c =
+    let union = c.self.inside in
+    let these = union.dependencies in
+    rw (c.room.ensures.graph, c.room.ensures.rows, c.room.ensures.closing, c.in_ok-reserve.ensures.items)
+    (union-kept union.classes these.graph these.rows.items union.usage.items these.closing these.reach c.room.new.self.reach _ _
+    c.self.invariant c.room.ensures.reach (c.room.ensures.exact (edges_of these.rows.items)))
+
+pub invariant_of-self-in_err-intern_all : goal.invariant_of-self-in_err-intern_all
+invariant_of-self-in_err-intern_all c =
+    let union = c.self.inside in
+    let these = union.dependencies in
+    rw (c.room.ensures.graph, c.room.ensures.rows, c.room.ensures.closing, c.in_ok-reserve.ensures.items, c.in_err-intern_all.ensures.refused)
+    (union-kept union.classes these.graph these.rows.items union.usage.items these.closing these.reach c.room.new.self.reach _ _
+    c.self.invariant c.room.ensures.reach (c.room.ensures.exact (edges_of these.rows.items)))
+
 pub invariant_of-self-2 : goal.invariant_of-self-2
-invariant_of-self-2 c = record {
+invariant_of-self-2 c = rw (c.seed_all.ensures.graph, c.seed_all.ensures.rows, c.seed_all.ensures.closing) (record {
   numbered = c.add.ensures.numbered (classes c) (entered c) (numbered c);
   few = search rules;
   count = c.add.ensures.classes ∙ sym (entered c);
   edges = c.add.ensures.edges;
   rows = omega (arith, ap length (written c), c.add_usage.ensures.len, ap length c.deref_mut.ensures.value, c.resize.new.self.ok.0, c.in-Ok.ensures.len, c.len-2.ensures.len);
   closing = c.add.ensures.closing
-      (subst {A = List Witnessed} (λ all. IsClosing (edges_of all) c.enter_classes.new.self.closing) (sym (rows c))
-      (subst (IsClosing (edges_of (old_rows c))) (sym (c.enter_classes.ensures.closing ∙ c.in_ok-room.ensures.closing)) c.self.invariant.closing));
-}
+      (subst {A = List Witnessed} (λ all. IsCycleEdge (edges_of all) c.enter_classes.new.self.closing) (sym (rows c))
+      (subst (IsCycleEdge (edges_of (old_rows c))) (sym (c.enter_classes.ensures.closing ∙ c.in_ok-room.ensures.closing)) c.self.invariant.closing));
+  reached = seeded c;
+})
