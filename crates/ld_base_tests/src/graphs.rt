@@ -178,8 +178,16 @@ fn circle(rt: HostRuntime) {
     assert!(rt; rank(&rt, &graph, 2) < rank(&rt, &graph, 0));
     assert!(rt; rank(&rt, &graph, 0) < rank(&rt, &graph, 1));
     assert_eq!(rt; rank(&rt, &graph, 3), 3);
+    let ranks = [
+        rank(&rt, &graph, 0),
+        rank(&rt, &graph, 1),
+        rank(&rt, &graph, 2),
+        rank(&rt, &graph, 3),
+    ];
     assert_eq!(rt; insert(&rt, &mut graph, 0, 1), Insert::Known);
-    assert!(rt; rank(&rt, &graph, 2) < rank(&rt, &graph, 0));
+    for class in 0..4 {
+        assert_eq!(rt; rank(&rt, &graph, class), ranks[class as usize]);
+    }
     assert_eq!(rt; insert(&rt, &mut graph, 1, 2), Insert::Closed);
     assert!(rt; graph.order().is_none());
     assert_eq!(rt; insert(&rt, &mut graph, 3, 3), Insert::AfterCycle);

@@ -11,7 +11,7 @@ ghost use Rattle.ld_graph.specs.Walks.{DistanceIs, HasWalk, IsShownWalk};
 
 use crate::Edge;
 use crate::levels::measure;
-use crate::lists::{Lists, Side};
+use crate::lists::{Lists, Side, Steps};
 use crate::placed::{Insert, place};
 use crate::ranks::Ranks;
 use crate::shown::show;
@@ -145,7 +145,7 @@ impl Graph {
         Ok(())
     }
 
-    /// Adds a class, which takes a spare one, and answers its number. Takes no memory.
+    /// Adds a class, which takes a spare one and is ranked last, and answers its number. Takes no memory.
     pub fn add_class(&mut self) -> u32
         requires { 0 < self.old.spare_classes }
         ensures number { result ≡ self.old.classes }
@@ -172,8 +172,9 @@ impl Graph {
         Some(number as u64)
     }
 
-    /// Inserts the edge from `a` to `b`, which takes a spare one, and keeps the order. An edge that is
-    /// there already changes nothing. Takes no memory.
+    /// Inserts the edge from `a` to `b`, which takes a spare one. Where `a` is ranked below `b` all ranks
+    /// stand. Else those from the rank of `b` to that of `a` are repaired, or the edge closes a cycle, and
+    /// from then on there is no order. An edge that is there already changes nothing. Takes no memory.
     pub fn insert(&mut self, a: u32, b: u32) -> Insert
         requires a { a < self.old.classes }
         requires b { b < self.old.classes }
@@ -186,7 +187,14 @@ impl Graph {
         if self.edges.contains(&edge) {
             return Insert::Known;
         }
-        let answer = place(&self.lists, &mut self.ranks, &mut self.has_cycle, a, b);
+        let answer = place(
+            &self.lists,
+            &mut self.ranks,
+            &mut self.has_cycle,
+            a,
+            b,
+            &mut Steps::new(),
+        );
         let Ok(_) = self.edges.insert(edge) else {
             unreachable!()
         };
