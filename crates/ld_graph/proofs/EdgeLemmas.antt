@@ -1,8 +1,8 @@
 -- An edge in a list, as tests find it.
 use Rattle.std.proofs.Common.{◌≡◌, ◌≢◌, ◌⊎◌, inl, inr, ◌++◌, set, if◌then◌else◌, ℕ, ◌<◌, ◌≤◌, Bool}
 use Rattle.std.proofs.Common.{true, false, true≢false, ◌&&◌, nat_eq, List, [], ◌∷◌, length, get_or}
-use Rattle.std.proofs.Common.{slice_get, position, Option, Some, None, arith, refl, sym, ap, subst}
-use Rattle.std.proofs.Common.{◌∙◌, Contains, is_some, ◌↔◌}
+use Rattle.std.proofs.Common.{slice_get, position, Option, Some, arith, refl, sym, ap, subst}
+use Rattle.std.proofs.Common.{◌∙◌, Contains, ◌↔◌}
 use Rattle.std.specs.List.{list_any, IsDistinct}
 use Rattle.std.proofs.lemmas.Map.Keys.{apart_from_distinct}
 use Rattle.std.proofs.lemmas.List.{get_or_append_left, get_or_push, get_or_past, get_or-set_same}
@@ -16,9 +16,9 @@ use Rattle.std.proofs.lemmas.Option.{slice_get-get_or, get_or_from_slice_get}
 use Rattle.indexmap.proofs.CallerLemmas.{Contains-list_any}
 use Rattle.ld_graph.specs.declared.Edge.{Edge}
 use Rattle.ld_graph.specs.Edges.{edge, IsEdge, IsFirstPlace}
-use Rattle.ld_graph.specs.Walks.{HasWalk, DistanceIs}
+use Rattle.ld_graph.specs.Walks.{DistanceIs}
 use Rattle.ld_graph.specs.Lists.{list_at, IsNear}
-use Rattle.ld_graph.proofs.WalkLemmas.{HasWalk-turned, DistanceIs-same}
+use Rattle.ld_graph.proofs.WalkLemmas.{DistanceIs-same}
 use Rattle.indexmap.specs.IndexSet.{insert_key}
 
 -- what `==` computes
@@ -180,23 +180,6 @@ ends_push edges a b n l m ends x y h = by (IsEdge-push edges a b x y h)
     by : IsEdge edges x y ⊎ ((a ≡ x) × (b ≡ y)) → (x < n) × (y < n)
     by (inl e) = ends x y e
     by (inr e) = (subst (λ z. z < n) e.0 l, subst (λ z. z < n) e.1 m)
-
--- a class has a level exactly where a walk leads to it
-pub found_exact : (edges : List Edge) (a x : ℕ) (o : Option ℕ)
-    → DistanceIs (λ p q. IsEdge edges q p) x a o
-    → (b : Bool) → b ≡ is_some o → (b ≡ true) ↔ HasWalk (IsEdge edges) a x
-found_exact edges a x None h b e = (
-  λ t. absurd (true≢false (sym t
-      ∙ e)),
-  λ w. absurd (h (HasWalk-turned (λ p q. IsEdge edges q p) x a w)),
-)
-found_exact edges a x (Some n) h b e = (
-  λ _. HasWalk-turned (IsEdge edges) a x (
-    h.reached.0,
-    h.reached.1.0,
-  ),
-  λ _. e,
-)
 
 -- neighbours that are a relation stay so as a class comes
 pub near_class : (R : ℕ → ℕ → Type 0) (lists more : List (List ℕ)) → more ≡ lists ++ [] ∷ []

@@ -1,6 +1,6 @@
 -- A graph keeps its invariant as its memory grows.
 use Rattle.std.proofs.Common.{◌≡◌, ◌↔◌, ℕ, ◌+◌, ◌<◌, ◌≤◌, ◌^◌, max, length, arith, refl, sym, ap}
-use Rattle.std.proofs.Common.{subst, ◌∙◌, get_or, vec_len, vec_capacity}
+use Rattle.std.proofs.Common.{subst, ◌∙◌, get_or}
 use Rattle.std.proofs.Common.{List, [], ◌∷◌, ◌++◌}
 use Rattle.std.proofs.lemmas.List.{get_or_append_left}
 use Rattle.indexmap.specs.IndexSet.{spare}
@@ -8,9 +8,7 @@ use Rattle.ld_graph.specs.declared.graph.Graph.TheInside.{Inside}
 use Rattle.ld_graph.specs.Lists.{Listed, IsNear}
 use Rattle.ld_graph.specs.Inner.Sides.{ListsGrown}
 use Rattle.ld_graph.specs.Edges.{IsEdge}
-use Rattle.ld_graph.specs.Inner.Levels.{level_at}
 use Rattle.ld_graph.specs.Order.{HasCycle}
-use Rattle.ld_graph.specs.Walks.{DistanceIs}
 use Rattle.ld_graph.specs.Inner.Kept.{IsKept}
 
 pub lists_same : (a : Listed) → ListsGrown a a
@@ -28,24 +26,20 @@ pub record HasGrown (old new : Inside) : Type 0 where
   pub edges : spare old.edges ≤ spare new.edges
   pub after : ListsGrown old.lists.after new.lists.after
   pub before : ListsGrown old.lists.before new.lists.before
-  pub levels : new.levels.items ≡ old.levels.items
-  pub len : vec_len new.levels ≡ vec_len old.levels
-  pub levels_room : vec_capacity old.levels ≤ vec_capacity new.levels
-  pub queue_room : vec_capacity old.queue ≤ vec_capacity new.queue
+  pub classes : new.classes ≡ old.classes
   pub ranks : new.ranks.ranks ≡ old.ranks.ranks
   pub ranks_room : old.ranks.room ≤ new.ranks.room
   pub has_cycle : new.has_cycle ≡ old.has_cycle
   pub spare_classes : new.spare_classes ≡ old.spare_classes
   pub spare_edges : new.spare_edges ≡ old.spare_edges
-  pub searched : new.searched ≡ old.searched
 
 pub IsKept-grown : (old new : Inside) → HasGrown old new → IsKept old → IsKept new
 IsKept-grown old new g h =
-    let classes = g.len in
+    let classes = g.classes in
     let count = ap length g.keys in
     record {
-      after_classes = ap length g.after.lists ∙ h.after_classes ∙ sym g.len;
-      before_classes = ap length g.before.lists ∙ h.before_classes ∙ sym g.len;
+      after_classes = ap length g.after.lists ∙ h.after_classes ∙ sym g.classes;
+      before_classes = ap length g.before.lists ∙ h.before_classes ∙ sym g.classes;
       after_items = g.after.items ∙ h.after_items ∙ sym count;
       before_items = g.before.items ∙ h.before_items ∙ sym count;
       after_edges = λ a b. subst (λ l. IsNear l a b ↔ IsEdge new.edges.keys a b) (sym g.after.lists)
@@ -54,7 +48,7 @@ IsKept-grown old new g h =
       before_edges = λ a b. subst (λ l. IsNear l a b ↔ IsEdge new.edges.keys b a) (sym
           g.before.lists) (subst (λ k. IsNear old.lists.before.lists a b
           ↔ IsEdge k b a) (sym g.keys) (h.before_edges a b));
-      ends = λ a b e. subst (λ n. (a < n) × (b < n)) (sym g.len) (h.ends a b (subst (λ k. IsEdge k a
+      ends = λ a b e. subst (λ n. (a < n) × (b < n)) (sym g.classes) (h.ends a b (subst (λ k. IsEdge k a
           b) g.keys e));
       room_edges = omega (arith, g.edges, h.room_edges, g.spare_edges);
       room_after = (
@@ -65,17 +59,9 @@ IsKept-grown old new g h =
         omega (arith, classes, h.room_before.0, g.before.class_room, g.spare_classes),
         omega (arith, count, h.room_before.1, g.before.item_room, g.spare_edges),
       );
-      room_levels = omega (arith, classes, h.room_levels, g.levels_room, g.spare_classes);
-      room_queue = omega (arith, classes, h.room_queue, g.queue_room, g.spare_classes);
       few = omega (arith, classes, h.few, g.spare_classes);
-      levels = λ a e x.
-          subst (λ k. DistanceIs (λ p q. IsEdge k q p) x a (level_at new.levels.items x)) (sym
-          g.keys)
-          (subst (λ l. DistanceIs (λ p q. IsEdge old.edges.keys q p) x a (level_at l x)) (sym
-          g.levels)
-          (h.levels a (sym g.searched ∙ e) x));
       room_ranks = omega (arith, classes, h.room_ranks, g.ranks_room, g.spare_classes);
-      ranked = ap length g.ranks ∙ h.ranked ∙ sym g.len;
+      ranked = ap length g.ranks ∙ h.ranked ∙ sym g.classes;
       rises = λ f x y e. subst (λ r. get_or r x 0 < get_or r y 0) (sym g.ranks)
           (h.rises (sym g.has_cycle ∙ f) x y (subst (λ k. IsEdge k x y) g.keys e));
       cycle = λ t. subst (λ k. HasCycle (IsEdge k)) (sym g.keys) (h.cycle (sym g.has_cycle ∙ t));
@@ -85,14 +71,12 @@ IsKept-grown old new g h =
 pub IsKept-spare : (g : Inside) (classes edges more_classes more_edges : ℕ) → IsKept g
     → more_classes ≡ max g.spare_classes classes → more_edges ≡ max g.spare_edges edges
     → edges ≤ spare g.edges
-    → vec_len g.levels + classes ≤ g.lists.after.class_room → g.lists.after.items + edges ≤ g.lists.after.item_room
-    → vec_len g.levels + classes ≤ g.lists.before.class_room → g.lists.before.items + edges ≤ g.lists.before.item_room
-    → vec_len g.levels + classes ≤ vec_capacity g.levels
-    → vec_len g.levels + classes ≤ vec_capacity g.queue
-    → vec_len g.levels + classes ≤ g.ranks.room
-    → vec_len g.levels + classes ≤ 2 ^ 30
+    → g.classes + classes ≤ g.lists.after.class_room → g.lists.after.items + edges ≤ g.lists.after.item_room
+    → g.classes + classes ≤ g.lists.before.class_room → g.lists.before.items + edges ≤ g.lists.before.item_room
+    → g.classes + classes ≤ g.ranks.room
+    → g.classes + classes ≤ 2 ^ 30
     → IsKept (record g { spare_classes = more_classes; spare_edges = more_edges })
-IsKept-spare g classes edges more_classes more_edges h m n e a b c d l q r f =
+IsKept-spare g classes edges more_classes more_edges h m n e a b c d r f =
     let after = h.after_items in
     let before = h.before_items in
     record {
@@ -124,11 +108,8 @@ IsKept-spare g classes edges more_classes more_edges h m n e a b c d l q r f =
           h.room_before.1,
         ),
       );
-      room_levels = omega (arith, m, l, h.room_levels);
-      room_queue = omega (arith, m, q, h.room_queue);
       room_ranks = omega (arith, m, r, h.room_ranks);
       few = omega (arith, m, f, h.few);
-      levels = h.levels;
       ranked = h.ranked;
       rises = h.rises;
       cycle = h.cycle;

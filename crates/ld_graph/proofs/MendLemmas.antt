@@ -360,6 +360,7 @@ module _ (step : ℕ → ℕ → Type 0) (ranks classes : List ℕ) (h : AreInve
             row_first t);
         outside = λ x l o. new_outside ranks classes low (high + 1 - low) h plan_within plan.front
             new_ranks new_classes given_split same_ranks same_classes x l (out x o);
+        some = plan.some;
         few = let f = plan.few in let l = row_length in
             omega (arith, f, l, low_is, high_is, against);
       }

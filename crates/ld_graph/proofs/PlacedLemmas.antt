@@ -1,6 +1,6 @@
 -- What the insert of an edge answers is so.
 use Rattle.std.proofs.Common.{◌≡◌, ◌⊎◌, inl, inr, ℕ, suc, ◌+◌, ◌<◌, ◌≤◌, Bool, true, false}
-use Rattle.std.proofs.Common.{true≢false, List, [], ◌∷◌, ◌++◌, length, get_or, Some, IfSome}
+use Rattle.std.proofs.Common.{true≢false, List, [], ◌∷◌, ◌++◌, length, get_or, Some, MatchOption}
 use Rattle.std.proofs.Common.{Contains, arith, refl, sym, ap, subst, ◌∙◌}
 use Rattle.std.proofs.lemmas.List.Elements.{Contains-append_left, Contains-get_or, Contains-push}
 use Rattle.ld_graph.specs.declared.graph.Graph.TheInside.{Inside}
@@ -116,7 +116,7 @@ module _ (g : Inside) (h : IsKept g) (a b : ℕ) (now : Bool) (ranks : List ℕ)
   inserted Kept p fresh = record {
     fresh = fresh;
     no_cycle = acyclic (IsEdge (g.edges.keys ++ edge a b ∷ [])) ranks (placed_rises Kept p p.1.0);
-    ranks = subst (λ z. IfSome (order_of z g.ranks.ranks) (λ r. get_or r a 0 < get_or r b 0)) (sym
+    ranks = subst (λ z. MatchOption (order_of z g.ranks.ranks) ⊥ (λ r. get_or r a 0 < get_or r b 0)) (sym
         p.0) p.1.1.1;
     graph = ap (λ o. with_edge (seen g) a b o) (ap (λ z. order_of z ranks) p.1.0
         ∙ ap (λ r. Some r) p.1.1.0 ∙ sym (ap (λ z. order_of z g.ranks.ranks) p.0));
@@ -125,10 +125,11 @@ module _ (g : Inside) (h : IsKept g) (a b : ℕ) (now : Bool) (ranks : List ℕ)
     fresh = fresh;
     no_cycle = acyclic (IsEdge (g.edges.keys ++ edge a b ∷ [])) ranks (placed_rises (Moved k) p
         p.1.0);
-    ranks = subst (λ z. IfSome (order_of z g.ranks.ranks) (λ r. IfSome (order_of now ranks) (λ m.
+    some = p.1.1.1.some;
+    ranks = subst (λ z. MatchOption (order_of z g.ranks.ranks) ⊥ (λ r. MatchOption (order_of now ranks) ⊥ (λ m.
         (get_or r b 0 < get_or r a 0) × (StaysOutside a b r m) × (k + get_or r b 0 ≤ get_or r a 0
         + 1)))) (sym p.0)
-        (subst (λ z. IfSome (order_of z ranks) (λ m. (get_or g.ranks.ranks b 0 < get_or
+        (subst (λ z. MatchOption (order_of z ranks) ⊥ (λ m. (get_or g.ranks.ranks b 0 < get_or
         g.ranks.ranks a 0) × (StaysOutside a b g.ranks.ranks m) × (k + get_or g.ranks.ranks b 0
         ≤ get_or g.ranks.ranks a 0 + 1))) (sym p.1.0)
         (p.1.1.0, p.1.1.1.outside, p.1.1.1.few));

@@ -1,9 +1,10 @@
 -- What a search finds, and when it has ended.
+use Rattle.std.proofs.Common.{◌↔◌, Bool, true, false, true≢false}
 use Rattle.std.proofs.Common.{◌≡◌, ◌≢◌, ◌⊎◌, inl, inr, ℕ, suc, ◌+◌, ◌-◌, ◌<◌, ◌≤◌, List, []}
 use Rattle.std.proofs.Common.{◌∷◌, length, get_or, nat_eq, Contains, arith, refl, sym, ap}
 use Rattle.std.proofs.Common.{subst, ◌∙◌}
 use Rattle.std.specs.List.{IsDistinct}
-use Rattle.std.proofs.lemmas.Bool.{cases_eq, eqb-true}
+use Rattle.std.proofs.lemmas.Bool.{cases_eq, cases_lt, eqb-true}
 use Rattle.std.proofs.lemmas.List.{get_or_append_left, get_or_default, length_push}
 use Rattle.std.proofs.lemmas.List.Elements.{Contains-push, Contains-push_cases}
 use Rattle.std.proofs.lemmas.List.Elements.{Contains-append_left, Contains-get_or}
@@ -161,6 +162,15 @@ IsGrown-near near list rank low len old new to h = record {
 pub Contains-read : (found : List ℕ) (n k : ℕ) → n < length found → k ≡ get_or found n 0
     → Contains found k
 Contains-read found n k l e = subst (Contains found) (sym e) (Contains-get_or found n 0 l)
+
+-- more were found than a test says
+pub beyond : (n : ℕ) (found : List ℕ) (b : Bool) → (b ≡ true) ↔ (length found ≤ n) → b ≡ false
+    → n < length found
+beyond n found b h is = by (cases_lt n (length found))
+  where
+    by : (n < length found) ⊎ (length found ≤ n) → n < length found
+    by (inl l) = l
+    by (inr l) = absurd (true≢false (sym (h.1 l) ∙ is))
 
 -- one turn of a search, by the list that was read
 module _ (lists : List (List ℕ)) (ranks : List ℕ) (low : ℕ) (row : List ℕ)

@@ -62,10 +62,6 @@ module _ {A : Type 0} (step : A → A → Type 0) where
   pub HasWalk-Far : (n : ℕ) (a b : A) → Far step n a b → HasWalk step a b
   HasWalk-Far n a b h = let r = Far-IsWalk step n a b h in (r.0, r.1.0)
 
-  pub HasWalk-turned : (a b : A) → HasWalk (λ p q. step q p) b a → HasWalk step a b
-  HasWalk-turned a b w = let f = IsWalk-Far (λ p q. step q p) b a w.0 w.1
-      in HasWalk-Far f.0 a b (Far-turned f.0 a b f.1.1)
-
 -- walks of the same steps
 module _ {A : Type 0} (s t : A → A → Type 0) (to : (a b : A) → s a b → t a b) where
   LeadsTo-same : (a b : A) (w : List A) → LeadsTo s a b w → LeadsTo t a b w

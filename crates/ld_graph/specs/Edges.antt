@@ -23,14 +23,12 @@ ComesBefore places x y =
     ⊎ ((slice_index places x ≡ slice_index places y) × (x < y))
 
 -- a graph: how many classes it has, its edges in order of insertion, for how many more of both it
--- has memory, the class that was searched from last, if no class or edge was added since, and the
--- rank of each class, so long as there is no cycle
+-- has memory, and the rank of each class, so long as there is no cycle
 pub record Seen : Type 0 where
   pub classes : ℕ
   pub edges : List Edge
   pub spare_classes : ℕ
   pub spare_edges : ℕ
-  pub searched : Option ℕ
   pub order : Option (List ℕ)
 
 -- no class, no edge and no memory
@@ -40,7 +38,6 @@ empty_graph = record {
   edges = [];
   spare_classes = 0;
   spare_edges = 0;
-  searched = None;
   order = Some [];
 }
 
@@ -54,7 +51,6 @@ abbrev pub with_class : Seen → Seen
 with_class g = record g {
   classes = g.classes + 1;
   spare_classes = g.spare_classes - 1;
-  searched = None;
   order = with_last g.order;
 }
 
@@ -63,7 +59,6 @@ abbrev pub with_edge : Seen → ℕ → ℕ → Option (List ℕ) → Seen
 with_edge g a b order = record g {
   edges = g.edges ++ edge a b ∷ [];
   spare_edges = g.spare_edges - 1;
-  searched = None;
   order = order;
 }
 

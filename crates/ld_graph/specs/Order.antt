@@ -1,6 +1,6 @@
 -- An order of a graph's classes, and what an insert makes of it.
 use Rattle.std.specs.Prelude.{◌≡◌, ℕ, ◌<◌, ◌≤◌, ◌⊎◌, List, length, slice_index, Contains}
-use Rattle.std.specs.Prelude.{◌+◌, IfSome, None}
+use Rattle.std.specs.Prelude.{◌+◌, MatchOption, None}
 use Rattle.ld_graph.specs.declared.placed.Insert.{Insert}
 use Rattle.ld_graph.specs.declared.placed.Insert.TheVariants.{Known, Kept, Moved, Closed, AfterCycle}
 use Rattle.ld_graph.specs.Edges.{IsEdge, Seen, with_edge}
@@ -30,19 +30,21 @@ pub record IsKnown (old : Seen) (a b : ℕ) (new : Seen) : Type 0 where
   pub there : IsEdge old.edges a b
   pub same : new ≡ old
 
--- the edge was added without a cycle, and a's rank was below b's: all ranks stay
+-- the edge was added without a cycle, and a's rank was below b's: the order stays
 pub record IsInOrder (old : Seen) (a b : ℕ) (new : Seen) : Type 0 where
   pub fresh : ¬ IsEdge old.edges a b
   pub no_cycle : ¬ HasCycle (IsEdge new.edges)
-  pub ranks : IfSome old.order (λ ranks. slice_index ranks a < slice_index ranks b)
+  pub ranks : MatchOption old.order ⊥ (λ ranks. slice_index ranks a < slice_index ranks b)
   pub graph : new ≡ with_edge old a b old.order
 
--- the edge was added without a cycle, and a's rank was above b's: only ranks in the range from b's
--- to a's change, and at most as many lists were read as there are ranks in it
+-- the edge was added without a cycle, and a's rank was above b's: there was an order and there is
+-- one, only ranks in the range from b's to a's change, and some lists were read, at most as many as
+-- there are ranks in it
 pub record IsMoved (old : Seen) (a b expanded : ℕ) (new : Seen) : Type 0 where
   pub fresh : ¬ IsEdge old.edges a b
   pub no_cycle : ¬ HasCycle (IsEdge new.edges)
-  pub ranks : IfSome old.order (λ ranks. IfSome new.order (λ moved.
+  pub some : 0 < expanded
+  pub ranks : MatchOption old.order ⊥ (λ ranks. MatchOption new.order ⊥ (λ moved.
       (slice_index ranks b < slice_index ranks a)
       × (StaysOutside a b ranks moved)
       × (expanded + slice_index ranks b ≤ slice_index ranks a + 1)))

@@ -1,7 +1,7 @@
 //! The graph itself.
 
 ghost use Rattle.std.specs.Prelude.{◌≡◌, ◌≢◌, ℕ, ◌+◌, ◌<◌, ◌≤◌, ◌↔◌, length, slice_get};
-ghost use Rattle.std.specs.Prelude.{slice_index_or, None, Some, IsTrue, IsSome, IfOk, IfSome};
+ghost use Rattle.std.specs.Prelude.{slice_index_or, None, Some, IfOk};
 ghost use Rattle.std.specs.Prelude.{OnOk, MatchOption};
 ghost use Rattle.ld_graph.specs.Edges.{ComesBefore, IsEdge, IsFirstPlace};
 ghost use Rattle.ld_graph.specs.Edges.{empty_graph, with_class, with_edge, with_spares};
@@ -11,7 +11,7 @@ ghost use Rattle.ld_graph.specs.Walks.{DistanceIs, HasWalk, IsShownWalk};
 
 use crate::Edge;
 use crate::levels::measure;
-use crate::lists::{Lists, Side};
+use crate::lists::{Lists, Steps};
 use crate::placed::{Insert, place};
 use crate::ranks::Ranks;
 use crate::shown::show;
@@ -33,14 +33,9 @@ pub struct Graph {
     /// The ranks, which are repaired so long as there is no cycle.
     ranks: Ranks,
     has_cycle: bool,
-    /// For each class its distance from the searched class.
-    levels: Vec<Option<u64>>,
-    /// Room for the classes that wait in a search.
-    queue: Vec<u32>,
+    classes: usize,
     spare_classes: usize,
     spare_edges: usize,
-    /// The class that the levels are of.
-    searched: Option<u32>,
 }
 
 impl Model for Graph {
@@ -65,11 +60,9 @@ impl Graph {
             lists: Lists::new(alloc),
             ranks: Ranks::new(alloc),
             has_cycle: false,
-            levels: Vec::new(alloc),
-            queue: Vec::new(alloc),
+            classes: 0,
             spare_classes: 0,
             spare_edges: 0,
-            searched: None,
         }
     }
 
@@ -78,7 +71,7 @@ impl Graph {
         ensures count { result ≡ self.now.classes }
         ensures few { result ≤ MOST_CLASSES }
     {
-        self.levels.len()
+        self.classes
     }
 
     /// The number of edges. Takes no memory.
@@ -133,32 +126,25 @@ impl Graph {
         ensures kept { (self.old.spare_classes ≤ self.new.spare_classes)
             × (self.old.spare_edges ≤ self.new.spare_edges) }
     {
-        let wanted = self.len() + classes;
         self.edges.reserve(edges)?;
         self.lists.room(classes, edges)?;
-        self.levels.reserve(classes)?;
-        self.queue.clear();
-        self.queue.reserve(wanted)?;
-        self.ranks.room(wanted)?;
+        self.ranks.room(self.classes + classes)?;
         self.spare_classes = self.spare_classes.max(classes);
         self.spare_edges = self.spare_edges.max(edges);
         Ok(())
     }
 
-    /// Adds a class, which takes a spare one, and answers its number. Takes no memory.
+    /// Adds a class, which takes a spare one and is ranked last, and answers its number. Takes no memory.
     pub fn add_class(&mut self) -> u32
         requires { 0 < self.old.spare_classes }
         ensures number { result ≡ self.old.classes }
         ensures graph { self.new ≡ with_class self.old }
     {
-        let number = self.len();
+        let number = self.classes;
         self.lists.add_class();
         self.ranks.add_class();
-        let Ok(()) = self.levels.push(None) else {
-            unreachable!()
-        };
+        self.classes += 1;
         self.spare_classes -= 1;
-        self.searched = None;
         number as u32
     }
 
@@ -172,8 +158,9 @@ impl Graph {
         Some(number as u64)
     }
 
-    /// Inserts the edge from `a` to `b`, which takes a spare one, and keeps the order. An edge that is
-    /// there already changes nothing. Takes no memory.
+    /// Inserts the edge from `a` to `b`, which takes a spare one. Where `a` is ranked below `b` all ranks
+    /// stand. Else those from the rank of `b` to that of `a` are repaired, or the edge closes a cycle, and
+    /// from then on there is no order. An edge that is there already changes nothing. Takes no memory.
     pub fn insert(&mut self, a: u32, b: u32) -> Insert
         requires a { a < self.old.classes }
         requires b { b < self.old.classes }
@@ -186,13 +173,19 @@ impl Graph {
         if self.edges.contains(&edge) {
             return Insert::Known;
         }
-        let answer = place(&self.lists, &mut self.ranks, &mut self.has_cycle, a, b);
+        let answer = place(
+            &self.lists,
+            &mut self.ranks,
+            &mut self.has_cycle,
+            a,
+            b,
+            &mut Steps::new(),
+        );
         let Ok(_) = self.edges.insert(edge) else {
             unreachable!()
         };
         self.lists.push(a, b);
         self.spare_edges -= 1;
-        self.searched = None;
         answer
     }
 
@@ -225,7 +218,7 @@ impl Graph {
         let mut levels = Vec::new(alloc);
         levels.resize(self.len(), None)?;
         let mut queue = Vec::with_capacity(alloc, self.len())?;
-        measure(&self.lists, Side::Before, to, &mut levels, &mut queue);
+        measure(&self.lists, to, &mut levels, &mut queue);
         Ok(levels)
     }
 
@@ -280,36 +273,5 @@ impl Graph {
         };
         let walk = show(alloc, &self.lists, a, b, distance, distances, places)?;
         Ok(Some(walk))
-    }
-
-    /// Searches for the classes that walks from `from` lead to, which `found` then tells. Where `from`
-    /// was searched from last, and no class or edge was added since, nothing is left to do. Takes no
-    /// memory.
-    pub fn search(&mut self, from: u32)
-        requires { from < self.old.classes }
-        ensures { self.new ≡ record self.old { searched = Some from } }
-    {
-        if self.searched == Some(from) {
-            return;
-        }
-        measure(
-            &self.lists,
-            Side::After,
-            from,
-            &mut self.levels,
-            &mut self.queue,
-        );
-        self.searched = Some(from);
-    }
-
-    /// Whether there is a walk of at least one edge from the class that was searched from to `c`.
-    /// Takes no memory.
-    pub fn found(&self, c: u32) -> bool
-        requires class { c < self.now.classes }
-        requires searched { IsSome self.now.searched }
-        ensures { IfSome self.now.searched
-            (λ a. IsTrue result ↔ HasWalk (IsEdge self.now.edges) a c) }
-    {
-        self.levels[c as usize].is_some()
     }
 }

@@ -1,13 +1,12 @@
-//! A search from neighbour to neighbour that gives each class its number of steps from the start.
+//! A search from class to predecessor that gives each class its distance to the class it begins at.
 
 ghost use Rattle.std.specs.Prelude.{◌≡◌, ◌+◌, ◌<◌, ◌≤◌, ℕ, None, is_none, count_by};
 ghost use Rattle.std.specs.Prelude.{length, slice_index_or, vec_len, vec_capacity, ◌^◌, Contains};
 ghost use Rattle.ld_graph.specs.Inner.Levels.{HasLevel, Spreads};
-ghost use Rattle.ld_graph.specs.Inner.Sides.{of_side};
 ghost use Rattle.ld_graph.specs.Lists.{IsNear};
 ghost use Rattle.ld_graph.specs.Walks.{DistanceIs};
 
-use crate::lists::{Lists, Side, Steps};
+use crate::lists::{Lists, Steps};
 
 /// Takes each class's level away.
 fn clear(levels: &mut [Option<u64>])
@@ -40,41 +39,29 @@ fn expand(near: &[u32], level: u64, levels: &mut [Option<u64>], queue: &mut Vec<
     }
 }
 
-/// Gives each class the least number of steps of a walk to it from `start`, or none. On the side
-/// `After` walks lead along the edges, on the side `Before` against them. Takes no memory.
-pub fn measure(
-    lists: &Lists,
-    side: Side,
-    start: u32,
-    levels: &mut [Option<u64>],
-    queue: &mut Vec<u32>,
-)
-    requires start { start < length (of_side side lists.now) }
-    requires few { length (of_side side lists.now) ≤ 2 ^ 30 }
-    requires classes { length levels.old ≡ length (of_side side lists.now) }
-    requires ends { (a b : ℕ) → IsNear (of_side side lists.now) a b
-        → b < length (of_side side lists.now) }
-    requires room { length (of_side side lists.now) ≤ vec_capacity queue.old }
+/// Gives each class the least number of edges of a walk from it to `end`, or none. Takes no memory.
+pub fn measure(lists: &Lists, end: u32, levels: &mut [Option<u64>], queue: &mut Vec<u32>)
+    requires end { end < length lists.now.before.lists }
+    requires few { length lists.now.before.lists ≤ 2 ^ 30 }
+    requires classes { length levels.old ≡ length lists.now.before.lists }
+    requires ends { (a b : ℕ) → IsNear lists.now.before.lists a b
+        → b < length lists.now.before.lists }
+    requires room { length lists.now.before.lists ≤ vec_capacity queue.old }
     ensures capacity { vec_capacity queue.old ≤ vec_capacity queue.new }
-    ensures distances { (x : ℕ) → DistanceIs (λ a b. IsNear (of_side side lists.now) b a) x start
+    ensures distances { (x : ℕ) → DistanceIs (λ a b. IsNear lists.now.before.lists b a) x end
         (slice_index_or levels.new x None) }
 {
     clear(levels);
     queue.clear();
     let mut steps = Steps::new();
-    expand(lists.near(side, start, &mut steps), 1, levels, queue);
+    expand(lists.before(end, &mut steps), 1, levels, queue);
     let mut done = 0;
     while done < queue.len() {
         let class = queue[done];
         let Some(level) = levels[class as usize] else {
             unreachable!()
         };
-        expand(
-            lists.near(side, class, &mut steps),
-            level + 1,
-            levels,
-            queue,
-        );
+        expand(lists.before(class, &mut steps), level + 1, levels, queue);
         done += 1;
     }
 }

@@ -1,4 +1,5 @@
-//! A directed graph of numbered classes: its distances and its shown walks.
+//! A directed graph of numbered classes: its distances, its shown walks, and an order of its classes
+//! that is kept as edges come.
 #![tactic(auto)]
 
 mod graph;

@@ -4,7 +4,7 @@
 ghost use Rattle.std.specs.Prelude.{◌≡◌, ◌+◌, ◌<◌, ◌≤◌, ◌^◌, [], ◌∷◌, ◌++◌, OnOk, length};
 ghost use Rattle.std.specs.Prelude.{slice_set, slice_index_or, nat_eq, true, false};
 ghost use Rattle.std.specs.List.{IsDistinct};
-ghost use Rattle.ld_graph.specs.Inner.Sides.{of_side, ListsGrown, HasRoom, IsNextClass};
+ghost use Rattle.ld_graph.specs.Inner.Sides.{ListsGrown, HasRoom, IsNextClass};
 ghost use Rattle.ld_graph.specs.Inner.Sides.{IsNextItem};
 ghost use Rattle.ld_graph.specs.Lists.{IsNear, list_at};
 
@@ -120,19 +120,6 @@ impl Lists {
     {
         steps.count += 1;
         self.before.of(c)
-    }
-
-    /// The neighbours of a class on one side.
-    pub(crate) fn near(&self, side: Side, class: u32, steps: &mut Steps) -> &[u32]
-        requires class { class < length (of_side side self.now) }
-        requires few { steps.old + 1 < 2 ^ 64 }
-        ensures near { result.now ≡ list_at (of_side side self.now) class }
-        ensures step { steps.new ≡ steps.old + 1 }
-    {
-        match side {
-            Side::After => self.after(class, steps),
-            Side::Before => self.before(class, steps),
-        }
     }
 
     /// Makes memory for so many further classes and edges.

@@ -1,10 +1,10 @@
 //! What the insert of an edge does to the ranks.
 
 ghost use Rattle.std.specs.Prelude.{◌≡◌, ◌↔◌, ℕ, ◌<◌, false, length, slice_index};
-ghost use Rattle.ld_graph.specs.Inner.Placed.{IsPlaced};
+ghost use Rattle.ld_graph.specs.Inner.Placed.{IsPlaced, IsTold};
 ghost use Rattle.ld_graph.specs.Lists.{IsNear};
 
-use crate::lists::Lists;
+use crate::lists::{Lists, Steps};
 use crate::ranks::Ranks;
 
 /// What an insert has done.
@@ -26,8 +26,15 @@ pub enum Insert {
 }
 
 /// Makes the ranks fit an edge from `a` to `b` that is about to come, or notes that it closes a
-/// cycle.
-pub fn place(lists: &Lists, ranks: &mut Ranks, has_cycle: &mut bool, a: u32, b: u32) -> Insert
+/// cycle. The lists that are read for it are counted by `steps`, from 0 on.
+pub fn place(
+    lists: &Lists,
+    ranks: &mut Ranks,
+    has_cycle: &mut bool,
+    a: u32,
+    b: u32,
+    steps: &mut Steps,
+) -> Insert
     requires a { a < length ranks.old.ranks }
     requires b { b < length ranks.old.ranks }
     requires classes { (length lists.now.after.lists ≡ length ranks.old.ranks)
@@ -38,6 +45,8 @@ pub fn place(lists: &Lists, ranks: &mut Ranks, has_cycle: &mut bool, a: u32, b: 
         → (x < length ranks.old.ranks) × (y < length ranks.old.ranks) }
     requires rises { has_cycle.old ≡ false → (x y : ℕ) → IsNear lists.now.after.lists x y
         → slice_index ranks.old.ranks x < slice_index ranks.old.ranks y }
+    requires steps { steps.old ≡ 0 }
+    ensures told { IsTold result steps.new }
     ensures room { ranks.new.room ≡ ranks.old.room }
     ensures placed { IsPlaced (IsNear lists.now.after.lists) a b result has_cycle.old has_cycle.new
         ranks.old.ranks ranks.new.ranks }
@@ -50,7 +59,7 @@ pub fn place(lists: &Lists, ranks: &mut Ranks, has_cycle: &mut bool, a: u32, b: 
         return Insert::Kept;
     }
     if a != b {
-        if let Some(expanded) = ranks.repair(lists, a, b) {
+        if let Some(expanded) = ranks.repair(lists, a, b, steps) {
             return Insert::Moved { expanded };
         }
     }

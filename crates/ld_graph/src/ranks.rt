@@ -1,11 +1,11 @@
 //! The ranks of the classes, kept both ways.
 
 ghost use Rattle.std.specs.Prelude.{◌≡◌, ◌↔◌, ℕ, ◌+◌, ◌^◌, ◌<◌, ◌≤◌, [], ◌∷◌, ◌++◌, length};
-ghost use Rattle.std.specs.Prelude.{slice_index, MatchOption, OnOk};
+ghost use Rattle.std.specs.Prelude.{slice_index, IfSome, MatchOption, OnOk};
 ghost use Rattle.ld_graph.specs.Inner.Repairs.{AreInverse, IsRepaired, Reached};
 ghost use Rattle.ld_graph.specs.Lists.{IsNear};
 
-use crate::lists::Lists;
+use crate::lists::{Lists, Steps};
 use crate::repair::{Space, mend};
 use crate::search::Search;
 use std::alloc::{AllocError, Global};
@@ -57,6 +57,7 @@ impl Ranks {
         ensures ranks { result.now ≡ self.now.ranks }
         ensures inverse { AreInverse self.now.ranks self.now.classes }
     {
+        // The room is read for what the fields have in common.
         let _ = &self.room;
         self.ranks.as_slice()
     }
@@ -97,8 +98,9 @@ impl Ranks {
     }
 
     /// Repairs the ranks for an edge from `a` to `b` that goes against them, and answers how many
-    /// lists were read. Answers `None`, and leaves the ranks, where a walk leads from `b` to `a`.
-    pub fn repair(&mut self, lists: &Lists, a: u32, b: u32) -> Option<u64>
+    /// lists were read, which `steps` has counted from 0 on. Answers `None`, and leaves the ranks, where
+    /// a walk leads from `b` to `a`.
+    pub fn repair(&mut self, lists: &Lists, a: u32, b: u32, steps: &mut Steps) -> Option<u64>
         requires a { a < length self.old.ranks }
         requires b { b < length self.old.ranks }
         requires against { slice_index self.old.ranks b < slice_index self.old.ranks a }
@@ -110,6 +112,8 @@ impl Ranks {
             → (x < length self.old.ranks) × (y < length self.old.ranks) }
         requires rises { (x y : ℕ) → IsNear lists.now.after.lists x y
             → slice_index self.old.ranks x < slice_index self.old.ranks y }
+        requires steps { steps.old ≡ 0 }
+        ensures told { IfSome result (λ expanded. expanded ≡ steps.new) }
         ensures room { self.new.room ≡ self.old.room }
         ensures ranks { MatchOption result
             ((self.new.ranks ≡ self.old.ranks) × Reached (IsNear lists.now.after.lists) b a)
@@ -122,6 +126,7 @@ impl Ranks {
             a,
             b,
             &mut self.space,
+            steps,
         )
     }
 }

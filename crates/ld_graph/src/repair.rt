@@ -1,7 +1,7 @@
 //! A repair of the ranks from one rank to another.
 
 ghost use Rattle.std.specs.Prelude.{◌≡◌, ◌≢◌, ◌↔◌, ◌⊎◌, ℕ, ◌+◌, ◌-◌, ◌^◌, ◌<◌, ◌≤◌, [], ◌++◌, not};
-ghost use Rattle.std.specs.Prelude.{length, slice_index, vec_len, vec_capacity, MatchOption};
+ghost use Rattle.std.specs.Prelude.{length, slice_index, vec_len, vec_capacity, IfSome, MatchOption};
 ghost use Rattle.std.specs.Bool.{OnTrue, OnFalse};
 ghost use Rattle.ld_graph.specs.Inner.Repairs.{AreInverse, HasMet, IsGiven, IsPlan, IsRepaired};
 ghost use Rattle.ld_graph.specs.Inner.Repairs.{IsRow, Reached};
@@ -15,8 +15,11 @@ use crate::turns::search_in_turn;
 /// Room for a repair.
 #[derive(Drop)]
 pub struct Space {
+    /// What the search backward has found.
     pub behind: Search,
+    /// What the search forward has found.
     pub ahead: Search,
+    /// The classes of the range in their new order.
     pub moved: Vec<u32>,
 }
 
@@ -89,9 +92,17 @@ fn reorder(ended: Side, row: &[u32], behind: &Search, ahead: &Search, moved: &mu
 }
 
 /// Finds a new order of the classes of the row, in which no edge goes back and the last one comes
-/// before the first, leaves it in `space.moved` and answers how many lists were read. Answers `None`
-/// where there is no such order, since a walk leads from the first class to the last.
-fn plan(lists: &Lists, ranks: &[u32], low: u32, row: &[u32], space: &mut Space) -> Option<u64>
+/// before the first, leaves it in `space.moved` and answers how many lists were read, which `steps`
+/// has counted from 0 on. Answers `None` where there is no such order, since a walk leads from the
+/// first class to the last.
+fn plan(
+    lists: &Lists,
+    ranks: &[u32],
+    low: u32,
+    row: &[u32],
+    space: &mut Space,
+    steps: &mut Steps,
+) -> Option<u64>
     requires row { IsRow ranks.now low row.now }
     requires some { 0 < length row.now }
     requires few { length row.now ≤ 2 ^ 30 }
@@ -106,6 +117,8 @@ fn plan(lists: &Lists, ranks: &[u32], low: u32, row: &[u32], space: &mut Space) 
     requires behind { (space.old.behind.found ≡ []) × (length row.now ≤ space.old.behind.size) }
     requires ahead { (space.old.ahead.found ≡ []) × (length row.now ≤ space.old.ahead.size) }
     requires room { length row.now ≤ vec_capacity space.old.moved }
+    requires steps { steps.old ≡ 0 }
+    ensures told { IfSome result (λ expanded. expanded ≡ steps.new) }
     ensures plan { MatchOption result
         (Reached (IsNear lists.now.after.lists) (slice_index row.now 0)
         (slice_index row.now (length row.now - 1)))
@@ -116,13 +129,12 @@ fn plan(lists: &Lists, ranks: &[u32], low: u32, row: &[u32], space: &mut Space) 
         × (space.new.ahead.size ≡ space.old.ahead.size) }
     ensures room { vec_capacity space.old.moved ≤ vec_capacity space.new.moved }
 {
-    let mut steps = Steps::new();
     let Space {
         behind,
         ahead,
         moved,
     } = space;
-    let ended = search_in_turn(lists, &mut steps, ranks, low, row, behind, ahead);
+    let ended = search_in_turn(lists, steps, ranks, low, row, behind, ahead);
     let apart = reorder(ended, row, behind, ahead, moved);
     behind.clear();
     ahead.clear();
@@ -149,8 +161,8 @@ fn give_ranks(moved: &[u32], low: u32, ranks: &mut [u32], classes: &mut [u32])
 }
 
 /// Repairs the ranks, and the class at each rank, for an edge from `a` to `b` that goes against
-/// them, and answers how many lists were read. Answers `None`, and changes nothing, where a walk leads
-/// from `b` to `a`.
+/// them, and answers how many lists were read, which `steps` has counted from 0 on. Answers `None`,
+/// and leaves the ranks, where a walk leads from `b` to `a`.
 pub fn mend(
     lists: &Lists,
     ranks: &mut [u32],
@@ -158,6 +170,7 @@ pub fn mend(
     a: u32,
     b: u32,
     space: &mut Space,
+    steps: &mut Steps,
 ) -> Option<u64>
     requires inverse { AreInverse ranks.old classes.old }
     requires a { a < length ranks.old }
@@ -176,6 +189,8 @@ pub fn mend(
         × (length ranks.old ≤ space.old.behind.size) }
     requires ahead { (space.old.ahead.found ≡ []) × (length ranks.old ≤ space.old.ahead.size) }
     requires room { length ranks.old ≤ vec_capacity space.old.moved }
+    requires steps { steps.old ≡ 0 }
+    ensures told { IfSome result (λ expanded. expanded ≡ steps.new) }
     ensures ranks { MatchOption result
         ((ranks.new ≡ ranks.old) × Reached (IsNear lists.now.after.lists) b a)
         (IsRepaired (IsNear lists.now.after.lists) a b ranks.old ranks.new) }
@@ -189,7 +204,7 @@ pub fn mend(
     let low = ranks[b as usize];
     let high = ranks[a as usize];
     let row = &classes[low as usize..high as usize + 1];
-    let expanded = plan(lists, ranks, low, row, space)?;
+    let expanded = plan(lists, ranks, low, row, space, steps)?;
     give_ranks(&space.moved, low, ranks, classes);
     Some(expanded)
 }

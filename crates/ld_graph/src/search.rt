@@ -78,21 +78,23 @@ impl Search {
         self.marks[place as usize]
     }
 
-    /// The place that was found as number `number`, from 0 on, if so many were found.
-    pub fn place(&self, number: usize) -> Option<u32>
-        ensures place { MatchOption result (length self.now.found ≤ number)
-            (λ k. (number < length self.now.found) × (k ≡ slice_index self.now.found number)) }
+    /// The place that was found as number `number`, from 0 on.
+    pub fn offset(&self, number: usize) -> u32
+        requires { number < length self.now.found }
+        ensures place { result ≡ slice_index self.now.found number }
         ensures once { IsDistinct nat_eq self.now.found }
         ensures below { (k : ℕ) → Contains self.now.found k → k < self.now.size }
     {
+        // The marks are read for what they have in common with the places.
         let _ = &self.marks;
-        self.found.get(number).copied()
+        self.found[number]
     }
 
     /// Whether no more than so many places were found.
     pub fn ends_at(&self, number: usize) -> bool
         ensures { IsTrue result ↔ (length self.now.found ≤ number) }
     {
+        // The marks are read, since a clause speaks of both fields together.
         let _ = &self.marks;
         self.found.len() <= number
     }

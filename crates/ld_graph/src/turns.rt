@@ -65,33 +65,25 @@ pub fn search_in_turn(
     ensures ahead { IsSought (IsNear lists.now.after.lists) row.now 0 ahead.new.found }
     ensures ended { HasEnded result lists.now ranks.now low row.now
         behind.new.found ahead.new.found }
-    ensures steps { steps.new ≤ steps.old + length behind.new.found + length ahead.new.found }
+    ensures most { steps.new ≤ steps.old + length behind.new.found + length ahead.new.found }
+    ensures some { steps.old < steps.new }
 {
     behind.add(row.len() as u32 - 1);
     ahead.add(0);
     let mut done = 0;
-    while let Some(place) = behind.place(done) {
-        expand(
-            lists.before(row[place as usize], steps),
-            ranks,
-            low,
-            row.len(),
-            behind,
-        );
+    loop {
+        let last = behind.offset(done);
+        let near = lists.before(row[last as usize], steps);
+        expand(near, ranks, low, row.len(), behind);
         if behind.ends_at(done + 1) {
             return Side::Before;
         }
-        let Some(place) = ahead.place(done) else {
+        let first = ahead.offset(done);
+        let near = lists.after(row[first as usize], steps);
+        expand(near, ranks, low, row.len(), ahead);
+        if ahead.ends_at(done + 1) {
             return Side::After;
-        };
-        expand(
-            lists.after(row[place as usize], steps),
-            ranks,
-            low,
-            row.len(),
-            ahead,
-        );
+        }
         done += 1;
     }
-    Side::Before
 }

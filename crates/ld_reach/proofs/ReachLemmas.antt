@@ -10,6 +10,7 @@ use Rattle.ld_reach.specs.declared.reach.Reach.TheInside.{Inside}
 use Rattle.ld_graph.specs.Edges.{IsEdge, edge}
 use Rattle.ld_reach.specs.Reach.{IsReach, IsSource, Reached}
 use Rattle.ld_graph.specs.Walks.{HasWalk}
+use Rattle.ld_graph.proofs.OnceLemmas.{IsDistinct-none, IsDistinct-one_more}
 use Rattle.ld_graph.proofs.SpreadLemmas.{some_same}
 use Rattle.ld_graph.proofs.WalkLemmas.{Far, Far-snoc, IsWalk-Far, HasWalk-Far, IsWalk-same}
 
@@ -477,8 +478,48 @@ AreReached-has sources reached are k d within = (has, by (cases_lt (get_or reach
 
 -- the list is the same where a class is added
 pub AreReached-added : (sources : List (Option ℕ)) (reached : List ℕ) → AreReached sources reached → AreReached (sources ++ None ∷ []) reached
-AreReached-added sources reached are = record { each = λ c. rw (get_or-push_default sources None c) (are.each c) }
+AreReached-added sources reached are = record { once = are.once; each = λ c. rw (get_or-push_default sources None c) (are.each c) }
 
 -- what waits is the class at the place, and what waits behind it
 pub drop-next : (reached : List ℕ) (done class : ℕ) → done < length reached → class ≡ get_or reached done class → drop done reached ≡ class ∷ drop (done + 1) reached
 drop-next reached done class within is = drop_more reached done class within ∙ ap (λ x. x ∷ drop (done + 1) reached) (sym is)
+
+-- one more class in the list, which had no source and gets one
+pub AreReached-given : (sources : List (Option ℕ)) (reached : List ℕ) (class from : ℕ) → AreReached sources reached → class < length sources
+    → is_some (get_or sources class None) ≡ false → AreReached (set sources class (Some from)) (reached ++ class ∷ [])
+AreReached-given sources reached class from are within free = record {
+  once = IsDistinct-one_more reached class are.once (λ there. true≢false (sym ((are.each class).0 there) ∙ free));
+  each = λ c. (λ there. to c (Contains-push_cases reached class c there), λ has. back c (cases_eq c class) has);
+}
+  where
+    here : has_source (set sources class (Some from)) class
+    here = ap is_some (get_or-set_same sources class (Some from) None within)
+
+    to : (c : ℕ) → Contains reached c ⊎ (class ≡ c) → has_source (set sources class (Some from)) c
+    to c (inr same) = subst (has_source (set sources class (Some from))) same here
+    to c (inl there) = by (cases_eq c class)
+      where
+        by : (c ≡ class) ⊎ (c ≢ class) → has_source (set sources class (Some from)) c
+        by (inl same) = subst (has_source (set sources class (Some from))) (sym same) here
+        by (inr other) = ap is_some (get_or-set_other sources class c (Some from) None other) ∙ (are.each c).0 there
+
+    back : (c : ℕ) → (c ≡ class) ⊎ (c ≢ class) → has_source (set sources class (Some from)) c → Contains (reached ++ class ∷ []) c
+    back c (inl same) _ = subst (Contains (reached ++ class ∷ [])) (sym same) (Contains-push reached class)
+    back c (inr other) has = Contains-append_left reached (class ∷ []) c
+        ((are.each c).1 (sym (ap is_some (get_or-set_other sources class c (Some from) None other)) ∙ has))
+
+-- no class has a source where there is none
+pub AreReached-none : AreReached [] []
+AreReached-none = record {
+  once = IsDistinct-none;
+  each = λ c. (
+    λ there. absurd (omega (arith, there.1)),
+    λ has. absurd (true≢false (sym has ∙ past c)),
+  );
+}
+  where
+    empty : List (Option ℕ)
+    empty = []
+
+    past : (c : ℕ) → is_some (get_or empty c None) ≡ false
+    past c = ap is_some (get_or_past empty c None (omega arith))

@@ -1,7 +1,8 @@
 //! Which classes walks from some seeds lead to, kept while edges come.
 ghost use Rattle.std.specs.Prelude.{◌≡◌, ◌⊎◌, ◌++◌, ◌∷◌, [], ℕ, List, ◌+◌, ◌<◌, ◌≤◌, ◌^◌, true, false};
 ghost use Rattle.std.specs.Prelude.{◌↔◌, drop, take, IsSome, All, Contains, None, OnErr, OnOk, count_by, is_none, length};
-ghost use Rattle.std.specs.Prelude.{slice_index_or, slice_set, vec_capacity, vec_len};
+ghost use Rattle.std.specs.Prelude.{nat_eq, slice_index_or, slice_set, vec_capacity, vec_len};
+ghost use Rattle.std.specs.List.{IsDistinct};
 ghost use Rattle.ld_graph.specs.Edges.{IsEdge, edge};
 ghost use Rattle.ld_reach.specs.Inner.Kept.{AreReached, IsGiven, IsSpread, all_ahead, none_ahead};
 ghost use Rattle.ld_graph.specs.Lists.{IsNear};
@@ -115,6 +116,7 @@ impl Reach {
         ensures len { length self.new.marks ≡ length self.old.marks }
         ensures spare { self.new.spare ≡ self.old.spare }
         ensures front { take (length self.old.reached) self.new.reached ≡ self.old.reached }
+        ensures stays { (x : ℕ) → mark_of self.old x ≡ true → mark_of self.new x ≡ true }
     {
         if self.marks[c as usize] {
             return;
@@ -152,6 +154,7 @@ impl Reach {
         ensures len { length self.new.marks ≡ length self.old.marks }
         ensures spare { self.new.spare ≡ self.old.spare }
         ensures front { take (length self.old.reached) self.new.reached ≡ self.old.reached }
+        ensures stays { (x : ℕ) → mark_of self.old x ≡ true → mark_of self.new x ≡ true }
     {
         if !self.marks[a as usize] {
             return;
@@ -183,6 +186,7 @@ impl Reach {
         ensures same { result.now ≡ self.now.reached }
         ensures within { All (λ c. c < length self.now.marks) self.now.reached }
         ensures each { (c : ℕ) → Contains self.now.reached c ↔ IsSome (source_of self.now c) }
+        ensures once { IsDistinct nat_eq self.now.reached }
     {
         &self.reached
     }
@@ -237,6 +241,7 @@ fn expand(
     requires listed { AreReached sources.old reached.old.items }
     requires room { vec_len reached.old + count_by is_none sources.old ≤ vec_capacity reached.old }
     ensures counted { steps.new ≡ count_by (λ m. m) marks.new }
+    ensures marks { marks.new ≡ slice_set marks.old class true }
     ensures listed { AreReached sources.new reached.new.items }
     ensures room { vec_len reached.new + count_by is_none sources.new
         ≡ vec_len reached.old + count_by is_none sources.old }
@@ -275,6 +280,8 @@ fn spread(
     requires listed { AreReached sources.old reached.old.items }
     requires room { vec_len reached.old + count_by is_none sources.old ≤ vec_capacity reached.old }
     ensures counted { steps.new ≡ count_by (λ m. m) marks.new }
+    ensures stays { (x : ℕ) → slice_index_or marks.old x false ≡ true
+        → slice_index_or marks.new x false ≡ true }
     ensures listed { AreReached sources.new reached.new.items }
     ensures room { vec_len reached.new + count_by is_none sources.new
         ≡ vec_len reached.old + count_by is_none sources.old }

@@ -1,13 +1,11 @@
 -- What a graph keeps true of its fields, and what callers see of them.
-use Rattle.std.specs.Prelude.{◌≡◌, ◌↔◌, ℕ, ◌+◌, ◌<◌, ◌≤◌, ◌^◌, length, Some, None, Option, vec_len, vec_capacity}
+use Rattle.std.specs.Prelude.{◌≡◌, ◌↔◌, ℕ, ◌+◌, ◌<◌, ◌≤◌, ◌^◌, length, Some, None, Option}
 use Rattle.std.specs.Prelude.{Bool, true, false, List, slice_index}
 use Rattle.indexmap.specs.IndexSet.{spare}
 use Rattle.ld_graph.specs.declared.graph.Graph.TheInside.{Inside}
 use Rattle.ld_graph.specs.Edges.{IsEdge, Seen}
 use Rattle.ld_graph.specs.Lists.{IsNear}
-use Rattle.ld_graph.specs.Inner.Levels.{level_at}
 use Rattle.ld_graph.specs.Order.{HasCycle}
-use Rattle.ld_graph.specs.Walks.{DistanceIs}
 
 -- the ranks, so long as there is no cycle
 abbrev pub order_of : Bool → List ℕ → Option (List ℕ)
@@ -17,39 +15,33 @@ order_of false ranks = Some ranks
 -- what callers see of the fields
 abbrev pub seen : Inside → Seen
 seen g = record {
-  classes = vec_len g.levels;
+  classes = g.classes;
   edges = g.edges.keys;
   spare_classes = g.spare_classes;
   spare_edges = g.spare_edges;
-  searched = g.searched;
   order = order_of g.has_cycle g.ranks.ranks;
 }
 
 -- what holds of the fields of every graph
 pub record IsKept (g : Inside) : Type 0 where
-  pub after_classes : length g.lists.after.lists ≡ vec_len g.levels
-  pub before_classes : length g.lists.before.lists ≡ vec_len g.levels
+  pub after_classes : length g.lists.after.lists ≡ g.classes
+  pub before_classes : length g.lists.before.lists ≡ g.classes
   pub after_items : g.lists.after.items ≡ length g.edges.keys
   pub before_items : g.lists.before.items ≡ length g.edges.keys
   -- the lists have the successors and the predecessors
   pub after_edges : (a b : ℕ) → IsNear g.lists.after.lists a b ↔ IsEdge g.edges.keys a b
   pub before_edges : (a b : ℕ) → IsNear g.lists.before.lists a b ↔ IsEdge g.edges.keys b a
-  pub ends : (a b : ℕ) → IsEdge g.edges.keys a b → (a < vec_len g.levels) × (b < vec_len g.levels)
+  pub ends : (a b : ℕ) → IsEdge g.edges.keys a b → (a < g.classes) × (b < g.classes)
   -- there is memory for the spare classes and edges
   pub room_edges : g.spare_edges ≤ spare g.edges
-  pub room_after : (vec_len g.levels + g.spare_classes ≤ g.lists.after.class_room)
+  pub room_after : (g.classes + g.spare_classes ≤ g.lists.after.class_room)
       × (length g.edges.keys + g.spare_edges ≤ g.lists.after.item_room)
-  pub room_before : (vec_len g.levels + g.spare_classes ≤ g.lists.before.class_room)
+  pub room_before : (g.classes + g.spare_classes ≤ g.lists.before.class_room)
       × (length g.edges.keys + g.spare_edges ≤ g.lists.before.item_room)
-  pub room_levels : vec_len g.levels + g.spare_classes ≤ vec_capacity g.levels
-  pub room_queue : vec_len g.levels + g.spare_classes ≤ vec_capacity g.queue
-  pub room_ranks : vec_len g.levels + g.spare_classes ≤ g.ranks.room
-  pub few : vec_len g.levels + g.spare_classes ≤ 2 ^ 30
-  -- the levels are the distances from the searched class
-  pub levels : (a : ℕ) → g.searched ≡ Some a
-      → (x : ℕ) → DistanceIs (λ p q. IsEdge g.edges.keys q p) x a (level_at g.levels.items x)
+  pub room_ranks : g.classes + g.spare_classes ≤ g.ranks.room
+  pub few : g.classes + g.spare_classes ≤ 2 ^ 30
   -- so long as there is no cycle, each edge goes from a lesser to a greater rank
-  pub ranked : length g.ranks.ranks ≡ vec_len g.levels
+  pub ranked : length g.ranks.ranks ≡ g.classes
   pub rises : g.has_cycle ≡ false → (x y : ℕ) → IsEdge g.edges.keys x y
       → slice_index g.ranks.ranks x < slice_index g.ranks.ranks y
   pub cycle : g.has_cycle ≡ true → HasCycle (IsEdge g.edges.keys)

@@ -124,6 +124,7 @@ pub record IsPlan (step : ℕ → ℕ → Type 0) (ranks : List ℕ) (low : ℕ)
       → front (slice_index ranks y - low) ≡ true → front (slice_index ranks x - low) ≡ true
   pub last : front (length row - 1) ≡ true
   pub first : front 0 ≡ false
+  pub some : 0 < expanded
   pub few : expanded ≤ length row
 
 -- what is seen of the ranks: the rank of each class, the class at each rank, and for how many
@@ -139,4 +140,5 @@ pub record IsRepaired (step : ℕ → ℕ → Type 0) (a b : ℕ) (old new : Lis
   pub rises : (x y : ℕ) → step x y → slice_index new x < slice_index new y
   pub turned : slice_index new a < slice_index new b
   pub outside : StaysOutside a b old new
+  pub some : 0 < expanded
   pub few : expanded + slice_index old b ≤ slice_index old a + 1

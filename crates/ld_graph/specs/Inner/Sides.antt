@@ -1,14 +1,7 @@
 -- The two sides of a graph's lists. No public contract cites this file.
 use Rattle.std.specs.Prelude.{◌≡◌, ℕ, ◌+◌, ◌≤◌, List, [], ◌∷◌, ◌++◌, nat_eq, length, slice_set}
 use Rattle.std.specs.List.{IsDistinct}
-use Rattle.ld_graph.specs.declared.lists.Side.{Side}
-use Rattle.ld_graph.specs.declared.lists.Side.TheVariants.{After, Before}
-use Rattle.ld_graph.specs.Lists.{Listed, Sides, list_at}
-
--- the lists of one side
-abbrev pub of_side : Side → Sides → List (List ℕ)
-of_side After sides = sides.after.lists
-of_side Before sides = sides.before.lists
+use Rattle.ld_graph.specs.Lists.{Listed, list_at}
 
 -- no list has a class twice
 abbrev pub HasEachOnce : List (List ℕ) → Type 0

@@ -1,6 +1,7 @@
 -- What a reach keeps true of its fields, and what holds while it is spread. No public contract cites
 -- this file.
-use Rattle.std.specs.Prelude.{◌≡◌, ◌⊎◌, ◌↔◌, ℕ, ◌+◌, ◌<◌, ◌≤◌, ◌^◌, Bool, true, false, List, length, Option, None, Some, IsSome, Contains, slice_index_or, slice_set, [], ◌∷◌, ◌++◌, is_none, count_by, vec_len, vec_capacity}
+use Rattle.std.specs.Prelude.{◌≡◌, ◌⊎◌, ◌↔◌, ℕ, ◌+◌, ◌<◌, ◌≤◌, ◌^◌, Bool, true, false, List, length, Option, None, Some, IsSome, Contains, slice_index_or, slice_set, nat_eq, [], ◌∷◌, ◌++◌, is_none, count_by, vec_len, vec_capacity}
+use Rattle.std.specs.List.{IsDistinct}
 use Rattle.ld_reach.specs.declared.reach.Reach.TheInside.{Inside}
 use Rattle.ld_reach.specs.Reach.{IsSource, Reached}
 
@@ -14,8 +15,9 @@ seen r = record {
   expanded = r.steps;
 }
 
--- the list has the classes with a source
+-- the list has the classes with a source, each once
 pub record AreReached (sources : List (Option ℕ)) (reached : List ℕ) : Type 0 where
+  pub once : IsDistinct nat_eq reached
   pub each : (c : ℕ) → Contains reached c ↔ IsSome (slice_index_or sources c None)
 
 -- what holds of the fields of every reach

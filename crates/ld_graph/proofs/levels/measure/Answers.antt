@@ -1,5 +1,4 @@
 use Rattle.std.proofs.Common.{◌+◌, ℕ, [], Contains, arith, subst}
-use Rattle.ld_graph.specs.Inner.Sides.{of_side}
 use Rattle.ld_graph.specs.Lists.{IsNear}
 use Rattle.ld_graph.specs.Inner.Levels.{HasLevel, Spreads}
 use Rattle.ld_graph.proofs.SpreadLemmas.{count_none}
@@ -9,12 +8,12 @@ use Rattle.ld_graph.proofs.levels.measure.Goals as goal
 
 pub loop-done-init : goal.loop-done-init
 loop-done-init c =
-    let spreads : Spreads (IsNear (of_side c.args.side c.args.lists.now) c.args.start) 1
+    let spreads : Spreads (IsNear c.args.lists.now.before.lists c.args.end) 1
     c.clear.new.levels [] c.expand.new.levels c.expand.new.queue.items =
-    subst (λ q. Spreads (IsNear (of_side c.args.side c.args.lists.now) c.args.start) 1
+    subst (λ q. Spreads (IsNear c.args.lists.now.before.lists c.args.end) 1
     c.clear.new.levels q c.expand.new.levels c.expand.new.queue.items) c.clear-2.ensures.items
     (subst (λ n. Spreads (Contains n) 1 c.clear.new.levels c.clear-2.new.self.items
-    c.expand.new.levels c.expand.new.queue.items) c.near.ensures.near c.expand.ensures.spreads) in
+    c.expand.new.levels c.expand.new.queue.items) c.before-2.ensures.near c.expand.ensures.spreads) in
     let few = count_none c.clear.new.levels in
     record {
       count = omega (
@@ -26,10 +25,10 @@ loop-done-init c =
         c.clear.auto.levels,
       );
       capacity = omega (arith, c.expand.ensures.capacity, c.clear-2.ensures.capacity);
-      partial = IsPartial-begun (IsNear (of_side c.args.side c.args.lists.now)) c.args.start c.clear.new.levels
+      partial = IsPartial-begun (IsNear c.args.lists.now.before.lists) c.args.end c.clear.new.levels
           c.expand.new.levels c.expand.new.queue.items c.clear.ensures spreads
           (subst (λ n. (x : ℕ) → Contains n x → HasLevel c.expand.new.levels x)
-          c.near.ensures.near c.expand.ensures.reached);
+          c.before-2.ensures.near c.expand.ensures.reached);
       steps = omega arith;
     }
 
@@ -42,7 +41,7 @@ loop-done-preserved c =
         c.expand-in-loop-done.ensures.capacity,
         c.loop-done.invariant.capacity,
       );
-      partial = IsPartial-next (IsNear (of_side c.args.side c.args.lists.now)) c.args.start c.loop-done.done
+      partial = IsPartial-next (IsNear c.args.lists.now.before.lists) c.args.end c.loop-done.done
           c.loop-done.levels c.loop-done.queue.items c.loop-done.invariant.partial
           (omega (arith, c.loop-done-test.true, c.len.ensures)) c.index-class.result.now
           c.index-class.ensures
@@ -50,10 +49,10 @@ loop-done-preserved c =
           c.in-Some.is
           (subst (λ n. Spreads (Contains n) (c.in-Some.level + 1) c.loop-done.levels
           c.loop-done.queue.items c.expand-in-loop-done.new.levels
-          c.expand-in-loop-done.new.queue.items) c.near-in-loop-done.ensures.near
+          c.expand-in-loop-done.new.queue.items) c.before-in-loop-done.ensures.near
           c.expand-in-loop-done.ensures.spreads)
           (subst (λ n. (x : ℕ) → Contains n x → HasLevel c.expand-in-loop-done.new.levels x)
-          c.near-in-loop-done.ensures.near c.expand-in-loop-done.ensures.reached);
+          c.before-in-loop-done.ensures.near c.expand-in-loop-done.ensures.reached);
       steps = omega arith;
     }
 
@@ -67,14 +66,14 @@ loop-done-smaller c = omega (
 
 pub bounds : goal.bounds
 bounds c =
-    next_within (IsNear (of_side c.args.side c.args.lists.now)) c.args.start c.loop-done.done c.loop-done.levels
+    next_within (IsNear c.args.lists.now.before.lists) c.args.end c.loop-done.done c.loop-done.levels
     c.loop-done.queue.items c.loop-done.invariant.partial
     (omega (arith, c.loop-done-test.true, c.len.ensures)) c.index-class.result.now
     c.index-class.ensures
 
 pub overflow_add-level : goal.overflow_add-level
 overflow_add-level c =
-    let small = next_small (IsNear (of_side c.args.side c.args.lists.now)) c.args.start c.loop-done.done
+    let small = next_small (IsNear c.args.lists.now.before.lists) c.args.end c.loop-done.done
     c.loop-done.levels c.loop-done.queue.items c.loop-done.invariant.partial
     (omega (arith, c.loop-done-test.true, c.len.ensures)) c.index-class.result.now
     c.index-class.ensures c.in-Some.level c.in-Some.is in
@@ -82,7 +81,7 @@ overflow_add-level c =
 
 pub unreachable-requires : goal.unreachable-requires
 unreachable-requires c =
-    let next = next_level (IsNear (of_side c.args.side c.args.lists.now)) c.args.start c.loop-done.done
+    let next = next_level (IsNear c.args.lists.now.before.lists) c.args.end c.loop-done.done
     c.loop-done.levels c.loop-done.queue.items c.loop-done.invariant.partial
     (omega (arith, c.loop-done-test.true, c.len.ensures)) c.index-class.result.now
     c.index-class.ensures in
@@ -90,17 +89,17 @@ unreachable-requires c =
 
 pub returns-clause-distances : goal.returns-clause-distances
 returns-clause-distances c =
-    IsPartial-all (IsNear (of_side c.args.side c.args.lists.now)) c.args.start c.loop-done.done c.loop-done.levels
+    IsPartial-all (IsNear c.args.lists.now.before.lists) c.args.end c.loop-done.done c.loop-done.levels
     c.loop-done.queue.items c.loop-done.invariant.partial
     (omega (arith, c.loop-done-test.false, c.len.ensures))
 
 pub expand-requires-clause-ends : goal.expand-requires-clause-ends
 expand-requires-clause-ends c = λ x n.
-    let e = c.requires.ends c.args.start x (subst (λ l. Contains l x) c.near.ensures.near n)
+    let e = c.requires.ends c.args.end x (subst (λ l. Contains l x) c.before-2.ensures.near n)
     in omega (arith, e, c.requires.classes, c.clear.auto.levels)
 
 pub expand-requires-in-loop-done-clause-ends : goal.expand-requires-in-loop-done-clause-ends
 expand-requires-in-loop-done-clause-ends c = λ x n.
     let e = c.requires.ends c.index-class.result.now x
-    (subst (λ l. Contains l x) c.near-in-loop-done.ensures.near n)
+    (subst (λ l. Contains l x) c.before-in-loop-done.ensures.near n)
     in omega (arith, e, c.requires.classes, c.loop-done.auto.levels)

@@ -1,15 +1,14 @@
 use Rattle.std.proofs.Common.{◌≡◌, ◌+◌, ◌-◌, ◌≤◌, length, count_by, is_none, vec_len, vec_capacity}
-use Rattle.ld_graph.specs.Inner.Sides.{of_side}
 use Rattle.ld_graph.specs.Lists.{IsNear}
 use Rattle.ld_graph.proofs.SearchLemmas.{IsPartial}
 use Rattle.ld_graph.proofs.levels.measure.Given as goal
 
 abbrev pub invariant-loop-done : goal.invariant-loop-done
 invariant-loop-done l = record {
-  count : vec_len l.queue + count_by is_none l.levels ≤ length (of_side l.fn.side l.lists);
+  count : vec_len l.queue + count_by is_none l.levels ≤ length l.lists.before.lists;
   steps : l.steps ≡ l.done + 1;
   capacity : vec_capacity l.fn.queue ≤ vec_capacity l.queue;
-  partial : IsPartial (IsNear (of_side l.fn.side l.lists)) l.start l.done l.levels l.queue.items;
+  partial : IsPartial (IsNear l.lists.before.lists) l.end l.done l.levels l.queue.items;
 }
 
 -- each class waits once, so there is an end: what waits and what has no level together never grow

@@ -34,7 +34,8 @@ returns-then-apart-clause-plan c =
           c.args.row.now c.requires.row c.requires.rises c.requires.ends c.requires.some
           c.search_in_turn-ended.new.behind.found c.search_in_turn-ended.new.ahead.found s.behind
           s.ahead c.search_in_turn-ended.result c.if-apart.ensures.apart;
-      few = omega (arith, few, s.steps, c.new-steps.ensures, c.count.ensures);
+      some = omega (arith, s.some, c.requires.steps, c.count.ensures);
+      few = omega (arith, few, s.most, c.requires.steps, c.count.ensures);
     }
 
 pub returns-else-apart-clause-plan : goal.returns-else-apart-clause-plan

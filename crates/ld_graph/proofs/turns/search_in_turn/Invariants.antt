@@ -1,15 +1,15 @@
-use Rattle.std.proofs.Common.{◌≡◌, ◌+◌, ◌-◌, ◌*◌, ◌≤◌, length}
+use Rattle.std.proofs.Common.{◌≡◌, ◌+◌, ◌-◌, ◌*◌, ◌<◌, length}
 use Rattle.ld_graph.specs.Inner.Repairs.{IsClosed, IsSought}
 use Rattle.ld_graph.specs.Lists.{IsNear}
 use Rattle.ld_graph.proofs.turns.search_in_turn.Given as goal
 
-abbrev pub invariant-loop-place : goal.invariant-loop-place
-invariant-loop-place l = record {
+abbrev pub invariant-loop-low : goal.invariant-loop-low
+invariant-loop-low l = record {
   behind_size : l.behind.size ≡ l.fn.behind.size;
   ahead_size : l.ahead.size ≡ l.fn.ahead.size;
   steps : l.steps ≡ l.fn.steps + 2 * l.done;
-  upto : l.done ≤ length l.ahead.found;
-  upto_behind : l.done ≤ length l.behind.found;
+  upto : l.done < length l.ahead.found;
+  upto_behind : l.done < length l.behind.found;
   behind : IsSought (IsNear l.lists.before.lists) l.row (length l.row - 1) l.behind.found;
   ahead : IsSought (IsNear l.lists.after.lists) l.row 0 l.ahead.found;
   behind_closed : IsClosed (IsNear l.lists.before.lists) l.ranks l.low l.row l.behind.found l.done;
@@ -17,5 +17,5 @@ invariant-loop-place l = record {
 }
 
 -- each place is expanded once
-abbrev pub decreases-loop-place : goal.decreases-loop-place
-decreases-loop-place l = length l.row - l.done
+abbrev pub decreases-loop-low : goal.decreases-loop-low
+decreases-loop-low l = length l.row - l.done

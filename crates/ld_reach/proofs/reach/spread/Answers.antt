@@ -1,7 +1,7 @@
-use Rattle.std.proofs.Common.{◌<◌, ◌+◌, ◌∷◌, ◌∙◌, ap, arith, drop, inr, is_some, length, subst}
+use Rattle.std.proofs.Common.{◌≡◌, ◌<◌, ◌+◌, ◌∷◌, ◌∙◌, ap, arith, drop, false, get_or, inr, is_some, length, subst, sym, true}
 use Rattle.ld_graph.specs.Lists.{IsNear}
 use Rattle.ld_reach.specs.Inner.Kept.{IsSpread, none_ahead}
-use Rattle.ld_reach.proofs.ReachLemmas.{AreReached-has, drop-next, spread-passed, spread-popped}
+use Rattle.ld_reach.proofs.ReachLemmas.{AreReached-has, drop-next, mark_stays, spread-passed, spread-popped}
 use Rattle.ld_reach.proofs.reach.spread.Goals as goal
 
 pub bounds-marks-class : goal.bounds-marks-class
@@ -28,6 +28,8 @@ loop-done-preserved-then-not-marks-class c =
       same = omega (arith, i.same, c.expand.auto.sources, c.expand.auto.marks);
       classes = omega (arith, i.classes, c.expand.auto.marks);
       counted = c.expand.ensures.counted;
+      stays = λ x on. subst (λ marks. get_or marks x false ≡ true) (sym c.expand.ensures.marks)
+          (mark_stays c.loop-done.marks class x (i.stays x on));
       listed = c.expand.ensures.listed;
       longer = omega (arith, i.longer, c.expand.ensures.longer);
       front = λ n within. c.expand.ensures.front n (omega (arith, within, i.longer)) ∙ i.front n within;
@@ -56,6 +58,7 @@ loop-done-preserved c =
       same = i.same;
       classes = i.classes;
       counted = i.counted;
+      stays = i.stays;
       listed = i.listed;
       longer = i.longer;
       front = i.front;

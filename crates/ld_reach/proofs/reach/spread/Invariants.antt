@@ -1,4 +1,4 @@
-use Rattle.std.proofs.Common.{◌≡◌, ◌+◌, ◌-◌, ◌≤◌, ℕ, List, count_by, drop, is_none, length, take, vec_len, vec_capacity}
+use Rattle.std.proofs.Common.{◌≡◌, ◌+◌, ◌-◌, ◌≤◌, ℕ, List, count_by, drop, false, get_or, is_none, length, take, true, vec_len, vec_capacity}
 use Rattle.ld_graph.specs.Lists.{IsNear}
 use Rattle.ld_reach.specs.Inner.Kept.{AreReached, IsSpread, none_ahead}
 use Rattle.ld_reach.proofs.reach.spread.Given as goal
@@ -11,6 +11,7 @@ invariant-loop-done l = record {
   same : length l.sources ≡ length l.marks;
   classes : length l.marks ≡ length l.fn.marks;
   counted : l.steps ≡ count_by (λ m. m) l.marks;
+  stays : (x : ℕ) → get_or l.fn.marks x false ≡ true → get_or l.marks x false ≡ true;
   listed : AreReached l.sources l.reached.items;
   longer : vec_len l.fn.reached ≤ vec_len l.reached;
   front : (n : ℕ) → n ≤ vec_len l.fn.reached → take n l.reached.items ≡ take n l.fn.reached.items;

@@ -1,6 +1,5 @@
 use Rattle.std.proofs.lemmas.List.{length_push, length-set}
-use Rattle.std.proofs.lemmas.Option.{none-some}
-use Rattle.std.proofs.Common.{◌≡◌, ◌<◌, ◌++◌, ◌∷◌, [], ◌↔◌, arith, length, set, vec_len, ap}
+use Rattle.std.proofs.Common.{◌≡◌, ◌<◌, ◌++◌, ◌∷◌, [], ◌↔◌, arith, length, set, ap}
 use Rattle.std.proofs.Common.{refl, sym, subst, ◌∙◌}
 use Rattle.ld_graph.specs.Edges.{edge, IsEdge}
 use Rattle.ld_graph.specs.Lists.{IsNear, list_at}
@@ -33,8 +32,8 @@ invariant_of-self c =
     (list_at c.self.inside.lists.after.lists c.args.a ++ c.args.b ∷ []) in
     let before = ap length c.push.ensures.before.lists ∙ length-set c.self.inside.lists.before.lists c.args.b
     (list_at c.self.inside.lists.before.lists c.args.b ++ c.args.a ∷ []) in
-    let a : c.args.a < vec_len c.self.inside.levels = omega (arith, classes, c.requires.a) in
-    let b : c.args.b < vec_len c.self.inside.levels = omega (arith, classes, c.requires.b) in
+    let a : c.args.a < c.self.inside.classes = omega (arith, classes, c.requires.a) in
+    let b : c.args.b < c.self.inside.classes = omega (arith, classes, c.requires.b) in
     record {
       after_classes = omega (arith, after, i.after_classes);
       before_classes = omega (arith, before, i.before_classes);
@@ -52,8 +51,7 @@ invariant_of-self c =
           c.self.inside.lists.before.lists c.args.b ++ c.args.a ∷ [])) x y ↔ IsEdge k y x) (sym keys)
           (IsNear-turned c.self.inside.lists.before.lists c.self.inside.edges.keys c.args.a c.args.b
           (omega (arith, b, i.before_classes)) i.before_edges x y));
-      ends = λ x y e. ends_push c.self.inside.edges.keys c.args.a c.args.b (vec_len
-          c.self.inside.levels) a b i.ends x y (subst (λ k. IsEdge k x y) keys e);
+      ends = λ x y e. ends_push c.self.inside.edges.keys c.args.a c.args.b c.self.inside.classes a b i.ends x y (subst (λ k. IsEdge k x y) keys e);
       room_edges = omega (arith, spare, c.requires.room, i.room_edges, c.insert.ensures.spare);
       room_after = (
         omega (arith, i.room_after.0, c.push.ensures.after.class_room),
@@ -77,8 +75,6 @@ invariant_of-self c =
           c.push.ensures.before.item_room,
         ),
       );
-      room_levels = i.room_levels;
-      room_queue = i.room_queue;
       room_ranks = omega (arith, i.room_ranks, c.place-answer.ensures.room);
       few = i.few;
       ranked = placed_length c.self.inside i c.args.a c.args.b c.place-answer.new.has_cycle
@@ -89,7 +85,6 @@ invariant_of-self c =
       cycle = λ t. subst (λ k. HasCycle (IsEdge k)) (sym keys) (placed_cycle c.self.inside i c.args.a
           c.args.b c.place-answer.new.has_cycle c.place-answer.new.ranks.ranks c.place-answer.result
           c.place-answer.ensures.placed t);
-      levels = λ p e x. absurd (none-some p e);
     }
 
 pub push-requires-clause-after_fresh : goal.push-requires-clause-after_fresh

@@ -7,140 +7,77 @@ use Rattle.ld_graph.proofs.graph.Graph.room.Goals as goal
 pub invariant_of-self : goal.invariant_of-self
 invariant_of-self c = IsKept-grown c.self.inside _ (record {
   keys = c.reserve.ensures.keys;
+  classes = refl;
   edges = c.reserve.ensures.room.0;
   after = lists_same c.self.inside.lists.after;
   before = lists_same c.self.inside.lists.before;
-  levels = refl;
-  len = refl;
-  levels_room = omega arith;
-  queue_room = omega arith;
   ranks = refl;
   ranks_room = omega arith;
   has_cycle = refl;
   spare_classes = refl;
   spare_edges = refl;
-  searched = refl;
 }) c.self.invariant
 
 pub invariant_of-self-in_err-room : goal.invariant_of-self-in_err-room
 invariant_of-self-in_err-room c = IsKept-grown c.self.inside _ (record {
   keys = c.reserve.ensures.keys;
+  classes = refl;
   edges = c.reserve.ensures.room.0;
   after = c.room.ensures.after;
   before = c.room.ensures.before;
-  levels = refl;
-  len = refl;
-  levels_room = omega arith;
-  queue_room = omega arith;
   ranks = refl;
   ranks_room = omega arith;
   has_cycle = refl;
   spare_classes = refl;
   spare_edges = refl;
-  searched = refl;
-}) c.self.invariant
-
-pub invariant_of-self-in_err-reserve-2 : goal.invariant_of-self-in_err-reserve-2
-invariant_of-self-in_err-reserve-2 c = IsKept-grown c.self.inside _ (record {
-  keys = c.reserve.ensures.keys;
-  edges = c.reserve.ensures.room.0;
-  after = c.room.ensures.after;
-  before = c.room.ensures.before;
-  levels = c.reserve-2.ensures.items;
-  len = c.reserve-2.ensures.len;
-  levels_room = c.reserve-2.ensures.capacity;
-  queue_room = omega arith;
-  ranks = refl;
-  ranks_room = omega arith;
-  has_cycle = refl;
-  spare_classes = refl;
-  spare_edges = refl;
-  searched = refl;
-}) c.self.invariant
-
-pub invariant_of-self-in_err-reserve-3 : goal.invariant_of-self-in_err-reserve-3
-invariant_of-self-in_err-reserve-3 c = IsKept-grown c.self.inside _ (record {
-  keys = c.reserve.ensures.keys;
-  edges = c.reserve.ensures.room.0;
-  after = c.room.ensures.after;
-  before = c.room.ensures.before;
-  levels = c.reserve-2.ensures.items;
-  len = c.reserve-2.ensures.len;
-  levels_room = c.reserve-2.ensures.capacity;
-  queue_room = omega (arith, c.clear.ensures.capacity, c.reserve-3.ensures.capacity);
-  ranks = refl;
-  ranks_room = omega arith;
-  has_cycle = refl;
-  spare_classes = refl;
-  spare_edges = refl;
-  searched = refl;
 }) c.self.invariant
 
 pub invariant_of-self-in_err-room-2 : goal.invariant_of-self-in_err-room-2
 invariant_of-self-in_err-room-2 c = IsKept-grown c.self.inside _ (record {
   keys = c.reserve.ensures.keys;
+  classes = refl;
   edges = c.reserve.ensures.room.0;
   after = c.room.ensures.after;
   before = c.room.ensures.before;
-  levels = c.reserve-2.ensures.items;
-  len = c.reserve-2.ensures.len;
-  levels_room = c.reserve-2.ensures.capacity;
-  queue_room = omega (arith, c.clear.ensures.capacity, c.reserve-3.ensures.capacity);
   ranks = c.room-2.ensures.ranks;
   ranks_room = c.room-2.ensures.kept;
   has_cycle = refl;
   spare_classes = refl;
   spare_edges = refl;
-  searched = refl;
 }) c.self.invariant
 
 pub invariant_of-self-2 : goal.invariant_of-self-2
 invariant_of-self-2 c =
     let i = c.self.invariant in
-    let len = c.reserve-2.ensures.len in
     let now = ap (λ g. g.classes) c.self.view_is in
     let grown : Inside = record {
       edges = c.reserve.new.self;
       lists = c.room.new.self;
-      levels = c.reserve-2.new.self;
-      queue = c.reserve-3.new.self;
+      classes = c.self.inside.classes;
       ranks = c.room-2.new.self;
       has_cycle = c.self.inside.has_cycle;
       spare_classes = c.self.inside.spare_classes;
       spare_edges = c.self.inside.spare_edges;
-      searched = c.self.inside.searched;
     } in
     let kept : IsKept grown = IsKept-grown c.self.inside grown (record {
       keys = c.reserve.ensures.keys;
+      classes = refl;
       edges = c.reserve.ensures.room.0;
       after = c.room.ensures.after;
       before = c.room.ensures.before;
-      levels = c.reserve-2.ensures.items;
-      len = c.reserve-2.ensures.len;
-      levels_room = c.reserve-2.ensures.capacity;
-      queue_room = omega (arith, c.clear.ensures.capacity, c.reserve-3.ensures.capacity);
       ranks = c.room-2.ensures.ranks;
       ranks_room = c.room-2.ensures.kept;
       has_cycle = refl;
       spare_classes = refl;
       spare_edges = refl;
-      searched = refl;
     }) c.self.invariant in
     IsKept-spare grown c.args.classes c.args.edges c.max-self-inside.result
     c.max-self-inside-2.result kept
     c.max-self-inside.ensures c.max-self-inside-2.ensures
     c.in_ok-reserve.ensures.ok
-    (let r = c.in_ok-room.ensures.after_room.for_classes in let same = ap length c.room.ensures.after.lists in omega (arith, len, same, i.after_classes, r))
+    (let r = c.in_ok-room.ensures.after_room.for_classes in let same = ap length c.room.ensures.after.lists in omega (arith, same, i.after_classes, r))
     c.in_ok-room.ensures.after_room.for_items
-    (let r = c.in_ok-room.ensures.before_room.for_classes in let same = ap length c.room.ensures.before.lists in omega (arith, len, same, i.before_classes, r))
+    (let r = c.in_ok-room.ensures.before_room.for_classes in let same = ap length c.room.ensures.before.lists in omega (arith, same, i.before_classes, r))
     c.in_ok-room.ensures.before_room.for_items
-    (omega (arith, c.in_ok-reserve-2.ensures.ok))
-    (omega (
-      arith,
-      c.len.ensures,
-      c.in_ok-reserve-3.ensures.ok,
-      c.reserve-3.ensures.len,
-      c.clear.ensures.len,
-    ))
-    (omega (arith, len, c.len.ensures, c.in_ok-room-2.ensures.room))
-    (omega (arith, len, now, c.requires))
+    (omega (arith, c.in_ok-room-2.ensures.room))
+    (omega (arith, now, c.requires))

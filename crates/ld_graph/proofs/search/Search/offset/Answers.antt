@@ -1,6 +1,6 @@
 use Rattle.std.proofs.Common.{Contains, arith, ap, sym, subst}
 use Rattle.ld_graph.proofs.MarkLemmas.{found_below}
-use Rattle.ld_graph.proofs.search.Search.place.Goals as goal
+use Rattle.ld_graph.proofs.search.Search.offset.Goals as goal
 
 pub returns-clause-below : goal.returns-clause-below
 returns-clause-below c = λ k n.
