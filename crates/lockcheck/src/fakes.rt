@@ -163,18 +163,20 @@ impl Output for FakeWriter {
     }
 }
 
-/// Holds the worker of number 0 until so many other numbers came, for a while, and records whether they
+/// Holds the worker of one number until so many other numbers came, for a while, and records whether they
 /// did.
 #[derive(Drop)]
 pub struct Meeting {
+    held: u64,
     wanted: u64,
     came: AtomicU64,
     met: AtomicBool,
 }
 
 impl Meeting {
-    pub fn of(wanted: u64) -> Meeting {
+    pub fn at(held: u64, wanted: u64) -> Meeting {
         Meeting {
+            held,
             wanted,
             came: AtomicU64::new(0),
             met: AtomicBool::new(false),
@@ -188,7 +190,7 @@ impl Meeting {
 
 impl Gate for Meeting {
     fn pass(&self, _worker: u64, number: u64) {
-        if number > 0 {
+        if number != self.held {
             self.came.fetch_add(1, Ordering::SeqCst);
             return;
         }

@@ -9,7 +9,7 @@ use ld_work::NoGate;
 
 #[test]
 fn two_workers_meet(rt: HostRuntime) {
-    let gate = Meeting::of(1);
+    let gate = Meeting::at(0, 1);
     let checked = check(&rt, rt.alloc(), INVERSION, 2, &gate).expect(&rt, "a book");
     assert!(rt; gate.met());
     let text = report(rt.alloc(), &checked.book).expect(&rt, "a report");
@@ -17,15 +17,18 @@ fn two_workers_meet(rt: HostRuntime) {
     drop(checked);
 }
 
-// While one worker is held at number 0, the other one reads both other traces.
+// While one worker is held at number 0, the other one reads both other traces; and so with each other
+// number, so that no shares that are settled beforehand do.
 #[test]
 fn two_numbers_before_zero(rt: HostRuntime) {
-    let gate = Meeting::of(2);
-    let checked = check(&rt, rt.alloc(), THREE_TRACES, 2, &gate).expect(&rt, "a book");
-    assert!(rt; gate.met());
-    let text = report(rt.alloc(), &checked.book).expect(&rt, "a report");
-    assert_eq!(rt; text.as_slice(), THREE_TRACES_REPORT);
-    drop(checked);
+    for held in 0..3 {
+        let gate = Meeting::at(held, 2);
+        let checked = check(&rt, rt.alloc(), THREE_TRACES, 2, &gate).expect(&rt, "a book");
+        assert!(rt; gate.met());
+        let text = report(rt.alloc(), &checked.book).expect(&rt, "a report");
+        assert_eq!(rt; text.as_slice(), THREE_TRACES_REPORT);
+        drop(checked);
+    }
 }
 
 #[test]

@@ -78,7 +78,7 @@ fn reports_each_violation(rt: HostRuntime) {
 
 #[test]
 fn two_workers_meet(rt: HostRuntime) {
-    let gate = Meeting::of(1);
+    let gate = Meeting::at(0, 1);
     let report = report_of(&rt, rt.alloc(), INVERSION, 2, &gate).expect(&rt, "a report");
     assert!(rt; gate.met());
     assert_eq!(rt; report.text.as_slice(), INVERSION_REPORT);
