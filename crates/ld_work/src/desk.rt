@@ -199,19 +199,13 @@ impl<'a, T: Ledger, E: Ledger> Desk<'a, T, E> {
         }
         let Locked {
             book,
-            mut trace_sum,
-            mut event_sum,
+            trace_sum,
+            event_sum,
             no_traces,
             no_events,
         } = self.locked.into_inner();
-        let (mut traces, mut events) = joined(feeders, no_traces, no_events);
-        trace_sum.audit(&mut traces);
-        event_sum.audit(&mut events);
-        let totals = book.totals();
-        let tally = Tally {
-            traces: totals.traces,
-            events: totals.events,
-        };
+        let (traces, events) = joined(feeders, no_traces, no_events);
+        let tally = audited(&book, trace_sum, event_sum, traces, events);
         Ok(Gathered { book, tally })
     }
 }
@@ -252,6 +246,29 @@ impl<'d, 'a, T: Ledger, E: Ledger> Look<'d, 'a, T, E> {
         ensures events { feeder.old.events ≤ events self.old }
     {
         self.guard.covers(feeder)
+    }
+}
+
+/// The book's traces and events, which are what these shares of the two sums have, since they are whole.
+fn audited<T: Ledger, E: Ledger>(
+    book: &Book<'_>,
+    mut trace_sum: ledger::Book<T>,
+    mut event_sum: ledger::Book<E>,
+    mut trace_share: Share<T>,
+    mut event_share: Share<E>,
+) -> Tally
+    requires traces { (trace_sum.total ≡ length book.now) × (trace_share.parts ≡ T.parts) }
+    requires events { (event_sum.total ≡ events book.now) × (event_share.parts ≡ E.parts) }
+    ensures book { result ≡ tally_of book.now }
+    ensures shares { result
+        ≡ record { traces = trace_share.amount; events = event_share.amount } }
+{
+    trace_sum.audit(&mut trace_share);
+    event_sum.audit(&mut event_share);
+    let totals = book.totals();
+    Tally {
+        traces: totals.traces,
+        events: totals.events,
     }
 }
 
