@@ -18,7 +18,7 @@ use Rattle.ld_rules.proofs.StepLemmas.{Decides-same_dependency}
 use Rattle.ld_rules.proofs.UsageLemmas.{Decides-same_use}
 use Rattle.ld_facts.specs.Facts as facts
 use Rattle.ld_facts.specs.Facts.{IsKnown, Known}
-use Rattle.ld_batch.specs.Batch.{AreOutcomes, DoRise, IsBatch, IsUse, IsWithin, named, named_use, sources_of, witness_of}
+use Rattle.ld_batch.specs.Batch.{AreOutcomes, DoRise, IsBatch, IsUse, IsWithin, PlainBatch, named, named_use, sources_of, witness_of}
 use Rattle.ld_batch.specs.Inner.Kept.{Fields, IsKept}
 use Rattle.ld_batch.specs.Inner.Names.{ArePlaces, IsLonger, with_names}
 use Rattle.ld_batch.specs.Inner.Rows.{AreNoted, edge_of, pair_of, same_bit_row, same_pair, use_of, with_row}
@@ -92,7 +92,16 @@ module _ (old new : Fields) (last : Listed) (known : Known) (places : List ℕ) 
   sources : sources_of new.listed ≡ sources_of old.listed ++ known.source ∷ []
   sources = ap sources_of joins.listed ∙ map-append (λ l. plain l.source) old.listed (last ∷ []) ∙ ap (λ s. sources_of old.listed ++ s ∷ []) joins.source
 
-  exact : IsBatch (record { sources = sources_of old.listed ++ known.source ∷ []; classes = new.classes; edges = fold (with_row same_pair) old.edges (map (edge_of places known.source.number) known.edges); usage = fold (with_row same_bit_row) old.usage (map (use_of places known.source.number) known.usage) })
+  -- the batch with the trace
+  abbrev joined : PlainBatch
+  joined = record {
+    sources = sources_of old.listed ++ known.source ∷ [];
+    classes = new.classes;
+    edges = fold (with_row same_pair) old.edges (map (edge_of places known.source.number) known.edges);
+    usage = fold (with_row same_bit_row) old.usage (map (use_of places known.source.number) known.usage);
+  }
+
+  exact : IsBatch joined
   exact =
       let was = kept.exact in
       let number = known.source.number in
@@ -120,7 +129,8 @@ module _ (old new : Fields) (last : Listed) (known : Known) (places : List ℕ) 
             (edges-placed known joins.is_known names places joins.placed number) (edges-once known joins.is_known names places joins.placed number) joins.is_known.edges low;
         used_within = rows-All same_use Decides-same_use (named_use names) same_bit_row (IsUse names) (uses-agree names joins.distinct) old.usage (map of_uses known.usage) in_uses more_uses;
         used_once = rows-once same_bit_row (λ u v. (u.class ≡ v.class) × (u.bit ≡ v.bit) → ⊥)
-            (λ a b apart same. true≢false (sym (and_from _ _ (eq-eqb b.class a.class (sym same.0)) (eq-eqb b.bit.0 a.bit.0 (ap (λ u. u.0) (sym same.1)))) ∙ apart)) old.usage (map of_uses known.usage) was.used_once;
+            (λ a b apart same. true≢false (sym (and_from _ _ (eq-eqb b.class a.class (sym same.0)) (eq-eqb b.bit.0 a.bit.0 (ap (λ u. u.0) (sym same.1)))) ∙ apart))
+            old.usage (map of_uses known.usage) was.used_once;
         usage = exact-joined same_use Decides-same_use uses_of (named_use names) (facts.named_use known.classes) of_uses same_bit_row (IsUse names) (uses-agree names joins.distinct)
             old.usage known.usage (sources_of old.listed) known.source in_uses more_uses
             (λ what. ap (λ all. witness_of same_use all what) (uses-longer old.classes names (length known.classes) joins.longer old.usage was.used_within) ∙ was.usage what)

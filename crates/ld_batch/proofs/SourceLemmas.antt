@@ -1,5 +1,6 @@
 -- The first witnesses over some sources and one more, whose number is above theirs.
-use Rattle.std.proofs.Common.{◌≡◌, ◌≢◌, ◌<◌, ◌==◌, ◌&&◌, ◌||◌, ◌++◌, ◌∷◌, [], All, AllPairs, Bool, true, false, List, ℕ, Option, Some, None, IfSome, nat_lt, filter_map, flat_map, fold, map, refl, ap, sym, ◌∙◌, append_assoc, arith, if◌then◌else◌}
+use Rattle.std.proofs.Common.{◌≡◌, ◌≢◌, ◌<◌, ◌==◌, ◌&&◌, ◌||◌, ◌++◌, ◌∷◌, [], All, AllPairs, Bool, true, false, List, ℕ, Option, Some, None, IfSome, nat_lt, filter_map}
+use Rattle.std.proofs.Common.{flat_map, fold, map, refl, ap, sym, ◌∙◌, append_assoc, arith, if◌then◌else◌}
 use Rattle.std.proofs.lemmas.Bool.{eqb-true, false_from_ne_true, ltb-true}
 use Rattle.std.proofs.lemmas.List.{append-nil}
 use Rattle.std.proofs.lemmas.List.Elements.{All-cons, All-head, All-nil, All-tail, filter_map-append}
