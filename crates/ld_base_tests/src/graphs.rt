@@ -305,42 +305,64 @@ fn expect_order<R: Abort>(rt: &R, graph: &Graph, closure: &Closure) {
     }
 }
 
-/// Inserts edges in an order that depends on the seed, each against the closure.
-fn expect_as_closure<R: Abort>(rt: &R, graph: &mut Graph, seed: u32) {
+/// Edges that depend on the seed.
+fn edges_of(seed: u32) -> [(usize, usize); 20] {
+    let mut edges = [(0, 0); 20];
+    let mut state = seed;
+    for place in 0..20 {
+        state = state.wrapping_mul(1_664_525).wrapping_add(1_013_904_223);
+        edges[place] = ((state >> 16) as usize % FEW, (state >> 24) as usize % FEW);
+    }
+    edges
+}
+
+/// Inserts edges into a new graph in this order, each against the closure.
+fn expect_as_closure<R: Abort>(rt: &R, alloc: Global, edges: &[(usize, usize)]) {
+    let mut graph = Graph::new(alloc);
+    make_room(rt, &mut graph, FEW, edges.len());
+    add_classes(rt, &mut graph, FEW as u32);
     let mut closure = Closure {
         edges: [false; 36],
         walks: [false; 36],
     };
-    let mut state = seed;
-    for _ in 0..20 {
-        state = state.wrapping_mul(1_664_525).wrapping_add(1_013_904_223);
-        let a = (state >> 16) as usize % FEW;
-        let b = (state >> 24) as usize % FEW;
-        let in_order = graph.order().is_some()
-            && rank(rt, graph, a as u32) < rank(rt, graph, b as u32);
-        let wanted = wanted(rt, &closure, a, b, in_order);
-        let answer = match insert(rt, graph, a as u32, b as u32) {
-            Insert::Moved { .. } => Insert::Moved { expanded: 0 },
-            answer => answer,
-        };
-        assert_eq!(rt; answer, wanted);
-        close(rt, &mut closure, a, b);
-        if matches!(wanted, Insert::Closed | Insert::AfterCycle) {
-            assert!(rt; graph.order().is_none());
-        }
-        if graph.order().is_some() {
-            expect_order(rt, graph, &closure);
-        }
+    for &(a, b) in edges {
+        expect_as_closed(rt, &mut graph, &mut closure, a, b);
+    }
+    drop(graph);
+}
+
+/// Inserts an edge into a graph and into its closure.
+fn expect_as_closed<R: Abort>(
+    rt: &R,
+    graph: &mut Graph,
+    closure: &mut Closure,
+    a: usize,
+    b: usize,
+) {
+    let in_order = graph.order().is_some() && rank(rt, graph, a as u32) < rank(rt, graph, b as u32);
+    let wanted = wanted(rt, closure, a, b, in_order);
+    let answer = match insert(rt, graph, a as u32, b as u32) {
+        Insert::Moved { .. } => Insert::Moved { expanded: 0 },
+        answer => answer,
+    };
+    assert_eq!(rt; answer, wanted);
+    close(rt, closure, a, b);
+    if matches!(wanted, Insert::Closed | Insert::AfterCycle) {
+        assert!(rt; graph.order().is_none());
+    }
+    if graph.order().is_some() {
+        expect_order(rt, graph, closure);
     }
 }
 
 #[test]
 fn random_edges(rt: HostRuntime) {
     for seed in 1..21 {
-        let mut graph = Graph::new(rt.alloc());
-        make_room(&rt, &mut graph, FEW, 20);
-        add_classes(&rt, &mut graph, FEW as u32);
-        expect_as_closure(&rt, &mut graph, seed);
-        drop(graph);
+        let mut edges = edges_of(seed);
+        expect_as_closure(&rt, rt.alloc(), &edges);
+        edges.reverse();
+        expect_as_closure(&rt, rt.alloc(), &edges);
+        edges.rotate_left(10);
+        expect_as_closure(&rt, rt.alloc(), &edges);
     }
 }
