@@ -339,6 +339,7 @@ fn expect_as_closed<R: Abort>(
     a: usize,
     b: usize,
 ) {
+    assert!(rt; a < FEW && b < FEW);
     let in_order = graph.order().is_some() && rank(rt, graph, a as u32) < rank(rt, graph, b as u32);
     let wanted = wanted(rt, closure, a, b, in_order);
     let answer = match insert(rt, graph, a as u32, b as u32) {
