@@ -15,7 +15,7 @@ use Rattle.std.proofs.lemmas.List.Quantifiers.{position-Some}
 use Rattle.std.proofs.lemmas.Option.{slice_get-get_or, get_or_from_slice_get}
 use Rattle.indexmap.proofs.CallerLemmas.{Contains-list_any}
 use Rattle.ld_graph.specs.declared.Edge.{Edge}
-use Rattle.ld_graph.specs.Edges.{edge, IsEdge, IsFirstPlace}
+use Rattle.ld_graph.specs.Edges.{edge, IsEdge, IsEdgeNumber}
 use Rattle.ld_graph.specs.Walks.{DistanceIs}
 use Rattle.ld_graph.specs.Lists.{list_at, IsNear}
 use Rattle.ld_graph.proofs.WalkLemmas.{DistanceIs-same}
@@ -50,9 +50,9 @@ IsEdge-missing edges a b e h =
     true≢false (sym (list_any_at (same_edge (edge a b)) edges h.0 (edge a b) h.1
     (ap (λ x. same_edge (edge a b) x) h.2 ∙ same_edge-refl (edge a b))) ∙ e)
 
-pub IsFirstPlace-position : (edges : List Edge) (a b i : ℕ)
-    → position (same_edge (edge a b)) edges ≡ Some i → IsFirstPlace edges a b i
-IsFirstPlace-position edges a b i e =
+pub IsEdgeNumber-position : (edges : List Edge) (a b i : ℕ)
+    → position (same_edge (edge a b)) edges ≡ Some i → IsEdgeNumber edges a b i
+IsEdgeNumber-position edges a b i e =
     let h = position-Some (same_edge (edge a b)) edges i (edge a b) e in
     record {
       there = slice_get-get_or edges i (edge a b) h.0 ∙ ap (λ x. Some x) (sym (same_edge-≡ (edge a

@@ -57,29 +57,29 @@ module _ (marks : List Bool) (found : List ℕ) (h : AreMarked marks found) wher
       by (inr a) (inl b) = absurd (unmarked k a (Contains-from_any {eq = nat_eq} (λ x y t. eqb-true
           x y t) k found b))
 
-  module _ (place : ℕ) (within : place < length marks) (free : get_or marks place false ≡ false) where
-    pub AreMarked-add : AreMarked (set marks place true) (found ++ place ∷ [])
+  module _ (offset : ℕ) (within : offset < length marks) (free : get_or marks offset false ≡ false) where
+    pub AreMarked-add : AreMarked (set marks offset true) (found ++ offset ∷ [])
     AreMarked-add = record {
-      once = IsDistinct-one_more found place h.once (unmarked place free);
-      marked = λ k. (λ e. to k (cases_eq k place) e, λ n. back k (cases_eq k place) n);
+      once = IsDistinct-one_more found offset h.once (unmarked offset free);
+      marked = λ k. (λ e. to k (cases_eq k offset) e, λ n. back k (cases_eq k offset) n);
     }
       where
-        to : (k : ℕ) → (k ≡ place) ⊎ (k ≢ place) → get_or (set marks place true) k false ≡ true
-            → Contains (found ++ place ∷ []) k
-        to k (inl e) _ = subst (Contains (found ++ place ∷ [])) (sym e) (Contains-push found place)
-        to k (inr e) m = Contains-append_left found (place ∷ []) k ((h.marked k).0
-            (sym (get_or-set_other marks place k true false e) ∙ m))
+        to : (k : ℕ) → (k ≡ offset) ⊎ (k ≢ offset) → get_or (set marks offset true) k false ≡ true
+            → Contains (found ++ offset ∷ []) k
+        to k (inl e) _ = subst (Contains (found ++ offset ∷ [])) (sym e) (Contains-push found offset)
+        to k (inr e) m = Contains-append_left found (offset ∷ []) k ((h.marked k).0
+            (sym (get_or-set_other marks offset k true false e) ∙ m))
 
-        old : (k : ℕ) → k ≢ place → Contains found k ⊎ (place ≡ k) → Contains found k
+        old : (k : ℕ) → k ≢ offset → Contains found k ⊎ (offset ≡ k) → Contains found k
         old k e (inl n) = n
         old k e (inr n) = absurd (e (sym n))
 
-        back : (k : ℕ) → (k ≡ place) ⊎ (k ≢ place) → Contains (found ++ place ∷ []) k
-            → get_or (set marks place true) k false ≡ true
-        back k (inl e) _ = ap (λ z. get_or (set marks place true) z false) e
-            ∙ get_or-set_same marks place true false within
-        back k (inr e) n = get_or-set_other marks place k true false e
-            ∙ (h.marked k).1 (old k e (Contains-push_cases found place k n))
+        back : (k : ℕ) → (k ≡ offset) ⊎ (k ≢ offset) → Contains (found ++ offset ∷ []) k
+            → get_or (set marks offset true) k false ≡ true
+        back k (inl e) _ = ap (λ z. get_or (set marks offset true) z false) e
+            ∙ get_or-set_same marks offset true false within
+        back k (inr e) n = get_or-set_other marks offset k true false e
+            ∙ (h.marked k).1 (old k e (Contains-push_cases found offset k n))
 
   pub AreMarked-more : (n : ℕ) → AreMarked (marks ++ replicate n false) found
   AreMarked-more n = record {
@@ -111,12 +111,12 @@ module _ (marks : List Bool) (found : List ℕ) (h : AreMarked marks found) wher
           by (inr l) = past k l ∙ sym (get_or_past marks k false l)
 
 -- one that isn't marked is a further one
-pub found_less : (marks : List Bool) (found : List ℕ) (place : ℕ) → AreMarked marks found
-    → place < length marks → get_or marks place false ≡ false → length found < length marks
-found_less marks found place h within free =
-    let few = found_few (set marks place true) (found ++ place ∷ []) (AreMarked-add marks found h
-    place within free) in
-    let a = length-set marks place true in let b = length_push found place in
+pub found_less : (marks : List Bool) (found : List ℕ) (offset : ℕ) → AreMarked marks found
+    → offset < length marks → get_or marks offset false ≡ false → length found < length marks
+found_less marks found offset h within free =
+    let few = found_few (set marks offset true) (found ++ offset ∷ []) (AreMarked-add marks found h
+    offset within free) in
+    let a = length-set marks offset true in let b = length_push found offset in
     omega (arith, few, a, b)
 
 -- the marks that are left, where those of the first n were taken away
@@ -124,17 +124,17 @@ abbrev pub AreLeft : (old new : List Bool) → List ℕ → ℕ → Type 0
 AreLeft old new found n = (k : ℕ) → get_or new k false ≡ true
     → (get_or old k false ≡ true) × ((i : ℕ) → i < n → get_or found i 0 ≢ k)
 
-pub AreLeft-next : (old new : List Bool) (found : List ℕ) (n place : ℕ) → AreLeft old new found n
-    → place ≡ get_or found n 0 → place < length new
-    → AreLeft old (set new place false) found (n + 1)
-AreLeft-next old new found n place h e within k t = by (cases_eq k place)
+pub AreLeft-next : (old new : List Bool) (found : List ℕ) (n offset : ℕ) → AreLeft old new found n
+    → offset ≡ get_or found n 0 → offset < length new
+    → AreLeft old (set new offset false) found (n + 1)
+AreLeft-next old new found n offset h e within k t = by (cases_eq k offset)
   where
-    by : (k ≡ place) ⊎ (k ≢ place)
+    by : (k ≡ offset) ⊎ (k ≢ offset)
         → (get_or old k false ≡ true) × ((i : ℕ) → i < n + 1 → get_or found i 0 ≢ k)
-    by (inl q) = absurd (true≢false (sym t ∙ ap (λ z. get_or (set new place false) z false) q
-        ∙ get_or-set_same new place false false within))
+    by (inl q) = absurd (true≢false (sym t ∙ ap (λ z. get_or (set new offset false) z false) q
+        ∙ get_or-set_same new offset false false within))
     by (inr q) =
-        let g = h k (sym (get_or-set_other new place k false false q) ∙ t) in
+        let g = h k (sym (get_or-set_other new offset k false false q) ∙ t) in
         (g.0, λ i l r. two g.1 i l r (cases_eq i n))
       where
         two : ((i : ℕ) → i < n → get_or found i 0 ≢ k) → (i : ℕ) → i < n + 1 → get_or found i 0 ≡ k

@@ -5,8 +5,8 @@ use Rattle.std.proofs.Common.{take, drop, arith, sym, ap, subst, ◌∙◌}
 use Rattle.std.proofs.lemmas.Bool.{cases_lt}
 use Rattle.std.proofs.lemmas.List.{get_or-take, get_or-drop, length-take-le}
 use Rattle.std.proofs.lemmas.List.{length-drop}
-use Rattle.ld_graph.specs.Inner.Repairs.{AreInverse, IsGiven, IsInside, IsPlan, IsRepaired, IsRow}
-use Rattle.ld_graph.specs.Inner.Repairs.{split, split_place}
+use Rattle.ld_graph.specs.Inner.Repairs.{AreInverse, AreRanked, IsInside, IsPlan, IsRepaired, IsRow}
+use Rattle.ld_graph.specs.Inner.Repairs.{split, split_offset}
 use Rattle.ld_graph.proofs.SplitLemmas.{length-split, split-at, split-below, split-onto}
 use Rattle.ld_graph.proofs.SplitLemmas.{split-front, split-rises}
 
@@ -73,12 +73,12 @@ module _ (ranks classes : List ℕ) (low m : ℕ) (h : AreInverse ranks classes)
         let f = sym (IsRow-of.at s.0 (omega (arith, v, n))).1 ∙ ap (λ z. get_or ranks z 0) same
         ∙ (IsRow-of.at t.0 (omega (arith, w, n))).1 in
         let g : s.0 ≡ t.0 = omega (arith, f) in
-        let q : j ≡ k = sym s.1.1 ∙ ap (split_place p m) g ∙ t.1.1 in
+        let q : j ≡ k = sym s.1.1 ∙ ap (split_offset p m) g ∙ t.1.1 in
         omega (arith, q, a)
 
   -- the ranks were given by a split of the row
   module _ (p : ℕ → Bool) (new_ranks new_classes : List ℕ)
-      (given : IsGiven (split p (λ k. get_or (row_of classes low m) k 0) m) low m ranks classes
+      (given : AreRanked (split p (λ k. get_or (row_of classes low m) k 0) m) low m ranks classes
       new_ranks new_classes)
       (same_ranks : length new_ranks ≡ length ranks)
       (same_classes : length new_classes ≡ length classes) where
@@ -91,7 +91,7 @@ module _ (ranks classes : List ℕ) (low m : ℕ) (h : AreInverse ranks classes)
     abbrev rank : ℕ → ℕ
     rank x = get_or ranks x 0
 
-    -- a place in the range has the rank of its class
+    -- an offset in the range has the rank of its class
     rank_of : (i : ℕ) → i < m → rank (item i) ≡ low + i
     rank_of i l = let n = length-row in (IsRow-of.at i (omega (arith, l, n))).1
 
@@ -103,14 +103,14 @@ module _ (ranks classes : List ℕ) (low m : ℕ) (h : AreInverse ranks classes)
         let n = length-row in let a = inside.0 in let b = inside.1 in
         IsRow-of.back x l (a, omega (arith, b, n))
 
-    -- where a place goes
-    new_rank_of : (i : ℕ) → i < m → get_or new_ranks (item i) 0 ≡ low + split_place p m i
+    -- where an offset goes
+    new_rank_of : (i : ℕ) → i < m → get_or new_ranks (item i) 0 ≡ low + split_offset p m i
     new_rank_of i l =
         ap (λ z. get_or new_ranks z 0) (sym (split-at p item m i l))
-        ∙ given.rank_at (split_place p m i) (split-below p item m i l)
+        ∙ given.rank_at (split_offset p m i) (split-below p item m i l)
 
     pub new_inside : (x : ℕ) → x < length ranks → IsInside low m (rank x)
-        → get_or new_ranks x 0 ≡ low + split_place p m (rank x - low)
+        → get_or new_ranks x 0 ≡ low + split_offset p m (rank x - low)
     new_inside x l inside =
         let a = inside.0 in let b = inside.1 in
         ap (λ z. get_or new_ranks z 0) (sym (item_of x l inside))
@@ -199,7 +199,7 @@ module _ (ranks classes : List ℕ) (low m : ℕ) (h : AreInverse ranks classes)
             let a = i.0 in let b = i.1 in
             let k : rank x - low < m = omega (arith, a, b) in
             ap (λ z. get_or new_classes z 0) (new_inside x l i)
-            ∙ given.class_at (split_place p m (rank x - low)) (split-below p item m (rank x - low) k)
+            ∙ given.class_at (split_offset p m (rank x - low)) (split-below p item m (rank x - low) k)
             ∙ split-at p item m (rank x - low) k ∙ item_of x l i
         by (inr o) = ap (λ z. get_or new_classes z 0) (new_outside x l o)
             ∙ given.class_else (rank x) o ∙ h.back x l
@@ -322,15 +322,15 @@ module _ (step : ℕ → ℕ → Type 0) (ranks classes : List ℕ) (h : AreInve
         (omega (arith, u, n)))
 
     module _ (new_ranks new_classes : List ℕ)
-        (given : IsGiven moved low (length moved) ranks classes new_ranks new_classes)
+        (given : AreRanked moved low (length moved) ranks classes new_ranks new_classes)
         (same_ranks : length new_ranks ≡ length ranks)
         (same_classes : length new_classes ≡ length classes) where
-      given_split : IsGiven (split plan.front (λ i. get_or row i 0) (high + 1 - low)) low
+      given_split : AreRanked (split plan.front (λ i. get_or row i 0) (high + 1 - low)) low
           (high + 1 - low) ranks classes new_ranks new_classes
       given_split =
-          subst (λ n. IsGiven (split plan.front (λ i. get_or row i 0) (high + 1 - low)) low n ranks
+          subst (λ n. AreRanked (split plan.front (λ i. get_or row i 0) (high + 1 - low)) low n ranks
           classes new_ranks new_classes) moved_length
-          (subst (λ z. IsGiven z low (length moved) ranks classes new_ranks new_classes) moved_is
+          (subst (λ z. AreRanked z low (length moved) ranks classes new_ranks new_classes) moved_is
           given)
 
       pub mended_inverse : AreInverse new_ranks new_classes

@@ -47,7 +47,7 @@ module _ (p q : ℕ → Bool) (same : (k : ℕ) → p k ≡ q k) where
       ap (λ z. if p n then z ++ item n ∷ [] else z) (picked-same item n)
       ∙ ap (λ z. if z then picked q item n ++ item n ∷ [] else picked q item n) (same n)
 
--- a place whose test gave what was wanted
+-- an offset whose test gave what was wanted
 pub part_here : (found : List ℕ) (wanted b : Bool) (k : ℕ) → b ≡ list_any (nat_eq k) found
     → beq b wanted ≡ true → is_part found wanted k ≡ true
 part_here found true true k e h = sym e

@@ -7,7 +7,7 @@ use Rattle.ld_graph.specs.declared.graph.Graph.TheInside.{Inside}
 use Rattle.ld_graph.specs.declared.placed.Insert.{Insert}
 use Rattle.ld_graph.specs.declared.placed.Insert.TheVariants.{Known, Kept, Moved, Closed, AfterCycle}
 use Rattle.ld_graph.specs.declared.Edge.{Edge}
-use Rattle.ld_graph.specs.Edges.{edge, IsEdge, Seen, with_edge}
+use Rattle.ld_graph.specs.Edges.{edge, IsEdge, PlainGraph, with_edge}
 use Rattle.ld_graph.specs.Order.{HasCycle, IsInserted, IsOrder, StaysOutside}
 use Rattle.ld_graph.specs.Lists.{IsNear}
 use Rattle.ld_graph.specs.Inner.Kept.{IsKept, order_of, seen}
@@ -107,7 +107,7 @@ module _ (g : Inside) (h : IsKept g) (a b : ℕ) (now : Bool) (ranks : List ℕ)
       g.lists.after.lists) (IsEdge g.edges.keys) near_edges b a p.1.1.1)
   placed_cycle AfterCycle p t = HasCycle-more g.edges.keys a b (h.cycle p.0)
 
-  abbrev pub made : Seen
+  abbrev pub made : PlainGraph
   made = with_edge (seen g) a b (order_of now ranks)
 
   pub inserted : (answer : Insert) → Placed answer → ¬ IsEdge g.edges.keys a b

@@ -15,16 +15,16 @@ use Rattle.ld_graph.specs.Inner.Repairs.{IsAdded, IsClosed, IsGrown, IsInside, I
 use Rattle.ld_graph.specs.Inner.Repairs.{Reached}
 use Rattle.ld_graph.proofs.WalkLemmas.{Far-snoc, HasWalk-Far, IsWalk-Far}
 
--- a place that was added
-pub added_has : (old new : List ℕ) (place : ℕ) → IsAdded old place new → Contains new place
-added_has old new place (inl h) = subst (λ l. Contains l place) (sym h.1) h.0
-added_has old new place (inr h) = subst (λ l. Contains l place) (sym h.1) (Contains-push old place)
+-- an offset that was added
+pub added_has : (old new : List ℕ) (offset : ℕ) → IsAdded old offset new → Contains new offset
+added_has old new offset (inl h) = subst (λ l. Contains l offset) (sym h.1) h.0
+added_has old new offset (inr h) = subst (λ l. Contains l offset) (sym h.1) (Contains-push old offset)
 
-pub added_keeps : (old new : List ℕ) (place k : ℕ) → IsAdded old place new → Contains old k
+pub added_keeps : (old new : List ℕ) (offset k : ℕ) → IsAdded old offset new → Contains old k
     → Contains new k
-added_keeps old new place k (inl h) n = subst (λ l. Contains l k) (sym h.1) n
-added_keeps old new place k (inr h) n =
-    subst (λ l. Contains l k) (sym h.1) (Contains-append_left old (place ∷ []) k n)
+added_keeps old new offset k (inl h) n = subst (λ l. Contains l k) (sym h.1) n
+added_keeps old new offset k (inr h) n =
+    subst (λ l. Contains l k) (sym h.1) (Contains-append_left old (offset ∷ []) k n)
 
 module _ (near : ℕ → Type 0) (rank : ℕ → ℕ) (low len : ℕ) where
   pub IsGrown-none : (found : List ℕ) → IsGrown near rank low len found found
@@ -34,21 +34,21 @@ module _ (near : ℕ → Type 0) (rank : ℕ → ℕ) (low len : ℕ) where
     fresh = λ k n. inl n;
   }
 
-  pub IsGrown-added : (old mid new : List ℕ) (x place : ℕ) → IsGrown near rank low len old mid
-      → near x → rank x ≡ low + place → place < len → IsAdded mid place new
+  pub IsGrown-added : (old mid new : List ℕ) (x offset : ℕ) → IsGrown near rank low len old mid
+      → near x → rank x ≡ low + offset → offset < len → IsAdded mid offset new
       → IsGrown near rank low len old new
-  IsGrown-added old mid new x place h n e l (inl a) =
+  IsGrown-added old mid new x offset h n e l (inl a) =
       subst (λ f. IsGrown near rank low len old f) (sym a.1) h
-  IsGrown-added old mid new x place h n e l (inr a) =
-      let g = h.longer in let p = length_push mid place in
+  IsGrown-added old mid new x offset h n e l (inr a) =
+      let g = h.longer in let p = length_push mid offset in
       subst (λ f. IsGrown near rank low len old f) (sym a.1) (record {
         longer = omega (arith, g, p);
-        front = λ i b. get_or_append_left mid (place ∷ []) 0 i (omega (arith, b, g))
+        front = λ i b. get_or_append_left mid (offset ∷ []) 0 i (omega (arith, b, g))
             ∙ h.front i b;
-        fresh = λ k c. by k (Contains-push_cases mid place k c);
+        fresh = λ k c. by k (Contains-push_cases mid offset k c);
       })
     where
-      by : (k : ℕ) → Contains mid k ⊎ (place ≡ k) → Contains old k
+      by : (k : ℕ) → Contains mid k ⊎ (offset ≡ k) → Contains old k
           ⊎ ((x : ℕ) × (near x × ((rank x ≡ low + k) × (k < len))))
       by k (inl c) = h.fresh k c
       by k (inr c) = inr (x, (n, (subst (λ z. rank x ≡ low + z) c e, subst (λ z. z < len) c l)))
@@ -74,7 +74,7 @@ module _ (near : ℕ → ℕ → Type 0) (ranks : List ℕ) (low : ℕ) (row : L
   abbrev rank_at : ℕ → ℕ
   rank_at x = get_or ranks x 0
 
-  -- the class of a place that was added
+  -- the class of an offset that was added
   pub row_at : (x k : ℕ) → x < length ranks → rank_at x ≡ low + k → k < length row
       → get_or row k 0 ≡ x
   row_at x k l e b =
@@ -122,20 +122,20 @@ module _ (near : ℕ → ℕ → Type 0) (ranks : List ℕ) (low : ℕ) (row : L
           n.1.1.0 n.1.1.1)) (Reached-next near (get_or row start 0) x n.0 reached n.1.0)
 
   -- the next class that waited was gone on from
-  pub IsClosed-next : (done place : ℕ) (old new : List ℕ) → IsClosed near ranks low row old done
-      → done < length old → place ≡ get_or old done 0
-      → IsGrown (near (get_or row place 0)) rank_at low (length row) old new
-      → ((y : ℕ) → near (get_or row place 0) y → IsInside low (length row) (rank_at y)
+  pub IsClosed-next : (done offset : ℕ) (old new : List ℕ) → IsClosed near ranks low row old done
+      → done < length old → offset ≡ get_or old done 0
+      → IsGrown (near (get_or row offset 0)) rank_at low (length row) old new
+      → ((y : ℕ) → near (get_or row offset 0) y → IsInside low (length row) (rank_at y)
       → Contains new (rank_at y - low))
       → IsClosed near ranks low row new (done + 1)
-  IsClosed-next done place old new h l e g taken i y b n inside = by (cases_eq i done)
+  IsClosed-next done offset old new h l e g taken i y b n inside = by (cases_eq i done)
     where
       by : (i ≡ done) ⊎ (i ≢ done) → Contains new (rank_at y - low)
       by (inl s) = taken y (subst (λ z. near (get_or row z 0) y) (ap (λ z. get_or new z 0) s
           ∙ g.front done l ∙ sym e) n) inside
       by (inr s) =
           let f = g.front i (omega (arith, b, s, l)) in
-          grown_keeps (near (get_or row place 0)) rank_at low (length row) old new
+          grown_keeps (near (get_or row offset 0)) rank_at low (length row) old new
           (rank_at y - low) g (h i y (omega (arith, b, s)) (subst (λ z. near (get_or row z 0) y) f
           n) inside)
 
@@ -175,26 +175,26 @@ beyond n found b h is = by (cases_lt n (length found))
 -- one turn of a search, by the list that was read
 module _ (lists : List (List ℕ)) (ranks : List ℕ) (low : ℕ) (row : List ℕ)
     (r : IsRow ranks low row)
-    (ends : (x y : ℕ) → IsNear lists x y → y < length ranks) (done place : ℕ) (list : List ℕ)
-    (read : list ≡ list_at lists (get_or row place 0)) (old new : List ℕ)
-    (waits : done < length old) (is : place ≡ get_or old done 0)
+    (ends : (x y : ℕ) → IsNear lists x y → y < length ranks) (done offset : ℕ) (list : List ℕ)
+    (read : list ≡ list_at lists (get_or row offset 0)) (old new : List ℕ)
+    (waits : done < length old) (is : offset ≡ get_or old done 0)
     (g : IsGrown (Contains list) (λ x. get_or ranks x 0) low (length row) old new) where
-  grown : IsGrown (IsNear lists (get_or row place 0)) (λ x. get_or ranks x 0) low (length row)
+  grown : IsGrown (IsNear lists (get_or row offset 0)) (λ x. get_or ranks x 0) low (length row)
       old new
-  grown = IsGrown-near (IsNear lists (get_or row place 0)) list (λ x. get_or ranks x 0) low (length
+  grown = IsGrown-near (IsNear lists (get_or row offset 0)) list (λ x. get_or ranks x 0) low (length
       row) old new (λ x n. subst (λ l. Contains l x) read n) g
 
   pub turn_ends : (x : ℕ) → Contains list x → x < length ranks
-  turn_ends x n = ends (get_or row place 0) x (subst (λ l. Contains l x) read n)
+  turn_ends x n = ends (get_or row offset 0) x (subst (λ l. Contains l x) read n)
 
   pub turn_sought : (start : ℕ) → IsSought (IsNear lists) row start old
       → IsSought (IsNear lists) row start new
-  turn_sought start h = IsSought-more (IsNear lists) ranks low row r ends start (get_or row place 0)
-      old new h (h.reached place (Contains-read old done place waits is)) grown
+  turn_sought start h = IsSought-more (IsNear lists) ranks low row r ends start (get_or row offset 0)
+      old new h (h.reached offset (Contains-read old done offset waits is)) grown
 
   pub turn_closed : IsClosed (IsNear lists) ranks low row old done
       → ((x : ℕ) → Contains list x → IsInside low (length row) (get_or ranks x 0)
       → Contains new (get_or ranks x 0 - low))
       → IsClosed (IsNear lists) ranks low row new (done + 1)
-  turn_closed h taken = IsClosed-next (IsNear lists) ranks low row r ends done place old new h waits
+  turn_closed h taken = IsClosed-next (IsNear lists) ranks low row r ends done offset old new h waits
       is grown (λ y n inside. taken y (subst (λ l. Contains l y) (sym read) n) inside)

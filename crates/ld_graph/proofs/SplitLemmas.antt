@@ -5,7 +5,7 @@ use Rattle.std.proofs.Common.{get_or, arith, refl, sym, ap, subst, ◌∙◌}
 use Rattle.std.proofs.lemmas.Bool.{cases_lt, cases_eq}
 use Rattle.std.proofs.lemmas.List.{get_or_append_left, get_or_push, length_push}
 use Rattle.std.proofs.lemmas.List.{get_or-append-add, length-append}
-use Rattle.ld_graph.specs.Inner.Repairs.{count, picked, split_place, split}
+use Rattle.ld_graph.specs.Inner.Repairs.{count, picked, split_offset, split}
 
 -- counting
 module _ (p : ℕ → Bool) where
@@ -103,10 +103,10 @@ module _ (p : ℕ → Bool) (item : ℕ → ℕ) (m : ℕ) where
       let d = count-both p m in
       omega (arith, a, b, c, d)
 
-  pub split-below : (i : ℕ) → i < m → split_place p m i < m
+  pub split-below : (i : ℕ) → i < m → split_offset p m i < m
   split-below i l = by (p i) refl
     where
-      by : (b : Bool) → p i ≡ b → split_place p m i < m
+      by : (b : Bool) → p i ≡ b → split_offset p m i < m
       by true e =
           let s = count-step p i m e l in let d = count-both p m in
           rw e (omega (arith, s, d))
@@ -114,27 +114,27 @@ module _ (p : ℕ → Bool) (item : ℕ → ℕ) (m : ℕ) where
           let s = count-step rest i m (is_rest i e) l in let d = count-both p m in
           rw e (omega (arith, s, d))
 
-  pub split-onto : (j : ℕ) → j < m → (i : ℕ) × ((i < m) × (split_place p m i ≡ j))
+  pub split-onto : (j : ℕ) → j < m → (i : ℕ) × ((i < m) × (split_offset p m i ≡ j))
   split-onto j l = by (cases_lt j (count p m))
     where
-      by : (j < count p m) ⊎ (count p m ≤ j) → (i : ℕ) × ((i < m) × (split_place p m i ≡ j))
+      by : (j < count p m) ⊎ (count p m ≤ j) → (i : ℕ) × ((i < m) × (split_offset p m i ≡ j))
       by (inl a) = let h = count-onto p m j a in (h.0, (h.1.0, rw h.1.1.0 h.1.1.1))
       by (inr a) =
           let d = count-both p m in
           let h = count-onto rest m (j - count p m) (omega (arith, d, a, l)) in
           (h.0, (h.1.0, last h.0 h.1.1.0 h.1.1.1))
         where
-          last : (i : ℕ) → rest i ≡ true → count rest i ≡ j - count p m → split_place p m i ≡ j
+          last : (i : ℕ) → rest i ≡ true → count rest i ≡ j - count p m → split_offset p m i ≡ j
           last i e k = two (p i) refl
             where
-              two : (b : Bool) → p i ≡ b → split_place p m i ≡ j
+              two : (b : Bool) → p i ≡ b → split_offset p m i ≡ j
               two true f = absurd (true≢false (sym e ∙ ap not f))
               two false f = rw f (omega (arith, k, a))
 
-  pub split-at : (i : ℕ) → i < m → get_or (split p item m) (split_place p m i) 0 ≡ item i
+  pub split-at : (i : ℕ) → i < m → get_or (split p item m) (split_offset p m i) 0 ≡ item i
   split-at i l = by (p i) refl
     where
-      by : (b : Bool) → p i ≡ b → get_or (split p item m) (split_place p m i) 0 ≡ item i
+      by : (b : Bool) → p i ≡ b → get_or (split p item m) (split_offset p m i) 0 ≡ item i
       by true e =
           let s = count-step p i m e l in let k = length-picked p item m in
           rw e (get_or_append_left (picked p item m) (picked rest item m) 0 (count p i)
@@ -149,17 +149,17 @@ module _ (p : ℕ → Bool) (item : ℕ → ℕ) (m : ℕ) where
 
   -- those in front come before the others
   pub split-front : (i j : ℕ) → i < m → p i ≡ true → p j ≡ false
-      → split_place p m i < split_place p m j
+      → split_offset p m i < split_offset p m j
   split-front i j l e f =
       let s = count-step p i m e l in
       rw (e, f) (omega (arith, s))
 
   -- and all keep their order, but for one that goes to the front past one that doesn't
   pub split-rises : (i j : ℕ) → i < j → j < m → (p j ≡ true → p i ≡ true)
-      → split_place p m i < split_place p m j
+      → split_offset p m i < split_offset p m j
   split-rises i j l n closed = by (p i) refl (p j) refl
     where
-      by : (a : Bool) → p i ≡ a → (b : Bool) → p j ≡ b → split_place p m i < split_place p m j
+      by : (a : Bool) → p i ≡ a → (b : Bool) → p j ≡ b → split_offset p m i < split_offset p m j
       by true e true f = let s = count-step p i j e l in rw (e, f) (omega (arith, s))
       by true e false f = split-front i j (omega arith) e f
       by false e true f = absurd (true≢false (sym (closed f) ∙ e))

@@ -12,7 +12,7 @@ abbrev pub IsEdge : List Edge → ℕ → ℕ → Type 0
 IsEdge edges a b = Contains edges (edge a b)
 
 -- the edge from a to b was inserted first as number i
-pub record IsFirstPlace (edges : List Edge) (a b i : ℕ) : Type 0 where
+pub record IsEdgeNumber (edges : List Edge) (a b i : ℕ) : Type 0 where
   pub there : slice_get edges i ≡ Some (edge a b)
   pub first : (j : ℕ) → j < i → slice_get edges j ≢ Some (edge a b)
 
@@ -24,7 +24,7 @@ ComesBefore places x y =
 
 -- a graph: how many classes it has, its edges in order of insertion, for how many more of both it
 -- has memory, and the rank of each class, so long as there is no cycle
-pub record Seen : Type 0 where
+pub record PlainGraph : Type 0 where
   pub classes : ℕ
   pub edges : List Edge
   pub spare_classes : ℕ
@@ -32,7 +32,7 @@ pub record Seen : Type 0 where
   pub order : Option (List ℕ)
 
 -- no class, no edge and no memory
-abbrev pub empty_graph : Seen
+abbrev pub empty_graph : PlainGraph
 empty_graph = record {
   classes = 0;
   edges = [];
@@ -47,7 +47,7 @@ with_last None = None
 with_last (Some ranks) = Some (ranks ++ length ranks ∷ [])
 
 -- the graph with one more class, which took a spare one
-abbrev pub with_class : Seen → Seen
+abbrev pub with_class : PlainGraph → PlainGraph
 with_class g = record g {
   classes = g.classes + 1;
   spare_classes = g.spare_classes - 1;
@@ -55,7 +55,7 @@ with_class g = record g {
 }
 
 -- the graph with one more edge, which took a spare one, and with this order
-abbrev pub with_edge : Seen → ℕ → ℕ → Option (List ℕ) → Seen
+abbrev pub with_edge : PlainGraph → ℕ → ℕ → Option (List ℕ) → PlainGraph
 with_edge g a b order = record g {
   edges = g.edges ++ edge a b ∷ [];
   spare_edges = g.spare_edges - 1;
@@ -63,5 +63,5 @@ with_edge g a b order = record g {
 }
 
 -- the graph with other spares
-abbrev pub with_spares : Seen → ℕ → ℕ → Seen
+abbrev pub with_spares : PlainGraph → ℕ → ℕ → PlainGraph
 with_spares g classes edges = record g { spare_classes = classes; spare_edges = edges }

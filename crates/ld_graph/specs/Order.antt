@@ -3,7 +3,7 @@ use Rattle.std.specs.Prelude.{◌≡◌, ℕ, ◌<◌, ◌≤◌, ◌⊎◌, Lis
 use Rattle.std.specs.Prelude.{◌+◌, MatchOption, None}
 use Rattle.ld_graph.specs.declared.placed.Insert.{Insert}
 use Rattle.ld_graph.specs.declared.placed.Insert.TheVariants.{Known, Kept, Moved, Closed, AfterCycle}
-use Rattle.ld_graph.specs.Edges.{IsEdge, Seen, with_edge}
+use Rattle.ld_graph.specs.Edges.{IsEdge, PlainGraph, with_edge}
 use Rattle.ld_graph.specs.Walks.{HasWalk}
 
 -- an order of n classes: a list with one rank per class, the ranks being 0 to n - 1, each once, and
@@ -26,12 +26,12 @@ StaysOutside a b old new = (x : ℕ) → x < length old
     → slice_index new x ≡ slice_index old x
 
 -- the edge from a to b was there, and nothing changes
-pub record IsKnown (old : Seen) (a b : ℕ) (new : Seen) : Type 0 where
+pub record IsKnown (old : PlainGraph) (a b : ℕ) (new : PlainGraph) : Type 0 where
   pub there : IsEdge old.edges a b
   pub same : new ≡ old
 
 -- the edge was added without a cycle, and a's rank was below b's: the order stays
-pub record IsInOrder (old : Seen) (a b : ℕ) (new : Seen) : Type 0 where
+pub record IsInOrder (old : PlainGraph) (a b : ℕ) (new : PlainGraph) : Type 0 where
   pub fresh : ¬ IsEdge old.edges a b
   pub no_cycle : ¬ HasCycle (IsEdge new.edges)
   pub ranks : MatchOption old.order ⊥ (λ ranks. slice_index ranks a < slice_index ranks b)
@@ -40,7 +40,7 @@ pub record IsInOrder (old : Seen) (a b : ℕ) (new : Seen) : Type 0 where
 -- the edge was added without a cycle, and a's rank was above b's: there was an order and there is
 -- one, only ranks in the range from b's to a's change, and some lists were read, at most as many as
 -- there are ranks in it
-pub record IsMoved (old : Seen) (a b expanded : ℕ) (new : Seen) : Type 0 where
+pub record IsMoved (old : PlainGraph) (a b expanded : ℕ) (new : PlainGraph) : Type 0 where
   pub fresh : ¬ IsEdge old.edges a b
   pub no_cycle : ¬ HasCycle (IsEdge new.edges)
   pub some : 0 < expanded
@@ -51,20 +51,20 @@ pub record IsMoved (old : Seen) (a b expanded : ℕ) (new : Seen) : Type 0 where
   pub graph : new ≡ with_edge old a b new.order
 
 -- the edge was added, and the first cycle came with it
-pub record IsClosing (old : Seen) (a b : ℕ) (new : Seen) : Type 0 where
+pub record IsClosing (old : PlainGraph) (a b : ℕ) (new : PlainGraph) : Type 0 where
   pub fresh : ¬ IsEdge old.edges a b
   pub no_cycle : ¬ HasCycle (IsEdge old.edges)
   pub cycle : HasCycle (IsEdge new.edges)
   pub graph : new ≡ with_edge old a b None
 
 -- the edge was added, and there was a cycle before
-pub record IsAfterCycle (old : Seen) (a b : ℕ) (new : Seen) : Type 0 where
+pub record IsAfterCycle (old : PlainGraph) (a b : ℕ) (new : PlainGraph) : Type 0 where
   pub fresh : ¬ IsEdge old.edges a b
   pub cycle : HasCycle (IsEdge old.edges)
   pub graph : new ≡ with_edge old a b None
 
 -- what the insert of the edge from a to b answers, and what it makes of the graph
-abbrev pub IsInserted : (old : Seen) (a b : ℕ) → Insert → (new : Seen) → Type 0
+abbrev pub IsInserted : (old : PlainGraph) (a b : ℕ) → Insert → (new : PlainGraph) → Type 0
 IsInserted old a b Known new = IsKnown old a b new
 IsInserted old a b Kept new = IsInOrder old a b new
 IsInserted old a b (Moved expanded) new = IsMoved old a b expanded new

@@ -3,7 +3,7 @@
 ghost use Rattle.std.specs.Prelude.{◌≡◌, ◌≢◌, ℕ, ◌+◌, ◌<◌, ◌≤◌, ◌↔◌, length, slice_get};
 ghost use Rattle.std.specs.Prelude.{slice_index_or, None, Some, IfOk};
 ghost use Rattle.std.specs.Prelude.{OnOk, MatchOption};
-ghost use Rattle.ld_graph.specs.Edges.{ComesBefore, IsEdge, IsFirstPlace};
+ghost use Rattle.ld_graph.specs.Edges.{ComesBefore, IsEdge, IsEdgeNumber};
 ghost use Rattle.ld_graph.specs.Edges.{empty_graph, with_class, with_edge, with_spares};
 ghost use Rattle.ld_graph.specs.Lists.{IsNear};
 ghost use Rattle.ld_graph.specs.Order.{HasCycle, IsInserted, IsOrder};
@@ -39,9 +39,9 @@ pub struct Graph {
 }
 
 impl Model for Graph {
-    ghost use Rattle.ld_graph.specs.Edges.{Seen};
+    ghost use Rattle.ld_graph.specs.Edges.{PlainGraph};
 
-    ghost Value = { Seen };
+    ghost Value = { PlainGraph };
 
     ghost use Rattle.ld_graph.specs.Inner.Kept.{seen, IsKept};
 
@@ -152,7 +152,7 @@ impl Graph {
     /// Takes no memory.
     pub fn edge(&self, a: u32, b: u32) -> Option<u64>
         ensures { MatchOption result (¬ IsEdge self.now.edges a b)
-            (IsFirstPlace self.now.edges a b) }
+            (IsEdgeNumber self.now.edges a b) }
     {
         let number = self.edges.get_index_of(&Edge { from: a, to: b })?;
         Some(number as u64)

@@ -3,7 +3,7 @@
 ghost use Rattle.std.specs.Prelude.{◌≡◌, ◌≢◌, ◌↔◌, ◌⊎◌, ℕ, ◌+◌, ◌-◌, ◌^◌, ◌<◌, ◌≤◌, [], ◌++◌, not};
 ghost use Rattle.std.specs.Prelude.{length, slice_index, vec_len, vec_capacity, IfSome, MatchOption};
 ghost use Rattle.std.specs.Bool.{OnTrue, OnFalse};
-ghost use Rattle.ld_graph.specs.Inner.Repairs.{AreInverse, HasMet, IsGiven, IsPlan, IsRepaired};
+ghost use Rattle.ld_graph.specs.Inner.Repairs.{AreInverse, HasMet, AreRanked, IsPlan, IsRepaired};
 ghost use Rattle.ld_graph.specs.Inner.Repairs.{IsRow, Reached};
 ghost use Rattle.ld_graph.specs.Inner.Repairs.{count, in_front, is_part, picked, split};
 ghost use Rattle.ld_graph.specs.Lists.{IsNear};
@@ -34,9 +34,9 @@ fn append_part(row: &[u32], search: &Search, found: bool, moved: &mut Vec<u32>)
         ++ picked (is_part search.now.found found) (slice_index row.now) (length row.now) }
     ensures capacity { vec_capacity moved.old ≤ vec_capacity moved.new }
 {
-    for place in 0..row.len() {
-        if search.has(place as u32) == found {
-            let Ok(()) = moved.push(row[place]) else {
+    for offset in 0..row.len() {
+        if search.has(offset as u32) == found {
+            let Ok(()) = moved.push(row[offset]) else {
                 unreachable!()
             };
         }
@@ -149,7 +149,7 @@ fn give_ranks(moved: &[u32], low: u32, ranks: &mut [u32], classes: &mut [u32])
         → slice_index moved.now k < length ranks.old }
     requires once { (j k : ℕ) → j < k → k < length moved.now
         → slice_index moved.now j ≢ slice_index moved.now k }
-    ensures { IsGiven moved.now low (length moved.now)
+    ensures { AreRanked moved.now low (length moved.now)
         ranks.old classes.old ranks.new classes.new }
 {
     let mut rank = low;

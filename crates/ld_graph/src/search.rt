@@ -13,7 +13,7 @@ use std::marker::Model;
 #[derive(Drop)]
 pub struct Search {
     found: Vec<u32>,
-    /// For each place whether it was found.
+    /// For each offset whether it was found.
     marks: Vec<bool>,
 }
 
@@ -56,32 +56,32 @@ impl Search {
         Ok(())
     }
 
-    /// Finds a place. One that was found stays where it is.
-    pub fn add(&mut self, place: u32)
-        requires { place < self.old.size }
-        ensures found { IsAdded self.old.found place self.new.found }
+    /// Finds an offset. One that was found stays where it is.
+    pub fn add(&mut self, offset: u32)
+        requires { offset < self.old.size }
+        ensures found { IsAdded self.old.found offset self.new.found }
         ensures size { self.new.size ≡ self.old.size }
     {
-        if !self.marks[place as usize] {
-            self.marks[place as usize] = true;
-            let Ok(()) = self.found.push(place) else {
+        if !self.marks[offset as usize] {
+            self.marks[offset as usize] = true;
+            let Ok(()) = self.found.push(offset) else {
                 unreachable!()
             };
         }
     }
 
-    /// Whether the place was found.
-    pub fn has(&self, place: u32) -> bool
-        requires { place < self.now.size }
-        ensures { result ≡ list_any (nat_eq place) self.now.found }
+    /// Whether the offset was found.
+    pub fn has(&self, offset: u32) -> bool
+        requires { offset < self.now.size }
+        ensures { result ≡ list_any (nat_eq offset) self.now.found }
     {
-        self.marks[place as usize]
+        self.marks[offset as usize]
     }
 
-    /// The place that was found as number `number`, from 0 on.
+    /// The offset that was found as number `number`, from 0 on.
     pub fn offset(&self, number: usize) -> u32
         requires { number < length self.now.found }
-        ensures place { result ≡ slice_index self.now.found number }
+        ensures offset { result ≡ slice_index self.now.found number }
         ensures once { IsDistinct nat_eq self.now.found }
         ensures below { (k : ℕ) → Contains self.now.found k → k < self.now.size }
     {
@@ -116,7 +116,7 @@ fn unmark(marks: &mut [bool], found: &[u32])
     ensures { (k : ℕ) → slice_index_or marks.new k false ≡ true
         → (slice_index_or marks.old k false ≡ true) × (¬ Contains found.now k) }
 {
-    for place in found {
-        marks[*place as usize] = false;
+    for offset in found {
+        marks[*offset as usize] = false;
     }
 }

@@ -8,14 +8,14 @@ ghost use Rattle.ld_graph.specs.Lists.{IsNear};
 use crate::lists::{Lists, Side, Steps};
 use crate::search::Search;
 
-/// The place of a rank in the range of so many ranks from the least one on, if it is in it.
-fn place_of(rank: u32, low: u32, len: usize) -> Option<u32>
+/// The offset of a rank in the range of so many ranks from the least one on, if it is in it.
+fn offset_of(rank: u32, low: u32, len: usize) -> Option<u32>
     ensures { MatchOption result (¬ IsInside low len rank)
         (λ k. (rank ≡ low + k) × (k < len)) }
 {
-    let place = rank.checked_sub(low)?;
-    if (place as usize) < len {
-        Some(place)
+    let offset = rank.checked_sub(low)?;
+    if (offset as usize) < len {
+        Some(offset)
     } else {
         None
     }
@@ -32,8 +32,8 @@ fn expand(near: &[u32], ranks: &[u32], low: u32, len: usize, search: &mut Search
         → Contains search.new.found (slice_index ranks.now x - low) }
 {
     for x in near {
-        if let Some(place) = place_of(ranks[*x as usize], low, len) {
-            search.add(place);
+        if let Some(offset) = offset_of(ranks[*x as usize], low, len) {
+            search.add(offset);
         }
     }
 }

@@ -8,7 +8,7 @@ use Rattle.ld_reach.specs.Inner.Kept.{seen, AreReached, IsGiven, IsSpread, all_a
 use Rattle.ld_graph.specs.declared.Edge.{Edge}
 use Rattle.ld_reach.specs.declared.reach.Reach.TheInside.{Inside}
 use Rattle.ld_graph.specs.Edges.{IsEdge, edge}
-use Rattle.ld_reach.specs.Reach.{IsReach, IsSource, Reached}
+use Rattle.ld_reach.specs.Reach.{IsReach, IsSource, PlainReach}
 use Rattle.ld_graph.specs.Walks.{HasWalk}
 use Rattle.ld_graph.proofs.OnceLemmas.{IsDistinct-none, IsDistinct-one_more}
 use Rattle.ld_graph.proofs.SpreadLemmas.{some_same}
@@ -47,7 +47,7 @@ HasWalk-one step s x h = HasWalk-Far step zero s x h
 
 module _ (step : ℕ → ℕ → Type 0) (seeds : List ℕ) where
   -- in an exact reach, what a marked class leads to has a source
-  pub reach-closed : (reach : Reached) → IsReach step seeds reach → (x y : ℕ) → is_marked reach.marks x → step x y → has_source reach.sources y
+  pub reach-closed : (reach : PlainReach) → IsReach step seeds reach → (x y : ℕ) → is_marked reach.marks x → step x y → has_source reach.sources y
   reach-closed reach exact x y marked h = by (get_or reach.sources y None) refl ((exact.marked x).0 marked)
     where
       none : get_or reach.sources y None ≡ None → Contains seeds x ⊎ (is_some (get_or reach.sources x None) ≡ true) → ⊥
@@ -63,7 +63,7 @@ module _ (step : ℕ → ℕ → Type 0) (seeds : List ℕ) where
       by (Some s) is why = ap is_some is
 
   -- an exact reach is one at which no class waits
-  pub reach-spread : (reach : Reached) → IsReach step seeds reach → IsSpread step seeds none_ahead reach.sources reach.marks []
+  pub reach-spread : (reach : PlainReach) → IsReach step seeds reach → IsSpread step seeds none_ahead reach.sources reach.marks []
   reach-spread reach exact = record {
     sound = λ x s is. subst (λ o. MatchOption o ((s : ℕ) → ¬ IsSource step seeds x s) (IsSource step seeds x)) is (exact.sources x);
     covered = λ x s is. inl ((exact.marked x).1 (inr (ap is_some is)));
@@ -396,11 +396,11 @@ IsEdge-cases before a b x y h = by (Contains-push_cases before (edge a b) (edge 
     by (inr same) = inr (ap (λ (e : Edge). e.from) (sym same), ap (λ (e : Edge). e.to) (sym same))
 
 -- as many marks are seen as there are
-pub marks_len : (r : Inside) (reach : Reached) → seen r ≡ reach → vec_len r.marks ≡ length reach.marks
-marks_len r reach is = r.marks.ok.0 ∙ ap (λ (s : Reached). length s.marks) is
+pub marks_len : (r : Inside) (reach : PlainReach) → seen r ≡ reach → vec_len r.marks ≡ length reach.marks
+marks_len r reach is = r.marks.ok.0 ∙ ap (λ (s : PlainReach). length s.marks) is
 
 -- with one edge more, from a class that was not expanded, nothing is ahead
-pub spread-unmarked : (before : List Edge) (seeds : List ℕ) (reach : Reached) (a b : ℕ) → get_or reach.marks a false ≡ false
+pub spread-unmarked : (before : List Edge) (seeds : List ℕ) (reach : PlainReach) (a b : ℕ) → get_or reach.marks a false ≡ false
     → IsReach (IsEdge before) seeds reach → IsSpread (IsEdge (before ++ edge a b ∷ [])) seeds none_ahead reach.sources reach.marks []
 spread-unmarked before seeds reach a b off exact =
     spread-longer (IsEdge before) (IsEdge (before ++ edge a b ∷ [])) seeds none_ahead reach.sources reach.marks
@@ -411,7 +411,7 @@ spread-unmarked before seeds reach a b off exact =
     by x y on (inr new) = absurd (true≢false (sym on ∙ ap (λ k. get_or reach.marks k false) new.0 ∙ off))
 
 -- with one edge more that step is ahead
-pub spread-edge : (before : List Edge) (seeds : List ℕ) (reach : Reached) (a b : ℕ) → IsReach (IsEdge before) seeds reach
+pub spread-edge : (before : List Edge) (seeds : List ℕ) (reach : PlainReach) (a b : ℕ) → IsReach (IsEdge before) seeds reach
     → IsSpread (IsEdge (before ++ edge a b ∷ [])) seeds (λ x y. (x ≡ a) × (y ≡ b)) reach.sources reach.marks []
 spread-edge before seeds reach a b exact =
     spread-longer (IsEdge before) (IsEdge (before ++ edge a b ∷ [])) seeds (λ x y. (x ≡ a) × (y ≡ b)) reach.sources reach.marks
@@ -438,7 +438,7 @@ get_or-push_default xs d k = by (cases_order k (length xs))
     by (inr (inr past)) = get_or_past (xs ++ d ∷ []) k d (omega (arith, past, length_push xs d)) ∙ sym (get_or_past xs k d (omega (arith, past)))
 
 -- a class more, without source or mark, leaves a reach exact
-pub IsReach-added : (step : ℕ → ℕ → Type 0) (seeds : List ℕ) (reach : Reached) (spare : ℕ) → IsReach step seeds reach
+pub IsReach-added : (step : ℕ → ℕ → Type 0) (seeds : List ℕ) (reach : PlainReach) (spare : ℕ) → IsReach step seeds reach
     → IsReach step seeds (record { sources = reach.sources ++ None ∷ []; marks = reach.marks ++ false ∷ []; reached = reach.reached; spare = spare; expanded = reach.expanded })
 IsReach-added step seeds reach spare exact = record {
   sources = λ c. rw (get_or-push_default reach.sources None c) (exact.sources c);

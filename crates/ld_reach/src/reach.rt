@@ -30,9 +30,9 @@ pub struct Reach {
 }
 
 impl Model for Reach {
-    ghost use Rattle.ld_reach.specs.Reach.{Reached};
+    ghost use Rattle.ld_reach.specs.Reach.{PlainReach};
 
-    ghost Value = { Reached };
+    ghost Value = { PlainReach };
 
     ghost use Rattle.ld_reach.specs.Inner.Kept.{seen, IsReachKept};
 

@@ -4,7 +4,7 @@ use Rattle.std.proofs.lemmas.List.Elements.{Contains-append_left, Contains-push,
 use Rattle.ld_graph.specs.declared.Edge.{Edge}
 use Rattle.ld_graph.specs.declared.placed.Insert.{Insert}
 use Rattle.ld_graph.specs.declared.placed.Insert.TheVariants.{AfterCycle, Closed, Kept, Known, Moved}
-use Rattle.ld_graph.specs.Edges.{IsEdge, Seen, edge, with_edge}
+use Rattle.ld_graph.specs.Edges.{IsEdge, PlainGraph, edge, with_edge}
 use Rattle.ld_graph.specs.Order.{HasCycle, IsInserted}
 use Rattle.ld_graph.specs.Walks.{HasWalk}
 use Rattle.ld_graph.proofs.WalkLemmas.{Far, HasWalk-Far, IsWalk-Far, IsWalk-same}
@@ -88,22 +88,22 @@ cycle-closed edges a b none cycle =
     )
 
 -- what the closing edge is once an edge was inserted
-module _ (old new : Seen) (a b : ℕ) where
+module _ (old new : PlainGraph) (a b : ℕ) where
   pub closing-closed : IsInserted old a b Closed new → IsCycleEdge new.edges (Some (edge a b))
   closing-closed inserted =
-      let same : new.edges ≡ old.edges ++ edge a b ∷ [] = ap (λ (g : Seen). g.edges) inserted.graph in
+      let same : new.edges ≡ old.edges ++ edge a b ∷ [] = ap (λ (g : PlainGraph). g.edges) inserted.graph in
       subst (λ edges. IsCycleAt edges (edge a b)) (sym same)
       (cycle-closed old.edges a b inserted.no_cycle (subst (λ edges. HasCycle (IsEdge edges)) same inserted.cycle))
 
   grown : (closing : Option Edge) (order : Option (List ℕ)) → new ≡ with_edge old a b order → ¬ HasCycle (IsEdge new.edges) → IsCycleEdge old.edges closing → IsCycleEdge new.edges closing
   grown None order is none closing = no_cycle-none new.edges none
-  grown (Some e) order is none closing = subst (λ edges. IsCycleAt edges e) (sym (ap (λ (g : Seen). g.edges) is)) (cycle-stays old.edges (edge a b) e closing)
+  grown (Some e) order is none closing = subst (λ edges. IsCycleAt edges e) (sym (ap (λ (g : PlainGraph). g.edges) is)) (cycle-stays old.edges (edge a b) e closing)
 
   pub closing-other : (closing : Option Edge) (answer : Insert) → (answer ≡ Closed → ⊥) → IsInserted old a b answer new → IsCycleEdge old.edges closing → IsCycleEdge new.edges closing
-  closing-other closing Known other inserted was = subst (λ (g : Seen). IsCycleEdge g.edges closing) (sym inserted.same) was
+  closing-other closing Known other inserted was = subst (λ (g : PlainGraph). IsCycleEdge g.edges closing) (sym inserted.same) was
   closing-other closing Kept other inserted was = grown closing old.order inserted.graph inserted.no_cycle was
   closing-other closing (Moved expanded) other inserted was = grown closing new.order inserted.graph inserted.no_cycle was
   closing-other closing Closed other inserted was = absurd (other refl)
   closing-other None AfterCycle other inserted was = absurd (was (cycle-some old.edges inserted.cycle))
   closing-other (Some e) AfterCycle other inserted was =
-      subst (λ edges. IsCycleAt edges e) (sym (ap (λ (g : Seen). g.edges) inserted.graph)) (cycle-stays old.edges (edge a b) e was)
+      subst (λ edges. IsCycleAt edges e) (sym (ap (λ (g : PlainGraph). g.edges) inserted.graph)) (cycle-stays old.edges (edge a b) e was)

@@ -8,8 +8,8 @@ use Rattle.std.proofs.Math.Seq.{take-length}
 use Rattle.ld_class.specs.declared.usage.Usage.{Usage}
 use Rattle.ld_class.specs.Usage.{has_bit}
 use Rattle.ld_graph.specs.declared.Edge.{Edge}
-use Rattle.ld_graph.specs.Edges.{IsEdge, Seen, with_spares}
-use Rattle.ld_reach.specs.Reach.{IsReach, IsSource, Reached, source_of}
+use Rattle.ld_graph.specs.Edges.{IsEdge, PlainGraph, with_spares}
+use Rattle.ld_reach.specs.Reach.{IsReach, IsSource, PlainReach, source_of}
 use Rattle.ld_trace.specs.declared.event.State.{State}
 use Rattle.ld_trace.specs.declared.event.State.TheVariants.{Hard, Soft}
 use Rattle.ld_facts.specs.Usage.{Bit, bit_of, usage_of}
@@ -33,23 +33,23 @@ front-then old mid new first next =
     ∙ ap (take (length old)) next
     ∙ first
 
-pub in_front-same : (reach : PerState Reached) → AreInFront reach reach
+pub in_front-same : (reach : PerState PlainReach) → AreInFront reach reach
 in_front-same reach state = take-length (of_state reach state).reached
 
-pub in_front-equal : (old new : PerState Reached) → new.hard.reached ≡ old.hard.reached → new.soft.reached ≡ old.soft.reached → AreInFront old new
+pub in_front-equal : (old new : PerState PlainReach) → new.hard.reached ≡ old.hard.reached → new.soft.reached ≡ old.soft.reached → AreInFront old new
 in_front-equal old new hard soft Hard = ap (take (length old.hard.reached)) hard ∙ take-length old.hard.reached
 in_front-equal old new hard soft Soft = ap (take (length old.soft.reached)) soft ∙ take-length old.soft.reached
 
-pub in_front-then : (old mid new : PerState Reached) → AreInFront old mid → AreInFront mid new → AreInFront old new
+pub in_front-then : (old mid new : PerState PlainReach) → AreInFront old mid → AreInFront mid new → AreInFront old new
 in_front-then old mid new first next state =
     front-then (of_state old state).reached (of_state mid state).reached (of_state new state).reached (first state) (next state)
 
 -- what a state has reached, by both ways to say it
-pub reached_at : (reach : PerState Reached) (state : State) → of_state (reached_by reach) state ≡ (of_state reach state).reached
+pub reached_at : (reach : PerState PlainReach) (state : State) → of_state (reached_by reach) state ≡ (of_state reach state).reached
 reached_at reach Hard = refl
 reached_at reach Soft = refl
 
-pub have_classes : (count : ℕ) (reach : PerState Reached) → length reach.hard.marks ≡ count → length reach.soft.marks ≡ count → HaveClasses count reach
+pub have_classes : (count : ℕ) (reach : PerState PlainReach) → length reach.hard.marks ≡ count → length reach.soft.marks ≡ count → HaveClasses count reach
 have_classes count reach hard soft Hard = hard
 have_classes count reach hard soft Soft = soft
 
@@ -68,7 +68,7 @@ in_bit Soft = refl
 -- one more bit is told
 module _ (edges : List Edge) (before : List ℕ) (state : State) (told : List NewBit) (last : NewBit) where
   -- it is the one that handlers of the state acquire its class, which is a seed now
-  pub seeded-seed : (old new : Reached) → last.bit ≡ usage_of (In state)
+  pub seeded-seed : (old new : PlainReach) → last.bit ≡ usage_of (In state)
       → ((seeds : List ℕ) → IsReach (IsEdge edges) seeds old → IsReach (IsEdge edges) (seeds ++ last.class ∷ []) new)
       → IsSeeded edges before state told old → IsSeeded edges before state (told ++ last ∷ []) new
   seeded-seed old new acquired exact is = record {
@@ -100,7 +100,7 @@ module _ (edges : List Edge) (before : List ℕ) (state : State) (told : List Ne
           by (inr same) = subst (Contains (is.seeds ++ last.class ∷ [])) (ap (λ (b : NewBit). b.class) same) (Contains-push is.seeds last.class)
 
   -- it is another one
-  pub seeded-other : (reach : Reached) → last.bit ≢ usage_of (In state) → IsSeeded edges before state told reach → IsSeeded edges before state (told ++ last ∷ []) reach
+  pub seeded-other : (reach : PlainReach) → last.bit ≢ usage_of (In state) → IsSeeded edges before state told reach → IsSeeded edges before state (told ++ last ∷ []) reach
   seeded-other reach other is = record {
     seeds = is.seeds;
     each = λ c. ((λ there. longer c ((is.each c).0 there)), (λ there. from c there));
@@ -120,7 +120,7 @@ module _ (edges : List Edge) (before : List ℕ) (state : State) (told : List Ne
           by (inr same) = absurd (other (ap (λ (b : NewBit). b.bit) same))
 
 -- nothing is told yet
-pub seeded-none : (edges : List Edge) (seeds : List ℕ) (state : State) (reach : Reached) → IsReach (IsEdge edges) seeds reach → IsSeeded edges seeds state [] reach
+pub seeded-none : (edges : List Edge) (seeds : List ℕ) (state : State) (reach : PlainReach) → IsReach (IsEdge edges) seeds reach → IsSeeded edges seeds state [] reach
 seeded-none edges seeds state reach exact = record {
   seeds = seeds;
   each = λ c. ((λ there. inl there), (λ there. by c there));
@@ -138,7 +138,7 @@ hard≢soft bit hard soft = true≢false (ap (λ u. has_bit u (usage_of (In Hard
 -- a reach whose seeds grew by the bits that came
 pub reach-seeded : (edges : List Edge) (usage more : List Usage) (told : List NewBit) → TellsBits usage more told
     → (state : State) (classes : ℕ) (seeds : List ℕ) → ((c : ℕ) → Contains seeds c ↔ HasBitAt usage c (In state))
-    → (reach : Reached) → length reach.marks ≡ classes → IsSeeded edges seeds state told reach → IsReachOf classes edges more state reach
+    → (reach : PlainReach) → length reach.marks ≡ classes → IsSeeded edges seeds state told reach → IsReachOf classes edges more state reach
 reach-seeded edges usage more told tells state classes seeds seeded reach count is = record {
   count = count;
   seeds = is.seeds;
@@ -158,12 +158,12 @@ reach-seeded edges usage more told tells state classes seeds seeded reach count 
     was c has (inr new) = inr (tells.all c (In state) has new)
 
 -- a reach that stays exact
-pub reach-kept : (classes : ℕ) (edges : List Edge) (usage : List Usage) (state : State) (old new : Reached) → IsReachOf classes edges usage state old
+pub reach-kept : (classes : ℕ) (edges : List Edge) (usage : List Usage) (state : State) (old new : PlainReach) → IsReachOf classes edges usage state old
     → length new.marks ≡ classes → ((seeds : List ℕ) → IsReach (IsEdge edges) seeds old → IsReach (IsEdge edges) seeds new) → IsReachOf classes edges usage state new
 reach-kept classes edges usage state old new is count exact = record { count = count; seeds = is.seeds; seeded = is.seeded; exact = exact is.seeds is.exact }
 
 -- a union whose graph and reaches got other spares
-pub union-kept : (classes : List (List ℕ)) (graph : Seen) (rows : List Witnessed) (usage : List UsageRow) (closing : Option Edge) (reach more : PerState Reached) (spare_classes spare_edges : ℕ)
+pub union-kept : (classes : List (List ℕ)) (graph : PlainGraph) (rows : List Witnessed) (usage : List UsageRow) (closing : Option Edge) (reach more : PerState PlainReach) (spare_classes spare_edges : ℕ)
     → IsUnion classes graph rows usage closing reach → HaveClasses graph.classes more → StayExact (edges_of rows) (edges_of rows) reach more
     → IsUnion classes (with_spares graph spare_classes spare_edges) rows usage closing more
 union-kept classes graph rows usage closing reach more spare_classes spare_edges is count exact = record {
@@ -176,7 +176,7 @@ union-kept classes graph rows usage closing reach more spare_classes spare_edges
   reached = λ state. reach-kept (length classes) (edges_of rows) (bits_of usage) state (of_state reach state) (of_state more state) (is.reached state) (count state ∙ is.count) (exact state);
 }
 
-module _ (classes : ℕ) (edges : List Edge) (usage : List Usage) (state : State) (reach : Reached) (is : IsReachOf classes edges usage state reach) where
+module _ (classes : ℕ) (edges : List Edge) (usage : List Usage) (state : State) (reach : PlainReach) (is : IsReachOf classes edges usage state reach) where
   -- the source of a class
   pub source_at : (class : ℕ) (found : Option ℕ) → found ≡ source_of reach class
       → MatchOption found ((from : ℕ) → ¬ IsSourceAt edges usage state class from) (IsSourceAt edges usage state class)

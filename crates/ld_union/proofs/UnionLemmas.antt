@@ -11,7 +11,7 @@ use Rattle.std.specs.Str.{bytes_eq}
 use Rattle.ld_class.specs.Names.{AreDistinct, IsNameAt, place_of}
 use Rattle.ld_class.proofs.NameLemmas.{place_of-None}
 use Rattle.ld_graph.specs.declared.Edge.{Edge}
-use Rattle.ld_graph.specs.Edges.{IsEdge, IsFirstPlace, edge}
+use Rattle.ld_graph.specs.Edges.{IsEdge, IsEdgeNumber, edge}
 use Rattle.ld_rules.specs.declared.outcome.Witness.{Witness}
 use Rattle.ld_facts.specs.Dependency.{Dependency, same_dependency}
 use Rattle.ld_facts.specs.Union.{earlier}
@@ -59,7 +59,7 @@ module _ (rows : List Witnessed) where
   at_row k d e within = get_or-map (λ r. r.edge) rows k d e within
 
   -- the row of an edge that was found
-  pub found_row : (a b n : ℕ) → IsFirstPlace (edges_of rows) a b n → (n < length rows) × ((d : Witnessed) → (get_or rows n d).edge ≡ edge a b)
+  pub found_row : (a b n : ℕ) → IsEdgeNumber (edges_of rows) a b n → (n < length rows) × ((d : Witnessed) → (get_or rows n d).edge ≡ edge a b)
   found_row a b n found =
       let within : n < length rows = subst (λ m. n < m) (sym length_rows) (slice_get_within (edges_of rows) n (edge a b) found.there) in
       (within, λ d. sym (at_row n d (edge a b) within) ∙ get_or_from_slice_get (edges_of rows) n (edge a b) (edge a b) found.there)
@@ -128,7 +128,7 @@ module _ (classes : List (List ℕ)) (rows : List Witnessed) (is : AreBetween cl
         (same ∙ (λ i. record { from = sym from.1 i; to = sym to.1 i })))))
 
     -- the witness of an edge that was found
-    pub first_at : (a b n : ℕ) (d : Witnessed) → IsNameAt classes a what.from → IsNameAt classes b what.to → IsFirstPlace (edges_of rows) a b n → Some (get_or rows n d).first ≡ first what
+    pub first_at : (a b n : ℕ) (d : Witnessed) → IsNameAt classes a what.from → IsNameAt classes b what.to → IsEdgeNumber (edges_of rows) a b n → Some (get_or rows n d).first ≡ first what
     first_at a b n d from to found =
         let at = found_row rows a b n found in
         sym (witnessed.each n d at.0) ∙ ap (λ e. first (named_edge classes e)) (at.1 d) ∙ ap first (λ i. record { from = from.1 i; to = to.1 i })

@@ -14,7 +14,7 @@ ghost use Rattle.ld_facts.specs.Facts.{IsKnown};
 ghost use Rattle.ld_facts.specs.Usage.{IsBit};
 ghost use Rattle.ld_facts.specs.Union.{dependencies_of};
 ghost use Rattle.ld_union.specs.Inner.Names.{ArePlaces};
-ghost use Rattle.ld_graph.specs.Edges.{Seen};
+ghost use Rattle.ld_graph.specs.Edges.{PlainGraph};
 ghost use Rattle.ld_graph.specs.Order.{IsInserted};
 ghost use Rattle.ld_union.specs.Inner.Union.{AreBetween, AreWitnessed, IsCycleEdge, edges_of, named_edge};
 ghost use Rattle.ld_union.specs.Inner.Union.{with_dependencies, with_seen};
@@ -235,7 +235,7 @@ impl Dependencies {
 
 /// The edge with which the first cycle came, once the insert of an edge gave this answer.
 fn closing_then(closing: Option<Edge>, edge: Edge, answer: Insert) -> Option<Edge>
-    ensures { (old new : Seen) → IsInserted old edge.from edge.to answer new
+    ensures { (old new : PlainGraph) → IsInserted old edge.from edge.to answer new
         → IsCycleEdge old.edges closing → IsCycleEdge new.edges result }
 {
     match answer {

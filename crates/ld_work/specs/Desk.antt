@@ -23,7 +23,7 @@ sum_of tallies = record {
 
 -- The source's number wasn't listed. The list has the source at its end, and the feeder's tally has
 -- risen by the one trace and its events (none where it is refused).
-pub record Adds (source : PlainSource) (list list' : List PlainSource) (tally tally' : Tally) : Type 0 where
+pub record IsSubmitted (source : PlainSource) (list list' : List PlainSource) (tally tally' : Tally) : Type 0 where
   pub unlisted : is_listed list source.number ≡ false
   pub listed : list' ≡ list ++ source ∷ []
   pub counted : tally' ≡ plus tally (tally_of (source ∷ []))
@@ -31,4 +31,4 @@ pub record Adds (source : PlainSource) (list list' : List PlainSource) (tally ta
 -- an event of the desk machine, by one feeder: it adds a source, or nothing changes
 abbrev pub IsEvent : List PlainSource → List PlainSource → Tally → Tally → Type 0
 IsEvent list list' tally tally' =
-    ((list' ≡ list) × (tally' ≡ tally)) ⊎ ((source : PlainSource) × Adds source list list' tally tally')
+    ((list' ≡ list) × (tally' ≡ tally)) ⊎ ((source : PlainSource) × IsSubmitted source list list' tally tally')

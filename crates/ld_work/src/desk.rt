@@ -3,7 +3,7 @@ ghost use Rattle.std.specs.Prelude.{◌≡◌, ◌≢◌, ◌≤◌, ◌↔◌, 
 ghost use Rattle.std.specs.Prelude.{IfErr, IfOk, IsErr, OnErr, OnOk};
 ghost use Rattle.ld_book.specs.Book.{is_listed};
 ghost use Rattle.ld_book.specs.Totals.{events};
-ghost use Rattle.ld_work.specs.Desk.{Adds, IsEvent, sum_of, tally_of};
+ghost use Rattle.ld_work.specs.Desk.{IsSubmitted, IsEvent, sum_of, tally_of};
 
 use crate::feeder::{Feeder, MOST_FEEDERS, Tally};
 use ld_book::{Book, Refusal};
@@ -40,10 +40,10 @@ impl<'a, T: Ledger, E: Ledger> Model for Locked<'a, T, E> {
 }
 
 impl<'a, T: Ledger, E: Ledger> Locked<'a, T, E> {
-    /// Adds a trace to the book, and to the tally of the feeder.
+    /// IsSubmitted a trace to the book, and to the tally of the feeder.
     fn submit(&mut self, feeder: &mut Feeder<T, E>, facts: Facts<'a>) -> Result<(), Refusal<'a>>
         ensures ok { OnOk result
-            (Adds facts.entry.source self.old self.new feeder.old feeder.new) }
+            (IsSubmitted facts.entry.source self.old self.new feeder.old feeder.new) }
         ensures err { OnErr result (self.new ≡ self.old) }
         ensures not_counted { OnErr result (feeder.new ≡ feeder.old) }
         ensures twice { is_listed self.old facts.entry.source.number ≡ true
@@ -218,14 +218,14 @@ impl<'d, 'a, T: Ledger, E: Ledger> Look<'d, 'a, T, E> {
         &self.guard.book
     }
 
-    /// Adds a trace to the desk's book, as `Book::add` does, and counts it in the feeder's tally.
+    /// IsSubmitted a trace to the desk's book, as `Book::add` does, and counts it in the feeder's tally.
     ///
     /// # Errors
     ///
     /// Those of `Book::add`: the facts come back, and the book and the tally are as before.
     pub fn submit(&mut self, feeder: &mut Feeder<T, E>, facts: Facts<'a>) -> Result<(), Refusal<'a>>
         ensures ok { OnOk result
-            (Adds facts.entry.source self.old self.new feeder.old feeder.new) }
+            (IsSubmitted facts.entry.source self.old self.new feeder.old feeder.new) }
         ensures err { OnErr result (self.new ≡ self.old) }
         ensures not_counted { OnErr result (feeder.new ≡ feeder.old) }
         ensures twice { is_listed self.old facts.entry.source.number ≡ true

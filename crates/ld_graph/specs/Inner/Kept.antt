@@ -3,7 +3,7 @@ use Rattle.std.specs.Prelude.{◌≡◌, ◌↔◌, ℕ, ◌+◌, ◌<◌, ◌�
 use Rattle.std.specs.Prelude.{Bool, true, false, List, slice_index}
 use Rattle.indexmap.specs.IndexSet.{spare}
 use Rattle.ld_graph.specs.declared.graph.Graph.TheInside.{Inside}
-use Rattle.ld_graph.specs.Edges.{IsEdge, Seen}
+use Rattle.ld_graph.specs.Edges.{IsEdge, PlainGraph}
 use Rattle.ld_graph.specs.Lists.{IsNear}
 use Rattle.ld_graph.specs.Order.{HasCycle}
 
@@ -13,7 +13,7 @@ order_of true ranks = None
 order_of false ranks = Some ranks
 
 -- what callers see of the fields
-abbrev pub seen : Inside → Seen
+abbrev pub seen : Inside → PlainGraph
 seen g = record {
   classes = g.classes;
   edges = g.edges.keys;

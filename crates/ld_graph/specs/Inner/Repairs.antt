@@ -18,10 +18,10 @@ abbrev pub picked : (ℕ → Bool) → (ℕ → ℕ) → ℕ → List ℕ
 picked p item zero = []
 picked p item (suc n) = if p n then picked p item n ++ item n ∷ [] else picked p item n
 
--- the place that place i of m goes to where those that pass the test go to the front, and all keep
+-- the offset that offset i of m goes to where those that pass the test go to the front, and all keep
 -- their order
-abbrev pub split_place : (ℕ → Bool) → (m i : ℕ) → ℕ
-split_place p m i = if p i then count p i else count p m + count (λ k. not (p k)) i
+abbrev pub split_offset : (ℕ → Bool) → (m i : ℕ) → ℕ
+split_offset p m i = if p i then count p i else count p m + count (λ k. not (p k)) i
 
 -- the items in their new order
 abbrev pub split : (ℕ → Bool) → (ℕ → ℕ) → ℕ → List ℕ
@@ -32,10 +32,10 @@ pub record Sought : Type 0 where
   pub found : List ℕ
   pub size : ℕ
 
--- the place was there, or is the last now
+-- the offset was there, or is the last now
 abbrev pub IsAdded : List ℕ → ℕ → List ℕ → Type 0
-IsAdded old place new = (Contains old place × (new ≡ old))
-    ⊎ ((¬ Contains old place) × (new ≡ old ++ place ∷ []))
+IsAdded old offset new = (Contains old offset × (new ≡ old))
+    ⊎ ((¬ Contains old offset) × (new ≡ old ++ offset ∷ []))
 
 -- the rank is one of so many from the least one on
 abbrev pub IsInside : (low len rank : ℕ) → Type 0
@@ -82,7 +82,7 @@ HasEnded Before sides ranks low row behind ahead =
 HasEnded After sides ranks low row behind ahead =
     IsClosed (IsNear sides.after.lists) ranks low row ahead (length ahead)
 
--- the place is one of those that were found, or is none of them
+-- the offset is one of those that were found, or is none of them
 abbrev pub is_part : List ℕ → Bool → ℕ → Bool
 is_part found true k = list_any (nat_eq k) found
 is_part found false k = not (list_any (nat_eq k) found)
@@ -92,13 +92,13 @@ abbrev pub in_front : Side → (behind ahead : List ℕ) → ℕ → Bool
 in_front Before behind ahead = is_part behind true
 in_front After behind ahead = is_part ahead false
 
--- the search that ended has found the place that the other one began at
+-- the search that ended has found the offset that the other one began at
 abbrev pub HasMet : Side → (len : ℕ) → (behind ahead : List ℕ) → Type 0
 HasMet Before len behind ahead = Contains behind 0
 HasMet After len behind ahead = Contains ahead (len - 1)
 
 -- the first n of these classes have the ranks from the least one on, and all else is as before
-pub record IsGiven (moved : List ℕ) (low n : ℕ) (ranks classes new_ranks new_classes : List ℕ) : Type 0 where
+pub record AreRanked (moved : List ℕ) (low n : ℕ) (ranks classes new_ranks new_classes : List ℕ) : Type 0 where
   pub rank_at : (k : ℕ) → k < n → slice_index new_ranks (slice_index moved k) ≡ low + k
   pub rank_else : (c : ℕ) → ((k : ℕ) → k < n → slice_index moved k ≢ c)
       → slice_index new_ranks c ≡ slice_index ranks c

@@ -3,10 +3,10 @@
 use Rattle.std.specs.Prelude.{◌≡◌, ◌⊎◌, ◌↔◌, ℕ, ◌+◌, ◌<◌, ◌≤◌, ◌^◌, Bool, true, false, List, length, Option, None, Some, IsSome, Contains, slice_index_or, slice_set, nat_eq, [], ◌∷◌, ◌++◌, is_none, count_by, vec_len, vec_capacity}
 use Rattle.std.specs.List.{IsDistinct}
 use Rattle.ld_reach.specs.declared.reach.Reach.TheInside.{Inside}
-use Rattle.ld_reach.specs.Reach.{IsSource, Reached}
+use Rattle.ld_reach.specs.Reach.{IsSource, PlainReach}
 
 -- what callers see of the fields
-abbrev pub seen : Inside → Reached
+abbrev pub seen : Inside → PlainReach
 seen r = record {
   sources = r.sources.items;
   marks = r.marks.items;

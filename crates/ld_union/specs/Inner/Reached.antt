@@ -5,7 +5,7 @@ use Rattle.ld_class.specs.declared.usage.Usage.{Usage}
 use Rattle.ld_graph.specs.declared.Edge.{Edge}
 use Rattle.ld_graph.specs.Edges.{IsEdge}
 use Rattle.ld_graph.specs.Walks.{HasWalk}
-use Rattle.ld_reach.specs.Reach.{IsReach, Reached}
+use Rattle.ld_reach.specs.Reach.{IsReach, PlainReach}
 use Rattle.ld_trace.specs.declared.event.State.{State}
 use Rattle.ld_facts.specs.Usage.Bit.{In}
 use Rattle.ld_union.specs.declared.news.NewBit.{NewBit}
@@ -19,7 +19,7 @@ IsSourceAt edges usage state class from = HasBitAt usage from (In state) × HasW
 
 -- What a union keeps true of the reach of a state: it has each class, and is exact for the edges and for some
 -- seeds, which are the classes that handlers of the state acquire.
-pub record IsReachOf (classes : ℕ) (edges : List Edge) (usage : List Usage) (state : State) (reach : Reached) : Type 0 where
+pub record IsReachOf (classes : ℕ) (edges : List Edge) (usage : List Usage) (state : State) (reach : PlainReach) : Type 0 where
   pub count : length reach.marks ≡ classes
   pub seeds : List ℕ
   pub seeded : (c : ℕ) → Contains seeds c ↔ HasBitAt usage c (In state)
@@ -27,25 +27,25 @@ pub record IsReachOf (classes : ℕ) (edges : List Edge) (usage : List Usage) (s
 
 -- The reach of a state is exact for some seeds: for these, and for the classes of the told bits of which
 -- handlers of the state acquire them.
-pub record IsSeeded (edges : List Edge) (before : List ℕ) (state : State) (told : List NewBit) (reach : Reached) : Type 0 where
+pub record IsSeeded (edges : List Edge) (before : List ℕ) (state : State) (told : List NewBit) (reach : PlainReach) : Type 0 where
   pub seeds : List ℕ
   pub each : (c : ℕ) → Contains seeds c ↔ (Contains before c ⊎ Contains told (new_bit c (In state)))
   pub exact : IsReach (IsEdge edges) seeds reach
 
 -- both have so many classes
-abbrev pub HaveClasses : ℕ → PerState Reached → Type 0
+abbrev pub HaveClasses : ℕ → PerState PlainReach → Type 0
 HaveClasses count reach = (state : State) → length (of_state reach state).marks ≡ count
 
 -- both stay exact for their seeds, where these edges become those
-abbrev pub StayExact : List Edge → List Edge → PerState Reached → PerState Reached → Type 0
+abbrev pub StayExact : List Edge → List Edge → PerState PlainReach → PerState PlainReach → Type 0
 StayExact before after old new = (state : State) (seeds : List ℕ)
     → IsReach (IsEdge before) seeds (of_state old state) → IsReach (IsEdge after) seeds (of_state new state)
 
 -- what each had reached stands in front of what it has reached now
-abbrev pub AreInFront : PerState Reached → PerState Reached → Type 0
+abbrev pub AreInFront : PerState PlainReach → PerState PlainReach → Type 0
 AreInFront old new = (state : State)
     → take (length (of_state old state).reached) (of_state new state).reached ≡ (of_state old state).reached
 
 -- what each has reached
-abbrev pub reached_by : PerState Reached → PerState (List ℕ)
+abbrev pub reached_by : PerState PlainReach → PerState (List ℕ)
 reached_by reach = record { hard = reach.hard.reached; soft = reach.soft.reached }

@@ -8,7 +8,7 @@ use Rattle.ld_trace.specs.Sources.{PlainSource}
 use Rattle.ld_graph.specs.declared.Edge.{Edge}
 use Rattle.ld_graph.specs.Edges as graphs
 use Rattle.ld_graph.specs.Walks.{HasWalk}
-use Rattle.ld_reach.specs.Reach.{Reached}
+use Rattle.ld_reach.specs.Reach.{PlainReach}
 use Rattle.ld_rules.specs.declared.outcome.Witness.{Witness}
 use Rattle.ld_facts.specs.Dependency.{Dependency, Seen, least_line, same_dependency}
 use Rattle.ld_facts.specs.Union.{classes_of, dependency_witness, earlier, union_classes, use_witness}
@@ -102,7 +102,7 @@ IsCycleEdge edges closing = MatchOption closing (¬ ((e : Edge) × IsCycleAt edg
 
 -- What a union keeps true of its fields: the graph has the classes and the edges, each class has a row of
 -- usage, and for each state it is known what is reached.
-pub record IsUnion (classes : List (List ℕ)) (graph : graphs.Seen) (dependencies : List Witnessed) (usage : List UsageRow) (closed_by : Option Edge) (reach : PerState Reached) : Type 0 where
+pub record IsUnion (classes : List (List ℕ)) (graph : graphs.PlainGraph) (dependencies : List Witnessed) (usage : List UsageRow) (closed_by : Option Edge) (reach : PerState PlainReach) : Type 0 where
   pub numbered : AreBetween classes dependencies
   pub few : length classes ≤ MAX_NAMES
   pub count : graph.classes ≡ length classes

@@ -7,15 +7,15 @@ use Rattle.ld_graph.proofs.repair.append_part.Goals as goal
 
 pub unreachable-requires : goal.unreachable-requires
 unreachable-requires c =
-    let here : is_part c.args.search.now.found c.args.found c.loop-place.place ≡ true =
-    part_here c.args.search.now.found c.args.found c.has.result c.loop-place.place c.has.ensures
+    let here : is_part c.args.search.now.found c.args.found c.loop-offset.offset ≡ true =
+    part_here c.args.search.now.found c.args.found c.has.result c.loop-offset.offset c.has.ensures
     c.if-has-found.true in
-    let i = c.loop-place.invariant in
-    let s = count-step (is_part c.args.search.now.found c.args.found) c.loop-place.place
-    (length c.args.row.now) here c.loop-place-test.true in
+    let i = c.loop-offset.invariant in
+    let s = count-step (is_part c.args.search.now.found c.args.found) c.loop-offset.offset
+    (length c.args.row.now) here c.loop-offset-test.true in
     let l = ap length i.items ∙ length-append c.args.moved.now.items
     (picked (is_part c.args.search.now.found c.args.found) (λ k. get_or c.args.row.now k 0)
-    c.loop-place.place) in
+    c.loop-offset.offset) in
     let k = length-picked (is_part c.args.search.now.found c.args.found) (λ k. get_or
-    c.args.row.now k 0) c.loop-place.place in
+    c.args.row.now k 0) c.loop-offset.offset in
     omega (arith, s, l, k, i.capacity, c.requires.room, c.in_default.ensures.full)

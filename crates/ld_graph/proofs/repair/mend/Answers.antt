@@ -1,5 +1,5 @@
 use Rattle.std.proofs.Common.{◌≢◌, ◌+◌, ◌<◌, ◌≤◌, ℕ, get_or, length, refl, subst, sym}
-use Rattle.ld_graph.specs.Inner.Repairs.{IsGiven, Reached}
+use Rattle.ld_graph.specs.Inner.Repairs.{AreRanked, Reached}
 use Rattle.ld_graph.specs.Lists.{IsNear}
 use Rattle.ld_graph.proofs.MendLemmas.{mended, mended_inverse, moved_ends, moved_once, moved_within}
 use Rattle.ld_graph.proofs.MendLemmas.{row_end, row_first}
@@ -61,7 +61,7 @@ returns-clause-ranks c =
     c.requires.against c.requires.rises c.requires.ends
     c.plan.new.space.moved.items c.in_ok-expanded.expanded c.in_ok-expanded.ensures.plan
     c.give_ranks.new.ranks c.give_ranks.new.classes
-    (subst (λ z. IsGiven z (get_or c.args.ranks.now c.args.b 0) (length z) c.args.ranks.now
+    (subst (λ z. AreRanked z (get_or c.args.ranks.now c.args.b 0) (length z) c.args.ranks.now
     c.args.classes.now c.give_ranks.new.ranks c.give_ranks.new.classes) c.deref.ensures.value
     c.give_ranks.ensures) c.give_ranks.auto.ranks c.give_ranks.auto.classes
 
@@ -73,6 +73,6 @@ returns-clause-inverse c =
     c.requires.against c.requires.rises c.requires.ends
     c.plan.new.space.moved.items c.in_ok-expanded.expanded c.in_ok-expanded.ensures.plan
     c.give_ranks.new.ranks c.give_ranks.new.classes
-    (subst (λ z. IsGiven z (get_or c.args.ranks.now c.args.b 0) (length z) c.args.ranks.now
+    (subst (λ z. AreRanked z (get_or c.args.ranks.now c.args.b 0) (length z) c.args.ranks.now
     c.args.classes.now c.give_ranks.new.ranks c.give_ranks.new.classes) c.deref.ensures.value
     c.give_ranks.ensures) c.give_ranks.auto.ranks c.give_ranks.auto.classes

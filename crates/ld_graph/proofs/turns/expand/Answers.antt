@@ -14,22 +14,22 @@ pub loop-x-preserved : goal.loop-x-preserved
 loop-x-preserved c =
     let i = c.loop-x.invariant in
     let x = get_or c.args.near.now c.loop-x.x-index 0 in
-    elim c.match-place_of.branch [
+    elim c.match-offset_of.branch [
       | in-Some w ↦ rw w.search-is (record {
         size = w.add.ensures.size ∙ i.size;
         grown = IsGrown-added (Contains c.args.near.now) (λ y. get_or c.args.ranks.now y 0)
             c.args.low c.args.len c.args.search.now.found c.loop-x.search.found
-            w.add.new.self.found (get_or c.args.near.now c.loop-x.x-index 0) w.in-Some.place
+            w.add.new.self.found (get_or c.args.near.now c.loop-x.x-index 0) w.in-Some.offset
             i.grown (Contains-get_or c.args.near.now c.loop-x.x-index 0 c.loop-x-test.true)
             w.in-Some.ensures.0 w.in-Some.ensures.1 w.add.ensures.found;
         taken = below_more _ _
-            (λ k b inside. added_keeps c.loop-x.search.found w.add.new.self.found w.in-Some.place
+            (λ k b inside. added_keeps c.loop-x.search.found w.add.new.self.found w.in-Some.offset
             _ w.add.ensures.found (i.taken k b inside))
             (λ inside. let e = w.in-Some.ensures.0 in
-            let s : w.in-Some.place ≡ get_or c.args.ranks.now (get_or c.args.near.now
+            let s : w.in-Some.offset ≡ get_or c.args.ranks.now (get_or c.args.near.now
             c.loop-x.x-index 0) 0 - c.args.low = omega (arith, e) in
             subst (Contains w.add.new.self.found) s (added_has c.loop-x.search.found
-            w.add.new.self.found w.in-Some.place w.add.ensures.found));
+            w.add.new.self.found w.in-Some.offset w.add.ensures.found));
       })
       | in_default w ↦ rw w.search-is (record {
         size = i.size;

@@ -6,7 +6,7 @@ use Rattle.ld_graph.proofs.turns.search_in_turn.Goals as goal
 pub bounds-row-last : goal.bounds-row-last
 bounds-row-last c = c.loop-low.invariant.behind.within c.offset-last.result (Contains-read
     c.loop-low.behind.found c.loop-low.done c.offset-last.result
-    c.loop-low.invariant.upto_behind c.offset-last.ensures.place)
+    c.loop-low.invariant.upto_behind c.offset-last.ensures.offset)
 
 pub before-near-requires-clause-few : goal.before-near-requires-clause-few
 before-near-requires-clause-few c =
@@ -23,7 +23,7 @@ expand-requires-clause-ends c = λ x n. c.requires.before (get_or c.args.row.now
 pub bounds-row-first : goal.bounds-row-first
 bounds-row-first c = c.loop-low.invariant.ahead.within c.offset-first.result (Contains-read
     c.loop-low.ahead.found c.loop-low.done c.offset-first.result
-    c.loop-low.invariant.upto c.offset-first.ensures.place)
+    c.loop-low.invariant.upto c.offset-first.ensures.offset)
 
 pub overflow_add-done : goal.overflow_add-done
 overflow_add-done c =
@@ -38,7 +38,7 @@ returns-then-ends_at-clause-behind c =
     turn_sought c.args.lists.now.before.lists c.args.ranks.now c.args.low c.args.row.now
     c.requires.row c.requires.before c.loop-low.done c.offset-last.result c.before-near.result.now
     c.before-near.ensures.near c.loop-low.behind.found c.expand.new.search.found
-    c.loop-low.invariant.upto_behind c.offset-last.ensures.place c.expand.ensures.grown
+    c.loop-low.invariant.upto_behind c.offset-last.ensures.offset c.expand.ensures.grown
     (length c.args.row.now - 1) c.loop-low.invariant.behind
 
 pub returns-then-ends_at-clause-ended : goal.returns-then-ends_at-clause-ended
@@ -48,7 +48,7 @@ returns-then-ends_at-clause-ended c =
     let closed = turn_closed c.args.lists.now.before.lists c.args.ranks.now c.args.low
     c.args.row.now c.requires.row c.requires.before c.loop-low.done c.offset-last.result
     c.before-near.result.now c.before-near.ensures.near c.loop-low.behind.found
-    c.expand.new.search.found c.loop-low.invariant.upto_behind c.offset-last.ensures.place
+    c.expand.new.search.found c.loop-low.invariant.upto_behind c.offset-last.ensures.offset
     c.expand.ensures.grown c.loop-low.invariant.behind_closed c.expand.ensures.taken in
     λ i y l. closed i y (omega (arith, l, few))
 
@@ -56,7 +56,7 @@ pub after-near-requires-clause-class : goal.after-near-requires-clause-class
 after-near-requires-clause-class c =
     let b = c.loop-low.invariant.ahead.within c.offset-first.result (Contains-read
     c.loop-low.ahead.found c.loop-low.done c.offset-first.result
-    c.loop-low.invariant.upto c.offset-first.ensures.place) in
+    c.loop-low.invariant.upto c.offset-first.ensures.offset) in
     let at = (c.requires.row.at c.offset-first.result b).0 in
     omega (arith, at, c.requires.classes.0)
 
@@ -85,7 +85,7 @@ returns-then-ends_at-2-clause-behind c =
     turn_sought c.args.lists.now.before.lists c.args.ranks.now c.args.low c.args.row.now
     c.requires.row c.requires.before c.loop-low.done c.offset-last.result c.before-near.result.now
     c.before-near.ensures.near c.loop-low.behind.found c.expand.new.search.found
-    c.loop-low.invariant.upto_behind c.offset-last.ensures.place c.expand.ensures.grown
+    c.loop-low.invariant.upto_behind c.offset-last.ensures.offset c.expand.ensures.grown
     (length c.args.row.now - 1) c.loop-low.invariant.behind
 
 pub returns-then-ends_at-2-clause-ahead : goal.returns-then-ends_at-2-clause-ahead
@@ -93,7 +93,7 @@ returns-then-ends_at-2-clause-ahead c =
     turn_sought c.args.lists.now.after.lists c.args.ranks.now c.args.low c.args.row.now
     c.requires.row c.requires.after c.loop-low.done c.offset-first.result c.after-near.result.now
     c.after-near.ensures.near c.loop-low.ahead.found c.expand-in-loop-low.new.search.found
-    c.loop-low.invariant.upto c.offset-first.ensures.place c.expand-in-loop-low.ensures.grown
+    c.loop-low.invariant.upto c.offset-first.ensures.offset c.expand-in-loop-low.ensures.grown
     0 c.loop-low.invariant.ahead
 
 pub returns-then-ends_at-2-clause-ended : goal.returns-then-ends_at-2-clause-ended
@@ -103,7 +103,7 @@ returns-then-ends_at-2-clause-ended c =
     let closed = turn_closed c.args.lists.now.after.lists c.args.ranks.now c.args.low
     c.args.row.now c.requires.row c.requires.after c.loop-low.done c.offset-first.result
     c.after-near.result.now c.after-near.ensures.near c.loop-low.ahead.found
-    c.expand-in-loop-low.new.search.found c.loop-low.invariant.upto c.offset-first.ensures.place
+    c.expand-in-loop-low.new.search.found c.loop-low.invariant.upto c.offset-first.ensures.offset
     c.expand-in-loop-low.ensures.grown c.loop-low.invariant.ahead_closed
     c.expand-in-loop-low.ensures.taken in
     λ i y l. closed i y (omega (arith, l, few))
@@ -136,22 +136,22 @@ loop-low-preserved c =
       behind = turn_sought c.args.lists.now.before.lists c.args.ranks.now c.args.low c.args.row.now
           c.requires.row c.requires.before c.loop-low.done c.offset-last.result c.before-near.result.now
           c.before-near.ensures.near c.loop-low.behind.found c.expand.new.search.found
-          c.loop-low.invariant.upto_behind c.offset-last.ensures.place c.expand.ensures.grown
+          c.loop-low.invariant.upto_behind c.offset-last.ensures.offset c.expand.ensures.grown
           (length c.args.row.now - 1) c.loop-low.invariant.behind;
       ahead = turn_sought c.args.lists.now.after.lists c.args.ranks.now c.args.low c.args.row.now
           c.requires.row c.requires.after c.loop-low.done c.offset-first.result c.after-near.result.now
           c.after-near.ensures.near c.loop-low.ahead.found c.expand-in-loop-low.new.search.found
-          c.loop-low.invariant.upto c.offset-first.ensures.place c.expand-in-loop-low.ensures.grown
+          c.loop-low.invariant.upto c.offset-first.ensures.offset c.expand-in-loop-low.ensures.grown
           0 c.loop-low.invariant.ahead;
       behind_closed = turn_closed c.args.lists.now.before.lists c.args.ranks.now c.args.low
           c.args.row.now c.requires.row c.requires.before c.loop-low.done c.offset-last.result
           c.before-near.result.now c.before-near.ensures.near c.loop-low.behind.found
-          c.expand.new.search.found c.loop-low.invariant.upto_behind c.offset-last.ensures.place
+          c.expand.new.search.found c.loop-low.invariant.upto_behind c.offset-last.ensures.offset
           c.expand.ensures.grown c.loop-low.invariant.behind_closed c.expand.ensures.taken;
       ahead_closed = turn_closed c.args.lists.now.after.lists c.args.ranks.now c.args.low
           c.args.row.now c.requires.row c.requires.after c.loop-low.done c.offset-first.result
           c.after-near.result.now c.after-near.ensures.near c.loop-low.ahead.found
-          c.expand-in-loop-low.new.search.found c.loop-low.invariant.upto c.offset-first.ensures.place
+          c.expand-in-loop-low.new.search.found c.loop-low.invariant.upto c.offset-first.ensures.offset
           c.expand-in-loop-low.ensures.grown c.loop-low.invariant.ahead_closed
           c.expand-in-loop-low.ensures.taken;
     }

@@ -16,6 +16,6 @@ invariant-loop-low l = record {
   ahead_closed : IsClosed (IsNear l.lists.after.lists) l.ranks l.low l.row l.ahead.found l.done;
 }
 
--- each place is expanded once
+-- each offset is expanded once
 abbrev pub decreases-loop-low : goal.decreases-loop-low
 decreases-loop-low l = length l.row - l.done

@@ -2,7 +2,7 @@ use Rattle.std.proofs.Common.{◌-◌, ◌∷◌, [], ap, arith, cond, false, is
 use Rattle.std.proofs.lemmas.List.Sums.{sum_by-append}
 use Rattle.ld_graph.specs.Edges.{IsEdge}
 use Rattle.ld_reach.specs.Inner.Kept.{seen}
-use Rattle.ld_reach.specs.Reach.{IsReach, Reached}
+use Rattle.ld_reach.specs.Reach.{IsReach, PlainReach}
 use Rattle.ld_reach.proofs.ReachLemmas.{AreReached-added, IsReach-added}
 use Rattle.ld_reach.proofs.reach.Reach.add_class.Goals as goal
 
@@ -14,7 +14,7 @@ returns-clause-exact c = λ edges seeds exact.
 pub invariant_of-self : goal.invariant_of-self
 invariant_of-self c =
     let i = c.self.invariant in
-    let less = ap (λ (r : Reached). r.spare) c.self.view_is in
+    let less = ap (λ (r : PlainReach). r.spare) c.self.view_is in
     let sources = sum_by-append (λ (o : Option ℕ). cond {A = ℕ} (is_none o) 1 0) c.self.inside.sources.items (None ∷ []) in
     let marks = sum_by-append (λ m. cond {A = ℕ} m 1 0) c.self.inside.marks.items (false ∷ []) in
     record {

@@ -1,6 +1,6 @@
 use Rattle.std.proofs.Common.{◌≡◌, ◌++◌, ◌∷◌, [], ◌<◌, ◌∙◌, refl, ap, subst, sym, take}
 use Rattle.std.proofs.lemmas.List.{get_or_read, map-append}
-use Rattle.ld_graph.specs.Edges.{IsEdge, IsFirstPlace, Seen, with_edge}
+use Rattle.ld_graph.specs.Edges.{IsEdge, IsEdgeNumber, PlainGraph, with_edge}
 use Rattle.ld_reach.specs.Reach.{IsReach}
 use Rattle.ld_facts.specs.Union.{earlier}
 use Rattle.ld_union.specs.declared.dependencies.Witnessed.{Witnessed}
@@ -14,7 +14,7 @@ returns-in-Some-clause-edges c =
     let rows = c.args.self.now.rows.items in
     let e = c.args.edge in
     let known = c.index_mut-known.result.now in
-    let at = found_row rows e.from e.to c.in-Some.number (subst (λ edges. IsFirstPlace edges e.from e.to c.in-Some.number) c.requires.edges c.in-Some.ensures) in
+    let at = found_row rows e.from e.to c.in-Some.number (subst (λ edges. IsEdgeNumber edges e.from e.to c.in-Some.number) c.requires.edges c.in-Some.ensures) in
     c.requires.edges ∙ sym (edges-set rows c.in-Some.number e at.0 at.1 _ (ap (λ (row : Witnessed). row.edge) c.index_mut-known.ensures.value ∙ at.1 known))
 
 pub returns-in-Some-clause-front : goal.returns-in-Some-clause-front
@@ -22,7 +22,7 @@ returns-in-Some-clause-front c n within =
     let rows = c.args.self.now.rows.items in
     let e = c.args.edge in
     let known = c.index_mut-known.result.now in
-    let at = found_row rows e.from e.to c.in-Some.number (subst (λ edges. IsFirstPlace edges e.from e.to c.in-Some.number) c.requires.edges c.in-Some.ensures) in
+    let at = found_row rows e.from e.to c.in-Some.number (subst (λ edges. IsEdgeNumber edges e.from e.to c.in-Some.number) c.requires.edges c.in-Some.ensures) in
     ap (take n) (edges-set rows c.in-Some.number e at.0 at.1 _ (ap (λ (row : Witnessed). row.edge) c.index_mut-known.ensures.value ∙ at.1 known))
 
 pub returns-in-Some-clause-numbered : goal.returns-in-Some-clause-numbered
@@ -30,7 +30,7 @@ returns-in-Some-clause-numbered c classes count numbered =
     let rows = c.args.self.now.rows.items in
     let e = c.args.edge in
     let known = c.index_mut-known.result.now in
-    let at = found_row rows e.from e.to c.in-Some.number (subst (λ edges. IsFirstPlace edges e.from e.to c.in-Some.number) c.requires.edges c.in-Some.ensures) in
+    let at = found_row rows e.from e.to c.in-Some.number (subst (λ edges. IsEdgeNumber edges e.from e.to c.in-Some.number) c.requires.edges c.in-Some.ensures) in
     numbered-set classes rows numbered c.in-Some.number e at.0 at.1 _ (ap (λ (row : Witnessed). row.edge) c.index_mut-known.ensures.value ∙ at.1 known)
 
 pub returns-in-Some-clause-noted : goal.returns-in-Some-clause-noted
@@ -38,7 +38,7 @@ returns-in-Some-clause-noted c classes count numbered first witnessed =
     let rows = c.args.self.now.rows.items in
     let e = c.args.edge in
     let known = c.index_mut-known.result.now in
-    let at = found_row rows e.from e.to c.in-Some.number (subst (λ edges. IsFirstPlace edges e.from e.to c.in-Some.number) c.requires.edges c.in-Some.ensures) in
+    let at = found_row rows e.from e.to c.in-Some.number (subst (λ edges. IsEdgeNumber edges e.from e.to c.in-Some.number) c.requires.edges c.in-Some.ensures) in
     witnessed-set classes rows numbered c.in-Some.number e at.0 at.1 _ (ap (λ (row : Witnessed). row.edge) c.index_mut-known.ensures.value ∙ at.1 known) c.args.witness
     (c.earlier-known.ensures ∙ ap (λ (row : Witnessed). earlier row.first c.args.witness)
     (get_or_read rows c.in-Some.number known at.0 c.index_mut-known.ensures.value _))
@@ -63,7 +63,7 @@ returns-in-Some-clause-closing c was =
     let rows = c.args.self.now.rows.items in
     let e = c.args.edge in
     let known = c.index_mut-known.result.now in
-    let at = found_row rows e.from e.to c.in-Some.number (subst (λ edges. IsFirstPlace edges e.from e.to c.in-Some.number) c.requires.edges c.in-Some.ensures) in
+    let at = found_row rows e.from e.to c.in-Some.number (subst (λ edges. IsEdgeNumber edges e.from e.to c.in-Some.number) c.requires.edges c.in-Some.ensures) in
     subst (λ edges. IsCycleEdge edges c.args.self.now.closing)
     (sym (edges-set rows c.in-Some.number e at.0 at.1 _ (ap (λ (row : Witnessed). row.edge) c.index_mut-known.ensures.value ∙ at.1 known))) was
 
@@ -73,7 +73,7 @@ returns-in-Ok-clause-closing c was =
     let inserted : graph ≡ with_edge c.args.self.now.graph c.args.edge.from c.args.edge.to graph.order = c.insert-answer.ensures.new c.in-None.ensures in
     let same : edges_of c.push.new.self.items ≡ graph.edges =
     ap edges_of c.in-Ok.ensures.items ∙ map-append (λ (row : Witnessed). row.edge) c.args.self.now.rows.items _
-    ∙ ap (λ edges. edges ++ c.args.edge ∷ []) (sym c.requires.edges) ∙ sym (ap (λ (g : Seen). g.edges) inserted) in
+    ∙ ap (λ edges. edges ++ c.args.edge ∷ []) (sym c.requires.edges) ∙ sym (ap (λ (g : PlainGraph). g.edges) inserted) in
     subst (λ edges. IsCycleEdge edges c.closing_then-self.result) (sym same)
     (c.closing_then-self.ensures c.args.self.now.graph graph c.insert-answer.ensures.inserted (subst (λ edges. IsCycleEdge edges c.args.self.now.closing) (sym c.requires.edges) was))
 
@@ -82,6 +82,6 @@ returns-in-Some-clause-exact c state seeds is =
     let rows = c.args.self.now.rows.items in
     let e = c.args.edge in
     let known = c.index_mut-known.result.now in
-    let at = found_row rows e.from e.to c.in-Some.number (subst (λ edges. IsFirstPlace edges e.from e.to c.in-Some.number) c.requires.edges c.in-Some.ensures) in
+    let at = found_row rows e.from e.to c.in-Some.number (subst (λ edges. IsEdgeNumber edges e.from e.to c.in-Some.number) c.requires.edges c.in-Some.ensures) in
     subst (λ edges. IsReach (IsEdge edges) seeds (of_state c.args.self.now.reach state))
     (sym (edges-set rows c.in-Some.number e at.0 at.1 _ (ap (λ (row : Witnessed). row.edge) c.index_mut-known.ensures.value ∙ at.1 known))) is

@@ -1,6 +1,6 @@
 use Rattle.std.proofs.Common.{◌+◌, ◌≤◌, ◌∙◌, ap, length, subst, sym}
 use Rattle.ld_graph.specs.declared.graph.TheConstants.{MOST_CLASSES}
-use Rattle.ld_reach.specs.Reach.{Reached}
+use Rattle.ld_reach.specs.Reach.{PlainReach}
 use Rattle.ld_trace.specs.declared.event.State.TheVariants.{Hard, Soft}
 use Rattle.ld_union.proofs.ReachedLemmas.{have_classes}
 use Rattle.ld_union.proofs.dependencies.Dependencies.room.Goals as goal
@@ -13,10 +13,10 @@ room-requires-clause-soft c = subst (λ n. n + c.args.classes ≤ MOST_CLASSES) 
 
 pub returns-in_err-room-clause-reach : goal.returns-in_err-room-clause-reach
 returns-in_err-room-clause-reach c = have_classes c.args.self.now.graph.classes c.room.new.self
-    (ap (λ (r : Reached). length r.marks) c.room.ensures.hard ∙ c.requires.reach Hard)
-    (ap (λ (r : Reached). length r.marks) c.room.ensures.soft ∙ c.requires.reach Soft)
+    (ap (λ (r : PlainReach). length r.marks) c.room.ensures.hard ∙ c.requires.reach Hard)
+    (ap (λ (r : PlainReach). length r.marks) c.room.ensures.soft ∙ c.requires.reach Soft)
 
 pub returns-clause-reach : goal.returns-clause-reach
 returns-clause-reach c = have_classes c.args.self.now.graph.classes c.room.new.self
-    (ap (λ (r : Reached). length r.marks) c.room.ensures.hard ∙ c.requires.reach Hard)
-    (ap (λ (r : Reached). length r.marks) c.room.ensures.soft ∙ c.requires.reach Soft)
+    (ap (λ (r : PlainReach). length r.marks) c.room.ensures.hard ∙ c.requires.reach Hard)
+    (ap (λ (r : PlainReach). length r.marks) c.room.ensures.soft ∙ c.requires.reach Soft)

@@ -2,7 +2,7 @@ use Rattle.std.proofs.Common.{rules, All, Contains, ◌<◌, ◌≡◌, ◌-◌,
 use Rattle.std.proofs.lemmas.List.{take_all, with_items_is}
 use Rattle.std.specs.Vec.{with_items}
 use Rattle.ld_graph.specs.Edges.{IsEdge}
-use Rattle.ld_reach.specs.Reach.{IsReach, Reached}
+use Rattle.ld_reach.specs.Reach.{IsReach, PlainReach}
 use Rattle.ld_trace.specs.declared.event.State.{State}
 use Rattle.ld_trace.specs.declared.event.State.TheVariants.{Hard, Soft}
 use Rattle.ld_facts.specs.Union.{uses_of}
@@ -101,8 +101,8 @@ module _ (c : goal.After-seed_all) where
   in_front =
       in_front-then c.self.inside.dependencies.reach c.enter_classes.new.self.reach c.seed_all.new.self.reach
       (in_front-equal c.self.inside.dependencies.reach c.enter_classes.new.self.reach
-      (c.enter_classes.ensures.hard ∙ ap (λ (r : Reached). r.reached) c.in_ok-room.ensures.hard)
-      (c.enter_classes.ensures.soft ∙ ap (λ (r : Reached). r.reached) c.in_ok-room.ensures.soft))
+      (c.enter_classes.ensures.hard ∙ ap (λ (r : PlainReach). r.reached) c.in_ok-room.ensures.hard)
+      (c.enter_classes.ensures.soft ∙ ap (λ (r : PlainReach). r.reached) c.in_ok-room.ensures.soft))
       (in_front-then c.enter_classes.new.self.reach c.add.new.self.reach c.seed_all.new.self.reach c.add.ensures.reached c.seed_all.ensures.reached)
 
   counted : (state : State) → of_state c.counts-news-inside.result state ≡ length (of_state (reached_by c.self.inside.dependencies.reach) state)

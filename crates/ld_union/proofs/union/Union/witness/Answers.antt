@@ -1,5 +1,5 @@
 use Rattle.std.proofs.Common.{rules, ◌≡◌, ◌<◌, ◌∙◌, None, Some, ap, refl, subst, sym}
-use Rattle.ld_graph.specs.Edges.{IsEdge, IsFirstPlace}
+use Rattle.ld_graph.specs.Edges.{IsEdge, IsEdgeNumber}
 use Rattle.ld_facts.specs.Dependency.{Dependency}
 use Rattle.ld_union.specs.declared.dependencies.Witnessed.{Witnessed}
 use Rattle.ld_union.proofs.UnionLemmas.{first_at, found_row, none_edge, none_from, none_to}
@@ -31,14 +31,14 @@ returns-in_err-number c = rw (← c.self.view_is) (λ first witnessed.
 pub index-requires : goal.index-requires
 index-requires c =
     let rows = c.self.inside.dependencies.rows in
-    let found = subst (λ edges. IsFirstPlace edges c.in_ok-from.from c.in_ok-to.to c.in_ok-number.number) c.self.invariant.edges c.in_ok-number.ensures in
+    let found = subst (λ edges. IsEdgeNumber edges c.in_ok-from.from c.in_ok-to.to c.in_ok-number.number) c.self.invariant.edges c.in_ok-number.ensures in
     subst (λ n. c.in_ok-number.number < n) (sym rows.ok.0) (found_row rows.items c.in_ok-from.from c.in_ok-to.to c.in_ok-number.number found).0
 
 pub returns : goal.returns
 returns c = rw (← c.self.view_is) (λ first witnessed.
     let union = c.self.inside in
     let what : Dependency = record { from = c.args.from.now; to = c.args.to.now } in
-    let found = subst (λ edges. IsFirstPlace edges c.in_ok-from.from c.in_ok-to.to c.in_ok-number.number) c.self.invariant.edges c.in_ok-number.ensures in
+    let found = subst (λ edges. IsEdgeNumber edges c.in_ok-from.from c.in_ok-to.to c.in_ok-number.number) c.self.invariant.edges c.in_ok-number.ensures in
     ap (λ (row : Witnessed). Some row.first) c.index.ensures
     ∙ first_at union.classes union.dependencies.rows.items c.self.invariant.numbered first witnessed what c.in_ok-from.from c.in_ok-to.to
     c.in_ok-number.number c.index.result.now ((c.in_ok-from.ensures.exact c.in_ok-from.from).0 refl) ((c.in_ok-to.ensures.exact c.in_ok-to.to).0 refl) found)
