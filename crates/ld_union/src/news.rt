@@ -17,11 +17,10 @@ pub struct NewBit {
     pub bit: Usage,
 }
 
-/// What was new to a union in the trace that was added last: the edges from a number on, usage bits, and
-/// the classes that were reached from a place on. It keeps its memory for the next trace.
+/// What was new to a union in the trace that was added last: usage bits, and for each state the classes
+/// that were reached from a place on. It keeps its memory for the next trace.
 #[derive(Drop)]
 pub struct News {
-    pub(crate) first_edge: usize,
     pub(crate) bits: Vec<NewBit>,
     pub(crate) first_reached: PerState<usize>,
     /// The numbers of the trace's classes, by their places in the trace.
@@ -34,7 +33,6 @@ impl Model for News {
     ghost Value = { PlainNews };
 
     ghost view = { λ n. record {
-      first_edge = n.first_edge;
       bits = n.bits.items;
       first_reached = n.first_reached;
     } };
@@ -44,24 +42,15 @@ impl News {
     /// Nothing new to a union of no traces. Takes no memory.
     pub fn new(alloc: Global) -> News
         ensures { result ≡ record {
-          first_edge = 0;
           bits = [];
           first_reached = record { hard = 0; soft = 0 };
         } }
     {
         News {
-            first_edge: 0,
             bits: Vec::new(alloc),
             first_reached: PerState { hard: 0, soft: 0 },
             places: Vec::new(alloc),
         }
-    }
-
-    /// The number from which on edges are new. Takes no memory.
-    pub fn first_edge(&self) -> usize
-        ensures { result ≡ self.now.first_edge }
-    {
-        self.first_edge
     }
 
     /// The new usage bits, in no promised order. Takes no memory.
@@ -71,8 +60,8 @@ impl News {
         &self.bits
     }
 
-    /// The place from which on the classes that the union tells as reached were reached since. Takes no
-    /// memory.
+    /// The place from which on the classes that the union tells as reached were reached by what was added
+    /// last. Takes no memory.
     pub fn first_reached(&self, state: State) -> usize
         ensures { result ≡ of_state self.now.first_reached state }
     {

@@ -81,7 +81,6 @@ impl<'a> Union<'a> {
         ensures told { OnOk result (Tells self.old self.new news.new) }
         ensures refused { OnErr result (self.new ≡ self.old) }
     {
-        news.first_edge = self.dependencies.rows.len();
         news.first_reached = self.dependencies.reach.counts();
         let classes = facts.classes().len();
         self.dependencies.room(classes, facts.edges().len())?;

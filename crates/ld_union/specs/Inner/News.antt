@@ -23,18 +23,16 @@ pub record TellsBits (old new : List Usage) (told : List NewBit) : Type 0 where
   pub each : All (IsNew old new) told
   pub all : (class : ℕ) (bit : Bit) → HasBitAt new class bit → ¬ HasBitAt old class bit → Contains told (new_bit class bit)
 
--- what is told: the number from which on edges are new, the new bits, and for each state the place from which
--- on classes are reached since
+-- what is told: the new bits, and for each state the place from which on classes were reached by what was added
+-- last
 pub record PlainNews : Type 0 where
-  pub first_edge : ℕ
   pub bits : List NewBit
   pub first_reached : PerState ℕ
 
--- The edges below the number are those that there were, just the new bits are told, and the classes in front
--- of the place are those that were reached.
+-- The edges that there were stand in front, just the new bits are told, the classes in front of the place are
+-- those that were reached before, and each of these had a source before.
 pub record Tells (old new : PlainUnion) (news : PlainNews) : Type 0 where
-  pub count : news.first_edge ≡ length old.dependencies
-  pub front : take news.first_edge (edges_of new.dependencies) ≡ edges_of old.dependencies
+  pub front : take (length old.dependencies) (edges_of new.dependencies) ≡ edges_of old.dependencies
   pub bits : TellsBits (bits_of old.usage) (bits_of new.usage) news.bits
   pub reached : (state : State) → of_state news.first_reached state ≡ length (of_state old.reached state)
   pub still : (state : State) → take (of_state news.first_reached state) (of_state new.reached state) ≡ of_state old.reached state

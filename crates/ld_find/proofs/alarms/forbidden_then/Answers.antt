@@ -1,4 +1,4 @@
-use Rattle.std.proofs.Common.{◌∙◌, ◌<◌, ℕ, All, drop, subst, sym}
+use Rattle.std.proofs.Common.{◌∙◌, ◌<◌, ℕ, All, drop, length, subst, sym}
 use Rattle.std.proofs.lemmas.List.{take_rest}
 use Rattle.ld_find.specs.declared.alarms.Forbidden.{Forbidden}
 use Rattle.ld_find.specs.Inner.Numbers.{IsForbiddenAt}
@@ -18,7 +18,7 @@ returns-then-is_some c = λ old tells exact.
     let now = bits_of union.usage in
     let state = c.args.state in
     stays (λ (w : Forbidden). IsForbiddenAt edges usage state w.from w.to) (λ (w : Forbidden). IsForbiddenAt all now state w.from w.to)
-    (forbidden_kept state usage now tells.bits.kept edges all (edges_kept edges all c.args.news.now.first_edge tells.front)) c.args.found exact (sym c.is_some.ensures ∙ c.if-is_some.true)
+    (forbidden_kept state usage now tells.bits.kept edges all (edges_kept edges all (length old.dependencies) tells.front)) c.args.found exact (sym c.is_some.ensures ∙ c.if-is_some.true)
 
 pub walk_to_held-requires : goal.walk_to_held-requires
 walk_to_held-requires c =

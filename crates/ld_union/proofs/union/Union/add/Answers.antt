@@ -143,13 +143,11 @@ returns-clause-added c =
 pub returns-clause-told : goal.returns-clause-told
 returns-clause-told c =
     let union = c.self.inside in
-    let first : c.len-news-inside.result ≡ length (old_rows c) = c.len-news-inside.ensures ∙ union.dependencies.rows.ok.0 in
     let reach = union.dependencies.reach in
     let more = c.seed_all.new.self.reach in
-    subst (λ union. Tells union (after c) (record { first_edge = c.len-news-inside.result; bits = c.add_usage.new.bits.items; first_reached = c.counts-news-inside.result })) c.self.view_is (record {
-      count = first;
+    subst (λ union. Tells union (after c) (record { bits = c.add_usage.new.bits.items; first_reached = c.counts-news-inside.result })) c.self.view_is (record {
       front =
-          (λ i. take ((first ∙ ap length (sym (rows c))) i) (edges_of (sym (same_rows c) i)))
+          (λ i. take (ap length (sym (rows c)) i) (edges_of (sym (same_rows c) i)))
           ∙ c.add.ensures.front
           ∙ ap edges_of (rows c);
       bits = told c;
