@@ -1,7 +1,7 @@
 use Rattle.std.proofs.Common.{◌≡◌, ◌≢◌, ◌<◌, ◌∙◌, [], None, Some, get_or, is_some, false, length, refl, subst, sym, ap}
 use Rattle.std.proofs.lemmas.List.{get_or_default}
 use Rattle.std.proofs.lemmas.Option.{MatchOption-at_some}
-use Rattle.ld_graph.specs.Edges.{IsEdge, IsFirstPlace, edge}
+use Rattle.ld_graph.specs.Edges.{IsEdge, IsEdgeNumber, edge}
 use Rattle.ld_facts.specs.Union.{dependency_witness}
 use Rattle.ld_facts.specs.Dependency.{Dependency}
 use Rattle.ld_union.specs.declared.dependencies.Witnessed.{Witnessed}
@@ -39,7 +39,7 @@ returns c sources shows =
     let b = c.args.to in
     let what : Dependency = record { from = name_of union.classes a; to = name_of union.classes b } in
     let n = c.in-Some.number in
-    let found = subst (λ edges. IsFirstPlace edges a b n) c.graph.ensures.edges c.in-Some.ensures in
+    let found = subst (λ edges. IsEdgeNumber edges a b n) c.graph.ensures.edges c.in-Some.ensures in
     let at = ap (λ rows. Some (get_or rows n no_row).first) c.dependencies.ensures.same ∙ first_at union.classes union.dependencies shows.numbered
     (dependency_witness sources) shows.witnesses what a b n no_row (c.requires.class, refl) (c.requires.to, refl) found in
     let at_row = found_row union.dependencies a b n found in
