@@ -1,23 +1,22 @@
 -- An edge in a list, as tests find it.
-use Rattle.std.proofs.Common.{◌≡◌, ◌≢◌, ◌⊎◌, inl, inr, ◌++◌, set, if◌then◌else◌, ℕ, ◌<◌, ◌≤◌, Bool}
+use Rattle.std.proofs.Common.{◌≡◌, ◌≢◌, ◌⊎◌, inl, inr, ◌++◌, set, if◌then◌else◌, ℕ, ◌<◌, Bool}
 use Rattle.std.proofs.Common.{true, false, true≢false, ◌&&◌, nat_eq, List, [], ◌∷◌, length, get_or}
 use Rattle.std.proofs.Common.{slice_get, position, Option, Some, arith, refl, sym, ap, subst}
 use Rattle.std.proofs.Common.{◌∙◌, Contains, ◌↔◌}
 use Rattle.std.specs.List.{list_any, IsDistinct}
 use Rattle.std.proofs.lemmas.Map.Keys.{apart_from_distinct}
-use Rattle.std.proofs.lemmas.List.{get_or_append_left, get_or_push, get_or_past, get_or-set_same}
-use Rattle.std.proofs.lemmas.List.{get_or-set_other, length_push}
 use Rattle.std.proofs.lemmas.List.Folds.{list_any_at}
 use Rattle.std.proofs.lemmas.List.Elements.{Contains-append_left, Contains-push}
 use Rattle.std.proofs.lemmas.List.Elements.{Contains-push_cases}
-use Rattle.std.proofs.lemmas.Bool.{cases_eq, cases_lt, eqb-true, eq-eqb}
+use Rattle.std.proofs.lemmas.Bool.{eqb-true, eq-eqb}
 use Rattle.std.proofs.lemmas.List.Quantifiers.{position-Some}
 use Rattle.std.proofs.lemmas.Option.{slice_get-get_or, get_or_from_slice_get}
 use Rattle.indexmap.proofs.CallerLemmas.{Contains-list_any}
 use Rattle.ld_graph.specs.declared.Edge.{Edge}
 use Rattle.ld_graph.specs.Edges.{edge, IsEdge, IsEdgeNumber}
 use Rattle.ld_graph.specs.Walks.{DistanceIs}
-use Rattle.ld_graph.specs.Lists.{list_at, IsNear}
+use Rattle.ld_lists.specs.Lists.{list_at, IsNear}
+use Rattle.ld_lists.proofs.NearLemmas.{IsNear-push, IsNear-old, IsNear-new}
 use Rattle.ld_graph.proofs.WalkLemmas.{DistanceIs-same}
 use Rattle.indexmap.specs.IndexSet.{insert_key}
 
@@ -72,62 +71,6 @@ IsEdge-push edges a b x y h = by (Contains-push_cases edges (edge a b) (edge x y
     by (inl e) = inl e
     by (inr e) = inr (ap (λ k. k.from) e, ap (λ k. k.to) e)
 
--- the neighbours where one list has one more
-pub IsNear-push : (lists : List (List ℕ)) (a b x y : ℕ) → a < length lists
-    → IsNear (set lists a (list_at lists a ++ b ∷ [])) x y → IsNear lists x y ⊎ ((a ≡ x) × (b ≡ y))
-IsNear-push lists a b x y l h = by (cases_eq x a)
-  where
-    two : Contains (list_at lists a) y ⊎ (b ≡ y) → x ≡ a → IsNear lists x y ⊎ ((a ≡ x) × (b ≡ y))
-    two (inl e) q = inl (subst (λ z. IsNear lists z y) (sym q) e)
-    two (inr e) q = inr (sym q, e)
-
-    by : (x ≡ a) ⊎ (x ≢ a) → IsNear lists x y ⊎ ((a ≡ x) × (b ≡ y))
-    by (inl q) =
-        two (Contains-push_cases (list_at lists a) b y
-        (subst (λ n. Contains n y) (ap (λ z. list_at (set lists a (list_at lists a ++ b ∷ [])) z) q
-        ∙ get_or-set_same lists a (list_at lists a ++ b ∷ []) [] l) h)) q
-    by (inr q) = inl (subst (λ n. Contains n y) (get_or-set_other lists a x (list_at lists a ++ b ∷
-        []) [] q) h)
-
-pub IsNear-old : (lists : List (List ℕ)) (a b x y : ℕ) → a < length lists → IsNear lists x y
-    → IsNear (set lists a (list_at lists a ++ b ∷ [])) x y
-IsNear-old lists a b x y l h = by (cases_eq x a)
-  where
-    by : (x ≡ a) ⊎ (x ≢ a) → IsNear (set lists a (list_at lists a ++ b ∷ [])) x y
-    by (inl q) =
-        subst (λ n. Contains n y) (sym (ap (λ z. list_at (set lists a (list_at lists a ++ b ∷ []))
-        z) q ∙ get_or-set_same lists a (list_at lists a ++ b ∷ []) [] l))
-        (Contains-append_left (list_at lists a) (b ∷ []) y (subst (λ z. IsNear lists z y) q h))
-    by (inr q) = subst (λ n. Contains n y) (sym (get_or-set_other lists a x (list_at lists a ++ b ∷
-        []) [] q)) h
-
-pub IsNear-new : (lists : List (List ℕ)) (a b : ℕ) → a < length lists
-    → IsNear (set lists a (list_at lists a ++ b ∷ [])) a b
-IsNear-new lists a b l =
-    subst (λ n. Contains n b) (sym (get_or-set_same lists a (list_at lists a ++ b ∷ []) [] l))
-    (Contains-push (list_at lists a) b)
-
--- a new class has no neighbours
-pub IsNear-class : (lists : List (List ℕ)) (x y : ℕ) → IsNear (lists ++ [] ∷ []) x y
-    ↔ IsNear lists x y
-IsNear-class lists x y = by (cases_lt x (length lists))
-  where
-    none : length lists ≤ x → list_at (lists ++ [] ∷ []) x ≡ []
-    none l = last (cases_eq (length lists) x)
-      where
-        last : (length lists ≡ x) ⊎ (length lists ≢ x) → list_at (lists ++ [] ∷ []) x ≡ []
-        last (inl e) = get_or_push lists [] [] x e
-        last (inr e) = get_or_past (lists ++ [] ∷ []) x [] (let p = length_push {X = List ℕ} lists
-            [] in omega arith)
-
-    by : (x < length lists) ⊎ (length lists ≤ x) → IsNear (lists ++ [] ∷ []) x y ↔ IsNear lists x y
-    by (inl l) =
-        let e = get_or_append_left lists ([] ∷ []) [] x l in
-        (subst (λ n. Contains n y) e, subst (λ n. Contains n y) (sym e))
-    by (inr l) =
-        let e = none l in let f = get_or_past lists x [] l in
-        (subst (λ n. Contains n y) (e ∙ sym f), subst (λ n. Contains n y) (f ∙ sym e))
-
 -- both grow by the same edge
 pub IsNear-edge : (lists : List (List ℕ)) (edges : List Edge) (a b : ℕ) → a < length lists
     → ((x y : ℕ) → IsNear lists x y ↔ IsEdge edges x y)
@@ -180,14 +123,6 @@ ends_push edges a b n l m ends x y h = by (IsEdge-push edges a b x y h)
     by : IsEdge edges x y ⊎ ((a ≡ x) × (b ≡ y)) → (x < n) × (y < n)
     by (inl e) = ends x y e
     by (inr e) = (subst (λ z. z < n) e.0 l, subst (λ z. z < n) e.1 m)
-
--- neighbours that are a relation stay so as a class comes
-pub near_class : (R : ℕ → ℕ → Type 0) (lists more : List (List ℕ)) → more ≡ lists ++ [] ∷ []
-    → ((x y : ℕ) → IsNear lists x y ↔ R x y)
-    → (x y : ℕ) → IsNear more x y ↔ R x y
-near_class R lists more e same x y =
-    let n = IsNear-class lists x y in let k = same x y in
-    subst (λ l. IsNear l x y ↔ R x y) (sym e) (λ h. k.0 (n.0 h), λ h. n.1 (k.1 h))
 
 -- a key that isn't there goes last
 pub insert_key-new : (edges : List Edge) (e : Edge) → list_any (same_edge e) edges ≡ false

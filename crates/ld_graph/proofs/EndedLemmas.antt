@@ -9,12 +9,12 @@ use Rattle.std.proofs.lemmas.List.{get_or-append_right}
 use Rattle.std.proofs.lemmas.List.Elements.{Contains-append_cases, Contains-get_or}
 use Rattle.std.proofs.lemmas.Map.Keys.{IsDistinct-from_apart, apart_from_distinct}
 use Rattle.std.proofs.lemmas.Map.Steps.{length-le_from_distinct_below}
-use Rattle.ld_graph.specs.declared.lists.Side.{Side}
-use Rattle.ld_graph.specs.declared.lists.Side.TheVariants.{After, Before}
+use Rattle.ld_graph.specs.declared.turns.Side.{Side}
+use Rattle.ld_graph.specs.declared.turns.Side.TheVariants.{After, Before}
 use Rattle.ld_graph.specs.Walks.{HasWalk}
 use Rattle.ld_graph.specs.Inner.Repairs.{IsClosed, IsInside, IsRow, IsSought, Reached}
 use Rattle.ld_graph.specs.Inner.Repairs.{in_front, is_part, HasEnded, HasMet}
-use Rattle.ld_graph.specs.Lists.{IsNear, Sides}
+use Rattle.ld_lists.specs.Lists.{IsNear, Sides}
 use Rattle.ld_graph.proofs.WalkLemmas.{Far, Far-turned, HasWalk-Far, IsWalk-Far}
 use Rattle.ld_graph.proofs.MarkLemmas.{bool_cases}
 use Rattle.ld_graph.proofs.PartLemmas.{any_Contains, Contains_any, any_none}

@@ -1,26 +1,16 @@
 -- A graph keeps its invariant as its memory grows.
-use Rattle.std.proofs.Common.{◌≡◌, ◌↔◌, ℕ, ◌+◌, ◌<◌, ◌≤◌, ◌^◌, max, length, arith, refl, sym, ap}
+use Rattle.std.proofs.Common.{◌≡◌, ◌↔◌, ℕ, ◌+◌, ◌<◌, ◌≤◌, ◌^◌, max, length, arith, sym, ap}
 use Rattle.std.proofs.Common.{subst, ◌∙◌, get_or}
 use Rattle.std.proofs.Common.{List, [], ◌∷◌, ◌++◌}
 use Rattle.std.proofs.lemmas.List.{get_or_append_left}
 use Rattle.indexmap.specs.IndexSet.{spare}
 use Rattle.ld_graph.specs.declared.graph.Graph.TheInside.{Inside}
-use Rattle.ld_graph.specs.Lists.{Listed, IsNear}
-use Rattle.ld_graph.specs.Inner.Sides.{ListsGrown}
+use Rattle.ld_lists.specs.Lists.{IsNear, ListsGrown}
 use Rattle.ld_graph.specs.Edges.{IsEdge}
 use Rattle.ld_graph.specs.Order.{HasCycle}
 use Rattle.ld_graph.specs.Inner.Kept.{IsKept}
 
-pub lists_same : (a : Listed) → ListsGrown a a
-lists_same a = record {
-  lists = refl;
-  items = refl;
-  class_room = omega arith;
-  item_room = omega
-      arith;
-}
-
--- so is the graph
+-- the graph is as before, with at least the memory that it had
 pub record HasGrown (old new : Inside) : Type 0 where
   pub keys : new.edges.keys ≡ old.edges.keys
   pub edges : spare old.edges ≤ spare new.edges

@@ -1,10 +1,8 @@
-pub mod RunLemmas
 pub mod WalkLemmas
 pub mod SpreadLemmas
 pub mod SearchLemmas
 pub mod EdgeLemmas
 pub mod KeptLemmas
-pub mod OnceLemmas
 pub mod SplitLemmas
 pub mod MarkLemmas
 pub mod SoughtLemmas

@@ -1,7 +1,5 @@
 -- What only invariants, private functions and proofs cite: a reader of the promises needs none of it.
-pub mod Runs
 pub mod Levels
-pub mod Sides
 pub mod Repairs
 pub mod Marks
 pub mod Ranks

@@ -1,5 +1,4 @@
 pub mod Walks
 pub mod Edges
-pub mod Lists
 pub mod Order
 pub mod Inner

@@ -3,10 +3,10 @@
 ghost use Rattle.std.specs.Prelude.{◌≡◌, ◌+◌, ◌<◌, ◌≤◌, ℕ, None, is_none, count_by};
 ghost use Rattle.std.specs.Prelude.{length, slice_index_or, vec_len, vec_capacity, ◌^◌, Contains};
 ghost use Rattle.ld_graph.specs.Inner.Levels.{HasLevel, Spreads};
-ghost use Rattle.ld_graph.specs.Lists.{IsNear};
+ghost use Rattle.ld_lists.specs.Lists.{IsNear};
 ghost use Rattle.ld_graph.specs.Walks.{DistanceIs};
 
-use crate::lists::{Lists, Steps};
+use ld_lists::{Lists, Steps};
 
 /// Takes each class's level away.
 fn clear(levels: &mut [Option<u64>])

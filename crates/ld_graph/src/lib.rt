@@ -4,8 +4,6 @@
 
 mod graph;
 mod levels;
-mod lists;
-mod neighbours;
 mod placed;
 mod ranks;
 mod repair;
@@ -14,7 +12,7 @@ mod shown;
 mod turns;
 
 pub use graph::{Graph, MOST_CLASSES};
-pub use lists::{Lists, Steps};
+pub use ld_lists::{Lists, Steps};
 pub use placed::Insert;
 
 /// An edge, from one class to another.

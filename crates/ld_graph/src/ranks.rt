@@ -3,11 +3,11 @@
 ghost use Rattle.std.specs.Prelude.{◌≡◌, ◌↔◌, ℕ, ◌+◌, ◌^◌, ◌<◌, ◌≤◌, [], ◌∷◌, ◌++◌, length};
 ghost use Rattle.std.specs.Prelude.{slice_index, IfSome, MatchOption, OnOk};
 ghost use Rattle.ld_graph.specs.Inner.Repairs.{AreInverse, IsRepaired, Reached};
-ghost use Rattle.ld_graph.specs.Lists.{IsNear};
+ghost use Rattle.ld_lists.specs.Lists.{IsNear};
 
-use crate::lists::{Lists, Steps};
 use crate::repair::{Space, mend};
 use crate::search::Search;
+use ld_lists::{Lists, Steps};
 use std::alloc::{AllocError, Global};
 use std::marker::Model;
 

@@ -6,11 +6,11 @@ ghost use Rattle.std.specs.Bool.{OnTrue, OnFalse};
 ghost use Rattle.ld_graph.specs.Inner.Repairs.{AreInverse, HasMet, AreRanked, IsPlan, IsRepaired};
 ghost use Rattle.ld_graph.specs.Inner.Repairs.{IsRow, Reached};
 ghost use Rattle.ld_graph.specs.Inner.Repairs.{count, in_front, is_part, picked, split};
-ghost use Rattle.ld_graph.specs.Lists.{IsNear};
+ghost use Rattle.ld_lists.specs.Lists.{IsNear};
 
-use crate::lists::{Lists, Side, Steps};
 use crate::search::Search;
-use crate::turns::search_in_turn;
+use crate::turns::{Side, search_in_turn};
+use ld_lists::{Lists, Steps};
 
 /// Room for a repair.
 #[derive(Drop)]

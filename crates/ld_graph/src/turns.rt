@@ -3,10 +3,19 @@
 ghost use Rattle.std.specs.Prelude.{◌≡◌, ℕ, ◌+◌, ◌-◌, ◌*◌, ◌^◌, ◌<◌, ◌≤◌, [], length, slice_index};
 ghost use Rattle.std.specs.Prelude.{Contains, MatchOption};
 ghost use Rattle.ld_graph.specs.Inner.Repairs.{HasEnded, IsGrown, IsInside, IsRow, IsSought};
-ghost use Rattle.ld_graph.specs.Lists.{IsNear};
+ghost use Rattle.ld_lists.specs.Lists.{IsNear};
 
-use crate::lists::{Lists, Side, Steps};
 use crate::search::Search;
+use ld_lists::{Lists, Steps};
+
+/// Which neighbours are meant.
+#[derive(Clone, Copy)]
+pub enum Side {
+    /// The successors.
+    After,
+    /// The predecessors.
+    Before,
+}
 
 /// The offset of a rank in the range of so many ranks from the least one on, if it is in it.
 fn offset_of(rank: u32, low: u32, len: usize) -> Option<u32>

@@ -10,7 +10,7 @@ use Rattle.ld_reach.specs.declared.reach.Reach.TheInside.{Inside}
 use Rattle.ld_graph.specs.Edges.{IsEdge, edge}
 use Rattle.ld_reach.specs.Reach.{IsReach, IsSource, PlainReach}
 use Rattle.ld_graph.specs.Walks.{HasWalk}
-use Rattle.ld_graph.proofs.OnceLemmas.{IsDistinct-none, IsDistinct-one_more}
+use Rattle.ld_lists.proofs.OnceLemmas.{IsDistinct-none, IsDistinct-one_more}
 use Rattle.ld_graph.proofs.SpreadLemmas.{some_same}
 use Rattle.ld_graph.proofs.WalkLemmas.{Far, Far-snoc, IsWalk-Far, HasWalk-Far, IsWalk-same}
 

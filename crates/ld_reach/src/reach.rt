@@ -5,7 +5,7 @@ ghost use Rattle.std.specs.Prelude.{nat_eq, slice_index_or, slice_set, vec_capac
 ghost use Rattle.std.specs.List.{IsDistinct};
 ghost use Rattle.ld_graph.specs.Edges.{IsEdge, edge};
 ghost use Rattle.ld_reach.specs.Inner.Kept.{AreReached, IsGiven, IsSpread, all_ahead, none_ahead};
-ghost use Rattle.ld_graph.specs.Lists.{IsNear};
+ghost use Rattle.ld_lists.specs.Lists.{IsNear};
 ghost use Rattle.ld_reach.specs.Reach.{IsReach, mark_of, no_reach, source_of, with_unreached};
 ghost use Rattle.ld_graph.specs.Walks.{HasWalk};
 

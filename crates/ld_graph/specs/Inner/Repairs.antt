@@ -2,9 +2,9 @@
 use Rattle.std.specs.Prelude.{◌≡◌, ◌≢◌, true, false, nat_eq, ℕ, zero, suc, ◌+◌, ◌<◌, ◌≤◌, Bool, not, if◌then◌else◌, List, []}
 use Rattle.std.specs.Prelude.{◌∷◌, ◌++◌, ◌-◌, ◌⊎◌, length, slice_index, Contains}
 use Rattle.std.specs.List.{list_any}
-use Rattle.ld_graph.specs.declared.lists.Side.{Side}
-use Rattle.ld_graph.specs.declared.lists.Side.TheVariants.{After, Before}
-use Rattle.ld_graph.specs.Lists.{IsNear, Sides}
+use Rattle.ld_graph.specs.declared.turns.Side.{Side}
+use Rattle.ld_graph.specs.declared.turns.Side.TheVariants.{After, Before}
+use Rattle.ld_lists.specs.Lists.{IsNear, Sides}
 use Rattle.ld_graph.specs.Order.{StaysOutside}
 use Rattle.ld_graph.specs.Walks.{HasWalk}
 

@@ -1,7 +1,7 @@
 use Rattle.std.proofs.Common.{◌≡◌, ◌≤◌, ◌+◌, ◌⊎◌, Contains, get_or, length, arith, subst, sym, set, true, drop, refl, ◌∙◌}
 use Rattle.std.proofs.lemmas.List.Elements.{Contains-get_or}
 use Rattle.ld_reach.specs.Inner.Kept.{all_ahead, ahead_from, none_ahead}
-use Rattle.ld_graph.specs.Lists.{IsNear, list_at}
+use Rattle.ld_lists.specs.Lists.{IsNear, list_at}
 use Rattle.ld_reach.proofs.ReachLemmas.{IsGiven-drop, IsGiven-front, ahead-all, ahead-next, ahead-none, IsSource-next, spread-ahead, spread-given}
 use Rattle.ld_reach.proofs.reach.expand.Goals as goal
 

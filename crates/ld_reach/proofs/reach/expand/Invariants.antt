@@ -1,5 +1,5 @@
 use Rattle.std.proofs.Common.{◌≡◌, ◌+◌, ◌≤◌, ◌⊎◌, ℕ, List, Contains, count_by, drop, is_none, length, set, take, true, vec_len, vec_capacity}
-use Rattle.ld_graph.specs.Lists.{IsNear, list_at}
+use Rattle.ld_lists.specs.Lists.{IsNear, list_at}
 use Rattle.ld_graph.specs.Walks.{HasWalk}
 use Rattle.ld_reach.specs.Inner.Kept.{AreReached, IsSpread, all_ahead, ahead_from}
 use Rattle.ld_reach.proofs.reach.expand.Given as goal

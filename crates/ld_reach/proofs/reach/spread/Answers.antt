@@ -1,5 +1,5 @@
 use Rattle.std.proofs.Common.{◌≡◌, ◌<◌, ◌+◌, ◌∷◌, ◌∙◌, ap, arith, drop, false, get_or, inr, is_some, length, subst, sym, true}
-use Rattle.ld_graph.specs.Lists.{IsNear}
+use Rattle.ld_lists.specs.Lists.{IsNear}
 use Rattle.ld_reach.specs.Inner.Kept.{IsSpread, none_ahead}
 use Rattle.ld_reach.proofs.ReachLemmas.{AreReached-has, drop-next, mark_stays, spread-passed, spread-popped}
 use Rattle.ld_reach.proofs.reach.spread.Goals as goal

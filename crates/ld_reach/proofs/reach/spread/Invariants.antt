@@ -1,5 +1,5 @@
 use Rattle.std.proofs.Common.{◌≡◌, ◌+◌, ◌-◌, ◌≤◌, ℕ, List, count_by, drop, false, get_or, is_none, length, take, true, vec_len, vec_capacity}
-use Rattle.ld_graph.specs.Lists.{IsNear}
+use Rattle.ld_lists.specs.Lists.{IsNear}
 use Rattle.ld_reach.specs.Inner.Kept.{AreReached, IsSpread, none_ahead}
 use Rattle.ld_reach.proofs.reach.spread.Given as goal
 

@@ -4,7 +4,7 @@ use Rattle.std.proofs.lemmas.List.{drop_all, get_or_default, with_items_is}
 use Rattle.std.proofs.lemmas.List.Elements.{Contains-push}
 use Rattle.ld_graph.specs.Edges.{IsEdge, edge}
 use Rattle.ld_reach.specs.Inner.Kept.{IsSpread, none_ahead, seen}
-use Rattle.ld_graph.specs.Lists.{IsNear}
+use Rattle.ld_lists.specs.Lists.{IsNear}
 use Rattle.ld_reach.specs.Reach.{IsReach, IsSource, PlainReach}
 use Rattle.ld_reach.proofs.ReachLemmas.{IsGiven-drop, IsSource-along, marks_len, spread-edge, spread-given, spread-reach, spread-same, spread-unmarked}
 use Rattle.ld_reach.proofs.reach.Reach.along.Goals as goal

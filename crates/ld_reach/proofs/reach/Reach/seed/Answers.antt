@@ -4,7 +4,7 @@ use Rattle.std.proofs.lemmas.List.{drop_all, get_or_default, with_items_is}
 use Rattle.std.proofs.lemmas.List.Elements.{Contains-push}
 use Rattle.ld_graph.specs.Edges.{IsEdge}
 use Rattle.ld_reach.specs.Inner.Kept.{IsSpread, all_ahead, none_ahead, seen}
-use Rattle.ld_graph.specs.Lists.{IsNear}
+use Rattle.ld_lists.specs.Lists.{IsNear}
 use Rattle.ld_reach.specs.Reach.{IsReach, PlainReach}
 use Rattle.ld_reach.proofs.ReachLemmas.{marks_len, reach-spread, spread-longer, spread-reach, spread-seeded, spread-seeded_again}
 use Rattle.ld_reach.proofs.reach.Reach.seed.Goals as goal

@@ -1,7 +1,7 @@
 use Rattle.std.proofs.Common.{sym, subst}
-use Rattle.ld_graph.specs.Inner.Sides.{HasEachOnce}
-use Rattle.ld_graph.proofs.OnceLemmas.{HasEachOnce-none}
-use Rattle.ld_graph.proofs.lists.Lists.new.Goals as goal
+use Rattle.ld_lists.specs.Inner.Sides.{HasEachOnce}
+use Rattle.ld_lists.proofs.OnceLemmas.{HasEachOnce-none}
+use Rattle.ld_lists.proofs.lists.Lists.new.Goals as goal
 
 pub invariant_of-result : goal.invariant_of-result
 invariant_of-result c = (

@@ -1,7 +1,7 @@
 -- How the lists of neighbours lie in memory. No public contract cites this file.
 use Rattle.std.specs.Prelude.{◌≡◌, ◌≢◌, ℕ, ◌+◌, ◌-◌, ◌*◌, ◌<◌, ◌≤◌, ◌⊎◌, max, List, [], ◌∷◌, ◌++◌}
 use Rattle.std.specs.Prelude.{length, take, drop, replicate, slice_index_or}
-use Rattle.ld_graph.specs.declared.neighbours.Run.{Run}
+use Rattle.ld_lists.specs.declared.neighbours.Run.{Run}
 
 abbrev pub no_run : Run
 no_run = record { start = 0; len = 0; room = 0 }

@@ -1,8 +1,8 @@
 use Rattle.std.proofs.Common.{ap, arith, length, sym, subst}
-use Rattle.ld_graph.specs.Lists.{IsNear}
-use Rattle.ld_graph.specs.Inner.Sides.{HasEachOnce}
-use Rattle.ld_graph.proofs.OnceLemmas.{HasEachOnce-push}
-use Rattle.ld_graph.proofs.lists.Lists.push.Goals as goal
+use Rattle.ld_lists.specs.Lists.{IsNear}
+use Rattle.ld_lists.specs.Inner.Sides.{HasEachOnce}
+use Rattle.ld_lists.proofs.OnceLemmas.{HasEachOnce-push}
+use Rattle.ld_lists.proofs.lists.Lists.push.Goals as goal
 
 pub invariant_of-self : goal.invariant_of-self
 invariant_of-self c =

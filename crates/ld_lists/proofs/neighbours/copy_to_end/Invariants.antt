@@ -1,5 +1,5 @@
 use Rattle.std.proofs.Common.{◌≡◌, ◌≤◌, ◌++◌, take, drop, vec_capacity}
-use Rattle.ld_graph.proofs.neighbours.copy_to_end.Given as goal
+use Rattle.ld_lists.proofs.neighbours.copy_to_end.Given as goal
 
 abbrev pub invariant-loop-i : goal.invariant-loop-i
 invariant-loop-i l = record {

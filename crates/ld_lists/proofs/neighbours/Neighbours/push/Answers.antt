@@ -1,9 +1,9 @@
 use Rattle.std.proofs.Common.{◌≡◌, ◌<◌, ◌++◌, [], ◌∷◌, arith, ap, length, map, set, sym, subst, ◌∙◌}
 use Rattle.std.proofs.lemmas.List.{get_or_read, get_or-map, length-map}
-use Rattle.ld_graph.specs.Lists.{list_at}
-use Rattle.ld_graph.specs.Inner.Runs.{no_run, run_at, items_of, HasWay}
-use Rattle.ld_graph.proofs.RunLemmas.{way_room, way_within, AreRuns-more, lists-more}
-use Rattle.ld_graph.proofs.neighbours.Neighbours.push.Goals as goal
+use Rattle.ld_lists.specs.Lists.{list_at}
+use Rattle.ld_lists.specs.Inner.Runs.{no_run, run_at, items_of, HasWay}
+use Rattle.ld_lists.proofs.RunLemmas.{way_room, way_within, AreRuns-more, lists-more}
+use Rattle.ld_lists.proofs.neighbours.Neighbours.push.Goals as goal
 
 pub make_way-run-requires-clause-room : goal.make_way-run-requires-clause-room
 make_way-run-requires-clause-room c =

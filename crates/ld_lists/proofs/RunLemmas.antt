@@ -8,9 +8,9 @@ use Rattle.std.proofs.lemmas.List.{length-take-le, length-drop, append_assoc, dr
 use Rattle.std.proofs.lemmas.List.{drop-append-le, take-append-le, drop-set-lt, drop-set-add}
 use Rattle.std.proofs.lemmas.List.{take-set-le, take_more_set}
 use Rattle.std.proofs.lemmas.Bool.{cases_lt, cases_eq}
-use Rattle.ld_graph.specs.declared.neighbours.Run.{Run}
-use Rattle.ld_graph.specs.Inner.Runs.{no_run, run_at, items_of, total, AreApart, AreRuns, HasMoved}
-use Rattle.ld_graph.specs.Inner.Runs.{HasWay}
+use Rattle.ld_lists.specs.declared.neighbours.Run.{Run}
+use Rattle.ld_lists.specs.Inner.Runs.{no_run, run_at, items_of, total, AreApart, AreRuns, HasMoved}
+use Rattle.ld_lists.specs.Inner.Runs.{HasWay}
 
 module _ (f : Run → ℕ) where
   pub total-set : (rs : List Run) (i : ℕ) (y : Run) → i < length rs

@@ -4,9 +4,8 @@
 ghost use Rattle.std.specs.Prelude.{◌≡◌, ◌+◌, ◌<◌, ◌≤◌, ◌^◌, [], ◌∷◌, ◌++◌, OnOk, length};
 ghost use Rattle.std.specs.Prelude.{slice_set, slice_index_or, nat_eq, true, false};
 ghost use Rattle.std.specs.List.{IsDistinct};
-ghost use Rattle.ld_graph.specs.Inner.Sides.{ListsGrown, HasRoom, IsNextClass};
-ghost use Rattle.ld_graph.specs.Inner.Sides.{IsNextItem};
-ghost use Rattle.ld_graph.specs.Lists.{IsNear, list_at};
+ghost use Rattle.ld_lists.specs.Lists.{HasRoom, IsNear, IsNextClass, IsNextItem, ListsGrown};
+ghost use Rattle.ld_lists.specs.Lists.{list_at};
 
 use crate::neighbours::Neighbours;
 use std::alloc::{AllocError, Global};
@@ -42,15 +41,6 @@ impl Steps {
     }
 }
 
-/// Which neighbours are meant.
-#[derive(Clone, Copy)]
-pub enum Side {
-    /// The successors.
-    After,
-    /// The predecessors.
-    Before,
-}
-
 /// A graph's lists: for each class its successors and its predecessors.
 #[derive(Drop)]
 pub struct Lists {
@@ -59,11 +49,11 @@ pub struct Lists {
 }
 
 impl Model for Lists {
-    ghost use Rattle.ld_graph.specs.Lists.{Sides};
+    ghost use Rattle.ld_lists.specs.Lists.{Sides};
 
     ghost Value = { Sides };
 
-    ghost use Rattle.ld_graph.specs.Inner.Sides.{HasEachOnce};
+    ghost use Rattle.ld_lists.specs.Inner.Sides.{HasEachOnce};
 
     ghost view = { λ l. record { after = l.after; before = l.before } };
 
@@ -71,8 +61,8 @@ impl Model for Lists {
 }
 
 impl Lists {
-    /// No class.
-    pub(crate) fn new(alloc: Global) -> Lists
+    /// The lists of no class. Takes no memory.
+    pub fn new(alloc: Global) -> Lists
         ensures after { (result.after.lists ≡ []) × (result.after.items ≡ 0) }
         ensures before { (result.before.lists ≡ []) × (result.before.items ≡ 0) }
     {
@@ -122,8 +112,13 @@ impl Lists {
         self.before.of(c)
     }
 
-    /// Makes memory for so many further classes and edges.
-    pub(crate) fn room(&mut self, classes: usize, edges: usize) -> Result<(), AllocError>
+    /// Takes the memory for so many further classes and edges.
+    ///
+    /// # Errors
+    ///
+    /// `AllocError` where memory was refused, or so much can't be asked for. The lists are then as before,
+    /// but the memory that they have may have grown.
+    pub fn room(&mut self, classes: usize, edges: usize) -> Result<(), AllocError>
         ensures after { ListsGrown self.old.after self.new.after }
         ensures before { ListsGrown self.old.before self.new.before }
         ensures after_room { OnOk result (HasRoom self.new.after classes edges) }
@@ -133,8 +128,8 @@ impl Lists {
         self.before.room(classes, edges)
     }
 
-    /// Adds a class that has no neighbour.
-    pub(crate) fn add_class(&mut self)
+    /// Adds a class, which has no neighbour. Takes no memory.
+    pub fn add_class(&mut self)
         requires after { length self.old.after.lists < self.old.after.class_room }
         requires before { length self.old.before.lists < self.old.before.class_room }
         ensures after { IsNextClass self.old.after self.new.after }
@@ -144,8 +139,9 @@ impl Lists {
         self.before.add_class();
     }
 
-    /// Adds the edge from `a` to `b`.
-    pub(crate) fn push(&mut self, a: u32, b: u32)
+    /// Adds the edge from `a` to `b`, which isn't there yet: to `a` its last successor, and to `b` its last
+    /// predecessor. Takes no memory.
+    pub fn push(&mut self, a: u32, b: u32)
         requires a { a < length self.old.after.lists }
         requires b { b < length self.old.before.lists }
         requires after_room { self.old.after.items < self.old.after.item_room }

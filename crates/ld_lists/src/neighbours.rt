@@ -3,8 +3,8 @@
 
 ghost use Rattle.std.specs.Prelude.{◌≡◌, ◌+◌, ◌*◌, ◌<◌, ◌≤◌, [], ◌∷◌, ◌++◌, OnOk, max};
 ghost use Rattle.std.specs.Prelude.{length, take, drop, slice_set, vec_len, vec_capacity};
-ghost use Rattle.ld_graph.specs.Lists.{list_at};
-ghost use Rattle.ld_graph.specs.Inner.Runs.{HasWay};
+ghost use Rattle.ld_lists.specs.Lists.{list_at};
+ghost use Rattle.ld_lists.specs.Inner.Runs.{HasWay};
 
 use std::alloc::{AllocError, Global};
 use std::marker::Model;
@@ -32,11 +32,11 @@ pub struct Neighbours {
 
 impl Model for Neighbours {
     ghost use Rattle.std.specs.Prelude.{◌/◌, map, vec_len, vec_capacity};
-    ghost use Rattle.ld_graph.specs.Lists.{Listed};
+    ghost use Rattle.ld_lists.specs.Lists.{Listed};
 
     ghost Value = { Listed };
 
-    ghost use Rattle.ld_graph.specs.Inner.Runs.{items_of, AreRuns};
+    ghost use Rattle.ld_lists.specs.Inner.Runs.{items_of, AreRuns};
 
     ghost view = { λ n. record {
       lists = map (items_of n.slots.items) n.runs.items;

@@ -9,8 +9,8 @@ use Rattle.std.proofs.lemmas.Map.Keys.{IsDistinct-push}
 use Rattle.std.proofs.lemmas.Map.Views.{Contains-from_any}
 use Rattle.std.proofs.lemmas.Bool.{cases_eq, cases_lt, eqb-true}
 use Rattle.std.proofs.lemmas.Cmp.{nat_eq_equiv}
-use Rattle.ld_graph.specs.Lists.{list_at, IsNear}
-use Rattle.ld_graph.specs.Inner.Sides.{HasEachOnce}
+use Rattle.ld_lists.specs.Lists.{list_at, IsNear}
+use Rattle.ld_lists.specs.Inner.Sides.{HasEachOnce}
 
 -- one more number, which is not there yet
 pub IsDistinct-one_more : (xs : List ℕ) (y : ℕ) → IsDistinct nat_eq xs → ¬ Contains xs y

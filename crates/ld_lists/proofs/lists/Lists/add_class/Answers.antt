@@ -1,7 +1,7 @@
 use Rattle.std.proofs.Common.{sym, subst}
-use Rattle.ld_graph.specs.Inner.Sides.{HasEachOnce}
-use Rattle.ld_graph.proofs.OnceLemmas.{HasEachOnce-class}
-use Rattle.ld_graph.proofs.lists.Lists.add_class.Goals as goal
+use Rattle.ld_lists.specs.Inner.Sides.{HasEachOnce}
+use Rattle.ld_lists.proofs.OnceLemmas.{HasEachOnce-class}
+use Rattle.ld_lists.proofs.lists.Lists.add_class.Goals as goal
 
 pub invariant_of-self : goal.invariant_of-self
 invariant_of-self c = (

@@ -1,0 +1,3 @@
+-- What only invariants, private functions and proofs cite: a reader of the promises needs none of it.
+pub mod Runs
+pub mod Sides
