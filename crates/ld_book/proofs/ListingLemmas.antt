@@ -1,7 +1,7 @@
 -- The traces that are listed, and their numbers.
 use Rattle.std.proofs.Common.{◌≡◌, ◌≢◌, ◌+◌, ◌<◌, ◌++◌, ◌||◌, ◌∷◌, [], List, ℕ, false, AllPairs, arith, cond, length, map, nat_eq, get_or, take, sym, ap, subst, ◌∙◌}
 use Rattle.std.proofs.lemmas.Bool.{false_from_ne_true, eqb-true}
-use Rattle.std.proofs.lemmas.List.{get_or-take, length-take, map-append}
+use Rattle.std.proofs.lemmas.List.{get_or-map, get_or-take, get_or_default, length-map, length-take, map-append, take_more}
 use Rattle.std.proofs.lemmas.List.Folds.{list_any-append, list_any_none}
 use Rattle.std.proofs.lemmas.List.Sums.{fold_push}
 use Rattle.std.specs.List.{list_any}
@@ -52,5 +52,5 @@ fresh_next sources more i d here fresh apart =
     before : list_any (λ source. nat_eq (get_or more i d).number source.number) (take i more) ≡ false
     before = list_any_none (λ source. nat_eq (get_or more i d).number source.number) (take i more) (λ k e within. false_from_ne_true _ (λ same.
         let low : k < i = omega (arith, within, length-take i more) in
-        let at : get_or (take i more) k e ≡ get_or more k e = get_or-take i more k e low in
-        apart k i e low here (ap (λ (s : PlainSource). s.number) (sym at) ∙ sym (eqb-true _ _ same))))
+        let at : get_or (take i more) k e ≡ get_or more k d = get_or-take i more k e low ∙ get_or_default more k e d (omega (arith, low, here)) in
+        apart k i d low here (ap (λ (s : PlainSource). s.number) (sym at) ∙ sym (eqb-true _ _ same))))

@@ -91,7 +91,7 @@ impl<'a> Listing<'a> {
         requires fresh { is_listed self.old.sources trace.source.number ≡ false }
         requires outcome { trace.outcome ≡ outcome (plain trace.source) }
         requires fits { Fits (plain trace.source) }
-        ensures sources { self.new.sources ≡ self.old.sources ++ plain trace.source ∷ [] }
+        ensures sources { self.new.sources ≡ self.old.sources ++ plain trace.entry.source ∷ [] }
         ensures spare { self.new.spare + 1 ≡ self.old.spare }
     {
         self.events += events_of(trace.outcome);

@@ -12,7 +12,3 @@ enter-requires c = sym (c.if-has_any.ensures ∙ (λ i. is_any_listed (c.self.vi
 pub returns-in-Ok-clause-twice : goal.returns-in-Ok-clause-twice
 returns-in-Ok-clause-twice c there =
     absurd (true≢false (sym there ∙ sym (λ i. is_any_listed (c.self.view_is i) (c.listed.ensures.sources i)) ∙ sym c.if-has_any.ensures))
-
-pub returns-clause-twice : goal.returns-clause-twice
-returns-clause-twice c there =
-    absurd (true≢false (sym there ∙ sym (λ i. is_any_listed (c.self.view_is i) (c.listed.ensures.sources i)) ∙ sym c.if-has_any.ensures))

@@ -10,9 +10,9 @@ returns c =
     let union = c.self.inside.union in
     let shows = c.self.invariant.shows in
     (λ i. record {
-      traces = (c.len.ensures ∙ sym (length-map c.traces.result.now (λ l. plain l.source)) ∙ ap length c.traces.ensures.sources) i;
+      traces = (sym (length-map c.traces.result.now (λ l. plain l.source)) ∙ ap length c.traces.ensures.sources) i;
       refused = c.refused.ensures i;
       events = c.events.ensures i;
-      classes = (c.len-2.ensures.len ∙ ap length (c.classes.ensures.same ∙ shows.classes)) i;
+      classes = (c.len.ensures.len ∙ ap length (c.classes.ensures.same ∙ shows.classes)) i;
       dependencies = (ap length c.dependencies.ensures.same ∙ length-edges union.classes union.dependencies c.self.inside.listing.sources shows.numbered shows.witnesses) i;
     }) ∙ ap totals c.self.view_is
