@@ -280,7 +280,7 @@ fn read<'a, T: Ledger, E: Ledger, R: Wait>(
     requires fits { Fits (plain source) }
     requires above { IfSome (last_or None batch.old.sources) (λ last. last.number < source.number) }
     ensures { OnOk result
-        (IfSome (last_or None batch.new.sources) (λ last. last.number ≡ source.number)) }
+        (IfSome (last_or None batch.new.sources) (λ last. last.number ≡ source.entry.number)) }
 {
     // Read before the lock is taken, so that the workers read at the same time.
     batch.push(alloc, source)?;
@@ -306,4 +306,43 @@ fn submit<'a, T: Ledger, E: Ledger, R: Wait>(
     let is_refused = matches!(answer, Err(BatchRefusal::Memory(_)));
     drop(answer);
     if is_refused { Err(AllocError) } else { Ok(()) }
+}
+
+/// The feeders of all workers.
+///
+/// `AllocError` where one of them was refused memory, or memory for the feeders was.
+fn feeders_of<T: Ledger, E: Ledger>(
+    alloc: Global,
+    done: Vec<Done<T, E>>,
+) -> Result<Vec<Feeder<T, E>>, AllocError>
+    ensures { IfOk result (λ feeders. length feeders.items ≡ length done.items) }
+{
+    let mut feeders = Vec::new(alloc);
+    let mut any_refused = false;
+    for Done { feeder, refused } in done {
+        feeders.push(feeder)?;
+        any_refused |= refused;
+    }
+    if any_refused {
+        Err(AllocError)
+    } else {
+        Ok(feeders)
+    }
+}
+
+/// Answers Ok where the book lists each source exactly once, as it stands, and nothing else.
+///
+/// # Errors
+///
+/// `Memory` where memory was refused, and else `Uneven` with the number that tells it.
+fn settled<'a>(alloc: Global, sources: &[Source<'a>], book: &Book<'a>) -> Result<(), WorkFault>
+    requires { AreNumbered (map plain sources.now) }
+    ensures even { OnOk result (ListsEachOnce (map plain sources.now) book.now) }
+    ensures uneven { (number : ℕ) → result ≡ Err (WorkFault.Uneven number)
+        → IsUneven (map plain sources.now) book.now number }
+{
+    match uneven(alloc, sources, book)? {
+        None => Ok(()),
+        Some(number) => Err(WorkFault::Uneven(number)),
+    }
 }
