@@ -2,7 +2,7 @@
 ghost use Rattle.std.specs.Prelude.{◌≡◌, ◌≤◌, All, IfOk, length, map};
 ghost use Rattle.ld_trace.specs.Sources.{AreNumbered, Fits, plain};
 
-use ld_book::{Book, Refusal};
+use ld_book::{Batch, BatchRefusal, Book, Refusal};
 use ld_facts::{Witness, facts};
 use ld_trace::{MOST_TRACES, Source, split};
 use ld_work::{Back, Desk, Feeder, Gate, MOST_FEEDERS, NoGate, Tally, WorkFault, work};
@@ -22,6 +22,8 @@ const INVERSION: &[u8] = b"trace ab\nacquire t A\nacquire t B\nrelease t B\nrele
 
 const THREE_TRACES: &[u8] = b"trace x\nacquire t A\nacquire t B\n\
     trace y\nacquire t B\nacquire t C\ntrace z\nacquire t C\nacquire t A\n";
+
+const SAME_LABEL: &[u8] = b"trace d\nacquire t A\nacquire t B\ntrace d\nacquire t A\nacquire t B\n";
 
 /// The traces of a stream, whichever allocation is refused, as long as it is one alone.
 fn sources_of<'a>(alloc: Global, bytes: &'a [u8]) -> Result<Vec<Source<'a>>, Fail>
@@ -178,6 +180,84 @@ fn workers_read_several_traces(rt: HostRuntime) -> Result<(), Fail> {
         drop(book);
     }
     Ok(())
+}
+
+/// More traces than a worker hands on at once.
+#[test]
+fn workers_read_more_than_a_batch(rt: HostRuntime) -> Result<(), Fail> {
+    let stream = b"trace a\nacquire t A\nacquire t B\n"
+        .repeat(rt.alloc(), 20)
+        .expect(&rt, "a stream");
+    let sources = sources_of(rt.alloc(), &stream)?;
+    for workers in [1, 2, 16] {
+        let book = work(&rt, rt.alloc(), &sources, workers, &NoGate).expect(&rt, "a book");
+        let totals = book.totals();
+        assert_eq!(rt; totals.traces, 20);
+        assert_eq!(rt; totals.refused, 0);
+        assert_eq!(rt; totals.events, 40);
+        assert_eq!(rt; totals.classes, 2);
+        assert_eq!(rt; totals.dependencies, 1);
+        assert_eq!(rt; book.edge(b"A", b"B"), witness(0, 3));
+        drop(book);
+    }
+    Ok(())
+}
+
+/// Pushes a trace whose number is above the last one's.
+fn push_last<'a, R: Abort>(
+    rt: &R,
+    alloc: Global,
+    batch: &mut Batch<'a>,
+    source: Source<'a>,
+) -> Result<(), AllocError> {
+    assert!(rt; source.fits());
+    let last = batch.listed().last().expect(rt, "a trace");
+    let number = last.source.number;
+    assert!(rt; number < source.number);
+    batch.push(alloc, source)
+}
+
+/// Hands a batch of two traces to a desk of one feeder, and one of them once more.
+fn batch_fed<T, E, R>(rt: &R, alloc: Global, traces: Blank, events: Blank) -> Result<(), Fail>
+where
+    T: Ledger + Send + Sync,
+    E: Ledger + Send + Sync,
+    R: Wait + Abort,
+    requires traces { (traces.name ≡ T.name) × (traces.parts ≡ T.parts) × (traces.parts ≡ 1) }
+    requires events { (events.name ≡ E.name) × (events.parts ≡ E.parts) × (events.parts ≡ 1) }
+{
+    let sources = sources_of(alloc, SAME_LABEL)?;
+    assert_eq!(rt; sources.len(), 2);
+    let made = Desk::<T, E>::new(alloc, traces, events, 1);
+    let (desk, mut feeders) = made.expect(rt, "a desk");
+    let mut feeder = feeders.pop().expect(rt, "a feeder");
+    let mut batch = Batch::new(alloc);
+    assert!(rt; sources[0].fits());
+    batch.push(alloc, sources[0]).expect(rt, "memory");
+    push_last(rt, alloc, &mut batch, sources[1]).expect(rt, "memory");
+    let answer = desk.look(rt).submit_batch(&mut feeder, batch);
+    assert!(rt; answer.is_ok());
+    drop(answer);
+    let both = Tally {
+        traces: 2,
+        events: 4,
+    };
+    assert_eq!(rt; feeder.tally(), both);
+    let mut again = Batch::new(alloc);
+    again.push(alloc, sources[0]).expect(rt, "memory");
+    let answer = desk.look(rt).submit_batch(&mut feeder, again);
+    let is_back = matches!(answer, Err(BatchRefusal::Twice(_)));
+    drop(answer);
+    assert!(rt; is_back);
+    assert_eq!(rt; feeder.tally(), both);
+    drop(desk);
+    Ok(())
+}
+
+#[test]
+fn a_batch_counts_in_the_tally(rt: HostRuntime) -> Result<(), Fail> {
+    let (traces, events) = (Blank::new(1), Blank::new(1));
+    batch_fed::<Brand, Brand, HostRuntime>(&rt, rt.alloc(), traces, events)
 }
 
 /// Asserts that two workers give a book of so many traces and events.
