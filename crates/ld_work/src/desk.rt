@@ -40,7 +40,7 @@ impl<'a, T: Ledger, E: Ledger> Model for Locked<'a, T, E> {
 }
 
 impl<'a, T: Ledger, E: Ledger> Locked<'a, T, E> {
-    /// IsSubmitted a trace to the book, and to the tally of the feeder.
+    /// Adds a trace to the book, and to the tally of the feeder.
     fn submit(&mut self, feeder: &mut Feeder<T, E>, facts: Facts<'a>) -> Result<(), Refusal<'a>>
         ensures ok { OnOk result
             (IsSubmitted facts.entry.source self.old self.new feeder.old feeder.new) }
@@ -218,7 +218,7 @@ impl<'d, 'a, T: Ledger, E: Ledger> Look<'d, 'a, T, E> {
         &self.guard.book
     }
 
-    /// IsSubmitted a trace to the desk's book, as `Book::add` does, and counts it in the feeder's tally.
+    /// Adds a trace to the desk's book, as `Book::add` does, and counts it in the feeder's tally.
     ///
     /// # Errors
     ///
