@@ -137,7 +137,7 @@ impl<'a> Book<'a> {
         ensures fit { All Fits self.now }
         ensures distinct { AllPairs (λ a b. a.number ≢ b.number) self.now }
     {
-        // What a set says of its keys, it says with its length.
+        // `len` is called for its clause alone: that the keys are distinct.
         let _ = self.numbers.len();
         self.listed.as_slice()
     }

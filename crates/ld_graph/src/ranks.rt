@@ -57,7 +57,7 @@ impl Ranks {
         ensures ranks { result.now ≡ self.now.ranks }
         ensures inverse { AreInverse self.now.ranks self.now.classes }
     {
-        // The room is read for what the fields have in common.
+        // Read so that the invariant, which speaks of both fields, is at hand.
         let _ = &self.room;
         self.ranks.as_slice()
     }

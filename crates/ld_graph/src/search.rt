@@ -85,7 +85,7 @@ impl Search {
         ensures once { IsDistinct nat_eq self.now.found }
         ensures below { (k : ℕ) → Contains self.now.found k → k < self.now.size }
     {
-        // The marks are read for what they have in common with the places.
+        // Read so that the invariant, which speaks of both fields, is at hand.
         let _ = &self.marks;
         self.found[number]
     }
@@ -94,7 +94,7 @@ impl Search {
     pub fn ends_at(&self, number: usize) -> bool
         ensures { IsTrue result ↔ (length self.now.found ≤ number) }
     {
-        // The marks are read, since a clause speaks of both fields together.
+        // Read so that the invariant, which speaks of both fields, is at hand.
         let _ = &self.marks;
         self.found.len() <= number
     }

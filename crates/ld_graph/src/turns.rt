@@ -8,7 +8,7 @@ ghost use Rattle.ld_lists.specs.Lists.{IsNear};
 use crate::search::Search;
 use ld_lists::{Lists, Steps};
 
-/// Which neighbours are meant.
+/// One of the two searches, by the neighbours that it follows.
 #[derive(Clone, Copy)]
 pub enum Side {
     /// The successors.

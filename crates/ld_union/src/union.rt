@@ -69,7 +69,7 @@ impl<'a> Union<'a> {
         }
     }
 
-    /// Adds what a trace shows, and tells over `news` what of it is new.
+    /// Adds what a trace shows, and writes over `news` what of it is new.
     ///
     /// # Errors
     ///

@@ -15,7 +15,7 @@ use ld_class::Classes;
 use ld_union::Union;
 use std::alloc::{AllocError, Global};
 
-/// A class, and for each class the length of the walks to it that are shortest.
+/// A class, and the *Distance* of each class to it.
 #[derive(Drop)]
 pub(crate) struct Target {
     pub(crate) class: u32,
