@@ -140,7 +140,7 @@ module _ (after before : ℕ → ℕ → Type 0) (turned : (x y : ℕ) → after
   met_walk Before n = turned_reached last_one first (back.reached 0 n)
   met_walk After n = forth.reached (length row - 1) n
 
-  -- the classes of the places that were found
+  -- the classes of the offsets that were found
   abbrev Found : List ℕ → ℕ → Type 0
   Found found x = (x < length ranks) × (IsInside low (length row) (rank x)
       × Contains found (rank x - low))

@@ -23,7 +23,7 @@ pub struct Space {
     pub moved: Vec<u32>,
 }
 
-/// Appends those classes of the row whose places were found, or those whose places weren't, in
+/// Appends those classes of the row whose offsets were found, or those whose offsets weren't, in
 /// their order.
 fn append_part(row: &[u32], search: &Search, found: bool, moved: &mut Vec<u32>)
     requires size { length row.now ≤ search.now.size }
@@ -43,7 +43,7 @@ fn append_part(row: &[u32], search: &Search, found: bool, moved: &mut Vec<u32>)
     }
 }
 
-/// Puts those classes of the row first whose places were found, or those whose places weren't, and
+/// Puts those classes of the row first whose offsets were found, or those whose offsets weren't, and
 /// then the others, all in their order.
 fn split_row(row: &[u32], search: &Search, front: bool, moved: &mut Vec<u32>)
     requires size { length row.now ≤ search.now.size }

@@ -13,7 +13,7 @@ abbrev pub count : (ℕ → Bool) → ℕ → ℕ
 count p zero = 0
 count p (suc n) = count p n + (if p n then 1 else 0)
 
--- of the first n items those whose places pass the test, in their order
+-- of the first n items those whose offsets pass the test, in their order
 abbrev pub picked : (ℕ → Bool) → (ℕ → ℕ) → ℕ → List ℕ
 picked p item zero = []
 picked p item (suc n) = if p n then picked p item n ++ item n ∷ [] else picked p item n
@@ -27,7 +27,7 @@ split_offset p m i = if p i then count p i else count p m + count (λ k. not (p 
 abbrev pub split : (ℕ → Bool) → (ℕ → ℕ) → ℕ → List ℕ
 split p item m = picked p item m ++ picked (λ k. not (p k)) item m
 
--- what a search has found, among so many places
+-- what a search has found, among so many offsets
 pub record Sought : Type 0 where
   pub found : List ℕ
   pub size : ℕ
@@ -48,7 +48,7 @@ pub record IsRow (ranks : List ℕ) (low : ℕ) (row : List ℕ) : Type 0 where
   pub back : (x : ℕ) → x < length ranks → IsInside low (length row) (slice_index ranks x)
       → slice_index row (slice_index ranks x - low) ≡ x
 
--- places of classes that are near were added
+-- offsets of classes that are near were added
 pub record IsGrown (near : ℕ → Type 0) (rank : ℕ → ℕ) (low len : ℕ) (old new : List ℕ) : Type 0 where
   pub longer : length old ≤ length new
   pub front : (i : ℕ) → i < length old → slice_index new i ≡ slice_index old i
@@ -59,7 +59,7 @@ pub record IsGrown (near : ℕ → Type 0) (rank : ℕ → ℕ) (low len : ℕ) 
 abbrev pub Reached : (ℕ → ℕ → Type 0) → ℕ → ℕ → Type 0
 Reached near a b = (a ≡ b) ⊎ HasWalk near a b
 
--- the places that were found from this one are those of classes that it reaches
+-- the offsets that were found from this one are those of classes that it reaches
 pub record IsSought (near : ℕ → ℕ → Type 0) (row : List ℕ) (start : ℕ) (found : List ℕ) : Type 0 where
   pub begun : Contains found start
   pub within : (k : ℕ) → Contains found k → k < length row
@@ -87,7 +87,7 @@ abbrev pub is_part : List ℕ → Bool → ℕ → Bool
 is_part found true k = list_any (nat_eq k) found
 is_part found false k = not (list_any (nat_eq k) found)
 
--- the places that go to the front: what the search backward found, or what the other didn't find
+-- the offsets that go to the front: what the search backward found, or what the other didn't find
 abbrev pub in_front : Side → (behind ahead : List ℕ) → ℕ → Bool
 in_front Before behind ahead = is_part behind true
 in_front After behind ahead = is_part ahead false
