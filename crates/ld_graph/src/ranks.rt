@@ -1,7 +1,8 @@
 //! The ranks of the classes, kept both ways.
 
-ghost use Rattle.std.specs.Prelude.{◌≡◌, ◌↔◌, ℕ, ◌+◌, ◌^◌, ◌<◌, ◌≤◌, [], ◌∷◌, ◌++◌, length};
+ghost use Rattle.std.specs.Prelude.{◌≡◌, ◌↔◌, ℕ, ◌+◌, ◌<◌, ◌≤◌, [], ◌∷◌, ◌++◌, length};
 ghost use Rattle.std.specs.Prelude.{slice_index, IfSome, MatchOption, OnOk};
+ghost use Rattle.ld_graph.specs.declared.graph.TheConstants.{MOST_GRAPH_CLASSES};
 ghost use Rattle.ld_graph.specs.Inner.Repairs.{AreInverse, IsRepaired, Reached};
 ghost use Rattle.ld_lists.specs.Lists.{IsNear};
 
@@ -64,7 +65,7 @@ impl Ranks {
 
     /// Makes memory for so many classes in all.
     pub fn room(&mut self, classes: usize) -> Result<(), AllocError>
-        requires { classes ≤ 2 ^ 30 }
+        requires { classes ≤ MOST_GRAPH_CLASSES }
         ensures ranks { self.new.ranks ≡ self.old.ranks }
         ensures kept { self.old.room ≤ self.new.room }
         ensures room { OnOk result (classes ≤ self.new.room) }
