@@ -1,9 +1,8 @@
 //! A violation of each kind, as they are found by the numbers of the classes.
 ghost use Rattle.std.specs.Prelude.{◌≡◌, ◌↔◌, ℕ, ◌<◌, true, length, All, IsTrue, MatchOption};
 ghost use Rattle.std.specs.Prelude.{[], List, IfSome, option_map, slice_index_or};
-ghost use Rattle.ld_class.specs.Usage.{has_bit};
+ghost use Rattle.ld_class.specs.Usage.{has_bit, no_bits};
 ghost use Rattle.ld_facts.specs.Usage.{usage_of};
-ghost use Rattle.ld_facts.specs.Uses.{none};
 ghost use Rattle.ld_facts.specs.Usage.Bit.{In, On};
 ghost use Rattle.ld_find.specs.Alarms.{IsExact, plain_alarms};
 ghost use Rattle.ld_find.specs.Inner.Numbers.{AreFound, AreWithin, IsConflictAt, IsForbiddenAt};
@@ -275,7 +274,7 @@ fn walk_to(union: &Union<'_>, class: u32, state: State) -> Option<Forbidden>
 /// Whether the class has the bit.
 fn has(rows: &[UsageRow], class: usize, bit: Usage) -> bool
     requires { class < length rows.now }
-    ensures { result ≡ has_bit (slice_index_or (bits_of rows.now) class none) bit }
+    ensures { result ≡ has_bit (slice_index_or (bits_of rows.now) class no_bits) bit }
 {
     rows[class].bits.contains(bit)
 }

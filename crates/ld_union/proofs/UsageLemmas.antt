@@ -10,7 +10,7 @@ use Rattle.std.specs.List.{position_or_len}
 use Rattle.std.specs.Str.{bytes_eq}
 use Rattle.ld_class.specs.declared.usage.Usage.{Usage}
 use Rattle.ld_class.specs.Names.{AreDistinct, IsNameAt, place_of}
-use Rattle.ld_class.specs.Usage.{has_bit, in_hard, in_soft, on_hard, on_soft, union}
+use Rattle.ld_class.specs.Usage.{has_bit, in_hard, in_soft, no_bits, on_hard, on_soft, union}
 use Rattle.ld_class.proofs.NameLemmas.{place_of-at, place_of-Some}
 use Rattle.ld_trace.specs.declared.event.State.TheVariants.{Hard, Soft}
 use Rattle.ld_rules.specs.declared.outcome.Witness.{Witness}
@@ -35,7 +35,7 @@ abbrev these : Bool → Bit → List Bit → List Bit
 these there bit more = cond there (bit ∷ more) more
 
 abbrev set_by : Bool → Bool → Bool → Bool → Usage
-set_by a b c d = fold union (record { 0 = 0 }) (map usage_of (these a (In Hard) (these b (On Hard) (these c (In Soft) (these d (On Soft) [])))))
+set_by a b c d = fold union no_bits (map usage_of (these a (In Hard) (these b (On Hard) (these c (In Soft) (these d (On Soft) [])))))
 
 -- and one bit more
 one_more : (a b c d : Bool) → (union (set_by a b c d) in_hard ≡ set_by true b c d) × (union (set_by a b c d) on_hard ≡ set_by a true c d) ×

@@ -1,4 +1,5 @@
 use Rattle.std.proofs.Common.{rules, ◌≡◌, ◌+◌, ◌-◌, ◌<◌, ◌≤◌, ◌∙◌, List, [], ap, arith, get_or, length, subst, sym}
+use Rattle.ld_class.specs.Usage.{no_bits}
 use Rattle.ld_held.specs.declared.uses.UsageFact.{UsageFact}
 use Rattle.ld_facts.specs.Dependency.{least_line}
 use Rattle.ld_facts.specs.Facts.{named_use}
@@ -11,7 +12,7 @@ use Rattle.ld_union.proofs.SeenLemmas.{all_noted, none_noted, one_noted, same_us
 use Rattle.ld_union.proofs.usage.add_usage.Goals as goal
 
 abbrev no_fact : UsageFact
-no_fact = record { class = 0; bit = record { 0 = 0 }; line = 0 }
+no_fact = record { class = 0; bit = no_bits; line = 0 }
 
 pub loop-seen-init : goal.loop-seen-init
 loop-seen-init c = record {
