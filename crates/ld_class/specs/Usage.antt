@@ -25,8 +25,8 @@ abbrev pub on_soft : Usage
 on_soft = record { 0 = 8 }
 
 -- the bits that either has
-abbrev pub union : Usage → Usage → Usage
-union a b = record { 0 = bit_or a.0 b.0 }
+abbrev pub either : Usage → Usage → Usage
+either a b = record { 0 = bit_or a.0 b.0 }
 
 -- the set has the bit
 abbrev pub has_bit : Usage → Usage → Bool

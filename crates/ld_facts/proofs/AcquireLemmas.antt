@@ -19,7 +19,7 @@ use Rattle.ld_rules.specs.declared.outcome.TheConstants.{MOST_CLASSES, MOST_HELD
 use Rattle.ld_held.specs.declared.edges.EdgeFact.{EdgeFact}
 use Rattle.ld_facts.specs.declared.scan.Scan.{Scan}
 use Rattle.ld_held.specs.declared.uses.UsageFact.{UsageFact}
-use Rattle.ld_held.specs.Inner.Edges.{edge_to, with_edge}
+use Rattle.ld_held.specs.Inner.Edges.{edge_to, with_edge_fact}
 use Rattle.ld_rules.specs.Flags.{is_enabled}
 use Rattle.ld_rules.specs.Frames.{contexts, frame_of, task_of}
 use Rattle.ld_rules.specs.Held.{Key, held_by, held_in, lock_acquired}
@@ -235,7 +235,7 @@ module _ (all : List Position) (old : Scan) (is : IsAt all old) (name : List ℕ
       ∙ sym (told-of_keys lock.class line (held_in (events all) name (frame_of (events all) name)))
 
   abbrev told_edges : List EdgeFact
-  told_edges = fold with_edge new.locks.edges (map (edge_to number line) froms)
+  told_edges = fold with_edge_fact new.locks.edges (map (edge_to number line) froms)
 
   edges-told : map (named new.classes) told_edges ≡ each_once same_seen (seen dependencies_at (all ++ happens line (Acquire name lock) ∷ []))
   edges-told =

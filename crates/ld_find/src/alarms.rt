@@ -110,8 +110,8 @@ impl Found {
         Alarms {
             cycle: edge_names(classes, self.cycle),
             conflict: [
-                name_of(classes, self.conflict.hard),
-                name_of(classes, self.conflict.soft),
+                class_name(classes, self.conflict.hard),
+                class_name(classes, self.conflict.soft),
             ],
             forbidden: [
                 end_names(classes, self.forbidden.hard),
@@ -176,7 +176,7 @@ fn edge_names<'a>(classes: &Classes<'a>, edge: Option<Edge>) -> Option<(&'a [u8]
 }
 
 /// The name of the class, if there is one.
-fn name_of<'a>(classes: &Classes<'a>, class: Option<u32>) -> Option<&'a [u8]>
+fn class_name<'a>(classes: &Classes<'a>, class: Option<u32>) -> Option<&'a [u8]>
     requires { IfSome class (λ c. c < length classes.now) }
     ensures { option_map (λ name. name.now) result
         ≡ option_map (λ c. slice_index_or classes.now c []) class }

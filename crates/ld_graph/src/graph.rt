@@ -43,9 +43,9 @@ impl Model for Graph {
 
     ghost Value = { PlainGraph };
 
-    ghost use Rattle.ld_graph.specs.Inner.Kept.{seen, IsKept};
+    ghost use Rattle.ld_graph.specs.Inner.Kept.{graph_of, IsKept};
 
-    ghost view = { seen };
+    ghost view = { graph_of };
 
     ghost invariant = { IsKept };
 }

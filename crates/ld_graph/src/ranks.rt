@@ -3,7 +3,7 @@
 ghost use Rattle.std.specs.Prelude.{◌≡◌, ◌↔◌, ℕ, ◌+◌, ◌<◌, ◌≤◌, [], ◌∷◌, ◌++◌, length};
 ghost use Rattle.std.specs.Prelude.{slice_index, IfSome, MatchOption, OnOk};
 ghost use Rattle.ld_graph.specs.declared.graph.TheConstants.{MOST_GRAPH_CLASSES};
-ghost use Rattle.ld_graph.specs.Inner.Repairs.{AreInverse, IsRepaired, Reached};
+ghost use Rattle.ld_graph.specs.Inner.Repairs.{AreInverse, IsRepaired, IsOrReaches};
 ghost use Rattle.ld_lists.specs.Lists.{IsNear};
 
 use crate::repair::{Space, mend};
@@ -117,7 +117,7 @@ impl Ranks {
         ensures told { IfSome result (λ expanded. expanded ≡ steps.new) }
         ensures room { self.new.room ≡ self.old.room }
         ensures ranks { MatchOption result
-            ((self.new.ranks ≡ self.old.ranks) × Reached (IsNear lists.now.after.lists) b a)
+            ((self.new.ranks ≡ self.old.ranks) × IsOrReaches (IsNear lists.now.after.lists) b a)
             (IsRepaired (IsNear lists.now.after.lists) a b self.old.ranks self.new.ranks) }
     {
         mend(

@@ -5,7 +5,7 @@ ghost use Rattle.std.specs.Prelude.{length, slice_index, vec_len, vec_capacity, 
 ghost use Rattle.std.specs.Bool.{OnTrue, OnFalse};
 ghost use Rattle.ld_graph.specs.declared.graph.TheConstants.{MOST_GRAPH_CLASSES};
 ghost use Rattle.ld_graph.specs.Inner.Repairs.{AreInverse, HasMet, AreRanked, IsPlan, IsRepaired};
-ghost use Rattle.ld_graph.specs.Inner.Repairs.{IsRow, Reached};
+ghost use Rattle.ld_graph.specs.Inner.Repairs.{IsRow, IsOrReaches};
 ghost use Rattle.ld_graph.specs.Inner.Repairs.{count, in_front, is_part, picked, split};
 ghost use Rattle.ld_lists.specs.Lists.{IsNear};
 
@@ -121,7 +121,7 @@ fn plan(
     requires steps { steps.old ≡ 0 }
     ensures told { IfSome result (λ expanded. expanded ≡ steps.new) }
     ensures plan { MatchOption result
-        (Reached (IsNear lists.now.after.lists) (slice_index row.now 0)
+        (IsOrReaches (IsNear lists.now.after.lists) (slice_index row.now 0)
         (slice_index row.now (length row.now - 1)))
         (IsPlan (IsNear lists.now.after.lists) ranks.now low row.now space.new.moved.items) }
     ensures behind { (space.new.behind.found ≡ [])
@@ -193,7 +193,7 @@ pub fn mend(
     requires steps { steps.old ≡ 0 }
     ensures told { IfSome result (λ expanded. expanded ≡ steps.new) }
     ensures ranks { MatchOption result
-        ((ranks.new ≡ ranks.old) × Reached (IsNear lists.now.after.lists) b a)
+        ((ranks.new ≡ ranks.old) × IsOrReaches (IsNear lists.now.after.lists) b a)
         (IsRepaired (IsNear lists.now.after.lists) a b ranks.old ranks.new) }
     ensures inverse { AreInverse ranks.new classes.new }
     ensures behind { (space.new.behind.found ≡ [])

@@ -34,9 +34,9 @@ impl Model for Reach {
 
     ghost Value = { PlainReach };
 
-    ghost use Rattle.ld_reach.specs.Inner.Kept.{seen, IsReachKept};
+    ghost use Rattle.ld_reach.specs.Inner.Kept.{reach_of, IsReachKept};
 
-    ghost view = { seen };
+    ghost view = { reach_of };
 
     ghost invariant = { IsReachKept };
 }

@@ -6,8 +6,8 @@ use Rattle.std.proofs.lemmas.List.{get_or-map, get_or-set_same, get_or-set_other
 use Rattle.std.proofs.lemmas.List.{length-map, length-replicate, length-set, map-set, map-append}
 use Rattle.std.proofs.lemmas.List.Elements.{All-nil, All-push, Contains-append_left, Contains-append_right}
 use Rattle.ld_class.specs.declared.usage.Usage.{Usage}
-use Rattle.ld_class.specs.Usage.{has_bit, no_bits, union}
-use Rattle.ld_class.proofs.UsageLemmas.{has_bit-union}
+use Rattle.ld_class.specs.Usage.{either, has_bit, no_bits}
+use Rattle.ld_class.proofs.UsageLemmas.{has_bit-either}
 use Rattle.ld_trace.specs.declared.event.State.TheVariants.{Hard, Soft}
 use Rattle.ld_facts.specs.Usage.{Bit, IsBit, bit_of, usage_of}
 use Rattle.ld_facts.specs.Usage.Bit.{In, On}
@@ -61,11 +61,11 @@ same_set (On Soft) (On Hard) = inr refl
 same_set (On Soft) (On Soft) = inl refl
 
 -- each bit is one digit
-with_one : (usage more : Usage) (bit : Bit) → has_bit (union usage more) (usage_of bit) ≡ (has_bit usage (usage_of bit) || has_bit more (usage_of bit))
-with_one usage more (In Hard) = has_bit-union usage more (usage_of (In Hard)) 0 refl
-with_one usage more (On Hard) = has_bit-union usage more (usage_of (On Hard)) 1 refl
-with_one usage more (In Soft) = has_bit-union usage more (usage_of (In Soft)) 2 refl
-with_one usage more (On Soft) = has_bit-union usage more (usage_of (On Soft)) 3 refl
+with_one : (usage more : Usage) (bit : Bit) → has_bit (either usage more) (usage_of bit) ≡ (has_bit usage (usage_of bit) || has_bit more (usage_of bit))
+with_one usage more (In Hard) = has_bit-either usage more (usage_of (In Hard)) 0 refl
+with_one usage more (On Hard) = has_bit-either usage more (usage_of (On Hard)) 1 refl
+with_one usage more (In Soft) = has_bit-either usage more (usage_of (In Soft)) 2 refl
+with_one usage more (On Soft) = has_bit-either usage more (usage_of (On Soft)) 3 refl
 
 -- a set that has this bit too
 has_one : (bit : Bit) → has_bit (usage_of bit) (usage_of bit) ≡ true
@@ -118,11 +118,11 @@ module _ (rows : List UsageRow) (count : ℕ) where
 
 -- one row gets a bit
 module _ (before : List Usage) (rows : List UsageRow) (told : List NewBit) (is : TellsBits before (bits_of rows) told)
-    (c : ℕ) (d row : UsageRow) (within : c < length rows) (bit : Usage) (one : IsBit bit) (same : row.bits ≡ union (get_or rows c d).bits bit) where
+    (c : ℕ) (d row : UsageRow) (within : c < length rows) (bit : Usage) (one : IsBit bit) (same : row.bits ≡ either (get_or rows c d).bits bit) where
   abbrev after : List Usage
   after = bits_of (set rows c row)
 
-  here : get_or after c no_bits ≡ union (get_or rows c d).bits bit
+  here : get_or after c no_bits ≡ either (get_or rows c d).bits bit
   here =
       get_or-map (λ (r : UsageRow). r.bits) (set rows c row) c row no_bits (subst (λ n. c < n) (sym (length-set rows c row)) within)
       ∙ ap (λ (r : UsageRow). r.bits) (get_or-set_same rows c row row within)

@@ -15,7 +15,7 @@ use Rattle.ld_facts.specs.declared.scan.Scan.{Scan}
 use Rattle.ld_facts.specs.declared.scan.Taking.{Taking}
 use Rattle.ld_facts.specs.declared.scan.Taking.TheVariants.{Trying, Waiting}
 use Rattle.ld_facts.specs.Facts.{named, named_use}
-use Rattle.ld_held.specs.Inner.Edges.{edge_to, with_edge}
+use Rattle.ld_held.specs.Inner.Edges.{edge_to, with_edge_fact}
 use Rattle.ld_held.specs.Inner.Interrupts.{fresh, levels_of, start_now, starts_of, states_of}
 use Rattle.ld_rules.specs.Inner.Levels.{levels, starts, states}
 use Rattle.ld_facts.specs.Facts.{IsUse}
@@ -94,7 +94,7 @@ waited scan id class line =
     let froms = map (λ hold. hold.class) inner in
     record scan {
       locks = record scan.locks {
-        edges = fold with_edge scan.locks.edges (map (edge_to class line) froms);
+        edges = fold with_edge_fact scan.locks.edges (map (edge_to class line) froms);
       };
       uses = fold with_use scan.uses (in_facts interrupts line class);
     }

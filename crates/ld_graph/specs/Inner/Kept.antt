@@ -14,8 +14,8 @@ order_of true ranks = None
 order_of false ranks = Some ranks
 
 -- what callers see of the fields
-abbrev pub seen : Inside → PlainGraph
-seen g = record {
+abbrev pub graph_of : Inside → PlainGraph
+graph_of g = record {
   classes = g.classes;
   edges = g.edges.keys;
   spare_classes = g.spare_classes;

@@ -56,20 +56,20 @@ pub record IsGrown (near : ℕ → Type 0) (rank : ℕ → ℕ) (low len : ℕ) 
       ⊎ ((x : ℕ) × (near x × ((rank x ≡ low + k) × (k < len))))
 
 -- the class is this one, or a walk leads to it
-abbrev pub Reached : (ℕ → ℕ → Type 0) → ℕ → ℕ → Type 0
-Reached near a b = (a ≡ b) ⊎ HasWalk near a b
+abbrev pub IsOrReaches : (ℕ → ℕ → Type 0) → ℕ → ℕ → Type 0
+IsOrReaches near a b = (a ≡ b) ⊎ HasWalk near a b
 
 -- the offsets that were found from this one are those of classes that it reaches
 pub record IsSought (near : ℕ → ℕ → Type 0) (row : List ℕ) (start : ℕ) (found : List ℕ) : Type 0 where
   pub begun : Contains found start
   pub within : (k : ℕ) → Contains found k → k < length row
-  pub reached : (k : ℕ) → Contains found k → Reached near (slice_index row start)
+  pub reached : (k : ℕ) → Contains found k → IsOrReaches near (slice_index row start)
       (slice_index row k)
 
 -- of the first n classes that were found, all neighbours in the range were found
-abbrev pub IsClosed : (ℕ → ℕ → Type 0) → (ranks : List ℕ) → (low : ℕ) → (row found : List ℕ)
+abbrev pub HasAllNear : (ℕ → ℕ → Type 0) → (ranks : List ℕ) → (low : ℕ) → (row found : List ℕ)
     → (n : ℕ) → Type 0
-IsClosed near ranks low row found n = (i y : ℕ) → i < n
+HasAllNear near ranks low row found n = (i y : ℕ) → i < n
     → near (slice_index row (slice_index found i)) y
     → IsInside low (length row) (slice_index ranks y)
     → Contains found (slice_index ranks y - low)
@@ -78,9 +78,9 @@ IsClosed near ranks low row found n = (i y : ℕ) → i < n
 abbrev pub HasEnded : Side → (sides : Sides) → (ranks : List ℕ) → (low : ℕ)
     → (row behind ahead : List ℕ) → Type 0
 HasEnded Before sides ranks low row behind ahead =
-    IsClosed (IsNear sides.before.lists) ranks low row behind (length behind)
+    HasAllNear (IsNear sides.before.lists) ranks low row behind (length behind)
 HasEnded After sides ranks low row behind ahead =
-    IsClosed (IsNear sides.after.lists) ranks low row ahead (length ahead)
+    HasAllNear (IsNear sides.after.lists) ranks low row ahead (length ahead)
 
 -- the offset is one of those that were found, or is none of them
 abbrev pub is_part : List ℕ → Bool → ℕ → Bool

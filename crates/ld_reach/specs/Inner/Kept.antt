@@ -7,8 +7,8 @@ use Rattle.ld_reach.specs.declared.reach.Reach.TheInside.{Inside}
 use Rattle.ld_reach.specs.Reach.{IsSource, PlainReach}
 
 -- what callers see of the fields
-abbrev pub seen : Inside → PlainReach
-seen r = record {
+abbrev pub reach_of : Inside → PlainReach
+reach_of r = record {
   sources = r.sources.items;
   marks = r.marks.items;
   reached = r.reached.items;

@@ -3,7 +3,7 @@ use Rattle.std.specs.Vec.{with_items}
 use Rattle.std.proofs.lemmas.List.{drop_all, get_or_default, with_items_is}
 use Rattle.std.proofs.lemmas.List.Elements.{Contains-push}
 use Rattle.ld_graph.specs.Edges.{IsEdge, edge}
-use Rattle.ld_reach.specs.Inner.Kept.{IsSpread, none_ahead, seen}
+use Rattle.ld_reach.specs.Inner.Kept.{IsSpread, none_ahead, reach_of}
 use Rattle.ld_lists.specs.Lists.{IsNear}
 use Rattle.ld_reach.specs.Reach.{IsReach, IsSource, PlainReach}
 use Rattle.ld_reach.proofs.ReachLemmas.{IsGiven-drop, IsSource-along, marks_len, spread-edge, spread-given, spread-reach, spread-same, spread-unmarked}
@@ -11,7 +11,7 @@ use Rattle.ld_reach.proofs.reach.Reach.along.Goals as goal
 
 pub returns-then-not-index-clause-exact : goal.returns-then-not-index-clause-exact
 returns-then-not-index-clause-exact c = λ before seeds is exact.
-    let old : PlainReach = seen c.self.inside in
+    let old : PlainReach = reach_of c.self.inside in
     let within : c.args.a < length old.marks = omega (arith, c.requires.from, c.requires.same, marks_len c.self.inside c.args.self.now c.self.view_is) in
     let was : IsReach (IsEdge before) seeds old = subst (IsReach (IsEdge before) seeds) (sym c.self.view_is) exact in
     let off : get_or old.marks c.args.a false ≡ false = get_or_default old.marks c.args.a false c.index.result.now within ∙ sym c.index.ensures ∙ c.if-not-index.true in
@@ -28,7 +28,7 @@ pub returns-clause-exact : goal.returns-clause-exact
 returns-clause-exact c = λ before seeds is exact.
     let step = IsEdge c.args.graph.now.edges in
     let near = IsNear c.lists.result.now.after.lists in
-    let old : PlainReach = seen c.self.inside in
+    let old : PlainReach = reach_of c.self.inside in
     let kept = marks_len c.self.inside c.args.self.now c.self.view_is in
     let was : IsReach (IsEdge before) seeds old = subst (IsReach (IsEdge before) seeds) (sym c.self.view_is) exact in
     let first : IsSpread step seeds (λ x y. (x ≡ c.args.a) × (y ≡ c.args.b)) old.sources old.marks [] =

@@ -3,7 +3,7 @@ use Rattle.std.specs.Vec.{with_items}
 use Rattle.std.proofs.lemmas.List.{drop_all, get_or_default, with_items_is}
 use Rattle.std.proofs.lemmas.List.Elements.{Contains-push}
 use Rattle.ld_graph.specs.Edges.{IsEdge}
-use Rattle.ld_reach.specs.Inner.Kept.{IsSpread, all_ahead, none_ahead, seen}
+use Rattle.ld_reach.specs.Inner.Kept.{IsSpread, all_ahead, none_ahead, reach_of}
 use Rattle.ld_lists.specs.Lists.{IsNear}
 use Rattle.ld_reach.specs.Reach.{IsReach, PlainReach}
 use Rattle.ld_reach.proofs.ReachLemmas.{marks_len, reach-spread, spread-longer, spread-reach, spread-seeded, spread-seeded_again}
@@ -12,7 +12,7 @@ use Rattle.ld_reach.proofs.reach.Reach.seed.Goals as goal
 pub returns-then-index-clause-exact : goal.returns-then-index-clause-exact
 returns-then-index-clause-exact c = λ seeds exact.
     let step = IsEdge c.args.graph.now.edges in
-    let old : PlainReach = seen c.self.inside in
+    let old : PlainReach = reach_of c.self.inside in
     let was : IsReach step seeds old = subst (IsReach step seeds) (sym c.self.view_is) exact in
     let within : c.args.c < length old.marks = omega (arith, c.requires.class, c.requires.same, marks_len c.self.inside c.args.self.now c.self.view_is) in
     subst (IsReach step (seeds ++ c.args.c ∷ [])) c.self.view_is
@@ -34,7 +34,7 @@ returns-clause-exact c = λ seeds exact.
     let step = IsEdge c.args.graph.now.edges in
     let near = IsNear c.lists-lists.result.now.after.lists in
     let all = seeds ++ c.args.c ∷ [] in
-    let old : PlainReach = seen c.self.inside in
+    let old : PlainReach = reach_of c.self.inside in
     let kept = marks_len c.self.inside c.args.self.now c.self.view_is in
     let was : IsReach step seeds old = subst (IsReach step seeds) (sym c.self.view_is) exact in
     let first : IsSpread near seeds none_ahead old.sources old.marks [] = spread-longer step near seeds none_ahead old.sources old.marks
