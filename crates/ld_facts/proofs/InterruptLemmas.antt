@@ -25,7 +25,8 @@ use Rattle.ld_held.specs.Inner.Locks.{Hold, ChangesInterrupts, HeldByTasks}
 use Rattle.ld_rules.specs.Open.{is_some_and}
 use Rattle.ld_rules.specs.Outcome.{class_acquired, each_once, event_fault, events, is_bad_enable, is_bad_exit, is_badly_nested, is_held_at_exit, is_masked, is_one_too_many, tasks}
 use Rattle.ld_facts.specs.Inner.Reading.{HasTask, IsAt, IsTask, happens}
-use Rattle.ld_rules.specs.Usage.{uses_at, same_what}
+use Rattle.ld_rules.specs.Usage.{uses_at}
+use Rattle.ld_rules.specs.Inner.Scanned.{same_use_seen}
 use Rattle.ld_facts.specs.Facts.{IsUse}
 use Rattle.ld_held.specs.Inner.Uses.{on_facts, with_use}
 use Rattle.ld_rules.proofs.FlagLemmas.{levels-disable, levels-enable, levels-enter, levels-exit_good, stack-quiet, states-enter, states-exit}
@@ -103,7 +104,7 @@ module _ (all : List Position) (old : Scan) (is : IsAt all old) (name : List ℕ
   module _ (e : PlainEvent) (line : ℕ) (own_task : task_of e ≡ name) (locks : HeldByTasks) (moved : ChangesInterrupts mid.locks locks id)
       (fault : event_fault (events all) e ≡ None) (acquires_none : class_acquired e ≡ None) (depends_none : dependencies_at (events all) e ≡ [])
       (own : IsTask old.classes held_now (get_or locks.interrupts id fresh) (events all ++ e ∷ []) name) where
-    moved-by : (uses : List UsageFact) → map (named_use old.classes) uses ≡ each_once same_what (seen uses_at (all ++ happens line e ∷ [])) → All
+    moved-by : (uses : List UsageFact) → map (named_use old.classes) uses ≡ each_once same_use_seen (seen uses_at (all ++ happens line e ∷ [])) → All
         (IsUse old.classes) uses → IsAt (all ++ happens line e ∷ []) (record { tasks = mid.tasks; classes = mid.classes; locks = locks; uses = uses })
     moved-by uses shown used =
         unacquired all old e line id mid (record { tasks = mid.tasks; classes = mid.classes; locks = locks; uses = uses }) is
@@ -126,7 +127,7 @@ module _ (all : List Position) (old : Scan) (is : IsAt all old) (name : List ℕ
         moved-by counted
         ((λ i. map (named_use old.classes) (fold with_use (has.uses i) (on_facts interrupts line (map (λ hold. hold.class) (held_same locks moved i)))))
         ∙ uses-named old.classes distinct old.uses (on_facts interrupts line numbers) is.used within
-        ∙ (λ i. fold (with_new same_what) (is.uses i) (on_facts-named old.classes interrupts line numbers (held_by (events all) name)
+        ∙ (λ i. fold (with_new same_use_seen) (is.uses i) (on_facts-named old.classes interrupts line numbers (held_by (events all) name)
         (classes-are old.classes held_now frames_now (events all) name before) i))
         ∙ ap (with_uses line (uses_once all)) (
         (λ i. map (on_use Hard) (if enabled Hard i then counts i else []) ++ map (on_use Soft) (if enabled Soft i then counts i else []))

@@ -11,7 +11,7 @@ ghost use Rattle.ld_held.specs.Inner.Interrupts.{IsEntered, IsLeft, IsSet, fresh
 ghost use Rattle.ld_held.specs.Inner.Interrupts.{states_of};
 ghost use Rattle.ld_held.specs.Inner.Locks.{ChangesInterrupts, chain_of, holds_of, inner_of, is_of, outer_of};
 ghost use Rattle.ld_held.specs.Inner.Stacks.{plain_held};
-ghost use Rattle.ld_rules.specs.Open.{remove_last};
+ghost use Rattle.ld_rules.specs.Inner.Scanned.{remove_last};
 ghost use Rattle.ld_rules.specs.declared.outcome.TheConstants.{MOST_HELD};
 
 use crate::chains::{Chains, Link, Told};

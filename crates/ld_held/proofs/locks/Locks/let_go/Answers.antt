@@ -8,7 +8,7 @@ use Rattle.ld_held.specs.declared.held.Held.{Held}
 use Rattle.ld_held.specs.Inner.Interrupts.{fresh, start_now}
 use Rattle.ld_held.specs.Inner.Locks.{AreTied, HeldByTasks, hold_of, holds_of, is_of, held_by_tasks}
 use Rattle.ld_held.specs.Inner.Stacks.{PlainStack, empty_stack, holds, inner, plain_held}
-use Rattle.ld_rules.specs.Open.{remove_last}
+use Rattle.ld_rules.specs.Inner.Scanned.{remove_last}
 use Rattle.ld_rules.specs.declared.outcome.TheConstants.{MOST_HELD}
 use Rattle.ld_held.proofs.StackLemmas.{part_is}
 use Rattle.ld_held.proofs.LockLemmas.{any_shown, none_gone, removed_some, hold_gone, held_again, holds_at, holds_shown, interrupts_shown, shown_held, tied_cut, within_shown}
