@@ -69,7 +69,8 @@ alike_seen x y is z = alike_from_decides same_dependency Decides-same_dependency
 module _ (names : List (List ℕ)) (edges : List EdgeFact) (shown : List (Seen Dependency)) (is : map (named names) edges ≡ each_once same_dependency_seen shown) where
   once_named : AllPairs (λ d e. (d.from ≡ e.from) × (d.to ≡ e.to) → ⊥) edges
   once_named i j d before below both =
-      let apart : AllPairs (λ a b. same_dependency_seen b a ≡ false) (map (named names) edges) = subst (AllPairs (λ a b. same_dependency_seen b a ≡ false)) (sym is) (each_once-pairs same_dependency_seen alike_seen shown) in
+      let apart : AllPairs (λ a b. same_dependency_seen b a ≡ false) (map (named names) edges) = subst (AllPairs (λ a b. same_dependency_seen b a ≡ false)) (sym is)
+      (each_once-pairs same_dependency_seen alike_seen shown) in
       let differ : same_dependency_seen (get_or (map (named names) edges) j (named names d)) (get_or (map (named names) edges) i (named names d)) ≡ false = apart
       i j (named names d) before (omega (arith, below, length-map edges (named names))) in
       let here : get_or (map (named names) edges) i (named names d) ≡ named names (get_or edges i d) = get_or-map (named names) edges i d (named names d) (omega arith) in
@@ -81,7 +82,8 @@ module _ (names : List (List ℕ)) (edges : List EdgeFact) (shown : List (Seen D
 once_used : (names : List (List ℕ)) (uses : List UsageFact) (shown : List (Seen Use)) → map (named_use names) uses ≡ each_once same_use_seen shown →
     AllPairs (λ u v. (u.class ≡ v.class) × (u.bit ≡ v.bit) → ⊥) uses
 once_used names uses shown is i j d before below both =
-    let apart : AllPairs (λ a b. same_use_seen b a ≡ false) (map (named_use names) uses) = subst (AllPairs (λ a b. same_use_seen b a ≡ false)) (sym is) (each_once-pairs same_use_seen same_use_seen-alike shown) in
+    let apart : AllPairs (λ a b. same_use_seen b a ≡ false) (map (named_use names) uses) = subst (AllPairs (λ a b. same_use_seen b a ≡ false)) (sym is)
+    (each_once-pairs same_use_seen same_use_seen-alike shown) in
     let differ : same_use_seen (get_or (map (named_use names) uses) j (named_use names d)) (get_or (map (named_use names) uses) i (named_use names d)) ≡
     false = apart i j (named_use names d) before (omega (arith, below, length-map uses (named_use names))) in
     let here : get_or (map (named_use names) uses) i (named_use names d) ≡ named_use names (get_or uses i d) = get_or-map (named_use names) uses i d (named_use names d) (omega arith) in

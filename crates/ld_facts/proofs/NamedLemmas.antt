@@ -71,7 +71,8 @@ within-with_edge_fact names edges edge within here = All-append (IsWithin names)
 -- the dependencies on one class from others, told at one line
 pub tell-named : (names : List (List ℕ)) → AreDistinct names → (edges : List EdgeFact) (line class : ℕ) (froms : List ℕ) → All (IsWithin names) edges
     → class < length names → All (λ from. from < length names) froms → map (named names) (fold with_edge_fact edges (map (edge_to class line) froms)) ≡
-    fold (with_new same_dependency_seen) (map (named names) edges) (map (λ from. record { what = record { from = slice_index_or names from []; to = slice_index_or names class [] }; line = line }) froms)
+    fold (with_new same_dependency_seen) (map (named names) edges)
+    (map (λ from. record { what = record { from = slice_index_or names from []; to = slice_index_or names class [] }; line = line }) froms)
 tell-named names distinct edges line class [] within inside all = refl
 tell-named names distinct edges line class (from ∷ froms) within inside all =
     let here : IsWithin names (edge_to class line from) = (All-head (λ f. f < length names) from froms all, inside) in

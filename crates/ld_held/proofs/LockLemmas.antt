@@ -25,7 +25,8 @@ use Rattle.ld_trace.specs.declared.event.State.{State}
 use Rattle.ld_held.specs.Inner.Interrupts.{IsEntered, IsLeft, fresh, start_now, starts_of}
 use Rattle.ld_held.specs.Inner.Stacks.{PlainHeld, PlainStack, empty_stack, inner, plain_held, holds}
 use Rattle.ld_rules.specs.Inner.Scanned.{remove_last}
-use Rattle.ld_held.specs.Inner.Locks.{Hold, HeldByTasks, ChangesInterrupts, is_of, hold_of, holds_of, held_by_tasks, classes_held, chain_of, IsChain, AreChainedBelow, AreChained, AreChainedIn, IsExtended, HasItsEdges, AreTied}
+use Rattle.ld_held.specs.Inner.Locks.{Hold, HeldByTasks, ChangesInterrupts, is_of, hold_of, holds_of, held_by_tasks, classes_held}
+use Rattle.ld_held.specs.Inner.Locks.{chain_of, IsChain, AreChainedBelow, AreChained, AreChainedIn, IsExtended, HasItsEdges, AreTied}
 use Rattle.ld_rules.proofs.OpenLemmas.{remove_last-none}
 use Rattle.ld_rules.proofs.RemoveLemmas.{map-remove_last}
 use Rattle.ld_rules.proofs.PlaceLemmas.{by_pushes, last_or-push}

@@ -257,7 +257,8 @@ abbrev pub with_uses : ℕ → List (Seen Use) → List Use → List (Seen Use)
 with_uses line known us = fold (with_new same_use_seen) known (map (at_line line) us)
 
 pub with_uses-append : (line : ℕ) (known : List (Seen Use)) (us vs : List Use) → with_uses line known (us ++ vs) ≡ with_uses line (with_uses line known us) vs
-with_uses-append line known us vs = ap (fold (with_new same_use_seen) known) (map-append (at_line line) us vs) ∙ fold-append (with_new same_use_seen) known (map (at_line line) us) (map (at_line line) vs)
+with_uses-append line known us vs = ap (fold (with_new same_use_seen) known) (map-append (at_line line) us vs)
+    ∙ fold-append (with_new same_use_seen) known (map (at_line line) us) (map (at_line line) vs)
 
 -- whether a use is there, at some line
 abbrev pub is_known : List (Seen Use) → Use → Bool

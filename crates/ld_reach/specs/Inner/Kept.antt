@@ -1,6 +1,7 @@
 -- What a reach keeps true of its fields, and what holds while it is spread. No public contract cites
 -- this file.
-use Rattle.std.specs.Prelude.{◌≡◌, ◌⊎◌, ◌↔◌, ℕ, ◌+◌, ◌<◌, ◌≤◌, Bool, true, false, List, length, Option, None, Some, IsSome, Contains, slice_index_or, slice_set, nat_eq, [], ◌∷◌, ◌++◌, is_none, count_by, vec_len, vec_capacity}
+use Rattle.std.specs.Prelude.{◌≡◌, ◌⊎◌, ◌↔◌, ℕ, ◌+◌, ◌<◌, ◌≤◌, Bool, true, false, List, length, Option, None, Some}
+use Rattle.std.specs.Prelude.{IsSome, Contains, slice_index_or, slice_set, nat_eq, [], ◌∷◌, ◌++◌, is_none, count_by, vec_len, vec_capacity}
 use Rattle.std.specs.List.{IsDistinct}
 use Rattle.ld_graph.specs.declared.graph.TheConstants.{MOST_GRAPH_CLASSES}
 use Rattle.ld_reach.specs.declared.reach.Reach.TheInside.{Inside}

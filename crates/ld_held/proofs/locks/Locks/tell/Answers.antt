@@ -23,7 +23,8 @@ invariant_of-self c = tied_more c.self.inside.stacks c.self.inside.chains c.self
 -- what is told, as the fields show it
 told_of : (class line : ℕ) (edges new : List EdgeFact) (stack : PlainStack) (held : List Held) → new ≡ fold with_edge_fact edges
     (map (edge_to class line) (map (λ h. h.class) held)) → map plain_held held ≡ inner stack → new ≡ fold with_edge_fact edges (map (edge_to class line) (classes_held (inner stack)))
-told_of class line edges new stack held is same = is ∙ ap (λ fs. fold with_edge_fact edges (map (edge_to class line) fs)) (sym (map-map (λ (h : PlainHeld). h.class) plain_held held) ∙ ap classes_held same)
+told_of class line edges new stack held is same = is ∙ ap (λ fs. fold with_edge_fact edges (map (edge_to class line) fs))
+    (sym (map-map (λ (h : PlainHeld). h.class) plain_held held) ∙ ap classes_held same)
 
 pub invariant_of-self-2 : goal.invariant_of-self-2
 invariant_of-self-2 c =

@@ -47,9 +47,13 @@ returns-clause-exact c = λ before seeds is exact.
     c.deref_mut.result.now old.marks (drop c.len-known.result c.self.inside.reached.items) c.give.new.sources (drop c.len-known.result c.give.new.reached.items)
     (rw (c.deref_mut.ensures.value, none) first) (subst (IsSource step seeds c.args.b) from source)
     (omega (arith, c.requires.to, c.requires.same, kept, c.self.invariant.same, c.deref_mut.ensures.len)) (λ x y h. inr h.1)
-    (IsGiven-drop c.args.b c.unwrap_or-from.result c.deref_mut.result.now c.self.inside.reached.items c.give.new.sources c.give.new.reached.items c.len-known.result (omega (arith, c.len-known.ensures, c.self.inside.reached.ok.0)) c.give.ensures.given) in
-    let sources : c.deref_mut-2.result.now ≡ c.give.new.sources = c.deref_mut-2.ensures.value ∙ with_items_is c.self.inside.sources c.give.new.sources (omega (arith, c.give.auto.sources, c.deref_mut.ensures.len)) in
-    let ended = c.spread.ensures.spread seeds (rw (sources, c.deref_mut-3.ensures.value) (spread-same step near seeds none_ahead c.give.new.sources old.marks (drop c.len-known.result c.give.new.reached.items) (λ x y. ((c.lists.ensures.after x y).0, (c.lists.ensures.after x y).1)) given)) in
+    (IsGiven-drop c.args.b c.unwrap_or-from.result c.deref_mut.result.now c.self.inside.reached.items c.give.new.sources c.give.new.reached.items
+    c.len-known.result (omega (arith, c.len-known.ensures, c.self.inside.reached.ok.0)) c.give.ensures.given) in
+    let sources : c.deref_mut-2.result.now ≡ c.give.new.sources = c.deref_mut-2.ensures.value
+    ∙ with_items_is c.self.inside.sources c.give.new.sources (omega (arith, c.give.auto.sources, c.deref_mut.ensures.len)) in
+    let ended = c.spread.ensures.spread seeds (rw (sources, c.deref_mut-3.ensures.value)
+    (spread-same step near seeds none_ahead c.give.new.sources old.marks (drop c.len-known.result c.give.new.reached.items)
+    (λ x y. ((c.lists.ensures.after x y).0, (c.lists.ensures.after x y).1)) given)) in
     let done = spread-same near step seeds none_ahead c.spread.new.sources c.spread.new.marks [] (λ x y. ((c.lists.ensures.after x y).1, (c.lists.ensures.after x y).0)) ended in
     let reach = spread-reach step seeds c.spread.new.sources c.spread.new.marks done c.spread.new.reached.items c.self.inside.spare c.spread.new.steps in
     let sources_end : (with_items (with_items c.self.inside.sources c.give.new.sources) c.spread.new.sources).items ≡ c.spread.new.sources =
