@@ -1,6 +1,6 @@
 //! Adds the names of one list to another.
 ghost use Rattle.std.specs.Prelude.{◌≡◌, ◌+◌, ◌≤◌, OnErr, OnOk, length};
-ghost use Rattle.ld_class.specs.declared.names.TheConstants.{MAX_NAMES};
+ghost use Rattle.ld_class.specs.declared.names.TheConstants.{MOST_NAMES};
 ghost use Rattle.ld_batch.specs.Inner.Names.{ArePlaces, IsLonger, with_names};
 
 use ld_class::Classes;
@@ -16,7 +16,7 @@ pub fn intern_all<'a>(
     more: &Classes<'a>,
     places: &mut Vec<u32>,
 ) -> Result<(), AllocError>
-    requires { length names.old + length more.now ≤ MAX_NAMES }
+    requires { length names.old + length more.now ≤ MOST_NAMES }
     ensures names { OnOk result (names.new ≡ with_names names.old more.now) }
     ensures longer { OnOk result (IsLonger names.old names.new (length more.now)) }
     ensures places { OnOk result (ArePlaces names.new more.now places.new.items) }

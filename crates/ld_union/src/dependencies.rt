@@ -2,7 +2,7 @@
 //! they lead.
 ghost use Rattle.std.specs.Prelude.{◌≡◌, ℕ, ◌+◌, ◌<◌, ◌≤◌, List, Option, OnErr, OnOk, [], All};
 ghost use Rattle.std.specs.Prelude.{length, take, vec_len, vec_capacity};
-ghost use Rattle.ld_graph.specs.declared.graph.TheConstants.{MOST_CLASSES};
+ghost use Rattle.ld_graph.specs.declared.graph.TheConstants.{MOST_GRAPH_CLASSES};
 ghost use Rattle.ld_trace.specs.declared.event.State.{State};
 ghost use Rattle.ld_graph.specs.Edges.{IsEdge};
 ghost use Rattle.ld_reach.specs.Reach.{IsReach, no_reach};
@@ -70,7 +70,7 @@ impl Dependencies {
     ///
     /// `AllocError` where memory was refused. Nothing has changed in either case but spares.
     pub(crate) fn room(&mut self, classes: usize, edges: usize) -> Result<(), AllocError>
-        requires classes { self.old.graph.classes + classes ≤ MOST_CLASSES }
+        requires classes { self.old.graph.classes + classes ≤ MOST_GRAPH_CLASSES }
         requires reach { HaveClasses self.old.graph.classes self.old.reach }
         ensures graph { self.new.graph
             ≡ with_spares self.old.graph self.new.graph.spare_classes self.new.graph.spare_edges }

@@ -1,7 +1,7 @@
 //! What some traces show together, with numbers for their classes.
 ghost use Rattle.std.specs.Prelude.{◌≡◌, ◌↔◌, ℕ, ◌+◌, ◌<◌, ◌≤◌, [], ◌∷◌, Option};
 ghost use Rattle.std.specs.Prelude.{length, All, Contains, MatchOption, OnErr, OnOk};
-ghost use Rattle.ld_class.specs.declared.names.TheConstants.{MAX_NAMES};
+ghost use Rattle.ld_class.specs.declared.names.TheConstants.{MOST_NAMES};
 ghost use Rattle.ld_facts.specs.Dependency.{Dependency};
 ghost use Rattle.ld_facts.specs.Usage.{Use};
 ghost use Rattle.ld_union.specs.Inner.News.{Tells};
@@ -76,7 +76,7 @@ impl<'a> Union<'a> {
     /// `AllocError` where a growth of memory was refused. Nothing has changed then but spare memory
     /// and `news`.
     pub fn add(&mut self, batch: &Batch<'a>, news: &mut News) -> Result<(), AllocError>
-        requires { length self.old.classes + length batch.now.classes ≤ MAX_NAMES }
+        requires { length self.old.classes + length batch.now.classes ≤ MOST_NAMES }
         ensures added { OnOk result (Adds batch.now.sources self.old self.new) }
         ensures told { OnOk result (Tells self.old self.new news.new) }
         ensures refused { OnErr result (self.new ≡ self.old) }
@@ -102,7 +102,7 @@ impl<'a> Union<'a> {
     /// The classes, by their numbers. Takes no memory.
     pub fn classes(&self) -> &Classes<'a>
         ensures same { result.now ≡ self.now.classes }
-        ensures few { length self.now.classes ≤ MAX_NAMES }
+        ensures few { length self.now.classes ≤ MOST_NAMES }
     {
         &self.classes
     }
@@ -120,7 +120,7 @@ impl<'a> Union<'a> {
     pub fn usage(&self) -> &[UsageRow]
         ensures same { result.now ≡ self.now.usage }
         ensures rows { length self.now.usage ≡ length self.now.classes }
-        ensures few { length self.now.classes ≤ MAX_NAMES }
+        ensures few { length self.now.classes ≤ MOST_NAMES }
     {
         &self.usage
     }

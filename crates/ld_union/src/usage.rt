@@ -4,7 +4,7 @@ ghost use Rattle.std.specs.Prelude.{length, slice_index_or, vec_len, vec_capacit
 ghost use Rattle.std.specs.Bool.{OnFalse, OnTrue};
 ghost use Rattle.std.specs.List.{position_or_len};
 ghost use Rattle.ld_class.specs.Names.{AreDistinct};
-ghost use Rattle.ld_class.specs.Usage.{has_bit, union};
+ghost use Rattle.ld_class.specs.Usage.{either, has_bit};
 ghost use Rattle.ld_facts.specs.Union.{use_witness};
 ghost use Rattle.ld_facts.specs.Usage.{Bit, IsBit, Use, bit_of, same_bit};
 ghost use Rattle.ld_batch.specs.Inner.Names.{ArePlaces};
@@ -43,7 +43,7 @@ impl UsageRow {
         requires { IsBit bit }
         ensures noted { (first : Bit → Option Witness) → self.old ≡ row_of first
             → self.new ≡ row_of (with_bit first (bit_of bit) witness) }
-        ensures bits { self.new.bits ≡ union self.old.bits bit }
+        ensures bits { self.new.bits ≡ either self.old.bits bit }
         ensures new { OnTrue result (has_bit self.old.bits bit ≡ false) }
         ensures known { OnFalse result (has_bit self.old.bits bit ≡ true) }
     {

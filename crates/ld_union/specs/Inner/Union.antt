@@ -1,7 +1,7 @@
 -- What is kept of some traces, with numbers for their classes. No contract of a `Book` cites this file.
 use Rattle.std.specs.Prelude.{◌≡◌, ◌≢◌, ℕ, ◌<◌, ◌≤◌, ◌++◌, List, length, map, slice_index_or, [], All, AllPairs, Any, Option, Some, None, IsSome, option_map, MatchOption, if◌then◌else◌}
 use Rattle.std.specs.Option.{is_some}
-use Rattle.ld_class.specs.declared.names.TheConstants.{MAX_NAMES}
+use Rattle.ld_class.specs.declared.names.TheConstants.{MOST_NAMES}
 use Rattle.ld_class.specs.Names.{AreDistinct, place_of}
 use Rattle.ld_batch.specs.Inner.Names.{IsLonger}
 use Rattle.ld_trace.specs.declared.event.State.{State}
@@ -100,7 +100,7 @@ IsCycleEdge edges closing = MatchOption closing (¬ ((e : Edge) × IsCycleAt edg
 -- usage, and for each state it is known what is reached.
 pub record IsUnion (classes : List (List ℕ)) (graph : graphs.PlainGraph) (dependencies : List Witnessed) (usage : List UsageRow) (closed_by : Option Edge) (reach : PerState PlainReach) : Type 0 where
   pub numbered : AreBetween classes dependencies
-  pub few : length classes ≤ MAX_NAMES
+  pub few : length classes ≤ MOST_NAMES
   pub count : graph.classes ≡ length classes
   pub edges : graph.edges ≡ edges_of dependencies
   pub rows : length usage ≡ length classes

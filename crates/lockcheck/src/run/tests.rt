@@ -185,6 +185,28 @@ fn assert_inversion_through_std<R: Threads + Wait + Abort + Sync>(
     assert_eq!(rt; text.as_slice(), INVERSION_REPORT);
 }
 
+// A run that answered `Memory` for a longer stream or a longer report would meet every contract.
+#[test]
+fn two_thousand_traces_are_reported(rt: HostRuntime) -> Result<(), Fail> {
+    let mut stream = String::new(rt.alloc());
+    let mut wanted = String::from_str(
+        rt.alloc(),
+        "traces 2000 refused 1000 events 2000 classes 2 dependencies 1\n",
+    )?;
+    for number in 0..1_000u32 {
+        writeln!(stream, "trace t{number}\nacquire t A\nacquire t B")?;
+        writeln!(stream, "trace u{number}\nrelease t A")?;
+        writeln!(wanted, "refused u{number} line {} NotHeld", 5 * number + 5)?;
+    }
+    wanted.push_str("clean\n")?;
+    let mut text = Vec::new(rt.alloc());
+    let mut input = Std::new(stream.as_bytes());
+    let verdict = run(&rt, rt.alloc(), &mut input, &mut Std::new(&mut text), 4);
+    assert_eq!(rt; verdict, Ok(Verdict::Refused));
+    assert_eq!(rt; text.as_slice(), wanted.as_bytes());
+    Ok(())
+}
+
 // Under `rt try --test --fail-alloc N` one allocation is refused, another for each N, whichever thread
 // asks for it.
 

@@ -1,4 +1,5 @@
 use Rattle.std.proofs.Common.{rules, ◌≡◌, ◌+◌, ◌-◌, ◌<◌, ◌≤◌, ◌∙◌, List, [], ap, arith, get_or, length, subst, sym}
+use Rattle.ld_class.specs.Usage.{no_bits}
 use Rattle.ld_batch.specs.declared.uses.WitnessedUse.{WitnessedUse}
 use Rattle.ld_batch.specs.Batch.{named_use}
 use Rattle.ld_facts.specs.Usage.{Use, bit_of, same_use}
@@ -9,7 +10,7 @@ use Rattle.ld_union.proofs.SeenLemmas.{all_noted, none_noted, one_noted, same_us
 use Rattle.ld_union.proofs.usage.add_usage.Goals as goal
 
 abbrev no_use : WitnessedUse
-no_use = record { class = 0; bit = record { 0 = 0 }; witness = record { number = 0; line = 0 } }
+no_use = record { class = 0; bit = no_bits; witness = record { number = 0; line = 0 } }
 
 pub loop-seen-init : goal.loop-seen-init
 loop-seen-init c = record {

@@ -4,30 +4,30 @@ ghost use Rattle.std.specs.Prelude.{IfOk};
 ghost use Rattle.std.specs.List.{range_with_len};
 ghost use Rattle.ld_class.specs.Names.{AreDistinct, IsNameAt};
 ghost use Rattle.ld_find.specs.Findings.{IsBefore};
-ghost use Rattle.ld_find.specs.Inner.Order.{AreByName, class_at, name_of};
+ghost use Rattle.ld_find.specs.Inner.ByName.{AreByName, class_at, class_name};
 
 use ld_class::Classes;
 use std::alloc::{AllocError, Global};
 
 /// The classes in the order of their names.
 #[derive(Drop)]
-pub(crate) struct Order {
+pub(crate) struct ByName {
     /// The numbers of the classes.
     pub(crate) numbers: Vec<u32>,
     /// For each class its place among these.
     pub(crate) places: Vec<u32>,
 }
 
-impl Order {
+impl ByName {
     /// The order of these.
     ///
     /// `AllocError` where memory was refused.
-    pub(crate) fn new(alloc: Global, classes: &Classes<'_>) -> Result<Order, AllocError>
+    pub(crate) fn new(alloc: Global, classes: &Classes<'_>) -> Result<ByName, AllocError>
         ensures { IfOk result (λ order. AreByName classes.now order.numbers.items order.places.items) }
     {
         let numbers = numbers_by_name(alloc, classes)?;
         let places = places_of(alloc, classes, &numbers)?;
-        Ok(Order { numbers, places })
+        Ok(ByName { numbers, places })
     }
 }
 
@@ -38,8 +38,8 @@ fn numbers_by_name(alloc: Global, classes: &Classes<'_>) -> Result<Vec<u32>, All
     ensures every { IfOk result (λ numbers. (c : ℕ) → c < length classes.now
         → Contains numbers.items c) }
     ensures rising { IfOk result (λ numbers. (i j : ℕ) → i < j → j < length numbers.items
-        → IsBefore (name_of classes.now (class_at numbers.items i))
-        (name_of classes.now (class_at numbers.items j))) }
+        → IsBefore (class_name classes.now (class_at numbers.items i))
+        (class_name classes.now (class_at numbers.items j))) }
 {
     let mut named = numbered_names(alloc, classes)?;
     named.sort_unstable();

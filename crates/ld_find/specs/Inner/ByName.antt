@@ -3,8 +3,8 @@ use Rattle.std.specs.Prelude.{◌≡◌, ℕ, ◌<◌, List, [], length, All, Co
 use Rattle.ld_find.specs.Findings.{IsBefore}
 
 -- the name of a class
-abbrev pub name_of : List (List ℕ) → ℕ → List ℕ
-name_of classes class = slice_index_or classes class []
+abbrev pub class_name : List (List ℕ) → ℕ → List ℕ
+class_name classes class = slice_index_or classes class []
 
 -- the class at a place of the order
 abbrev pub class_at : List ℕ → ℕ → ℕ
@@ -16,6 +16,6 @@ pub record AreByName (classes : List (List ℕ)) (numbers places : List ℕ) : T
   pub within : All (λ c. c < length classes) numbers
   pub every : (c : ℕ) → c < length classes → Contains numbers c
   pub rising : (i j : ℕ) → i < j → j < length numbers
-      → IsBefore (name_of classes (class_at numbers i)) (name_of classes (class_at numbers j))
+      → IsBefore (class_name classes (class_at numbers i)) (class_name classes (class_at numbers j))
   pub placed : length places ≡ length classes
   pub place : (i : ℕ) → i < length numbers → slice_index_or places (class_at numbers i) 0 ≡ i

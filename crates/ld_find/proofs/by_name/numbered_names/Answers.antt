@@ -2,8 +2,8 @@ use Rattle.std.proofs.Common.{rules, ◌≡◌, ◌∙◌, ◌++◌, [], ◌∷�
 use Rattle.std.proofs.lemmas.List.{map-append}
 use Rattle.std.proofs.lemmas.List.Elements.{All-push}
 use Rattle.ld_class.specs.Names.{IsNameAt}
-use Rattle.ld_find.proofs.OrderLemmas.{range_with_len-more}
-use Rattle.ld_find.proofs.order.numbered_names.Goals as goal
+use Rattle.ld_find.proofs.ByNameLemmas.{range_with_len-more}
+use Rattle.ld_find.proofs.by_name.numbered_names.Goals as goal
 
 pub loop-class-preserved : goal.loop-class-preserved
 loop-class-preserved c =

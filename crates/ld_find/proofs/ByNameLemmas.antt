@@ -20,7 +20,7 @@ use Rattle.std.specs.Ordering.{ordering_reverse, ordering_then}
 use Rattle.ld_class.specs.Names.{AreDistinct, IsNameAt}
 use Rattle.ld_graph.specs.Edges.{ComesBefore}
 use Rattle.ld_find.specs.Findings.{IsBefore}
-use Rattle.ld_find.specs.Inner.Order.{AreByName, name_of}
+use Rattle.ld_find.specs.Inner.ByName.{AreByName, class_name}
 
 -- no name comes before itself
 pub not_before_itself : (a : List ℕ) → ¬ IsBefore a a
@@ -49,41 +49,41 @@ module _ (classes : List (List ℕ)) (numbers places : List ℕ) (is : AreByName
       sym (at_place c at_c).1 ∙ ap (λ k. get_or numbers k 0) same ∙ (at_place d at_d).1
 
   -- the class whose place is first has the name that comes first
-  pub before_from_place : (c d : ℕ) → c < length classes → d < length classes → place_in_order c < place_in_order d → IsBefore (name_of classes c) (name_of classes d)
+  pub before_from_place : (c d : ℕ) → c < length classes → d < length classes → place_in_order c < place_in_order d → IsBefore (class_name classes c) (class_name classes d)
   before_from_place c d at_c at_d lower =
       let p = at_place c at_c in
       let q = at_place d at_d in
-      subst (λ k. IsBefore (name_of classes k) (name_of classes d)) p.1
-      (subst (λ k. IsBefore (name_of classes (get_or numbers (place_in_order c) 0)) (name_of classes k)) q.1 (is.rising (place_in_order c) (place_in_order d) lower q.0))
+      subst (λ k. IsBefore (class_name classes k) (class_name classes d)) p.1
+      (subst (λ k. IsBefore (class_name classes (get_or numbers (place_in_order c) 0)) (class_name classes k)) q.1 (is.rising (place_in_order c) (place_in_order d) lower q.0))
 
   -- and the other way round
-  pub place_from_before : (c d : ℕ) → c < length classes → d < length classes → IsBefore (name_of classes c) (name_of classes d) → place_in_order c < place_in_order d
+  pub place_from_before : (c d : ℕ) → c < length classes → d < length classes → IsBefore (class_name classes c) (class_name classes d) → place_in_order c < place_in_order d
   place_from_before c d at_c at_d before = by (cases_order (place_in_order c) (place_in_order d))
     where
       by : (place_in_order c ≡ place_in_order d) ⊎ ((place_in_order c < place_in_order d) ⊎ (place_in_order d < place_in_order c)) → place_in_order c < place_in_order d
-      by (inl same) = absurd (not_before_itself (name_of classes d) (subst (λ k. IsBefore (name_of classes k) (name_of classes d)) (place-once c d at_c at_d same) before))
+      by (inl same) = absurd (not_before_itself (class_name classes d) (subst (λ k. IsBefore (class_name classes k) (class_name classes d)) (place-once c d at_c at_d same) before))
       by (inr (inl lower)) = lower
-      by (inr (inr higher)) = absurd (not_before_both (name_of classes c) (name_of classes d) before (before_from_place d c at_d at_c higher))
+      by (inr (inr higher)) = absurd (not_before_both (class_name classes c) (class_name classes d) before (before_from_place d c at_d at_c higher))
 
   -- so the graph's order of classes is that of their names
-  pub before_from_comes_before : (c d : ℕ) → c < length classes → d < length classes → ComesBefore places c d → IsBefore (name_of classes c) (name_of classes d)
+  pub before_from_comes_before : (c d : ℕ) → c < length classes → d < length classes → ComesBefore places c d → IsBefore (class_name classes c) (class_name classes d)
   before_from_comes_before c d at_c at_d (inl lower) = before_from_place c d at_c at_d lower
   before_from_comes_before c d at_c at_d (inr both) =
       let same : c ≡ d = place-once c d at_c at_d both.0 in
       let lower : c < d = both.1 in
       absurd (omega (arith, same, lower))
 
-  pub comes_before_from_before : (c d : ℕ) → c < length classes → d < length classes → IsBefore (name_of classes c) (name_of classes d) → ComesBefore places c d
+  pub comes_before_from_before : (c d : ℕ) → c < length classes → d < length classes → IsBefore (class_name classes c) (class_name classes d) → ComesBefore places c d
   comes_before_from_before c d at_c at_d before = inl (place_from_before c d at_c at_d before)
 
 -- numbers whose names rise are apart
 pub apart_from_rising : (classes : List (List ℕ)) (numbers : List ℕ)
-    → ((i j : ℕ) → i < j → j < length numbers → IsBefore (name_of classes (get_or numbers i 0)) (name_of classes (get_or numbers j 0)))
+    → ((i j : ℕ) → i < j → j < length numbers → IsBefore (class_name classes (get_or numbers i 0)) (class_name classes (get_or numbers j 0)))
     → AllPairs (λ c d. c ≢ d) numbers
 apart_from_rising classes numbers rising i j d lower within same =
     let at_i : i < length numbers = omega (arith, lower, within) in
     let equal : get_or numbers i 0 ≡ get_or numbers j 0 = get_or_default numbers i 0 d at_i ∙ same ∙ get_or_default numbers j d 0 within in
-    not_before_itself (name_of classes (get_or numbers j 0)) (subst (λ k. IsBefore (name_of classes k) (name_of classes (get_or numbers j 0))) equal (rising i j lower within))
+    not_before_itself (class_name classes (get_or numbers j 0)) (subst (λ k. IsBefore (class_name classes k) (class_name classes (get_or numbers j 0))) equal (rising i j lower within))
 
 -- what a sort of names with their numbers compares
 abbrev pub named_cmp : Bor (List ℕ) × ℕ → Bor (List ℕ) × ℕ → Ordering
@@ -148,9 +148,9 @@ module _ (classes : List (List ℕ)) (old named : List (Bor (List ℕ) × ℕ)) 
 
   -- after a sort the names rise
   pub numbers-rising : AreDistinct classes → IsSorted named_cmp named → (i j : ℕ) → i < j → j < length numbers_of
-      → IsBefore (name_of classes (get_or numbers_of i 0)) (name_of classes (get_or numbers_of j 0))
+      → IsBefore (class_name classes (get_or numbers_of i 0)) (class_name classes (get_or numbers_of j 0))
   numbers-rising distinct sorted i j lower within =
-      subst (λ a. IsBefore a (name_of classes (get_or numbers_of j 0))) (sym (name_at i at_i))
+      subst (λ a. IsBefore a (class_name classes (get_or numbers_of j 0))) (sym (name_at i at_i))
       (subst (λ b. IsBefore x.0.now b) (sym (name_at j at_j)) (by (slice_cmp nat_cmp x.0.now y.0.now) refl))
     where
       at_j : j < length named
@@ -168,8 +168,8 @@ module _ (classes : List (List ℕ)) (old named : List (Bor (List ℕ) × ℕ)) 
       y : Bor (List ℕ) × ℕ
       y = get_or named j some
 
-      name_at : (k : ℕ) → k < length named → name_of classes (get_or numbers_of k 0) ≡ (get_or named k some).0.now
-      name_at k at_k = ap (name_of classes) (number_at k some at_k) ∙ (names k some at_k).1
+      name_at : (k : ℕ) → k < length named → class_name classes (get_or numbers_of k 0) ≡ (get_or named k some).0.now
+      name_at k at_k = ap (class_name classes) (number_at k some at_k) ∙ (names k some at_k).1
 
       not_after : is_lt (named_cmp y x) ≡ false
       not_after = sorted_far (λ p q. is_lt (named_cmp p q)) (ranks_by named_cmp_total (λ p. p)) named sorted i j some (omega (arith, lower)) at_j

@@ -1,7 +1,7 @@
 use Rattle.std.proofs.Common.{◌≡◌, map, All}
 use Rattle.std.specs.List.{range_with_len}
 use Rattle.ld_class.specs.Names.{IsNameAt}
-use Rattle.ld_find.proofs.order.numbered_names.Given as goal
+use Rattle.ld_find.proofs.by_name.numbered_names.Given as goal
 
 abbrev pub invariant-loop-class : goal.invariant-loop-class
 invariant-loop-class l = record {

@@ -1,6 +1,6 @@
 use Rattle.std.proofs.Common.{◌≡◌, ℕ, ◌<◌, length}
-use Rattle.ld_find.specs.Inner.Order.{class_at}
-use Rattle.ld_find.proofs.order.places_of.Given as goal
+use Rattle.ld_find.specs.Inner.ByName.{class_at}
+use Rattle.ld_find.proofs.by_name.places_of.Given as goal
 
 abbrev pub invariant-loop-place : goal.invariant-loop-place
 invariant-loop-place l = record {

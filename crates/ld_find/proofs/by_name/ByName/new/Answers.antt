@@ -1,6 +1,6 @@
 use Rattle.std.proofs.Common.{◌≢◌, AllPairs, sym, subst}
-use Rattle.ld_find.proofs.OrderLemmas.{apart_from_rising}
-use Rattle.ld_find.proofs.order.Order.new.Goals as goal
+use Rattle.ld_find.proofs.ByNameLemmas.{apart_from_rising}
+use Rattle.ld_find.proofs.by_name.ByName.new.Goals as goal
 
 pub places_of-requires-clause-once : goal.places_of-requires-clause-once
 places_of-requires-clause-once c =
