@@ -2,7 +2,7 @@
 ghost use Rattle.std.specs.Prelude.{◌≡◌, ◌≤◌, All, IfOk, length, map};
 ghost use Rattle.ld_trace.specs.Sources.{AreNumbered, Fits, plain};
 
-use ld_book::{Batch, BatchRefusal, Book, Refusal};
+use ld_book::{Batch, BatchRefusal, Book};
 use ld_facts::{Witness, facts};
 use ld_trace::{MOST_TRACES, Source, split};
 use ld_work::{Back, Desk, Feeder, Gate, MOST_FEEDERS, NoGate, Tally, WorkFault, work};
@@ -17,7 +17,7 @@ use std::test::Fail;
 use std::thread;
 use std::thread::Threads;
 
-const INVERSION: &[u8] = b"trace ab\nacquire t A\nacquire t B\nrelease t B\nrelease t A\n\
+pub const INVERSION: &[u8] = b"trace ab\nacquire t A\nacquire t B\nrelease t B\nrelease t A\n\
     trace ba\nacquire t B\nacquire t A\nrelease t A\nrelease t B\n";
 
 const THREE_TRACES: &[u8] = b"trace x\nacquire t A\nacquire t B\n\
@@ -26,7 +26,7 @@ const THREE_TRACES: &[u8] = b"trace x\nacquire t A\nacquire t B\n\
 const SAME_LABEL: &[u8] = b"trace d\nacquire t A\nacquire t B\ntrace d\nacquire t A\nacquire t B\n";
 
 /// The traces of a stream, whichever allocation is refused, as long as it is one alone.
-fn sources_of<'a>(alloc: Global, bytes: &'a [u8]) -> Result<Vec<Source<'a>>, Fail>
+pub fn sources_of<'a>(alloc: Global, bytes: &'a [u8]) -> Result<Vec<Source<'a>>, Fail>
     ensures few { IfOk result (λ sources. length sources.items ≤ MOST_TRACES) }
     ensures numbered { IfOk result (λ sources. AreNumbered (map plain sources.items)) }
     ensures fit { IfOk result (λ sources. All (λ source. Fits (plain source)) sources.items) }
@@ -37,7 +37,7 @@ fn sources_of<'a>(alloc: Global, bytes: &'a [u8]) -> Result<Vec<Source<'a>>, Fai
     }
 }
 
-fn witness(number: u64, line: u64) -> Option<Witness> {
+pub fn witness(number: u64, line: u64) -> Option<Witness> {
     Some(Witness { number, line })
 }
 
@@ -67,28 +67,34 @@ fn expect_three_traces<R: Abort>(rt: &R, book: &Book<'_>) {
 }
 
 /// Adds a trace, and looks at what the book has then.
+pub fn feed_one<'a, T: Ledger, E: Ledger, R: Wait + Abort>(
+    rt: &R,
+    alloc: Global,
+    desk: &Desk<'a, T, E>,
+    source: Source<'a>,
+    feeder: &mut Feeder<T, E>,
+) {
+    assert!(rt; source.fits());
+    let facts = facts(alloc, source).expect(rt, "the facts of a trace");
+    let answer = desk.look(rt).submit(feeder, facts);
+    assert!(rt; answer.is_ok());
+    drop(answer);
+    let mut look = desk.look(rt);
+    look.covers(feeder);
+    let (totals, tally) = (look.book().totals(), feeder.tally());
+    assert!(rt; totals.traces >= tally.traces);
+    assert!(rt; totals.events >= tally.events);
+}
+
 fn feed<'a, T: Ledger, E: Ledger, R: Wait + Abort>(
     rt: &R,
     alloc: Global,
     desk: &Desk<'a, T, E>,
     source: Source<'a>,
     mut feeder: Feeder<T, E>,
-) -> Result<Feeder<T, E>, AllocError> {
-    assert!(rt; source.fits());
-    let facts = facts(alloc, source)?;
-    let answer = desk.look(rt).submit(&mut feeder, facts);
-    let is_refused = matches!(answer, Err(Refusal::Memory(_)));
-    assert!(rt; is_refused || answer.is_ok());
-    drop(answer);
-    if is_refused {
-        return Err(AllocError);
-    }
-    let mut look = desk.look(rt);
-    look.covers(&mut feeder);
-    let totals = look.book().totals();
-    assert!(rt; totals.traces >= 1);
-    assert!(rt; totals.events >= 4);
-    Ok(feeder)
+) -> Feeder<T, E> {
+    feed_one(rt, alloc, desk, source, &mut feeder);
+    feeder
 }
 
 /// The number of the trace that the desk's book lists first.
@@ -126,8 +132,6 @@ where
         traces: 1,
         events: 4,
     };
-    let first = first.expect(rt, "the first feeder");
-    let second = second.expect(rt, "the second feeder");
     assert_eq!(rt; first.tally(), one);
     assert_eq!(rt; second.tally(), one);
     assert!(rt; feeders.push(first).is_ok());
