@@ -72,7 +72,7 @@ module _ {R A : Type 0} (same : A → A → Bool) (equal : (a b : A) → same a 
         (λ j. earlier_of (earlier_of before (told_by i what)) (if same what (same_seen j) then Some (same_witness j) else None))
         ∙ joined before (find (λ m. same what m.what) (map name (take i rows))) (name (get_or rows i d)) (same what (name (get_or rows i d)).what) (still_new what)
         ∙ ap (λ found. earlier_of before (option_map (λ (m : Met A). m.witness) found))
-          (sym (find-append (λ m. same what m.what) (map name (take i rows)) (name (get_or rows i d) ∷ [])))
+        (sym (find-append (λ m. same what m.what) (map name (take i rows)) (name (get_or rows i d) ∷ [])))
         ∙ ap (λ all. earlier_of before (witness_of same all what)) (sym (map-append name (take i rows) (get_or rows i d ∷ [])))
         ∙ ap (λ all. earlier_of before (witness_of same (map name all) what)) (sym (take_more rows i d here))
 

@@ -14,11 +14,10 @@ use ld_tickets::{DrawSeat, Tickets};
 use ld_trace::{MOST_TRACES, Source};
 use std::alloc::{AllocError, Global};
 use std::marker::Brand;
-use std::mem;
 use std::sync::Wait;
 use std::sync::ledger::{Blank, Ledger};
-use std::thread;
 use std::thread::Threads;
+use std::{mem, thread};
 use thiserror::Error;
 
 /// Why the work gave no book.
