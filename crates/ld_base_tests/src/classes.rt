@@ -1,6 +1,6 @@
 //! Names and their numbers.
 
-use ld_class::{Classes, MAX_NAMES};
+use ld_class::{Classes, MOST_NAMES};
 
 #[test]
 fn numbers_names_in_order_of_first_insertion(rt: HostRuntime) {
@@ -27,7 +27,7 @@ fn a_refused_growth_changes_nothing(rt: HostRuntime) {
     let mut classes = Classes::new(rt.alloc());
     for id in 0..200u32 {
         let name = &text[..=id as usize];
-        assert!(rt; classes.len() < MAX_NAMES);
+        assert!(rt; classes.len() < MOST_NAMES);
         let mut answer = classes.intern(name);
         if answer.is_err() {
             assert_eq!(rt; classes.find(name), None);

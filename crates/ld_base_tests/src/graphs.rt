@@ -5,13 +5,13 @@ ghost use Rattle.std.specs.Prelude.{◌≡◌, ℕ, length, slice_index_or, None
 ghost use Rattle.ld_graph.specs.Edges.{IsEdge};
 ghost use Rattle.ld_graph.specs.Walks.{DistanceIs};
 
-use ld_graph::{Graph, Insert, MOST_CLASSES};
+use ld_graph::{Graph, Insert, MOST_GRAPH_CLASSES};
 use std::alloc::Global;
 use std::process::Abort;
 
 /// Makes room. Where memory is refused nothing else changes, and the call made again answers `Ok`.
 fn make_room<R: Abort>(rt: &R, graph: &mut Graph, classes: usize, edges: usize) {
-    assert!(rt; classes <= MOST_CLASSES - graph.len());
+    assert!(rt; classes <= MOST_GRAPH_CLASSES - graph.len());
     let (len, count) = (graph.len(), graph.edges());
     if graph.room(classes, edges).is_err() {
         assert_eq!(rt; graph.len(), len);

@@ -1,13 +1,13 @@
 //! A worked reach beside its graph. The call that takes memory is made once more where it was refused,
 //! so these hold whichever allocation fails.
 
-use ld_graph::{Graph, MOST_CLASSES};
+use ld_graph::{Graph, MOST_GRAPH_CLASSES};
 use ld_reach::Reach;
 use std::process::Abort;
 
 /// Makes room. Where memory is refused nothing else changes, and the call made again answers `Ok`.
 fn make_room<R: Abort>(rt: &R, reach: &mut Reach, classes: usize) {
-    assert!(rt; classes <= MOST_CLASSES - reach.len());
+    assert!(rt; classes <= MOST_GRAPH_CLASSES - reach.len());
     let (len, expanded) = (reach.len(), reach.expanded());
     if reach.room(classes).is_err() {
         assert_eq!(rt; reach.len(), len);
@@ -19,7 +19,7 @@ fn make_room<R: Abort>(rt: &R, reach: &mut Reach, classes: usize) {
 
 /// Adds so many classes to both.
 fn add_classes<R: Abort>(rt: &R, graph: &mut Graph, reach: &mut Reach, count: usize) {
-    assert!(rt; count <= MOST_CLASSES - graph.len());
+    assert!(rt; count <= MOST_GRAPH_CLASSES - graph.len());
     if graph.room(count, 4).is_err() {
         graph.room(count, 4).expect(rt, "room made again");
     }

@@ -1,6 +1,7 @@
 pub mod BookLemmas
 pub mod BoundLemmas
 pub mod ListedLemmas
+pub mod ListingLemmas
 pub mod PermutedLemmas
 pub mod RisingLemmas
 pub mod TotalLemmas

@@ -30,15 +30,7 @@ use Rattle.ld_union.specs.Usage.{witnessed_bits}
 use Rattle.ld_find.specs.Violations.{Depends, HasBit, HasViolation, IsConflict, IsCycle, IsForbidden, IsViolation, Violation}
 use Rattle.ld_find.specs.Violations.Violation.{Conflict, Cycle, Forbidden}
 use Rattle.ld_union.proofs.EachOnceLemmas.{IsDistinct-each_once, IsEquivalence-from_decides}
-
--- there is a witness, and it isn't later than this bound
-abbrev is_by : Witness → Option Witness → Bool
-is_by bound None = false
-is_by bound (Some witness) = not (is_before bound witness)
-
--- the earlier of two witnesses isn't later than a bound where one of the two isn't
-by-earlier : (bound a b : Witness) → is_by bound (Some (earlier a b)) ≡ (is_by bound (Some a) || is_by bound (Some b))
-by-earlier bound a b = grind (arith, nat_tests)
+use Rattle.ld_union.proofs.EarlierLemmas.{by-earlier, is_by, same_from_bounds}
 
 -- the least of some witnesses isn't, where one of them isn't
 by-first : (bound : Witness) (witnesses : List Witness) → is_by bound (first_of witnesses) ≡ list_any (λ w. is_by bound (Some w)) witnesses
@@ -63,18 +55,6 @@ by-sources bound at sources = by-first bound (filter_map at sources) ∙ among s
     among : (all : List PlainSource) → list_any (λ w. is_by bound (Some w)) (filter_map at all) ≡ list_any (λ s. is_by bound (at s)) all
     among [] = refl
     among (source ∷ all) = more (at source) (filter_map at all) ∙ ap (λ b. is_by bound (at source) || b) (among all)
-
--- witnesses that aren't later than the same bounds are the same
-same_from_bounds : (a b : Option Witness) → ((bound : Witness) → is_by bound a ≡ is_by bound b) → a ≡ b
-same_from_bounds None None same = refl
-same_from_bounds None (Some b) same = absurd (grind (arith, nat_tests, same b))
-same_from_bounds (Some a) None same = absurd (grind (arith, nat_tests, same a))
-same_from_bounds (Some a) (Some b) same =
-    let at_a = same a in
-    let at_b = same b in
-    let number : a.number ≡ b.number = grind (arith, nat_tests, at_a, at_b) in
-    let line : a.line ≡ b.line = grind (arith, nat_tests, at_a, at_b, number) in
-    λ i. Some (record { number = number i; line = line i })
 
 -- where something was first seen doesn't depend on the order of the sources
 pub first_witness-permuted : {A : Type 0} (same : A → A → Bool) (shown : PlainSource → List (Seen A)) (sources listed : List PlainSource) → IsPermutation sources listed → (what : A)

@@ -4,13 +4,14 @@ ghost use Rattle.std.specs.Prelude.{true, false};
 ghost use Rattle.ld_facts.specs.Union.{dependency_witness};
 ghost use Rattle.ld_find.specs.Alarms.{AreExact, plain_alarms};
 ghost use Rattle.ld_find.specs.Findings.{AreFindings, plain_findings};
-ghost use Rattle.ld_book.specs.Book.{AreOutcomes, is_listed, sources_of};
+ghost use Rattle.ld_book.specs.Book.{AreOutcomes, is_any_listed, is_listed, sources_of};
 ghost use Rattle.ld_trace.specs.Sources.{Fits};
 ghost use Rattle.ld_book.specs.Totals.{totals};
 ghost use Rattle.ld_union.specs.Usage.{usage_row};
 
-use crate::totals::{Totals, events_of, refused_of};
-use indexmap::IndexSet;
+use crate::listing::Listing;
+use crate::totals::Totals;
+use ld_batch::Batch;
 use ld_facts::{Facts, Listed, Witness};
 use ld_find::{Alarms, Findings, Found, findings_of};
 use ld_union::{News, Union, UsageRow};
@@ -26,23 +27,27 @@ pub enum Refusal<'a> {
     Memory(Facts<'a>),
 }
 
+/// Why a batch wasn't added. It comes back.
+#[derive(Drop)]
+pub enum BatchRefusal<'a> {
+    /// A trace of one of its numbers is listed.
+    Twice(Batch<'a>),
+    /// A growth of memory was refused.
+    Memory(Batch<'a>),
+}
+
 /// What some traces show together, seen as the list of the traces, in order of arrival.
 ///
 /// Each trace is listed with its outcome. A refused trace is counted, and shows nothing.
 #[derive(Drop)]
 pub struct Book<'a> {
-    listed: Vec<Listed<'a>>,
-    /// The numbers of the listed traces.
-    numbers: IndexSet<u64>,
-    /// How many events those traces have that are read.
-    events: u64,
-    /// How many traces are refused.
-    refused: u64,
+    listing: Listing<'a>,
     union: Union<'a>,
     /// A violation of each kind that the traces show.
     found: Found,
-    /// What was new in the trace that was added last. It keeps its memory for the next one.
+    /// What was new in the batch that was added last. It keeps its memory for the next one.
     news: News,
+    alloc: Global,
 }
 
 impl<'a> Model for Book<'a> {
@@ -51,16 +56,12 @@ impl<'a> Model for Book<'a> {
 
     ghost Value = { List PlainSource };
 
-    ghost use Rattle.ld_book.specs.Book.{sources_of};
     ghost use Rattle.ld_book.specs.Inner.Kept.{IsKept};
 
-    ghost view = { λ b. sources_of b.listed.items };
+    ghost view = { λ b. b.listing.sources };
 
     ghost invariant = { λ b. IsKept (record {
-      listed = b.listed.items;
-      keys = b.numbers.keys;
-      events = b.events;
-      refused = b.refused;
+      sources = b.listing.sources;
       union = b.union;
       found = b.found;
     }) };
@@ -72,17 +73,16 @@ impl<'a> Book<'a> {
         ensures { result ≡ [] }
     {
         Book {
-            listed: Vec::new(alloc),
-            numbers: IndexSet::new(alloc),
-            events: 0,
-            refused: 0,
+            listing: Listing::new(alloc),
             union: Union::new(alloc),
             found: Found::new(),
             news: News::new(alloc),
+            alloc,
         }
     }
 
-    /// Lists one more trace, and adds what it shows. Traces may come in any order.
+    /// Lists one more trace, and adds what it shows, as `add_batch` does with a batch of the one. Traces
+    /// may come in any order.
     ///
     /// # Errors
     ///
@@ -96,37 +96,69 @@ impl<'a> Book<'a> {
         ensures memory { is_listed self.old facts.entry.source.number ≡ false
             → OnErr result (result ≡ Err (Refusal.Memory facts.entry)) }
     {
-        if self.numbers.contains(&facts.source().number) {
+        if self.listing.has(facts.source().number) {
             return Err(Refusal::Twice(facts));
         }
-        match self.enter(&facts) {
+        match self.enter_one(&facts) {
             Ok(()) => Ok(()),
             Err(AllocError) => Err(Refusal::Memory(facts)),
+        }
+    }
+
+    /// Lists the traces of a batch, and adds what they show. A batch without traces changes nothing.
+    ///
+    /// # Errors
+    ///
+    /// The batch comes back, and nothing has changed but spare memory: `Twice` where a trace of one of its
+    /// numbers is listed, which is tested first, and `Memory` where a growth of memory was refused.
+    pub fn add_batch(&mut self, batch: Batch<'a>) -> Result<(), BatchRefusal<'a>>
+        ensures ok { OnOk result (self.new ≡ self.old ++ batch.entry.sources) }
+        ensures err { OnErr result (self.new ≡ self.old) }
+        ensures twice { is_any_listed self.old batch.entry.sources ≡ true
+            → result ≡ Err (BatchRefusal.Twice batch.entry) }
+        ensures memory { is_any_listed self.old batch.entry.sources ≡ false
+            → OnErr result (result ≡ Err (BatchRefusal.Memory batch.entry)) }
+    {
+        if self.listing.has_any(batch.listed()) {
+            return Err(BatchRefusal::Twice(batch));
+        }
+        match self.enter(&batch) {
+            Ok(()) => {
+                drop(batch);
+                Ok(())
+            }
+            Err(AllocError) => Err(BatchRefusal::Memory(batch)),
         }
     }
 
     /// Lists one more trace, whose number isn't listed, and adds what it shows.
     ///
     /// `AllocError` where a growth of memory was refused. Nothing has changed then but spare memory.
-    fn enter(&mut self, facts: &Facts<'a>) -> Result<(), AllocError>
+    fn enter_one(&mut self, facts: &Facts<'a>) -> Result<(), AllocError>
         requires { is_listed self.old facts.now.source.number ≡ false }
         ensures ok { OnOk result (self.new ≡ self.old ++ facts.now.source ∷ []) }
         ensures err { OnErr result (self.new ≡ self.old) }
     {
-        let source = facts.source();
-        let outcome = facts.outcome();
-        self.listed.reserve(1)?;
-        self.numbers.reserve(1)?;
-        self.union.add(facts, &mut self.news)?;
+        let batch = Batch::of(self.alloc, facts)?;
+        let entered = self.enter(&batch);
+        drop(batch);
+        entered
+    }
+
+    /// Lists the traces of a batch, no number of which is listed, and adds what they show.
+    ///
+    /// `AllocError` where a growth of memory was refused. Nothing has changed then but spare memory.
+    fn enter(&mut self, batch: &Batch<'a>) -> Result<(), AllocError>
+        requires { is_any_listed self.old batch.now.sources ≡ false }
+        ensures ok { OnOk result (self.new ≡ self.old ++ batch.now.sources) }
+        ensures err { OnErr result (self.new ≡ self.old) }
+    {
+        let traces = batch.listed();
+        self.listing.room(traces.len())?;
+        self.union.add(batch, &mut self.news)?;
+        // From here on nothing is refused.
         self.found.look(&self.union, &self.news);
-        self.events += events_of(outcome);
-        self.refused += refused_of(outcome);
-        let Ok(_) = self.numbers.insert(source.number) else {
-            unreachable!()
-        };
-        let Ok(()) = self.listed.push(Listed { source, outcome }) else {
-            unreachable!()
-        };
+        self.listing.add_all(traces);
         Ok(())
     }
 
@@ -137,9 +169,7 @@ impl<'a> Book<'a> {
         ensures fit { All Fits self.now }
         ensures distinct { AllPairs (λ a b. a.number ≢ b.number) self.now }
     {
-        // What a set says of its keys, it says with its length.
-        let _ = self.numbers.len();
-        self.listed.as_slice()
+        self.listing.traces()
     }
 
     /// How much the traces are and show. Takes no memory.
@@ -147,9 +177,9 @@ impl<'a> Book<'a> {
         ensures { result ≡ totals self.now }
     {
         Totals {
-            traces: self.listed.len() as u64,
-            refused: self.refused,
-            events: self.events,
+            traces: self.listing.traces().len() as u64,
+            refused: self.listing.refused(),
+            events: self.listing.events(),
             classes: self.union.classes().len() as u64,
             dependencies: self.union.dependencies().len() as u64,
         }

@@ -2,10 +2,12 @@
 #![tactic(auto)]
 
 mod book;
+mod listing;
 mod totals;
 mod traces;
 
-pub use book::{Book, Refusal};
+pub use book::{BatchRefusal, Book, Refusal};
+pub use ld_batch::Batch;
 pub use ld_find::{Alarms, ConflictRow, CycleRow, Findings, ForbiddenRow, Rows};
 pub use ld_union::UsageRow;
 pub use totals::Totals;

@@ -19,7 +19,7 @@ pub(crate) const THREE_TRACES: &[u8] = b"trace x\nacquire t A\nacquire t B\n\
     trace y\nacquire t B\nacquire t C\ntrace z\nacquire t C\nacquire t A\n";
 
 /// The sources of a stream.
-fn sources_of<'a, R: Abort>(rt: &R, alloc: Global, bytes: &'a [u8]) -> Vec<Source<'a>> {
+pub(crate) fn sources_of<'a, R: Abort>(rt: &R, alloc: Global, bytes: &'a [u8]) -> Vec<Source<'a>> {
     match split(alloc, bytes) {
         Ok(sources) => sources,
         Err(_) => split(alloc, bytes).expect(rt, "the sources of a stream"),

@@ -5,6 +5,7 @@ use ld_book::{CycleRow, Findings};
 use ld_facts::Witness;
 use std::alloc::AllocError;
 use std::process::Abort;
+use std::test::Fail;
 
 /// Asserts what a row says of a dependency on a cycle.
 fn expect_cycle<R: Abort>(
@@ -84,4 +85,27 @@ fn orders_classes_by_the_bytes_of_their_names(rt: HostRuntime) {
         drop(findings);
         drop(book);
     }
+}
+
+/// Each of a hundred classes is acquired under itself, and in a hard handler too. Findings that are
+/// refused where they are many would meet every contract.
+#[test]
+fn a_hundred_rows_of_each_kind_are_found(rt: HostRuntime) -> Result<(), Fail> {
+    let mut stream = String::from_str(rt.alloc(), "trace v\n")?;
+    for number in 0..100u32 {
+        writeln!(stream, "acquire t c{number}@1\nacquire t c{number}@2")?;
+        writeln!(stream, "release t c{number}@2\nrelease t c{number}@1")?;
+        writeln!(
+            stream,
+            "enter t hard\nacquire t c{number}\nrelease t c{number}\nexit t hard"
+        )?;
+    }
+    let book = book_of(&rt, rt.alloc(), stream.as_bytes(), &[0]);
+    let findings = book.findings(rt.alloc()).expect(&rt, "the findings");
+    assert_eq!(rt; findings.cycles.items().len(), 100);
+    assert_eq!(rt; findings.conflicts.items().len(), 100);
+    assert_eq!(rt; findings.forbidden.items().len(), 100);
+    drop(findings);
+    drop(book);
+    Ok(())
 }

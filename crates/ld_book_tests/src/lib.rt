@@ -5,6 +5,8 @@
 #[cfg(test)]
 mod alarms;
 #[cfg(test)]
+mod batches;
+#[cfg(test)]
 mod books;
 #[cfg(test)]
 mod dependencies;

@@ -6,7 +6,7 @@ use Rattle.std.proofs.lemmas.Nat.{pow_pos}
 use Rattle.std.proofs.lemmas.Nat.Bits.{and_pow, bit_at-lt, bit_at_or}
 use Rattle.std.specs.Int.{bit_at}
 use Rattle.ld_class.specs.declared.usage.Usage.{Usage}
-use Rattle.ld_class.specs.Usage.{union, has_bit}
+use Rattle.ld_class.specs.Usage.{either, has_bit}
 
 -- a digit 0 or 1 times a number that is not 0 is that number if the digit is 1
 product_test : (digit weight : ℕ) → digit < 2 → 0 < weight
@@ -34,14 +34,14 @@ larger_test (suc (suc a)) b small_a small_b = absurd (omega (arith, small_a))
 larger_test zero (suc (suc b)) small_a small_b = absurd (omega (arith, small_b))
 larger_test (suc zero) (suc (suc b)) small_a small_b = absurd (omega (arith, small_b))
 
--- a single bit is in the union if one of the two has it
-pub has_bit-union : (a b bit : Usage) (place : ℕ) → bit.0 ≡ 2 ^ place
-    → has_bit (union a b) bit ≡ (has_bit a bit || has_bit b bit)
-has_bit-union a b bit place at =
+-- what either of two sets has: a single bit is there if one of the two has it
+pub has_bit-either : (a b bit : Usage) (place : ℕ) → bit.0 ≡ 2 ^ place
+    → has_bit (either a b) bit ≡ (has_bit a bit || has_bit b bit)
+has_bit-either a b bit place at =
     let digit_a = bit_at a.0 place in
     let digit_b = bit_at b.0 place in
     let larger = larger_test digit_a digit_b (bit_at-lt a.0 place) (bit_at-lt b.0 place) in
-    has_bit-place (union a b) bit place at
+    has_bit-place (either a b) bit place at
     ∙ ap (λ digit. digit == 1) (bit_at_or a.0 b.0 place)
     ∙ larger
     ∙ sym (λ i. has_bit-place a bit place at i || has_bit-place b bit place at i)

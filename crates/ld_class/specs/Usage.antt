@@ -4,6 +4,10 @@ use Rattle.std.specs.Prelude.{ℕ, Bool, true, false, ◌==◌, List, ◌++◌, 
 use Rattle.std.specs.Int.RustNames.{bit_and, bit_or}
 use Rattle.ld_class.specs.declared.usage.Usage.{Usage}
 
+-- no bit
+abbrev pub no_bits : Usage
+no_bits = record { 0 = 0 }
+
 -- acquired, and not by a trylock, with a hard interrupt handler open
 abbrev pub in_hard : Usage
 in_hard = record { 0 = 1 }
@@ -21,8 +25,8 @@ abbrev pub on_soft : Usage
 on_soft = record { 0 = 8 }
 
 -- the bits that either has
-abbrev pub union : Usage → Usage → Usage
-union a b = record { 0 = bit_or a.0 b.0 }
+abbrev pub either : Usage → Usage → Usage
+either a b = record { 0 = bit_or a.0 b.0 }
 
 -- the set has the bit
 abbrev pub has_bit : Usage → Usage → Bool

@@ -5,5 +5,5 @@
 mod names;
 mod usage;
 
-pub use names::{Classes, MAX_NAMES};
+pub use names::{Classes, MOST_NAMES};
 pub use usage::Usage;

@@ -10,10 +10,10 @@ use std::marker::Model;
 
 /// The most names that a `Classes` holds: more than a whole stream of traces can have, and few
 /// enough that each place fits a `u32`.
-pub const MAX_NAMES: usize = 1 << 30;
+pub const MOST_NAMES: usize = 1 << 30;
 
 // Clauses cite the constant, so they would hold with any other number that fits.
-const _: () = prove!(MAX_NAMES == 1_073_741_824);
+const _: () = prove!(MOST_NAMES == 1_073_741_824);
 
 /// A name as a key: its bytes are hashed by one write, where a slice hashes them one by one.
 #[derive(Clone, Copy, PartialEq, Eq)]
@@ -45,13 +45,13 @@ pub struct Classes<'a> {
 impl<'a> Model for Classes<'a> {
     ghost use Rattle.std.specs.Prelude.{ℕ, List, ◌≤◌, length, map};
     ghost use Rattle.ld_class.specs.Names.{AreDistinct};
-    ghost use Rattle.ld_class.specs.declared.names.TheConstants.{MAX_NAMES};
+    ghost use Rattle.ld_class.specs.declared.names.TheConstants.{MOST_NAMES};
 
     ghost Value = { List (List ℕ) };
 
     ghost view = { λ c. map (λ name. name.0.now) c.names.keys };
 
-    ghost invariant = { λ c. (length c.names.keys ≤ MAX_NAMES)
+    ghost invariant = { λ c. (length c.names.keys ≤ MOST_NAMES)
         × AreDistinct (map (λ name. name.0.now) c.names.keys) };
 }
 
@@ -68,7 +68,7 @@ impl<'a> Classes<'a> {
     /// The number of names.
     pub fn len(&self) -> usize
         ensures len { result ≡ length self.now }
-        ensures bounded { length self.now ≤ MAX_NAMES }
+        ensures bounded { length self.now ≤ MOST_NAMES }
         ensures distinct { AreDistinct self.now }
     {
         self.names.len()
@@ -79,7 +79,7 @@ impl<'a> Classes<'a> {
     /// `AllocError` where it is new and the memory for it was refused. A name that is there takes
     /// no memory.
     pub fn intern(&mut self, name: &'a [u8]) -> Result<u32, AllocError>
-        requires { length self.old < MAX_NAMES }
+        requires { length self.old < MOST_NAMES }
 
         // A name that is there is never refused.
         ensures known { (id : ℕ) → place_of self.old name.entry.now ≡ Some id → result ≡ Ok id }

@@ -1,7 +1,7 @@
 //! `Usage`, which tells how the locks of a class met interrupt handlers.
 ghost use Rattle.std.specs.Prelude.{⊤, ◌≡◌, [], ◌∷◌, codes};
 ghost use Rattle.ld_class.specs.Usage.{in_hard, on_hard, in_soft, on_soft};
-ghost use Rattle.ld_class.specs.Usage.{union, usage_character, marks_of};
+ghost use Rattle.ld_class.specs.Usage.{either, usage_character, marks_of};
 
 use bitflags::{Flag, Flags};
 use std::ops::{BitOr, BitOrAssign};
@@ -100,7 +100,7 @@ impl Flags for Usage {
 impl BitOr for Usage {
     type Output = Usage;
 
-    ghost bitor_gives = { λ a b result. result ≡ union a b };
+    ghost bitor_gives = { λ a b result. result ≡ either a b };
 
     fn bitor(self, other: Usage) -> Usage {
         Usage(self.0 | other.0)
@@ -108,7 +108,7 @@ impl BitOr for Usage {
 }
 
 impl BitOrAssign for Usage {
-    ghost bitor_assign_gives = { λ a b result. result ≡ union a b };
+    ghost bitor_assign_gives = { λ a b result. result ≡ either a b };
 
     fn bitor_assign(&mut self, other: Usage) {
         self.0 |= other.0;

@@ -19,11 +19,11 @@ use Rattle.ld_rules.specs.declared.outcome.TheConstants.{MOST_CLASSES, MOST_HELD
 use Rattle.ld_held.specs.declared.edges.EdgeFact.{EdgeFact}
 use Rattle.ld_facts.specs.declared.scan.Scan.{Scan}
 use Rattle.ld_held.specs.declared.uses.UsageFact.{UsageFact}
-use Rattle.ld_held.specs.Inner.Edges.{edge_to, with_edge}
+use Rattle.ld_held.specs.Inner.Edges.{edge_to, with_edge_fact}
 use Rattle.ld_rules.specs.Flags.{is_enabled}
 use Rattle.ld_rules.specs.Frames.{contexts, frame_of, task_of}
 use Rattle.ld_rules.specs.Held.{Key, held_by, held_in, lock_acquired}
-use Rattle.ld_rules.specs.Dependency.{Dependency, Seen, dependencies_at, seen, seen_at, same_seen}
+use Rattle.ld_rules.specs.Dependency.{Dependency, Seen, dependencies_at, seen, seen_at}
 use Rattle.ld_held.specs.Inner.Interrupts.{enabled_now, fresh, start_now}
 use Rattle.ld_rules.specs.Inner.Levels.{is_interrupt, stack, state_of}
 use Rattle.ld_held.specs.Inner.Locks.{Hold}
@@ -33,7 +33,8 @@ use Rattle.ld_facts.specs.declared.scan.Taking.{Taking}
 use Rattle.ld_facts.specs.declared.scan.Taking.TheVariants.{Trying, Waiting}
 use Rattle.ld_facts.specs.Inner.Reading.{AreMany, HasTask, IsAt, IsTask, IsWithin, acquisition, happens}
 use Rattle.ld_facts.specs.Facts.{named, named_use}
-use Rattle.ld_rules.specs.Usage.{uses_at, same_what}
+use Rattle.ld_rules.specs.Usage.{uses_at}
+use Rattle.ld_rules.specs.Inner.Scanned.{same_dependency_seen, same_use_seen}
 use Rattle.ld_facts.specs.Facts.{IsUse}
 use Rattle.ld_held.specs.Inner.Uses.{in_facts, on_facts, with_use}
 use Rattle.ld_rules.proofs.FlagLemmas.{is_enabled-quiet, levels-quiet, stack-quiet}
@@ -204,7 +205,7 @@ module _ (all : List Position) (old : Scan) (is : IsAt all old) (name : List ℕ
 
   -- The dependencies.
 
-  edges-now : map (named new.classes) new.locks.edges ≡ each_once same_seen (seen dependencies_at all)
+  edges-now : map (named new.classes) new.locks.edges ≡ each_once same_dependency_seen (seen dependencies_at all)
   edges-now = (λ i. map (named (enters.classes i)) (enters.edges i)) ∙ named-more old.classes lock.class old.locks.edges is.within ∙ is.edges
 
   within-now : All (IsWithin new.classes) new.locks.edges
@@ -235,18 +236,18 @@ module _ (all : List Position) (old : Scan) (is : IsAt all old) (name : List ℕ
       ∙ sym (told-of_keys lock.class line (held_in (events all) name (frame_of (events all) name)))
 
   abbrev told_edges : List EdgeFact
-  told_edges = fold with_edge new.locks.edges (map (edge_to number line) froms)
+  told_edges = fold with_edge_fact new.locks.edges (map (edge_to number line) froms)
 
-  edges-told : map (named new.classes) told_edges ≡ each_once same_seen (seen dependencies_at (all ++ happens line (Acquire name lock) ∷ []))
+  edges-told : map (named new.classes) told_edges ≡ each_once same_dependency_seen (seen dependencies_at (all ++ happens line (Acquire name lock) ∷ []))
   edges-told =
       tell-named new.classes distinct new.locks.edges line number froms within-now enters.class.0 (holds-within new.classes inner inner-now)
-      ∙ (λ i. fold (with_new same_seen) (edges-now i) (told-now i))
+      ∙ (λ i. fold (with_new same_dependency_seen) (edges-now i) (told-now i))
       ∙ sym (dependencies-push all (happens line (Acquire name lock)))
 
   within-told : All (IsWithin new.classes) told_edges
   within-told = within-tell new.classes new.locks.edges line number froms within-now enters.class.0 (holds-within new.classes inner inner-now)
 
-  edges-untold : map (named new.classes) new.locks.edges ≡ each_once same_seen (seen dependencies_at (all ++ happens line (Try name lock) ∷ []))
+  edges-untold : map (named new.classes) new.locks.edges ≡ each_once same_dependency_seen (seen dependencies_at (all ++ happens line (Try name lock) ∷ []))
   edges-untold = edges-now ∙ sym (dependencies-push all (happens line (Try name lock)))
 
   -- The usage.
@@ -266,7 +267,7 @@ module _ (all : List Position) (old : Scan) (is : IsAt all old) (name : List ℕ
   ins-within : All (IsUse new.classes) ins
   ins-within = in_facts-within new.classes frames_now line number enters.class.0
 
-  uses-now : map (named_use new.classes) new.uses ≡ each_once same_what (seen uses_at all)
+  uses-now : map (named_use new.classes) new.uses ≡ each_once same_use_seen (seen uses_at all)
   uses-now = (λ i. map (named_use (enters.classes i)) (enters.uses i)) ∙ named_use-more old.classes lock.class old.uses is.used ∙ is.uses
 
   used-now : All (IsUse new.classes) new.uses
@@ -288,17 +289,17 @@ module _ (all : List Position) (old : Scan) (is : IsAt all old) (name : List ℕ
       in_facts-named new.classes frames_now line number lock enters.class
       ∙ ap (λ cs. map (at_line line) (uses_in cs (Some lock))) (sym (contexts-are old.classes held_now frames_now (events all) name before))
 
-  uses-tried : map (named_use new.classes) (fold with_use new.uses ons) ≡ each_once same_what (seen uses_at (all ++ happens line (Try name lock) ∷ []))
+  uses-tried : map (named_use new.classes) (fold with_use new.uses ons) ≡ each_once same_use_seen (seen uses_at (all ++ happens line (Try name lock) ∷ []))
   uses-tried =
       uses-named new.classes distinct new.uses ons used-now ons-within
-      ∙ (λ i. fold (with_new same_what) (uses-now i) (ons-are Trying i))
+      ∙ (λ i. fold (with_new same_use_seen) (uses-now i) (ons-are Trying i))
       ∙ sym (uses_once-push_new all (happens line (Try name lock)))
 
-  uses-acquired : map (named_use new.classes) (fold with_use (fold with_use new.uses ins) ons) ≡ each_once same_what (seen uses_at (all ++ happens line (Acquire name lock) ∷ []))
+  uses-acquired : map (named_use new.classes) (fold with_use (fold with_use new.uses ins) ons) ≡ each_once same_use_seen (seen uses_at (all ++ happens line (Acquire name lock) ∷ []))
   uses-acquired =
       uses-named new.classes distinct (fold with_use new.uses ins) ons (uses-within new.classes new.uses ins used-now ins-within) ons-within
-      ∙ ap (λ known. fold (with_new same_what) known (map (named_use new.classes) ons)) (uses-named new.classes distinct new.uses ins used-now ins-within)
-      ∙ (λ i. fold (with_new same_what) (fold (with_new same_what) (uses-now i) (ins-are i)) (ons-are Waiting i))
+      ∙ ap (λ known. fold (with_new same_use_seen) known (map (named_use new.classes) ons)) (uses-named new.classes distinct new.uses ins used-now ins-within)
+      ∙ (λ i. fold (with_new same_use_seen) (fold (with_new same_use_seen) (uses-now i) (ins-are i)) (ons-are Waiting i))
       ∙ sym (with_uses-append line (uses_once all) (uses_in (contexts (events all) name) (Some lock))
       (map (on_use Hard) (if is_enabled (events all ++ Acquire name lock ∷ []) name Hard then key ∷ [] else []) ++ map (on_use Soft)
       (if is_enabled (events all ++ Acquire name lock ∷ []) name Soft then key ∷ [] else [])))
@@ -347,8 +348,8 @@ module _ (all : List Position) (old : Scan) (is : IsAt all old) (name : List ℕ
   same = get_or-set_same new.locks.stacks id (held_now ++ top ∷ []) [] inside
 
   acquired-by : (how : Taking) (edges : List EdgeFact) (uses : List UsageFact) → length held_now < MOST_HELD → map (named new.classes) edges ≡
-      each_once same_seen (seen dependencies_at (all ++ happens line (acquisition how name lock) ∷ [])) → All (IsWithin new.classes) edges → map
-      (named_use new.classes) uses ≡ each_once same_what (seen uses_at (all ++ happens line (acquisition how name lock) ∷ [])) → All
+      each_once same_dependency_seen (seen dependencies_at (all ++ happens line (acquisition how name lock) ∷ [])) → All (IsWithin new.classes) edges → map
+      (named_use new.classes) uses ≡ each_once same_use_seen (seen uses_at (all ++ happens line (acquisition how name lock) ∷ [])) → All
       (IsUse new.classes) uses → IsAt (all ++ happens line (acquisition how name lock) ∷ []) (with_top edges uses)
   acquired-by how edges uses room shown within counted used =
       moved-at all old (acquisition how name lock) line id (with_top edges uses) is (record {

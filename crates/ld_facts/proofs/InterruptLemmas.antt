@@ -21,11 +21,12 @@ use Rattle.ld_rules.specs.Frames.{contexts, frame_of, task_of}
 use Rattle.ld_rules.specs.Held.{held_by, held_in}
 use Rattle.ld_held.specs.Inner.Interrupts.{IsEntered, IsLeft, IsSet, enabled_now, fresh, nests_in, start_now, states_of}
 use Rattle.ld_rules.specs.Inner.Levels.{stack, state_of}
-use Rattle.ld_held.specs.Inner.Locks.{Hold, IsMoved, Known}
+use Rattle.ld_held.specs.Inner.Locks.{Hold, ChangesInterrupts, HeldByTasks}
 use Rattle.ld_rules.specs.Open.{is_some_and}
 use Rattle.ld_rules.specs.Outcome.{class_acquired, each_once, event_fault, events, is_bad_enable, is_bad_exit, is_badly_nested, is_held_at_exit, is_masked, is_one_too_many, tasks}
 use Rattle.ld_facts.specs.Inner.Reading.{HasTask, IsAt, IsTask, happens}
-use Rattle.ld_rules.specs.Usage.{uses_at, same_what}
+use Rattle.ld_rules.specs.Usage.{uses_at}
+use Rattle.ld_rules.specs.Inner.Scanned.{same_use_seen}
 use Rattle.ld_facts.specs.Facts.{IsUse}
 use Rattle.ld_held.specs.Inner.Uses.{on_facts, with_use}
 use Rattle.ld_rules.proofs.FlagLemmas.{levels-disable, levels-enable, levels-enter, levels-exit_good, stack-quiet, states-enter, states-exit}
@@ -83,7 +84,7 @@ module _ (all : List Position) (old : Scan) (is : IsAt all old) (name : List ℕ
   fits = tasks-fit all old is name id mid has
 
   -- where only the frames and flags of the task change
-  changed : (locks : Known) (uses : List UsageFact) → IsMoved mid.locks locks id → Changed mid id (record { tasks = mid.tasks; classes = mid.classes; locks = locks; uses = uses })
+  changed : (locks : HeldByTasks) (uses : List UsageFact) → ChangesInterrupts mid.locks locks id → Changed mid id (record { tasks = mid.tasks; classes = mid.classes; locks = locks; uses = uses })
   changed locks uses moved = record {
     tasks = refl;
     classes = refl;
@@ -93,17 +94,17 @@ module _ (all : List Position) (old : Scan) (is : IsAt all old) (name : List ℕ
     interrupts = moved.others;
   }
 
-  held_same : (locks : Known) → IsMoved mid.locks locks id → get_or locks.stacks id [] ≡ held_now
+  held_same : (locks : HeldByTasks) → ChangesInterrupts mid.locks locks id → get_or locks.stacks id [] ≡ held_now
   held_same locks moved = ap (λ ss. get_or ss id []) moved.stacks
 
-  shallow : (locks : Known) → IsMoved mid.locks locks id → length (get_or locks.stacks id []) ≤ MOST_HELD
+  shallow : (locks : HeldByTasks) → ChangesInterrupts mid.locks locks id → length (get_or locks.stacks id []) ≤ MOST_HELD
   shallow locks moved = subst (λ (held : List Hold). length held ≤ MOST_HELD) (sym (held_same locks moved)) (shallow-before all old is name id mid has)
 
   -- a verb without usage
-  module _ (e : PlainEvent) (line : ℕ) (own_task : task_of e ≡ name) (locks : Known) (moved : IsMoved mid.locks locks id)
+  module _ (e : PlainEvent) (line : ℕ) (own_task : task_of e ≡ name) (locks : HeldByTasks) (moved : ChangesInterrupts mid.locks locks id)
       (fault : event_fault (events all) e ≡ None) (acquires_none : class_acquired e ≡ None) (depends_none : dependencies_at (events all) e ≡ [])
       (own : IsTask old.classes held_now (get_or locks.interrupts id fresh) (events all ++ e ∷ []) name) where
-    moved-by : (uses : List UsageFact) → map (named_use old.classes) uses ≡ each_once same_what (seen uses_at (all ++ happens line e ∷ [])) → All
+    moved-by : (uses : List UsageFact) → map (named_use old.classes) uses ≡ each_once same_use_seen (seen uses_at (all ++ happens line e ∷ [])) → All
         (IsUse old.classes) uses → IsAt (all ++ happens line e ∷ []) (record { tasks = mid.tasks; classes = mid.classes; locks = locks; uses = uses })
     moved-by uses shown used =
         unacquired all old e line id mid (record { tasks = mid.tasks; classes = mid.classes; locks = locks; uses = uses }) is
@@ -126,7 +127,7 @@ module _ (all : List Position) (old : Scan) (is : IsAt all old) (name : List ℕ
         moved-by counted
         ((λ i. map (named_use old.classes) (fold with_use (has.uses i) (on_facts interrupts line (map (λ hold. hold.class) (held_same locks moved i)))))
         ∙ uses-named old.classes distinct old.uses (on_facts interrupts line numbers) is.used within
-        ∙ (λ i. fold (with_new same_what) (is.uses i) (on_facts-named old.classes interrupts line numbers (held_by (events all) name)
+        ∙ (λ i. fold (with_new same_use_seen) (is.uses i) (on_facts-named old.classes interrupts line numbers (held_by (events all) name)
         (classes-are old.classes held_now frames_now (events all) name before) i))
         ∙ ap (with_uses line (uses_once all)) (
         (λ i. map (on_use Hard) (if enabled Hard i then counts i else []) ++ map (on_use Soft) (if enabled Soft i then counts i else []))
@@ -178,7 +179,7 @@ module _ (all : List Position) (old : Scan) (is : IsAt all old) (name : List ℕ
     pub enter-masked : nests_in (states_of frames_now) state ≡ true → enabled_now state frames_now ≡ false → event_fault (events all) (Enter name state) ≡ Some Masked
     enter-masked nests on = enter_fault (events all) name state fits ∙ (λ i. if (nest-is ∙ ap not nests) i then Some BadNest else if (masked-is ∙ ap not on) i then Some Masked else None)
 
-    pub entered-at : (line : ℕ) (locks : Known) → nests_in (states_of frames_now) state ≡ true → enabled_now state frames_now ≡ true → IsMoved
+    pub entered-at : (line : ℕ) (locks : HeldByTasks) → nests_in (states_of frames_now) state ≡ true → enabled_now state frames_now ≡ true → ChangesInterrupts
         mid.locks locks id → IsEntered state (length held_now) frames_now (get_or locks.interrupts id fresh) → IsAt
         (all ++ happens line (Enter name state) ∷ []) (record { tasks = mid.tasks; classes = mid.classes; locks = locks; uses = mid.uses })
     entered-at line locks nests on moved entered =
@@ -229,8 +230,8 @@ module _ (all : List Position) (old : Scan) (is : IsAt all old) (name : List ℕ
         some : is_held_at_exit (events all) (Exit name state) ≡ true
         some = some_there (held_in (events all) name (frame_of (events all) name)) (omega (arith, length-inner, start_least, more))
 
-    pub exited-at : (line : ℕ) (locks : Known) → is_some_and (same_state state) (slice_get (states_of frames_now) 0) ≡ true → length held_now ≡
-        start_now frames_now → IsMoved mid.locks locks id → IsLeft frames_now (get_or locks.interrupts id fresh) → IsAt
+    pub exited-at : (line : ℕ) (locks : HeldByTasks) → is_some_and (same_state state) (slice_get (states_of frames_now) 0) ≡ true → length held_now ≡
+        start_now frames_now → ChangesInterrupts mid.locks locks id → IsLeft frames_now (get_or locks.interrupts id fresh) → IsAt
         (all ++ happens line (Exit name state) ∷ [])
         (record {
           tasks = mid.tasks;
@@ -268,7 +269,7 @@ module _ (all : List Position) (old : Scan) (is : IsAt all old) (name : List ℕ
     pub enable-bad : list_any (same_state state) (states_of frames_now) ≡ true → event_fault (events all) (Enable name state) ≡ Some BadEnable
     enable-bad among = enable_fault (events all) name state fits ∙ ap (λ (b : Bool). if b then Some BadEnable else None) (bad-enable-is ∙ among)
 
-    pub enabled-at : (line : ℕ) (locks : Known) → list_any (same_state state) (states_of frames_now) ≡ false → IsMoved mid.locks locks id → IsSet
+    pub enabled-at : (line : ℕ) (locks : HeldByTasks) → list_any (same_state state) (states_of frames_now) ≡ false → ChangesInterrupts mid.locks locks id → IsSet
         state true frames_now (get_or locks.interrupts id fresh) → IsAt (all ++ happens line (Enable name state) ∷ [])
         (record {
           tasks = mid.tasks;
@@ -289,7 +290,7 @@ module _ (all : List Position) (old : Scan) (is : IsAt all old) (name : List ℕ
         })
         refl refl
 
-    pub disabled-at : (line : ℕ) (locks : Known) → IsMoved mid.locks locks id → IsSet state false frames_now (get_or locks.interrupts id fresh) → IsAt
+    pub disabled-at : (line : ℕ) (locks : HeldByTasks) → ChangesInterrupts mid.locks locks id → IsSet state false frames_now (get_or locks.interrupts id fresh) → IsAt
         (all ++ happens line (Disable name state) ∷ []) (record { tasks = mid.tasks; classes = mid.classes; locks = locks; uses = mid.uses })
     disabled-at line locks moved set =
         uncounted-by (Disable name state) line refl locks moved (disable_fault (events all) name state fits) refl refl

@@ -16,16 +16,17 @@ use Rattle.ld_rules.specs.declared.fault.TraceFault.{TraceFault}
 use Rattle.ld_rules.specs.declared.outcome.Outcome.TheVariants.{Read, Refused}
 use Rattle.ld_facts.specs.declared.scan.Scan.{Scan}
 use Rattle.ld_rules.specs.Outcome.{each_once, classes, event_fault, events, faulty_lines, outcome, outcome_by, of_line, said_fault}
-use Rattle.ld_rules.specs.Dependency.{Dependency, Seen, dependencies_at, least_line, same_dependency, seen, same_seen}
+use Rattle.ld_rules.specs.Dependency.{Dependency, Seen, dependencies_at, least_line, same_dependency, seen}
 use Rattle.ld_rules.specs.Union.{if_read}
 use Rattle.ld_facts.specs.Facts.{IsKnown, named, named_use}
-use Rattle.ld_rules.specs.Usage.{Use, bit_of, same_use, uses_at, same_what}
+use Rattle.ld_rules.specs.Usage.{Use, bit_of, same_use, uses_at}
+use Rattle.ld_rules.specs.Inner.Scanned.{same_dependency_seen, same_use_seen}
 use Rattle.ld_held.specs.declared.uses.UsageFact.{UsageFact}
 use Rattle.ld_facts.specs.Inner.Reading.{IsAt, IsReadTo, happens, positions_from}
 use Rattle.ld_rules.proofs.OutcomeLemmas.{first_fault}
 use Rattle.ld_rules.proofs.PlaceLemmas.{alike_from_decides, by_pushes, each_once-more}
 use Rattle.ld_rules.proofs.StepLemmas.{Decides-same_dependency}
-use Rattle.ld_rules.proofs.UsageLemmas.{Decides-same_use, same_what-alike}
+use Rattle.ld_rules.proofs.UsageLemmas.{Decides-same_use, same_use_seen-alike}
 use Rattle.ld_rules.proofs.LeastLemmas.{least_once, seen-Ascend}
 use Rattle.ld_trace.proofs.PositionLemmas.{positions-ascend}
 
@@ -61,32 +62,34 @@ each_once-pairs {X} same alike xs = by_pushes (λ ys. AllPairs (λ a b. same b a
     step : (ys : List X) (y : X) → AllPairs (λ a b. same b a ≡ false) (each_once same ys) → AllPairs (λ a b. same b a ≡ false) (each_once same (ys ++ y ∷ []))
     step ys y h = subst (AllPairs (λ a b. same b a ≡ false)) (sym (each_once-more same alike ys y)) (added (each_once same ys) y h (list_any (same y) (each_once same ys)) refl)
 
-alike_seen : (x y : Seen Dependency) → same_seen x y ≡ true → (z : Seen Dependency) → same_seen x z ≡ same_seen y z
+alike_seen : (x y : Seen Dependency) → same_dependency_seen x y ≡ true → (z : Seen Dependency) → same_dependency_seen x z ≡ same_dependency_seen y z
 alike_seen x y is z = alike_from_decides same_dependency Decides-same_dependency x.what y.what is z.what
 
 -- numbered dependencies that are these by name, each once
-module _ (names : List (List ℕ)) (edges : List EdgeFact) (shown : List (Seen Dependency)) (is : map (named names) edges ≡ each_once same_seen shown) where
+module _ (names : List (List ℕ)) (edges : List EdgeFact) (shown : List (Seen Dependency)) (is : map (named names) edges ≡ each_once same_dependency_seen shown) where
   once_named : AllPairs (λ d e. (d.from ≡ e.from) × (d.to ≡ e.to) → ⊥) edges
   once_named i j d before below both =
-      let apart : AllPairs (λ a b. same_seen b a ≡ false) (map (named names) edges) = subst (AllPairs (λ a b. same_seen b a ≡ false)) (sym is) (each_once-pairs same_seen alike_seen shown) in
-      let differ : same_seen (get_or (map (named names) edges) j (named names d)) (get_or (map (named names) edges) i (named names d)) ≡ false = apart
+      let apart : AllPairs (λ a b. same_dependency_seen b a ≡ false) (map (named names) edges) = subst (AllPairs (λ a b. same_dependency_seen b a ≡ false)) (sym is)
+      (each_once-pairs same_dependency_seen alike_seen shown) in
+      let differ : same_dependency_seen (get_or (map (named names) edges) j (named names d)) (get_or (map (named names) edges) i (named names d)) ≡ false = apart
       i j (named names d) before (omega (arith, below, length-map edges (named names))) in
       let here : get_or (map (named names) edges) i (named names d) ≡ named names (get_or edges i d) = get_or-map (named names) edges i d (named names d) (omega arith) in
       let there : get_or (map (named names) edges) j (named names d) ≡ named names (get_or edges j d) = get_or-map (named names) edges j d (named names d) below in
       let alike : (named names (get_or edges j d)).what ≡ (named names (get_or edges i d)).what = (λ k. record { from = get_or names (sym both.0 k) []; to = get_or names (sym both.1 k) [] }) in
-      true≢false (sym ((Decides-same_dependency (named names (get_or edges j d)).what (named names (get_or edges i d)).what).1 alike) ∙ (λ k. same_seen (sym there k) (sym here k)) ∙ differ)
+      true≢false (sym ((Decides-same_dependency (named names (get_or edges j d)).what (named names (get_or edges i d)).what).1 alike) ∙ (λ k. same_dependency_seen (sym there k) (sym here k)) ∙ differ)
 
 -- numbered usage bits that are these by name, each once
-once_used : (names : List (List ℕ)) (uses : List UsageFact) (shown : List (Seen Use)) → map (named_use names) uses ≡ each_once same_what shown →
+once_used : (names : List (List ℕ)) (uses : List UsageFact) (shown : List (Seen Use)) → map (named_use names) uses ≡ each_once same_use_seen shown →
     AllPairs (λ u v. (u.class ≡ v.class) × (u.bit ≡ v.bit) → ⊥) uses
 once_used names uses shown is i j d before below both =
-    let apart : AllPairs (λ a b. same_what b a ≡ false) (map (named_use names) uses) = subst (AllPairs (λ a b. same_what b a ≡ false)) (sym is) (each_once-pairs same_what same_what-alike shown) in
-    let differ : same_what (get_or (map (named_use names) uses) j (named_use names d)) (get_or (map (named_use names) uses) i (named_use names d)) ≡
+    let apart : AllPairs (λ a b. same_use_seen b a ≡ false) (map (named_use names) uses) = subst (AllPairs (λ a b. same_use_seen b a ≡ false)) (sym is)
+    (each_once-pairs same_use_seen same_use_seen-alike shown) in
+    let differ : same_use_seen (get_or (map (named_use names) uses) j (named_use names d)) (get_or (map (named_use names) uses) i (named_use names d)) ≡
     false = apart i j (named_use names d) before (omega (arith, below, length-map uses (named_use names))) in
     let here : get_or (map (named_use names) uses) i (named_use names d) ≡ named_use names (get_or uses i d) = get_or-map (named_use names) uses i d (named_use names d) (omega arith) in
     let there : get_or (map (named_use names) uses) j (named_use names d) ≡ named_use names (get_or uses j d) = get_or-map (named_use names) uses j d (named_use names d) below in
     let alike : (named_use names (get_or uses j d)).what ≡ (named_use names (get_or uses i d)).what = (λ k. record { class = get_or names (sym both.0 k) []; bit = bit_of (sym both.1 k) }) in
-    true≢false (sym ((Decides-same_use (named_use names (get_or uses j d)).what (named_use names (get_or uses i d)).what).1 alike) ∙ (λ k. same_what (sym there k) (sym here k)) ∙ differ)
+    true≢false (sym ((Decides-same_use (named_use names (get_or uses j d)).what (named_use names (get_or uses i d)).what).1 alike) ∙ (λ k. same_use_seen (sym there k) (sym here k)) ∙ differ)
 
 -- the same scan and count by other names
 pub moved : (source : PlainSource) (line : ℕ) (rest : List ℕ) (scan old : Scan) (count before : ℕ) → scan ≡ old → count ≡ before → IsReadTo source

@@ -7,12 +7,13 @@ use Rattle.ld_trace.specs.Events.{PlainEvent, Position}
 use Rattle.ld_rules.specs.declared.outcome.TheConstants.{MOST_CLASSES, MOST_HELD, MOST_TASKS}
 use Rattle.ld_facts.specs.declared.scan.Scan.{Scan}
 use Rattle.ld_rules.specs.Frames.{task_of}
-use Rattle.ld_rules.specs.Dependency.{Dependency, dependencies_at, seen, same_seen}
+use Rattle.ld_rules.specs.Dependency.{Dependency, dependencies_at, seen}
 use Rattle.ld_facts.specs.Facts.{named, named_use}
 use Rattle.ld_held.specs.Inner.Interrupts.{fresh}
 use Rattle.ld_rules.specs.Outcome.{class_acquired, classes, each_once, event_fault, events, is_one_too_many, tasks}
 use Rattle.ld_facts.specs.Inner.Reading.{AreMany, HasTask, IsAt, IsTask, IsWithin, happens}
-use Rattle.ld_rules.specs.Usage.{uses_at, same_what}
+use Rattle.ld_rules.specs.Usage.{uses_at}
+use Rattle.ld_rules.specs.Inner.Scanned.{same_dependency_seen, same_use_seen}
 use Rattle.ld_facts.specs.Facts.{IsUse}
 use Rattle.ld_rules.proofs.OutcomeLemmas.{events-push, no_fault}
 use Rattle.ld_rules.proofs.PlaceLemmas.{with_new}
@@ -32,9 +33,9 @@ pub record Moved (all : List Position) (old : Scan) (e : PlainEvent) (line id : 
   pub interrupts : (k : ℕ) → k ≢ id → get_or new.locks.interrupts k fresh ≡ get_or old.locks.interrupts k fresh
   pub own : IsTask new.classes (get_or new.locks.stacks id []) (get_or new.locks.interrupts id fresh) (events all ++ e ∷ []) (task_of e)
   pub shallow : length (get_or new.locks.stacks id []) ≤ MOST_HELD
-  pub edges : map (named new.classes) new.locks.edges ≡ each_once same_seen (seen dependencies_at (all ++ happens line e ∷ []))
+  pub edges : map (named new.classes) new.locks.edges ≡ each_once same_dependency_seen (seen dependencies_at (all ++ happens line e ∷ []))
   pub within : All (IsWithin new.classes) new.locks.edges
-  pub uses : map (named_use new.classes) new.uses ≡ each_once same_what (seen uses_at (all ++ happens line e ∷ []))
+  pub uses : map (named_use new.classes) new.uses ≡ each_once same_use_seen (seen uses_at (all ++ happens line e ∷ []))
   pub used : All (IsUse new.classes) new.uses
 
 -- a number is the task's own, or another's
@@ -108,7 +109,7 @@ module _ (all : List Position) (old : Scan) (is : IsAt all old) (name : List ℕ
 pub unacquired : (all : List Position) (old : Scan) (e : PlainEvent) (line id : ℕ) (mid new : Scan) → IsAt all old → HasTask old (task_of e) id mid →
     Changed mid id new → event_fault (events all) e ≡ None → class_acquired e ≡ None → dependencies_at (events all) e ≡ [] → IsTask old.classes
     (get_or new.locks.stacks id []) (get_or new.locks.interrupts id fresh) (events all ++ e ∷ []) (task_of e) → length (get_or new.locks.stacks id [])
-    ≤ MOST_HELD → map (named_use old.classes) new.uses ≡ each_once same_what (seen uses_at (all ++ happens line e ∷ [])) → All (IsUse old.classes) new.uses → IsAt (all ++ happens line e ∷ []) new
+    ≤ MOST_HELD → map (named_use old.classes) new.uses ≡ each_once same_use_seen (seen uses_at (all ++ happens line e ∷ [])) → All (IsUse old.classes) new.uses → IsAt (all ++ happens line e ∷ []) new
 unacquired all old e line id mid new is has changed fault acquires_none depends_none own shallow uses used =
     let classes-same : new.classes ≡ old.classes = changed.classes ∙ has.classes in
     let edges-same : new.locks.edges ≡ old.locks.edges = changed.edges ∙ has.edges in
@@ -128,7 +129,7 @@ unacquired all old e line id mid new is has changed fault acquires_none depends_
       edges =
           (λ i. map (named (classes-same i)) (edges-same i))
           ∙ is.edges
-          ∙ sym (dependencies-push all (happens line e) ∙ ap (λ ds. fold (with_new same_seen) (each_once same_seen (seen dependencies_at all))
+          ∙ sym (dependencies-push all (happens line e) ∙ ap (λ ds. fold (with_new same_dependency_seen) (each_once same_dependency_seen (seen dependencies_at all))
           (map (λ (what : Dependency). record { what = what; line = line }) ds)) depends_none);
       within = subst (λ ns. All (IsWithin ns) new.locks.edges) (sym classes-same) (subst (All (IsWithin old.classes)) (sym edges-same) is.within);
       uses = ap (λ ns. map (named_use ns) new.uses) classes-same ∙ uses;

@@ -14,10 +14,10 @@ use Rattle.ld_class.specs.Names.{AreDistinct, IsNameAt, place_of, with_name}
 use Rattle.ld_class.proofs.NameLemmas.{place_of-None, with_name-known, with_name-new}
 use Rattle.ld_trace.specs.Events.{PlainEvent}
 use Rattle.ld_held.specs.declared.edges.EdgeFact.{EdgeFact}
-use Rattle.ld_held.specs.Inner.Edges.{edge_to, same_pair, with_edge}
+use Rattle.ld_held.specs.Inner.Edges.{edge_to, same_pair, with_edge_fact}
 use Rattle.ld_held.specs.Inner.Locks.{Hold}
 use Rattle.ld_rules.specs.Outcome.{class_acquired, classes, each_once}
-use Rattle.ld_rules.specs.Dependency.{same_seen}
+use Rattle.ld_rules.specs.Inner.Scanned.{same_dependency_seen}
 use Rattle.ld_facts.specs.Inner.Reading.{IsWithin}
 use Rattle.ld_facts.specs.Facts.{named}
 use Rattle.ld_rules.proofs.PlaceLemmas.{by_pushes, with_new}
@@ -39,10 +39,10 @@ module _ (names : List (List ℕ)) (distinct : AreDistinct names) where
       (λ h. by_numbers.1 (distinct i j (slice_index_or names j []) (low_i, by_names.0 h) (low_j, refl)))
       (λ h. by_names.1 (ap (λ k. slice_index_or names k []) (by_numbers.0 h)))
 
-  same_named : (a b : EdgeFact) → IsWithin names a → IsWithin names b → same_seen (named names a) (named names b) ≡ same_pair a b
+  same_named : (a b : EdgeFact) → IsWithin names a → IsWithin names b → same_dependency_seen (named names a) (named names b) ≡ same_pair a b
   same_named a b in_a in_b = λ i. numbers_by_name a.from b.from in_a.0 in_b.0 i && numbers_by_name a.to b.to in_a.1 in_b.1 i
 
-  any_named : (edges : List EdgeFact) (edge : EdgeFact) → All (IsWithin names) edges → IsWithin names edge → list_any (same_seen (named names edge))
+  any_named : (edges : List EdgeFact) (edge : EdgeFact) → All (IsWithin names) edges → IsWithin names edge → list_any (same_dependency_seen (named names edge))
       (map (named names) edges) ≡ list_any (same_pair edge) edges
   any_named [] edge within here = refl
   any_named (x ∷ xs) edge within here =
@@ -50,9 +50,9 @@ module _ (names : List (List ℕ)) (distinct : AreDistinct names) where
       let rest = any_named xs edge (All-tail (IsWithin names) x xs within) here in
       (λ i. first i || rest i)
 
-pub with_edge-named : (names : List (List ℕ)) → AreDistinct names → (edges : List EdgeFact) (edge : EdgeFact) → All (IsWithin names) edges → IsWithin
-    names edge → map (named names) (with_edge edges edge) ≡ with_new same_seen (map (named names) edges) (named names edge)
-with_edge-named names distinct edges edge within here =
+pub with_edge_fact-named : (names : List (List ℕ)) → AreDistinct names → (edges : List EdgeFact) (edge : EdgeFact) → All (IsWithin names) edges → IsWithin
+    names edge → map (named names) (with_edge_fact edges edge) ≡ with_new same_dependency_seen (map (named names) edges) (named names edge)
+with_edge_fact-named names distinct edges edge within here =
     map-append (named names) edges (if list_any (same_pair edge) edges then [] else edge ∷ [])
     ∙ ap (λ zs. map (named names) edges ++ zs) (by (list_any (same_pair edge) edges))
     ∙ ap (λ (b : Bool). map (named names) edges ++ (if b then [] else named names edge ∷ [])) (sym (any_named names distinct edges edge within here))
@@ -61,8 +61,8 @@ with_edge-named names distinct edges edge within here =
     by true = refl
     by false = refl
 
-pub within-with_edge : (names : List (List ℕ)) (edges : List EdgeFact) (edge : EdgeFact) → All (IsWithin names) edges → IsWithin names edge → All (IsWithin names) (with_edge edges edge)
-within-with_edge names edges edge within here = All-append (IsWithin names) edges (if list_any (same_pair edge) edges then [] else edge ∷ []) within (by (list_any (same_pair edge) edges))
+pub within-with_edge_fact : (names : List (List ℕ)) (edges : List EdgeFact) (edge : EdgeFact) → All (IsWithin names) edges → IsWithin names edge → All (IsWithin names) (with_edge_fact edges edge)
+within-with_edge_fact names edges edge within here = All-append (IsWithin names) edges (if list_any (same_pair edge) edges then [] else edge ∷ []) within (by (list_any (same_pair edge) edges))
   where
     by : (b : Bool) → All (IsWithin names) (if b then [] else edge ∷ [])
     by true = All-nil (IsWithin names)
@@ -70,21 +70,22 @@ within-with_edge names edges edge within here = All-append (IsWithin names) edge
 
 -- the dependencies on one class from others, told at one line
 pub tell-named : (names : List (List ℕ)) → AreDistinct names → (edges : List EdgeFact) (line class : ℕ) (froms : List ℕ) → All (IsWithin names) edges
-    → class < length names → All (λ from. from < length names) froms → map (named names) (fold with_edge edges (map (edge_to class line) froms)) ≡
-    fold (with_new same_seen) (map (named names) edges) (map (λ from. record { what = record { from = slice_index_or names from []; to = slice_index_or names class [] }; line = line }) froms)
+    → class < length names → All (λ from. from < length names) froms → map (named names) (fold with_edge_fact edges (map (edge_to class line) froms)) ≡
+    fold (with_new same_dependency_seen) (map (named names) edges)
+    (map (λ from. record { what = record { from = slice_index_or names from []; to = slice_index_or names class [] }; line = line }) froms)
 tell-named names distinct edges line class [] within inside all = refl
 tell-named names distinct edges line class (from ∷ froms) within inside all =
     let here : IsWithin names (edge_to class line from) = (All-head (λ f. f < length names) from froms all, inside) in
-    tell-named names distinct (with_edge edges (edge_to class line from)) line class froms
-    (within-with_edge names edges (edge_to class line from) within here) inside (All-tail (λ f. f < length names) from froms all)
-    ∙ ap (λ zs. fold (with_new same_seen) zs (map (λ f. named names (edge_to class line f)) froms)) (with_edge-named names distinct edges (edge_to class line from) within here)
+    tell-named names distinct (with_edge_fact edges (edge_to class line from)) line class froms
+    (within-with_edge_fact names edges (edge_to class line from) within here) inside (All-tail (λ f. f < length names) from froms all)
+    ∙ ap (λ zs. fold (with_new same_dependency_seen) zs (map (λ f. named names (edge_to class line f)) froms)) (with_edge_fact-named names distinct edges (edge_to class line from) within here)
 
 pub within-tell : (names : List (List ℕ)) (edges : List EdgeFact) (line class : ℕ) (froms : List ℕ) → All (IsWithin names) edges → class < length
-    names → All (λ from. from < length names) froms → All (IsWithin names) (fold with_edge edges (map (edge_to class line) froms))
+    names → All (λ from. from < length names) froms → All (IsWithin names) (fold with_edge_fact edges (map (edge_to class line) froms))
 within-tell names edges line class [] within inside all = within
 within-tell names edges line class (from ∷ froms) within inside all =
-    within-tell names (with_edge edges (edge_to class line from)) line class froms
-    (within-with_edge names edges (edge_to class line from) within (All-head (λ f. f < length names) from froms all, inside)) inside (All-tail (λ f. f < length names) from froms all)
+    within-tell names (with_edge_fact edges (edge_to class line from)) line class froms
+    (within-with_edge_fact names edges (edge_to class line from) within (All-head (λ f. f < length names) from froms all, inside)) inside (All-tail (λ f. f < length names) from froms all)
 
 -- names with one more among them: those that were there stand where they stood
 pub number-more : (names : List (List ℕ)) (name : List ℕ) (i : ℕ) → i < length names → i < length (with_name names name)

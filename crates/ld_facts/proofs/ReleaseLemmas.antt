@@ -17,7 +17,7 @@ use Rattle.ld_rules.specs.declared.fault.TraceFault.TheVariants.{NotHeld}
 use Rattle.ld_held.specs.declared.interrupts.Interrupts.{Interrupts}
 use Rattle.ld_rules.specs.declared.outcome.TheConstants.{MOST_HELD, MOST_TASKS}
 use Rattle.ld_facts.specs.declared.scan.Scan.{Scan}
-use Rattle.ld_rules.specs.Open.{remove_last}
+use Rattle.ld_rules.specs.Inner.Scanned.{remove_last, same_use_seen}
 use Rattle.ld_rules.specs.Dependency.{seen}
 use Rattle.ld_facts.specs.Facts.{named_use}
 use Rattle.ld_rules.specs.Flags.{is_enabled}
@@ -28,7 +28,7 @@ use Rattle.ld_rules.specs.Inner.Levels.{stack, starts, state_of}
 use Rattle.ld_held.specs.Inner.Locks.{Hold, is_of}
 use Rattle.ld_rules.specs.Outcome.{each_once, event_fault, events, is_not_held, is_one_too_many, tasks}
 use Rattle.ld_facts.specs.Inner.Reading.{HasTask, IsAt, IsTask, happens}
-use Rattle.ld_rules.specs.Usage.{same_what, uses_at}
+use Rattle.ld_rules.specs.Usage.{uses_at}
 use Rattle.ld_facts.specs.Facts.{IsUse}
 use Rattle.ld_rules.proofs.RemoveLemmas.{list_any-filter, map-remove_last}
 use Rattle.ld_rules.proofs.HeldLemmas.{Decides-same_frame, Decides-same_key, any_held_by, held_by-releases}
@@ -169,8 +169,8 @@ none_counted : (state : State) (b : Bool) → map (on_use state) (if b then [] e
 none_counted state true = refl
 none_counted state false = refl
 
-pub uses-uncounted : (all : List Position) (e : PlainEvent) (line : ℕ) → waits_for e ≡ None → new_keys (events all) e ≡ [] → each_once same_what
-    (seen uses_at (all ++ happens line e ∷ [])) ≡ each_once same_what (seen uses_at all)
+pub uses-uncounted : (all : List Position) (e : PlainEvent) (line : ℕ) → waits_for e ≡ None → new_keys (events all) e ≡ [] → each_once same_use_seen
+    (seen uses_at (all ++ happens line e ∷ [])) ≡ each_once same_use_seen (seen uses_at all)
 uses-uncounted all e line waits_none counts_none =
     uses_once-push_new all (happens line e)
     ∙ ap (with_uses line (uses_once all)) ((λ i. uses_in (contexts (events all) (task_of e)) (waits_none i) ++ (none Hard i ++ none Soft i)))

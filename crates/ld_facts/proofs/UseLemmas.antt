@@ -17,8 +17,9 @@ use Rattle.ld_rules.specs.Dependency.{Seen}
 use Rattle.ld_facts.specs.Facts.{named_use}
 use Rattle.ld_rules.specs.Held.{Key}
 use Rattle.ld_held.specs.Inner.Interrupts.{enabled_now, states_of}
-use Rattle.ld_rules.specs.Usage.{Bit, Use, same_what, bit_of, usage_of}
+use Rattle.ld_rules.specs.Usage.{Bit, Use, bit_of, usage_of}
 use Rattle.ld_rules.specs.Usage.Bit.{In, On}
+use Rattle.ld_rules.specs.Inner.Scanned.{same_use_seen}
 use Rattle.ld_facts.specs.Facts.{IsUse}
 use Rattle.ld_held.specs.Inner.Uses.{fact, in_facts, on_facts, same_fact, with_use}
 use Rattle.ld_facts.proofs.NamedLemmas.{name-more, number-more}
@@ -27,10 +28,10 @@ use Rattle.ld_rules.proofs.UsageLemmas.{Decides-same_use, at_line, on_use, uses_
 
 -- usage bits of which the names are told apart, and one more
 module _ (names : List (List ℕ)) (distinct : AreDistinct names) where
-  same_named : (a b : UsageFact) → IsUse names a → IsUse names b → same_what (named_use names a) (named_use names b) ≡ same_fact a b
-  same_named a b in_a in_b = same_from_decides (same_what (named_use names a) (named_use names b)) (same_fact a b) by_names by_numbers
+  same_named : (a b : UsageFact) → IsUse names a → IsUse names b → same_use_seen (named_use names a) (named_use names b) ≡ same_fact a b
+  same_named a b in_a in_b = same_from_decides (same_use_seen (named_use names a) (named_use names b)) (same_fact a b) by_names by_numbers
     where
-      by_names : Decides (same_what (named_use names a) (named_use names b)) ((named_use names a).what ≡ (named_use names b).what)
+      by_names : Decides (same_use_seen (named_use names a) (named_use names b)) ((named_use names a).what ≡ (named_use names b).what)
       by_names = Decides-same_use (named_use names a).what (named_use names b).what
 
       by_numbers : Decides (same_fact a b) ((named_use names a).what ≡ (named_use names b).what)
@@ -42,7 +43,7 @@ module _ (names : List (List ℕ)) (distinct : AreDistinct names) where
           ))
           (Decides-and (a.class == b.class) (a.bit.0 == b.bit.0) (Decides-eqb a.class b.class) (Decides-eqb a.bit.0 b.bit.0))
 
-  any_named : (facts : List UsageFact) (one : UsageFact) → All (IsUse names) facts → IsUse names one → list_any (same_what (named_use names one))
+  any_named : (facts : List UsageFact) (one : UsageFact) → All (IsUse names) facts → IsUse names one → list_any (same_use_seen (named_use names one))
       (map (named_use names) facts) ≡ list_any (same_fact one) facts
   any_named [] one within here = refl
   any_named (x ∷ xs) one within here =
@@ -51,7 +52,7 @@ module _ (names : List (List ℕ)) (distinct : AreDistinct names) where
       (λ i. first i || rest i)
 
   with_use-named : (facts : List UsageFact) (one : UsageFact) → All (IsUse names) facts → IsUse names one → map (named_use names)
-      (with_use facts one) ≡ with_new same_what (map (named_use names) facts) (named_use names one)
+      (with_use facts one) ≡ with_new same_use_seen (map (named_use names) facts) (named_use names one)
   with_use-named facts one within here =
       map-append (named_use names) facts (if list_any (same_fact one) facts then [] else one ∷ [])
       ∙ ap (λ zs. map (named_use names) facts ++ zs) (by (list_any (same_fact one) facts))
@@ -70,12 +71,12 @@ within-with_use names facts one within here = All-append (IsUse names) facts (if
 
 -- more usage bits, told in turn
 pub uses-named : (names : List (List ℕ)) → AreDistinct names → (facts more : List UsageFact) → All (IsUse names) facts → All (IsUse names) more → map
-    (named_use names) (fold with_use facts more) ≡ fold (with_new same_what) (map (named_use names) facts) (map (named_use names) more)
+    (named_use names) (fold with_use facts more) ≡ fold (with_new same_use_seen) (map (named_use names) facts) (map (named_use names) more)
 uses-named names distinct facts [] within inside = refl
 uses-named names distinct facts (x ∷ xs) within inside =
     let here = All-head (IsUse names) x xs inside in
     uses-named names distinct (with_use facts x) xs (within-with_use names facts x within here) (All-tail (IsUse names) x xs inside)
-    ∙ ap (λ zs. fold (with_new same_what) zs (map (named_use names) xs)) (with_use-named names distinct facts x within here)
+    ∙ ap (λ zs. fold (with_new same_use_seen) zs (map (named_use names) xs)) (with_use-named names distinct facts x within here)
 
 pub uses-within : (names : List (List ℕ)) (facts more : List UsageFact) → All (IsUse names) facts → All (IsUse names) more → All (IsUse names) (fold with_use facts more)
 uses-within names facts [] within inside = within

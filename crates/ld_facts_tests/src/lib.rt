@@ -1,6 +1,8 @@
-//! Tests of the public calls of `ld_facts`. They stand in a crate above it, so that it isn't proved a
-//! second time for them.
+//! Tests of the public calls of `ld_facts` and `ld_batch`. They stand in a crate above these, so that
+//! those aren't proved a second time for them.
 #![tactic(auto)]
 
+#[cfg(test)]
+mod batches;
 #[cfg(test)]
 mod tests;

@@ -117,6 +117,24 @@ fn a_trace_is_refused_at_its_first_fault(rt: HostRuntime) {
 }
 
 #[test]
+fn one_carriage_return_ends_a_line(rt: HostRuntime) {
+    assert_read(&rt, b"acquire t A\r\n", 1);
+    assert_read(&rt, b"\r\n", 0);
+    assert_refused(&rt, b"\r\r\n", 2, TraceFault::BadVerb);
+    assert_refused(&rt, b"acquire t A\r\r\n", 2, TraceFault::BadName);
+    assert_refused(&rt, b"acquire t A\rB\n", 2, TraceFault::BadName);
+}
+
+#[test]
+fn a_name_has_no_odd_bytes(rt: HostRuntime) {
+    assert_refused(&rt, b"acquire t A\x00\n", 2, TraceFault::BadName);
+    assert_refused(&rt, b"acquire t A\x7f\n", 2, TraceFault::BadName);
+    assert_refused(&rt, b"acquire t A\xff\n", 2, TraceFault::BadName);
+    assert_refused(&rt, b"acquire t A@\x00\n", 2, TraceFault::BadName);
+    assert_refused(&rt, b"acquire \xff A\n", 2, TraceFault::BadName);
+}
+
+#[test]
 fn a_handler_nests_only_as_hard_over_soft(rt: HostRuntime) {
     let bytes = b"enter t hard\nenter t soft\n";
     assert_refused(&rt, bytes, 3, TraceFault::BadNest);

@@ -1,12 +1,11 @@
 -- What the rows of usage say of bits.
 use Rattle.std.proofs.Common.{◌≡◌, ◌<◌, ◌∙◌, [], List, ℕ, Option, None, is_some, arith, ap, get_or, length, subst, sym}
 use Rattle.std.proofs.lemmas.List.{get_or-map, length-map}
-use Rattle.ld_class.specs.Usage.{has_bit}
+use Rattle.ld_class.specs.Usage.{has_bit, no_bits}
 use Rattle.ld_trace.specs.Sources.{PlainSource}
 use Rattle.ld_rules.specs.declared.outcome.Witness.{Witness}
 use Rattle.ld_facts.specs.Union.{use_witness}
 use Rattle.ld_facts.specs.Usage.{Bit, Use, usage_of}
-use Rattle.ld_facts.specs.Uses.{none}
 use Rattle.ld_union.specs.declared.usage.UsageRow.{UsageRow}
 use Rattle.ld_find.specs.Inner.Numbers.{AreBitsOf}
 use Rattle.ld_union.specs.Usage.{bits_of}
@@ -16,11 +15,11 @@ use Rattle.ld_union.proofs.UsageLemmas.{has_bit-row_of, length_used, row_at}
 
 -- a class has the bits that have a first witness
 pub bit_at : (classes : List (List ℕ)) (rows : List UsageRow) (first : Use → Option Witness) → AreUsed classes rows first → (c : ℕ) (bit : Bit) → c < length classes
-    → has_bit (get_or (bits_of rows) c none) (usage_of bit) ≡ is_some (first (record { class = get_or classes c []; bit = bit }))
+    → has_bit (get_or (bits_of rows) c no_bits) (usage_of bit) ≡ is_some (first (record { class = get_or classes c []; bit = bit }))
 bit_at classes rows first used c bit within =
     let unused : UsageRow = row_of (λ b. None) in
     ap (λ bits. has_bit bits (usage_of bit))
-    (get_or-map (λ (row : UsageRow). row.bits) rows c unused none (subst (λ n. c < n) (sym (length_used classes rows first used)) within)
+    (get_or-map (λ (row : UsageRow). row.bits) rows c unused no_bits (subst (λ n. c < n) (sym (length_used classes rows first used)) within)
     ∙ ap (λ (row : UsageRow). row.bits) (row_at classes rows first used c unused within))
     ∙ has_bit-row_of (of_class first (get_or classes c [])) bit
 

@@ -10,7 +10,7 @@ use Rattle.ld_facts.specs.Usage.{Bit}
 use Rattle.ld_facts.specs.Usage.Bit.{In, On}
 use Rattle.ld_union.specs.declared.dependencies.Witnessed.{Witnessed}
 use Rattle.ld_find.specs.Findings.{IsBefore, IsShown, PlainForbiddenRow, shown_marks}
-use Rattle.ld_find.specs.Inner.Order.{name_of}
+use Rattle.ld_find.specs.Inner.ByName.{class_name}
 use Rattle.ld_find.specs.Inner.Rows.{IsNoted, IsTurnedRowOf}
 use Rattle.ld_union.specs.Inner.Union.{AreBetween, AreWitnessed, edges_of}
 use Rattle.ld_find.specs.Violations.{Depends, HasBit, IsForbidden}
@@ -59,6 +59,6 @@ module _ (sources : List PlainSource) where
 -- no forbidden walk, where there is no walk
 pub no_forbidden-walk : (classes : List (List ℕ)) (rows : List Witnessed) → AreBetween classes rows →
     (sources : List PlainSource) → AreWitnessed classes rows (dependency_witness sources)
-    → (state : State) (a b : ℕ) → a < length classes → b < length classes → ¬ HasWalk (IsEdge (edges_of rows)) a b → ¬ IsForbidden sources state (name_of classes a) (name_of classes b)
+    → (state : State) (a b : ℕ) → a < length classes → b < length classes → ¬ HasWalk (IsEdge (edges_of rows)) a b → ¬ IsForbidden sources state (class_name classes a) (class_name classes b)
 no_forbidden-walk classes rows is sources witnessed state a b at_a at_b none forbidden =
-    none (walk_from_leads classes rows is sources witnessed a b (name_of classes a) (name_of classes b) (at_a, refl) (at_b, refl) forbidden.2)
+    none (walk_from_leads classes rows is sources witnessed a b (class_name classes a) (class_name classes b) (at_a, refl) (at_b, refl) forbidden.2)

@@ -11,7 +11,6 @@ use Rattle.ld_graph.proofs.WalkLemmas.{IsWalk-same}
 use Rattle.ld_trace.specs.declared.event.State.{State}
 use Rattle.ld_facts.specs.Usage.{Bit, usage_of}
 use Rattle.ld_facts.specs.Usage.Bit.{In, On}
-use Rattle.ld_facts.specs.Uses.{none}
 use Rattle.ld_find.specs.declared.alarms.Forbidden.{Forbidden}
 use Rattle.ld_find.specs.declared.alarms.Found.{Found}
 use Rattle.ld_find.specs.Alarms.{AreExact, IsExact}
@@ -120,15 +119,15 @@ pub nothing_found : (found : Found) → found.cycle ≡ None → ((state : State
     ((state : State) → of_state found.forbidden state ≡ None) → AreFound [] [] found
 nothing_found found cycle conflict forbidden = record {
   cycle = subst (IsExact (IsCycleAt [])) (sym cycle) (λ any. no_edge any.0.from any.0.to any.1.0);
-  conflict = λ state. subst (IsExact (IsConflictAt [] state)) (sym (conflict state)) (λ any. no_bits any.0 (In state) any.1.0);
-  forbidden = λ state. subst (IsExact (λ (f : Forbidden). IsForbiddenAt [] [] state f.from f.to)) (sym (forbidden state)) (λ any. no_bits any.0.from (In state) any.1.0);
+  conflict = λ state. subst (IsExact (IsConflictAt [] state)) (sym (conflict state)) (λ any. bit_of_none any.0 (In state) any.1.0);
+  forbidden = λ state. subst (IsExact (λ (f : Forbidden). IsForbiddenAt [] [] state f.from f.to)) (sym (forbidden state)) (λ any. bit_of_none any.0.from (In state) any.1.0);
 }
   where
     no_edge : (a b : ℕ) → IsEdge [] a b → ⊥
     no_edge a b there = let past : there.0 < 0 = there.1 in omega (arith, past)
 
-    no_bits : (c : ℕ) (bit : Bit) → HasBitAt [] c bit → ⊥
-    no_bits c bit has = let past : c < 0 = row_within [] c bit has in omega (arith, past)
+    bit_of_none : (c : ℕ) (bit : Bit) → HasBitAt [] c bit → ⊥
+    bit_of_none c bit has = let past : c < 0 = row_within [] c bit has in omega (arith, past)
 
 -- where nothing of a kind was found, exact alarms say that there is none
 pub of_each_from_exact : (sources : List PlainSource) (classes : List (List ℕ)) (found : Found) → AreExact sources (named_alarms classes found) → IsOfEach sources found

@@ -3,7 +3,7 @@ pub mod ForbiddenLemmas
 pub mod FoundLemmas
 pub mod BitLemmas
 pub mod NumberLemmas
-pub mod OrderLemmas
+pub mod ByNameLemmas
 pub mod PassedLemmas
 pub mod RowLemmas
 pub mod ShownLemmas

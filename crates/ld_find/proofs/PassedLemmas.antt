@@ -4,14 +4,14 @@ use Rattle.std.proofs.lemmas.Bool.{cases_order}
 use Rattle.std.proofs.lemmas.List.{get_or_default}
 use Rattle.ld_class.specs.Names.{IsNameAt}
 use Rattle.ld_find.specs.Findings.{InTurn, IsBefore}
-use Rattle.ld_find.specs.Inner.Order.{AreByName, class_at, name_of}
+use Rattle.ld_find.specs.Inner.ByName.{AreByName, class_at, class_name}
 use Rattle.ld_find.specs.Inner.Rows.{AreRowsOf, IsPassed}
 use Rattle.ld_find.proofs.RowLemmas.{rows-append}
 
 module _ (classes : List (List ℕ)) (numbers : List ℕ) where
   -- the name at a place of the order
   abbrev pub name_at : ℕ → List ℕ
-  name_at i = name_of classes (class_at numbers i)
+  name_at i = class_name classes (class_at numbers i)
 
   passed_more : (i : ℕ) (name : List ℕ) → IsPassed classes numbers i name → IsPassed classes numbers (i + 1) name
   passed_more i name h = (h.0, (omega (arith, h.1.0), h.1.1))
@@ -35,7 +35,7 @@ module _ (classes : List (List ℕ)) (numbers : List ℕ) where
     pub passed_all : (c i : ℕ) (name : List ℕ) → length numbers ≤ i → IsNameAt classes c name → IsPassed classes numbers i name
     passed_all c i name past at =
         let there = order.every c at.0 in
-        (there.0, (omega (arith, past, there.1), ap (name_of classes) (get_or_default numbers there.0 0 c there.1 ∙ there.2) ∙ at.1))
+        (there.0, (omega (arith, past, there.1), ap (class_name classes) (get_or_default numbers there.0 0 c there.1 ∙ there.2) ∙ at.1))
 
     module _ {Row A : Type 0} (key : Row → A × List ℕ) (IsRow : Row → Type 0) (IsOwed : A × List ℕ → Type 0) (first : A → A → Type 0) (a : A) where
       -- rows of one more name come after those of the names before it, among keys that begin alike

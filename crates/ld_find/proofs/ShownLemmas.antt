@@ -8,11 +8,11 @@ use Rattle.ld_trace.specs.Sources.{PlainSource}
 use Rattle.ld_facts.specs.Union.{dependency_witness}
 use Rattle.ld_union.specs.declared.dependencies.Witnessed.{Witnessed}
 use Rattle.ld_find.specs.Findings.{IsBefore, IsShown}
-use Rattle.ld_find.specs.Inner.Order.{AreByName, name_of}
+use Rattle.ld_find.specs.Inner.ByName.{AreByName, class_name}
 use Rattle.ld_union.specs.Inner.Union.{AreBetween, AreWitnessed, edges_of}
 use Rattle.ld_find.specs.Violations.{Depends}
 use Rattle.ld_find.proofs.NumberLemmas.{depends_from_edge, edge_from_depends}
-use Rattle.ld_find.proofs.OrderLemmas.{comes_before_from_before}
+use Rattle.ld_find.proofs.ByNameLemmas.{comes_before_from_before}
 use Rattle.ld_union.proofs.UnionLemmas.{ends_of_edge}
 
 -- a walk goes on by a step before it
@@ -119,28 +119,28 @@ module _ (classes : List (List ℕ)) (rows : List Witnessed) (is : AreBetween cl
   ends x y there = (ends_of_edge classes rows is x y there).1
 
   -- two classes have two names
-  name-once : (x y : ℕ) → IsClass x → IsClass y → name_of classes x ≡ name_of classes y → x ≡ y
-  name-once x y at_x at_y same = is.distinct x y (name_of classes y) (at_x, same) (at_y, refl)
+  name-once : (x y : ℕ) → IsClass x → IsClass y → class_name classes x ≡ class_name classes y → x ≡ y
+  name-once x y at_x at_y same = is.distinct x y (class_name classes y) (at_x, same) (at_y, refl)
 
   -- the numbers of a shown walk are classes
   pub shown_within : (places : List ℕ) (a b : ℕ) (walk : List ℕ) → IsClass a → IsClass b → IsShownWalk (IsEdge (edges_of rows)) (ComesBefore places) a b walk → All IsClass walk
   shown_within places = IsShownWalk-within (IsEdge (edges_of rows)) (ComesBefore places) IsClass ends
 
   module _ (sources : List PlainSource) (witnessed : AreWitnessed classes rows (dependency_witness sources)) where
-    keeps : (x y : ℕ) → IsEdge (edges_of rows) x y → Depends sources (name_of classes x) (name_of classes y)
+    keeps : (x y : ℕ) → IsEdge (edges_of rows) x y → Depends sources (class_name classes x) (class_name classes y)
     keeps = depends_from_edge classes rows is sources witnessed
 
     -- each class on which a class's name depends has a number
-    comes : (x : ℕ) (q : List ℕ) → IsClass x → Depends sources (name_of classes x) q → (y : ℕ) × (IsEdge (edges_of rows) x y × (name_of classes y ≡ q))
+    comes : (x : ℕ) (q : List ℕ) → IsClass x → Depends sources (class_name classes x) q → (y : ℕ) × (IsEdge (edges_of rows) x y × (class_name classes y ≡ q))
     comes x q at_x depends =
-        let found = edge_from_depends classes rows is sources witnessed (name_of classes x) q depends in
+        let found = edge_from_depends classes rows is sources witnessed (class_name classes x) q depends in
         let ends_there = found.1.1 in
         let same : found.0 ≡ x = name-once found.0 x ends_there.0.0 at_x ends_there.0.1 in
         (found.1.0, (subst (λ p. IsEdge (edges_of rows) p found.1.0) same ends_there.2, ends_there.1.1))
 
     -- the shown walk of two numbers is that of their names
     pub shown_named : (numbers places : List ℕ) → AreByName classes numbers places → (a b : ℕ) (walk : List ℕ) → IsClass a → IsClass b
-        → IsShownWalk (IsEdge (edges_of rows)) (ComesBefore places) a b walk → IsShown sources (name_of classes a) (name_of classes b) (map (name_of classes) walk)
+        → IsShownWalk (IsEdge (edges_of rows)) (ComesBefore places) a b walk → IsShown sources (class_name classes a) (class_name classes b) (map (class_name classes) walk)
     shown_named numbers places order a b walk at_a at_b shown =
-        IsShownWalk-map (name_of classes) IsClass (IsEdge (edges_of rows)) (Depends sources) keeps ends comes name-once (ComesBefore places) IsBefore
+        IsShownWalk-map (class_name classes) IsClass (IsEdge (edges_of rows)) (Depends sources) keeps ends comes name-once (ComesBefore places) IsBefore
         (comes_before_from_before classes numbers places order) a b walk at_a at_b shown

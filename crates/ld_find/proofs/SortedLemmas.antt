@@ -17,7 +17,7 @@ use Rattle.ld_trace.specs.Sources.{PlainSource}
 use Rattle.ld_find.specs.Findings.{IsPairBefore, PlainForbiddenRow, forbidden_key}
 use Rattle.ld_find.specs.Inner.Rows.{AreForbiddenRowsOf, AreTurnedRows, IsRowIn, turned_key}
 use Rattle.ld_find.specs.Violations.{IsForbidden}
-use Rattle.ld_find.proofs.OrderLemmas.{not_before_itself}
+use Rattle.ld_find.proofs.ByNameLemmas.{not_before_itself}
 
 AllPairs-map : {X Y : Type 0} (R : Y → Y → Type 0) (f : X → Y) (xs : List X) → AllPairs (λ x y. R (f x) (f y)) xs → AllPairs R (map f xs)
 AllPairs-map R f [] all i j d before within = absurd (omega (arith, within))

@@ -17,7 +17,7 @@ use Rattle.ld_find.specs.Findings.{AreFindings, AreRows, InTurn, IsBefore, IsCon
 use Rattle.ld_find.specs.Findings.{PlainConflictRow, PlainCycleRow, PlainFindings, PlainForbiddenRow, conflict_key, cycle_key, forbidden_key}
 use Rattle.ld_find.specs.Findings.{shown_marks}
 use Rattle.ld_find.specs.Violations.{Depends, IsConflict, IsCycle, IsForbidden}
-use Rattle.ld_find.proofs.OrderLemmas.{not_before_both}
+use Rattle.ld_find.proofs.ByNameLemmas.{not_before_both}
 
 module _ {X : Type 0} (R : X → X → Type 0) (apart : (x y : X) → R x y → ¬ R y x) where
   ordered-tail : (x : X) (xs : List X) → AllPairs R (x ∷ xs) → AllPairs R xs

@@ -5,7 +5,6 @@ use Rattle.ld_class.specs.declared.usage.Usage.{Usage}
 use Rattle.ld_trace.specs.declared.event.State.TheVariants.{Hard, Soft}
 use Rattle.ld_facts.specs.Usage.{Bit, bit_of, usage_of}
 use Rattle.ld_facts.specs.Usage.Bit.{In, On}
-use Rattle.ld_facts.specs.Uses.{none}
 
 same_bit : (bit : Bit) → bit_of (usage_of bit) ≡ bit
 same_bit (In Hard) = refl

@@ -1,9 +1,8 @@
 //! A violation of each kind, as they are found by the numbers of the classes.
 ghost use Rattle.std.specs.Prelude.{◌≡◌, ◌↔◌, ℕ, ◌<◌, true, length, All, IsTrue, MatchOption};
 ghost use Rattle.std.specs.Prelude.{[], List, IfSome, option_map, slice_index_or};
-ghost use Rattle.ld_class.specs.Usage.{has_bit};
+ghost use Rattle.ld_class.specs.Usage.{has_bit, no_bits};
 ghost use Rattle.ld_facts.specs.Usage.{usage_of};
-ghost use Rattle.ld_facts.specs.Uses.{none};
 ghost use Rattle.ld_facts.specs.Usage.Bit.{In, On};
 ghost use Rattle.ld_find.specs.Alarms.{IsExact, plain_alarms};
 ghost use Rattle.ld_find.specs.Inner.Numbers.{AreFound, AreWithin, IsConflictAt, IsForbiddenAt};
@@ -111,8 +110,8 @@ impl Found {
         Alarms {
             cycle: edge_names(classes, self.cycle),
             conflict: [
-                name_of(classes, self.conflict.hard),
-                name_of(classes, self.conflict.soft),
+                class_name(classes, self.conflict.hard),
+                class_name(classes, self.conflict.soft),
             ],
             forbidden: [
                 end_names(classes, self.forbidden.hard),
@@ -177,7 +176,7 @@ fn edge_names<'a>(classes: &Classes<'a>, edge: Option<Edge>) -> Option<(&'a [u8]
 }
 
 /// The name of the class, if there is one.
-fn name_of<'a>(classes: &Classes<'a>, class: Option<u32>) -> Option<&'a [u8]>
+fn class_name<'a>(classes: &Classes<'a>, class: Option<u32>) -> Option<&'a [u8]>
     requires { IfSome class (λ c. c < length classes.now) }
     ensures { option_map (λ name. name.now) result
         ≡ option_map (λ c. slice_index_or classes.now c []) class }
@@ -275,7 +274,7 @@ fn walk_to(union: &Union<'_>, class: u32, state: State) -> Option<Forbidden>
 /// Whether the class has the bit.
 fn has(rows: &[UsageRow], class: usize, bit: Usage) -> bool
     requires { class < length rows.now }
-    ensures { result ≡ has_bit (slice_index_or (bits_of rows.now) class none) bit }
+    ensures { result ≡ has_bit (slice_index_or (bits_of rows.now) class no_bits) bit }
 {
     rows[class].bits.contains(bit)
 }

@@ -13,10 +13,10 @@ mod used;
 mod walks;
 
 use crate::alarms::Found;
+use crate::by_name::ByName;
 use crate::findings::conflicts::conflict_rows;
 use crate::findings::cycles::cycle_rows;
 use crate::findings::forbidden::forbidden_rows;
-use crate::order::Order;
 use crate::rows::Rows;
 pub use conflicts::ConflictRow;
 pub use cycles::CycleRow;
@@ -58,7 +58,7 @@ pub fn findings_of<'a>(
             forbidden: Rows::from(Vec::new(alloc)),
         });
     }
-    let order = Order::new(alloc, union.classes())?;
+    let order = ByName::new(alloc, union.classes())?;
     let cycles = cycle_rows(alloc, union, &order, found)?;
     let conflicts = conflict_rows(alloc, union, &order)?;
     let forbidden = forbidden_rows(alloc, union, &order, found)?;

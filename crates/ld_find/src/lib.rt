@@ -3,8 +3,8 @@
 #![tactic(auto)]
 
 mod alarms;
+mod by_name;
 mod findings;
-mod order;
 mod rows;
 
 pub use alarms::{Alarms, Forbidden, Found};

@@ -12,7 +12,7 @@ use Rattle.std.proofs.lemmas.Map.Steps.{length-le_from_distinct_below}
 use Rattle.ld_graph.specs.declared.turns.Side.{Side}
 use Rattle.ld_graph.specs.declared.turns.Side.TheVariants.{After, Before}
 use Rattle.ld_graph.specs.Walks.{HasWalk}
-use Rattle.ld_graph.specs.Inner.Repairs.{IsClosed, IsInside, IsRow, IsSought, Reached}
+use Rattle.ld_graph.specs.Inner.Repairs.{HasAllNear, IsInside, IsRow, IsSought, IsOrReaches}
 use Rattle.ld_graph.specs.Inner.Repairs.{in_front, is_part, HasEnded, HasMet}
 use Rattle.ld_lists.specs.Lists.{IsNear, Sides}
 use Rattle.ld_graph.proofs.WalkLemmas.{Far, Far-turned, HasWalk-Far, IsWalk-Far}
@@ -130,23 +130,23 @@ module _ (after before : ℕ → ℕ → Type 0) (turned : (x y : ℕ) → after
             f.0 x y f.1.1),
       )
 
-  turned_reached : (x y : ℕ) → Reached before x y → Reached after y x
+  turned_reached : (x y : ℕ) → IsOrReaches before x y → IsOrReaches after y x
   turned_reached x y (inl e) = inl (sym e)
   turned_reached x y (inr w) = let f = turned_walk x y w in inr (HasWalk-Far after f.0 y x f.1)
 
   -- where the searches have met a walk leads from the first class to the last
   pub met_walk : (ended : Side) → HasMet ended (length row) behind ahead
-      → Reached after first last_one
+      → IsOrReaches after first last_one
   met_walk Before n = turned_reached last_one first (back.reached 0 n)
   met_walk After n = forth.reached (length row - 1) n
 
-  -- the classes of the places that were found
+  -- the classes of the offsets that were found
   abbrev Found : List ℕ → ℕ → Type 0
   Found found x = (x < length ranks) × (IsInside low (length row) (rank x)
       × Contains found (rank x - low))
 
   -- the search backward has ended
-  module _ (closed : IsClosed before ranks low row behind (length behind)) where
+  module _ (closed : HasAllNear before ranks low row behind (length behind)) where
     behind_closed : (x y : ℕ) → Found behind y → after x y → low ≤ rank x → Found behind x
     behind_closed x y f s l =
         let u = rises x y s in let b = f.1.0.1 in
@@ -179,7 +179,7 @@ module _ (after before : ℕ → ℕ → Type 0) (turned : (x y : ℕ) → after
         zero_is f = let e = rank_first in let s : rank first - low ≡ 0 = omega (arith, e) in
             subst (Contains behind) s f.1.1
 
-        to : Reached after first (get_or row k 0) → Contains behind 0
+        to : IsOrReaches after first (get_or row k 0) → Contains behind 0
         to (inl e) = zero_is (subst (Found behind) (sym e) here)
         to (inr w) =
             let f = IsWalk-Far after first (get_or row k 0) w.0 w.1 in
@@ -201,7 +201,7 @@ module _ (after before : ℕ → ℕ → Type 0) (turned : (x y : ℕ) → after
         ) s i.0).1.1
 
   -- the search forward has ended
-  module _ (closed : IsClosed after ranks low row ahead (length ahead)) where
+  module _ (closed : HasAllNear after ranks low row ahead (length ahead)) where
     ahead_closed : (x y : ℕ) → Found ahead x → after x y → rank y ≤ low + (length row - 1)
         → Found ahead y
     ahead_closed x y f s l =
@@ -232,7 +232,7 @@ module _ (after before : ℕ → ℕ → Type 0) (turned : (x y : ℕ) → after
             let s : rank last_one - low ≡ length row - 1 = omega (arith, e) in
             subst (Contains ahead) s f.1.1
 
-        to : Reached after (get_or row k 0) last_one → Contains ahead (length row - 1)
+        to : IsOrReaches after (get_or row k 0) last_one → Contains ahead (length row - 1)
         to (inl e) = last_is (subst (Found ahead) e here)
         to (inr w) =
             let f = IsWalk-Far after (get_or row k 0) last_one w.0 w.1 in
@@ -296,6 +296,6 @@ module _ (sides : Sides) (turned : (x y : ℕ) → IsNear sides.after.lists x y
   back_first After far = ap not (Contains_any ahead 0 forth.begun)
 
   pub met_reached : (ended : Side) → HasMet ended (length row) behind ahead
-      → Reached (IsNear sides.after.lists) (get_or row 0 0) (get_or row (length row - 1) 0)
+      → IsOrReaches (IsNear sides.after.lists) (get_or row 0 0) (get_or row (length row - 1) 0)
   met_reached ended m = met_walk (IsNear sides.after.lists) (IsNear sides.before.lists) turned ranks
       low row r rises ends some behind ahead back forth ended m

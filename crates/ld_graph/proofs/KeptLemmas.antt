@@ -1,10 +1,11 @@
 -- A graph keeps its invariant as its memory grows.
-use Rattle.std.proofs.Common.{◌≡◌, ◌↔◌, ℕ, ◌+◌, ◌<◌, ◌≤◌, ◌^◌, max, length, arith, sym, ap}
+use Rattle.std.proofs.Common.{◌≡◌, ◌↔◌, ℕ, ◌+◌, ◌<◌, ◌≤◌, max, length, arith, sym, ap}
 use Rattle.std.proofs.Common.{subst, ◌∙◌, get_or}
 use Rattle.std.proofs.Common.{List, [], ◌∷◌, ◌++◌}
 use Rattle.std.proofs.lemmas.List.{get_or_append_left}
 use Rattle.indexmap.specs.IndexSet.{spare}
 use Rattle.ld_graph.specs.declared.graph.Graph.TheInside.{Inside}
+use Rattle.ld_graph.specs.declared.graph.TheConstants.{MOST_GRAPH_CLASSES}
 use Rattle.ld_lists.specs.Lists.{IsNear, ListsGrown}
 use Rattle.ld_graph.specs.Edges.{IsEdge}
 use Rattle.ld_graph.specs.Order.{HasCycle}
@@ -64,7 +65,7 @@ pub IsKept-spare : (g : Inside) (classes edges more_classes more_edges : ℕ) �
     → g.classes + classes ≤ g.lists.after.class_room → g.lists.after.items + edges ≤ g.lists.after.item_room
     → g.classes + classes ≤ g.lists.before.class_room → g.lists.before.items + edges ≤ g.lists.before.item_room
     → g.classes + classes ≤ g.ranks.room
-    → g.classes + classes ≤ 2 ^ 30
+    → g.classes + classes ≤ MOST_GRAPH_CLASSES
     → IsKept (record g { spare_classes = more_classes; spare_edges = more_edges })
 IsKept-spare g classes edges more_classes more_edges h m n e a b c d r f =
     let after = h.after_items in

@@ -10,9 +10,9 @@ use Rattle.ld_graph.specs.declared.Edge.{Edge}
 use Rattle.ld_graph.specs.Edges.{edge, IsEdge, PlainGraph, with_edge}
 use Rattle.ld_graph.specs.Order.{HasCycle, IsInserted, IsOrder, StaysOutside}
 use Rattle.ld_lists.specs.Lists.{IsNear}
-use Rattle.ld_graph.specs.Inner.Kept.{IsKept, order_of, seen}
+use Rattle.ld_graph.specs.Inner.Kept.{IsKept, order_of, graph_of}
 use Rattle.ld_graph.specs.Inner.Placed.{IsPlaced}
-use Rattle.ld_graph.specs.Inner.Repairs.{AreInverse, Reached}
+use Rattle.ld_graph.specs.Inner.Repairs.{AreInverse, IsOrReaches}
 use Rattle.ld_graph.proofs.EdgeLemmas.{IsEdge-push}
 use Rattle.ld_graph.proofs.EndedLemmas.{Far-rises, Far-same}
 use Rattle.ld_graph.proofs.WalkLemmas.{HasWalk-Far, IsWalk-Far}
@@ -37,7 +37,7 @@ HasCycle-more edges a b w =
     )
 
 -- an edge to where a walk leads to it closes a cycle
-pub HasCycle-closed : (edges : List Edge) (a b : ℕ) → Reached (IsEdge edges) b a
+pub HasCycle-closed : (edges : List Edge) (a b : ℕ) → IsOrReaches (IsEdge edges) b a
     → HasCycle (IsEdge (edges ++ edge a b ∷ []))
 HasCycle-closed edges a b (inl e) = (
   a,
@@ -58,10 +58,10 @@ HasCycle-closed edges a b (inr w) =
       ),
     )
 
-Reached-same : (s t : ℕ → ℕ → Type 0) → ((x y : ℕ) → s x y → t x y) → (a b : ℕ) → Reached s a b
-    → Reached t a b
-Reached-same s t to a b (inl e) = inl e
-Reached-same s t to a b (inr w) =
+IsOrReaches-same : (s t : ℕ → ℕ → Type 0) → ((x y : ℕ) → s x y → t x y) → (a b : ℕ) → IsOrReaches s a b
+    → IsOrReaches t a b
+IsOrReaches-same s t to a b (inl e) = inl e
+IsOrReaches-same s t to a b (inr w) =
     let f = IsWalk-Far s a b w.0 w.1 in
     inr (HasWalk-Far t f.0 a b (Far-same s t to f.0 a b f.1.1))
 
@@ -103,22 +103,22 @@ module _ (g : Inside) (h : IsKept g) (a b : ℕ) (now : Bool) (ranks : List ℕ)
   placed_cycle Known p t = absurd p
   placed_cycle Kept p t = absurd (true≢false (sym t ∙ p.1.0))
   placed_cycle (Moved k) p t = absurd (true≢false (sym t ∙ p.1.0))
-  placed_cycle Closed p t = HasCycle-closed g.edges.keys a b (Reached-same (IsNear
+  placed_cycle Closed p t = HasCycle-closed g.edges.keys a b (IsOrReaches-same (IsNear
       g.lists.after.lists) (IsEdge g.edges.keys) near_edges b a p.1.1.1)
   placed_cycle AfterCycle p t = HasCycle-more g.edges.keys a b (h.cycle p.0)
 
   abbrev pub made : PlainGraph
-  made = with_edge (seen g) a b (order_of now ranks)
+  made = with_edge (graph_of g) a b (order_of now ranks)
 
   pub inserted : (answer : Insert) → Placed answer → ¬ IsEdge g.edges.keys a b
-      → IsInserted (seen g) a b answer made
+      → IsInserted (graph_of g) a b answer made
   inserted Known p fresh = absurd p
   inserted Kept p fresh = record {
     fresh = fresh;
     no_cycle = acyclic (IsEdge (g.edges.keys ++ edge a b ∷ [])) ranks (placed_rises Kept p p.1.0);
     ranks = subst (λ z. MatchOption (order_of z g.ranks.ranks) ⊥ (λ r. get_or r a 0 < get_or r b 0)) (sym
         p.0) p.1.1.1;
-    graph = ap (λ o. with_edge (seen g) a b o) (ap (λ z. order_of z ranks) p.1.0
+    graph = ap (λ o. with_edge (graph_of g) a b o) (ap (λ z. order_of z ranks) p.1.0
         ∙ ap (λ r. Some r) p.1.1.0 ∙ sym (ap (λ z. order_of z g.ranks.ranks) p.0));
   }
   inserted (Moved k) p fresh = record {
@@ -139,17 +139,17 @@ module _ (g : Inside) (h : IsKept g) (a b : ℕ) (now : Bool) (ranks : List ℕ)
     fresh = fresh;
     no_cycle = acyclic (IsEdge g.edges.keys) g.ranks.ranks (h.rises p.0);
     cycle = placed_cycle Closed p p.1.0;
-    graph = ap (λ z. with_edge (seen g) a b (order_of z ranks)) p.1.0;
+    graph = ap (λ z. with_edge (graph_of g) a b (order_of z ranks)) p.1.0;
   }
   inserted AfterCycle p fresh = record {
     fresh = fresh;
     cycle = h.cycle p.0;
-    graph = ap (λ z. with_edge (seen g) a b (order_of z ranks)) p.1.0;
+    graph = ap (λ z. with_edge (graph_of g) a b (order_of z ranks)) p.1.0;
   }
 
 -- the ranks of an acyclic graph are an order
 pub IsOrder-kept : (g : Inside) → IsKept g → (classes : List ℕ) → AreInverse g.ranks.ranks classes
-    → g.has_cycle ≡ false → IsOrder (IsEdge (seen g).edges) (seen g).classes g.ranks.ranks
+    → g.has_cycle ≡ false → IsOrder (IsEdge (graph_of g).edges) (graph_of g).classes g.ranks.ranks
 IsOrder-kept g h classes i f = record {
   len = h.ranked;
   below = λ c l.

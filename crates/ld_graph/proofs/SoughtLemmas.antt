@@ -11,8 +11,8 @@ use Rattle.std.proofs.lemmas.List.Elements.{Contains-append_left, Contains-get_o
 use Rattle.std.proofs.lemmas.Map.Views.{Contains-from_any}
 use Rattle.std.proofs.lemmas.Map.Steps.{length-le_from_distinct_below}
 use Rattle.ld_lists.specs.Lists.{IsNear, list_at}
-use Rattle.ld_graph.specs.Inner.Repairs.{IsAdded, IsClosed, IsGrown, IsInside, IsRow, IsSought}
-use Rattle.ld_graph.specs.Inner.Repairs.{Reached}
+use Rattle.ld_graph.specs.Inner.Repairs.{IsAdded, HasAllNear, IsGrown, IsInside, IsRow, IsSought}
+use Rattle.ld_graph.specs.Inner.Repairs.{IsOrReaches}
 use Rattle.ld_graph.proofs.WalkLemmas.{Far-snoc, HasWalk-Far, IsWalk-Far}
 
 -- an offset that was added
@@ -61,11 +61,11 @@ module _ (near : ℕ → Type 0) (rank : ℕ → ℕ) (low len : ℕ) where
       subst (Contains new) at (Contains-get_or new n.0 0 (omega (arith, l, g)))
 
 -- a walk goes on
-pub Reached-next : (near : ℕ → ℕ → Type 0) (a x y : ℕ) → Reached near a x → near x y
-    → Reached near a y
-Reached-next near a x y (inl e) n =
+pub IsOrReaches-next : (near : ℕ → ℕ → Type 0) (a x y : ℕ) → IsOrReaches near a x → near x y
+    → IsOrReaches near a y
+IsOrReaches-next near a x y (inl e) n =
     inr (HasWalk-Far near 0 a y (subst (λ z. near z y) (sym e) n))
-Reached-next near a x y (inr w) n =
+IsOrReaches-next near a x y (inr w) n =
     let f = IsWalk-Far near a x w.0 w.1 in
     inr (HasWalk-Far near (suc f.0) a y (Far-snoc near f.0 a x y f.1.1 n))
 
@@ -102,7 +102,7 @@ module _ (near : ℕ → ℕ → Type 0) (ranks : List ℕ) (low : ℕ) (row : L
       only k (inr h) n = last k (Contains-push_cases [] start k (subst (λ f. Contains f k) h.1 n))
 
   pub IsSought-more : (start x : ℕ) (old new : List ℕ) → IsSought near row start old
-      → Reached near (get_or row start 0) x
+      → IsOrReaches near (get_or row start 0) x
       → IsGrown (near x) rank_at low (length row) old new → IsSought near row start new
   IsSought-more start x old new h reached g = record {
     begun = grown_keeps (near x) rank_at low (length row) old new start g h.begun;
@@ -116,19 +116,19 @@ module _ (near : ℕ → ℕ → Type 0) (ranks : List ℕ) (low : ℕ) (row : L
       in_row k (inr n) = n.1.1.1
 
       to : (k : ℕ) → Contains old k ⊎ ((y : ℕ) × (near x y × ((rank_at y ≡ low + k)
-          × (k < length row)))) → Reached near (get_or row start 0) (get_or row k 0)
+          × (k < length row)))) → IsOrReaches near (get_or row start 0) (get_or row k 0)
       to k (inl n) = h.reached k n
-      to k (inr n) = subst (Reached near (get_or row start 0)) (sym (row_at n.0 k (ends x n.0 n.1.0)
-          n.1.1.0 n.1.1.1)) (Reached-next near (get_or row start 0) x n.0 reached n.1.0)
+      to k (inr n) = subst (IsOrReaches near (get_or row start 0)) (sym (row_at n.0 k (ends x n.0 n.1.0)
+          n.1.1.0 n.1.1.1)) (IsOrReaches-next near (get_or row start 0) x n.0 reached n.1.0)
 
   -- the next class that waited was gone on from
-  pub IsClosed-next : (done offset : ℕ) (old new : List ℕ) → IsClosed near ranks low row old done
+  pub HasAllNear-next : (done offset : ℕ) (old new : List ℕ) → HasAllNear near ranks low row old done
       → done < length old → offset ≡ get_or old done 0
       → IsGrown (near (get_or row offset 0)) rank_at low (length row) old new
       → ((y : ℕ) → near (get_or row offset 0) y → IsInside low (length row) (rank_at y)
       → Contains new (rank_at y - low))
-      → IsClosed near ranks low row new (done + 1)
-  IsClosed-next done offset old new h l e g taken i y b n inside = by (cases_eq i done)
+      → HasAllNear near ranks low row new (done + 1)
+  HasAllNear-next done offset old new h l e g taken i y b n inside = by (cases_eq i done)
     where
       by : (i ≡ done) ⊎ (i ≢ done) → Contains new (rank_at y - low)
       by (inl s) = taken y (subst (λ z. near (get_or row z 0) y) (ap (λ z. get_or new z 0) s
@@ -192,9 +192,9 @@ module _ (lists : List (List ℕ)) (ranks : List ℕ) (low : ℕ) (row : List �
   turn_sought start h = IsSought-more (IsNear lists) ranks low row r ends start (get_or row offset 0)
       old new h (h.reached offset (Contains-read old done offset waits is)) grown
 
-  pub turn_closed : IsClosed (IsNear lists) ranks low row old done
+  pub turn_closed : HasAllNear (IsNear lists) ranks low row old done
       → ((x : ℕ) → Contains list x → IsInside low (length row) (get_or ranks x 0)
       → Contains new (get_or ranks x 0 - low))
-      → IsClosed (IsNear lists) ranks low row new (done + 1)
-  turn_closed h taken = IsClosed-next (IsNear lists) ranks low row r ends done offset old new h waits
+      → HasAllNear (IsNear lists) ranks low row new (done + 1)
+  turn_closed h taken = HasAllNear-next (IsNear lists) ranks low row r ends done offset old new h waits
       is grown (λ y n inside. taken y (subst (λ l. Contains l y) (sym read) n) inside)

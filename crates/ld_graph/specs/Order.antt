@@ -26,7 +26,7 @@ StaysOutside a b old new = (x : ℕ) → x < length old
     → slice_index new x ≡ slice_index old x
 
 -- the edge from a to b was there, and nothing changes
-pub record IsKnown (old : PlainGraph) (a b : ℕ) (new : PlainGraph) : Type 0 where
+pub record IsThere (old : PlainGraph) (a b : ℕ) (new : PlainGraph) : Type 0 where
   pub there : IsEdge old.edges a b
   pub same : new ≡ old
 
@@ -65,7 +65,7 @@ pub record IsAfterCycle (old : PlainGraph) (a b : ℕ) (new : PlainGraph) : Type
 
 -- what the insert of the edge from a to b answers, and what it makes of the graph
 abbrev pub IsInserted : (old : PlainGraph) (a b : ℕ) → Insert → (new : PlainGraph) → Type 0
-IsInserted old a b Known new = IsKnown old a b new
+IsInserted old a b Known new = IsThere old a b new
 IsInserted old a b Kept new = IsInOrder old a b new
 IsInserted old a b (Moved expanded) new = IsMoved old a b expanded new
 IsInserted old a b Closed new = IsClosing old a b new

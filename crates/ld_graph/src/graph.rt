@@ -20,10 +20,10 @@ use std::alloc::{AllocError, Global};
 use std::marker::Model;
 
 /// How many classes a graph may have, with its spare ones.
-pub const MOST_CLASSES: usize = 1 << 30;
+pub const MOST_GRAPH_CLASSES: usize = 1 << 30;
 
 // Clauses cite the constant, so they would hold with any other number that fits.
-const _: () = prove!(MOST_CLASSES == 1_073_741_824);
+const _: () = prove!(MOST_GRAPH_CLASSES == 1_073_741_824);
 
 /// A directed graph whose classes are the numbers from 0 on.
 #[derive(Drop)]
@@ -43,9 +43,9 @@ impl Model for Graph {
 
     ghost Value = { PlainGraph };
 
-    ghost use Rattle.ld_graph.specs.Inner.Kept.{seen, IsKept};
+    ghost use Rattle.ld_graph.specs.Inner.Kept.{graph_of, IsKept};
 
-    ghost view = { seen };
+    ghost view = { graph_of };
 
     ghost invariant = { IsKept };
 }
@@ -69,7 +69,7 @@ impl Graph {
     /// The number of classes. Takes no memory.
     pub fn len(&self) -> usize
         ensures count { result ≡ self.now.classes }
-        ensures few { result ≤ MOST_CLASSES }
+        ensures few { result ≤ MOST_GRAPH_CLASSES }
     {
         self.classes
     }
@@ -119,7 +119,7 @@ impl Graph {
     /// `AllocError` where memory was refused. The graph is then as before, but the spares may have
     /// grown.
     pub fn room(&mut self, classes: usize, edges: usize) -> Result<(), AllocError>
-        requires { self.old.classes + classes ≤ MOST_CLASSES }
+        requires { self.old.classes + classes ≤ MOST_GRAPH_CLASSES }
         ensures classes { OnOk result (classes ≤ self.new.spare_classes) }
         ensures edges { OnOk result (edges ≤ self.new.spare_edges) }
         ensures same { self.new ≡ with_spares self.old self.new.spare_classes self.new.spare_edges }

@@ -1,7 +1,8 @@
 //! A search from class to predecessor that gives each class its distance to the class it begins at.
 
 ghost use Rattle.std.specs.Prelude.{◌≡◌, ◌+◌, ◌<◌, ◌≤◌, ℕ, None, is_none, count_by};
-ghost use Rattle.std.specs.Prelude.{length, slice_index_or, vec_len, vec_capacity, ◌^◌, Contains};
+ghost use Rattle.std.specs.Prelude.{length, slice_index_or, vec_len, vec_capacity, Contains};
+ghost use Rattle.ld_graph.specs.declared.graph.TheConstants.{MOST_GRAPH_CLASSES};
 ghost use Rattle.ld_graph.specs.Inner.Levels.{HasLevel, Spreads};
 ghost use Rattle.ld_lists.specs.Lists.{IsNear};
 ghost use Rattle.ld_graph.specs.Walks.{DistanceIs};
@@ -42,7 +43,7 @@ fn expand(near: &[u32], level: u64, levels: &mut [Option<u64>], queue: &mut Vec<
 /// Gives each class the least number of edges of a walk from it to `end`, or none. Takes no memory.
 pub fn measure(lists: &Lists, end: u32, levels: &mut [Option<u64>], queue: &mut Vec<u32>)
     requires end { end < length lists.now.before.lists }
-    requires few { length lists.now.before.lists ≤ 2 ^ 30 }
+    requires few { length lists.now.before.lists ≤ MOST_GRAPH_CLASSES }
     requires classes { length levels.old ≡ length lists.now.before.lists }
     requires ends { (a b : ℕ) → IsNear lists.now.before.lists a b
         → b < length lists.now.before.lists }

@@ -11,7 +11,7 @@ mod search;
 mod shown;
 mod turns;
 
-pub use graph::{Graph, MOST_CLASSES};
+pub use graph::{Graph, MOST_GRAPH_CLASSES};
 pub use ld_lists::{Lists, Steps};
 pub use placed::Insert;
 

@@ -1,7 +1,7 @@
 //! What the insert of an edge does to the ranks.
 
 ghost use Rattle.std.specs.Prelude.{◌≡◌, ◌↔◌, ℕ, ◌<◌, false, length, slice_index};
-ghost use Rattle.ld_graph.specs.Inner.Placed.{IsPlaced, IsTold};
+ghost use Rattle.ld_graph.specs.Inner.Placed.{IsPlaced, TellsSteps};
 ghost use Rattle.ld_lists.specs.Lists.{IsNear};
 
 use crate::ranks::Ranks;
@@ -46,7 +46,7 @@ pub fn place(
     requires rises { has_cycle.old ≡ false → (x y : ℕ) → IsNear lists.now.after.lists x y
         → slice_index ranks.old.ranks x < slice_index ranks.old.ranks y }
     requires steps { steps.old ≡ 0 }
-    ensures told { IsTold result steps.new }
+    ensures told { TellsSteps result steps.new }
     ensures room { ranks.new.room ≡ ranks.old.room }
     ensures placed { IsPlaced (IsNear lists.now.after.lists) a b result has_cycle.old has_cycle.new
         ranks.old.ranks ranks.new.ranks }

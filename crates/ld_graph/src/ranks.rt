@@ -1,8 +1,9 @@
 //! The ranks of the classes, kept both ways.
 
-ghost use Rattle.std.specs.Prelude.{◌≡◌, ◌↔◌, ℕ, ◌+◌, ◌^◌, ◌<◌, ◌≤◌, [], ◌∷◌, ◌++◌, length};
+ghost use Rattle.std.specs.Prelude.{◌≡◌, ◌↔◌, ℕ, ◌+◌, ◌<◌, ◌≤◌, [], ◌∷◌, ◌++◌, length};
 ghost use Rattle.std.specs.Prelude.{slice_index, IfSome, MatchOption, OnOk};
-ghost use Rattle.ld_graph.specs.Inner.Repairs.{AreInverse, IsRepaired, Reached};
+ghost use Rattle.ld_graph.specs.declared.graph.TheConstants.{MOST_GRAPH_CLASSES};
+ghost use Rattle.ld_graph.specs.Inner.Repairs.{AreInverse, IsRepaired, IsOrReaches};
 ghost use Rattle.ld_lists.specs.Lists.{IsNear};
 
 use crate::repair::{Space, mend};
@@ -57,14 +58,14 @@ impl Ranks {
         ensures ranks { result.now ≡ self.now.ranks }
         ensures inverse { AreInverse self.now.ranks self.now.classes }
     {
-        // The room is read for what the fields have in common.
+        // Read so that the invariant, which speaks of both fields, is at hand.
         let _ = &self.room;
         self.ranks.as_slice()
     }
 
     /// Makes memory for so many classes in all.
     pub fn room(&mut self, classes: usize) -> Result<(), AllocError>
-        requires { classes ≤ 2 ^ 30 }
+        requires { classes ≤ MOST_GRAPH_CLASSES }
         ensures ranks { self.new.ranks ≡ self.old.ranks }
         ensures kept { self.old.room ≤ self.new.room }
         ensures room { OnOk result (classes ≤ self.new.room) }
@@ -116,7 +117,7 @@ impl Ranks {
         ensures told { IfSome result (λ expanded. expanded ≡ steps.new) }
         ensures room { self.new.room ≡ self.old.room }
         ensures ranks { MatchOption result
-            ((self.new.ranks ≡ self.old.ranks) × Reached (IsNear lists.now.after.lists) b a)
+            ((self.new.ranks ≡ self.old.ranks) × IsOrReaches (IsNear lists.now.after.lists) b a)
             (IsRepaired (IsNear lists.now.after.lists) a b self.old.ranks self.new.ranks) }
     {
         mend(

@@ -1,10 +1,11 @@
 //! A repair of the ranks from one rank to another.
 
-ghost use Rattle.std.specs.Prelude.{◌≡◌, ◌≢◌, ◌↔◌, ◌⊎◌, ℕ, ◌+◌, ◌-◌, ◌^◌, ◌<◌, ◌≤◌, [], ◌++◌, not};
+ghost use Rattle.std.specs.Prelude.{◌≡◌, ◌≢◌, ◌↔◌, ◌⊎◌, ℕ, ◌+◌, ◌-◌, ◌<◌, ◌≤◌, [], ◌++◌, not};
 ghost use Rattle.std.specs.Prelude.{length, slice_index, vec_len, vec_capacity, IfSome, MatchOption};
 ghost use Rattle.std.specs.Bool.{OnTrue, OnFalse};
+ghost use Rattle.ld_graph.specs.declared.graph.TheConstants.{MOST_GRAPH_CLASSES};
 ghost use Rattle.ld_graph.specs.Inner.Repairs.{AreInverse, HasMet, AreRanked, IsPlan, IsRepaired};
-ghost use Rattle.ld_graph.specs.Inner.Repairs.{IsRow, Reached};
+ghost use Rattle.ld_graph.specs.Inner.Repairs.{IsRow, IsOrReaches};
 ghost use Rattle.ld_graph.specs.Inner.Repairs.{count, in_front, is_part, picked, split};
 ghost use Rattle.ld_lists.specs.Lists.{IsNear};
 
@@ -23,11 +24,11 @@ pub struct Space {
     pub moved: Vec<u32>,
 }
 
-/// Appends those classes of the row whose places were found, or those whose places weren't, in
+/// Appends those classes of the row whose offsets were found, or those whose offsets weren't, in
 /// their order.
 fn append_part(row: &[u32], search: &Search, found: bool, moved: &mut Vec<u32>)
     requires size { length row.now ≤ search.now.size }
-    requires few { length row.now ≤ 2 ^ 30 }
+    requires few { length row.now ≤ MOST_GRAPH_CLASSES }
     requires room { vec_len moved.old + count (is_part search.now.found found) (length row.now)
         ≤ vec_capacity moved.old }
     ensures items { moved.new.items ≡ moved.old.items
@@ -43,11 +44,11 @@ fn append_part(row: &[u32], search: &Search, found: bool, moved: &mut Vec<u32>)
     }
 }
 
-/// Puts those classes of the row first whose places were found, or those whose places weren't, and
+/// Puts those classes of the row first whose offsets were found, or those whose offsets weren't, and
 /// then the others, all in their order.
 fn split_row(row: &[u32], search: &Search, front: bool, moved: &mut Vec<u32>)
     requires size { length row.now ≤ search.now.size }
-    requires few { length row.now ≤ 2 ^ 30 }
+    requires few { length row.now ≤ MOST_GRAPH_CLASSES }
     requires room { length row.now ≤ vec_capacity moved.old }
     ensures items { moved.new.items
         ≡ split (is_part search.now.found front) (slice_index row.now) (length row.now) }
@@ -64,7 +65,7 @@ fn reorder(ended: Side, row: &[u32], behind: &Search, ahead: &Search, moved: &mu
     requires some { 0 < length row.now }
     requires behind { length row.now ≤ behind.now.size }
     requires ahead { length row.now ≤ ahead.now.size }
-    requires few { length row.now ≤ 2 ^ 30 }
+    requires few { length row.now ≤ MOST_GRAPH_CLASSES }
     requires room { length row.now ≤ vec_capacity moved.old }
     ensures met { OnFalse result (HasMet ended (length row.now) behind.now.found ahead.now.found) }
     ensures apart { OnTrue result
@@ -105,7 +106,7 @@ fn plan(
 ) -> Option<u64>
     requires row { IsRow ranks.now low row.now }
     requires some { 0 < length row.now }
-    requires few { length row.now ≤ 2 ^ 30 }
+    requires few { length row.now ≤ MOST_GRAPH_CLASSES }
     requires classes { (length lists.now.after.lists ≡ length ranks.now)
         × (length lists.now.before.lists ≡ length ranks.now) }
     requires turned { (x y : ℕ) → IsNear lists.now.after.lists x y
@@ -120,7 +121,7 @@ fn plan(
     requires steps { steps.old ≡ 0 }
     ensures told { IfSome result (λ expanded. expanded ≡ steps.new) }
     ensures plan { MatchOption result
-        (Reached (IsNear lists.now.after.lists) (slice_index row.now 0)
+        (IsOrReaches (IsNear lists.now.after.lists) (slice_index row.now 0)
         (slice_index row.now (length row.now - 1)))
         (IsPlan (IsNear lists.now.after.lists) ranks.now low row.now space.new.moved.items) }
     ensures behind { (space.new.behind.found ≡ [])
@@ -144,7 +145,7 @@ fn plan(
 /// Gives these classes the ranks from `low` on, in this order.
 fn give_ranks(moved: &[u32], low: u32, ranks: &mut [u32], classes: &mut [u32])
     requires within { low + length moved.now ≤ length classes.old }
-    requires few { length classes.old ≤ 2 ^ 30 }
+    requires few { length classes.old ≤ MOST_GRAPH_CLASSES }
     requires ends { (k : ℕ) → k < length moved.now
         → slice_index moved.now k < length ranks.old }
     requires once { (j k : ℕ) → j < k → k < length moved.now
@@ -176,7 +177,7 @@ pub fn mend(
     requires a { a < length ranks.old }
     requires b { b < length ranks.old }
     requires against { slice_index ranks.old b < slice_index ranks.old a }
-    requires few { length ranks.old ≤ 2 ^ 30 }
+    requires few { length ranks.old ≤ MOST_GRAPH_CLASSES }
     requires classes { (length lists.now.after.lists ≡ length ranks.old)
         × (length lists.now.before.lists ≡ length ranks.old) }
     requires turned { (x y : ℕ) → IsNear lists.now.after.lists x y
@@ -192,7 +193,7 @@ pub fn mend(
     requires steps { steps.old ≡ 0 }
     ensures told { IfSome result (λ expanded. expanded ≡ steps.new) }
     ensures ranks { MatchOption result
-        ((ranks.new ≡ ranks.old) × Reached (IsNear lists.now.after.lists) b a)
+        ((ranks.new ≡ ranks.old) × IsOrReaches (IsNear lists.now.after.lists) b a)
         (IsRepaired (IsNear lists.now.after.lists) a b ranks.old ranks.new) }
     ensures inverse { AreInverse ranks.new classes.new }
     ensures behind { (space.new.behind.found ≡ [])

@@ -9,7 +9,7 @@ ghost use Rattle.ld_graph.specs.Inner.Repairs.{IsAdded};
 use std::alloc::{AllocError, Global};
 use std::marker::Model;
 
-/// The places that a search has found, in the order in which it found them.
+/// The offsets that a search has found, in the order in which it found them.
 #[derive(Drop)]
 pub struct Search {
     found: Vec<u32>,
@@ -32,7 +32,7 @@ impl Model for Search {
 }
 
 impl Search {
-    /// A search among no places.
+    /// A search among no offsets.
     pub fn new(alloc: Global) -> Search
         ensures found { result.found ≡ [] }
     {
@@ -42,7 +42,7 @@ impl Search {
         }
     }
 
-    /// Takes the memory for a search among so many places.
+    /// Takes the memory for a search among so many offsets.
     pub fn room(&mut self, size: usize) -> Result<(), AllocError>
         ensures found { self.new.found ≡ self.old.found }
         ensures kept { self.old.size ≤ self.new.size }
@@ -85,16 +85,16 @@ impl Search {
         ensures once { IsDistinct nat_eq self.now.found }
         ensures below { (k : ℕ) → Contains self.now.found k → k < self.now.size }
     {
-        // The marks are read for what they have in common with the places.
+        // Read so that the invariant, which speaks of both fields, is at hand.
         let _ = &self.marks;
         self.found[number]
     }
 
-    /// Whether no more than so many places were found.
+    /// Whether no more than so many offsets were found.
     pub fn ends_at(&self, number: usize) -> bool
         ensures { IsTrue result ↔ (length self.now.found ≤ number) }
     {
-        // The marks are read, since a clause speaks of both fields together.
+        // Read so that the invariant, which speaks of both fields, is at hand.
         let _ = &self.marks;
         self.found.len() <= number
     }
@@ -110,7 +110,7 @@ impl Search {
     }
 }
 
-/// Takes the marks of these places away.
+/// Takes the marks of these offsets away.
 fn unmark(marks: &mut [bool], found: &[u32])
     requires { (k : ℕ) → Contains found.now k → k < length marks.old }
     ensures { (k : ℕ) → slice_index_or marks.new k false ≡ true

@@ -2,13 +2,14 @@
 
 ghost use Rattle.std.specs.Prelude.{◌≡◌, ℕ, ◌+◌, ◌-◌, ◌*◌, ◌^◌, ◌<◌, ◌≤◌, [], length, slice_index};
 ghost use Rattle.std.specs.Prelude.{Contains, MatchOption};
+ghost use Rattle.ld_graph.specs.declared.graph.TheConstants.{MOST_GRAPH_CLASSES};
 ghost use Rattle.ld_graph.specs.Inner.Repairs.{HasEnded, IsGrown, IsInside, IsRow, IsSought};
 ghost use Rattle.ld_lists.specs.Lists.{IsNear};
 
 use crate::search::Search;
 use ld_lists::{Lists, Steps};
 
-/// Which neighbours are meant.
+/// One of the two searches, by the neighbours that it follows.
 #[derive(Clone, Copy)]
 pub enum Side {
     /// The successors.
@@ -60,7 +61,7 @@ pub fn search_in_turn(
 ) -> Side
     requires row { IsRow ranks.now low row.now }
     requires some { 0 < length row.now }
-    requires few { length row.now ≤ 2 ^ 30 }
+    requires few { length row.now ≤ MOST_GRAPH_CLASSES }
     requires classes { (length lists.now.after.lists ≡ length ranks.now)
         × (length lists.now.before.lists ≡ length ranks.now) }
     requires after { (x y : ℕ) → IsNear lists.now.after.lists x y → y < length ranks.now }

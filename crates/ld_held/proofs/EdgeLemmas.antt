@@ -5,7 +5,7 @@ use Rattle.std.specs.List.{list_any}
 use Rattle.ld_class.proofs.Mapped.{list_any-map}
 use Rattle.ld_held.specs.declared.edges.EdgeFact.{EdgeFact}
 use Rattle.ld_held.specs.declared.edges.Pair.{Pair}
-use Rattle.ld_held.specs.Inner.Edges.{pair_of, same_pair, with_edge}
+use Rattle.ld_held.specs.Inner.Edges.{pair_of, same_pair, with_edge_fact}
 
 -- what `==` computes
 abbrev pub same_classes : Pair → Pair → Bool
@@ -26,8 +26,8 @@ module _ (edges : List EdgeFact) (edge : EdgeFact) (keys after : List Pair) (is_
   found = sym (list_any-map pair_of (same_classes (pair_of edge)) edges) ∙ ap (list_any (same_classes (pair_of edge))) pairs ∙ is_new_is
       (list_any (same_classes (pair_of edge)) keys) is_new keys after (pair_of edge) is long
 
-  pub with_edge-known : not is_new ≡ true → edges ≡ with_edge edges edge
-  with_edge-known known = sym (ap (λ (b : Bool). edges ++ (if b then [] else edge ∷ [])) (found ∙ known) ∙ append-nil edges)
+  pub with_edge_fact-known : not is_new ≡ true → edges ≡ with_edge_fact edges edge
+  with_edge_fact-known known = sym (ap (λ (b : Bool). edges ++ (if b then [] else edge ∷ [])) (found ∙ known) ∙ append-nil edges)
 
-  pub with_edge-new : not is_new ≡ false → edges ++ edge ∷ [] ≡ with_edge edges edge
-  with_edge-new new = sym (ap (λ (b : Bool). edges ++ (if b then [] else edge ∷ [])) (found ∙ new))
+  pub with_edge_fact-new : not is_new ≡ false → edges ++ edge ∷ [] ≡ with_edge_fact edges edge
+  with_edge_fact-new new = sym (ap (λ (b : Bool). edges ++ (if b then [] else edge ∷ [])) (found ∙ new))

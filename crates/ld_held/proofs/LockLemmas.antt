@@ -17,15 +17,16 @@ use Rattle.ld_class.proofs.Mapped.{list_any-map}
 use Rattle.ld_held.specs.declared.chains.Link.{Link}
 use Rattle.ld_held.specs.declared.edges.EdgeFact.{EdgeFact}
 use Rattle.ld_held.specs.Inner.Chains.{chain_before, same_link, with_link}
-use Rattle.ld_held.specs.Inner.Edges.{same_pair, edge_to, with_edge}
+use Rattle.ld_held.specs.Inner.Edges.{same_pair, edge_to, with_edge_fact}
 use Rattle.ld_held.specs.declared.held.Held.{Held}
 use Rattle.ld_trace.specs.Events.{PlainLock}
 use Rattle.ld_held.specs.declared.interrupts.Interrupts.{Interrupts}
 use Rattle.ld_trace.specs.declared.event.State.{State}
 use Rattle.ld_held.specs.Inner.Interrupts.{IsEntered, IsLeft, fresh, start_now, starts_of}
 use Rattle.ld_held.specs.Inner.Stacks.{PlainHeld, PlainStack, empty_stack, inner, plain_held, holds}
-use Rattle.ld_rules.specs.Open.{remove_last}
-use Rattle.ld_held.specs.Inner.Locks.{Hold, Known, IsMoved, is_of, hold_of, holds_of, known_of, classes_held, chain_of, IsChain, AreChainedBelow, AreChained, AreChainedIn, IsExtended, IsTold, AreTied}
+use Rattle.ld_rules.specs.Inner.Scanned.{remove_last}
+use Rattle.ld_held.specs.Inner.Locks.{Hold, HeldByTasks, ChangesInterrupts, is_of, hold_of, holds_of, held_by_tasks, classes_held}
+use Rattle.ld_held.specs.Inner.Locks.{chain_of, IsChain, AreChainedBelow, AreChained, AreChainedIn, IsExtended, HasItsEdges, AreTied}
 use Rattle.ld_rules.proofs.OpenLemmas.{remove_last-none}
 use Rattle.ld_rules.proofs.RemoveLemmas.{map-remove_last}
 use Rattle.ld_rules.proofs.PlaceLemmas.{by_pushes, last_or-push}
@@ -34,19 +35,19 @@ use Rattle.ld_rules.proofs.UsageLemmas.{list_all_mono}
 
 -- what is there stays as more are added
 
-with_edge-keeps : (p : EdgeFact → Bool) (edges : List EdgeFact) (edge : EdgeFact) → list_any p edges ≡ true → list_any p (with_edge edges edge) ≡ true
-with_edge-keeps p edges edge there = list_any-append p edges (if list_any (same_pair edge) edges then [] else edge ∷ []) ∙ or_left (list_any p edges)
+with_edge_fact-keeps : (p : EdgeFact → Bool) (edges : List EdgeFact) (edge : EdgeFact) → list_any p edges ≡ true → list_any p (with_edge_fact edges edge) ≡ true
+with_edge_fact-keeps p edges edge there = list_any-append p edges (if list_any (same_pair edge) edges then [] else edge ∷ []) ∙ or_left (list_any p edges)
     (list_any p (if list_any (same_pair edge) edges then [] else edge ∷ [])) there
 
-pub told_keeps : (p : EdgeFact → Bool) (edges more : List EdgeFact) → list_any p edges ≡ true → list_any p (fold with_edge edges more) ≡ true
+pub told_keeps : (p : EdgeFact → Bool) (edges more : List EdgeFact) → list_any p edges ≡ true → list_any p (fold with_edge_fact edges more) ≡ true
 told_keeps p edges [] there = there
-told_keeps p edges (edge ∷ more) there = told_keeps p (with_edge edges edge) more (with_edge-keeps p edges edge there)
+told_keeps p edges (edge ∷ more) there = told_keeps p (with_edge_fact edges edge) more (with_edge_fact-keeps p edges edge there)
 
 same_pair-refl : (edge : EdgeFact) → same_pair edge edge ≡ true
 same_pair-refl edge = and_from (eqb edge.from edge.from) (eqb edge.to edge.to) (eq-eqb edge.from edge.from refl) (eq-eqb edge.to edge.to refl)
 
-with_edge-has : (edges : List EdgeFact) (edge : EdgeFact) → list_any (same_pair edge) (with_edge edges edge) ≡ true
-with_edge-has edges edge = by (list_any (same_pair edge) edges) refl
+with_edge_fact-has : (edges : List EdgeFact) (edge : EdgeFact) → list_any (same_pair edge) (with_edge_fact edges edge) ≡ true
+with_edge_fact-has edges edge = by (list_any (same_pair edge) edges) refl
   where
     by : (b : Bool) → list_any (same_pair edge) edges ≡ b → list_any (same_pair edge) (edges ++ (if b then [] else edge ∷ [])) ≡ true
     by true is = ap (list_any (same_pair edge)) (append-nil edges) ∙ is
@@ -55,23 +56,23 @@ with_edge-has edges edge = by (list_any (same_pair edge) edges) refl
 
 -- each dependency that is told is there then, whatever its line
 pub all_told : (class line : ℕ) (edges : List EdgeFact) (froms : List ℕ) → list_all
-    (λ from. list_any (same_pair (edge_to class 0 from)) (fold with_edge edges (map (edge_to class line) froms))) froms ≡ true
+    (λ from. list_any (same_pair (edge_to class 0 from)) (fold with_edge_fact edges (map (edge_to class line) froms))) froms ≡ true
 all_told class line edges [] = refl
 all_told class line edges (from ∷ froms) =
-    and_from (list_any (same_pair (edge_to class 0 from)) (fold with_edge (with_edge edges (edge_to class line from))
+    and_from (list_any (same_pair (edge_to class 0 from)) (fold with_edge_fact (with_edge_fact edges (edge_to class line from))
     (map (edge_to class line) froms))) (list_all
-    (λ f. list_any (same_pair (edge_to class 0 f)) (fold with_edge (with_edge edges (edge_to class line from)) (map (edge_to class line) froms))) froms)
-    (told_keeps (same_pair (edge_to class 0 from)) (with_edge edges (edge_to class line from)) (map (edge_to class line) froms) (with_edge-has edges (edge_to class line from)))
-    (all_told class line (with_edge edges (edge_to class line from)) froms)
+    (λ f. list_any (same_pair (edge_to class 0 f)) (fold with_edge_fact (with_edge_fact edges (edge_to class line from)) (map (edge_to class line) froms))) froms)
+    (told_keeps (same_pair (edge_to class 0 from)) (with_edge_fact edges (edge_to class line from)) (map (edge_to class line) froms) (with_edge_fact-has edges (edge_to class line from)))
+    (all_told class line (with_edge_fact edges (edge_to class line from)) froms)
 
 -- where all are there, nothing is added
 pub none_new : (class line : ℕ) (edges : List EdgeFact) (froms : List ℕ) → list_all (λ from. list_any (same_pair (edge_to class 0 from)) edges)
-    froms ≡ true → fold with_edge edges (map (edge_to class line) froms) ≡ edges
+    froms ≡ true → fold with_edge_fact edges (map (edge_to class line) froms) ≡ edges
 none_new class line edges [] all = refl
 none_new class line edges (from ∷ froms) all =
     let parts = and_parts (list_any (same_pair (edge_to class 0 from)) edges) (list_all (λ f. list_any (same_pair (edge_to class 0 f)) edges) froms) all in
-    ap (λ (b : Bool). fold with_edge (edges ++ (if b then [] else edge_to class line from ∷ [])) (map (edge_to class line) froms)) parts.0
-    ∙ ap (λ es. fold with_edge es (map (edge_to class line) froms)) (append-nil edges) ∙ none_new class line edges froms parts.1
+    ap (λ (b : Bool). fold with_edge_fact (edges ++ (if b then [] else edge_to class line from ∷ [])) (map (edge_to class line) froms)) parts.0
+    ∙ ap (λ es. fold with_edge_fact es (map (edge_to class line) froms)) (append-nil edges) ∙ none_new class line edges froms parts.1
 
 -- numbers of chains that stay
 
@@ -89,8 +90,8 @@ within_kept : (a b : List (List ℕ)) (before : Option ℕ) → IsExtended a b �
 within_kept a b None h within = within
 within_kept a b (Some n) h within = let x = h.more in omega arith
 
-pub IsTold-kept : (a b : List (List ℕ)) (edges : List EdgeFact) (link : Link) → IsExtended a b → IsTold a edges link → IsTold b edges link
-IsTold-kept a b edges link h is = record {
+pub HasItsEdges-kept : (a b : List (List ℕ)) (edges : List EdgeFact) (link : Link) → IsExtended a b → HasItsEdges a edges link → HasItsEdges b edges link
+HasItsEdges-kept a b edges link h is = record {
   known = within_kept a b link.before h is.known;
   told = ap
       (list_all (λ from. list_any (same_pair (edge_to link.class 0 from)) edges)) (before_kept a b link.before h is.known) ∙ is.told;
@@ -280,7 +281,7 @@ module _ (stacks : List PlainStack) (chains : List (List ℕ)) (told : List Link
   pub tied_more : (new : List EdgeFact) → ((test : EdgeFact → Bool) → list_any test edges ≡ true → list_any test new ≡ true) → AreTied stacks chains told new
   tied_more new kept = record {
     chained = tied.chained;
-    complete = All-weaker (λ link. IsTold chains edges link) (λ link. IsTold chains new link)
+    complete = All-weaker (λ link. HasItsEdges chains edges link) (λ link. HasItsEdges chains new link)
         (λ link is. record {
           known = is.known;
           told = list_all_mono (λ from. list_any (same_pair (edge_to link.class 0 from)) edges)
@@ -299,31 +300,31 @@ module _ (stacks : List PlainStack) (chains : List (List ℕ)) (told : List Link
       (starts_of (get_or stacks task empty_stack).interrupts) (tied.chained task))
 
   -- a waiting acquisition that was told tells nothing new
-  pub known_told : (known : Known) → known_of stacks edges ≡ known → (task class line : ℕ) (before : Option ℕ) → before ≡ chain_of
+  pub known_told : (known : HeldByTasks) → held_by_tasks stacks edges ≡ known → (task class line : ℕ) (before : Option ℕ) → before ≡ chain_of
       (inner (get_or stacks task empty_stack)) → list_any (same_link (record { before = before; class = class })) told ≡ true → known ≡ record known
-      { edges = fold with_edge known.edges (map (edge_to class line) (map (λ (h : Hold). h.class) (drop (start_now (get_or known.interrupts task fresh)) (get_or known.stacks task [])))) }
+      { edges = fold with_edge_fact known.edges (map (edge_to class line) (map (λ (h : Hold). h.class) (drop (start_now (get_or known.interrupts task fresh)) (get_or known.stacks task [])))) }
   known_told known is task class line before at there =
-      subst (λ (k : Known). k ≡ record k {
-        edges = fold with_edge k.edges
+      subst (λ (k : HeldByTasks). k ≡ record k {
+        edges = fold with_edge_fact k.edges
             (map (edge_to class line) (map (λ (h : Hold). h.class) (drop (start_now (get_or k.interrupts task fresh)) (get_or k.stacks task []))));
       }) is
-      (λ i. record (known_of stacks edges) { edges = sym all i })
+      (λ i. record (held_by_tasks stacks edges) { edges = sym all i })
     where
-      froms : map (λ (h : Hold). h.class) (drop (start_now (get_or (known_of stacks edges).interrupts task fresh))
-          (get_or (known_of stacks edges).stacks task [])) ≡ classes_held (inner (get_or stacks task empty_stack))
+      froms : map (λ (h : Hold). h.class) (drop (start_now (get_or (held_by_tasks stacks edges).interrupts task fresh))
+          (get_or (held_by_tasks stacks edges).stacks task [])) ≡ classes_held (inner (get_or stacks task empty_stack))
       froms = ap (map (λ (h : Hold). h.class)) (inner_at stacks task) ∙ map-map (λ (h : Hold). h.class) hold_of (inner (get_or stacks task empty_stack))
 
-      is_told : IsTold chains edges (record { before = before; class = class })
-      is_told = link_told (λ link. IsTold chains edges link) told (record { before = before; class = class }) tied.complete there
+      is_told : HasItsEdges chains edges (record { before = before; class = class })
+      is_told = link_told (λ link. HasItsEdges chains edges link) told (record { before = before; class = class }) tied.complete there
 
-      all : fold with_edge edges (map (edge_to class line) (map (λ (h : Hold). h.class)
-          (drop (start_now (get_or (known_of stacks edges).interrupts task fresh)) (get_or (known_of stacks edges).stacks task [])))) ≡ edges
-      all = ap (λ fs. fold with_edge edges (map (edge_to class line) fs)) (froms ∙ sym (numbered task).chain ∙ ap (chain_before chains) (sym at)) ∙
+      all : fold with_edge_fact edges (map (edge_to class line) (map (λ (h : Hold). h.class)
+          (drop (start_now (get_or (held_by_tasks stacks edges).interrupts task fresh)) (get_or (held_by_tasks stacks edges).stacks task [])))) ≡ edges
+      all = ap (λ fs. fold with_edge_fact edges (map (edge_to class line) fs)) (froms ∙ sym (numbered task).chain ∙ ap (chain_before chains) (sym at)) ∙
           none_new class line edges (chain_before chains before) is_told.told
 
   -- one that was told just now
   pub tied_told : {E : Type 0} (r : Result (Unit {0}) E) (task class line : ℕ) (before : Option ℕ) (new : List EdgeFact) (links : List Link) →
-      before ≡ chain_of (inner (get_or stacks task empty_stack)) → new ≡ fold with_edge edges
+      before ≡ chain_of (inner (get_or stacks task empty_stack)) → new ≡ fold with_edge_fact edges
       (map (edge_to class line) (classes_held (inner (get_or stacks task empty_stack)))) → OnOk r
       (links ≡ with_link told (record { before = before; class = class })) → OnErr r (links ≡ told) → AreTied stacks chains links new
   tied_told r task class line before new links at is = by r
@@ -331,7 +332,7 @@ module _ (stacks : List PlainStack) (chains : List (List ℕ)) (told : List Link
       more : AreTied stacks chains told new
       more = tied_more new (λ test there. ap (list_any test) is ∙ told_keeps test edges (map (edge_to class line) (classes_held (inner (get_or stacks task empty_stack)))) there)
 
-      here : IsTold chains new (record { before = before; class = class })
+      here : HasItsEdges chains new (record { before = before; class = class })
       here = record {
         known = subst (λ o. IfSome o (λ n. n < length chains)) (sym at) (numbered task).known;
         told = ap (λ fs. list_all (λ from. list_any (same_pair (edge_to class 0 from)) new) fs) (ap (chain_before chains) at ∙ (numbered task).chain)
@@ -341,14 +342,14 @@ module _ (stacks : List PlainStack) (chains : List (List ℕ)) (told : List Link
 
       by : {E : Type 0} (r : Result (Unit {0}) E) → OnOk r (links ≡ with_link told (record { before = before; class = class })) → OnErr r (links ≡ told) → AreTied stacks chains links new
       by (Ok u) noted _ = subst (λ ls. AreTied stacks chains ls new) (sym noted)
-          (record { chained = tied.chained; complete = All-with_link (λ link. IsTold chains new link) told (record { before = before; class = class }) more.complete here })
+          (record { chained = tied.chained; complete = All-with_link (λ link. HasItsEdges chains new link) told (record { before = before; class = class }) more.complete here })
       by (Err e) _ refused = subst (λ ls. AreTied stacks chains ls new) (sym refused) more
 
   -- more chains
   pub tied_extended : (more : List (List ℕ)) → IsExtended chains more → AreTied stacks more told edges
   tied_extended more extended = record {
     chained = λ k. AreChainedIn-kept chains more (get_or stacks k empty_stack).held (starts_of (get_or stacks k empty_stack).interrupts) extended (tied.chained k);
-    complete = All-weaker (λ link. IsTold chains edges link) (λ link. IsTold more edges link) (λ link is. IsTold-kept chains more edges link extended is) told tied.complete;
+    complete = All-weaker (λ link. HasItsEdges chains edges link) (λ link. HasItsEdges more edges link) (λ link is. HasItsEdges-kept chains more edges link extended is) told tied.complete;
   }
 
   -- another stack of a task
@@ -382,49 +383,49 @@ tied_push stacks chains told edges tied task held before within more extended at
     (known, is ∙ ap (λ c. c ++ held.class ∷ []) (ap (chain_before chains) at ∙ (numbered stacks chains told edges tied task).chain)))
 
 -- a waiting acquisition that tells its dependencies, as callers see it
-pub told_shown : {E : Type 0} (r : Result (Unit {0}) E) (stacks : List PlainStack) (edges : List EdgeFact) (known : Known) (task class line : ℕ)
-    (new : List EdgeFact) → known_of stacks edges ≡ known → new ≡ fold with_edge edges
+pub told_shown : {E : Type 0} (r : Result (Unit {0}) E) (stacks : List PlainStack) (edges : List EdgeFact) (known : HeldByTasks) (task class line : ℕ)
+    (new : List EdgeFact) → held_by_tasks stacks edges ≡ known → new ≡ fold with_edge_fact edges
     (map (edge_to class line) (classes_held (inner (get_or stacks task empty_stack)))) → OnOk r
-    (known_of stacks new ≡ record known {
-      edges = fold with_edge known.edges
+    (held_by_tasks stacks new ≡ record known {
+      edges = fold with_edge_fact known.edges
           (map (edge_to class line) (map (λ (h : Hold). h.class) (drop (start_now (get_or known.interrupts task fresh)) (get_or known.stacks task []))));
     })
 told_shown r stacks edges known task class line new is told = by r
   where
-    froms : map (λ (h : Hold). h.class) (drop (start_now (get_or (known_of stacks edges).interrupts task fresh))
-        (get_or (known_of stacks edges).stacks task [])) ≡ classes_held (inner (get_or stacks task empty_stack))
+    froms : map (λ (h : Hold). h.class) (drop (start_now (get_or (held_by_tasks stacks edges).interrupts task fresh))
+        (get_or (held_by_tasks stacks edges).stacks task [])) ≡ classes_held (inner (get_or stacks task empty_stack))
     froms = ap (map (λ (h : Hold). h.class)) (inner_at stacks task) ∙ map-map (λ (h : Hold). h.class) hold_of (inner (get_or stacks task empty_stack))
 
-    edges_are : new ≡ fold with_edge edges (map (edge_to class line)
-        (map (λ (h : Hold). h.class) (drop (start_now (get_or (known_of stacks edges).interrupts task fresh)) (get_or (known_of stacks edges).stacks task []))))
-    edges_are = told ∙ ap (λ fs. fold with_edge edges (map (edge_to class line) fs)) (sym froms)
+    edges_are : new ≡ fold with_edge_fact edges (map (edge_to class line)
+        (map (λ (h : Hold). h.class) (drop (start_now (get_or (held_by_tasks stacks edges).interrupts task fresh)) (get_or (held_by_tasks stacks edges).stacks task []))))
+    edges_are = told ∙ ap (λ fs. fold with_edge_fact edges (map (edge_to class line) fs)) (sym froms)
 
-    whole : known_of stacks new ≡ record known {
-      edges = fold with_edge known.edges
+    whole : held_by_tasks stacks new ≡ record known {
+      edges = fold with_edge_fact known.edges
           (map (edge_to class line) (map (λ (h : Hold). h.class) (drop (start_now (get_or known.interrupts task fresh)) (get_or known.stacks task []))));
     }
     whole =
-        subst (λ (k : Known). known_of stacks new ≡ record k {
-          edges = fold with_edge k.edges
+        subst (λ (k : HeldByTasks). held_by_tasks stacks new ≡ record k {
+          edges = fold with_edge_fact k.edges
               (map (edge_to class line) (map (λ (h : Hold). h.class) (drop (start_now (get_or k.interrupts task fresh)) (get_or k.stacks task []))));
         }) is
-        (λ i. record (known_of stacks edges) { edges = edges_are i })
+        (λ i. record (held_by_tasks stacks edges) { edges = edges_are i })
 
-    by : {E : Type 0} (r : Result (Unit {0}) E) → OnOk r (known_of stacks new ≡ record known
-        { edges = fold with_edge known.edges (map (edge_to class line) (map (λ (h : Hold). h.class) (drop (start_now (get_or known.interrupts task fresh)) (get_or known.stacks task [])))) })
+    by : {E : Type 0} (r : Result (Unit {0}) E) → OnOk r (held_by_tasks stacks new ≡ record known
+        { edges = fold with_edge_fact known.edges (map (edge_to class line) (map (λ (h : Hold). h.class) (drop (start_now (get_or known.interrupts task fresh)) (get_or known.stacks task [])))) })
     by (Ok u) = whole
     by (Err e) = tt
 
 -- the number of tasks, as callers see it
-pub within_shown : (stacks : List PlainStack) (edges : List EdgeFact) (known : Known) (task : ℕ) → known_of stacks edges ≡ known → task < length known.stacks → task < length stacks
-within_shown stacks edges known task is within = subst (λ n. task < n) (ap (λ (k : Known). length k.stacks) (sym is) ∙ length-map stacks (λ (s : PlainStack). map hold_of s.held)) within
+pub within_shown : (stacks : List PlainStack) (edges : List EdgeFact) (known : HeldByTasks) (task : ℕ) → held_by_tasks stacks edges ≡ known → task < length known.stacks → task < length stacks
+within_shown stacks edges known task is within = subst (λ n. task < n) (ap (λ (k : HeldByTasks). length k.stacks) (sym is) ∙ length-map stacks (λ (s : PlainStack). map hold_of s.held)) within
 
 -- another stack of a task, as callers see it
-pub shown_held : (stacks : List PlainStack) (edges : List EdgeFact) (known : Known) (task : ℕ) → known_of stacks edges ≡ known →
-    (held : List PlainHeld) (holding : List Hold) → map hold_of held ≡ holding → known_of
+pub shown_held : (stacks : List PlainStack) (edges : List EdgeFact) (known : HeldByTasks) (task : ℕ) → held_by_tasks stacks edges ≡ known →
+    (held : List PlainHeld) (holding : List Hold) → map hold_of held ≡ holding → held_by_tasks
     (set stacks task (record (get_or stacks task empty_stack) { held = held })) edges ≡ record known { stacks = set known.stacks task holding }
 shown_held stacks edges known task is held holding same =
-    subst (λ (k : Known). known_of (set stacks task stack) edges ≡ record k { stacks = set k.stacks task holding }) is
+    subst (λ (k : HeldByTasks). held_by_tasks (set stacks task stack) edges ≡ record k { stacks = set k.stacks task holding }) is
     (λ i. record { stacks = stacks_are i; interrupts = interrupts_are i; edges = edges })
   where
     stack : PlainStack
@@ -442,10 +443,10 @@ shown_held stacks edges known task is held holding same =
         ∙ set-get_or (map (λ (s : PlainStack). s.interrupts) stacks) task fresh
 
 -- other frames and flags of a task, as callers see them
-pub shown_moved : (stacks : List PlainStack) (edges : List EdgeFact) (known : Known) (task : ℕ) → known_of stacks edges ≡ known →
-    (interrupts : Interrupts) → IsMoved known (known_of (set stacks task (record (get_or stacks task empty_stack) { interrupts = interrupts })) edges) task
+pub shown_moved : (stacks : List PlainStack) (edges : List EdgeFact) (known : HeldByTasks) (task : ℕ) → held_by_tasks stacks edges ≡ known →
+    (interrupts : Interrupts) → ChangesInterrupts known (held_by_tasks (set stacks task (record (get_or stacks task empty_stack) { interrupts = interrupts })) edges) task
 shown_moved stacks edges known task is interrupts =
-    subst (λ (k : Known). IsMoved k (known_of (set stacks task (record (get_or stacks task empty_stack) { interrupts = interrupts })) edges) task) is
+    subst (λ (k : HeldByTasks). ChangesInterrupts k (held_by_tasks (set stacks task (record (get_or stacks task empty_stack) { interrupts = interrupts })) edges) task) is
     (record {
       stacks = stacks_are;
       edges = refl;
@@ -478,8 +479,8 @@ module _ (stacks : List PlainStack) (task : ℕ) (interrupts : Interrupts) (afte
       subst (λ ss. AreTied ss chains told edges) (sym is)
       (tied_set stacks chains told edges tied task (record (get_or stacks task empty_stack) { interrupts = interrupts }) within are)
 
-  pub moved_is : (edges : List EdgeFact) (known : Known) → known_of stacks edges ≡ known → IsMoved known (known_of after edges) task
-  moved_is edges known shown = subst (λ ss. IsMoved known (known_of ss edges) task) (sym is) (shown_moved stacks edges known task shown interrupts)
+  pub moved_is : (edges : List EdgeFact) (known : HeldByTasks) → held_by_tasks stacks edges ≡ known → ChangesInterrupts known (held_by_tasks after edges) task
+  moved_is edges known shown = subst (λ ss. ChangesInterrupts known (held_by_tasks ss edges) task) (sym is) (shown_moved stacks edges known task shown interrupts)
 
   pub moved_to : task < length stacks → get_or (map (λ (s : PlainStack). s.interrupts) after) task fresh ≡ interrupts
   moved_to within =
@@ -487,16 +488,16 @@ module _ (stacks : List PlainStack) (task : ℕ) (interrupts : Interrupts) (afte
       ∙ ap (λ ss. (get_or ss task empty_stack).interrupts) is
       ∙ ap (λ (s : PlainStack). s.interrupts) (get_or-set_same stacks task (record (get_or stacks task empty_stack) { interrupts = interrupts }) empty_stack within)
 
-pub interrupts_shown : (stacks : List PlainStack) (edges : List EdgeFact) (known : Known) (task : ℕ) → known_of stacks edges ≡ known →
+pub interrupts_shown : (stacks : List PlainStack) (edges : List EdgeFact) (known : HeldByTasks) (task : ℕ) → held_by_tasks stacks edges ≡ known →
     (get_or stacks task empty_stack).interrupts ≡ get_or known.interrupts task fresh
-interrupts_shown stacks edges known task is = sym (interrupts_at stacks task) ∙ ap (λ (k : Known). get_or k.interrupts task fresh) is
+interrupts_shown stacks edges known task is = sym (interrupts_at stacks task) ∙ ap (λ (k : HeldByTasks). get_or k.interrupts task fresh) is
 
-pub holds_shown : (stacks : List PlainStack) (edges : List EdgeFact) (known : Known) (task : ℕ) → known_of stacks edges ≡ known → map hold_of
+pub holds_shown : (stacks : List PlainStack) (edges : List EdgeFact) (known : HeldByTasks) (task : ℕ) → held_by_tasks stacks edges ≡ known → map hold_of
     (get_or stacks task empty_stack).held ≡ get_or known.stacks task []
-holds_shown stacks edges known task is = sym (holds_at stacks task) ∙ ap (λ (k : Known). get_or k.stacks task []) is
+holds_shown stacks edges known task is = sym (holds_at stacks task) ∙ ap (λ (k : HeldByTasks). get_or k.stacks task []) is
 
 -- the locks that a task holds, as callers see them
-pub held_shown : (stacks : List PlainStack) (edges : List EdgeFact) (known : Known) (task : ℕ) → known_of stacks edges ≡ known → (held : List Held) →
+pub held_shown : (stacks : List PlainStack) (edges : List EdgeFact) (known : HeldByTasks) (task : ℕ) → held_by_tasks stacks edges ≡ known → (held : List Held) →
     map plain_held held ≡ (get_or stacks task empty_stack).held → holds_of held ≡ get_or known.stacks task []
 held_shown stacks edges known task is held same = sym (map-map hold_of plain_held held) ∙ ap (map hold_of) same ∙ holds_shown stacks edges known task is
 
@@ -521,10 +522,10 @@ chained_left chains stack before old new empty at is are =
 -- several more locks
 
 -- a stack that is put, and then gains locks
-pub held_again : (old now new : Known) (task : ℕ) (stack more : List Hold) → now ≡ record old { stacks = set old.stacks task stack } → new ≡
+pub held_again : (old now new : HeldByTasks) (task : ℕ) (stack more : List Hold) → now ≡ record old { stacks = set old.stacks task stack } → new ≡
     record now { stacks = set now.stacks task (get_or now.stacks task [] ++ more) } → task < length old.stacks → new ≡ record old { stacks = set old.stacks task (stack ++ more) }
 held_again old now new task stack more so_far is within =
-    is ∙ ap (λ (k : Known). record k { stacks = set k.stacks task (get_or k.stacks task [] ++ more) }) so_far
+    is ∙ ap (λ (k : HeldByTasks). record k { stacks = set k.stacks task (get_or k.stacks task [] ++ more) }) so_far
     ∙ (λ i. record old { stacks = same i })
   where
     same : set (set old.stacks task stack) task (get_or (set old.stacks task stack) task [] ++ more) ≡ set old.stacks task (stack ++ more)
@@ -533,7 +534,7 @@ held_again old now new task stack more so_far is within =
         ∙ ap (λ hs. set old.stacks task (hs ++ more)) (get_or-set_same old.stacks task stack [] within)
 
 -- after the i-th of them
-pub held_more : (old now new : Known) (task i : ℕ) (locks : List Held) (d : Held) → now ≡ record old
+pub held_more : (old now new : HeldByTasks) (task i : ℕ) (locks : List Held) (d : Held) → now ≡ record old
     { stacks = set old.stacks task (get_or old.stacks task [] ++ holds_of (take i locks)) } → new ≡ record now
     { stacks = set now.stacks task (get_or now.stacks task [] ++ hold_of (plain_held (get_or locks i d)) ∷ []) } → task < length old.stacks → i <
     length locks → new ≡ record old { stacks = set old.stacks task (get_or old.stacks task [] ++ holds_of (take (i + 1) locks)) }
@@ -545,22 +546,22 @@ held_more old now new task i locks d so_far is within inside =
     ∙ ap (λ hs. record old { stacks = set old.stacks task hs }) same
 
 -- before the first of them
-pub held_none : (known : Known) (task : ℕ) → known ≡ record known { stacks = set known.stacks task (get_or known.stacks task [] ++ []) }
+pub held_none : (known : HeldByTasks) (task : ℕ) → known ≡ record known { stacks = set known.stacks task (get_or known.stacks task [] ++ []) }
 held_none known task =
     let same : set known.stacks task (get_or known.stacks task [] ++ []) ≡ known.stacks = ap (set known.stacks task) (append-nil (get_or known.stacks task [])) ∙ set-get_or known.stacks task [] in
     (λ i. record known { stacks = sym same i })
 
-module _ (old now : Known) (task i : ℕ) (locks : List Held) (so_far : now ≡ record old
+module _ (old now : HeldByTasks) (task i : ℕ) (locks : List Held) (so_far : now ≡ record old
     { stacks = set old.stacks task (get_or old.stacks task [] ++ holds_of (take i locks)) }) (within : task < length old.stacks) where
   pub within_more : task < length now.stacks
-  within_more = subst (λ n. task < n) (sym (ap (λ (k : Known). length k.stacks) so_far ∙ length-set old.stacks task (get_or old.stacks task [] ++ holds_of (take i locks)))) within
+  within_more = subst (λ n. task < n) (sym (ap (λ (k : HeldByTasks). length k.stacks) so_far ∙ length-set old.stacks task (get_or old.stacks task [] ++ holds_of (take i locks)))) within
 
   -- there is room for the i-th of them
   pub room_left : (most : ℕ) → i < length locks → length (get_or old.stacks task []) + length locks ≤ most → length (get_or now.stacks task []) < most
   room_left most inside room =
       let part : length (holds_of (take i locks)) ≡ i = length-map (take i locks) (λ (h : Held). hold_of (plain_held h)) ∙ length-take-le i locks (omega arith) in
       let many : length (get_or now.stacks task []) ≡ length (get_or old.stacks task []) + length (holds_of (take i locks)) =
-      ap (λ (k : Known). length (get_or k.stacks task [])) so_far
+      ap (λ (k : HeldByTasks). length (get_or k.stacks task [])) so_far
       ∙ ap length (get_or-set_same old.stacks task (get_or old.stacks task [] ++ holds_of (take i locks)) [] within)
       ∙ length-append (get_or old.stacks task []) (holds_of (take i locks)) in
       omega arith
@@ -568,15 +569,15 @@ module _ (old now : Known) (task i : ℕ) (locks : List Held) (so_far : now ≡ 
 -- a release
 
 -- a lock is held in the innermost frame, as callers see it
-pub any_shown : (stacks : List PlainStack) (edges : List EdgeFact) (known : Known) (task : ℕ) (lock : PlainLock) → known_of stacks edges ≡ known →
+pub any_shown : (stacks : List PlainStack) (edges : List EdgeFact) (known : HeldByTasks) (task : ℕ) (lock : PlainLock) → held_by_tasks stacks edges ≡ known →
     list_any (is_of lock) (drop (start_now (get_or known.interrupts task fresh)) (get_or known.stacks task [])) ≡ list_any (holds lock) (inner (get_or stacks task empty_stack))
 any_shown stacks edges known task lock is =
-    ap (λ (k : Known). list_any (is_of lock) (drop (start_now (get_or k.interrupts task fresh)) (get_or k.stacks task []))) (sym is)
+    ap (λ (k : HeldByTasks). list_any (is_of lock) (drop (start_now (get_or k.interrupts task fresh)) (get_or k.stacks task []))) (sym is)
     ∙ ap (list_any (is_of lock)) (inner_at stacks task)
     ∙ list_any-map hold_of (is_of lock) (inner (get_or stacks task empty_stack))
 
 -- what isn't held leaves all as it is
-pub none_gone : (known : Known) (task start : ℕ) (lock : PlainLock) → list_any (is_of lock) (drop start (get_or known.stacks task [])) ≡ false →
+pub none_gone : (known : HeldByTasks) (task start : ℕ) (lock : PlainLock) → list_any (is_of lock) (drop start (get_or known.stacks task [])) ≡ false →
     known ≡ record known { stacks = set known.stacks task (take start (get_or known.stacks task []) ++ remove_last (is_of lock) (drop start (get_or known.stacks task []))) }
 none_gone known task start lock none =
     let same : set known.stacks task (take start (get_or known.stacks task []) ++ remove_last (is_of lock) (drop start (get_or known.stacks task []))) ≡ known.stacks =

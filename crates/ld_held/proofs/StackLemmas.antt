@@ -9,7 +9,7 @@ use Rattle.ld_held.specs.declared.held.Held.{Held}
 use Rattle.ld_held.specs.declared.held.Stack.{Stack}
 use Rattle.ld_held.specs.Inner.Interrupts.{start_now}
 use Rattle.ld_held.specs.Inner.Stacks.{PlainStack, empty_stack, inner, plain_held, holds}
-use Rattle.ld_rules.specs.Open.{remove_last}
+use Rattle.ld_rules.specs.Inner.Scanned.{remove_last}
 
 abbrev pub shown : Stack → PlainStack
 shown stack = record { held = map plain_held stack.held.items; interrupts = stack.interrupts }

@@ -1,7 +1,7 @@
 //! The dependencies of a trace between numbered classes.
 ghost use Rattle.std.specs.Prelude.{◌≡◌, Bool, true, [], fold, map, OnErr, OnOk};
 ghost use Rattle.std.specs.List.{list_any};
-ghost use Rattle.ld_held.specs.Inner.Edges.{edge_to, with_edge};
+ghost use Rattle.ld_held.specs.Inner.Edges.{edge_to, with_edge_fact};
 
 use crate::held::Held;
 use indexmap::IndexSet;
@@ -68,7 +68,7 @@ impl Edges {
 
     /// Adds a dependency, where its pair isn't there yet.
     pub fn add(&mut self, edge: EdgeFact) -> Result<(), AllocError>
-        ensures added { OnOk result (self.new ≡ with_edge self.old edge) }
+        ensures added { OnOk result (self.new ≡ with_edge_fact self.old edge) }
         ensures refused { OnErr result (self.new ≡ self.old) }
     {
         let pair = Pair {
@@ -90,7 +90,7 @@ impl Edges {
     pub fn tell(&mut self, stack: &[Held<'_>], class: u32, line: u64) -> Result<(), AllocError>
         ensures kept { (test : EdgeFact → Bool)
             → list_any test self.old ≡ true → list_any test self.new ≡ true }
-        ensures told { OnOk result (self.new ≡ fold with_edge self.old
+        ensures told { OnOk result (self.new ≡ fold with_edge_fact self.old
             (map (edge_to class line) (map (λ held. held.class) stack.now))) }
     {
         for held in stack {

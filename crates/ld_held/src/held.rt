@@ -6,7 +6,7 @@ ghost use Rattle.ld_trace.specs.Events.{plain_lock};
 ghost use Rattle.ld_rules.specs.Held.{same_lock};
 ghost use Rattle.ld_held.specs.Inner.Interrupts.{start_now};
 ghost use Rattle.ld_held.specs.Inner.Stacks.{empty_stack, holds, inner, plain_held};
-ghost use Rattle.ld_rules.specs.Open.{remove_last};
+ghost use Rattle.ld_rules.specs.Inner.Scanned.{remove_last};
 ghost use Rattle.ld_rules.specs.declared.outcome.TheConstants.{MOST_HELD};
 
 use crate::interrupts::Interrupts;

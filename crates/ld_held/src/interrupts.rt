@@ -9,7 +9,7 @@ ghost use Rattle.ld_held.specs.Inner.Interrupts.{nests_in, start_now, states_of}
 
 use ld_trace::State;
 
-/// The flags of a task: which interrupts it lets in.
+/// The flags of a task. Softirqs come in only where both are on.
 #[derive(Clone, Copy)]
 pub struct Flags {
     pub hard: bool,

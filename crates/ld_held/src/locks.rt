@@ -6,12 +6,12 @@ ghost use Rattle.std.specs.Prelude.{◌≡◌, ◌<◌, ◌≤◌, ◌+◌, true
 ghost use Rattle.std.specs.Prelude.{map, take, slice_index_or, slice_set, IfOk, OnOk};
 ghost use Rattle.std.specs.List.{list_any};
 ghost use Rattle.ld_trace.specs.Events.{plain_lock};
-ghost use Rattle.ld_held.specs.Inner.Edges.{edge_to, with_edge};
+ghost use Rattle.ld_held.specs.Inner.Edges.{edge_to, with_edge_fact};
 ghost use Rattle.ld_held.specs.Inner.Interrupts.{IsEntered, IsLeft, IsSet, fresh, nests_in, start_now};
 ghost use Rattle.ld_held.specs.Inner.Interrupts.{states_of};
-ghost use Rattle.ld_held.specs.Inner.Locks.{IsMoved, chain_of, holds_of, inner_of, is_of, outer_of};
+ghost use Rattle.ld_held.specs.Inner.Locks.{ChangesInterrupts, chain_of, holds_of, inner_of, is_of, outer_of};
 ghost use Rattle.ld_held.specs.Inner.Stacks.{plain_held};
-ghost use Rattle.ld_rules.specs.Open.{remove_last};
+ghost use Rattle.ld_rules.specs.Inner.Scanned.{remove_last};
 ghost use Rattle.ld_rules.specs.declared.outcome.TheConstants.{MOST_HELD};
 
 use crate::chains::{Chains, Link, Told};
@@ -39,11 +39,11 @@ pub struct Locks<'a> {
 }
 
 impl<'a> Model for Locks<'a> {
-    ghost use Rattle.ld_held.specs.Inner.Locks.{AreTied, Known, known_of};
+    ghost use Rattle.ld_held.specs.Inner.Locks.{AreTied, HeldByTasks, held_by_tasks};
 
-    ghost Value = { Known };
+    ghost Value = { HeldByTasks };
 
-    ghost view = { λ l. known_of l.stacks l.edges };
+    ghost view = { λ l. held_by_tasks l.stacks l.edges };
 
     ghost invariant = { λ l. AreTied l.stacks l.chains l.told l.edges };
 }
@@ -92,7 +92,7 @@ impl<'a> Locks<'a> {
     pub fn tell(&mut self, task: u32, class: u32, line: u64) -> Result<(), AllocError>
         requires { task < length self.old.stacks }
         ensures { OnOk result (self.new ≡ record self.old {
-          edges = fold with_edge self.old.edges
+          edges = fold with_edge_fact self.old.edges
               (map (edge_to class line) (map (λ hold. hold.class) (inner_of self.old task)));
         }) }
     {
@@ -170,7 +170,7 @@ impl<'a> Locks<'a> {
         requires task { task < length self.old.stacks }
         requires nests { nests_in (states_of (slice_index_or self.old.interrupts task fresh)) state
             ≡ true }
-        ensures moved { IsMoved self.old self.new task }
+        ensures moved { ChangesInterrupts self.old self.new task }
         ensures entered { IsEntered state (length (slice_index_or self.old.stacks task []))
             (slice_index_or self.old.interrupts task fresh)
             (slice_index_or self.new.interrupts task fresh) }
@@ -187,7 +187,7 @@ impl<'a> Locks<'a> {
         requires open { 0 < length (states_of (slice_index_or self.old.interrupts task fresh)) }
         requires empty { start_now (slice_index_or self.old.interrupts task fresh)
             ≡ length (slice_index_or self.old.stacks task []) }
-        ensures moved { IsMoved self.old self.new task }
+        ensures moved { ChangesInterrupts self.old self.new task }
         ensures left { IsLeft (slice_index_or self.old.interrupts task fresh)
             (slice_index_or self.new.interrupts task fresh) }
     {
@@ -199,7 +199,7 @@ impl<'a> Locks<'a> {
     /// The task's flag for the state goes on or off in its innermost frame.
     pub fn set(&mut self, task: u32, state: State, on: bool)
         requires task { task < length self.old.stacks }
-        ensures moved { IsMoved self.old self.new task }
+        ensures moved { ChangesInterrupts self.old self.new task }
         ensures set { IsSet state on (slice_index_or self.old.interrupts task fresh)
             (slice_index_or self.new.interrupts task fresh) }
     {

@@ -1,8 +1,9 @@
 //! The usage bits of a trace's numbered classes.
 ghost use Rattle.std.specs.Prelude.{◌≡◌, ◌<◌, ℕ, [], ◌∷◌, fold, map, slice_index_or, vec_len};
 ghost use Rattle.std.specs.Prelude.{OnErr, OnOk};
+ghost use Rattle.ld_class.specs.Usage.{no_bits};
 ghost use Rattle.ld_rules.specs.Usage.{IsBit};
-ghost use Rattle.ld_held.specs.Inner.Uses.{in_facts, none, on_facts, told, with_use};
+ghost use Rattle.ld_held.specs.Inner.Uses.{in_facts, on_facts, told, with_use};
 
 use crate::held::Held;
 use crate::interrupts::Interrupts;
@@ -161,7 +162,7 @@ impl Uses {
 /// Gives the class a set, where it has none yet: it and those below it get empty ones.
 fn reach(known: &mut Vec<Usage>, class: u32) -> Result<(), AllocError>
     ensures kept { (k : ℕ)
-        → slice_index_or known.new.items k none ≡ slice_index_or known.old.items k none }
+        → slice_index_or known.new.items k no_bits ≡ slice_index_or known.old.items k no_bits }
     ensures reached { OnOk result (class < vec_len known.new) }
 {
     let class = class as usize;

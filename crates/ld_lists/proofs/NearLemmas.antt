@@ -6,9 +6,9 @@ use Rattle.std.proofs.lemmas.List.{get_or-set_other, length_push}
 use Rattle.std.proofs.lemmas.List.Elements.{Contains-append_left, Contains-push}
 use Rattle.std.proofs.lemmas.List.Elements.{Contains-push_cases}
 use Rattle.std.proofs.lemmas.Bool.{cases_eq, cases_lt}
-use Rattle.ld_lists.specs.Lists.{Listed, ListsGrown, list_at, IsNear}
+use Rattle.ld_lists.specs.Lists.{NearLists, ListsGrown, list_at, IsNear}
 
-pub lists_same : (a : Listed) → ListsGrown a a
+pub lists_same : (a : NearLists) → ListsGrown a a
 lists_same a = record {
   lists = refl;
   items = refl;

@@ -4,7 +4,7 @@ use Rattle.std.specs.Prelude.{slice_index_or}
 
 -- what is seen of the lists of one side: the list of each class, how many neighbours there are in
 -- all, and for how many classes and neighbours there is memory
-pub record Listed : Type 0 where
+pub record NearLists : Type 0 where
   pub lists : List (List ℕ)
   pub items : ℕ
   pub class_room : ℕ
@@ -12,8 +12,8 @@ pub record Listed : Type 0 where
 
 -- for each class its successors and its predecessors
 pub record Sides : Type 0 where
-  pub after : Listed
-  pub before : Listed
+  pub after : NearLists
+  pub before : NearLists
 
 -- the list of a class
 abbrev pub list_at : List (List ℕ) → ℕ → List ℕ
@@ -24,26 +24,26 @@ abbrev pub IsNear : List (List ℕ) → ℕ → ℕ → Type 0
 IsNear lists a b = Contains (list_at lists a) b
 
 -- the lists are as before, with at least the memory that they had
-pub record ListsGrown (old new : Listed) : Type 0 where
+pub record ListsGrown (old new : NearLists) : Type 0 where
   pub lists : new.lists ≡ old.lists
   pub items : new.items ≡ old.items
   pub class_room : old.class_room ≤ new.class_room
   pub item_room : old.item_room ≤ new.item_room
 
 -- there is memory for so many further classes and neighbours
-pub record HasRoom (n : Listed) (more_classes more_items : ℕ) : Type 0 where
+pub record HasRoom (n : NearLists) (more_classes more_items : ℕ) : Type 0 where
   pub for_classes : length n.lists + more_classes ≤ n.class_room
   pub for_items : n.items + more_items ≤ n.item_room
 
 -- there is one class more, without neighbours
-pub record IsNextClass (old new : Listed) : Type 0 where
+pub record IsNextClass (old new : NearLists) : Type 0 where
   pub lists : new.lists ≡ old.lists ++ [] ∷ []
   pub items : new.items ≡ old.items
   pub class_room : old.class_room ≤ new.class_room
   pub item_room : old.item_room ≤ new.item_room
 
 -- the class has one neighbour more
-pub record IsNextItem (old : Listed) (class neighbour : ℕ) (new : Listed) : Type 0 where
+pub record IsNextItem (old : NearLists) (class neighbour : ℕ) (new : NearLists) : Type 0 where
   pub lists : new.lists ≡ slice_set old.lists class (list_at old.lists class ++ neighbour ∷ [])
   pub items : new.items ≡ old.items + 1
   pub class_room : old.class_room ≤ new.class_room

@@ -85,7 +85,7 @@ impl Lists {
     }
 
     /// What `after` gives, and puts the mark of the class `c` on, which has to be off. So by one list of
-    /// marks no class' successors are read twice. Takes no memory.
+    /// marks no class's successors are read twice. Takes no memory.
     pub fn once(&self, c: u32, marks: &mut [bool], steps: &mut Steps) -> &[u32]
         requires class { c < length self.now.after.lists }
         requires few { steps.old + 1 < 2 ^ 64 }

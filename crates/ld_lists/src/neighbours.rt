@@ -32,9 +32,9 @@ pub struct Neighbours {
 
 impl Model for Neighbours {
     ghost use Rattle.std.specs.Prelude.{◌/◌, map, vec_len, vec_capacity};
-    ghost use Rattle.ld_lists.specs.Lists.{Listed};
+    ghost use Rattle.ld_lists.specs.Lists.{NearLists};
 
-    ghost Value = { Listed };
+    ghost Value = { NearLists };
 
     ghost use Rattle.ld_lists.specs.Inner.Runs.{items_of, AreRuns};
 

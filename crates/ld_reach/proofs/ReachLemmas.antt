@@ -1,10 +1,11 @@
 -- A reach that is spread over classes that wait is exact at the end.
-use Rattle.std.proofs.Common.{◌≡◌, ◌≢◌, ◌↔◌, ℕ, zero, suc, ◌+◌, ◌<◌, ◌≤◌, ◌⊎◌, inl, inr, Bool, true, false, true≢false, List, [], ◌∷◌, ◌++◌, length, get_or, set, Option, Some, None, is_some, Contains, MatchOption, drop, take, unwrap_or, vec_len}
+use Rattle.std.proofs.Common.{◌≡◌, ◌≢◌, ◌↔◌, ℕ, zero, suc, ◌+◌, ◌<◌, ◌≤◌, ◌⊎◌, inl, inr, Bool, true, false, true≢false, List, [], ◌∷◌}
+use Rattle.std.proofs.Common.{◌++◌, length, get_or, set, Option, Some, None, is_some, Contains, MatchOption, drop, take, unwrap_or, vec_len}
 use Rattle.std.proofs.Common.{arith, refl, sym, ap, subst, ◌∙◌}
 use Rattle.std.proofs.lemmas.Bool.{cases_eq, cases_lt, cases_order}
 use Rattle.std.proofs.lemmas.List.{get_or-set_same, get_or-set_other, get_or_past, get_or_append_left, get_or_push, get_or_default, length_push, drop_more, drop-append-le, take-append-le}
 use Rattle.std.proofs.lemmas.List.Elements.{Contains-get_or, Contains-append_cases, Contains-append_left, Contains-push, Contains-push_cases}
-use Rattle.ld_reach.specs.Inner.Kept.{seen, AreReached, IsGiven, IsSpread, all_ahead, none_ahead, ahead_from}
+use Rattle.ld_reach.specs.Inner.Kept.{reach_of, AreReached, IsGiven, IsSpread, all_ahead, none_ahead, ahead_from}
 use Rattle.ld_graph.specs.declared.Edge.{Edge}
 use Rattle.ld_reach.specs.declared.reach.Reach.TheInside.{Inside}
 use Rattle.ld_graph.specs.Edges.{IsEdge, edge}
@@ -396,7 +397,7 @@ IsEdge-cases before a b x y h = by (Contains-push_cases before (edge a b) (edge 
     by (inr same) = inr (ap (λ (e : Edge). e.from) (sym same), ap (λ (e : Edge). e.to) (sym same))
 
 -- as many marks are seen as there are
-pub marks_len : (r : Inside) (reach : PlainReach) → seen r ≡ reach → vec_len r.marks ≡ length reach.marks
+pub marks_len : (r : Inside) (reach : PlainReach) → reach_of r ≡ reach → vec_len r.marks ≡ length reach.marks
 marks_len r reach is = r.marks.ok.0 ∙ ap (λ (s : PlainReach). length s.marks) is
 
 -- with one edge more, from a class that was not expanded, nothing is ahead

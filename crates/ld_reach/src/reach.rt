@@ -1,5 +1,5 @@
 //! Which classes walks from some seeds lead to, kept while edges come.
-ghost use Rattle.std.specs.Prelude.{◌≡◌, ◌⊎◌, ◌++◌, ◌∷◌, [], ℕ, List, ◌+◌, ◌<◌, ◌≤◌, ◌^◌, true, false};
+ghost use Rattle.std.specs.Prelude.{◌≡◌, ◌⊎◌, ◌++◌, ◌∷◌, [], ℕ, List, ◌+◌, ◌<◌, ◌≤◌, true, false};
 ghost use Rattle.std.specs.Prelude.{◌↔◌, drop, take, IsSome, All, Contains, None, OnErr, OnOk, count_by, is_none, length};
 ghost use Rattle.std.specs.Prelude.{nat_eq, slice_index_or, slice_set, vec_capacity, vec_len};
 ghost use Rattle.std.specs.List.{IsDistinct};
@@ -9,7 +9,7 @@ ghost use Rattle.ld_lists.specs.Lists.{IsNear};
 ghost use Rattle.ld_reach.specs.Reach.{IsReach, mark_of, no_reach, source_of, with_unreached};
 ghost use Rattle.ld_graph.specs.Walks.{HasWalk};
 
-use ld_graph::{Edge, Graph, Lists, MOST_CLASSES, Steps};
+use ld_graph::{Edge, Graph, Lists, MOST_GRAPH_CLASSES, Steps};
 use std::alloc::{AllocError, Global};
 use std::marker::Model;
 
@@ -34,9 +34,9 @@ impl Model for Reach {
 
     ghost Value = { PlainReach };
 
-    ghost use Rattle.ld_reach.specs.Inner.Kept.{seen, IsReachKept};
+    ghost use Rattle.ld_reach.specs.Inner.Kept.{reach_of, IsReachKept};
 
-    ghost view = { seen };
+    ghost view = { reach_of };
 
     ghost invariant = { IsReachKept };
 }
@@ -60,7 +60,7 @@ impl Reach {
     pub fn len(&self) -> usize
         ensures count { result ≡ length self.now.marks }
         ensures each { result ≡ length self.now.sources }
-        ensures few { result ≤ MOST_CLASSES }
+        ensures few { result ≤ MOST_GRAPH_CLASSES }
     {
         self.marks.len()
     }
@@ -79,7 +79,7 @@ impl Reach {
     /// `AllocError` where memory was refused. All answers are then as before, but the spare may have
     /// grown.
     pub fn room(&mut self, classes: usize) -> Result<(), AllocError>
-        requires { length self.old.marks + classes ≤ MOST_CLASSES }
+        requires { length self.old.marks + classes ≤ MOST_GRAPH_CLASSES }
         ensures classes { OnOk result (classes ≤ self.new.spare) }
         ensures kept { self.old.spare ≤ self.new.spare }
         ensures same { self.new ≡ record self.old { spare = self.new.spare } }
@@ -237,7 +237,7 @@ fn expand(
     requires class { class < length marks.old }
     requires fresh { slice_index_or marks.old class false ≡ false }
     requires counted { steps.old ≡ count_by (λ m. m) marks.old }
-    requires few { length marks.old ≤ 2 ^ 30 }
+    requires few { length marks.old ≤ MOST_GRAPH_CLASSES }
     requires listed { AreReached sources.old reached.old.items }
     requires room { vec_len reached.old + count_by is_none sources.old ≤ vec_capacity reached.old }
     ensures counted { steps.new ≡ count_by (λ m. m) marks.new }
@@ -276,7 +276,7 @@ fn spread(
     requires ends { (x y : ℕ) → IsNear lists.now.after.lists x y → y < length marks.old }
     requires same { length sources.old ≡ length marks.old }
     requires counted { steps.old ≡ count_by (λ m. m) marks.old }
-    requires few { length marks.old ≤ 2 ^ 30 }
+    requires few { length marks.old ≤ MOST_GRAPH_CLASSES }
     requires listed { AreReached sources.old reached.old.items }
     requires room { vec_len reached.old + count_by is_none sources.old ≤ vec_capacity reached.old }
     ensures counted { steps.new ≡ count_by (λ m. m) marks.new }

@@ -10,7 +10,7 @@ use Rattle.ld_trace.specs.Events.{PlainEvent}
 use Rattle.ld_trace.specs.Events.PlainEvent.{Acquire, Try, Release, Enter, Exit, Enable, Disable}
 use Rattle.ld_rules.specs.Open.{openings}
 use Rattle.ld_rules.specs.Frames.{Frame, enters, exits, frames, frame_of, contexts}
-use Rattle.ld_rules.specs.Open.{remove_last}
+use Rattle.ld_rules.specs.Inner.Scanned.{remove_last}
 use Rattle.ld_rules.proofs.OpenLemmas.{HasKeys, openings-opens, openings-closes, openings-neither}
 use Rattle.ld_rules.proofs.RemoveLemmas.{filter-remove_last, filter-remove_other, remove_last-push}
 

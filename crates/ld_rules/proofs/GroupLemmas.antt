@@ -14,7 +14,7 @@ use Rattle.ld_trace.specs.Events.PlainEvent.{Acquire, Try, Release, Enter, Exit,
 use Rattle.ld_rules.specs.Frames.{Frame, frame_of, task_of, enters, exits}
 use Rattle.ld_rules.specs.Held.{Key, same_frame, same_key, lock_acquired, held_by, held_in}
 use Rattle.ld_rules.specs.Outcome.{is_held_at_exit}
-use Rattle.ld_rules.specs.Open.{remove_last}
+use Rattle.ld_rules.specs.Inner.Scanned.{remove_last}
 use Rattle.ld_rules.proofs.OpenLemmas.{remove_last-skip}
 use Rattle.ld_rules.proofs.RemoveLemmas.{list_all-remove_last}
 use Rattle.ld_rules.proofs.HeldLemmas.{Decides-same_frame, Decides-same_key, held_by-acquires, held_by-releases, held_by-releases_other, held_by-other}

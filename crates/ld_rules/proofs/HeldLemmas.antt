@@ -13,7 +13,7 @@ use Rattle.ld_trace.specs.Events.PlainEvent.{Acquire, Try, Release, Enter, Exit,
 use Rattle.ld_rules.specs.Open.{openings}
 use Rattle.ld_rules.specs.Frames.{enters, exits, task_of, frame_of}
 use Rattle.ld_rules.specs.Held.{Placed, placed, Key, key_with, lock_acquired, lock_released, acquires, releases, same_option, same_frame, same_lock, same_key, held, held_by}
-use Rattle.ld_rules.specs.Open.{remove_last}
+use Rattle.ld_rules.specs.Inner.Scanned.{remove_last}
 use Rattle.ld_rules.proofs.OpenLemmas.{HasKeys, openings-opens, openings-closes, openings-neither}
 use Rattle.ld_rules.proofs.RemoveLemmas.{map-remove_last, filter-remove_last, filter-remove_other, list_any-filter}
 use Rattle.ld_rules.proofs.PlaceLemmas.{enumerate_push, map_along}

@@ -9,7 +9,7 @@ use Rattle.std.proofs.lemmas.List.Folds.{list_all-append}
 use Rattle.std.proofs.lemmas.List.Sums.{sum_by-cons, sum_by_push}
 use Rattle.std.specs.Bool.{Decides}
 use Rattle.std.specs.List.{cons_option, enumerate_from, list_all, list_any, range_with_len}
-use Rattle.ld_rules.specs.Open.{remove_last}
+use Rattle.ld_rules.specs.Inner.Scanned.{remove_last}
 use Rattle.ld_rules.specs.Open.{Opening, is_some_and, is_open, opening_at, openings}
 
 -- the numbers of a range, all moved by i

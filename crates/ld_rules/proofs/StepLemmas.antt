@@ -14,7 +14,8 @@ use Rattle.ld_class.specs.Names.{with_name}
 use Rattle.ld_trace.specs.Events.{PlainEvent, Position}
 use Rattle.ld_rules.specs.Frames.{task_of}
 use Rattle.ld_rules.specs.Outcome.{each_once, class_acquired, tasks, classes, events}
-use Rattle.ld_rules.specs.Dependency.{Dependency, same_dependency, same_seen, dependencies_at, seen, seen_at}
+use Rattle.ld_rules.specs.Dependency.{Dependency, same_dependency, dependencies_at, seen, seen_at}
+use Rattle.ld_rules.specs.Inner.Scanned.{same_dependency_seen}
 use Rattle.ld_rules.proofs.PlaceLemmas.{alike_from_decides, each_once-more, each_once-append, with_new}
 use Rattle.ld_rules.proofs.OutcomeLemmas.{seen-push}
 
@@ -67,9 +68,9 @@ Decides-same_dependency a b = Decides-like (same_dependency a b) (λ h. λ i. re
 
 -- the dependencies of a trace, each once with its least line: those of one more position are added where
 -- they aren't there yet
-pub dependencies-push : (all : List Position) (p : Position) → each_once same_seen (seen dependencies_at (all ++ p ∷ [])) ≡ fold (with_new same_seen)
-    (each_once same_seen (seen dependencies_at all)) (seen_at dependencies_at (events all) p.line p.says)
+pub dependencies-push : (all : List Position) (p : Position) → each_once same_dependency_seen (seen dependencies_at (all ++ p ∷ [])) ≡ fold (with_new same_dependency_seen)
+    (each_once same_dependency_seen (seen dependencies_at all)) (seen_at dependencies_at (events all) p.line p.says)
 dependencies-push all p =
-    ap (each_once same_seen) (seen-push dependencies_at all p)
-    ∙ each_once-append same_seen (λ x y is z. alike_from_decides same_dependency Decides-same_dependency x.what y.what is z.what)
+    ap (each_once same_dependency_seen) (seen-push dependencies_at all p)
+    ∙ each_once-append same_dependency_seen (λ x y is z. alike_from_decides same_dependency Decides-same_dependency x.what y.what is z.what)
     (seen dependencies_at all) (seen_at dependencies_at (events all) p.line p.says)

@@ -24,8 +24,9 @@ use Rattle.ld_rules.specs.Held.{Key, held, held_by, lock_acquired, same_key}
 use Rattle.ld_rules.specs.Flags.{same_state, is_enabled}
 use Rattle.ld_rules.specs.Outcome.{each_once, events}
 use Rattle.ld_rules.specs.Dependency.{Seen, seen_at, seen}
-use Rattle.ld_rules.specs.Usage.{Bit, same_bit, Use, same_use, same_what, in_uses, on_uses, uses_at}
+use Rattle.ld_rules.specs.Usage.{Bit, same_bit, Use, same_use, in_uses, on_uses, uses_at}
 use Rattle.ld_rules.specs.Usage.Bit.{In, On}
+use Rattle.ld_rules.specs.Inner.Scanned.{same_use_seen}
 use Rattle.ld_rules.proofs.RemoveLemmas.{filter-remove_other, list_all-remove_last}
 use Rattle.ld_rules.proofs.PlaceLemmas.{with_new, all_known, by_pushes, each_once-append, any_each_once}
 use Rattle.ld_rules.proofs.FrameLemmas.{contexts-other}
@@ -245,18 +246,19 @@ Decides-same_use a b = Decides-like (same_use a b) (λ h. λ i. record { class =
 
 -- The uses of a trace, each once with its least line.
 
-pub same_what-alike : (a b : Seen Use) → same_what a b ≡ true → (c : Seen Use) → same_what a c ≡ same_what b c
-same_what-alike a b is c = ap (λ u. same_use u c.what) ((Decides-same_use a.what b.what).0 is)
+pub same_use_seen-alike : (a b : Seen Use) → same_use_seen a b ≡ true → (c : Seen Use) → same_use_seen a c ≡ same_use_seen b c
+same_use_seen-alike a b is c = ap (λ u. same_use u c.what) ((Decides-same_use a.what b.what).0 is)
 
 abbrev pub at_line : ℕ → Use → Seen Use
 at_line line use_ = record { what = use_; line = line }
 
 -- these uses are added at a line, each where it isn't there yet
 abbrev pub with_uses : ℕ → List (Seen Use) → List Use → List (Seen Use)
-with_uses line known us = fold (with_new same_what) known (map (at_line line) us)
+with_uses line known us = fold (with_new same_use_seen) known (map (at_line line) us)
 
 pub with_uses-append : (line : ℕ) (known : List (Seen Use)) (us vs : List Use) → with_uses line known (us ++ vs) ≡ with_uses line (with_uses line known us) vs
-with_uses-append line known us vs = ap (fold (with_new same_what) known) (map-append (at_line line) us vs) ∙ fold-append (with_new same_what) known (map (at_line line) us) (map (at_line line) vs)
+with_uses-append line known us vs = ap (fold (with_new same_use_seen) known) (map-append (at_line line) us vs)
+    ∙ fold-append (with_new same_use_seen) known (map (at_line line) us) (map (at_line line) vs)
 
 -- whether a use is there, at some line
 abbrev pub is_known : List (Seen Use) → Use → Bool
@@ -264,17 +266,17 @@ is_known known u = list_any (λ s. same_use u s.what) known
 
 pub known_more : (line : ℕ) (known : List (Seen Use)) (us vs : List Use) → list_all (is_known known) vs ≡ true → list_all (is_known (with_uses line known us)) vs ≡ true
 known_more line known us vs all = list_all_mono (is_known known) (is_known (with_uses line known us))
-    (λ u there. any_with_all same_what (λ s. same_use u s.what) known (map (at_line line) us) there) vs all
+    (λ u there. any_with_all same_use_seen (λ s. same_use u s.what) known (map (at_line line) us) there) vs all
 
 -- where all uses that stood before are known, an event adds only uses of what its own task holds
 pub with_on_uses : (past : List PlainEvent) (e : PlainEvent) (state : State) (line : ℕ) (known : List (Seen Use)) → list_all (is_known known)
     (on_uses past state) ≡ true → with_uses line known (on_uses (past ++ e ∷ []) state) ≡ with_uses line known (own_uses (past ++ e ∷ []) (task_of e) state)
 with_on_uses past e state line known all =
-    ap (fold (with_new same_what) known) (map-map (at_line line) (on_use state) (filter (λ key. is_enabled (past ++ e ∷ []) key.task state) (held (past ++ e ∷ []))))
-    ∙ fold_known same_what (λ key. at_line line (on_use state key)) (λ key. bytes_eq (task_of e) key.task)
+    ap (fold (with_new same_use_seen) known) (map-map (at_line line) (on_use state) (filter (λ key. is_enabled (past ++ e ∷ []) key.task state) (held (past ++ e ∷ []))))
+    ∙ fold_known same_use_seen (λ key. at_line line (on_use state key)) (λ key. bytes_eq (task_of e) key.task)
     (λ key. is_enabled (past ++ e ∷ []) key.task state) (held (past ++ e ∷ [])) known (others_kept (is_known known) past e state all)
-    ∙ ap (λ keys. fold (with_new same_what) known (map (λ key. at_line line (on_use state key)) keys)) (own_keys (past ++ e ∷ []) (task_of e) state)
-    ∙ sym (ap (fold (with_new same_what) known) (map-map (at_line line) (on_use state) (if is_enabled (past ++ e ∷ []) (task_of e) state then held_by (past ++ e ∷ []) (task_of e) else [])))
+    ∙ ap (λ keys. fold (with_new same_use_seen) known (map (λ key. at_line line (on_use state key)) keys)) (own_keys (past ++ e ∷ []) (task_of e) state)
+    ∙ sym (ap (fold (with_new same_use_seen) known) (map-map (at_line line) (on_use state) (if is_enabled (past ++ e ∷ []) (task_of e) state then held_by (past ++ e ∷ []) (task_of e) else [])))
 
 -- The uses that stand at an event, where those of what is held may be left to `added`.
 abbrev pub uses_with : List PlainEvent → PlainEvent → (State → List Use) → List Use
@@ -311,7 +313,7 @@ new_uses past e state = map (on_use state) (if is_enabled (past ++ e ∷ []) (ta
 
 -- known uses add nothing
 pub with_known : (line : ℕ) (known : List (Seen Use)) (us : List Use) → list_all (is_known known) us ≡ true → with_uses line known us ≡ known
-with_known line known us all = all_known same_what known (map (at_line line) us) (list_all-map (λ s. list_any (same_what s) known) (at_line line) us ∙ all)
+with_known line known us all = all_known same_use_seen known (map (at_line line) us) (list_all-map (λ s. list_any (same_use_seen s) known) (at_line line) us ∙ all)
 
 module _ (past : List PlainEvent) (state : State) (line : ℕ) (known : List (Seen Use)) (all : list_all (is_known known) (on_uses past state) ≡ true) where
   -- all that the task held, where it counted already, is known
@@ -429,11 +431,11 @@ on_uses-seen state all = by_pushes (λ ps. list_all (is_known (seen uses_at ps))
 
 -- the uses seen, each once, in order of first line
 abbrev pub uses_once : List Position → List (Seen Use)
-uses_once all = each_once same_what (seen uses_at all)
+uses_once all = each_once same_use_seen (seen uses_at all)
 
 pub on_uses-once : (state : State) (all : List Position) → list_all (is_known (uses_once all)) (on_uses (events all) state) ≡ true
 on_uses-once state all = list_all_mono (is_known (seen uses_at all)) (is_known (uses_once all))
-    (λ u there. any_each_once same_what same_what-alike (at_line 0 u) (seen uses_at all) ∙ there) (on_uses (events all) state) (on_uses-seen state all)
+    (λ u there. any_each_once same_use_seen same_use_seen-alike (at_line 0 u) (seen uses_at all) ∙ there) (on_uses (events all) state) (on_uses-seen state all)
 
 -- What one more position adds: of the uses that it may newly show those that aren't there yet, with its
 -- line.
@@ -443,10 +445,10 @@ with_said_new known past line (Err fault) = known
 
 pub uses_once-push_new : (all : List Position) (p : Position) → uses_once (all ++ p ∷ []) ≡ with_said_new (uses_once all) (events all) p.line p.says
 uses_once-push_new all p =
-    ap (each_once same_what) (seen-push uses_at all p)
-    ∙ each_once-append same_what same_what-alike (seen uses_at all) (seen_at uses_at (events all) p.line p.says)
+    ap (each_once same_use_seen) (seen-push uses_at all p)
+    ∙ each_once-append same_use_seen same_use_seen-alike (seen uses_at all) (seen_at uses_at (events all) p.line p.says)
     ∙ by p.says
   where
-    by : (says : Result PlainEvent LineFault) → fold (with_new same_what) (uses_once all) (seen_at uses_at (events all) p.line says) ≡ with_said_new (uses_once all) (events all) p.line says
+    by : (says : Result PlainEvent LineFault) → fold (with_new same_use_seen) (uses_once all) (seen_at uses_at (events all) p.line says) ≡ with_said_new (uses_once all) (events all) p.line says
     by (Ok e) = with_new_uses_at (events all) e p.line (uses_once all) (λ state. on_uses-once state all)
     by (Err fault) = refl

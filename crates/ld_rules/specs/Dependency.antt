@@ -32,10 +32,6 @@ pub record Seen (A : Type 0) : Type 0 where
   pub what : A
   pub line : ℕ
 
--- of the same two classes, at whatever line
-abbrev pub same_seen : Seen Dependency → Seen Dependency → Bool
-same_seen a b = same_dependency a.what b.what
-
 -- what stands at one position, where these events came before
 abbrev pub seen_at : {A : Type 0} → (List PlainEvent → PlainEvent → List A) → List PlainEvent → ℕ
     → Result PlainEvent LineFault → List (Seen A)

@@ -1,9 +1,9 @@
 -- What is open of a list whose elements open and close something under keys. A place is a position
 -- in the list, from 0. `same` tells whether two keys are the same; `opened` and `closed` give the
 -- key under which an element opens or closes, if it does.
-use Rattle.std.specs.Prelude.{ℕ, ◌+◌, ◌-◌, Bool, false, nat_le, List, [], ◌∷◌, cond, length, take}
+use Rattle.std.specs.Prelude.{ℕ, ◌+◌, ◌-◌, Bool, false, nat_le, List, length, take}
 use Rattle.std.specs.Prelude.{drop, count_by, filter_map, Option, Some, None, if◌then◌else◌}
-use Rattle.std.specs.List.{enumerate_from, list_all, list_any, range_with_len}
+use Rattle.std.specs.List.{enumerate_from, list_all, range_with_len}
 
 -- the test of what is there, and false where nothing is
 abbrev pub is_some_and : {K : Type 0} → (K → Bool) → Option K → Bool
@@ -50,8 +50,3 @@ module _ {X K : Type 0} (same : K → K → Bool) (opened closed : X → Option 
   -- what is open at the end of the list, in order of place
   abbrev pub openings : List X → List (Opening X K)
   openings xs = filter_map (λ p. opening_at xs p.0 p.1 (opened p.1)) (enumerate_from 0 xs)
-
--- the list without the last element that passes the test
-abbrev pub remove_last : {X : Type 0} → (X → Bool) → List X → List X
-remove_last p [] = []
-remove_last p (x ∷ xs) = cond (list_any p xs) (x ∷ remove_last p xs) (cond (p x) xs (x ∷ xs))

@@ -11,7 +11,6 @@ use Rattle.ld_trace.specs.Events.PlainEvent.{Acquire}
 use Rattle.ld_rules.specs.Frames.{contexts}
 use Rattle.ld_rules.specs.Held.{held}
 use Rattle.ld_rules.specs.Flags.{same_state, is_enabled}
-use Rattle.ld_rules.specs.Dependency.{Seen}
 
 -- a class used in a state's context, or held with the state enabled
 pub data Bit : Type 0 where
@@ -50,10 +49,6 @@ pub record Use : Type 0 where
 
 abbrev pub same_use : Use → Use → Bool
 same_use a b = bytes_eq a.class b.class && same_bit a.bit b.bit
-
--- of the same bit of the same class, at whatever line
-abbrev pub same_what : Seen Use → Seen Use → Bool
-same_what a b = same_use a.what b.what
 
 -- IN_S of c stands at p if p is a waiting acquisition of c by a task with S among its contexts.
 -- Here `now` is the past at p.

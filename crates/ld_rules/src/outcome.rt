@@ -8,16 +8,19 @@ use ld_trace::Source;
 /// How many tasks a trace has at most.
 pub const MOST_TASKS: usize = 1_024;
 
+// Clauses cite the constant, so they would hold with any other number.
 const _: () = prove!(MOST_TASKS == 1 << 10);
 
 /// How many classes a trace has at most.
 pub const MOST_CLASSES: usize = 8_191;
 
+// Clauses cite the constant, so they would hold with any other number.
 const _: () = prove!(MOST_CLASSES == (1 << 13) - 1);
 
 /// How many locks a task holds at most, over all its frames.
 pub const MOST_HELD: usize = 48;
 
+// Clauses cite the constant, so they would hold with any other number.
 const _: () = prove!(MOST_HELD == 3 * 16);
 
 /// What became of a trace.

@@ -10,7 +10,7 @@ use lib.ListN.{get_elem?}
 use Rattle.atomic_table.proofs.Lists.{set_else}
 use Rattle.atomic_table.specs.Table.{State, Me, keeps, Allows, Splits, Joins, Final, Seen}
 use Rattle.ld_tickets.proofs.Places.{read_at, sum_by_put, at_le_sum_by, All-at, sum_by-map, sum_by-le-All, all_in_one, times_push, times-append, once_more, all_below}
-use Rattle.ld_tickets.specs.declared.rule.Opening.{Opening}
+use Rattle.ld_tickets.specs.declared.rule.MadeWith.{MadeWith}
 use Rattle.ld_tickets.specs.declared.rule.View.{View}
 use Rattle.ld_tickets.specs.Draw.{once_below}
 use Rattle.ld_tickets.specs.Rule.{IsSound, IsRunning, Holds, DrawsGiven, Draws, one_seat_less, one_seat, together, spent}
@@ -28,7 +28,7 @@ times x v = count_by (nat_eq x) v.drawn
 abbrev numbers_of : View → List ℕ
 numbers_of v = v.drawn
 
-module _ (o : Opening) (word : ℕ) (views : List View) (r : IsRunning o word views) where
+module _ (o : MadeWith) (word : ℕ) (views : List View) (r : IsRunning o word views) where
   numbers : (x : ℕ) → sum_by (times x) views ≡ once_below x (min word o.n)
   numbers x = sym (sum_by-map (count_by (nat_eq x)) numbers_of views) ∙ r.numbers x
 
@@ -103,13 +103,13 @@ module _ (o : Opening) (word : ℕ) (views : List View) (r : IsRunning o word vi
         (record v { ended = v.ended + 1 }, draws_none (omega arith) over, refl)
 
 -- the running rule, of a table whose word has changed
-module _ (o : Opening) (s : State (Unit {0}) View) (h : Holds o s) where
+module _ (o : MadeWith) (s : State (Unit {0}) View) (h : Holds o s) where
   placed : (state : ℕ) (views : List View) → IsRunning o state views → Holds o (record s { words = set s.words 0 state; views = views })
   placed state views r =
       (length-set s.words 0 state ∙ h.0, subst (λ n. IsRunning o n views) (sym (get_or-set_same s.words 0 state 0 (omega (arith, h.0)))) r)
 
 -- a draw keeps the rule
-pub draws_at : (o : Opening) (slots id : ℕ) (me : Me (Unit {0}) View) → me.0.seats ≡ 1 → me.0.ended ≡ 0
+pub draws_at : (o : MadeWith) (slots id : ℕ) (me : Me (Unit {0}) View) → me.0.seats ≡ 1 → me.0.ended ≡ 0
     → Allows (Holds o) slots id me 0 (λ n. (n + 1) % 2 ^ 64) (λ found after. Draws me.0 found after.0 × (after.1 ≡ me.1))
 draws_at o slots id me one open_seat s h _ at _ =
     let word : ℕ = get_or s.words 0 0 in
@@ -123,7 +123,7 @@ draws_at o slots id me one open_seat s h _ at _ =
     )
 
 -- a split keeps the rule
-pub splits : (o : Opening) (id : ℕ) (v : View) → 1 < v.seats → v.ended ≡ 0 → Splits (Holds o) id v (one_seat_less v) (one_seat v)
+pub splits : (o : MadeWith) (id : ℕ) (v : View) → 1 < v.seats → v.ended ≡ 0 → Splits (Holds o) id v (one_seat_less v) (one_seat v)
 splits o id v more open_seats s h at =
     let r = h.1 in
     let left : View = one_seat_less v in
@@ -151,7 +151,7 @@ splits o id v more open_seats s h at =
     )
 
 -- a join keeps the rule
-pub joins : (o : Opening) (id : ℕ) (v : View) (other : ℕ) (w : View) → 0 < v.seats → Joins (Holds o) id v other w (together v w) spent
+pub joins : (o : MadeWith) (id : ℕ) (v : View) (other : ℕ) (w : View) → 0 < v.seats → Joins (Holds o) id v other w (together v w) spent
 joins o id v other w some_seat s h at apart at_other =
     let r = h.1 in
     let both : View = together v w in
@@ -180,7 +180,7 @@ joins o id v other w some_seat s h at apart at_other =
     )
 
 -- what the last seat tells, once all others were joined to it
-pub settles : (o : Opening) (id : ℕ) (v : View) (words : List ℕ) (slots : List (Unit {0})) (state : ℕ) → Final (Seen (Holds o) id v) words slots
+pub settles : (o : MadeWith) (id : ℕ) (v : View) (words : List ℕ) (slots : List (Unit {0})) (state : ℕ) → Final (Seen (Holds o) id v) words slots
     → v.seats ≡ o.seats → get_elem? words 0 ≡ some state
     → ((x : ℕ) → count_by (nat_eq x) v.drawn ≡ once_below x (min state o.n)) × (0 < v.ended → o.n ≤ state)
 settles o id v words slots state f whole found =

@@ -2,35 +2,35 @@
 use Rattle.std.specs.Prelude.{◌≡◌, ◌+◌, ◌-◌, ◌<◌, ◌≤◌, ◌++◌, ◌∷◌, [], ℕ, List, Option, Some, None, All, length, map, min, slice_index}
 use Rattle.std.specs.List.{sum_by}
 use Rattle.atomic_table.specs.Table.{State}
-use Rattle.ld_tickets.specs.declared.rule.Opening.{Opening}
+use Rattle.ld_tickets.specs.declared.rule.MadeWith.{MadeWith}
 use Rattle.ld_tickets.specs.declared.rule.View.{View}
 use Rattle.ld_tickets.specs.declared.rule.TheConstants.{MOST_NUMBERS, MOST_SEATS}
 use Rattle.ld_tickets.specs.Draw.{given, HaveEachOnce}
 
 -- Of each view: one that stands for a seat has the n and the seats that were asked for; no view has
 -- more ended than seats; a view of no seat has no numbers.
-pub record IsSound (opening : Opening) (v : View) : Type 0 where
-  pub agrees : 0 < v.seats → (v.n ≡ opening.n) × (v.asked ≡ opening.seats)
+pub record IsSound (made_with : MadeWith) (v : View) : Type 0 where
+  pub agrees : 0 < v.seats → (v.n ≡ made_with.n) × (v.asked ≡ made_with.seats)
   pub ends : v.ended ≤ v.seats
   pub idle : v.seats ≡ 0 → v.drawn ≡ []
 
 -- Of the word, which is the state of the draw machine, and of all views. The word is so small that
 -- it never wraps.
-pub record IsRunning (opening : Opening) (word : ℕ) (views : List View) : Type 0 where
-  pub few : (opening.n ≤ MOST_NUMBERS) × (opening.seats ≤ MOST_SEATS)
-  pub seats : sum_by (λ v. v.seats) views ≡ opening.seats
-  pub sound : All (IsSound opening) views
-  pub numbers : HaveEachOnce (min word opening.n) (map (λ v. v.drawn) views)
-  pub over : 0 < sum_by (λ v. v.ended) views → opening.n ≤ word
-  pub bound : word ≤ opening.n + sum_by (λ v. v.ended) views
+pub record IsRunning (made_with : MadeWith) (word : ℕ) (views : List View) : Type 0 where
+  pub few : (made_with.n ≤ MOST_NUMBERS) × (made_with.seats ≤ MOST_SEATS)
+  pub seats : sum_by (λ v. v.seats) views ≡ made_with.seats
+  pub sound : All (IsSound made_with) views
+  pub numbers : HaveEachOnce (min word made_with.n) (map (λ v. v.drawn) views)
+  pub over : 0 < sum_by (λ v. v.ended) views → made_with.n ≤ word
+  pub bound : word ≤ made_with.n + sum_by (λ v. v.ended) views
 
 -- between any two steps
-abbrev pub Holds : Opening → State (Unit {0}) View → Type 0
-Holds opening s = (length s.words ≡ 1) × IsRunning opening (slice_index s.words 0) s.views
+abbrev pub Holds : MadeWith → State (Unit {0}) View → Type 0
+Holds made_with s = (length s.words ≡ 1) × IsRunning made_with (slice_index s.words 0) s.views
 
 -- The table is made with its first seat: the first view stands for all seats, without numbers.
-abbrev pub all_seats : Opening → View
-all_seats opening = record { n = opening.n; asked = opening.seats; seats = opening.seats; drawn = []; ended = 0 }
+abbrev pub all_seats : MadeWith → View
+all_seats made_with = record { n = made_with.n; asked = made_with.seats; seats = made_with.seats; drawn = []; ended = 0 }
 
 -- A seat is split: a view gives one seat to a new view without numbers.
 abbrev pub one_seat_less : View → View

@@ -15,7 +15,7 @@ const _: () = prove!(MOST_SEATS == 1 << 4);
 
 /// What the tickets were made with.
 #[derive(Clone, Copy)]
-pub struct Opening {
+pub struct MadeWith {
     /// The numbers are those below this one.
     pub n: u64,
     pub seats: u64,
@@ -38,7 +38,7 @@ pub struct View {
 /// The running rule: word 0 of the table is the state of the draw machine.
 pub struct RunningRule;
 
-impl TableRule<(), View, Opening> for RunningRule {
+impl TableRule<(), View, MadeWith> for RunningRule {
     ghost use Rattle.ld_tickets.specs.Rule.{Holds, all_seats};
 
     ghost holds = { Holds };

@@ -4,7 +4,9 @@ ghost use Rattle.std.specs.Prelude.{IfOk, IfSome};
 ghost use Rattle.std.specs.List.{list_any};
 ghost use Rattle.ld_tickets.specs.Draw.{HaveEachOnce, IsSeatOf, after_draw};
 
-use crate::rule::{Draw, MOST_NUMBERS, MOST_SEATS, OneApart, Opening, RunningRule, Together, View};
+use crate::rule::{
+    Draw, MOST_NUMBERS, MOST_SEATS, MadeWith, OneApart, RunningRule, Together, View,
+};
 use atomic_table::{Seat, Table};
 use std::alloc::{AllocError, Global};
 use std::marker::Model;
@@ -14,7 +16,7 @@ use std::marker::Model;
 /// The seats belong to threads of their own, which share the tickets.
 #[derive(Drop)]
 pub struct Tickets {
-    table: Table<(), View, Opening, RunningRule, Global>,
+    table: Table<(), View, MadeWith, RunningRule, Global>,
     n: u64,
     seats: usize,
 }
@@ -78,11 +80,11 @@ impl Tickets {
         ensures fresh { IfOk result (λ made.
             All (λ seat. (seat.drawn ≡ []) × (seat.ended ≡ false)) made.1.items) }
     {
-        let opening = Opening {
+        let made_with = MadeWith {
             n,
             seats: seats as u64,
         };
-        let (table, mut first) = Table::of_words(alloc, &[0], &opening)?;
+        let (table, mut first) = Table::of_words(alloc, &[0], &made_with)?;
         let mut made = Vec::new(alloc);
         for _ in 1..seats {
             made.push(DrawSeat {

@@ -65,9 +65,9 @@ abbrev pub Said : Type 0
 Said = Result (Option PlainEvent) LineFault
 
 -- what `read_event` answers, without where it lies in memory
-abbrev pub seen : Result (Option Event) LineFault → Said
-seen (Ok found) = Ok (option_map plain_event found)
-seen (Err fault) = Err fault
+abbrev pub answer_seen : Result (Option Event) LineFault → Said
+answer_seen (Ok found) = Ok (option_map plain_event found)
+answer_seen (Err fault) = Err fault
 
 -- the event with what its last field means, or the fault where that means nothing
 abbrev pub said_with : {X : Type 0} → (X → PlainEvent) → LineFault → Option X → Said

@@ -45,9 +45,9 @@ abbrev pub is_word : List ℕ → Bool
 is_word field = not (is_empty field) && nat_le (length field) LONGEST_WORD && list_all is_ascii_graphic field
 
 -- `@` and `/` stand in words and not in names
-abbrev pub is_mark : ℕ → Bool
-is_mark b = b == 64 || b == 47
+abbrev pub is_separator : ℕ → Bool
+is_separator b = b == 64 || b == 47
 
 -- a name is such a word without `@` and `/`
 abbrev pub is_name : List ℕ → Bool
-is_name field = is_word field && not (list_any is_mark field)
+is_name field = is_word field && not (list_any is_separator field)

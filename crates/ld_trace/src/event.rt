@@ -2,7 +2,7 @@
 ghost use Rattle.std.specs.Prelude.{◌≡◌, ◌≢◌, ◌<◌, ℕ, List, IfSome, IfNone, length};
 ghost use Rattle.std.specs.List.{position};
 ghost use Rattle.std.specs.Option.{option_map};
-ghost use Rattle.ld_trace.specs.Events.{PlainEvent, PlainLock, is_sign, lock_of, plain_lock, said_by, said_of_lock, said_of_state, seen, state_of};
+ghost use Rattle.ld_trace.specs.Events.{PlainEvent, PlainLock, answer_seen, is_sign, lock_of, plain_lock, said_by, said_of_lock, said_of_state, state_of};
 ghost use Rattle.ld_trace.specs.Lines.{fields};
 ghost use Rattle.ld_trace.specs.Inner.Reading.{both_now, pair_of, said_with_lock, said_with_state};
 
@@ -57,7 +57,7 @@ pub enum LineFault {
 /// The event that a line names, `None` where the line says nothing, or what is wrong with it. The
 /// line comes without its end; a header is a `BadVerb` here.
 pub fn read_event(line: &[u8]) -> Result<Option<Event<'_>>, LineFault>
-    ensures { seen result ≡ said_by line.now }
+    ensures { answer_seen result ≡ said_by line.now }
 {
     let Some((first, rest)) = next_field(line) else {
         return Ok(None);
@@ -113,7 +113,7 @@ impl Verb {
 
     /// What a line with this verb says, by the fields after it.
     fn read(self, rest: &[u8]) -> Result<Option<Event<'_>>, LineFault>
-        ensures { seen result ≡ said_after self (fields rest.now) }
+        ensures { answer_seen result ≡ said_after self (fields rest.now) }
     {
         match self {
             Verb::OfLock(verb) => verb.read(rest),
@@ -141,7 +141,7 @@ impl LockVerb {
     }
 
     fn read(self, rest: &[u8]) -> Result<Option<Event<'_>>, LineFault>
-        ensures { seen result ≡ said_after_lock_verb self (fields rest.now) }
+        ensures { answer_seen result ≡ said_after_lock_verb self (fields rest.now) }
     {
         let (task, lock) = task_and_lock(rest)?;
         match self {
@@ -174,7 +174,7 @@ impl StateVerb {
     }
 
     fn read(self, rest: &[u8]) -> Result<Option<Event<'_>>, LineFault>
-        ensures { seen result ≡ said_after_state_verb self (fields rest.now) }
+        ensures { answer_seen result ≡ said_after_state_verb self (fields rest.now) }
     {
         let (task, state) = task_and_state(rest)?;
         match self {

@@ -2,7 +2,7 @@
 ghost use Rattle.std.specs.Prelude.{◌≡◌, ◌<◌, ◌≤◌, ◌++◌, ◌∷◌, [], length, IfSome, MatchOption};
 ghost use Rattle.std.specs.Char.{is_ascii_graphic};
 ghost use Rattle.std.specs.List.{list_all, list_any, prefix_len, position_or_len};
-ghost use Rattle.ld_trace.specs.Lines.{begins_comment, fields, is_blank, is_mark, is_name, is_word, lines, text_of};
+ghost use Rattle.ld_trace.specs.Lines.{begins_comment, fields, is_blank, is_name, is_separator, is_word, lines, text_of};
 
 use memchr::memchr;
 
@@ -102,21 +102,21 @@ pub fn is_word(field: &[u8]) -> bool
 }
 
 /// Whether a byte stands in words and not in names.
-fn is_mark(byte: u8) -> bool
-    ensures { result ≡ is_mark byte }
+fn is_separator(byte: u8) -> bool
+    ensures { result ≡ is_separator byte }
 {
     byte == b'@' || byte == b'/'
 }
 
-fn has_mark(bytes: &[u8]) -> bool
-    ensures { result ≡ list_any is_mark bytes.now }
+fn has_separator(bytes: &[u8]) -> bool
+    ensures { result ≡ list_any is_separator bytes.now }
 {
-    bytes.iter().any(|byte| is_mark(*byte))
+    bytes.iter().any(|byte| is_separator(*byte))
 }
 
 /// Whether a field is a name: such a word without `@` and `/`.
 pub fn is_name(field: &[u8]) -> bool
     ensures { result ≡ is_name field.now }
 {
-    is_word(field) && !has_mark(field)
+    is_word(field) && !has_separator(field)
 }

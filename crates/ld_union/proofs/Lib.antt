@@ -1,6 +1,6 @@
 pub mod ClosingLemmas
 pub mod EachOnceLemmas
-pub mod NameLemmas
+pub mod EarlierLemmas
 pub mod NewsLemmas
 pub mod ReachedLemmas
 pub mod SeenLemmas

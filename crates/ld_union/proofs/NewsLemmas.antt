@@ -6,12 +6,11 @@ use Rattle.std.proofs.lemmas.List.{get_or-map, get_or-set_same, get_or-set_other
 use Rattle.std.proofs.lemmas.List.{length-map, length-replicate, length-set, map-set, map-append}
 use Rattle.std.proofs.lemmas.List.Elements.{All-nil, All-push, Contains-append_left, Contains-append_right}
 use Rattle.ld_class.specs.declared.usage.Usage.{Usage}
-use Rattle.ld_class.specs.Usage.{has_bit, union}
-use Rattle.ld_class.proofs.UsageLemmas.{has_bit-union}
+use Rattle.ld_class.specs.Usage.{either, has_bit, no_bits}
+use Rattle.ld_class.proofs.UsageLemmas.{has_bit-either}
 use Rattle.ld_trace.specs.declared.event.State.TheVariants.{Hard, Soft}
 use Rattle.ld_facts.specs.Usage.{Bit, IsBit, bit_of, usage_of}
 use Rattle.ld_facts.specs.Usage.Bit.{In, On}
-use Rattle.ld_facts.specs.Uses.{none}
 use Rattle.ld_union.specs.declared.news.NewBit.{NewBit}
 use Rattle.ld_union.specs.declared.usage.UsageRow.{UsageRow}
 use Rattle.ld_union.specs.Inner.Bits.{HasBitAt, new_bit}
@@ -19,7 +18,7 @@ use Rattle.ld_union.specs.Inner.News.{IsNew, TellsBits}
 use Rattle.ld_union.specs.Usage.{bits_of, row_of}
 
 -- a class without bits of its own has none
-no_bit : (bit : Bit) → has_bit none (usage_of bit) ≡ false
+no_bit : (bit : Bit) → has_bit no_bits (usage_of bit) ≡ false
 no_bit (In Hard) = refl
 no_bit (In Soft) = refl
 no_bit (On Hard) = refl
@@ -30,7 +29,7 @@ bit_within usage c bit has = by (cases_lt c (length usage))
   where
     by : (c < length usage) ⊎ (length usage ≤ c) → c < length usage
     by (inl within) = within
-    by (inr past) = absurd (true≢false (sym has ∙ ap (λ u. has_bit u (usage_of bit)) (get_or_past usage c none past) ∙ no_bit bit))
+    by (inr past) = absurd (true≢false (sym has ∙ ap (λ u. has_bit u (usage_of bit)) (get_or_past usage c no_bits past) ∙ no_bit bit))
 
 pub row_within : (rows : List UsageRow) (c : ℕ) (bit : Bit) → HasBitAt (bits_of rows) c bit → c < length rows
 row_within rows c bit has = subst (λ n. c < n) (length-map rows (λ (row : UsageRow). row.bits)) (bit_within (bits_of rows) c bit has)
@@ -62,11 +61,11 @@ same_set (On Soft) (On Hard) = inr refl
 same_set (On Soft) (On Soft) = inl refl
 
 -- each bit is one digit
-with_one : (usage more : Usage) (bit : Bit) → has_bit (union usage more) (usage_of bit) ≡ (has_bit usage (usage_of bit) || has_bit more (usage_of bit))
-with_one usage more (In Hard) = has_bit-union usage more (usage_of (In Hard)) 0 refl
-with_one usage more (On Hard) = has_bit-union usage more (usage_of (On Hard)) 1 refl
-with_one usage more (In Soft) = has_bit-union usage more (usage_of (In Soft)) 2 refl
-with_one usage more (On Soft) = has_bit-union usage more (usage_of (On Soft)) 3 refl
+with_one : (usage more : Usage) (bit : Bit) → has_bit (either usage more) (usage_of bit) ≡ (has_bit usage (usage_of bit) || has_bit more (usage_of bit))
+with_one usage more (In Hard) = has_bit-either usage more (usage_of (In Hard)) 0 refl
+with_one usage more (On Hard) = has_bit-either usage more (usage_of (On Hard)) 1 refl
+with_one usage more (In Soft) = has_bit-either usage more (usage_of (In Soft)) 2 refl
+with_one usage more (On Soft) = has_bit-either usage more (usage_of (On Soft)) 3 refl
 
 -- a set that has this bit too
 has_one : (bit : Bit) → has_bit (usage_of bit) (usage_of bit) ≡ true
@@ -92,10 +91,10 @@ module _ (rows : List UsageRow) (count : ℕ) where
   abbrev longer : List UsageRow
   longer = rows ++ replicate count (row_of (λ bit. None))
 
-  still : (c : ℕ) (bit : Bit) → c < length rows → get_or (bits_of longer) c none ≡ get_or (bits_of rows) c none
+  still : (c : ℕ) (bit : Bit) → c < length rows → get_or (bits_of longer) c no_bits ≡ get_or (bits_of rows) c no_bits
   still c bit within =
-      ap (λ all. get_or all c none) (map-append (λ (row : UsageRow). row.bits) rows (replicate count (row_of (λ bit. None))))
-      ∙ get_or_append_left (bits_of rows) (bits_of (replicate count (row_of (λ bit. None)))) none c (subst (λ n. c < n) (sym (length-map rows (λ (row : UsageRow). row.bits))) within)
+      ap (λ all. get_or all c no_bits) (map-append (λ (row : UsageRow). row.bits) rows (replicate count (row_of (λ bit. None))))
+      ∙ get_or_append_left (bits_of rows) (bits_of (replicate count (row_of (λ bit. None)))) no_bits c (subst (λ n. c < n) (sym (length-map rows (λ (row : UsageRow). row.bits))) within)
 
   pub tells-longer : TellsBits (bits_of rows) (bits_of longer) []
   tells-longer = record {
@@ -112,30 +111,30 @@ module _ (rows : List UsageRow) (count : ℕ) where
           let at : get_or longer c unused ≡ unused =
           get_or-append_right rows (replicate count unused) (length rows) c unused refl past
           ∙ get_or-replicate count (c - length rows) unused unused (omega (arith, past, within, length-append rows (replicate count unused), length_spare)) in
-          true≢false (sym has ∙ ap (λ u. has_bit u (usage_of bit)) (get_or-map (λ (row : UsageRow). row.bits) longer c unused none within ∙ ap (λ (row : UsageRow). row.bits) at) ∙ no_bit bit)
+          true≢false (sym has ∙ ap (λ u. has_bit u (usage_of bit)) (get_or-map (λ (row : UsageRow). row.bits) longer c unused no_bits within ∙ ap (λ (row : UsageRow). row.bits) at) ∙ no_bit bit)
         where
           length_spare : length (replicate count (row_of (λ bit. None))) ≡ count
           length_spare = length-replicate count (row_of (λ bit. None))
 
 -- one row gets a bit
 module _ (before : List Usage) (rows : List UsageRow) (told : List NewBit) (is : TellsBits before (bits_of rows) told)
-    (c : ℕ) (d row : UsageRow) (within : c < length rows) (bit : Usage) (one : IsBit bit) (same : row.bits ≡ union (get_or rows c d).bits bit) where
+    (c : ℕ) (d row : UsageRow) (within : c < length rows) (bit : Usage) (one : IsBit bit) (same : row.bits ≡ either (get_or rows c d).bits bit) where
   abbrev after : List Usage
   after = bits_of (set rows c row)
 
-  here : get_or after c none ≡ union (get_or rows c d).bits bit
+  here : get_or after c no_bits ≡ either (get_or rows c d).bits bit
   here =
-      get_or-map (λ (r : UsageRow). r.bits) (set rows c row) c row none (subst (λ n. c < n) (sym (length-set rows c row)) within)
+      get_or-map (λ (r : UsageRow). r.bits) (set rows c row) c row no_bits (subst (λ n. c < n) (sym (length-set rows c row)) within)
       ∙ ap (λ (r : UsageRow). r.bits) (get_or-set_same rows c row row within)
       ∙ same
 
-  was : get_or (bits_of rows) c none ≡ (get_or rows c d).bits
-  was = get_or-map (λ (r : UsageRow). r.bits) rows c d none within
+  was : get_or (bits_of rows) c no_bits ≡ (get_or rows c d).bits
+  was = get_or-map (λ (r : UsageRow). r.bits) rows c d no_bits within
 
-  elsewhere : (k : ℕ) → k ≢ c → get_or after k none ≡ get_or (bits_of rows) k none
+  elsewhere : (k : ℕ) → k ≢ c → get_or after k no_bits ≡ get_or (bits_of rows) k no_bits
   elsewhere k differs =
-      ap (λ all. get_or all k none) (map-set (λ (r : UsageRow). r.bits) rows c row)
-      ∙ get_or-set_other (bits_of rows) c k row.bits none differs
+      ap (λ all. get_or all k no_bits) (map-set (λ (r : UsageRow). r.bits) rows c row)
+      ∙ get_or-set_other (bits_of rows) c k row.bits no_bits differs
 
   stays : (k : ℕ) (b : Bit) → HasBitAt (bits_of rows) k b → HasBitAt after k b
   stays k b has = by (cases_eq k c)

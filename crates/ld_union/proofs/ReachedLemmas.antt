@@ -6,7 +6,7 @@ use Rattle.std.proofs.lemmas.List.{length-take, take-take}
 use Rattle.std.proofs.lemmas.List.Elements.{Contains-append_left, Contains-push, Contains-push_cases}
 use Rattle.std.proofs.Math.Seq.{take-length}
 use Rattle.ld_class.specs.declared.usage.Usage.{Usage}
-use Rattle.ld_class.specs.Usage.{has_bit}
+use Rattle.ld_class.specs.Usage.{has_bit, no_bits}
 use Rattle.ld_graph.specs.declared.Edge.{Edge}
 use Rattle.ld_graph.specs.Edges.{IsEdge, PlainGraph, with_spares}
 use Rattle.ld_reach.specs.Reach.{IsReach, IsSource, PlainReach, source_of}
@@ -14,7 +14,6 @@ use Rattle.ld_trace.specs.declared.event.State.{State}
 use Rattle.ld_trace.specs.declared.event.State.TheVariants.{Hard, Soft}
 use Rattle.ld_facts.specs.Usage.{Bit, bit_of, usage_of}
 use Rattle.ld_facts.specs.Usage.Bit.{In}
-use Rattle.ld_facts.specs.Uses.{none}
 use Rattle.ld_union.specs.declared.news.NewBit.{NewBit}
 use Rattle.ld_union.specs.declared.dependencies.Witnessed.{Witnessed}
 use Rattle.ld_union.specs.declared.states.PerState.{PerState}
@@ -55,9 +54,9 @@ have_classes count reach hard soft Soft = soft
 
 -- whether a class has a bit
 pub bit_cases : (usage : List Usage) (c : ℕ) (bit : Bit) → HasBitAt usage c bit ⊎ (¬ HasBitAt usage c bit)
-bit_cases usage c bit = by (has_bit (get_or usage c none) (usage_of bit)) refl
+bit_cases usage c bit = by (has_bit (get_or usage c no_bits) (usage_of bit)) refl
   where
-    by : (b : Bool) → has_bit (get_or usage c none) (usage_of bit) ≡ b → HasBitAt usage c bit ⊎ (¬ HasBitAt usage c bit)
+    by : (b : Bool) → has_bit (get_or usage c no_bits) (usage_of bit) ≡ b → HasBitAt usage c bit ⊎ (¬ HasBitAt usage c bit)
     by true is = inl is
     by false is = inr (λ has. true≢false (sym has ∙ is))
 
@@ -163,7 +162,8 @@ pub reach-kept : (classes : ℕ) (edges : List Edge) (usage : List Usage) (state
 reach-kept classes edges usage state old new is count exact = record { count = count; seeds = is.seeds; seeded = is.seeded; exact = exact is.seeds is.exact }
 
 -- a union whose graph and reaches got other spares
-pub union-kept : (classes : List (List ℕ)) (graph : PlainGraph) (rows : List Witnessed) (usage : List UsageRow) (closing : Option Edge) (reach more : PerState PlainReach) (spare_classes spare_edges : ℕ)
+pub union-kept : (classes : List (List ℕ)) (graph : PlainGraph) (rows : List Witnessed) (usage : List UsageRow)
+    (closing : Option Edge) (reach more : PerState PlainReach) (spare_classes spare_edges : ℕ)
     → IsUnion classes graph rows usage closing reach → HaveClasses graph.classes more → StayExact (edges_of rows) (edges_of rows) reach more
     → IsUnion classes (with_spares graph spare_classes spare_edges) rows usage closing more
 union-kept classes graph rows usage closing reach more spare_classes spare_edges is count exact = record {

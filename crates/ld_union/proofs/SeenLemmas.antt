@@ -1,26 +1,21 @@
--- What a trace shows, as it is noted fact after fact.
+-- What a batch shows, as it is noted row after row.
 use Rattle.std.proofs.Common.{◌≡◌, ◌≢◌, ◌+◌, ◌<◌, ◌≤◌, ◌∷◌, [], AllPairs, List, ℕ, zero, suc, Bool, true, false, cond, Option, Some, None, length}
-use Rattle.std.proofs.Common.{map, take, get_or, refl, sym, ap, subst, ◌∙◌, if◌then◌else◌, arith}
+use Rattle.std.proofs.Common.{flat_map, map, option_map, take, get_or, refl, sym, ap, subst, ◌∙◌, if◌then◌else◌, arith}
 use Rattle.std.proofs.lemmas.Bool.{false_from_ne_true}
 use Rattle.std.proofs.lemmas.List.{map-append, take_all, take_more}
+use Rattle.std.proofs.lemmas.List.Folds.{find-append}
 use Rattle.std.proofs.lemmas.Slice.Eq.{bytes_eq-Decides}
-use Rattle.std.specs.List.{IsDistinct, filter_map, find}
+use Rattle.std.specs.List.{find}
 use Rattle.std.specs.Option.{option_or}
 use Rattle.std.specs.Str.{bytes_eq}
 use Rattle.ld_class.specs.Names.{AreDistinct}
 use Rattle.ld_class.proofs.NameLemmas.{AreDistinct-from_IsDistinct}
-use Rattle.ld_trace.specs.Events.{positions}
-use Rattle.ld_rules.specs.declared.outcome.Outcome.{Outcome}
-use Rattle.ld_rules.specs.declared.outcome.Outcome.TheVariants.{Read, Refused}
 use Rattle.ld_rules.specs.declared.outcome.Witness.{Witness}
-use Rattle.ld_facts.specs.Outcome.{class_acquired, classes, events, outcome}
-use Rattle.ld_facts.specs.Dependency.{Seen, least_line}
-use Rattle.ld_facts.specs.Facts.{Known, IsKnown, named, named_use}
-use Rattle.ld_facts.specs.Union.{classes_of, if_read}
+use Rattle.ld_facts.specs.Union.{classes_of, union_classes}
 use Rattle.ld_facts.specs.Usage.{Use, same_use, usage_of}
-use Rattle.ld_rules.proofs.LeastLemmas.{least_line-none, least_line-push}
 use Rattle.ld_rules.proofs.UsageLemmas.{Decides-same_use}
-use Rattle.ld_union.specs.Inner.Union.{earlier_of, seen_in}
+use Rattle.ld_batch.specs.Batch.{IsBatch, Met, PlainBatch, named, named_use, witness_of}
+use Rattle.ld_union.specs.Inner.Union.{earlier_of}
 use Rattle.ld_union.proofs.EachOnceLemmas.{IsDistinct-each_once}
 use Rattle.ld_union.proofs.UnionLemmas.{earlier_of-none}
 
@@ -33,84 +28,75 @@ none_found p f (suc i) (x ∷ xs) d h =
     ap (λ b. cond b (Some (f x)) (find p (map f (take i xs)))) (h 0 (omega arith) (omega arith)) ∙ none_found p f i xs d (λ k low within. h (suc k) (omega arith) (omega arith))
 
 -- what is seen last is noted, unless it was seen before
-joined : (before : Option Witness) (number : ℕ) (found : Option ℕ) (line : ℕ) (b : Bool) → (b ≡ true → found ≡ None)
-    → earlier_of (earlier_of before (seen_in number found)) (if b then Some (record { number = number; line = line }) else None)
-    ≡ earlier_of before (seen_in number (option_or found (if b then Some line else None)))
-joined before number None line true new = ap (λ r. earlier_of r (Some (record { number = number; line = line }))) (sym (earlier_of-none before))
-joined before number None line false new = sym (earlier_of-none (earlier_of before None))
-joined before number (Some least) line true new = let none : Some least ≡ None = new refl in cc
-joined before number (Some least) line false new = sym (earlier_of-none (earlier_of before (Some (record { number = number; line = least }))))
+joined : {A : Type 0} (before : Option Witness) (found : Option (Met A)) (last : Met A) (b : Bool) → (b ≡ true → found ≡ None)
+    → earlier_of (earlier_of before (option_map (λ m. m.witness) found)) (if b then Some last.witness else None)
+    ≡ earlier_of before (option_map (λ m. m.witness) (option_or found (cond b (Some last) None)))
+joined before None last true new = ap (λ r. earlier_of r (Some last.witness)) (sym (earlier_of-none before))
+joined before None last false new = sym (earlier_of-none (earlier_of before None))
+joined before (Some m) last true new = let none : Some m ≡ None = new refl in cc
+joined before (Some m) last false new = sym (earlier_of-none (earlier_of before (Some m.witness)))
 
--- the classes of a trace are distinct
-known_distinct : (known : Known) → IsKnown known → AreDistinct known.classes
-unfolding IsDistinct
-known_distinct known is = subst AreDistinct (sym is.classes) (AreDistinct-from_IsDistinct (classes_of known.source) (by (outcome known.source)))
-  where
-    by : (o : Outcome) → IsDistinct bytes_eq (if_read o (classes (events (positions known.source))))
-    by (Read count) = IsDistinct-each_once bytes_eq bytes_eq-Decides (filter_map class_acquired (events (positions known.source)))
-    by (Refused line fault) = tt
+-- the classes of a batch are distinct
+batch_distinct : (batch : PlainBatch) → IsBatch batch → AreDistinct batch.classes
+batch_distinct batch is =
+    subst AreDistinct (sym is.classes) (AreDistinct-from_IsDistinct (union_classes batch.sources) (IsDistinct-each_once bytes_eq bytes_eq-Decides (flat_map classes_of batch.sources)))
 
--- Facts of a trace, no two of which are of the same thing.
-module _ {F A : Type 0} (same : A → A → Bool) (equal : (a b : A) → same a b ≡ true → a ≡ b) (name : F → Seen A) (facts : List F) where
-  -- what the first of them show, by the least line of each
-  abbrev pub least_lines : ℕ → A → Option ℕ
-  least_lines i what = least_line same (map name (take i facts)) what
+-- Rows, no two of which are of the same thing.
+module _ {R A : Type 0} (same : A → A → Bool) (equal : (a b : A) → same a b ≡ true → a ≡ b) (name : R → Met A) (rows : List R) where
+  -- where the first of them tell that this was seen
+  abbrev pub told_by : ℕ → A → Option Witness
+  told_by i what = witness_of same (map name (take i rows)) what
 
   -- before the first one
-  pub none_noted : (before : Option Witness) (number : ℕ) (what : A) → before ≡ earlier_of before (seen_in number (least_lines 0 what))
-  none_noted before number what = by facts
+  pub none_noted : (before : Option Witness) (what : A) → before ≡ earlier_of before (told_by 0 what)
+  none_noted before what = by rows
     where
-      by : (all : List F) → before ≡ earlier_of before (seen_in number (least_line same (map name (take 0 all)) what))
+      by : (all : List R) → before ≡ earlier_of before (witness_of same (map name (take 0 all)) what)
       by all = earlier_of-none before
 
   -- after the last one
-  pub all_noted : (before : Option Witness) (number i : ℕ) (what : A) → length facts ≤ i
-      → earlier_of before (seen_in number (least_lines i what)) ≡ earlier_of before (seen_in number (least_line same (map name facts) what))
-  all_noted before number i what past = ap (λ all. earlier_of before (seen_in number (least_line same (map name all) what))) (take_all i facts past)
+  pub all_noted : (before : Option Witness) (i : ℕ) (what : A) → length rows ≤ i → earlier_of before (told_by i what) ≡ earlier_of before (witness_of same (map name rows) what)
+  all_noted before i what past = ap (λ all. earlier_of before (witness_of same (map name all) what)) (take_all i rows past)
 
-  module _ (once : AllPairs (λ e f. (name e).what ≢ (name f).what) facts) (i : ℕ) (d : F) (here : i < length facts) where
+  module _ (once : AllPairs (λ e f. (name e).what ≢ (name f).what) rows) (i : ℕ) (d : R) (here : i < length rows) where
     -- one of them is none of those before it
-    is_new : least_lines i (name (get_or facts i d)).what ≡ None
-    is_new =
-        least_line-none same (map name (take i facts)) (name (get_or facts i d)).what
-        (none_found (λ s. same (name (get_or facts i d)).what s.what) name i facts d
-        (λ k low in_range. false_from_ne_true _ (λ alike. once k i d low here (sym (equal (name (get_or facts i d)).what (name (get_or facts k d)).what alike)))))
-
-    still_new : (what : A) → same what (name (get_or facts i d)).what ≡ true → least_lines i what ≡ None
-    still_new what alike = ap (least_lines i) (equal what (name (get_or facts i d)).what alike) ∙ is_new
+    still_new : (what : A) → same what (name (get_or rows i d)).what ≡ true → find (λ m. same what m.what) (map name (take i rows)) ≡ None
+    still_new what alike =
+        none_found (λ m. same what m.what) name i rows d
+        (λ k low in_range. false_from_ne_true _ (λ other. once k i d low here (sym (equal what (name (get_or rows k d)).what other) ∙ equal what (name (get_or rows i d)).what alike)))
 
     -- one more is noted
-    pub one_noted : (before : Option Witness) (number line : ℕ) (what seen : A) → line ≡ (name (get_or facts i d)).line → seen ≡ (name (get_or facts i d)).what
-        → earlier_of (earlier_of before (seen_in number (least_lines i what))) (if same what seen then Some (record { number = number; line = line }) else None)
-        ≡ earlier_of before (seen_in number (least_lines (i + 1) what))
-    one_noted before number line what seen same_line same_seen =
-        (λ j. earlier_of (earlier_of before (seen_in number (least_lines i what))) (if same what (same_seen j) then Some (record { number = number; line = same_line j }) else None))
-        ∙ joined before number (least_lines i what) (name (get_or facts i d)).line (same what (name (get_or facts i d)).what) (still_new what)
-        ∙ ap (λ found. earlier_of before (seen_in number found)) (sym (least_line-push same (map name (take i facts)) (name (get_or facts i d)) what (still_new what)))
-        ∙ ap (λ xs. earlier_of before (seen_in number (least_line same xs what))) (sym (map-append name (take i facts) (get_or facts i d ∷ [])))
-        ∙ ap (λ xs. earlier_of before (seen_in number (least_line same (map name xs) what))) (sym (take_more facts i d here))
+    pub one_noted : (before : Option Witness) (what seen : A) (witness : Witness) → witness ≡ (name (get_or rows i d)).witness → seen ≡ (name (get_or rows i d)).what
+        → earlier_of (earlier_of before (told_by i what)) (if same what seen then Some witness else None) ≡ earlier_of before (told_by (i + 1) what)
+    one_noted before what seen witness same_witness same_seen =
+        (λ j. earlier_of (earlier_of before (told_by i what)) (if same what (same_seen j) then Some (same_witness j) else None))
+        ∙ joined before (find (λ m. same what m.what) (map name (take i rows))) (name (get_or rows i d)) (same what (name (get_or rows i d)).what) (still_new what)
+        ∙ ap (λ found. earlier_of before (option_map (λ (m : Met A). m.witness) found))
+        (sym (find-append (λ m. same what m.what) (map name (take i rows)) (name (get_or rows i d) ∷ [])))
+        ∙ ap (λ all. earlier_of before (witness_of same all what)) (sym (map-append name (take i rows) (get_or rows i d ∷ [])))
+        ∙ ap (λ all. earlier_of before (witness_of same (map name all) what)) (sym (take_more rows i d here))
 
 -- equal uses have equal names and bits
 pub same_use-true : (a b : Use) → same_use a b ≡ true → a ≡ b
 same_use-true a b same = (Decides-same_use a b).0 same
 
-module _ (known : Known) (is : IsKnown known) where
-  -- no two dependencies of a trace are the same
-  pub dependencies_once : AllPairs (λ e f. (named known.classes e).what ≢ (named known.classes f).what) known.edges
+module _ (batch : PlainBatch) (is : IsBatch batch) where
+  -- no two dependencies of a batch are the same
+  pub dependencies_once : AllPairs (λ e f. (named batch.classes e).what ≢ (named batch.classes f).what) batch.edges
   dependencies_once i j d before within same =
       let a = is.within i d (omega (arith, before, within)) in
       let b = is.within j d within in
       is.once i j d before within (
-        known_distinct known is (get_or known.edges i d).from (get_or known.edges j d).from (named known.classes (get_or known.edges j d)).what.from (a.0, ap (λ x. x.from) same) (b.0, refl),
-        known_distinct known is (get_or known.edges i d).to (get_or known.edges j d).to (named known.classes (get_or known.edges j d)).what.to (a.1, ap (λ x. x.to) same) (b.1, refl),
+        batch_distinct batch is (get_or batch.edges i d).from (get_or batch.edges j d).from (named batch.classes (get_or batch.edges j d)).what.from (a.0, ap (λ x. x.from) same) (b.0, refl),
+        batch_distinct batch is (get_or batch.edges i d).to (get_or batch.edges j d).to (named batch.classes (get_or batch.edges j d)).what.to (a.1, ap (λ x. x.to) same) (b.1, refl),
       )
 
   -- nor are two uses
-  pub uses_once : AllPairs (λ u v. (named_use known.classes u).what ≢ (named_use known.classes v).what) known.usage
+  pub uses_once : AllPairs (λ u v. (named_use batch.classes u).what ≢ (named_use batch.classes v).what) batch.usage
   uses_once i j d before within same =
       let a = is.used_within i d (omega (arith, before, within)) in
       let b = is.used_within j d within in
       is.used_once i j d before within (
-        known_distinct known is (get_or known.usage i d).class (get_or known.usage j d).class (named_use known.classes (get_or known.usage j d)).what.class (a.0, ap (λ x. x.class) same) (b.0, refl),
+        batch_distinct batch is (get_or batch.usage i d).class (get_or batch.usage j d).class (named_use batch.classes (get_or batch.usage j d)).what.class (a.0, ap (λ x. x.class) same) (b.0, refl),
         a.1 ∙ ap (λ x. usage_of x.bit) same ∙ sym b.1,
       )

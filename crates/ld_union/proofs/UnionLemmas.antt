@@ -16,7 +16,7 @@ use Rattle.ld_rules.specs.declared.outcome.Witness.{Witness}
 use Rattle.ld_facts.specs.Dependency.{Dependency, same_dependency}
 use Rattle.ld_facts.specs.Union.{earlier}
 use Rattle.ld_union.specs.declared.dependencies.Witnessed.{Witnessed}
-use Rattle.ld_union.specs.Inner.Names.{IsLonger}
+use Rattle.ld_batch.specs.Inner.Names.{IsLonger}
 use Rattle.ld_union.specs.Inner.Union.{AreBetween, AreWitnessed, earlier_of, edges_of, named_edge}
 
 -- equal dependencies have equal names

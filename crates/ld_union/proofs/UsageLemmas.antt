@@ -10,14 +10,14 @@ use Rattle.std.specs.List.{position_or_len}
 use Rattle.std.specs.Str.{bytes_eq}
 use Rattle.ld_class.specs.declared.usage.Usage.{Usage}
 use Rattle.ld_class.specs.Names.{AreDistinct, IsNameAt, place_of}
-use Rattle.ld_class.specs.Usage.{has_bit, in_hard, in_soft, on_hard, on_soft, union}
+use Rattle.ld_class.specs.Usage.{either, has_bit, in_hard, in_soft, no_bits, on_hard, on_soft}
 use Rattle.ld_class.proofs.NameLemmas.{place_of-at, place_of-Some}
 use Rattle.ld_trace.specs.declared.event.State.TheVariants.{Hard, Soft}
 use Rattle.ld_rules.specs.declared.outcome.Witness.{Witness}
 use Rattle.ld_facts.specs.Usage.{Bit, Use, same_bit, same_use, usage_of}
 use Rattle.ld_facts.specs.Usage.Bit.{In, On}
 use Rattle.ld_union.specs.declared.usage.UsageRow.{UsageRow}
-use Rattle.ld_union.specs.Inner.Names.{IsLonger}
+use Rattle.ld_batch.specs.Inner.Names.{IsLonger}
 use Rattle.ld_union.specs.Inner.Union.{AreUsed, earlier_of, of_class, with_bit, with_use}
 use Rattle.ld_union.specs.Usage.{bits, row_of, witnessed_bits}
 use Rattle.ld_union.proofs.UnionLemmas.{earlier_of-none, seen_cases}
@@ -35,11 +35,11 @@ abbrev these : Bool → Bit → List Bit → List Bit
 these there bit more = cond there (bit ∷ more) more
 
 abbrev set_by : Bool → Bool → Bool → Bool → Usage
-set_by a b c d = fold union (record { 0 = 0 }) (map usage_of (these a (In Hard) (these b (On Hard) (these c (In Soft) (these d (On Soft) [])))))
+set_by a b c d = fold either no_bits (map usage_of (these a (In Hard) (these b (On Hard) (these c (In Soft) (these d (On Soft) [])))))
 
 -- and one bit more
-one_more : (a b c d : Bool) → (union (set_by a b c d) in_hard ≡ set_by true b c d) × (union (set_by a b c d) on_hard ≡ set_by a true c d) ×
-    (union (set_by a b c d) in_soft ≡ set_by a b true d) × (union (set_by a b c d) on_soft ≡ set_by a b c true)
+one_more : (a b c d : Bool) → (either (set_by a b c d) in_hard ≡ set_by true b c d) × (either (set_by a b c d) on_hard ≡ set_by a true c d) ×
+    (either (set_by a b c d) in_soft ≡ set_by a b true d) × (either (set_by a b c d) on_soft ≡ set_by a b c true)
 one_more true true true true = (refl, refl, refl, refl)
 one_more true true true false = (refl, refl, refl, refl)
 one_more true true false true = (refl, refl, refl, refl)
@@ -102,7 +102,7 @@ module _ (first : Bit → Option Witness) (witness : Witness) where
       by None = refl
       by (Some known) = refl
 
-  bits_then : (bit : Bit) → union (witnessed_bits first) (usage_of bit) ≡ witnessed_bits (with_bit first bit witness)
+  bits_then : (bit : Bit) → either (witnessed_bits first) (usage_of bit) ≡ witnessed_bits (with_bit first bit witness)
   bits_then (In Hard) =
       (one_more (is_some (first (In Hard))) (is_some (first (On Hard))) (is_some (first (In Soft))) (is_some (first (On Soft)))).0
       ∙ (λ i. set_by (seen (In Hard) i) (kept (On Hard) i) (kept (In Soft) i) (kept (On Soft) i))
@@ -130,9 +130,9 @@ module _ (first : Bit → Option Witness) (witness : Witness) where
   -- the row then
   pub row_then : (bit : Bit) (row : UsageRow) (place : ℕ) (earliest : Option Witness) → row ≡ row_of first → place ≡ position_or_len (same_bit bit)
       bits → earliest ≡ earlier_of (get_or row.first place None) (Some witness)
-      → ◌≡◌ {A = UsageRow} (record { bits = union row.bits (usage_of bit); first = set row.first place earliest }) (row_of (with_bit first bit witness))
+      → ◌≡◌ {A = UsageRow} (record { bits = either row.bits (usage_of bit); first = set row.first place earliest }) (row_of (with_bit first bit witness))
   row_then bit row place earliest is at least =
-      (λ i. record { bits = union (is i).bits (usage_of bit); first = set (is i).first (at i) ((least ∙ (λ j. earlier_of (get_or (is j).first (at j) None) (Some witness))) i) })
+      (λ i. record { bits = either (is i).bits (usage_of bit); first = set (is i).first (at i) ((least ∙ (λ j. earlier_of (get_or (is j).first (at j) None) (Some witness))) i) })
       ∙ (λ i. record { bits = bits_then bit i; first = witnesses_then bit i })
 
 module _ (classes : List (List ℕ)) (rows : List UsageRow) (first : Use → Option Witness) (used : AreUsed classes rows first) where

@@ -1,6 +1,5 @@
 -- What only invariants and proofs cite, and what the crates that make up a book say to one another: a
 -- reader of the promises needs none of it.
-pub mod Names
 pub mod States
 pub mod Bits
 pub mod Reached

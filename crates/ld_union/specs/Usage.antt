@@ -3,7 +3,7 @@ use Rattle.std.specs.Prelude.{List, [], ◌∷◌, ℕ, map, filter, fold, Optio
 use Rattle.std.specs.Option.{is_some}
 use Rattle.ld_class.specs.declared.usage.Usage.{Usage}
 use Rattle.ld_class.specs.Names.{place_of}
-use Rattle.ld_class.specs.Usage.{union}
+use Rattle.ld_class.specs.Usage.{either, no_bits}
 use Rattle.ld_trace.specs.declared.event.State.TheVariants.{Hard, Soft}
 use Rattle.ld_trace.specs.Sources.{PlainSource}
 use Rattle.ld_rules.specs.declared.outcome.Witness.{Witness}
@@ -18,7 +18,7 @@ bits = In Hard ∷ On Hard ∷ In Soft ∷ On Soft ∷ []
 
 -- the set of the bits that have a witness
 abbrev pub witnessed_bits : (Bit → Option Witness) → Usage
-witnessed_bits first = fold union (record { 0 = 0 }) (map usage_of (filter (λ bit. is_some (first bit)) bits))
+witnessed_bits first = fold either no_bits (map usage_of (filter (λ bit. is_some (first bit)) bits))
 
 -- the row of a class each of whose bits was first seen there
 abbrev pub row_of : (Bit → Option Witness) → UsageRow

@@ -2,7 +2,7 @@
 //! they lead.
 ghost use Rattle.std.specs.Prelude.{◌≡◌, ℕ, ◌+◌, ◌<◌, ◌≤◌, List, Option, OnErr, OnOk, [], All};
 ghost use Rattle.std.specs.Prelude.{length, take, vec_len, vec_capacity};
-ghost use Rattle.ld_graph.specs.declared.graph.TheConstants.{MOST_CLASSES};
+ghost use Rattle.ld_graph.specs.declared.graph.TheConstants.{MOST_GRAPH_CLASSES};
 ghost use Rattle.ld_trace.specs.declared.event.State.{State};
 ghost use Rattle.ld_graph.specs.Edges.{IsEdge};
 ghost use Rattle.ld_reach.specs.Reach.{IsReach, no_reach};
@@ -10,18 +10,19 @@ ghost use Rattle.ld_union.specs.Inner.Reached.{AreInFront, HaveClasses, IsSeeded
 ghost use Rattle.ld_union.specs.Inner.States.{of_state};
 ghost use Rattle.ld_graph.specs.Edges.{empty_graph, with_spares};
 ghost use Rattle.ld_facts.specs.Dependency.{Dependency};
-ghost use Rattle.ld_facts.specs.Facts.{IsKnown};
 ghost use Rattle.ld_facts.specs.Usage.{IsBit};
-ghost use Rattle.ld_facts.specs.Union.{dependencies_of};
-ghost use Rattle.ld_union.specs.Inner.Names.{ArePlaces};
+ghost use Rattle.ld_facts.specs.Union.{dependency_witness};
+ghost use Rattle.ld_batch.specs.Batch.{IsBatch};
+ghost use Rattle.ld_batch.specs.Inner.Names.{ArePlaces};
 ghost use Rattle.ld_graph.specs.Edges.{PlainGraph};
 ghost use Rattle.ld_graph.specs.Order.{IsInserted};
 ghost use Rattle.ld_union.specs.Inner.Union.{AreBetween, AreWitnessed, IsCycleEdge, edges_of, named_edge};
-ghost use Rattle.ld_union.specs.Inner.Union.{with_dependencies, with_seen};
+ghost use Rattle.ld_union.specs.Inner.Union.{with_first, with_seen};
 
 use crate::news::NewBit;
 use crate::states::PerState;
-use ld_facts::{Facts, Witness};
+use ld_batch::Batch;
+use ld_facts::Witness;
 use ld_graph::{Edge, Graph, Insert};
 use ld_reach::Reach;
 use std::alloc::{AllocError, Global};
@@ -69,7 +70,7 @@ impl Dependencies {
     ///
     /// `AllocError` where memory was refused. Nothing has changed in either case but spares.
     pub(crate) fn room(&mut self, classes: usize, edges: usize) -> Result<(), AllocError>
-        requires classes { self.old.graph.classes + classes ≤ MOST_CLASSES }
+        requires classes { self.old.graph.classes + classes ≤ MOST_GRAPH_CLASSES }
         requires reach { HaveClasses self.old.graph.classes self.old.reach }
         ensures graph { self.new.graph
             ≡ with_spares self.old.graph self.new.graph.spare_classes self.new.graph.spare_edges }
@@ -118,17 +119,17 @@ impl Dependencies {
         }
     }
 
-    /// Notes the dependencies of a trace whose classes have these numbers, each where it was seen
+    /// Notes the dependencies of a batch whose classes have these numbers, each where it was seen
     /// first.
-    pub(crate) fn add(&mut self, facts: &Facts<'_>, places: &[u32])
+    pub(crate) fn add(&mut self, batch: &Batch<'_>, places: &[u32])
         requires edges { self.old.graph.edges ≡ edges_of self.old.rows.items }
-        requires count { length places.now ≡ length facts.now.classes }
+        requires count { length places.now ≡ length batch.now.classes }
         requires within { All (λ place. place < self.old.graph.classes) places.now }
         requires reach { HaveClasses self.old.graph.classes self.old.reach }
-        requires spare_edges { length facts.now.edges ≤ self.old.graph.spare_edges }
-        requires spare_rows { vec_len self.old.rows + length facts.now.edges
+        requires spare_edges { length batch.now.edges ≤ self.old.graph.spare_edges }
+        requires spare_rows { vec_len self.old.rows + length batch.now.edges
             ≤ vec_capacity self.old.rows }
-        ensures known { IsKnown facts.now }
+        ensures known { IsBatch batch.now }
         ensures classes { self.new.graph.classes ≡ self.old.graph.classes }
         ensures edges { self.new.graph.edges ≡ edges_of self.new.rows.items }
         ensures front { take (length self.old.rows.items) (edges_of self.new.rows.items)
@@ -143,24 +144,18 @@ impl Dependencies {
             → AreBetween classes self.old.rows.items → AreBetween classes self.new.rows.items }
         ensures witnesses { (classes : List (List ℕ)) → length classes ≡ self.old.graph.classes
             → AreBetween classes self.old.rows.items
-            → ArePlaces classes facts.now.classes places.now
+            → ArePlaces classes batch.now.classes places.now
             → (first : Dependency → Option Witness)
             → AreWitnessed classes self.old.rows.items first
             → AreWitnessed classes self.new.rows.items
-            (with_dependencies first facts.now.source.number
-            (dependencies_of facts.now.source)) }
+            (with_first first (dependency_witness batch.now.sources)) }
     {
-        let number = facts.source().number;
-        for seen in facts.edges() {
+        for seen in batch.edges() {
             let edge = Edge {
                 from: places[seen.from as usize],
                 to: places[seen.to as usize],
             };
-            let witness = Witness {
-                number,
-                line: seen.line,
-            };
-            self.note(edge, witness);
+            self.note(edge, seen.witness);
         }
     }
 

@@ -3,7 +3,6 @@
 #![tactic(auto)]
 
 mod dependencies;
-mod names;
 mod news;
 mod reaches;
 mod states;

@@ -17,13 +17,13 @@ pub struct NewBit {
     pub bit: Usage,
 }
 
-/// What was new to a union in the trace that was added last: usage bits, and for each state the classes
-/// that were reached from a place on. It keeps its memory for the next trace.
+/// What was new to a union in the batch that was added last: usage bits, and for each state the classes
+/// that were reached from a place on. It keeps its memory for the next one.
 #[derive(Drop)]
 pub struct News {
     pub(crate) bits: Vec<NewBit>,
     pub(crate) first_reached: PerState<usize>,
-    /// The numbers of the trace's classes, by their places in the trace.
+    /// The numbers of the batch's classes, by their places in the batch.
     pub(crate) places: Vec<u32>,
 }
 

@@ -2,7 +2,7 @@
 ghost use Rattle.std.specs.Prelude.{◌≡◌, ◌++◌, ◌∷◌, [], ℕ, List, ◌+◌, ◌<◌, ◌≤◌};
 ghost use Rattle.std.specs.Prelude.{All, Contains, IsSome, OnOk, length};
 ghost use Rattle.ld_graph.specs.Edges.{IsEdge};
-ghost use Rattle.ld_graph.specs.declared.graph.TheConstants.{MOST_CLASSES};
+ghost use Rattle.ld_graph.specs.declared.graph.TheConstants.{MOST_GRAPH_CLASSES};
 ghost use Rattle.ld_reach.specs.Reach.{IsReach, no_reach, source_of, with_unreached};
 ghost use Rattle.ld_facts.specs.Usage.{IsBit};
 ghost use Rattle.ld_union.specs.Inner.Reached.{AreInFront, HaveClasses, IsSeeded, StayExact};
@@ -33,8 +33,8 @@ impl PerState<Reach> {
     ///
     /// `AllocError` where memory was refused. Nothing has changed in either case but spares.
     pub(crate) fn room(&mut self, classes: usize) -> Result<(), AllocError>
-        requires hard { length self.old.hard.marks + classes ≤ MOST_CLASSES }
-        requires soft { length self.old.soft.marks + classes ≤ MOST_CLASSES }
+        requires hard { length self.old.hard.marks + classes ≤ MOST_GRAPH_CLASSES }
+        requires soft { length self.old.soft.marks + classes ≤ MOST_GRAPH_CLASSES }
         ensures hard { self.new.hard ≡ record self.old.hard { spare = self.new.hard.spare } }
         ensures soft { self.new.soft ≡ record self.old.soft { spare = self.new.soft.spare } }
         ensures spare_hard { OnOk result (classes ≤ self.new.hard.spare) }

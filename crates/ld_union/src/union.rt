@@ -1,7 +1,7 @@
 //! What some traces show together, with numbers for their classes.
 ghost use Rattle.std.specs.Prelude.{◌≡◌, ◌↔◌, ℕ, ◌+◌, ◌<◌, ◌≤◌, [], ◌∷◌, Option};
 ghost use Rattle.std.specs.Prelude.{length, All, Contains, MatchOption, OnErr, OnOk};
-ghost use Rattle.ld_class.specs.declared.names.TheConstants.{MAX_NAMES};
+ghost use Rattle.ld_class.specs.declared.names.TheConstants.{MOST_NAMES};
 ghost use Rattle.ld_facts.specs.Dependency.{Dependency};
 ghost use Rattle.ld_facts.specs.Usage.{Use};
 ghost use Rattle.ld_union.specs.Inner.News.{Tells};
@@ -12,11 +12,11 @@ ghost use Rattle.ld_union.specs.Inner.Union.{IsCycleEdge, known_row};
 ghost use Rattle.ld_union.specs.Usage.{bits_of};
 
 use crate::dependencies::{Dependencies, Witnessed};
-use crate::names::intern_all;
 use crate::news::News;
 use crate::usage::{UsageRow, add_usage};
+use ld_batch::{Batch, intern_all};
 use ld_class::Classes;
-use ld_facts::{Facts, Witness};
+use ld_facts::Witness;
 use ld_graph::{Edge, Graph};
 use ld_trace::State;
 use std::alloc::{AllocError, Global};
@@ -69,32 +69,32 @@ impl<'a> Union<'a> {
         }
     }
 
-    /// Adds what a trace shows, and tells over `news` what of it is new.
+    /// Adds what the traces of a batch show, and writes over `news` what of it is new.
     ///
     /// # Errors
     ///
     /// `AllocError` where a growth of memory was refused. Nothing has changed then but spare memory
     /// and `news`.
-    pub fn add(&mut self, facts: &Facts<'a>, news: &mut News) -> Result<(), AllocError>
-        requires { length self.old.classes + length facts.now.classes ≤ MAX_NAMES }
-        ensures added { OnOk result (Adds (facts.now.source ∷ []) self.old self.new) }
+    pub fn add(&mut self, batch: &Batch<'a>, news: &mut News) -> Result<(), AllocError>
+        requires { length self.old.classes + length batch.now.classes ≤ MOST_NAMES }
+        ensures added { OnOk result (Adds batch.now.sources self.old self.new) }
         ensures told { OnOk result (Tells self.old self.new news.new) }
         ensures refused { OnErr result (self.new ≡ self.old) }
     {
         news.first_reached = self.dependencies.reach.counts();
-        let classes = facts.classes().len();
-        self.dependencies.room(classes, facts.edges().len())?;
+        let classes = batch.classes().len();
+        self.dependencies.room(classes, batch.edges().len())?;
         self.usage.reserve(classes)?;
         news.bits.clear();
-        news.bits.reserve(facts.usage().len())?;
-        intern_all(&mut self.classes, facts.classes(), &mut news.places)?;
+        news.bits.reserve(batch.usage().len())?;
+        intern_all(&mut self.classes, batch.classes(), &mut news.places)?;
         // From here on nothing is refused.
         self.dependencies.enter_classes(self.classes.len());
         let Ok(()) = self.usage.resize(self.classes.len(), UsageRow::unused()) else {
             unreachable!()
         };
-        self.dependencies.add(facts, &news.places);
-        add_usage(&mut self.usage, facts, &news.places, &mut news.bits);
+        self.dependencies.add(batch, &news.places);
+        add_usage(&mut self.usage, batch, &news.places, &mut news.bits);
         self.dependencies.seed_all(&news.bits);
         Ok(())
     }
@@ -102,7 +102,7 @@ impl<'a> Union<'a> {
     /// The classes, by their numbers. Takes no memory.
     pub fn classes(&self) -> &Classes<'a>
         ensures same { result.now ≡ self.now.classes }
-        ensures few { length self.now.classes ≤ MAX_NAMES }
+        ensures few { length self.now.classes ≤ MOST_NAMES }
     {
         &self.classes
     }
@@ -120,7 +120,7 @@ impl<'a> Union<'a> {
     pub fn usage(&self) -> &[UsageRow]
         ensures same { result.now ≡ self.now.usage }
         ensures rows { length self.now.usage ≡ length self.now.classes }
-        ensures few { length self.now.classes ≤ MAX_NAMES }
+        ensures few { length self.now.classes ≤ MOST_NAMES }
     {
         &self.usage
     }

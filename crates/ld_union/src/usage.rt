@@ -4,18 +4,19 @@ ghost use Rattle.std.specs.Prelude.{length, slice_index_or, vec_len, vec_capacit
 ghost use Rattle.std.specs.Bool.{OnFalse, OnTrue};
 ghost use Rattle.std.specs.List.{position_or_len};
 ghost use Rattle.ld_class.specs.Names.{AreDistinct};
-ghost use Rattle.ld_class.specs.Usage.{has_bit, union};
-ghost use Rattle.ld_facts.specs.Union.{uses_of};
+ghost use Rattle.ld_class.specs.Usage.{either, has_bit};
+ghost use Rattle.ld_facts.specs.Union.{use_witness};
 ghost use Rattle.ld_facts.specs.Usage.{Bit, IsBit, Use, bit_of, same_bit};
-ghost use Rattle.ld_union.specs.Inner.Names.{ArePlaces};
+ghost use Rattle.ld_batch.specs.Inner.Names.{ArePlaces};
 ghost use Rattle.ld_union.specs.Inner.News.{TellsBits};
-ghost use Rattle.ld_union.specs.Inner.Union.{AreUsed, with_bit, with_use, with_uses};
+ghost use Rattle.ld_union.specs.Inner.Union.{AreUsed, with_bit, with_first, with_use};
 ghost use Rattle.ld_union.specs.Usage.{bits, bits_of, row_of};
 
 use crate::news::NewBit;
 use bitflags::Flags;
+use ld_batch::Batch;
 use ld_class::Usage;
-use ld_facts::{Facts, Witness};
+use ld_facts::Witness;
 
 /// The usage of a class, over all traces.
 #[derive(Clone, Copy, Debug, PartialEq, Eq)]
@@ -42,7 +43,7 @@ impl UsageRow {
         requires { IsBit bit }
         ensures noted { (first : Bit → Option Witness) → self.old ≡ row_of first
             → self.new ≡ row_of (with_bit first (bit_of bit) witness) }
-        ensures bits { self.new.bits ≡ union self.old.bits bit }
+        ensures bits { self.new.bits ≡ either self.old.bits bit }
         ensures new { OnTrue result (has_bit self.old.bits bit ≡ false) }
         ensures known { OnFalse result (has_bit self.old.bits bit ≡ true) }
     {
@@ -75,37 +76,31 @@ fn place_of(bit: Usage) -> usize
     bit.bits().trailing_zeros() as usize
 }
 
-/// Notes the usage of a trace whose classes have these numbers, each bit of a class where it was seen
+/// Notes the usage of a batch whose classes have these numbers, each bit of a class where it was seen
 /// first, and tells the bits that are new.
 pub(crate) fn add_usage(
     rows: &mut [UsageRow],
-    facts: &Facts<'_>,
+    batch: &Batch<'_>,
     places: &[u32],
     bits: &mut Vec<NewBit>,
 )
-    requires count { length places.now ≡ length facts.now.classes }
+    requires count { length places.now ≡ length batch.now.classes }
     requires within { All (λ place. place < length rows.old) places.now }
     requires none { bits.old.items ≡ [] }
-    requires room { vec_len bits.old + length facts.now.usage ≤ vec_capacity bits.old }
+    requires room { vec_len bits.old + length batch.now.usage ≤ vec_capacity bits.old }
     ensures len { length rows.new ≡ length rows.old }
     ensures used { (classes : List (List ℕ)) → AreDistinct classes
-        → ArePlaces classes facts.now.classes places.now
+        → ArePlaces classes batch.now.classes places.now
         → (first : Use → Option Witness) → AreUsed classes rows.old first
-        → AreUsed classes rows.new
-        (with_uses first facts.now.source.number (uses_of facts.now.source)) }
+        → AreUsed classes rows.new (with_first first (use_witness batch.now.sources)) }
     ensures told { TellsBits (bits_of rows.old) (bits_of rows.new) bits.new.items }
 {
-    let number = facts.source().number;
-    for seen in facts.usage() {
+    for seen in batch.usage() {
         let shown = NewBit {
             class: places[seen.class as usize],
             bit: seen.bit,
         };
-        let witness = Witness {
-            number,
-            line: seen.line,
-        };
-        note_use(rows, shown, witness, bits);
+        note_use(rows, shown, seen.witness, bits);
     }
 }
 

@@ -2,7 +2,7 @@
 use Rattle.std.specs.Prelude.{◌≡◌, ◌+◌, ◌⊎◌, false, List, [], ◌∷◌, ◌++◌, length}
 use Rattle.std.specs.List.{sum_by}
 use Rattle.ld_trace.specs.Sources.{PlainSource}
-use Rattle.ld_book.specs.Book.{is_listed}
+use Rattle.ld_book.specs.Book.{is_any_listed}
 use Rattle.ld_book.specs.Totals.{events}
 use Rattle.ld_work.specs.declared.feeder.Tally.{Tally}
 
@@ -21,14 +21,14 @@ sum_of tallies = record {
   events = sum_by (λ t. t.events) tallies;
 }
 
--- The source's number wasn't listed. The list has the source at its end, and the feeder's tally has
--- risen by the one trace and its events (none where it is refused).
-pub record IsSubmitted (source : PlainSource) (list list' : List PlainSource) (tally tally' : Tally) : Type 0 where
-  pub unlisted : is_listed list source.number ≡ false
-  pub listed : list' ≡ list ++ source ∷ []
-  pub counted : tally' ≡ plus tally (tally_of (source ∷ []))
+-- None of the numbers of the sources was listed. The list has the sources at its end, and the feeder's tally
+-- has risen by so many traces and their events (none of one that is refused).
+pub record IsSubmitted (sources list list' : List PlainSource) (tally tally' : Tally) : Type 0 where
+  pub unlisted : is_any_listed list sources ≡ false
+  pub listed : list' ≡ list ++ sources
+  pub counted : tally' ≡ plus tally (tally_of sources)
 
--- an event of the desk machine, by one feeder: it adds a source, or nothing changes
+-- an event of the desk machine, by one feeder: it adds some sources, or nothing changes
 abbrev pub IsEvent : List PlainSource → List PlainSource → Tally → Tally → Type 0
 IsEvent list list' tally tally' =
-    ((list' ≡ list) × (tally' ≡ tally)) ⊎ ((source : PlainSource) × IsSubmitted source list list' tally tally')
+    ((list' ≡ list) × (tally' ≡ tally)) ⊎ ((sources : List PlainSource) × IsSubmitted sources list list' tally tally')

@@ -1,12 +1,12 @@
 //! A book behind a lock, which several threads feed.
-ghost use Rattle.std.specs.Prelude.{◌≡◌, ◌≢◌, ◌≤◌, ◌↔◌, [], true, false, length, All, Err};
+ghost use Rattle.std.specs.Prelude.{◌≡◌, ◌≢◌, ◌≤◌, ◌<◌, ◌+◌, ◌^◌, ◌↔◌, ◌∷◌, [], true, false, length, All, Err};
 ghost use Rattle.std.specs.Prelude.{IfErr, IfOk, IsErr, OnErr, OnOk};
-ghost use Rattle.ld_book.specs.Book.{is_listed};
+ghost use Rattle.ld_book.specs.Book.{is_any_listed, is_listed};
 ghost use Rattle.ld_book.specs.Totals.{events};
-ghost use Rattle.ld_work.specs.Desk.{IsSubmitted, IsEvent, sum_of, tally_of};
+ghost use Rattle.ld_work.specs.Desk.{IsEvent, IsSubmitted, plus, sum_of, tally_of};
 
 use crate::feeder::{Feeder, MOST_FEEDERS, Tally};
-use ld_book::{Book, Refusal};
+use ld_book::{Batch, BatchRefusal, Book, Refusal, Totals};
 use ld_facts::Facts;
 use std::alloc::{AllocError, Global};
 use std::marker::Model;
@@ -43,7 +43,7 @@ impl<'a, T: Ledger, E: Ledger> Locked<'a, T, E> {
     /// Adds a trace to the book, and to the tally of the feeder.
     fn submit(&mut self, feeder: &mut Feeder<T, E>, facts: Facts<'a>) -> Result<(), Refusal<'a>>
         ensures ok { OnOk result
-            (IsSubmitted facts.entry.source self.old self.new feeder.old feeder.new) }
+            (IsSubmitted (facts.entry.source ∷ []) self.old self.new feeder.old feeder.new) }
         ensures err { OnErr result (self.new ≡ self.old) }
         ensures not_counted { OnErr result (feeder.new ≡ feeder.old) }
         ensures twice { is_listed self.old facts.entry.source.number ≡ true
@@ -51,16 +51,32 @@ impl<'a, T: Ledger, E: Ledger> Locked<'a, T, E> {
         ensures memory { is_listed self.old facts.entry.source.number ≡ false
             → OnErr result (result ≡ Err (Refusal.Memory facts.entry)) }
     {
-        let before = self.book.totals().events;
+        let before = self.book.totals();
         self.book.add(facts)?;
-        let events = self.book.totals().events - before;
-        self.trace_sum.add(&mut feeder.traces, 1);
-        self.event_sum.add(&mut feeder.events, events);
-        // What a feeder added is no more than the book's totals, so its tally can't overflow.
-        self.trace_sum.audit(&mut feeder.traces);
-        self.event_sum.audit(&mut feeder.events);
-        feeder.tally.traces += 1;
-        feeder.tally.events += events;
+        let more = added_since(before, self.book.totals());
+        count(&mut self.trace_sum, &mut self.event_sum, feeder, more);
+        Ok(())
+    }
+
+    /// Adds the traces of a batch to the book, and to the tally of the feeder.
+    fn submit_batch(
+        &mut self,
+        feeder: &mut Feeder<T, E>,
+        batch: Batch<'a>,
+    ) -> Result<(), BatchRefusal<'a>>
+        ensures ok { OnOk result
+            (IsSubmitted batch.entry.sources self.old self.new feeder.old feeder.new) }
+        ensures err { OnErr result (self.new ≡ self.old) }
+        ensures not_counted { OnErr result (feeder.new ≡ feeder.old) }
+        ensures twice { is_any_listed self.old batch.entry.sources ≡ true
+            → result ≡ Err (BatchRefusal.Twice batch.entry) }
+        ensures memory { is_any_listed self.old batch.entry.sources ≡ false
+            → OnErr result (result ≡ Err (BatchRefusal.Memory batch.entry)) }
+    {
+        let before = self.book.totals();
+        self.book.add_batch(batch)?;
+        let more = added_since(before, self.book.totals());
+        count(&mut self.trace_sum, &mut self.event_sum, feeder, more);
         Ok(())
     }
 
@@ -225,7 +241,7 @@ impl<'d, 'a, T: Ledger, E: Ledger> Look<'d, 'a, T, E> {
     /// Those of `Book::add`: the facts come back, and the book and the tally are as before.
     pub fn submit(&mut self, feeder: &mut Feeder<T, E>, facts: Facts<'a>) -> Result<(), Refusal<'a>>
         ensures ok { OnOk result
-            (IsSubmitted facts.entry.source self.old self.new feeder.old feeder.new) }
+            (IsSubmitted (facts.entry.source ∷ []) self.old self.new feeder.old feeder.new) }
         ensures err { OnErr result (self.new ≡ self.old) }
         ensures not_counted { OnErr result (feeder.new ≡ feeder.old) }
         ensures twice { is_listed self.old facts.entry.source.number ≡ true
@@ -235,6 +251,30 @@ impl<'d, 'a, T: Ledger, E: Ledger> Look<'d, 'a, T, E> {
         ensures event { IsEvent self.old self.new feeder.old feeder.new }
     {
         self.guard.submit(feeder, facts)
+    }
+
+    /// Adds the traces of a batch to the desk's book, as `Book::add_batch` does, and counts them in the
+    /// feeder's tally.
+    ///
+    /// # Errors
+    ///
+    /// Those of `Book::add_batch`: the batch comes back, and the book and the tally are as before.
+    pub fn submit_batch(
+        &mut self,
+        feeder: &mut Feeder<T, E>,
+        batch: Batch<'a>,
+    ) -> Result<(), BatchRefusal<'a>>
+        ensures ok { OnOk result
+            (IsSubmitted batch.entry.sources self.old self.new feeder.old feeder.new) }
+        ensures err { OnErr result (self.new ≡ self.old) }
+        ensures not_counted { OnErr result (feeder.new ≡ feeder.old) }
+        ensures twice { is_any_listed self.old batch.entry.sources ≡ true
+            → result ≡ Err (BatchRefusal.Twice batch.entry) }
+        ensures memory { is_any_listed self.old batch.entry.sources ≡ false
+            → OnErr result (result ≡ Err (BatchRefusal.Memory batch.entry)) }
+        ensures event { IsEvent self.old self.new feeder.old feeder.new }
+    {
+        self.guard.submit_batch(feeder, batch)
     }
 
     /// Changes nothing, and tells that the book has at least the traces and the events that this
@@ -247,6 +287,41 @@ impl<'d, 'a, T: Ledger, E: Ledger> Look<'d, 'a, T, E> {
     {
         self.guard.covers(feeder)
     }
+}
+
+/// How many traces and events a book has more than it had.
+fn added_since(before: Totals, now: Totals) -> Tally
+    requires traces { before.traces ≤ now.traces }
+    requires events { before.events ≤ now.events }
+    ensures traces { before.traces + result.traces ≡ now.traces }
+    ensures events { before.events + result.events ≡ now.events }
+{
+    Tally {
+        traces: now.traces - before.traces,
+        events: now.events - before.events,
+    }
+}
+
+/// Counts these traces and events in the feeder's tally, and in the sums of all feeders.
+fn count<T: Ledger, E: Ledger>(
+    trace_sum: &mut ledger::Book<T>,
+    event_sum: &mut ledger::Book<E>,
+    feeder: &mut Feeder<T, E>,
+    more: Tally,
+)
+    requires traces { trace_sum.old.total + more.traces < 2 ^ 64 }
+    requires events { event_sum.old.total + more.events < 2 ^ 64 }
+    ensures traces { trace_sum.new.total ≡ trace_sum.old.total + more.traces }
+    ensures events { event_sum.new.total ≡ event_sum.old.total + more.events }
+    ensures feeder { feeder.new ≡ plus feeder.old more }
+{
+    trace_sum.add(&mut feeder.traces, more.traces);
+    event_sum.add(&mut feeder.events, more.events);
+    // What a feeder added is no more than the sums of all, so its tally can't overflow.
+    trace_sum.audit(&mut feeder.traces);
+    event_sum.audit(&mut feeder.events);
+    feeder.tally.traces += more.traces;
+    feeder.tally.events += more.events;
 }
 
 /// The book's traces and events, which are what these shares of the two sums have, since they are whole.

@@ -1,5 +1,6 @@
 //! Reads traces by several workers at once.
-ghost use Rattle.std.specs.Prelude.{◌≡◌, ◌≤◌, ◌<◌, ℕ, All, Err, IfOk, OnOk, length, map};
+ghost use Rattle.std.specs.Prelude.{◌≡◌, ◌≤◌, ◌<◌, ℕ, [], None, All, Err, IfOk, IfSome, OnOk, length, map};
+ghost use Rattle.std.specs.List.{last_or};
 ghost use Rattle.ld_trace.specs.Sources.{AreNumbered, Fits, plain};
 ghost use Rattle.ld_tickets.specs.Draw.{IsSeatOf};
 ghost use Rattle.ld_work.specs.Work.{IsUneven, ListsEachOnce};
@@ -8,16 +9,15 @@ use crate::desk::Desk;
 use crate::even::uneven;
 use crate::feeder::{Feeder, MOST_FEEDERS};
 use crate::gate::Gate;
-use ld_book::{Book, Refusal};
-use ld_facts::facts;
+use ld_book::{Batch, BatchRefusal, Book};
 use ld_tickets::{DrawSeat, Tickets};
 use ld_trace::{MOST_TRACES, Source};
 use std::alloc::{AllocError, Global};
 use std::marker::Brand;
 use std::sync::Wait;
 use std::sync::ledger::{Blank, Ledger};
-use std::thread;
 use std::thread::Threads;
+use std::{mem, thread};
 use thiserror::Error;
 
 /// Why the work gave no book.
@@ -42,6 +42,9 @@ impl From<AllocError> for WorkFault {
         WorkFault::Memory
     }
 }
+
+/// How many traces a worker reads before it hands them on together.
+const MOST_IN_BATCH: usize = 8;
 
 /// What a worker begins with.
 #[derive(Drop)]
@@ -145,6 +148,7 @@ fn feed<
 ) -> Result<Vec<Feeder<T, E>>, AllocError>
     requires some { (1 ≤ length feeders.items) × (length feeders.items ≤ MOST_FEEDERS) }
     requires few { length sources.now ≤ MOST_TRACES }
+    requires numbered { AreNumbered (map plain sources.now) }
     requires fit { All (λ source. Fits (plain source)) sources.now }
     ensures { IfOk result (λ fed. length fed.items ≡ length feeders.items) }
 {
@@ -214,6 +218,7 @@ fn run<
 ) -> Result<Vec<Done<T, E>>, AllocError>
     requires numbers { tickets.now.n ≡ length sources.now }
     requires seats { All (λ job. IsSeatOf tickets.now job.seat) jobs.items }
+    requires numbered { AreNumbered (map plain sources.now) }
     requires fit { All (λ source. Fits (plain source)) sources.now }
     ensures { IfOk result (λ done. length done.items ≡ length jobs.items) }
 {
@@ -224,7 +229,8 @@ fn run<
     )
 }
 
-/// Does one job: draws the numbers of traces and reads these, until none is left or memory is refused.
+/// Does one job: draws the numbers of traces, reads these and hands them on, until none is left or
+/// memory is refused.
 fn run_one<'a, T: Ledger, E: Ledger, G: Gate, R: Wait>(
     rt: &R,
     alloc: Global,
@@ -236,6 +242,7 @@ fn run_one<'a, T: Ledger, E: Ledger, G: Gate, R: Wait>(
 ) -> Done<T, E>
     requires numbers { tickets.now.n ≡ length sources.now }
     requires seat { IsSeatOf tickets.now job.seat }
+    requires numbered { AreNumbered (map plain sources.now) }
     requires fit { All (λ source. Fits (plain source)) sources.now }
 {
     let Job {
@@ -243,31 +250,59 @@ fn run_one<'a, T: Ledger, E: Ledger, G: Gate, R: Wait>(
         mut feeder,
         mut seat,
     } = job;
+    let mut batch = Batch::new(alloc);
     let mut refused = false;
     while let Some(number) = tickets.draw(&mut seat) {
         gate.pass(worker as u64, number);
-        refused = submit(rt, alloc, desk, sources[number as usize], &mut feeder).is_err();
+        let source = sources[number as usize];
+        refused = read(rt, alloc, desk, source, &mut batch, &mut feeder).is_err();
         if refused {
             break;
         }
     }
+    if !refused && !batch.listed().is_empty() {
+        refused = submit(rt, alloc, desk, &mut batch, &mut feeder).is_err();
+    }
+    drop(batch);
     Done { feeder, refused }
 }
 
-/// Reads a trace, and adds it to the desk's book, unless its number is listed.
-fn submit<'a, T: Ledger, E: Ledger, R: Wait>(
+/// Reads a trace into the batch, and hands on a batch of `MOST_IN_BATCH` traces.
+fn read<'a, T: Ledger, E: Ledger, R: Wait>(
     rt: &R,
     alloc: Global,
     desk: &Desk<'a, T, E>,
     source: Source<'a>,
+    batch: &mut Batch<'a>,
     feeder: &mut Feeder<T, E>,
 ) -> Result<(), AllocError>
-    requires { Fits (plain source) }
+    requires fits { Fits (plain source) }
+    requires above { IfSome (last_or None batch.old.sources) (λ last. last.number < source.number) }
+    ensures { OnOk result
+        (IfSome (last_or None batch.new.sources) (λ last. last.number ≡ source.entry.number)) }
 {
     // Read before the lock is taken, so that the workers read at the same time.
-    let facts = facts(alloc, source)?;
-    let answer = desk.look(rt).submit(feeder, facts);
-    let is_refused = matches!(answer, Err(Refusal::Memory(_)));
+    batch.push(alloc, source)?;
+    if batch.listed().len() < MOST_IN_BATCH {
+        return Ok(());
+    }
+    submit(rt, alloc, desk, batch, feeder)
+}
+
+/// Adds the traces of the batch to the desk's book, unless one of their numbers is listed, and leaves
+/// a batch without traces.
+fn submit<'a, T: Ledger, E: Ledger, R: Wait>(
+    rt: &R,
+    alloc: Global,
+    desk: &Desk<'a, T, E>,
+    batch: &mut Batch<'a>,
+    feeder: &mut Feeder<T, E>,
+) -> Result<(), AllocError>
+    ensures { batch.new.sources ≡ [] }
+{
+    let full = mem::replace(batch, Batch::new(alloc));
+    let answer = desk.look(rt).submit_batch(feeder, full);
+    let is_refused = matches!(answer, Err(BatchRefusal::Memory(_)));
     drop(answer);
     if is_refused { Err(AllocError) } else { Ok(()) }
 }

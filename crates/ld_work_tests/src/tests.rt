@@ -2,7 +2,7 @@
 ghost use Rattle.std.specs.Prelude.{◌≡◌, ◌≤◌, All, IfOk, length, map};
 ghost use Rattle.ld_trace.specs.Sources.{AreNumbered, Fits, plain};
 
-use ld_book::{Book, Refusal};
+use ld_book::{Batch, BatchRefusal, Book};
 use ld_facts::{Witness, facts};
 use ld_trace::{MOST_TRACES, Source, split};
 use ld_work::{Back, Desk, Feeder, Gate, MOST_FEEDERS, NoGate, Tally, WorkFault, work};
@@ -17,14 +17,16 @@ use std::test::Fail;
 use std::thread;
 use std::thread::Threads;
 
-const INVERSION: &[u8] = b"trace ab\nacquire t A\nacquire t B\nrelease t B\nrelease t A\n\
+pub const INVERSION: &[u8] = b"trace ab\nacquire t A\nacquire t B\nrelease t B\nrelease t A\n\
     trace ba\nacquire t B\nacquire t A\nrelease t A\nrelease t B\n";
 
 const THREE_TRACES: &[u8] = b"trace x\nacquire t A\nacquire t B\n\
     trace y\nacquire t B\nacquire t C\ntrace z\nacquire t C\nacquire t A\n";
 
+const SAME_LABEL: &[u8] = b"trace d\nacquire t A\nacquire t B\ntrace d\nacquire t A\nacquire t B\n";
+
 /// The traces of a stream, whichever allocation is refused, as long as it is one alone.
-fn sources_of<'a>(alloc: Global, bytes: &'a [u8]) -> Result<Vec<Source<'a>>, Fail>
+pub fn sources_of<'a>(alloc: Global, bytes: &'a [u8]) -> Result<Vec<Source<'a>>, Fail>
     ensures few { IfOk result (λ sources. length sources.items ≤ MOST_TRACES) }
     ensures numbered { IfOk result (λ sources. AreNumbered (map plain sources.items)) }
     ensures fit { IfOk result (λ sources. All (λ source. Fits (plain source)) sources.items) }
@@ -35,7 +37,7 @@ fn sources_of<'a>(alloc: Global, bytes: &'a [u8]) -> Result<Vec<Source<'a>>, Fai
     }
 }
 
-fn witness(number: u64, line: u64) -> Option<Witness> {
+pub fn witness(number: u64, line: u64) -> Option<Witness> {
     Some(Witness { number, line })
 }
 
@@ -65,28 +67,34 @@ fn expect_three_traces<R: Abort>(rt: &R, book: &Book<'_>) {
 }
 
 /// Adds a trace, and looks at what the book has then.
+pub fn feed_one<'a, T: Ledger, E: Ledger, R: Wait + Abort>(
+    rt: &R,
+    alloc: Global,
+    desk: &Desk<'a, T, E>,
+    source: Source<'a>,
+    feeder: &mut Feeder<T, E>,
+) {
+    assert!(rt; source.fits());
+    let facts = facts(alloc, source).expect(rt, "the facts of a trace");
+    let answer = desk.look(rt).submit(feeder, facts);
+    assert!(rt; answer.is_ok());
+    drop(answer);
+    let mut look = desk.look(rt);
+    look.covers(feeder);
+    let (totals, tally) = (look.book().totals(), feeder.tally());
+    assert!(rt; totals.traces >= tally.traces);
+    assert!(rt; totals.events >= tally.events);
+}
+
 fn feed<'a, T: Ledger, E: Ledger, R: Wait + Abort>(
     rt: &R,
     alloc: Global,
     desk: &Desk<'a, T, E>,
     source: Source<'a>,
     mut feeder: Feeder<T, E>,
-) -> Result<Feeder<T, E>, AllocError> {
-    assert!(rt; source.fits());
-    let facts = facts(alloc, source)?;
-    let answer = desk.look(rt).submit(&mut feeder, facts);
-    let is_refused = matches!(answer, Err(Refusal::Memory(_)));
-    assert!(rt; is_refused || answer.is_ok());
-    drop(answer);
-    if is_refused {
-        return Err(AllocError);
-    }
-    let mut look = desk.look(rt);
-    look.covers(&mut feeder);
-    let totals = look.book().totals();
-    assert!(rt; totals.traces >= 1);
-    assert!(rt; totals.events >= 4);
-    Ok(feeder)
+) -> Feeder<T, E> {
+    feed_one(rt, alloc, desk, source, &mut feeder);
+    feeder
 }
 
 /// The number of the trace that the desk's book lists first.
@@ -124,8 +132,6 @@ where
         traces: 1,
         events: 4,
     };
-    let first = first.expect(rt, "the first feeder");
-    let second = second.expect(rt, "the second feeder");
     assert_eq!(rt; first.tally(), one);
     assert_eq!(rt; second.tally(), one);
     assert!(rt; feeders.push(first).is_ok());
@@ -178,6 +184,84 @@ fn workers_read_several_traces(rt: HostRuntime) -> Result<(), Fail> {
         drop(book);
     }
     Ok(())
+}
+
+/// More traces than a worker hands on at once.
+#[test]
+fn workers_read_more_than_a_batch(rt: HostRuntime) -> Result<(), Fail> {
+    let stream = b"trace a\nacquire t A\nacquire t B\n"
+        .repeat(rt.alloc(), 20)
+        .expect(&rt, "a stream");
+    let sources = sources_of(rt.alloc(), &stream)?;
+    for workers in [1, 2, 16] {
+        let book = work(&rt, rt.alloc(), &sources, workers, &NoGate).expect(&rt, "a book");
+        let totals = book.totals();
+        assert_eq!(rt; totals.traces, 20);
+        assert_eq!(rt; totals.refused, 0);
+        assert_eq!(rt; totals.events, 40);
+        assert_eq!(rt; totals.classes, 2);
+        assert_eq!(rt; totals.dependencies, 1);
+        assert_eq!(rt; book.edge(b"A", b"B"), witness(0, 3));
+        drop(book);
+    }
+    Ok(())
+}
+
+/// Pushes a trace whose number is above the last one's.
+fn push_last<'a, R: Abort>(
+    rt: &R,
+    alloc: Global,
+    batch: &mut Batch<'a>,
+    source: Source<'a>,
+) -> Result<(), AllocError> {
+    assert!(rt; source.fits());
+    let last = batch.listed().last().expect(rt, "a trace");
+    let number = last.source.number;
+    assert!(rt; number < source.number);
+    batch.push(alloc, source)
+}
+
+/// Hands a batch of two traces to a desk of one feeder, and one of them once more.
+fn batch_fed<T, E, R>(rt: &R, alloc: Global, traces: Blank, events: Blank) -> Result<(), Fail>
+where
+    T: Ledger + Send + Sync,
+    E: Ledger + Send + Sync,
+    R: Wait + Abort,
+    requires traces { (traces.name ≡ T.name) × (traces.parts ≡ T.parts) × (traces.parts ≡ 1) }
+    requires events { (events.name ≡ E.name) × (events.parts ≡ E.parts) × (events.parts ≡ 1) }
+{
+    let sources = sources_of(alloc, SAME_LABEL)?;
+    assert_eq!(rt; sources.len(), 2);
+    let made = Desk::<T, E>::new(alloc, traces, events, 1);
+    let (desk, mut feeders) = made.expect(rt, "a desk");
+    let mut feeder = feeders.pop().expect(rt, "a feeder");
+    let mut batch = Batch::new(alloc);
+    assert!(rt; sources[0].fits());
+    batch.push(alloc, sources[0]).expect(rt, "memory");
+    push_last(rt, alloc, &mut batch, sources[1]).expect(rt, "memory");
+    let answer = desk.look(rt).submit_batch(&mut feeder, batch);
+    assert!(rt; answer.is_ok());
+    drop(answer);
+    let both = Tally {
+        traces: 2,
+        events: 4,
+    };
+    assert_eq!(rt; feeder.tally(), both);
+    let mut again = Batch::new(alloc);
+    again.push(alloc, sources[0]).expect(rt, "memory");
+    let answer = desk.look(rt).submit_batch(&mut feeder, again);
+    let is_back = matches!(answer, Err(BatchRefusal::Twice(_)));
+    drop(answer);
+    assert!(rt; is_back);
+    assert_eq!(rt; feeder.tally(), both);
+    drop(desk);
+    Ok(())
+}
+
+#[test]
+fn a_batch_counts_in_the_tally(rt: HostRuntime) -> Result<(), Fail> {
+    let (traces, events) = (Blank::new(1), Blank::new(1));
+    batch_fed::<Brand, Brand, HostRuntime>(&rt, rt.alloc(), traces, events)
 }
 
 /// Asserts that two workers give a book of so many traces and events.

@@ -4,7 +4,7 @@ ghost use Rattle.ld_work.specs.Draw.{IsSeatOf};
 
 use crate::tests::{expect_first_once, zeros};
 use ld_work::{DrawSeat, Tickets};
-use std::alloc::Global;
+use std::alloc::{AllocError, Global};
 use std::process::Abort;
 use std::sync::atomic::{AtomicU64, Ordering};
 use std::test::Fail;
@@ -21,9 +21,23 @@ fn draw_at(tickets: &Tickets, seats: &mut Vec<DrawSeat>, place: usize) -> Option
     tickets.draw(&mut seats[place])
 }
 
+/// Tickets, whichever allocation is refused, as long as it is one alone.
+fn tickets_of<R: Abort>(rt: &R, alloc: Global, n: u64, seats: usize) -> (Tickets, Vec<DrawSeat>)
+    requires n { n ≤ 65535 }
+    requires seats { (1 ≤ seats) × (seats ≤ 16) }
+    ensures tickets { result.0.seats ≡ seats }
+    ensures count { length result.1.items ≡ seats }
+    ensures seats { All (IsSeatOf result.0) result.1.items }
+{
+    match Tickets::new(alloc, n, seats) {
+        Ok(made) => made,
+        Err(AllocError) => Tickets::new(alloc, n, seats).expect(rt, "tickets"),
+    }
+}
+
 #[test]
 fn tickets_one_thread(rt: HostRuntime) -> Result<(), Fail> {
-    let (tickets, mut seats) = Tickets::new(rt.alloc(), 3, 2).expect(&rt, "tickets");
+    let (tickets, mut seats) = tickets_of(&rt, rt.alloc(), 3, 2);
     assert_eq!(rt; draw_at(&tickets, &mut seats, 0), Some(0));
     assert_eq!(rt; draw_at(&tickets, &mut seats, 1), Some(1));
     assert_eq!(rt; draw_at(&tickets, &mut seats, 0), Some(2));

@@ -1,11 +1,12 @@
 //! A reader and a writer in memory for tests, which move some bytes a call and fail where they are
-//! told to, and a gate where two workers meet.
+//! told to, and a gate where workers meet.
 ghost use Rattle.std.specs.Prelude.{◌≡◌, ◌<◌, [], false, true, Some};
 
 use crate::devices::{DeviceFault, Input, Output};
 use ld_work::Gate;
 use std::alloc::Global;
-use std::sync::atomic::{AtomicBool, AtomicU64, Ordering};
+use std::ops::Range;
+use std::sync::atomic::{AtomicU64, Ordering};
 use std::thread;
 
 /// Gives the bytes of a slice, at most some of them a call.
@@ -163,43 +164,47 @@ impl Output for FakeWriter {
     }
 }
 
-/// Holds the worker of one number until so many other numbers came, for a while, and records whether they
-/// did.
+/// Holds the passes of some numbers until so many passes came, for a while, and counts the held ones that
+/// saw as many come.
 #[derive(Drop)]
 pub struct Meeting {
-    held: u64,
-    wanted: u64,
+    held: Range<u64>,
+    awaited: u64,
     came: AtomicU64,
-    met: AtomicBool,
+    met: AtomicU64,
 }
 
 impl Meeting {
-    pub fn at(held: u64, wanted: u64) -> Meeting {
+    /// A gate that holds the passes of these numbers until `awaited` ones came, themselves included.
+    pub fn of(held: Range<u64>, awaited: u64) -> Meeting {
         Meeting {
             held,
-            wanted,
+            awaited,
             came: AtomicU64::new(0),
-            met: AtomicBool::new(false),
+            met: AtomicU64::new(0),
         }
     }
 
-    pub fn met(&self) -> bool {
+    /// How many held passes saw as many come.
+    pub fn met(&self) -> u64 {
         self.met.load(Ordering::SeqCst)
     }
 }
 
 impl Gate for Meeting {
     fn pass(&self, _worker: u64, number: u64) {
-        if number != self.held {
-            self.came.fetch_add(1, Ordering::SeqCst);
+        self.came.fetch_add(1, Ordering::SeqCst);
+        if !self.held.contains(&number) {
             return;
         }
         for _ in 0..10_000_000u64 {
-            if self.came.load(Ordering::SeqCst) >= self.wanted {
-                self.met.store(true, Ordering::SeqCst);
+            if self.came.load(Ordering::SeqCst) >= self.awaited {
+                self.met.fetch_add(1, Ordering::SeqCst);
                 return;
             }
             thread::yield_now();
         }
+        // Nobody else need wait for those that didn't come.
+        self.came.fetch_add(self.awaited, Ordering::SeqCst);
     }
 }

@@ -230,3 +230,19 @@ acquire t B
 /// One trace with CR LF, comments, empty lines, tabs, and a last line that ends with CR alone.
 pub const MIXED_LINE_ENDS: &[u8] =
     b"# run 7\r\n\ntrace k\r\nacquire\tt\tA\n  # held\nacquire t  B\r";
+
+/// Twenty traces of one label that show the same.
+pub const TWENTY_EQUAL: &[u8] =
+    b"trace a\nacquire t A\nacquire t B\ntrace a\nacquire t A\nacquire t B\n\
+    trace a\nacquire t A\nacquire t B\ntrace a\nacquire t A\nacquire t B\n\
+    trace a\nacquire t A\nacquire t B\ntrace a\nacquire t A\nacquire t B\n\
+    trace a\nacquire t A\nacquire t B\ntrace a\nacquire t A\nacquire t B\n\
+    trace a\nacquire t A\nacquire t B\ntrace a\nacquire t A\nacquire t B\n\
+    trace a\nacquire t A\nacquire t B\ntrace a\nacquire t A\nacquire t B\n\
+    trace a\nacquire t A\nacquire t B\ntrace a\nacquire t A\nacquire t B\n\
+    trace a\nacquire t A\nacquire t B\ntrace a\nacquire t A\nacquire t B\n\
+    trace a\nacquire t A\nacquire t B\ntrace a\nacquire t A\nacquire t B\n\
+    trace a\nacquire t A\nacquire t B\ntrace a\nacquire t A\nacquire t B\n";
+
+pub const TWENTY_EQUAL_REPORT: &[u8] =
+    b"traces 20 refused 0 events 40 classes 2 dependencies 1\nclean\n";

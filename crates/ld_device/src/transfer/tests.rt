@@ -22,6 +22,18 @@ fn an_input_is_read_to_its_end(rt: HostRuntime) -> Result<(), Fail> {
     Ok(())
 }
 
+// A body that answered want of memory for larger input would meet every contract.
+#[test]
+fn a_long_input_is_read_to_its_end(rt: HostRuntime) -> Result<(), Fail> {
+    let long = TEXT.repeat(rt.alloc(), 10_000)?;
+    let mut input = Std::new(long.as_slice());
+    let bytes = read_all(rt.alloc(), &mut input)?;
+    assert_eq!(rt; bytes.len(), 200_000);
+    assert_eq!(rt; bytes.as_slice(), long.as_slice());
+    assert!(rt; input.ended() && !input.failed());
+    Ok(())
+}
+
 #[test]
 fn a_read_that_fails_ends_the_reading(rt: HostRuntime) {
     for failing in 0..4usize {

@@ -15,16 +15,17 @@ use Rattle.ld_facts.specs.declared.scan.Scan.{Scan}
 use Rattle.ld_facts.specs.declared.scan.Taking.{Taking}
 use Rattle.ld_facts.specs.declared.scan.Taking.TheVariants.{Trying, Waiting}
 use Rattle.ld_facts.specs.Facts.{named, named_use}
-use Rattle.ld_held.specs.Inner.Edges.{edge_to, with_edge}
+use Rattle.ld_held.specs.Inner.Edges.{edge_to, with_edge_fact}
 use Rattle.ld_held.specs.Inner.Interrupts.{fresh, levels_of, start_now, starts_of, states_of}
 use Rattle.ld_rules.specs.Inner.Levels.{levels, starts, states}
 use Rattle.ld_facts.specs.Facts.{IsUse}
 use Rattle.ld_held.specs.Inner.Uses.{in_facts, on_facts, with_use}
-use Rattle.ld_rules.specs.Usage.{same_what, uses_at}
+use Rattle.ld_rules.specs.Usage.{uses_at}
 use Rattle.ld_rules.specs.Held.{held_by}
 use Rattle.ld_held.specs.Inner.Locks.{Hold}
 use Rattle.ld_rules.specs.Outcome.{classes, each_once, events, faulty_lines, tasks}
-use Rattle.ld_rules.specs.Dependency.{dependencies_at, same_seen, seen}
+use Rattle.ld_rules.specs.Dependency.{dependencies_at, seen}
+use Rattle.ld_rules.specs.Inner.Scanned.{same_dependency_seen, same_use_seen}
 
 -- the numbers of a dependency's classes are numbers of classes
 abbrev pub IsWithin : List (List ℕ) → EdgeFact → Type 0
@@ -58,9 +59,9 @@ pub record IsAt (all : List Position) (scan : Scan) : Type 0 where
       (slice_index_or scan.locks.interrupts id fresh) (events all) name
   pub shallow : (id : ℕ) → length (slice_index_or scan.locks.stacks id []) ≤ MOST_HELD
   pub edges :
-      map (named scan.classes) scan.locks.edges ≡ each_once same_seen (seen dependencies_at all)
+      map (named scan.classes) scan.locks.edges ≡ each_once same_dependency_seen (seen dependencies_at all)
   pub within : All (IsWithin scan.classes) scan.locks.edges
-  pub uses : map (named_use scan.classes) scan.uses ≡ each_once same_what (seen uses_at all)
+  pub uses : map (named_use scan.classes) scan.uses ≡ each_once same_use_seen (seen uses_at all)
   pub used : All (IsUse scan.classes) scan.uses
 
 -- the task has this number now, and all else is as before
@@ -94,7 +95,7 @@ waited scan id class line =
     let froms = map (λ hold. hold.class) inner in
     record scan {
       locks = record scan.locks {
-        edges = fold with_edge scan.locks.edges (map (edge_to class line) froms);
+        edges = fold with_edge_fact scan.locks.edges (map (edge_to class line) froms);
       };
       uses = fold with_use scan.uses (in_facts interrupts line class);
     }

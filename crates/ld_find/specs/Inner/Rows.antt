@@ -12,7 +12,7 @@ use Rattle.ld_union.specs.Inner.States.{of_state}
 use Rattle.ld_union.specs.Inner.Union.{PlainUnion, edges_of}
 use Rattle.ld_find.specs.Findings.{AreRows, InTurn, IsBefore, IsConflictRow, IsCycleRow, IsForbiddenRow, IsHarder, IsPairBefore, PlainConflictRow}
 use Rattle.ld_find.specs.Findings.{PlainCycleRow, PlainForbiddenRow, conflict_key, cycle_key, forbidden_key, shown_marks}
-use Rattle.ld_find.specs.Inner.Order.{class_at, name_of}
+use Rattle.ld_find.specs.Inner.ByName.{class_at, class_name}
 use Rattle.ld_find.specs.Violations.{IsConflict, IsCycle, IsForbidden}
 
 -- where none of a kind was found, there is none
@@ -86,4 +86,4 @@ pub record AreDistances (union : PlainUnion) (to : ℕ) (distances : List (Optio
 
 -- the name is one of the first of these classes, which are so many
 abbrev pub IsPassed : List (List ℕ) → List ℕ → ℕ → List ℕ → Type 0
-IsPassed classes numbers count name = (j : ℕ) × ((j < count) × (name_of classes (class_at numbers j) ≡ name))
+IsPassed classes numbers count name = (j : ℕ) × ((j < count) × (class_name classes (class_at numbers j) ≡ name))

@@ -3,14 +3,14 @@ ghost use Rattle.std.specs.Prelude.{◌≡◌, ◌<◌, IfOk, List, MatchOption,
 ghost use Rattle.ld_trace.specs.Sources.{PlainSource};
 ghost use Rattle.ld_facts.specs.Union.{use_witness};
 ghost use Rattle.ld_find.specs.Findings.{AreConflictRows, plain_conflict_row};
-ghost use Rattle.ld_find.specs.Inner.Order.{AreByName, name_of};
+ghost use Rattle.ld_find.specs.Inner.ByName.{AreByName, class_name};
 ghost use Rattle.ld_find.specs.Inner.Rows.{AreConflictRowsOf, IsConflictRowOf};
 ghost use Rattle.ld_union.specs.Inner.Union.{Shows};
 ghost use Rattle.ld_find.specs.Violations.{IsConflict};
 
 use crate::alarms::{in_bit, on_bit};
+use crate::by_name::ByName;
 use crate::findings::used::noted;
-use crate::order::Order;
 use ld_facts::Witness;
 use ld_trace::State;
 use ld_union::Union;
@@ -35,7 +35,7 @@ pub struct ConflictRow<'a> {
 pub(crate) fn conflict_rows<'a>(
     alloc: Global,
     union: &Union<'a>,
-    order: &Order,
+    order: &ByName,
 ) -> Result<Vec<ConflictRow<'a>>, AllocError>
     requires order { AreByName union.now.classes order.now.numbers.items order.now.places.items }
     ensures { IfOk result (λ rows. (sources : List PlainSource)
@@ -52,7 +52,7 @@ pub(crate) fn conflict_rows<'a>(
 fn conflicts_of<'a>(
     alloc: Global,
     union: &Union<'a>,
-    order: &Order,
+    order: &ByName,
     state: State,
 ) -> Result<Vec<ConflictRow<'a>>, AllocError>
     requires order { AreByName union.now.classes order.now.numbers.items order.now.places.items }
@@ -74,8 +74,8 @@ fn conflict_row<'a>(union: &Union<'a>, class: u32, state: State) -> Option<Confl
     requires class { class < length union.now.classes }
     ensures { (sources : List PlainSource)
         → Shows sources union.now
-        → MatchOption result (¬ IsConflict sources state (name_of union.now.classes class))
-        (λ row. IsConflictRowOf sources state (name_of union.now.classes class)
+        → MatchOption result (¬ IsConflict sources state (class_name union.now.classes class))
+        (λ row. IsConflictRowOf sources state (class_name union.now.classes class)
         (plain_conflict_row row)) }
 {
     let acquired = noted(union, class, in_bit(state))?;

@@ -3,14 +3,14 @@ ghost use Rattle.std.specs.Prelude.{◌≡◌, ◌<◌, IfOk, List, MatchOption,
 ghost use Rattle.ld_trace.specs.Sources.{PlainSource};
 ghost use Rattle.ld_facts.specs.Union.{dependency_witness};
 ghost use Rattle.ld_find.specs.Findings.{AreCycleRows, plain_cycle_row};
-ghost use Rattle.ld_find.specs.Inner.Order.{AreByName, name_of};
+ghost use Rattle.ld_find.specs.Inner.ByName.{AreByName, class_name};
 ghost use Rattle.ld_find.specs.Inner.Rows.{AreCycleRowsOf, AreDistances, IsCycleRowOf, IsOfEach};
 ghost use Rattle.ld_union.specs.Inner.Union.{Shows};
 ghost use Rattle.ld_find.specs.Violations.{IsCycle};
 
 use crate::alarms::Found;
+use crate::by_name::ByName;
 use crate::findings::walks::{Target, walk_names};
-use crate::order::Order;
 use crate::rows::Rows;
 use ld_facts::Witness;
 use ld_union::Union;
@@ -34,7 +34,7 @@ pub struct CycleRow<'a> {
 pub(crate) fn cycle_rows<'a>(
     alloc: Global,
     union: &Union<'a>,
-    order: &Order,
+    order: &ByName,
     found: &Found,
 ) -> Result<Vec<CycleRow<'a>>, AllocError>
     requires order { AreByName union.now.classes order.now.numbers.items order.now.places.items }
@@ -58,14 +58,14 @@ pub(crate) fn cycle_rows<'a>(
 fn cycles_from<'a>(
     alloc: Global,
     union: &Union<'a>,
-    order: &Order,
+    order: &ByName,
     from: u32,
 ) -> Result<Vec<CycleRow<'a>>, AllocError>
     requires order { AreByName union.now.classes order.now.numbers.items order.now.places.items }
     requires from { from < length union.now.classes }
     ensures { IfOk result (λ rows. (sources : List PlainSource)
         → Shows sources union.now
-        → AreCycleRowsOf sources (λ p. p.0 ≡ name_of union.now.classes from)
+        → AreCycleRowsOf sources (λ p. p.0 ≡ class_name union.now.classes from)
         (map plain_cycle_row rows.items)) }
 {
     let mut rows = Vec::new(alloc);
@@ -86,7 +86,7 @@ fn cycles_from<'a>(
 fn cycle_row<'a>(
     alloc: Global,
     union: &Union<'a>,
-    order: &Order,
+    order: &ByName,
     target: &Target,
     to: u32,
 ) -> Result<Option<CycleRow<'a>>, AllocError>
@@ -97,10 +97,10 @@ fn cycle_row<'a>(
     ensures { IfOk result (λ row. (sources : List PlainSource)
         → Shows sources union.now
         → MatchOption row
-        (¬ IsCycle sources (name_of union.now.classes target.now.class)
-        (name_of union.now.classes to))
-        (λ r. IsCycleRowOf sources (name_of union.now.classes target.now.class)
-        (name_of union.now.classes to) (plain_cycle_row r))) }
+        (¬ IsCycle sources (class_name union.now.classes target.now.class)
+        (class_name union.now.classes to))
+        (λ r. IsCycleRowOf sources (class_name union.now.classes target.now.class)
+        (class_name union.now.classes to) (plain_cycle_row r))) }
 {
     if target.distances[to as usize].is_none() {
         return Ok(None);

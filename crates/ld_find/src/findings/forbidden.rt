@@ -4,16 +4,16 @@ ghost use Rattle.ld_trace.specs.Sources.{PlainSource};
 ghost use Rattle.ld_facts.specs.Union.{dependency_witness, use_witness};
 ghost use Rattle.ld_facts.specs.Usage.Bit.{On};
 ghost use Rattle.ld_find.specs.Findings.{AreForbiddenRows, plain_forbidden_row};
-ghost use Rattle.ld_find.specs.Inner.Order.{AreByName, name_of};
+ghost use Rattle.ld_find.specs.Inner.ByName.{AreByName, class_name};
 ghost use Rattle.ld_find.specs.Inner.Rows.{AreDistances, AreForbiddenRowsOf, AreTurnedRows};
 ghost use Rattle.ld_find.specs.Inner.Rows.{AreTurnedRowsOf, IsNoted, IsOfEach, IsTurnedRowOf};
 ghost use Rattle.ld_union.specs.Inner.Union.{Shows};
 ghost use Rattle.ld_find.specs.Violations.{IsForbidden};
 
 use crate::alarms::{Found, in_bit, on_bit};
+use crate::by_name::ByName;
 use crate::findings::used::{UsedClass, noted};
 use crate::findings::walks::{Target, walk_names};
-use crate::order::Order;
 use crate::rows::Rows;
 use ld_facts::Witness;
 use ld_trace::State;
@@ -46,7 +46,7 @@ pub struct ForbiddenRow<'a> {
 pub(crate) fn forbidden_rows<'a>(
     alloc: Global,
     union: &Union<'a>,
-    order: &Order,
+    order: &ByName,
     found: &Found,
 ) -> Result<Vec<ForbiddenRow<'a>>, AllocError>
     requires order { AreByName union.now.classes order.now.numbers.items order.now.places.items }
@@ -65,7 +65,7 @@ pub(crate) fn forbidden_rows<'a>(
 fn forbidden_of<'a>(
     alloc: Global,
     union: &Union<'a>,
-    order: &Order,
+    order: &ByName,
     state: State,
     found: &Found,
 ) -> Result<Vec<ForbiddenRow<'a>>, AllocError>
@@ -87,7 +87,7 @@ fn forbidden_of<'a>(
 fn forbidden_by_end<'a>(
     alloc: Global,
     union: &Union<'a>,
-    order: &Order,
+    order: &ByName,
     state: State,
 ) -> Result<Vec<ForbiddenRow<'a>>, AllocError>
     requires order { AreByName union.now.classes order.now.numbers.items order.now.places.items }
@@ -107,7 +107,7 @@ fn forbidden_by_end<'a>(
 fn forbidden_to<'a>(
     alloc: Global,
     union: &Union<'a>,
-    order: &Order,
+    order: &ByName,
     state: State,
     to: u32,
 ) -> Result<Vec<ForbiddenRow<'a>>, AllocError>
@@ -115,7 +115,7 @@ fn forbidden_to<'a>(
     requires to { to < length union.now.classes }
     ensures { IfOk result (λ rows. (sources : List PlainSource)
         → Shows sources union.now
-        → AreTurnedRowsOf sources state (λ p. p.0 ≡ name_of union.now.classes to)
+        → AreTurnedRowsOf sources state (λ p. p.0 ≡ class_name union.now.classes to)
         (map plain_forbidden_row rows.items)) }
 {
     let mut rows = Vec::new(alloc);
@@ -136,7 +136,7 @@ fn forbidden_to<'a>(
 fn forbidden_row<'a>(
     alloc: Global,
     union: &Union<'a>,
-    order: &Order,
+    order: &ByName,
     target: &Target,
     held: UsedClass<'a>,
     state: State,
@@ -147,16 +147,16 @@ fn forbidden_row<'a>(
     requires distances { AreDistances union.now target.now.class target.now.distances.items }
     requires held { (sources : List PlainSource)
         → Shows sources union.now
-        → IsNoted sources (name_of union.now.classes target.now.class) (On state)
+        → IsNoted sources (class_name union.now.classes target.now.class) (On state)
         held.name.now held.marks held.at }
     requires from { from < length union.now.classes }
     ensures { IfOk result (λ row. (sources : List PlainSource)
         → Shows sources union.now
         → MatchOption row
-        (¬ IsForbidden sources state (name_of union.now.classes from)
-        (name_of union.now.classes target.now.class))
-        (λ r. IsTurnedRowOf sources state (name_of union.now.classes target.now.class)
-        (name_of union.now.classes from) (plain_forbidden_row r))) }
+        (¬ IsForbidden sources state (class_name union.now.classes from)
+        (class_name union.now.classes target.now.class))
+        (λ r. IsTurnedRowOf sources state (class_name union.now.classes target.now.class)
+        (class_name union.now.classes from) (plain_forbidden_row r))) }
 {
     let Some(acquired) = noted(union, from, in_bit(state)) else {
         return Ok(None);

@@ -3,7 +3,7 @@ ghost use Rattle.std.specs.Prelude.{◌≡◌, ◌<◌, List, MatchOption, lengt
 ghost use Rattle.ld_trace.specs.Sources.{PlainSource};
 ghost use Rattle.ld_facts.specs.Union.{use_witness};
 ghost use Rattle.ld_facts.specs.Usage.{Bit, IsBit, bit_of};
-ghost use Rattle.ld_find.specs.Inner.Order.{name_of};
+ghost use Rattle.ld_find.specs.Inner.ByName.{class_name};
 ghost use Rattle.ld_find.specs.Inner.Rows.{IsNoted};
 ghost use Rattle.ld_union.specs.Inner.Union.{Shows};
 ghost use Rattle.ld_find.specs.Violations.{HasBit};
@@ -28,8 +28,8 @@ pub(crate) fn noted<'a>(union: &Union<'a>, class: u32, bit: Usage) -> Option<Use
     requires bit { IsBit bit }
     ensures { (sources : List PlainSource)
         → Shows sources union.now
-        → MatchOption result (¬ HasBit sources (name_of union.now.classes class) (bit_of bit))
-        (λ n. IsNoted sources (name_of union.now.classes class) (bit_of bit)
+        → MatchOption result (¬ HasBit sources (class_name union.now.classes class) (bit_of bit))
+        (λ n. IsNoted sources (class_name union.now.classes class) (bit_of bit)
         n.name.now n.marks n.at) }
 {
     let usage = &union.usage()[class as usize];

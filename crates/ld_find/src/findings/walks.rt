@@ -5,17 +5,17 @@ ghost use Rattle.ld_graph.specs.Walks.{HasWalk};
 ghost use Rattle.ld_trace.specs.Sources.{PlainSource};
 ghost use Rattle.ld_facts.specs.Union.{dependency_witness};
 ghost use Rattle.ld_find.specs.Findings.{IsShown, plain_names};
-ghost use Rattle.ld_find.specs.Inner.Order.{AreByName, name_of};
+ghost use Rattle.ld_find.specs.Inner.ByName.{AreByName, class_name};
 ghost use Rattle.ld_find.specs.Inner.Rows.{AreDistances};
 ghost use Rattle.ld_union.specs.Inner.Union.{Shows, edges_of};
 
-use crate::order::Order;
+use crate::by_name::ByName;
 use crate::rows::Rows;
 use ld_class::Classes;
 use ld_union::Union;
 use std::alloc::{AllocError, Global};
 
-/// A class, and for each class the length of the walks to it that are shortest.
+/// A class, and the *Distance* of each class to it.
 #[derive(Drop)]
 pub(crate) struct Target {
     pub(crate) class: u32,
@@ -39,7 +39,7 @@ impl Target {
 pub(crate) fn walk_names<'a>(
     alloc: Global,
     union: &Union<'a>,
-    order: &Order,
+    order: &ByName,
     target: &Target,
     from: u32,
 ) -> Result<Option<Rows<&'a [u8]>>, AllocError>
@@ -51,8 +51,8 @@ pub(crate) fn walk_names<'a>(
         (¬ HasWalk (IsEdge (edges_of union.now.dependencies)) from target.now.class)
         (λ names. (sources : List PlainSource)
         → Shows sources union.now
-        → IsShown sources (name_of union.now.classes from)
-        (name_of union.now.classes target.now.class) (plain_names names))) }
+        → IsShown sources (class_name union.now.classes from)
+        (class_name union.now.classes target.now.class) (plain_names names))) }
 {
     let walk = union.graph().walk_along(
         alloc,
@@ -76,7 +76,7 @@ fn names_of<'a>(
 ) -> Result<Vec<&'a [u8]>, AllocError>
     requires { All (λ c. c < length classes.now) numbers.now }
     ensures { IfOk result (λ names. plain_names names.items
-        ≡ map (name_of classes.now) numbers.now) }
+        ≡ map (class_name classes.now) numbers.now) }
 {
     let mut names = Vec::with_capacity(alloc, numbers.len())?;
     for class in numbers {

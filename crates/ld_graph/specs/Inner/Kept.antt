@@ -1,8 +1,9 @@
 -- What a graph keeps true of its fields, and what callers see of them.
-use Rattle.std.specs.Prelude.{◌≡◌, ◌↔◌, ℕ, ◌+◌, ◌<◌, ◌≤◌, ◌^◌, length, Some, None, Option}
+use Rattle.std.specs.Prelude.{◌≡◌, ◌↔◌, ℕ, ◌+◌, ◌<◌, ◌≤◌, length, Some, None, Option}
 use Rattle.std.specs.Prelude.{Bool, true, false, List, slice_index}
 use Rattle.indexmap.specs.IndexSet.{spare}
 use Rattle.ld_graph.specs.declared.graph.Graph.TheInside.{Inside}
+use Rattle.ld_graph.specs.declared.graph.TheConstants.{MOST_GRAPH_CLASSES}
 use Rattle.ld_graph.specs.Edges.{IsEdge, PlainGraph}
 use Rattle.ld_lists.specs.Lists.{IsNear}
 use Rattle.ld_graph.specs.Order.{HasCycle}
@@ -13,8 +14,8 @@ order_of true ranks = None
 order_of false ranks = Some ranks
 
 -- what callers see of the fields
-abbrev pub seen : Inside → PlainGraph
-seen g = record {
+abbrev pub graph_of : Inside → PlainGraph
+graph_of g = record {
   classes = g.classes;
   edges = g.edges.keys;
   spare_classes = g.spare_classes;
@@ -39,7 +40,7 @@ pub record IsKept (g : Inside) : Type 0 where
   pub room_before : (g.classes + g.spare_classes ≤ g.lists.before.class_room)
       × (length g.edges.keys + g.spare_edges ≤ g.lists.before.item_room)
   pub room_ranks : g.classes + g.spare_classes ≤ g.ranks.room
-  pub few : g.classes + g.spare_classes ≤ 2 ^ 30
+  pub few : g.classes + g.spare_classes ≤ MOST_GRAPH_CLASSES
   -- so long as there is no cycle, each edge goes from a lesser to a greater rank
   pub ranked : length g.ranks.ranks ≡ g.classes
   pub rises : g.has_cycle ≡ false → (x y : ℕ) → IsEdge g.edges.keys x y

@@ -2,7 +2,7 @@
 use Rattle.std.specs.Prelude.{◌≡◌, ◌↔◌, ℕ, Bool, true, false, List, Contains, nat_eq, slice_index_or}
 use Rattle.std.specs.List.{IsDistinct}
 
--- exactly those places have a mark that were found, each once
+-- exactly those offsets have a mark that were found, each once
 pub record AreMarked (marks : List Bool) (found : List ℕ) : Type 0 where
   pub once : IsDistinct nat_eq found
   pub marked : (k : ℕ) → (slice_index_or marks k false ≡ true) ↔ Contains found k

@@ -2,7 +2,7 @@
 use Rattle.std.specs.Prelude.{◌≡◌, ℕ, ◌<◌, Bool, true, false, List, slice_index, ⊤}
 use Rattle.ld_graph.specs.declared.placed.Insert.{Insert}
 use Rattle.ld_graph.specs.declared.placed.Insert.TheVariants.{Known, Kept, Moved, Closed, AfterCycle}
-use Rattle.ld_graph.specs.Inner.Repairs.{IsRepaired, Reached}
+use Rattle.ld_graph.specs.Inner.Repairs.{IsRepaired, IsOrReaches}
 
 -- the answer for an edge from a to b that isn't there yet, whether there was a cycle and is one, and
 -- the ranks before and after
@@ -15,14 +15,14 @@ IsPlaced step a b (Moved expanded) was now old new =
     (was ≡ false) × ((now ≡ false) × ((slice_index old b < slice_index old a)
     × IsRepaired step a b old new expanded))
 IsPlaced step a b Closed was now old new =
-    (was ≡ false) × ((now ≡ true) × ((new ≡ old) × Reached step b a))
+    (was ≡ false) × ((now ≡ true) × ((new ≡ old) × IsOrReaches step b a))
 IsPlaced step a b AfterCycle was now old new = (was ≡ true) × ((now ≡ true) × (new ≡ old))
 
 -- so many lists were read for the answer: none where the ranks stand without a search, and as many as
 -- it tells where they were repaired
-abbrev pub IsTold : Insert → (steps : ℕ) → Type 0
-IsTold Known steps = steps ≡ 0
-IsTold Kept steps = steps ≡ 0
-IsTold (Moved expanded) steps = expanded ≡ steps
-IsTold Closed steps = ⊤
-IsTold AfterCycle steps = steps ≡ 0
+abbrev pub TellsSteps : Insert → (steps : ℕ) → Type 0
+TellsSteps Known steps = steps ≡ 0
+TellsSteps Kept steps = steps ≡ 0
+TellsSteps (Moved expanded) steps = expanded ≡ steps
+TellsSteps Closed steps = ⊤
+TellsSteps AfterCycle steps = steps ≡ 0

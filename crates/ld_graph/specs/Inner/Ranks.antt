@@ -1,5 +1,6 @@
 -- What the ranks keep true of their fields. No public contract cites this file.
-use Rattle.std.specs.Prelude.{◌≡◌, ◌≤◌, ◌^◌, [], vec_len, vec_capacity}
+use Rattle.std.specs.Prelude.{◌≡◌, ◌≤◌, [], vec_len, vec_capacity}
+use Rattle.ld_graph.specs.declared.graph.TheConstants.{MOST_GRAPH_CLASSES}
 use Rattle.ld_graph.specs.declared.ranks.Ranks.TheInside.{Inside}
 use Rattle.ld_graph.specs.Inner.Repairs.{AreInverse, Ranked}
 
@@ -10,7 +11,7 @@ shown r = record { ranks = r.ranks.items; classes = r.classes.items; room = r.ro
 pub record IsRanked (r : Inside) : Type 0 where
   pub inverse : AreInverse r.ranks.items r.classes.items
   pub within : vec_len r.ranks ≤ r.room
-  pub few : r.room ≤ 2 ^ 30
+  pub few : r.room ≤ MOST_GRAPH_CLASSES
   -- there is memory, and nothing is left of an earlier repair
   pub ranks_room : r.room ≤ vec_capacity r.ranks
   pub classes_room : r.room ≤ vec_capacity r.classes

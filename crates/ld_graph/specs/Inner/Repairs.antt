@@ -13,7 +13,7 @@ abbrev pub count : (ℕ → Bool) → ℕ → ℕ
 count p zero = 0
 count p (suc n) = count p n + (if p n then 1 else 0)
 
--- of the first n items those whose places pass the test, in their order
+-- of the first n items those whose offsets pass the test, in their order
 abbrev pub picked : (ℕ → Bool) → (ℕ → ℕ) → ℕ → List ℕ
 picked p item zero = []
 picked p item (suc n) = if p n then picked p item n ++ item n ∷ [] else picked p item n
@@ -27,7 +27,7 @@ split_offset p m i = if p i then count p i else count p m + count (λ k. not (p 
 abbrev pub split : (ℕ → Bool) → (ℕ → ℕ) → ℕ → List ℕ
 split p item m = picked p item m ++ picked (λ k. not (p k)) item m
 
--- what a search has found, among so many places
+-- what a search has found, among so many offsets
 pub record Sought : Type 0 where
   pub found : List ℕ
   pub size : ℕ
@@ -48,7 +48,7 @@ pub record IsRow (ranks : List ℕ) (low : ℕ) (row : List ℕ) : Type 0 where
   pub back : (x : ℕ) → x < length ranks → IsInside low (length row) (slice_index ranks x)
       → slice_index row (slice_index ranks x - low) ≡ x
 
--- places of classes that are near were added
+-- offsets of classes that are near were added
 pub record IsGrown (near : ℕ → Type 0) (rank : ℕ → ℕ) (low len : ℕ) (old new : List ℕ) : Type 0 where
   pub longer : length old ≤ length new
   pub front : (i : ℕ) → i < length old → slice_index new i ≡ slice_index old i
@@ -56,20 +56,20 @@ pub record IsGrown (near : ℕ → Type 0) (rank : ℕ → ℕ) (low len : ℕ) 
       ⊎ ((x : ℕ) × (near x × ((rank x ≡ low + k) × (k < len))))
 
 -- the class is this one, or a walk leads to it
-abbrev pub Reached : (ℕ → ℕ → Type 0) → ℕ → ℕ → Type 0
-Reached near a b = (a ≡ b) ⊎ HasWalk near a b
+abbrev pub IsOrReaches : (ℕ → ℕ → Type 0) → ℕ → ℕ → Type 0
+IsOrReaches near a b = (a ≡ b) ⊎ HasWalk near a b
 
--- the places that were found from this one are those of classes that it reaches
+-- the offsets that were found from this one are those of classes that it reaches
 pub record IsSought (near : ℕ → ℕ → Type 0) (row : List ℕ) (start : ℕ) (found : List ℕ) : Type 0 where
   pub begun : Contains found start
   pub within : (k : ℕ) → Contains found k → k < length row
-  pub reached : (k : ℕ) → Contains found k → Reached near (slice_index row start)
+  pub reached : (k : ℕ) → Contains found k → IsOrReaches near (slice_index row start)
       (slice_index row k)
 
 -- of the first n classes that were found, all neighbours in the range were found
-abbrev pub IsClosed : (ℕ → ℕ → Type 0) → (ranks : List ℕ) → (low : ℕ) → (row found : List ℕ)
+abbrev pub HasAllNear : (ℕ → ℕ → Type 0) → (ranks : List ℕ) → (low : ℕ) → (row found : List ℕ)
     → (n : ℕ) → Type 0
-IsClosed near ranks low row found n = (i y : ℕ) → i < n
+HasAllNear near ranks low row found n = (i y : ℕ) → i < n
     → near (slice_index row (slice_index found i)) y
     → IsInside low (length row) (slice_index ranks y)
     → Contains found (slice_index ranks y - low)
@@ -78,16 +78,16 @@ IsClosed near ranks low row found n = (i y : ℕ) → i < n
 abbrev pub HasEnded : Side → (sides : Sides) → (ranks : List ℕ) → (low : ℕ)
     → (row behind ahead : List ℕ) → Type 0
 HasEnded Before sides ranks low row behind ahead =
-    IsClosed (IsNear sides.before.lists) ranks low row behind (length behind)
+    HasAllNear (IsNear sides.before.lists) ranks low row behind (length behind)
 HasEnded After sides ranks low row behind ahead =
-    IsClosed (IsNear sides.after.lists) ranks low row ahead (length ahead)
+    HasAllNear (IsNear sides.after.lists) ranks low row ahead (length ahead)
 
 -- the offset is one of those that were found, or is none of them
 abbrev pub is_part : List ℕ → Bool → ℕ → Bool
 is_part found true k = list_any (nat_eq k) found
 is_part found false k = not (list_any (nat_eq k) found)
 
--- the places that go to the front: what the search backward found, or what the other didn't find
+-- the offsets that go to the front: what the search backward found, or what the other didn't find
 abbrev pub in_front : Side → (behind ahead : List ℕ) → ℕ → Bool
 in_front Before behind ahead = is_part behind true
 in_front After behind ahead = is_part ahead false

@@ -13,8 +13,8 @@ abbrev pub same_pair : EdgeFact → EdgeFact → Bool
 same_pair a b = a.from == b.from && a.to == b.to
 
 -- the dependencies with this one, where its pair isn't there yet
-abbrev pub with_edge : List EdgeFact → EdgeFact → List EdgeFact
-with_edge edges edge = edges ++ (if list_any (same_pair edge) edges then [] else edge ∷ [])
+abbrev pub with_edge_fact : List EdgeFact → EdgeFact → List EdgeFact
+with_edge_fact edges edge = edges ++ (if list_any (same_pair edge) edges then [] else edge ∷ [])
 
 -- the dependency from one class to another, told at this line
 abbrev pub edge_to : ℕ → ℕ → ℕ → EdgeFact

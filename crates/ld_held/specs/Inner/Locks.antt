@@ -24,31 +24,31 @@ hold_of held = record { lock = held.lock; class = held.class }
 
 -- by the numbers of the tasks, what each holds in all its frames, in order of acquisition, and its
 -- frames and flags; and the dependencies so far
-pub record Known : Type 0 where
+pub record HeldByTasks : Type 0 where
   pub stacks : List (List Hold)
   pub interrupts : List Interrupts
   pub edges : List EdgeFact
 
-abbrev pub known_of : List PlainStack → List EdgeFact → Known
-known_of stacks edges = record {
+abbrev pub held_by_tasks : List PlainStack → List EdgeFact → HeldByTasks
+held_by_tasks stacks edges = record {
   stacks = map (λ stack. map hold_of stack.held) stacks;
   interrupts = map (λ stack. stack.interrupts) stacks;
   edges = edges;
 }
 
 -- what the task holds in its innermost frame, and what it holds in the frames around it
-abbrev pub inner_of : Known → ℕ → List Hold
+abbrev pub inner_of : HeldByTasks → ℕ → List Hold
 inner_of known task =
     drop (start_now (slice_index_or known.interrupts task fresh))
     (slice_index_or known.stacks task [])
 
-abbrev pub outer_of : Known → ℕ → List Hold
+abbrev pub outer_of : HeldByTasks → ℕ → List Hold
 outer_of known task =
     take (start_now (slice_index_or known.interrupts task fresh))
     (slice_index_or known.stacks task [])
 
 -- nothing but the frames and flags of this task changed
-pub record IsMoved (old new : Known) (task : ℕ) : Type 0 where
+pub record ChangesInterrupts (old new : HeldByTasks) (task : ℕ) : Type 0 where
   pub stacks : new.stacks ≡ old.stacks
   pub edges : new.edges ≡ old.edges
   pub many : length new.interrupts ≡ length old.interrupts
@@ -89,7 +89,7 @@ pub record IsExtended (old new : List (List ℕ)) : Type 0 where
   pub kept : (n : ℕ) → n < length old → slice_index_or new n [] ≡ slice_index_or old n []
 
 -- the dependencies of a waiting acquisition are there
-pub record IsTold (chains : List (List ℕ)) (edges : List EdgeFact) (link : Link) : Type 0 where
+pub record HasItsEdges (chains : List (List ℕ)) (edges : List EdgeFact) (link : Link) : Type 0 where
   pub known : IfSome link.before (λ n. n < length chains)
   pub told :
       list_all (λ from. list_any (same_pair (edge_to link.class 0 from)) edges)
@@ -102,7 +102,7 @@ pub record AreTied (stacks : List PlainStack) (chains : List (List ℕ)) (told :
   pub chained : (task : ℕ)
       → AreChainedIn chains (slice_index_or stacks task empty_stack).held
       (starts_of (slice_index_or stacks task empty_stack).interrupts)
-  pub complete : All (λ link. IsTold chains edges link) told
+  pub complete : All (λ link. HasItsEdges chains edges link) told
 
 -- it is of this lock
 abbrev pub is_of : PlainLock → Hold → Bool

@@ -4,7 +4,7 @@ use Rattle.std.specs.Prelude.{ℕ, Bool, ◌&&◌, ◌==◌, List, [], ◌∷◌
 use Rattle.std.specs.Prelude.{reverse, slice_index_or, if◌then◌else◌}
 use Rattle.std.specs.List.{list_any}
 use Rattle.ld_class.specs.declared.usage.Usage.{Usage}
-use Rattle.ld_class.specs.Usage.{has_bit}
+use Rattle.ld_class.specs.Usage.{has_bit, no_bits}
 use Rattle.ld_trace.specs.declared.event.State.TheVariants.{Hard, Soft}
 use Rattle.ld_held.specs.declared.uses.UsageFact.{UsageFact}
 use Rattle.ld_held.specs.declared.interrupts.Interrupts.{Interrupts}
@@ -39,13 +39,9 @@ on_facts interrupts line classes =
     map (fact (On Hard) line) (if enabled_now Hard interrupts then classes else [])
     ++ map (fact (On Soft) line) (if enabled_now Soft interrupts then classes else [])
 
--- no bit
-abbrev pub none : Usage
-none = record { 0 = 0 }
-
 -- for each class the set of the bits that stand there
 abbrev pub AreNoted : List UsageFact → List Usage → Type 0
 AreNoted facts known =
     (class : ℕ) (bit : Bit)
-    → has_bit (slice_index_or known class none) (usage_of bit)
+    → has_bit (slice_index_or known class no_bits) (usage_of bit)
     ≡ list_any (same_fact (fact bit 0 class)) facts

@@ -1,13 +1,15 @@
 -- What a reach keeps true of its fields, and what holds while it is spread. No public contract cites
 -- this file.
-use Rattle.std.specs.Prelude.{◌≡◌, ◌⊎◌, ◌↔◌, ℕ, ◌+◌, ◌<◌, ◌≤◌, ◌^◌, Bool, true, false, List, length, Option, None, Some, IsSome, Contains, slice_index_or, slice_set, nat_eq, [], ◌∷◌, ◌++◌, is_none, count_by, vec_len, vec_capacity}
+use Rattle.std.specs.Prelude.{◌≡◌, ◌⊎◌, ◌↔◌, ℕ, ◌+◌, ◌<◌, ◌≤◌, Bool, true, false, List, length, Option, None, Some}
+use Rattle.std.specs.Prelude.{IsSome, Contains, slice_index_or, slice_set, nat_eq, [], ◌∷◌, ◌++◌, is_none, count_by, vec_len, vec_capacity}
 use Rattle.std.specs.List.{IsDistinct}
+use Rattle.ld_graph.specs.declared.graph.TheConstants.{MOST_GRAPH_CLASSES}
 use Rattle.ld_reach.specs.declared.reach.Reach.TheInside.{Inside}
 use Rattle.ld_reach.specs.Reach.{IsSource, PlainReach}
 
 -- what callers see of the fields
-abbrev pub seen : Inside → PlainReach
-seen r = record {
+abbrev pub reach_of : Inside → PlainReach
+reach_of r = record {
   sources = r.sources.items;
   marks = r.marks.items;
   reached = r.reached.items;
@@ -30,7 +32,7 @@ pub record IsReachKept (r : Inside) : Type 0 where
   pub room_sources : vec_len r.marks + r.spare ≤ vec_capacity r.sources
   pub room_marks : vec_len r.marks + r.spare ≤ vec_capacity r.marks
   pub room_reached : vec_len r.marks + r.spare ≤ vec_capacity r.reached
-  pub few : vec_len r.marks + r.spare ≤ 2 ^ 30
+  pub few : vec_len r.marks + r.spare ≤ MOST_GRAPH_CLASSES
 
 -- The class has this source now, unless it had one, and is in the list.
 pub record IsGiven (class from : ℕ) (sources : List (Option ℕ)) (reached : List ℕ) (new_sources : List (Option ℕ)) (new_reached : List ℕ) : Type 0 where

@@ -1,8 +1,9 @@
 -- What is kept of some traces, with numbers for their classes. No contract of a `Book` cites this file.
-use Rattle.std.specs.Prelude.{◌≡◌, ◌≢◌, ℕ, ◌<◌, ◌≤◌, ◌++◌, List, flat_map, length, map, slice_index_or, [], All, AllPairs, Any, Option, Some, None, IsSome, option_map, MatchOption, if◌then◌else◌}
+use Rattle.std.specs.Prelude.{◌≡◌, ◌≢◌, ℕ, ◌<◌, ◌≤◌, ◌++◌, List, length, map, slice_index_or, [], All, AllPairs, Any, Option, Some, None, IsSome, option_map, MatchOption, if◌then◌else◌}
 use Rattle.std.specs.Option.{is_some}
-use Rattle.ld_class.specs.declared.names.TheConstants.{MAX_NAMES}
+use Rattle.ld_class.specs.declared.names.TheConstants.{MOST_NAMES}
 use Rattle.ld_class.specs.Names.{AreDistinct, place_of}
+use Rattle.ld_batch.specs.Inner.Names.{IsLonger}
 use Rattle.ld_trace.specs.declared.event.State.{State}
 use Rattle.ld_trace.specs.Sources.{PlainSource}
 use Rattle.ld_graph.specs.declared.Edge.{Edge}
@@ -10,13 +11,12 @@ use Rattle.ld_graph.specs.Edges as graphs
 use Rattle.ld_graph.specs.Walks.{HasWalk}
 use Rattle.ld_reach.specs.Reach.{PlainReach}
 use Rattle.ld_rules.specs.declared.outcome.Witness.{Witness}
-use Rattle.ld_facts.specs.Dependency.{Dependency, Seen, least_line, same_dependency}
-use Rattle.ld_facts.specs.Union.{classes_of, dependency_witness, earlier, union_classes, use_witness}
+use Rattle.ld_facts.specs.Dependency.{Dependency, same_dependency}
+use Rattle.ld_facts.specs.Union.{dependency_witness, earlier, union_classes, use_witness}
 use Rattle.ld_facts.specs.Usage.{Bit, Use, same_bit, same_use}
 use Rattle.ld_union.specs.declared.dependencies.Witnessed.{Witnessed}
 use Rattle.ld_union.specs.declared.states.PerState.{PerState}
 use Rattle.ld_union.specs.declared.usage.UsageRow.{UsageRow}
-use Rattle.ld_union.specs.Inner.Names.{IsLonger}
 use Rattle.ld_union.specs.Inner.Reached.{IsReachOf}
 use Rattle.ld_union.specs.Inner.States.{of_state}
 use Rattle.ld_union.specs.Usage.{bits_of, row_of}
@@ -54,17 +54,13 @@ pub record AreBetween (classes : List (List ℕ)) (rows : List Witnessed) : Type
 abbrev pub with_seen : (Dependency → Option Witness) → Dependency → Witness → Dependency → Option Witness
 with_seen first seen witness what = earlier_of (first what) (if same_dependency what seen then Some witness else None)
 
--- the first witnesses, where a trace of this number shows these dependencies too
-abbrev pub with_dependencies : (Dependency → Option Witness) → ℕ → List (Seen Dependency) → Dependency → Option Witness
-with_dependencies first number shown what = earlier_of (first what) (seen_in number (least_line same_dependency shown what))
+-- the first witnesses, where more was seen at these: of each the earlier one
+abbrev pub with_first : {A : Type 0} → (A → Option Witness) → (A → Option Witness) → A → Option Witness
+with_first first more what = earlier_of (first what) (more what)
 
 -- the first witnesses, where this bit of a class was seen there too
 abbrev pub with_use : (Use → Option Witness) → Use → Witness → Use → Option Witness
 with_use first seen witness what = earlier_of (first what) (if same_use what seen then Some witness else None)
-
--- the first witnesses, where a trace of this number shows these uses too
-abbrev pub with_uses : (Use → Option Witness) → ℕ → List (Seen Use) → Use → Option Witness
-with_uses first number shown what = earlier_of (first what) (seen_in number (least_line same_use shown what))
 
 -- the first witness of each bit of this class
 abbrev pub of_class : (Use → Option Witness) → List ℕ → Bit → Option Witness
@@ -104,7 +100,7 @@ IsCycleEdge edges closing = MatchOption closing (¬ ((e : Edge) × IsCycleAt edg
 -- usage, and for each state it is known what is reached.
 pub record IsUnion (classes : List (List ℕ)) (graph : graphs.PlainGraph) (dependencies : List Witnessed) (usage : List UsageRow) (closed_by : Option Edge) (reach : PerState PlainReach) : Type 0 where
   pub numbered : AreBetween classes dependencies
-  pub few : length classes ≤ MAX_NAMES
+  pub few : length classes ≤ MOST_NAMES
   pub count : graph.classes ≡ length classes
   pub edges : graph.edges ≡ edges_of dependencies
   pub rows : length usage ≡ length classes
@@ -120,7 +116,7 @@ pub record Shows (sources : List PlainSource) (union : PlainUnion) : Type 0 wher
   pub used : AreUsed union.classes union.usage (use_witness sources)
 
 -- Of whatever sources the union showed what they show, it now shows what those and these show. Classes keep
--- their numbers, and no more came than these have.
+-- their numbers, and no more came than these show.
 pub record Adds (more : List PlainSource) (old new : PlainUnion) : Type 0 where
   pub shows : (sources : List PlainSource) → Shows sources old → Shows (sources ++ more) new
-  pub longer : IsLonger old.classes new.classes (length (flat_map classes_of more))
+  pub longer : IsLonger old.classes new.classes (length (union_classes more))

@@ -6,7 +6,7 @@ use crate::streams::{
     ENABLE_WHILE_HELD, EVERY_KIND, EVERY_KIND_REPORT, FORBIDDEN, FORBIDDEN_REPORT,
     FORBIDDEN_THROUGH, FORBIDDEN_THROUGH_REPORT, FRAMES_APART, INVERSION, INVERSION_REPORT,
     MIXED_LINE_ENDS, ORDERS, ORDERS_REPORT, OUT_OF_ORDER_RELEASE, RECURSION, RECURSION_REPORT,
-    SAME_LABEL, THREE_TRACES, THREE_TRACES_REPORT, TRYLOCK_SOURCE, TRYLOCK_TARGET,
+    SAME_LABEL, THREE_TRACES, THREE_TRACES_REPORT, TRYLOCK_SOURCE, TRYLOCK_TARGET, TWENTY_EQUAL,
 };
 use ld_trace::StreamFault;
 use ld_work::NoGate;
@@ -51,6 +51,10 @@ fn reports_streams_without_a_violation(rt: HostRuntime) -> Result<(), Fail> {
             MIXED_LINE_ENDS,
             "traces 1 refused 0 events 2 classes 2 dependencies 1",
         ),
+        (
+            TWENTY_EQUAL,
+            "traces 20 refused 0 events 40 classes 2 dependencies 1",
+        ),
     ] {
         let text = format!(in rt.alloc(); "{counts}\nclean\n")?;
         assert_report(&rt, rt.alloc(), stream, text.as_bytes(), 0);
@@ -78,9 +82,9 @@ fn reports_each_violation(rt: HostRuntime) {
 
 #[test]
 fn two_workers_meet(rt: HostRuntime) {
-    let gate = Meeting::at(0, 1);
+    let gate = Meeting::of(0..1, 2);
     let report = report_of(&rt, rt.alloc(), INVERSION, 2, &gate).expect(&rt, "a report");
-    assert!(rt; gate.met());
+    assert_eq!(rt; gate.met(), 1);
     assert_eq!(rt; report.text.as_slice(), INVERSION_REPORT);
 }
 

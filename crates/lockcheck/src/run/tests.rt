@@ -7,7 +7,10 @@ use crate::check::MOST_WORKERS;
 use crate::devices::{Input, Output, Std};
 use crate::fakes::{FakeReader, FakeWriter, Mishap};
 use crate::report::Verdict;
-use crate::streams::{FORBIDDEN_THROUGH, FORBIDDEN_THROUGH_REPORT, INVERSION, INVERSION_REPORT};
+use crate::streams::{
+    FORBIDDEN_THROUGH, FORBIDDEN_THROUGH_REPORT, INVERSION, INVERSION_REPORT, TWENTY_EQUAL,
+    TWENTY_EQUAL_REPORT,
+};
 use ld_trace::StreamFault;
 use std::alloc::Global;
 use std::io;
@@ -17,19 +20,26 @@ use std::sync::Wait;
 use std::test::Fail;
 use std::thread::Threads;
 
-/// A std reader without bytes, whose first read is interrupted.
+/// A std reader of a slice, which gives 40 bytes a read. One of its reads, counted from 0, is interrupted.
 #[derive(Drop)]
-struct Interrupted {
-    was: bool,
+struct Interrupted<'a> {
+    rest: &'a [u8],
+    reads: usize,
+    failing: usize,
 }
 
-impl io::Read for Interrupted {
-    fn read(&mut self, _buffer: &mut [u8]) -> io::Result<usize> {
-        if self.was {
-            return Ok(0);
+impl io::Read for Interrupted<'_> {
+    fn read(&mut self, buffer: &mut [u8]) -> io::Result<usize> {
+        let read = self.reads;
+        self.reads = read.saturating_add(1);
+        if read == self.failing {
+            return Err(io::ErrorKind::Interrupted.into());
         }
-        self.was = true;
-        Err(io::ErrorKind::Interrupted.into())
+        let count = 40usize.min(buffer.len()).min(self.rest.len());
+        let (given, rest) = self.rest.split_at(count);
+        buffer[..count].copy_from_slice(given);
+        self.rest = rest;
+        Ok(count)
     }
 }
 
@@ -113,11 +123,18 @@ fn a_write_that_fails_after_a_first_part_leaves_it(rt: HostRuntime) {
 
 #[test]
 fn an_interrupted_read_is_read(rt: HostRuntime) {
-    let mut input = Std::new(Interrupted { was: false });
-    let mut output = FakeWriter::new(rt.alloc(), 5, Mishap::Nothing);
-    let outcome = run(&rt, rt.alloc(), &mut input, &mut output, 2);
-    assert_eq!(rt; outcome, Err(RunFault::Read));
-    assert_eq!(rt; output.written(), b"".as_slice());
+    // Each read in turn, the last of which finds the end.
+    for failing in 0..INVERSION.len().div_ceil(40) + 1 {
+        let mut input = Std::new(Interrupted {
+            rest: INVERSION,
+            reads: 0,
+            failing,
+        });
+        let mut output = FakeWriter::new(rt.alloc(), 5, Mishap::Nothing);
+        let outcome = run(&rt, rt.alloc(), &mut input, &mut output, 2);
+        assert_eq!(rt; outcome, Err(RunFault::Read), "at read {failing}");
+        assert_eq!(rt; output.written(), b"".as_slice());
+    }
 }
 
 #[test]
@@ -185,58 +202,85 @@ fn assert_inversion_through_std<R: Threads + Wait + Abort + Sync>(
     assert_eq!(rt; text.as_slice(), INVERSION_REPORT);
 }
 
+// A run that answered `Memory` for a longer stream or a longer report would meet every contract.
+#[test]
+fn two_thousand_traces_are_reported(rt: HostRuntime) -> Result<(), Fail> {
+    let mut stream = String::new(rt.alloc());
+    let mut wanted = String::from_str(
+        rt.alloc(),
+        "traces 2000 refused 1000 events 2000 classes 2 dependencies 1\n",
+    )?;
+    for number in 0..1_000u32 {
+        writeln!(stream, "trace t{number}\nacquire t A\nacquire t B")?;
+        writeln!(stream, "trace u{number}\nrelease t A")?;
+        writeln!(wanted, "refused u{number} line {} NotHeld", 5 * number + 5)?;
+    }
+    wanted.push_str("clean\n")?;
+    let mut text = Vec::new(rt.alloc());
+    let mut input = Std::new(stream.as_bytes());
+    let verdict = run(&rt, rt.alloc(), &mut input, &mut Std::new(&mut text), 4);
+    assert_eq!(rt; verdict, Ok(Verdict::Refused));
+    assert_eq!(rt; text.as_slice(), wanted.as_bytes());
+    Ok(())
+}
+
 // Under `rt try --test --fail-alloc N` one allocation is refused, another for each N, whichever thread
 // asks for it.
 
 #[test]
 fn a_refused_growth_writes_nothing(rt: HostRuntime) {
-    assert_whole_or_nothing(&rt, rt.alloc(), INVERSION, INVERSION_REPORT, 1);
+    let wanted = (INVERSION_REPORT, Verdict::Violations);
+    assert_whole_or_nothing(&rt, rt.alloc(), INVERSION, wanted, 1);
 }
 
 #[test]
 fn a_refused_growth_of_a_longer_walk_writes_nothing(rt: HostRuntime) {
-    assert_whole_or_nothing(
-        &rt,
-        rt.alloc(),
-        FORBIDDEN_THROUGH,
-        FORBIDDEN_THROUGH_REPORT,
-        1,
-    );
+    let wanted = (FORBIDDEN_THROUGH_REPORT, Verdict::Violations);
+    assert_whole_or_nothing(&rt, rt.alloc(), FORBIDDEN_THROUGH, wanted, 1);
+}
+
+#[test]
+fn a_refused_growth_of_twenty_traces_writes_nothing(rt: HostRuntime) {
+    let wanted = (TWENTY_EQUAL_REPORT, Verdict::Clean);
+    assert_whole_or_nothing(&rt, rt.alloc(), TWENTY_EQUAL, wanted, 1);
 }
 
 #[test]
 fn a_refused_growth_of_four_workers_writes_nothing(rt: HostRuntime) {
-    assert_whole_or_nothing(&rt, rt.alloc(), INVERSION, INVERSION_REPORT, 4);
+    let wanted = (INVERSION_REPORT, Verdict::Violations);
+    assert_whole_or_nothing(&rt, rt.alloc(), INVERSION, wanted, 4);
 }
 
 #[test]
 fn a_refused_growth_of_four_workers_on_a_longer_walk_writes_nothing(rt: HostRuntime) {
-    assert_whole_or_nothing(
-        &rt,
-        rt.alloc(),
-        FORBIDDEN_THROUGH,
-        FORBIDDEN_THROUGH_REPORT,
-        4,
-    );
+    let wanted = (FORBIDDEN_THROUGH_REPORT, Verdict::Violations);
+    assert_whole_or_nothing(&rt, rt.alloc(), FORBIDDEN_THROUGH, wanted, 4);
 }
 
-/// Asserts that a run over this stream writes this whole report of violations, or answers `Memory` and
-/// writes nothing.
+#[test]
+fn a_refused_growth_of_four_workers_on_twenty_traces_writes_nothing(rt: HostRuntime) {
+    let wanted = (TWENTY_EQUAL_REPORT, Verdict::Clean);
+    assert_whole_or_nothing(&rt, rt.alloc(), TWENTY_EQUAL, wanted, 4);
+}
+
+/// Asserts that a run over this stream writes this whole report and answers this verdict, or answers
+/// `Memory` and writes nothing.
 fn assert_whole_or_nothing<R: Threads + Wait + Abort + Sync>(
     rt: &R,
     alloc: Global,
     stream: &[u8],
-    text: &[u8],
+    wanted: (&[u8], Verdict),
     workers: usize,
 )
     requires { (1 ≤ workers) × (workers ≤ MOST_WORKERS) }
 {
+    let (text, verdict) = wanted;
     let mut room = [b'-'; 256];
     let mut input = FakeReader::new(stream, 40, None);
     let mut output = Std::new(Cursor::new(room.as_mut_slice()));
     match run(rt, alloc, &mut input, &mut output, workers) {
-        Ok(verdict) => {
-            assert_eq!(rt; verdict, Verdict::Violations);
+        Ok(answer) => {
+            assert_eq!(rt; answer, verdict);
             assert!(rt; room.starts_with(text));
             assert!(rt; room[text.len()..].iter().all(|byte| *byte == b'-'));
         }
@@ -246,3 +290,5 @@ fn assert_whole_or_nothing<R: Threads + Wait + Abort + Sync>(
         }
     }
 }
+
+mod cuts;

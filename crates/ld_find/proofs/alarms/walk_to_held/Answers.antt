@@ -1,6 +1,7 @@
 use Rattle.std.proofs.Common.{rules, ◌≡◌, ◌≢◌, All, ℕ, arith, get_or, subst}
 use Rattle.std.proofs.lemmas.List.{take_all}
 use Rattle.std.proofs.lemmas.List.Elements.{All-more}
+use Rattle.ld_class.specs.Usage.{no_bits}
 use Rattle.ld_facts.specs.Usage.{usage_of}
 use Rattle.ld_facts.specs.Usage.Bit.{On}
 use Rattle.ld_find.specs.Inner.Numbers.{IsForbiddenAt}
@@ -11,7 +12,7 @@ use Rattle.ld_find.proofs.alarms.walk_to_held.Goals as goal
 use Rattle.ld_find.proofs.alarms.walk_to_held.Goals.{else-eq, then-eq+in_default}
 
 abbrev no_bit : NewBit
-no_bit = record { class = 0; bit = record { 0 = 0 } }
+no_bit = record { class = 0; bit = no_bits }
 
 pub loop-told-preserved : goal.loop-told-preserved
 loop-told-preserved c =

@@ -1,5 +1,5 @@
 use Rattle.std.proofs.Common.{◌≢◌, ◌+◌, ◌<◌, ◌≤◌, ℕ, get_or, length, refl, subst, sym}
-use Rattle.ld_graph.specs.Inner.Repairs.{AreRanked, Reached}
+use Rattle.ld_graph.specs.Inner.Repairs.{AreRanked, IsOrReaches}
 use Rattle.ld_lists.specs.Lists.{IsNear}
 use Rattle.ld_graph.proofs.MendLemmas.{mended, mended_inverse, moved_ends, moved_once, moved_within}
 use Rattle.ld_graph.proofs.MendLemmas.{row_end, row_first}
@@ -17,8 +17,8 @@ returns-in_err-expanded-clause-ranks c =
     c.requires.against c.requires.rises c.requires.ends in
     rw c.from_residual.ensures (
       refl,
-      subst (λ z. Reached (IsNear c.args.lists.now.after.lists) z
-          c.args.a) first (subst (Reached (IsNear c.args.lists.now.after.lists) _) end
+      subst (λ z. IsOrReaches (IsNear c.args.lists.now.after.lists) z
+          c.args.a) first (subst (IsOrReaches (IsNear c.args.lists.now.after.lists) _) end
           c.in_err-expanded.ensures.plan),
     )
 

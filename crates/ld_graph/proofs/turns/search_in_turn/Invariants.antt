@@ -1,5 +1,5 @@
 use Rattle.std.proofs.Common.{◌≡◌, ◌+◌, ◌-◌, ◌*◌, ◌<◌, length}
-use Rattle.ld_graph.specs.Inner.Repairs.{IsClosed, IsSought}
+use Rattle.ld_graph.specs.Inner.Repairs.{HasAllNear, IsSought}
 use Rattle.ld_lists.specs.Lists.{IsNear}
 use Rattle.ld_graph.proofs.turns.search_in_turn.Given as goal
 
@@ -12,8 +12,8 @@ invariant-loop-low l = record {
   upto_behind : l.done < length l.behind.found;
   behind : IsSought (IsNear l.lists.before.lists) l.row (length l.row - 1) l.behind.found;
   ahead : IsSought (IsNear l.lists.after.lists) l.row 0 l.ahead.found;
-  behind_closed : IsClosed (IsNear l.lists.before.lists) l.ranks l.low l.row l.behind.found l.done;
-  ahead_closed : IsClosed (IsNear l.lists.after.lists) l.ranks l.low l.row l.ahead.found l.done;
+  behind_closed : HasAllNear (IsNear l.lists.before.lists) l.ranks l.low l.row l.behind.found l.done;
+  ahead_closed : HasAllNear (IsNear l.lists.after.lists) l.ranks l.low l.row l.ahead.found l.done;
 }
 
 -- each offset is expanded once

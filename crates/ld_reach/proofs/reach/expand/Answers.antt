@@ -26,7 +26,8 @@ pub give-requires-clause-class : goal.give-requires-clause-class
 give-requires-clause-class c =
     let here : Contains c.once-next-items.result.now (get_or c.once-next-items.result.now c.loop-next.next-index 0) =
     Contains-get_or c.once-next-items.result.now c.loop-next.next-index 0 c.loop-next-test.true in
-    let within = c.requires.ends c.args.class (get_or c.once-next-items.result.now c.loop-next.next-index 0) (subst (λ l. Contains l (get_or c.once-next-items.result.now c.loop-next.next-index 0)) c.once-next-items.ensures.near here) in
+    let within = c.requires.ends c.args.class (get_or c.once-next-items.result.now c.loop-next.next-index 0)
+    (subst (λ l. Contains l (get_or c.once-next-items.result.now c.loop-next.next-index 0)) c.once-next-items.ensures.near here) in
     omega (arith, within, c.once-next-items.auto.marks)
 
 pub loop-next-preserved : goal.loop-next-preserved

@@ -6,12 +6,14 @@ use Rattle.ld_reach.proofs.reach.spread.Goals as goal
 
 pub bounds-marks-class : goal.bounds-marks-class
 bounds-marks-class c =
-    let has = AreReached-has c.loop-done.sources c.loop-done.reached.items c.loop-done.invariant.listed c.loop-done.done c.index-class.result.now (omega (arith, c.loop-done-test.true, c.len.ensures, c.loop-done.reached.ok.0)) in
+    let has = AreReached-has c.loop-done.sources c.loop-done.reached.items c.loop-done.invariant.listed c.loop-done.done c.index-class.result.now
+    (omega (arith, c.loop-done-test.true, c.len.ensures, c.loop-done.reached.ok.0)) in
     omega (arith, has.1, c.index-class.ensures, c.loop-done.invariant.same)
 
 pub bounds : goal.bounds
 bounds c =
-    let has = AreReached-has c.loop-done.sources c.loop-done.reached.items c.loop-done.invariant.listed c.loop-done.done c.index-class.result.now (omega (arith, c.loop-done-test.true, c.len.ensures, c.loop-done.reached.ok.0)) in
+    let has = AreReached-has c.loop-done.sources c.loop-done.reached.items c.loop-done.invariant.listed c.loop-done.done c.index-class.result.now
+    (omega (arith, c.loop-done-test.true, c.len.ensures, c.loop-done.reached.ok.0)) in
     omega (arith, has.1, c.index-class.ensures)
 
 pub expand-requires-clause-ends : goal.expand-requires-clause-ends

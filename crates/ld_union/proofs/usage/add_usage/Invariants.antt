@@ -1,19 +1,19 @@
 use Rattle.std.proofs.Common.{◌≡◌, ◌-◌, ◌≤◌, ◌+◌, List, ℕ, Option, length, map, take, vec_len, vec_capacity}
 use Rattle.ld_class.specs.Names.{AreDistinct}
 use Rattle.ld_rules.specs.declared.outcome.Witness.{Witness}
-use Rattle.ld_facts.specs.Facts.{named_use}
-use Rattle.ld_facts.specs.Usage.{Use}
-use Rattle.ld_union.specs.Inner.Names.{ArePlaces}
+use Rattle.ld_facts.specs.Usage.{Use, same_use}
+use Rattle.ld_batch.specs.Batch.{named_use, witness_of}
+use Rattle.ld_batch.specs.Inner.Names.{ArePlaces}
 use Rattle.ld_union.specs.Inner.News.{TellsBits}
-use Rattle.ld_union.specs.Inner.Union.{AreUsed, with_uses}
+use Rattle.ld_union.specs.Inner.Union.{AreUsed, with_first}
 use Rattle.ld_union.specs.Usage.{bits_of}
 use Rattle.ld_union.proofs.usage.add_usage.Given as goal
 
 abbrev pub invariant-loop-seen : goal.invariant-loop-seen
 invariant-loop-seen l = record {
   len : length l.rows ≡ length l.fn.rows;
-  room : vec_len l.bits + (length l.facts.usage - l.seen-index) ≤ vec_capacity l.bits;
+  room : vec_len l.bits + (length l.batch.usage - l.seen-index) ≤ vec_capacity l.bits;
   told : TellsBits (bits_of l.fn.rows) (bits_of l.rows) l.bits.items;
-  used : (classes : List (List ℕ)) → AreDistinct classes → ArePlaces classes l.facts.classes l.places → (first : Use → Option Witness) → AreUsed classes l.fn.rows first
-      → AreUsed classes l.rows (with_uses first l.number (map (named_use l.facts.classes) (take l.seen-index l.facts.usage)));
+  used : (classes : List (List ℕ)) → AreDistinct classes → ArePlaces classes l.batch.classes l.places → (first : Use → Option Witness) → AreUsed classes l.fn.rows first
+      → AreUsed classes l.rows (with_first first (witness_of same_use (map (named_use l.batch.classes) (take l.seen-index l.batch.usage))));
 }

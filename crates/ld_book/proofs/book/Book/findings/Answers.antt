@@ -1,6 +1,5 @@
 use Rattle.std.proofs.Common.{subst}
 use Rattle.std.proofs.lemmas.Result.{IfOk-weaker}
-use Rattle.ld_book.specs.Book.{sources_of}
 use Rattle.ld_find.specs.Findings.{AreFindings, plain_findings}
 use Rattle.ld_union.specs.Usage.{bits_of}
 use Rattle.ld_find.proofs.FoundLemmas.{of_each_from_exact}
@@ -13,7 +12,7 @@ returns c =
     let union = c.self.inside.union in
     let shows = c.self.invariant.shows in
     let found = c.self.inside.found in
-    let sources = sources_of c.self.inside.listed.items in
+    let sources = c.self.inside.listing.sources in
     let exact = exact_from_found union.classes (bits_of union.usage) sources (bits_from_used union.classes union.usage sources shows.used)
     union.dependencies shows.numbered shows.witnesses found c.self.invariant.exact in
     IfOk-weaker c.findings_of.result _ (λ findings. AreFindings c.args.self.now (plain_findings findings))

@@ -4,7 +4,7 @@ use Rattle.ld_trace.specs.Events.{plain_lock}
 use Rattle.ld_trace.specs.Events.PlainEvent.{Release}
 use Rattle.ld_rules.specs.declared.fault.TraceFault.TheVariants.{NotHeld}
 use Rattle.ld_facts.specs.declared.scan.Stop.TheVariants.{Fault}
-use Rattle.ld_held.specs.Inner.Locks.{Known}
+use Rattle.ld_held.specs.Inner.Locks.{HeldByTasks}
 use Rattle.ld_facts.specs.Inner.Reading.{IsAt, happens}
 use Rattle.ld_facts.proofs.TaskLemmas.{scan_too_many_tasks}
 use Rattle.ld_facts.proofs.ReleaseLemmas.{release-not_held, release-at}
@@ -26,7 +26,7 @@ returns-else-branch-clause-fault c fault is all is_at =
 
 pub returns-then-branch-clause-ok : goal.returns-then-branch-clause-ok
 returns-then-branch-clause-ok c all line is_at =
-    subst (λ (locks : Known). IsAt (all ++ happens line (Release c.args.task.now (plain_lock c.args.lock)) ∷ [])
+    subst (λ (locks : HeldByTasks). IsAt (all ++ happens line (Release c.args.task.now (plain_lock c.args.lock)) ∷ [])
     (record { tasks = c.task.new.self.tasks; classes = c.task.new.self.classes; locks = locks; uses = c.task.new.self.uses })) (sym c.in_ok-let_go.ensures.stacks)
     (release-at all c.args.self.now is_at c.args.task.now (plain_lock c.args.lock) c.in_ok-task.task c.task.new.self c.in_ok-task.ensures.task line
     (sym c.in_ok-let_go.ensures.held ∙ c.if-branch.true))

@@ -6,11 +6,11 @@ use Rattle.ld_find.specs.Inner.Numbers.{named_pair}
 use Rattle.ld_union.specs.Inner.States.{of_state}
 use Rattle.ld_find.proofs.alarms.Found.named.Goals as goal
 
-pub name_of-requires : goal.name_of-requires
-name_of-requires c = c.requires.conflict Hard
+pub class_name-requires : goal.class_name-requires
+class_name-requires c = c.requires.conflict Hard
 
-pub name_of-requires-2 : goal.name_of-requires-2
-name_of-requires-2 c = c.requires.conflict Soft
+pub class_name-requires-2 : goal.class_name-requires-2
+class_name-requires-2 c = c.requires.conflict Soft
 
 pub end_names-requires : goal.end_names-requires
 end_names-requires c = c.requires.forbidden Hard
@@ -25,10 +25,10 @@ returns c = λ i. record {
   forbidden = λ state. forbidden state i;
 }
   where
-    conflict : (state : State) → option_map (λ name. name.now) (get_or (c.name_of.result ∷ c.name_of-2.result ∷ []) (state_place state) None)
+    conflict : (state : State) → option_map (λ name. name.now) (get_or (c.class_name.result ∷ c.class_name-2.result ∷ []) (state_place state) None)
         ≡ option_map (λ class. get_or c.args.classes.now class []) (of_state c.args.self.now.conflict state)
-    conflict Hard = c.name_of.ensures
-    conflict Soft = c.name_of-2.ensures
+    conflict Hard = c.class_name.ensures
+    conflict Soft = c.class_name-2.ensures
 
     forbidden : (state : State) → option_map {U = List ℕ × List ℕ} (λ p. (p.0.now, p.1.now)) (get_or (c.end_names.result ∷ c.end_names-2.result ∷ []) (state_place state) None)
         ≡ option_map (λ w. named_pair c.args.classes.now w.from w.to) (of_state c.args.self.now.forbidden state)

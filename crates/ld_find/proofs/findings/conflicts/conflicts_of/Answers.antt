@@ -4,7 +4,7 @@ use Rattle.ld_trace.specs.declared.event.State.{State}
 use Rattle.ld_facts.specs.Union.{use_witness}
 use Rattle.ld_facts.specs.Usage.Bit.{In}
 use Rattle.ld_find.specs.Findings.{InTurn, IsBefore, IsConflictRow, IsHarder, conflict_key, plain_conflict_row}
-use Rattle.ld_find.specs.Inner.Order.{name_of}
+use Rattle.ld_find.specs.Inner.ByName.{class_name}
 use Rattle.ld_find.specs.Inner.Rows.{AreConflictRowsOf, IsConflictRowOf, IsPassed}
 use Rattle.ld_find.specs.Violations.{IsConflict}
 use Rattle.ld_find.proofs.PassedLemmas.{name_at, passed_all, rows-more}
@@ -18,7 +18,7 @@ loop-class-preserved c sources shows =
     let classes = c.args.union.now.classes in
     let numbers = c.args.order.now.numbers.items in
     let i = c.loop-class.class-index in
-    let name : name_of classes (get_or c.deref-class-items.result.now i 0) ≡ name_at classes numbers i = ap (λ ns. name_of classes (get_or ns i 0)) c.deref-class-items.ensures.value in
+    let name : class_name classes (get_or c.deref-class-items.result.now i 0) ≡ name_at classes numbers i = ap (λ ns. class_name classes (get_or ns i 0)) c.deref-class-items.ensures.value in
     let within : i < length numbers = subst (λ ns. i < length ns) c.deref-class-items.ensures.value c.loop-class-test.true in
     let before = map plain_conflict_row c.loop-class.rows.items in
     let owed = λ (p : State × List ℕ). IsConflict sources p.0 p.1 in

@@ -6,7 +6,7 @@ use Rattle.ld_facts.specs.Union.{dependency_witness}
 use Rattle.ld_facts.specs.Dependency.{Dependency}
 use Rattle.ld_union.specs.declared.dependencies.Witnessed.{Witnessed}
 use Rattle.ld_find.specs.Findings.{IsShown, plain_cycle_row, plain_names}
-use Rattle.ld_find.specs.Inner.Order.{name_of}
+use Rattle.ld_find.specs.Inner.ByName.{class_name}
 use Rattle.ld_union.specs.Inner.Union.{edges_of}
 use Rattle.ld_find.proofs.CycleLemmas.{cycle-row, no_cycle-edge, no_cycle-walk, no_walk}
 use Rattle.ld_union.proofs.UnionLemmas.{edge_of_row, first_at, found_row}
@@ -37,7 +37,7 @@ returns c sources shows =
     let union = c.args.union.now in
     let a = c.args.target.now.class in
     let b = c.args.to in
-    let what : Dependency = record { from = name_of union.classes a; to = name_of union.classes b } in
+    let what : Dependency = record { from = class_name union.classes a; to = class_name union.classes b } in
     let n = c.in-Some.number in
     let found = subst (λ edges. IsEdgeNumber edges a b n) c.graph.ensures.edges c.in-Some.ensures in
     let at = ap (λ rows. Some (get_or rows n no_row).first) c.dependencies.ensures.same ∙ first_at union.classes union.dependencies shows.numbered
@@ -48,13 +48,13 @@ returns c sources shows =
       | then-to-target w ↦ ap plain_names (w.via-is ∙ w.from-via.ensures ∙ w.new.ensures.items)
       | else-to-target+in_ok-via+in-Some-2 w ↦ absurd (w.if-to-target.false same)
     ] in
-    let shown : b ≢ a → IsShown sources (name_of union.classes b) (name_of union.classes a) (plain_names c.if-to-target.via) = λ differs. elim c.if-to-target.branch [
+    let shown : b ≢ a → IsShown sources (class_name union.classes b) (class_name union.classes a) (plain_names c.if-to-target.via) = λ differs. elim c.if-to-target.branch [
       | then-to-target w ↦ absurd (differs w.if-to-target.true)
       | else-to-target+in_ok-via+in-Some-2 w ↦
-          subst (λ via. IsShown sources (name_of union.classes b) (name_of union.classes a) (plain_names via)) (sym w.via-is)
+          subst (λ via. IsShown sources (class_name union.classes b) (class_name union.classes a) (plain_names via)) (sym w.via-is)
           (MatchOption-at_some _ _ w.in-Some-2.via w.in-Some-2.is w.in_ok-via.ensures sources shows)
     ] in
     cycle-row union.classes union.dependencies shows.numbered sources shows.witnesses a b
     (plain_cycle_row (record { from = c.name.result; to = c.name-2.result; at = (get_or c.dependencies.result.now n no_row).first; via = c.if-to-target.via }))
     c.requires.class c.requires.to there
-    (c.name.ensures.name ∙ ap (λ names. name_of names a) c.classes.ensures.same) (c.name-2.ensures.name ∙ ap (λ names. name_of names b) c.classes-2.ensures.same) (sym at) none shown
+    (c.name.ensures.name ∙ ap (λ names. class_name names a) c.classes.ensures.same) (c.name-2.ensures.name ∙ ap (λ names. class_name names b) c.classes-2.ensures.same) (sym at) none shown

@@ -1,7 +1,7 @@
 use Rattle.std.proofs.Common.{◌≡◌, ◌<◌, ◌≤◌, ◌+◌, ◌∙◌, ◌++◌, get_or, length, map, subst, sym, ap}
 use Rattle.std.proofs.lemmas.List.{map-append}
 use Rattle.ld_find.specs.Findings.{AreCycleRows, IsBefore, IsCycleRow, IsPairBefore, cycle_key, plain_cycle_row}
-use Rattle.ld_find.specs.Inner.Order.{name_of}
+use Rattle.ld_find.specs.Inner.ByName.{class_name}
 use Rattle.ld_find.specs.Inner.Rows.{AreCycleRowsOf, IsPassed}
 use Rattle.ld_find.specs.Violations.{IsCycle}
 use Rattle.ld_find.proofs.NumberLemmas.{edge_from_depends}
@@ -15,7 +15,7 @@ loop-from-preserved c sources shows =
     let classes = union.classes in
     let numbers = c.args.order.now.numbers.items in
     let i = c.loop-from.from-index in
-    let name : name_of classes (get_or c.deref-from-items.result.now i 0) ≡ name_at classes numbers i = ap (λ ns. name_of classes (get_or ns i 0)) c.deref-from-items.ensures.value in
+    let name : class_name classes (get_or c.deref-from-items.result.now i 0) ≡ name_at classes numbers i = ap (λ ns. class_name classes (get_or ns i 0)) c.deref-from-items.ensures.value in
     let within : i < length numbers = subst (λ ns. i < length ns) c.deref-from-items.ensures.value c.loop-from-test.true in
     let before = map plain_cycle_row c.loop-from.rows.items in
     let more = map plain_cycle_row c.in_ok-more.more.items in

@@ -3,7 +3,7 @@ use Rattle.std.proofs.lemmas.List.{map-append}
 use Rattle.ld_facts.specs.Union.{use_witness}
 use Rattle.ld_facts.specs.Usage.Bit.{On}
 use Rattle.ld_find.specs.Findings.{IsBefore, IsPairBefore, plain_forbidden_row}
-use Rattle.ld_find.specs.Inner.Order.{name_of}
+use Rattle.ld_find.specs.Inner.ByName.{class_name}
 use Rattle.ld_find.specs.Inner.Rows.{AreTurnedRowsOf, IsPassed, IsRowIn, turned_key}
 use Rattle.ld_find.specs.Violations.{IsForbidden}
 use Rattle.ld_find.proofs.PassedLemmas.{name_at, passed_all, rows-next}
@@ -17,7 +17,7 @@ loop-to-preserved c sources shows =
     let numbers = c.args.order.now.numbers.items in
     let state = c.args.state in
     let i = c.loop-to.to-index in
-    let name : name_of classes (get_or c.deref-to-items.result.now i 0) ≡ name_at classes numbers i = ap (λ ns. name_of classes (get_or ns i 0)) c.deref-to-items.ensures.value in
+    let name : class_name classes (get_or c.deref-to-items.result.now i 0) ≡ name_at classes numbers i = ap (λ ns. class_name classes (get_or ns i 0)) c.deref-to-items.ensures.value in
     let within : i < length numbers = subst (λ ns. i < length ns) c.deref-to-items.ensures.value c.loop-to-test.true in
     let before = map plain_forbidden_row c.loop-to.rows.items in
     let more = map plain_forbidden_row c.in_ok-more.more.items in

@@ -1,7 +1,7 @@
 use Rattle.std.proofs.Common.{subst}
 use Rattle.std.proofs.lemmas.Option.{MatchOption-at_none, MatchOption-at_some}
 use Rattle.ld_facts.specs.Usage.Bit.{In}
-use Rattle.ld_find.specs.Inner.Order.{name_of}
+use Rattle.ld_find.specs.Inner.ByName.{class_name}
 use Rattle.ld_find.specs.Inner.Rows.{IsNoted}
 use Rattle.ld_find.specs.Findings.{plain_forbidden_row}
 use Rattle.ld_find.proofs.ForbiddenLemmas.{forbidden-row, no_forbidden-walk}
@@ -17,8 +17,8 @@ returns-in_default-2 c sources shows =
 pub returns : goal.returns
 returns c sources shows =
     let union = c.args.union.now in
-    let a = name_of union.classes c.args.from in
-    let b = name_of union.classes c.args.target.now.class in
+    let a = class_name union.classes c.args.from in
+    let b = class_name union.classes c.args.target.now.class in
     let acquired = c.in-Some.acquired in
     let held = c.args.held in
     forbidden-row sources a b (plain_forbidden_row (record {

@@ -2,7 +2,7 @@ use Rattle.std.proofs.Common.{◌≡◌, ◌<◌, ◌∙◌, All, MatchOption, l
 use Rattle.ld_graph.specs.Edges.{ComesBefore, IsEdge}
 use Rattle.ld_graph.specs.Walks.{HasWalk, IsShownWalk}
 use Rattle.ld_find.specs.Findings.{IsShown, plain_names}
-use Rattle.ld_find.specs.Inner.Order.{name_of}
+use Rattle.ld_find.specs.Inner.ByName.{class_name}
 use Rattle.ld_union.specs.Inner.Union.{edges_of}
 use Rattle.ld_find.proofs.ShownLemmas.{shown_named, shown_within}
 use Rattle.ld_find.proofs.findings.walks.walk_names.Goals as goal
@@ -27,8 +27,8 @@ returns c sources shows =
     let shown = subst (λ walk. MatchOption walk (¬ HasWalk (IsEdge (edges_of union.dependencies)) c.args.from c.args.target.now.class)
     (λ w. IsShownWalk (IsEdge (edges_of union.dependencies)) (ComesBefore c.deref-2.result.now) c.args.from c.args.target.now.class w.items)) c.in-Some.is told in
     let placed = subst (λ places. IsShownWalk (IsEdge (edges_of union.dependencies)) (ComesBefore places) c.args.from c.args.target.now.class c.in-Some.walk.items) c.deref-2.ensures.value shown in
-    let names : plain_names c.from.result ≡ map (name_of union.classes) c.in-Some.walk.items = ap plain_names c.from.ensures ∙ c.in_ok-names.ensures ∙
-    (λ i. map (name_of (c.classes.ensures.same i)) (c.deref-3.ensures.value i)) in
-    subst (IsShown sources (name_of union.classes c.args.from) (name_of union.classes c.args.target.now.class)) (sym names)
+    let names : plain_names c.from.result ≡ map (class_name union.classes) c.in-Some.walk.items = ap plain_names c.from.ensures ∙ c.in_ok-names.ensures ∙
+    (λ i. map (class_name (c.classes.ensures.same i)) (c.deref-3.ensures.value i)) in
+    subst (IsShown sources (class_name union.classes c.args.from) (class_name union.classes c.args.target.now.class)) (sym names)
     (shown_named union.classes union.dependencies shows.numbered sources shows.witnesses order.numbers.items order.places.items
     c.requires.order c.args.from c.args.target.now.class c.in-Some.walk.items c.requires.from c.requires.class placed)

@@ -6,7 +6,7 @@ use Rattle.ld_lists.specs.Lists.{IsNear, list_at}
 use Rattle.ld_graph.proofs.EdgeLemmas.{IsEdge-found, insert_key-new, IsNear-edge, IsNear-turned}
 use Rattle.ld_graph.proofs.EdgeLemmas.{ends_push, IsEdge-missing}
 use Rattle.ld_graph.specs.Order.{HasCycle, IsInserted}
-use Rattle.ld_graph.specs.Inner.Kept.{seen}
+use Rattle.ld_graph.specs.Inner.Kept.{graph_of}
 use Rattle.ld_graph.proofs.PlacedLemmas.{inserted, made, placed_cycle, placed_length, placed_rises}
 use Rattle.ld_graph.proofs.graph.Graph.insert.Goals as goal
 
@@ -128,7 +128,7 @@ returns-clause-inserted c =
     subst (λ g. IsInserted g c.args.a c.args.b c.place-answer.result (record (made c.self.inside
     c.self.invariant c.args.a c.args.b c.place-answer.new.has_cycle
     c.place-answer.new.ranks.ranks) { edges = c.insert.new.self.keys })) c.self.view_is
-    (subst (λ k. IsInserted (seen c.self.inside) c.args.a c.args.b c.place-answer.result (record
+    (subst (λ k. IsInserted (graph_of c.self.inside) c.args.a c.args.b c.place-answer.result (record
     (made c.self.inside c.self.invariant c.args.a c.args.b c.place-answer.new.has_cycle
     c.place-answer.new.ranks.ranks) { edges = k })) (sym keys)
     (inserted c.self.inside c.self.invariant c.args.a c.args.b c.place-answer.new.has_cycle

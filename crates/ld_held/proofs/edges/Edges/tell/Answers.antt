@@ -1,12 +1,12 @@
 use Rattle.std.proofs.Common.{◌≡◌, List, Bool, true, ap, ◌∙◌, fold, map, take}
 use Rattle.std.specs.List.{list_any}
 use Rattle.ld_held.specs.declared.edges.EdgeFact.{EdgeFact}
-use Rattle.ld_held.specs.Inner.Edges.{edge_to, with_edge}
+use Rattle.ld_held.specs.Inner.Edges.{edge_to, with_edge_fact}
 use Rattle.ld_held.proofs.LockLemmas.{told_keeps}
 use Rattle.ld_held.proofs.edges.Edges.tell.Goals as goal
 
 -- what was added in turn keeps what was there
-kept : (old new more : List EdgeFact) → new ≡ fold with_edge old more → (test : EdgeFact → Bool) → list_any test old ≡ true → list_any test new ≡ true
+kept : (old new more : List EdgeFact) → new ≡ fold with_edge_fact old more → (test : EdgeFact → Bool) → list_any test old ≡ true → list_any test new ≡ true
 kept old new more is test there = ap (list_any test) is ∙ told_keeps test old more there
 
 pub returns-in_err-add-clause-kept : goal.returns-in_err-add-clause-kept

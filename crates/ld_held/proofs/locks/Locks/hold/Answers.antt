@@ -2,7 +2,7 @@ use Rattle.std.proofs.Common.{◌<◌, ◌∷◌, [], ◌++◌, IfSome, List, le
 use Rattle.std.proofs.lemmas.List.{map-append}
 use Rattle.ld_held.specs.Inner.Stacks.{PlainHeld, PlainStack, empty_stack}
 use Rattle.ld_trace.specs.Events.{plain_lock}
-use Rattle.ld_held.specs.Inner.Locks.{AreTied, Hold, IsExtended, chain_of, hold_of, known_of}
+use Rattle.ld_held.specs.Inner.Locks.{AreTied, Hold, IsExtended, chain_of, hold_of, held_by_tasks}
 use Rattle.ld_held.proofs.LockLemmas.{holds_at, numbered, start_within, tied_push, shown_held, within_shown}
 use Rattle.ld_held.proofs.locks.Locks.hold.Goals as goal
 
@@ -27,7 +27,7 @@ pub returns : goal.returns
 returns c =
     let held : PlainHeld = record { lock = plain_lock c.args.lock; class = c.args.class; chain = c.in_ok-chain.chain } in
     let before = (get_or c.self.inside.stacks c.args.task empty_stack).held in
-    ap (λ (ss : List PlainStack). known_of ss c.self.inside.edges) c.push.ensures
+    ap (λ (ss : List PlainStack). held_by_tasks ss c.self.inside.edges) c.push.ensures
     ∙ shown_held c.self.inside.stacks c.self.inside.edges c.args.self.now c.args.task c.self.view_is (before ++ held ∷ []) (get_or c.args.self.now.stacks c.args.task [] ++ hold_of held ∷ [])
     (map-append hold_of before (held ∷ []) ∙ ap (λ (hs : List Hold). hs ++ hold_of held ∷ [])
     (sym (holds_at c.self.inside.stacks c.args.task) ∙ ap (λ k. get_or k.stacks c.args.task []) c.self.view_is))

@@ -6,17 +6,17 @@ use Rattle.ld_trace.specs.Events.{PlainLock, plain_lock}
 use Rattle.ld_held.specs.declared.edges.EdgeFact.{EdgeFact}
 use Rattle.ld_held.specs.declared.held.Held.{Held}
 use Rattle.ld_held.specs.Inner.Interrupts.{fresh, start_now}
-use Rattle.ld_held.specs.Inner.Locks.{AreTied, Known, hold_of, holds_of, is_of, known_of}
+use Rattle.ld_held.specs.Inner.Locks.{AreTied, HeldByTasks, hold_of, holds_of, is_of, held_by_tasks}
 use Rattle.ld_held.specs.Inner.Stacks.{PlainStack, empty_stack, holds, inner, plain_held}
-use Rattle.ld_rules.specs.Open.{remove_last}
+use Rattle.ld_rules.specs.Inner.Scanned.{remove_last}
 use Rattle.ld_rules.specs.declared.outcome.TheConstants.{MOST_HELD}
 use Rattle.ld_held.proofs.StackLemmas.{part_is}
 use Rattle.ld_held.proofs.LockLemmas.{any_shown, none_gone, removed_some, hold_gone, held_again, holds_at, holds_shown, interrupts_shown, shown_held, tied_cut, within_shown}
 use Rattle.ld_held.proofs.locks.Locks.let_go.Goals as goal
 
 -- what the search says of the innermost frame, as the fields show it
-module _ (stacks : List PlainStack) (edges : List EdgeFact) (known : Known) (task : ℕ) (lock : PlainLock) (held : List Held) (start : ℕ)
-    (is : known_of stacks edges ≡ known) (same : map plain_held held ≡ (get_or stacks task empty_stack).held) (starts : start ≡ start_now (get_or stacks task empty_stack).interrupts) where
+module _ (stacks : List PlainStack) (edges : List EdgeFact) (known : HeldByTasks) (task : ℕ) (lock : PlainLock) (held : List Held) (start : ℕ)
+    (is : held_by_tasks stacks edges ≡ known) (same : map plain_held held ≡ (get_or stacks task empty_stack).held) (starts : start ≡ start_now (get_or stacks task empty_stack).interrupts) where
   abbrev stack : PlainStack
   stack = get_or stacks task empty_stack
 
@@ -138,7 +138,7 @@ returns-in_ok-hold_all-clause-held c =
 
 pub returns-then-place-held-clause-stacks : goal.returns-then-place-held-clause-stacks
 returns-then-place-held-clause-stacks c =
-    ap (λ (ss : List PlainStack). known_of ss c.self.inside.edges) c.truncate.ensures
+    ap (λ (ss : List PlainStack). held_by_tasks ss c.self.inside.edges) c.truncate.ensures
     ∙ shown_held c.self.inside.stacks c.self.inside.edges c.args.self.now c.args.task c.self.view_is
     (take (c.start-start.result + c.in-Some.place) (get_or c.self.inside.stacks c.args.task empty_stack).held) _
     (top_gone c.self.inside.stacks c.self.inside.edges c.args.self.now c.args.task (plain_lock c.args.lock) c.held-held.result.now
@@ -148,8 +148,8 @@ returns-then-place-held-clause-stacks c =
 pub returns-in_ok-hold_all-clause-stacks : goal.returns-in_ok-hold_all-clause-stacks
 returns-in_ok-hold_all-clause-stacks c =
     let front = map hold_of (take (c.start-start.result + c.in-Some.place) (get_or c.self.inside.stacks c.args.task empty_stack).held) in
-    held_again c.args.self.now (known_of c.truncate-else-place-held.new.self c.self.inside.edges) c.hold_all.new.self c.args.task front (holds_of c.as_slice.result.now)
-    (ap (λ (ss : List PlainStack). known_of ss c.self.inside.edges) c.truncate-else-place-held.ensures
+    held_again c.args.self.now (held_by_tasks c.truncate-else-place-held.new.self c.self.inside.edges) c.hold_all.new.self c.args.task front (holds_of c.as_slice.result.now)
+    (ap (λ (ss : List PlainStack). held_by_tasks ss c.self.inside.edges) c.truncate-else-place-held.ensures
     ∙ shown_held c.self.inside.stacks c.self.inside.edges c.args.self.now c.args.task c.self.view_is
     (take (c.start-start.result + c.in-Some.place) (get_or c.self.inside.stacks c.args.task empty_stack).held) front refl)
     c.in_ok-hold_all.ensures c.requires

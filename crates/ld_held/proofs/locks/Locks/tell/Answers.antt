@@ -1,6 +1,6 @@
 use Rattle.std.proofs.Common.{◌≡◌, ℕ, List, get_or, sym, ap, ◌∙◌, map, fold}
 use Rattle.std.proofs.lemmas.Simd.{map-map}
-use Rattle.ld_held.specs.Inner.Edges.{edge_to, with_edge}
+use Rattle.ld_held.specs.Inner.Edges.{edge_to, with_edge_fact}
 use Rattle.ld_held.specs.declared.edges.EdgeFact.{EdgeFact}
 use Rattle.ld_held.specs.declared.held.Held.{Held}
 use Rattle.ld_held.specs.Inner.Stacks.{PlainHeld, PlainStack, empty_stack, inner, plain_held}
@@ -21,9 +21,10 @@ pub invariant_of-self : goal.invariant_of-self
 invariant_of-self c = tied_more c.self.inside.stacks c.self.inside.chains c.self.inside.told c.self.inside.edges c.self.invariant c.tell.new.self c.tell.ensures.kept
 
 -- what is told, as the fields show it
-told_of : (class line : ℕ) (edges new : List EdgeFact) (stack : PlainStack) (held : List Held) → new ≡ fold with_edge edges
-    (map (edge_to class line) (map (λ h. h.class) held)) → map plain_held held ≡ inner stack → new ≡ fold with_edge edges (map (edge_to class line) (classes_held (inner stack)))
-told_of class line edges new stack held is same = is ∙ ap (λ fs. fold with_edge edges (map (edge_to class line) fs)) (sym (map-map (λ (h : PlainHeld). h.class) plain_held held) ∙ ap classes_held same)
+told_of : (class line : ℕ) (edges new : List EdgeFact) (stack : PlainStack) (held : List Held) → new ≡ fold with_edge_fact edges
+    (map (edge_to class line) (map (λ h. h.class) held)) → map plain_held held ≡ inner stack → new ≡ fold with_edge_fact edges (map (edge_to class line) (classes_held (inner stack)))
+told_of class line edges new stack held is same = is ∙ ap (λ fs. fold with_edge_fact edges (map (edge_to class line) fs))
+    (sym (map-map (λ (h : PlainHeld). h.class) plain_held held) ∙ ap classes_held same)
 
 pub invariant_of-self-2 : goal.invariant_of-self-2
 invariant_of-self-2 c =

@@ -1,14 +1,14 @@
 use Rattle.std.proofs.Common.{◌-◌, ◌∷◌, [], ap, arith, cond, false, is_none, None, Option, subst, sym, ℕ}
 use Rattle.std.proofs.lemmas.List.Sums.{sum_by-append}
 use Rattle.ld_graph.specs.Edges.{IsEdge}
-use Rattle.ld_reach.specs.Inner.Kept.{seen}
+use Rattle.ld_reach.specs.Inner.Kept.{reach_of}
 use Rattle.ld_reach.specs.Reach.{IsReach, PlainReach}
 use Rattle.ld_reach.proofs.ReachLemmas.{AreReached-added, IsReach-added}
 use Rattle.ld_reach.proofs.reach.Reach.add_class.Goals as goal
 
 pub returns-clause-exact : goal.returns-clause-exact
 returns-clause-exact c = λ edges seeds exact.
-    rw (c.in-Ok-Ok.ensures.items, c.in-Ok-Ok.ensures'.items) (IsReach-added (IsEdge edges) seeds (seen c.self.inside) (c.self.inside.spare - 1)
+    rw (c.in-Ok-Ok.ensures.items, c.in-Ok-Ok.ensures'.items) (IsReach-added (IsEdge edges) seeds (reach_of c.self.inside) (c.self.inside.spare - 1)
     (subst (IsReach (IsEdge edges) seeds) (sym c.self.view_is) exact))
 
 pub invariant_of-self : goal.invariant_of-self

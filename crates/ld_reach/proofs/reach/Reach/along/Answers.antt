@@ -3,7 +3,7 @@ use Rattle.std.specs.Vec.{with_items}
 use Rattle.std.proofs.lemmas.List.{drop_all, get_or_default, with_items_is}
 use Rattle.std.proofs.lemmas.List.Elements.{Contains-push}
 use Rattle.ld_graph.specs.Edges.{IsEdge, edge}
-use Rattle.ld_reach.specs.Inner.Kept.{IsSpread, none_ahead, seen}
+use Rattle.ld_reach.specs.Inner.Kept.{IsSpread, none_ahead, reach_of}
 use Rattle.ld_lists.specs.Lists.{IsNear}
 use Rattle.ld_reach.specs.Reach.{IsReach, IsSource, PlainReach}
 use Rattle.ld_reach.proofs.ReachLemmas.{IsGiven-drop, IsSource-along, marks_len, spread-edge, spread-given, spread-reach, spread-same, spread-unmarked}
@@ -11,7 +11,7 @@ use Rattle.ld_reach.proofs.reach.Reach.along.Goals as goal
 
 pub returns-then-not-index-clause-exact : goal.returns-then-not-index-clause-exact
 returns-then-not-index-clause-exact c = λ before seeds is exact.
-    let old : PlainReach = seen c.self.inside in
+    let old : PlainReach = reach_of c.self.inside in
     let within : c.args.a < length old.marks = omega (arith, c.requires.from, c.requires.same, marks_len c.self.inside c.args.self.now c.self.view_is) in
     let was : IsReach (IsEdge before) seeds old = subst (IsReach (IsEdge before) seeds) (sym c.self.view_is) exact in
     let off : get_or old.marks c.args.a false ≡ false = get_or_default old.marks c.args.a false c.index.result.now within ∙ sym c.index.ensures ∙ c.if-not-index.true in
@@ -28,7 +28,7 @@ pub returns-clause-exact : goal.returns-clause-exact
 returns-clause-exact c = λ before seeds is exact.
     let step = IsEdge c.args.graph.now.edges in
     let near = IsNear c.lists.result.now.after.lists in
-    let old : PlainReach = seen c.self.inside in
+    let old : PlainReach = reach_of c.self.inside in
     let kept = marks_len c.self.inside c.args.self.now c.self.view_is in
     let was : IsReach (IsEdge before) seeds old = subst (IsReach (IsEdge before) seeds) (sym c.self.view_is) exact in
     let first : IsSpread step seeds (λ x y. (x ≡ c.args.a) × (y ≡ c.args.b)) old.sources old.marks [] =
@@ -47,9 +47,13 @@ returns-clause-exact c = λ before seeds is exact.
     c.deref_mut.result.now old.marks (drop c.len-known.result c.self.inside.reached.items) c.give.new.sources (drop c.len-known.result c.give.new.reached.items)
     (rw (c.deref_mut.ensures.value, none) first) (subst (IsSource step seeds c.args.b) from source)
     (omega (arith, c.requires.to, c.requires.same, kept, c.self.invariant.same, c.deref_mut.ensures.len)) (λ x y h. inr h.1)
-    (IsGiven-drop c.args.b c.unwrap_or-from.result c.deref_mut.result.now c.self.inside.reached.items c.give.new.sources c.give.new.reached.items c.len-known.result (omega (arith, c.len-known.ensures, c.self.inside.reached.ok.0)) c.give.ensures.given) in
-    let sources : c.deref_mut-2.result.now ≡ c.give.new.sources = c.deref_mut-2.ensures.value ∙ with_items_is c.self.inside.sources c.give.new.sources (omega (arith, c.give.auto.sources, c.deref_mut.ensures.len)) in
-    let ended = c.spread.ensures.spread seeds (rw (sources, c.deref_mut-3.ensures.value) (spread-same step near seeds none_ahead c.give.new.sources old.marks (drop c.len-known.result c.give.new.reached.items) (λ x y. ((c.lists.ensures.after x y).0, (c.lists.ensures.after x y).1)) given)) in
+    (IsGiven-drop c.args.b c.unwrap_or-from.result c.deref_mut.result.now c.self.inside.reached.items c.give.new.sources c.give.new.reached.items
+    c.len-known.result (omega (arith, c.len-known.ensures, c.self.inside.reached.ok.0)) c.give.ensures.given) in
+    let sources : c.deref_mut-2.result.now ≡ c.give.new.sources = c.deref_mut-2.ensures.value
+    ∙ with_items_is c.self.inside.sources c.give.new.sources (omega (arith, c.give.auto.sources, c.deref_mut.ensures.len)) in
+    let ended = c.spread.ensures.spread seeds (rw (sources, c.deref_mut-3.ensures.value)
+    (spread-same step near seeds none_ahead c.give.new.sources old.marks (drop c.len-known.result c.give.new.reached.items)
+    (λ x y. ((c.lists.ensures.after x y).0, (c.lists.ensures.after x y).1)) given)) in
     let done = spread-same near step seeds none_ahead c.spread.new.sources c.spread.new.marks [] (λ x y. ((c.lists.ensures.after x y).1, (c.lists.ensures.after x y).0)) ended in
     let reach = spread-reach step seeds c.spread.new.sources c.spread.new.marks done c.spread.new.reached.items c.self.inside.spare c.spread.new.steps in
     let sources_end : (with_items (with_items c.self.inside.sources c.give.new.sources) c.spread.new.sources).items ≡ c.spread.new.sources =

@@ -3,7 +3,7 @@ use Rattle.std.specs.Vec.{with_items}
 use Rattle.std.proofs.lemmas.List.{drop_all, get_or_default, with_items_is}
 use Rattle.std.proofs.lemmas.List.Elements.{Contains-push}
 use Rattle.ld_graph.specs.Edges.{IsEdge}
-use Rattle.ld_reach.specs.Inner.Kept.{IsSpread, all_ahead, none_ahead, seen}
+use Rattle.ld_reach.specs.Inner.Kept.{IsSpread, all_ahead, none_ahead, reach_of}
 use Rattle.ld_lists.specs.Lists.{IsNear}
 use Rattle.ld_reach.specs.Reach.{IsReach, PlainReach}
 use Rattle.ld_reach.proofs.ReachLemmas.{marks_len, reach-spread, spread-longer, spread-reach, spread-seeded, spread-seeded_again}
@@ -12,12 +12,13 @@ use Rattle.ld_reach.proofs.reach.Reach.seed.Goals as goal
 pub returns-then-index-clause-exact : goal.returns-then-index-clause-exact
 returns-then-index-clause-exact c = λ seeds exact.
     let step = IsEdge c.args.graph.now.edges in
-    let old : PlainReach = seen c.self.inside in
+    let old : PlainReach = reach_of c.self.inside in
     let was : IsReach step seeds old = subst (IsReach step seeds) (sym c.self.view_is) exact in
     let within : c.args.c < length old.marks = omega (arith, c.requires.class, c.requires.same, marks_len c.self.inside c.args.self.now c.self.view_is) in
     subst (IsReach step (seeds ++ c.args.c ∷ [])) c.self.view_is
     (spread-reach step (seeds ++ c.args.c ∷ []) old.sources old.marks
-    (spread-seeded_again step seeds c.args.c old.sources old.marks (get_or_default old.marks c.args.c false c.index.result.now within ∙ sym c.index.ensures ∙ c.if-index.true) (reach-spread step seeds old was)) old.reached old.spare old.expanded)
+    (spread-seeded_again step seeds c.args.c old.sources old.marks (get_or_default old.marks c.args.c false c.index.result.now within ∙ sym c.index.ensures ∙ c.if-index.true)
+    (reach-spread step seeds old was)) old.reached old.spare old.expanded)
 
 pub expand-requires-clause-ends : goal.expand-requires-clause-ends
 expand-requires-clause-ends c = λ x y h.
@@ -34,7 +35,7 @@ returns-clause-exact c = λ seeds exact.
     let step = IsEdge c.args.graph.now.edges in
     let near = IsNear c.lists-lists.result.now.after.lists in
     let all = seeds ++ c.args.c ∷ [] in
-    let old : PlainReach = seen c.self.inside in
+    let old : PlainReach = reach_of c.self.inside in
     let kept = marks_len c.self.inside c.args.self.now c.self.view_is in
     let was : IsReach step seeds old = subst (IsReach step seeds) (sym c.self.view_is) exact in
     let first : IsSpread near seeds none_ahead old.sources old.marks [] = spread-longer step near seeds none_ahead old.sources old.marks
@@ -42,9 +43,12 @@ returns-clause-exact c = λ seeds exact.
     let seeded : IsSpread near all (all_ahead near c.args.c) old.sources (set old.marks c.args.c true) [] =
     spread-seeded near seeds c.args.c old.sources old.marks (omega (arith, c.requires.class, c.requires.same, kept)) first in
     let none : drop c.len-known.result c.self.inside.reached.items ≡ [] = drop_all c.len-known.result c.self.inside.reached.items (omega (arith, c.len-known.ensures, c.self.inside.reached.ok.0)) in
-    let expanded = c.expand.ensures.spread c.len-known.result all (omega (arith, c.len-known.ensures)) (rw (c.deref_mut.ensures.value, c.deref_mut-2.ensures.value, none) seeded) (Contains-push seeds c.args.c, inl refl) in
-    let sources : c.deref_mut-3.result.now ≡ c.expand.new.sources = c.deref_mut-3.ensures.value ∙ with_items_is c.self.inside.sources c.expand.new.sources (omega (arith, c.expand.auto.sources, c.deref_mut.ensures.len)) in
-    let marks : c.deref_mut-4.result.now ≡ c.expand.new.marks = c.deref_mut-4.ensures.value ∙ with_items_is c.self.inside.marks c.expand.new.marks (omega (arith, c.expand.auto.marks, c.deref_mut-2.ensures.len)) in
+    let expanded = c.expand.ensures.spread c.len-known.result all (omega (arith, c.len-known.ensures))
+    (rw (c.deref_mut.ensures.value, c.deref_mut-2.ensures.value, none) seeded) (Contains-push seeds c.args.c, inl refl) in
+    let sources : c.deref_mut-3.result.now ≡ c.expand.new.sources = c.deref_mut-3.ensures.value
+    ∙ with_items_is c.self.inside.sources c.expand.new.sources (omega (arith, c.expand.auto.sources, c.deref_mut.ensures.len)) in
+    let marks : c.deref_mut-4.result.now ≡ c.expand.new.marks = c.deref_mut-4.ensures.value
+    ∙ with_items_is c.self.inside.marks c.expand.new.marks (omega (arith, c.expand.auto.marks, c.deref_mut-2.ensures.len)) in
     let ended = c.spread.ensures.spread all (rw (sources, marks) expanded) in
     let done = spread-longer near step all none_ahead c.spread.new.sources c.spread.new.marks
     (λ x y h. (c.lists-lists.ensures.after x y).0 h) (λ x y on h. inl ((c.lists-lists.ensures.after x y).1 h)) ended in

@@ -1,18 +1,17 @@
 use Rattle.std.proofs.Common.{rules, ◌≡◌, ◌+◌, ◌-◌, ◌<◌, ◌≤◌, ◌∙◌, List, [], ap, arith, get_or, length, subst, sym, take}
 use Rattle.std.proofs.lemmas.List.{length-take}
 use Rattle.std.proofs.Math.Seq.{take-length}
-use Rattle.ld_held.specs.declared.edges.EdgeFact.{EdgeFact}
-use Rattle.ld_facts.specs.Dependency.{Dependency, least_line, same_dependency}
-use Rattle.ld_facts.specs.Facts.{named}
-use Rattle.ld_facts.specs.Union.{dependencies_of}
-use Rattle.ld_union.specs.Inner.Union.{AreWitnessed, earlier_of, edges_of, named_edge, seen_in}
+use Rattle.ld_batch.specs.declared.edges.WitnessedEdge.{WitnessedEdge}
+use Rattle.ld_batch.specs.Batch.{named}
+use Rattle.ld_facts.specs.Dependency.{Dependency, same_dependency}
+use Rattle.ld_union.specs.Inner.Union.{AreWitnessed, earlier_of, edges_of, named_edge}
 use Rattle.ld_union.proofs.ReachedLemmas.{in_front-same, in_front-then}
 use Rattle.ld_union.proofs.SeenLemmas.{all_noted, dependencies_once, none_noted, one_noted}
 use Rattle.ld_union.proofs.UnionLemmas.{length_rows, same_dependency-true}
 use Rattle.ld_union.proofs.dependencies.Dependencies.add.Goals as goal
 
-abbrev no_fact : EdgeFact
-no_fact = record { from = 0; to = 0; line = 0 }
+abbrev no_edge : WitnessedEdge
+no_edge = record { from = 0; to = 0; witness = record { number = 0; line = 0 } }
 
 pub loop-seen-init : goal.loop-seen-init
 loop-seen-init c = record {
@@ -27,25 +26,26 @@ loop-seen-init c = record {
   closing = λ was. was;
   numbered = λ classes same numbered. numbered;
   witnesses = λ classes same numbered places first witnessed. subst (AreWitnessed classes c.args.self.now.rows.items)
-      (λ i what. none_noted same_dependency same_dependency-true (named c.args.facts.now.classes) c.args.facts.now.edges (first what) c.source-number.result.number what i) witnessed;
+      (λ i what. none_noted same_dependency same_dependency-true (named c.args.batch.now.classes) c.args.batch.now.edges (first what) what i) witnessed;
 }
 
 pub loop-seen-preserved : goal.loop-seen-preserved
 loop-seen-preserved c =
-    let facts = c.args.facts.now in
+    let batch = c.args.batch.now in
+    let exact = c.edges-seen-items.ensures.exact in
     let i = c.loop-seen.seen-index in
-    let here : i < length facts.edges = subst (λ (edges : List EdgeFact). i < length edges) c.edges-seen-items.ensures c.loop-seen-test.true in
+    let here : i < length batch.edges = subst (λ (edges : List WitnessedEdge). i < length edges) c.edges-seen-items.ensures.same c.loop-seen-test.true in
     let places = c.args.places.now in
-    let told : EdgeFact = get_or c.edges-seen-items.result.now i no_fact in
-    let same_told : told ≡ get_or facts.edges i no_fact = ap (λ (edges : List EdgeFact). get_or edges i no_fact) c.edges-seen-items.ensures in
-    let within : (told.from < length facts.classes) × (told.to < length facts.classes) =
-    subst (λ (edge : EdgeFact). (edge.from < length facts.classes) × (edge.to < length facts.classes)) (sym same_told) (c.source-number.ensures.known.within i no_fact here) in
-    let left : length facts.edges - i ≡ (length facts.edges - (i + 1)) + 1 = omega arith in
+    let told : WitnessedEdge = get_or c.edges-seen-items.result.now i no_edge in
+    let same_told : told ≡ get_or batch.edges i no_edge = ap (λ (edges : List WitnessedEdge). get_or edges i no_edge) c.edges-seen-items.ensures.same in
+    let within : (told.from < length batch.classes) × (told.to < length batch.classes) =
+    subst (λ (edge : WitnessedEdge). (edge.from < length batch.classes) × (edge.to < length batch.classes)) (sym same_told) (exact.within i no_edge here) in
+    let left : length batch.edges - i ≡ (length batch.edges - (i + 1)) + 1 = omega arith in
     record {
       count = search rules;
       edges = c.note.ensures.edges;
       spare_edges = omega (arith, c.loop-seen.invariant.spare_edges, c.note.ensures.spare_edges);
-      spare_rows = c.note.ensures.spare_rows (length facts.edges - (i + 1)) (omega (arith, c.loop-seen.invariant.spare_rows, left));
+      spare_rows = c.note.ensures.spare_rows (length batch.edges - (i + 1)) (omega (arith, c.loop-seen.invariant.spare_rows, left));
       front =
           let old = c.args.self.now.rows.items in
           c.note.ensures.front (length old)
@@ -58,24 +58,22 @@ loop-seen-preserved c =
       numbered = λ classes same numbered. c.note.ensures.numbered classes (same ∙ sym c.loop-seen.invariant.count) (c.loop-seen.invariant.numbered classes same numbered);
       witnesses = λ classes same numbered are first witnessed.
           let seen : Dependency = named_edge classes (record { from = get_or places told.from 0; to = get_or places told.to 0 }) in
-          let same_seen : seen ≡ (named facts.classes (get_or facts.edges i no_fact)).what = λ j. record {
-            from = ((are.each told.from within.0).1 ∙ ap (λ (edge : EdgeFact). get_or facts.classes edge.from []) same_told) j;
-            to = ((are.each told.to within.1).1 ∙ ap (λ (edge : EdgeFact). get_or facts.classes edge.to []) same_told) j;
+          let same_seen : seen ≡ (named batch.classes (get_or batch.edges i no_edge)).what = λ j. record {
+            from = ((are.each told.from within.0).1 ∙ ap (λ (edge : WitnessedEdge). get_or batch.classes edge.from []) same_told) j;
+            to = ((are.each told.to within.1).1 ∙ ap (λ (edge : WitnessedEdge). get_or batch.classes edge.to []) same_told) j;
           } in
           subst (AreWitnessed classes c.note.new.self.rows.items)
-          (λ j what. one_noted same_dependency same_dependency-true (named facts.classes) facts.edges
-          (dependencies_once facts c.source-number.ensures.known) i no_fact here (first what) c.source-number.result.number
-          told.line what seen (ap (λ (edge : EdgeFact). edge.line) same_told) same_seen j)
+          (λ j what. one_noted same_dependency same_dependency-true (named batch.classes) batch.edges
+          (dependencies_once batch exact) i no_edge here (first what) what seen told.witness (ap (λ (edge : WitnessedEdge). edge.witness) same_told) same_seen j)
           (c.note.ensures.noted classes (same ∙ sym c.loop-seen.invariant.count) (c.loop-seen.invariant.numbered classes same numbered) _
           (c.loop-seen.invariant.witnesses classes same numbered are first witnessed));
     }
 
 pub returns-clause-witnesses : goal.returns-clause-witnesses
 returns-clause-witnesses c classes same numbered are first witnessed =
-    let facts = c.args.facts.now in
-    let past : length facts.edges ≤ c.loop-seen.seen-index = subst (λ (edges : List EdgeFact). length edges ≤ c.loop-seen.seen-index) c.edges-seen-items.ensures c.loop-seen-test.false in
+    let batch = c.args.batch.now in
+    let past : length batch.edges ≤ c.loop-seen.seen-index = subst (λ (edges : List WitnessedEdge). length edges ≤ c.loop-seen.seen-index) c.edges-seen-items.ensures.same c.loop-seen-test.false in
     subst (AreWitnessed classes c.loop-seen.self.rows.items)
-    (λ j what. (all_noted same_dependency same_dependency-true (named facts.classes) facts.edges (first what) c.source-number.result.number c.loop-seen.seen-index what past
-    ∙ ap (λ line. earlier_of (first what) (seen_in c.source-number.result.number line)) (c.source-number.ensures.known.edges what)
-    ∙ ap (λ number. earlier_of (first what) (seen_in number (least_line same_dependency (dependencies_of facts.source) what))) (ap (λ s. s.number) c.source-number.ensures.source)) j)
+    (λ j what. (all_noted same_dependency same_dependency-true (named batch.classes) batch.edges (first what) c.loop-seen.seen-index what past
+    ∙ ap (earlier_of (first what)) (c.edges-seen-items.ensures.exact.edges what)) j)
     (c.loop-seen.invariant.witnesses classes same numbered are first witnessed)

@@ -1,25 +1,25 @@
 use Rattle.std.proofs.Common.{◌≡◌, ◌+◌, ◌-◌, ◌≤◌, List, ℕ, Option, length, map, take, vec_len, vec_capacity}
 use Rattle.ld_rules.specs.declared.outcome.Witness.{Witness}
-use Rattle.ld_facts.specs.Dependency.{Dependency}
-use Rattle.ld_facts.specs.Facts.{named}
-use Rattle.ld_union.specs.Inner.Names.{ArePlaces}
+use Rattle.ld_facts.specs.Dependency.{Dependency, same_dependency}
+use Rattle.ld_batch.specs.Batch.{named, witness_of}
+use Rattle.ld_batch.specs.Inner.Names.{ArePlaces}
 use Rattle.ld_union.specs.Inner.Reached.{AreInFront, HaveClasses, StayExact}
-use Rattle.ld_union.specs.Inner.Union.{AreBetween, AreWitnessed, IsCycleEdge, edges_of, with_dependencies}
+use Rattle.ld_union.specs.Inner.Union.{AreBetween, AreWitnessed, IsCycleEdge, edges_of, with_first}
 use Rattle.ld_union.proofs.dependencies.Dependencies.add.Given as goal
 
 abbrev pub invariant-loop-seen : goal.invariant-loop-seen
 invariant-loop-seen l = record {
   count : l.self.graph.classes ≡ l.fn.self.graph.classes;
   edges : l.self.graph.edges ≡ edges_of l.self.rows.items;
-  spare_edges : length l.facts.edges ≤ l.self.graph.spare_edges + l.seen-index;
-  spare_rows : vec_len l.self.rows + (length l.facts.edges - l.seen-index) ≤ vec_capacity l.self.rows;
+  spare_edges : length l.batch.edges ≤ l.self.graph.spare_edges + l.seen-index;
+  spare_rows : vec_len l.self.rows + (length l.batch.edges - l.seen-index) ≤ vec_capacity l.self.rows;
   front : take (length l.fn.self.rows.items) (edges_of l.self.rows.items) ≡ edges_of l.fn.self.rows.items;
   reach : HaveClasses l.self.graph.classes l.self.reach;
   reached : AreInFront l.fn.self.reach l.self.reach;
   exact : StayExact (edges_of l.fn.self.rows.items) (edges_of l.self.rows.items) l.fn.self.reach l.self.reach;
   closing : IsCycleEdge (edges_of l.fn.self.rows.items) l.fn.self.closing → IsCycleEdge (edges_of l.self.rows.items) l.self.closing;
   numbered : (classes : List (List ℕ)) → length classes ≡ l.fn.self.graph.classes → AreBetween classes l.fn.self.rows.items → AreBetween classes l.self.rows.items;
-  witnesses : (classes : List (List ℕ)) → length classes ≡ l.fn.self.graph.classes → AreBetween classes l.fn.self.rows.items → ArePlaces classes l.facts.classes l.places
+  witnesses : (classes : List (List ℕ)) → length classes ≡ l.fn.self.graph.classes → AreBetween classes l.fn.self.rows.items → ArePlaces classes l.batch.classes l.places
       → (first : Dependency → Option Witness) → AreWitnessed classes l.fn.self.rows.items first
-      → AreWitnessed classes l.self.rows.items (with_dependencies first l.number (map (named l.facts.classes) (take l.seen-index l.facts.edges)));
+      → AreWitnessed classes l.self.rows.items (with_first first (witness_of same_dependency (map (named l.batch.classes) (take l.seen-index l.batch.edges))));
 }

@@ -5,19 +5,19 @@ use Rattle.ld_graph.specs.Edges.{IsEdge}
 use Rattle.ld_reach.specs.Reach.{IsReach, PlainReach}
 use Rattle.ld_trace.specs.declared.event.State.{State}
 use Rattle.ld_trace.specs.declared.event.State.TheVariants.{Hard, Soft}
-use Rattle.ld_facts.specs.Union.{uses_of}
+use Rattle.ld_facts.specs.Union.{use_witness}
 use Rattle.ld_union.specs.declared.dependencies.Witnessed.{Witnessed}
 use Rattle.ld_union.specs.declared.news.NewBit.{NewBit}
 use Rattle.ld_union.specs.declared.usage.UsageRow.{UsageRow}
-use Rattle.ld_union.specs.Inner.Names.{ArePlaces, IsLonger, with_names}
+use Rattle.ld_batch.specs.Inner.Names.{ArePlaces, IsLonger, with_names}
 use Rattle.ld_union.specs.Inner.News.{Tells, TellsBits}
 use Rattle.ld_union.specs.Inner.Reached.{AreInFront, IsReachOf, IsSeeded, reached_by}
 use Rattle.ld_union.specs.Inner.States.{of_state}
-use Rattle.ld_union.specs.Inner.Union.{Adds, AreBetween, AreUsed, AreWitnessed, IsCycleEdge, PlainUnion, edges_of, with_uses}
+use Rattle.ld_union.specs.Inner.Union.{Adds, AreBetween, AreUsed, AreWitnessed, IsCycleEdge, PlainUnion, edges_of, with_first}
 use Rattle.ld_union.specs.Usage.{bits_of, row_of}
 use Rattle.ld_union.proofs.NewsLemmas.{tells-longer, tells-then, told_within}
 use Rattle.ld_union.proofs.ReachedLemmas.{in_front-equal, in_front-then, reach-seeded, reached_at, source_some, union-kept}
-use Rattle.ld_union.proofs.SourceLemmas.{adds-source}
+use Rattle.ld_union.proofs.SourceLemmas.{adds-batch}
 use Rattle.ld_union.proofs.UnionLemmas.{numbered-longer, witnessed-longer}
 use Rattle.ld_union.proofs.UsageLemmas.{used-longer}
 use Rattle.ld_union.proofs.union.Union.add.Goals as goal
@@ -34,15 +34,15 @@ module _ (c : goal.After-seed_all) where
   classes = c.intern_all.new.names
 
   abbrev count : ℕ
-  count = length c.args.facts.now.classes
+  count = length c.args.batch.now.classes
 
   longer : IsLonger c.self.inside.classes classes count
   longer = subst (λ names. IsLonger c.self.inside.classes classes (length names)) c.classes-2.ensures c.in_ok-intern_all.ensures.longer
 
-  names : classes ≡ with_names c.self.inside.classes c.args.facts.now.classes
+  names : classes ≡ with_names c.self.inside.classes c.args.batch.now.classes
   names = c.in_ok-intern_all.ensures.names ∙ ap (with_names c.self.inside.classes) c.classes-2.ensures
 
-  places : ArePlaces classes c.args.facts.now.classes c.intern_all.new.places.items
+  places : ArePlaces classes c.args.batch.now.classes c.intern_all.new.places.items
   places = subst (λ these. ArePlaces classes these c.intern_all.new.places.items) c.classes-2.ensures c.in_ok-intern_all.ensures.places
 
   -- before the dependencies were noted
@@ -127,16 +127,16 @@ module _ (c : goal.After-seed_all) where
 pub returns-clause-added : goal.returns-clause-added
 returns-clause-added c =
     let these = classes c in
-    let named = c.args.facts.now.classes in
-    subst (λ union. Adds (c.args.facts.now.source ∷ []) union (after c)) c.self.view_is
-    (subst (λ all. Adds (c.args.facts.now.source ∷ []) (before c) (with_rows c all)) (same_rows c)
-    (adds-source (before c) (with_rows c c.add.new.self.rows.items) c.args.facts.now c.add.ensures.known (c.add.ensures.numbered these (entered c) (numbered c)) (names c) (longer c)
+    let named = c.args.batch.now.classes in
+    subst (λ union. Adds c.args.batch.now.sources union (after c)) c.self.view_is
+    (subst (λ all. Adds c.args.batch.now.sources (before c) (with_rows c all)) (same_rows c)
+    (adds-batch (before c) (with_rows c c.add.new.self.rows.items) c.args.batch.now c.add.ensures.known (c.add.ensures.numbered these (entered c) (numbered c)) (names c) (longer c)
     (λ first witnessed.
     c.add.ensures.witnesses these (entered c) (numbered c) (subst (ArePlaces these named) (sym c.deref.ensures.value) (places c)) first
     (subst (λ all. AreWitnessed these all first) (sym (rows c))
     (witnessed-longer c.self.inside.classes these (old_rows c) (count c) c.self.invariant.numbered (longer c) first witnessed)))
     (λ first used.
-    subst (λ all. AreUsed these all (with_uses first c.args.facts.now.source.number (uses_of c.args.facts.now.source))) (sym (written c))
+    subst (λ all. AreUsed these all (with_first first (use_witness c.args.batch.now.sources))) (sym (written c))
     (c.add_usage.ensures.used these c.len.ensures.distinct (subst (ArePlaces these named) (sym c.deref-2.ensures.value) (places c)) first
     (subst (λ all. AreUsed these all first) (sym (usage c)) (used-longer c.self.inside.classes (old_usage c) first used these (count c) c.len.ensures.distinct (longer c)))))))
 

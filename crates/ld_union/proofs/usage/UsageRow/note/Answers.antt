@@ -1,5 +1,5 @@
 use Rattle.std.proofs.Common.{◌≡◌, ◌∙◌, None, Some, ap, get_or, set, sym}
-use Rattle.ld_class.specs.Usage.{union}
+use Rattle.ld_class.specs.Usage.{either}
 use Rattle.ld_facts.specs.Usage.{bit_of}
 use Rattle.ld_union.specs.Inner.Union.{earlier_of}
 use Rattle.ld_union.proofs.UsageLemmas.{row_then}
@@ -15,5 +15,5 @@ returns-clause-noted c first is =
       | in-Some w ↦ ap Some (w.earliest-is ∙ w.earlier-earliest.ensures) ∙ ap (λ before. earlier_of before (Some witness)) (sym w.in-Some.is)
       | in-None w ↦ ap Some w.earliest-is ∙ ap (λ before. earlier_of before (Some witness)) (sym w.in-None.is)
     ] in
-    ap (λ bits. record { bits = bits; first = set row.first place (Some c.match-self-place.earliest) }) (c.bitor_assign.ensures.after ∙ ap (union row.bits) c.requires)
+    ap (λ bits. record { bits = bits; first = set row.first place (Some c.match-self-place.earliest) }) (c.bitor_assign.ensures.after ∙ ap (either row.bits) c.requires)
     ∙ row_then first witness (bit_of c.args.bit) row place (Some c.match-self-place.earliest) is c.place_of-place.ensures least

@@ -1,0 +1,4 @@
+-- What only invariants, private functions and proofs cite: a reader of the promises needs none of it.
+pub mod Kept
+pub mod Names
+pub mod Rows

@@ -1,0 +1,166 @@
+//! `Batch`, which keeps what a few traces show together.
+ghost use Rattle.std.specs.Prelude.{◌≡◌, ◌<◌, ◌≤◌, ◌*◌, ◌++◌, ◌∷◌, [], None, IfOk, IfSome, OnErr, OnOk, length};
+ghost use Rattle.std.specs.List.{last_or};
+ghost use Rattle.ld_trace.specs.Sources.{Fits, plain};
+ghost use Rattle.ld_rules.specs.declared.outcome.TheConstants.{MOST_CLASSES};
+ghost use Rattle.ld_batch.specs.Batch.{AreOutcomes, IsBatch, sources_of};
+
+use crate::edges::{Edges, WitnessedEdge};
+use crate::names::intern_all;
+use crate::uses::{Uses, WitnessedUse};
+use ld_class::Classes;
+use ld_facts::{Facts, Listed, facts};
+use ld_trace::Source;
+use std::alloc::{AllocError, Global};
+use std::marker::Model;
+
+/// What a few traces show together: their union, with the first witnesses. It is exact by itself, and
+/// says nothing of what other batches have.
+///
+/// A refused trace is listed, and shows nothing.
+#[derive(Drop)]
+pub struct Batch<'a> {
+    listed: Vec<Listed<'a>>,
+    classes: Classes<'a>,
+    edges: Edges,
+    usage: Uses,
+    /// The numbers of the classes of the trace that came last, by their numbers there. It keeps its
+    /// memory for the next one.
+    places: Vec<u32>,
+}
+
+impl<'a> Model for Batch<'a> {
+    ghost use Rattle.ld_batch.specs.Batch.{PlainBatch};
+    ghost use Rattle.ld_batch.specs.Inner.Kept.{IsKept, batch_of};
+
+    ghost Value = { PlainBatch };
+
+    ghost view = { λ b. batch_of (record {
+      listed = b.listed.items;
+      classes = b.classes;
+      edges = b.edges.rows.items;
+      pairs = b.edges.pairs.keys;
+      usage = b.usage.rows.items;
+      known = b.usage.known.items;
+    }) };
+
+    ghost invariant = { λ b. IsKept (record {
+      listed = b.listed.items;
+      classes = b.classes;
+      edges = b.edges.rows.items;
+      pairs = b.edges.pairs.keys;
+      usage = b.usage.rows.items;
+      known = b.usage.known.items;
+    }) };
+}
+
+impl<'a> Batch<'a> {
+    /// A batch that lists no trace. Takes no memory.
+    pub fn new(alloc: Global) -> Batch<'a>
+        ensures { result ≡ record { sources = []; classes = []; edges = []; usage = [] } }
+    {
+        Batch {
+            listed: Vec::new(alloc),
+            classes: Classes::new(alloc),
+            edges: Edges::new(alloc),
+            usage: Uses::new(alloc),
+            places: Vec::new(alloc),
+        }
+    }
+
+    /// A batch of the one trace that these facts are of.
+    ///
+    /// # Errors
+    ///
+    /// `AllocError` where a growth of memory was refused.
+    pub fn of(alloc: Global, facts: &Facts<'a>) -> Result<Batch<'a>, AllocError>
+        ensures { IfOk result (λ batch. batch.sources ≡ facts.now.source ∷ []) }
+    {
+        let mut batch = Batch::new(alloc);
+        match batch.join(facts) {
+            Ok(()) => Ok(batch),
+            Err(refusal) => {
+                drop(batch);
+                Err(refusal)
+            }
+        }
+    }
+
+    /// Reads one more trace, whose number is above that of the last one, and lists it with its
+    /// outcome. What it shows is added; a refused trace shows nothing.
+    ///
+    /// # Errors
+    ///
+    /// `AllocError` where a growth of memory was refused. Nothing has changed then but spare memory.
+    pub fn push(&mut self, alloc: Global, source: Source<'a>) -> Result<(), AllocError>
+        requires fits { Fits (plain source) }
+        requires above { IfSome (last_or None self.old.sources)
+            (λ last. last.number < source.number) }
+        ensures ok { OnOk result (self.new.sources ≡ self.old.sources ++ plain source.entry ∷ []) }
+        ensures refused { OnErr result (self.new ≡ self.old) }
+    {
+        let facts = facts(alloc, source)?;
+        let joined = self.join(&facts);
+        drop(facts);
+        joined
+    }
+
+    /// Lists one more trace, and adds what it shows.
+    ///
+    /// `AllocError` where memory was refused. Nothing has changed then but spare memory.
+    fn join(&mut self, facts: &Facts<'a>) -> Result<(), AllocError>
+        requires above { IfSome (last_or None self.old.sources)
+            (λ last. last.number < facts.now.source.number) }
+        ensures ok { OnOk result (self.new.sources ≡ self.old.sources ++ facts.now.source ∷ []) }
+        ensures refused { OnErr result (self.new ≡ self.old) }
+    {
+        let source = facts.source();
+        let outcome = facts.outcome();
+        self.listed.reserve(1)?;
+        self.edges.room(facts.edges().len())?;
+        self.usage.room(facts.classes().len(), facts.usage().len())?;
+        intern_all(&mut self.classes, facts.classes(), &mut self.places)?;
+        // From here on nothing is refused.
+        self.usage.enter_classes(self.classes.len());
+        self.edges.join(facts.edges(), &self.places, source.number);
+        self.usage.join(facts.usage(), &self.places, source.number);
+        let Ok(()) = self.listed.push(Listed { source, outcome }) else {
+            unreachable!()
+        };
+        Ok(())
+    }
+
+    /// The traces with their outcomes, in order of their numbers. Takes no memory.
+    pub fn listed(&self) -> &[Listed<'a>]
+        ensures sources { sources_of result.now ≡ self.now.sources }
+        ensures outcomes { AreOutcomes result.now }
+        ensures exact { IsBatch self.now }
+        ensures few { length self.now.classes ≤ length self.now.sources * MOST_CLASSES }
+    {
+        &self.listed
+    }
+
+    /// The classes of the traces that are read, in order of first acquisition. Takes no memory.
+    pub fn classes(&self) -> &Classes<'a>
+        ensures { result.now ≡ self.now.classes }
+    {
+        &self.classes
+    }
+
+    /// The dependencies, each once with its first witness, in no promised order. Takes no memory.
+    pub fn edges(&self) -> &[WitnessedEdge]
+        ensures same { result.now ≡ self.now.edges }
+        ensures exact { IsBatch self.now }
+    {
+        &self.edges.rows
+    }
+
+    /// The usage bits, each of each class once with its first witness, in no promised order. Takes no
+    /// memory.
+    pub fn usage(&self) -> &[WitnessedUse]
+        ensures same { result.now ≡ self.now.usage }
+        ensures exact { IsBatch self.now }
+    {
+        &self.usage.rows
+    }
+}

@@ -1,0 +1,12 @@
+//! A batch of traces: what a few traces show together, by itself, before it goes to what many show.
+#![tactic(auto)]
+
+mod batch;
+mod edges;
+mod names;
+mod uses;
+
+pub use batch::Batch;
+pub use edges::WitnessedEdge;
+pub use names::intern_all;
+pub use uses::WitnessedUse;

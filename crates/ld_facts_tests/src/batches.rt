@@ -1,0 +1,280 @@
+//! Batches of traces, by what is told of each trace alone.
+use ld_batch::Batch;
+use ld_class::Usage;
+use ld_facts::{Facts, Outcome, TraceFault, Witness, facts};
+use ld_trace::{Source, split};
+use std::alloc::AllocError;
+use std::process::Abort;
+use std::test::Fail;
+
+/// Pushes a trace whose number is above the last one's.
+fn push<'a, R: AllocGlobal + Abort>(
+    rt: &R,
+    batch: &mut Batch<'a>,
+    source: Source<'a>,
+) -> Result<(), AllocError> {
+    assert!(rt; source.fits());
+    match batch.listed().last() {
+        Some(last) => {
+            let number = last.source.number;
+            assert!(rt; number < source.number);
+            batch.push(rt.alloc(), source)
+        }
+        None => batch.push(rt.alloc(), source),
+    }
+}
+
+/// A batch of these traces. What was refused memory is tried once more.
+fn batch_of<'a, R: AllocGlobal + Abort>(rt: &R, sources: &[Source<'a>]) -> Batch<'a> {
+    let mut batch = Batch::new(rt.alloc());
+    for source in sources {
+        if push(rt, &mut batch, *source).is_err() {
+            push(rt, &mut batch, *source).expect(rt, "memory");
+        }
+    }
+    batch
+}
+
+/// The sources of a stream. What was refused memory is tried once more.
+fn sources_of<'a, R: AllocGlobal + Abort>(rt: &R, bytes: &'a [u8]) -> Vec<Source<'a>> {
+    match split(rt.alloc(), bytes) {
+        Ok(sources) => sources,
+        Err(_) => split(rt.alloc(), bytes).expect(rt, "the sources of a stream"),
+    }
+}
+
+/// A dependency by names.
+#[derive(Clone, Copy, PartialEq, Eq)]
+struct NamedEdge<'a> {
+    from: &'a [u8],
+    to: &'a [u8],
+    witness: Witness,
+}
+
+/// A usage bit by name.
+#[derive(Clone, Copy, PartialEq, Eq)]
+struct NamedUse<'a> {
+    class: &'a [u8],
+    bit: Usage,
+    witness: Witness,
+}
+
+/// The union of some traces, as it is told of each of them alone.
+#[derive(Drop)]
+struct Told<'a> {
+    outcomes: Vec<Outcome>,
+    classes: Vec<&'a [u8]>,
+    edges: Vec<NamedEdge<'a>>,
+    usage: Vec<NamedUse<'a>>,
+}
+
+fn told_alone<'a, R: AllocGlobal + Abort>(
+    rt: &R,
+    sources: &[Source<'a>],
+) -> Result<Told<'a>, AllocError> {
+    let mut told = Told {
+        outcomes: Vec::new(rt.alloc()),
+        classes: Vec::new(rt.alloc()),
+        edges: Vec::new(rt.alloc()),
+        usage: Vec::new(rt.alloc()),
+    };
+    for source in sources {
+        assert!(rt; source.fits());
+        let facts = facts(rt.alloc(), *source)?;
+        told.outcomes.push(facts.outcome())?;
+        note_classes(&facts, &mut told.classes)?;
+        note_edges(rt, &facts, &mut told.edges)?;
+        note_usage(rt, &facts, &mut told.usage)?;
+        drop(facts);
+    }
+    Ok(told)
+}
+
+fn note_classes<'a>(facts: &Facts<'a>, classes: &mut Vec<&'a [u8]>) -> Result<(), AllocError> {
+    for id in 0..facts.classes().len() {
+        let name = facts.classes().name(id as u32);
+        if !classes.contains(&name) {
+            classes.push(name)?;
+        }
+    }
+    Ok(())
+}
+
+fn note_edges<'a, R: Abort>(
+    rt: &R,
+    facts: &Facts<'a>,
+    edges: &mut Vec<NamedEdge<'a>>,
+) -> Result<(), AllocError> {
+    let number = facts.source().number;
+    for edge in facts.edges() {
+        let line = edge.line;
+        let (from, to) = (name_of(rt, facts, edge.from), name_of(rt, facts, edge.to));
+        if !edges
+            .iter()
+            .any(|known| known.from == from && known.to == to)
+        {
+            edges.push(NamedEdge {
+                from,
+                to,
+                witness: Witness { number, line },
+            })?;
+        }
+    }
+    Ok(())
+}
+
+fn note_usage<'a, R: Abort>(
+    rt: &R,
+    facts: &Facts<'a>,
+    usage: &mut Vec<NamedUse<'a>>,
+) -> Result<(), AllocError> {
+    let number = facts.source().number;
+    for used in facts.usage() {
+        let (bit, line) = (used.bit, used.line);
+        let class = name_of(rt, facts, used.class);
+        if !usage
+            .iter()
+            .any(|known| known.class == class && known.bit == bit)
+        {
+            usage.push(NamedUse {
+                class,
+                bit,
+                witness: Witness { number, line },
+            })?;
+        }
+    }
+    Ok(())
+}
+
+fn name_of<'a, R: Abort>(rt: &R, facts: &Facts<'a>, class: u32) -> &'a [u8] {
+    assert!(rt; (class as usize) < facts.classes().len());
+    facts.classes().name(class)
+}
+
+fn batch_name<'a, R: Abort>(rt: &R, batch: &Batch<'a>, class: u32) -> &'a [u8] {
+    assert!(rt; (class as usize) < batch.classes().len());
+    batch.classes().name(class)
+}
+
+/// Asserts that the batch has just this union.
+fn assert_union<R: Abort>(rt: &R, batch: &Batch<'_>, told: &Told<'_>) {
+    assert_eq!(rt; batch.listed().len(), told.outcomes.len());
+    for (listed, outcome) in batch.listed().iter().zip(told.outcomes.iter()) {
+        assert_eq!(rt; listed.outcome, *outcome);
+    }
+    assert_eq!(rt; batch.classes().len(), told.classes.len());
+    for (id, name) in told.classes.iter().enumerate() {
+        assert!(rt; batch_name(rt, batch, id as u32) == *name);
+    }
+    assert_eq!(rt; batch.edges().len(), told.edges.len());
+    for edge in batch.edges() {
+        let named = NamedEdge {
+            from: batch_name(rt, batch, edge.from),
+            to: batch_name(rt, batch, edge.to),
+            witness: edge.witness,
+        };
+        assert!(rt; told.edges.contains(&named));
+    }
+    assert_eq!(rt; batch.usage().len(), told.usage.len());
+    for used in batch.usage() {
+        let named = NamedUse {
+            class: batch_name(rt, batch, used.class),
+            bit: used.bit,
+            witness: used.witness,
+        };
+        assert!(rt; told.usage.contains(&named));
+    }
+}
+
+#[test]
+fn a_dependency_has_its_first_witness(rt: HostRuntime) {
+    let bytes = b"trace d\nacquire t A\nacquire t B\ntrace d\nacquire t A\nacquire t B\n";
+    let sources = sources_of(&rt, bytes);
+    let batch = batch_of(&rt, &sources);
+    assert_eq!(rt; batch.edges().len(), 1);
+    assert_eq!(rt; batch.edges()[0].witness, Witness { number: 0, line: 3 });
+    drop(batch);
+}
+
+#[test]
+fn a_refused_trace_shows_nothing(rt: HostRuntime) {
+    let bytes = b"trace m\nacquire t A\nacquire t B\nlock t C\ntrace n\nacquire t A\nacquire t B\n";
+    let sources = sources_of(&rt, bytes);
+    let batch = batch_of(&rt, &sources);
+    assert_eq!(rt; batch.listed().len(), 2);
+    let fault = TraceFault::BadVerb;
+    assert_eq!(rt;
+        batch.listed()[0].outcome,
+        Outcome::Refused { line: 4, fault }
+    );
+    assert_eq!(rt; batch.listed()[1].outcome, Outcome::Read { events: 2 });
+    assert_eq!(rt; batch.classes().len(), 2);
+    assert_eq!(rt; batch.edges().len(), 1);
+    assert_eq!(rt; batch.edges()[0].witness, Witness { number: 1, line: 7 });
+    drop(batch);
+}
+
+/// Traces with common classes, dependencies and bits, in different orders and in each kind of frame.
+const TRACES: &[&[u8]] = &[
+    b"trace a\nacquire t A\nacquire t B\nrelease t B\nrelease t A\n",
+    b"trace b\nacquire t B\nacquire t A\nacquire t A@2\n",
+    b"trace c\nenter t hard\nacquire t C\nrelease t C\nexit t hard\nacquire t A\nacquire t C\n",
+    b"trace d\n",
+    b"trace e\nacquire t A\nacquire t B\nrelease t A\nacquire t C\nacquire u B\ntry u A\n",
+    b"trace f\ndisable t hard\nacquire t A\nacquire t B\nenable t hard\n",
+    b"trace g\nenter t soft\nacquire t S\nenter t hard\nacquire t A\nrelease t A\nexit t hard\n",
+    b"trace h\nacquire t B\nacquire t C\nacquire t A\nacquire t S\n",
+];
+
+/// The stream of these traces, with a trace that is refused at this place.
+fn stream_with_refused(rt: &impl AllocGlobal, place: usize) -> Result<Vec<u8>, AllocError> {
+    let mut bytes = Vec::new(rt.alloc());
+    for (at, section) in TRACES.iter().enumerate() {
+        if at == place {
+            bytes.extend_from_slice(b"trace m\nacquire t S\nacquire t X\nacquire t A\nlock t C\n")?;
+        }
+        bytes.extend_from_slice(section)?;
+    }
+    if place >= TRACES.len() {
+        bytes.extend_from_slice(b"trace m\nacquire t S\nacquire t X\nacquire t A\nlock t C\n")?;
+    }
+    Ok(bytes)
+}
+
+#[test]
+fn a_batch_is_the_union_of_what_its_traces_show(rt: HostRuntime) -> Result<(), Fail> {
+    for place in 0..=8 {
+        let bytes = stream_with_refused(&rt, place)?;
+        let sources = sources_of(&rt, &bytes);
+        for size in [1, 2, 3, 8] {
+            for some in sources.chunks(size) {
+                let batch = batch_of(&rt, some);
+                let told = told_alone(&rt, some)?;
+                assert_union(&rt, &batch, &told);
+                drop(batch);
+            }
+        }
+    }
+    Ok(())
+}
+
+#[test]
+fn a_refused_push_changes_nothing(rt: HostRuntime) -> Result<(), Fail> {
+    let bytes =
+        b"trace a\nacquire t A\nacquire t B\ntrace b\nacquire t B\nacquire t C\nacquire t A\n";
+    let sources = sources_of(&rt, bytes);
+    let mut batch = batch_of(&rt, &sources[..1]);
+    if push(&rt, &mut batch, sources[1]).is_err() {
+        assert_eq!(rt; batch.listed().len(), 1);
+        assert_eq!(rt; batch.classes().len(), 2);
+        assert_eq!(rt; batch.edges().len(), 1);
+        assert_eq!(rt; batch.usage().len(), 4);
+        push(&rt, &mut batch, sources[1])?;
+    }
+    assert_eq!(rt; batch.listed().len(), 2);
+    assert_eq!(rt; batch.classes().len(), 3);
+    assert_eq!(rt; batch.edges().len(), 4);
+    assert_eq!(rt; batch.usage().len(), 6);
+    drop(batch);
+    Ok(())
+}

@@ -1,0 +1,273 @@
+//! Desks in the hands of callers with threads of their own.
+ghost use Rattle.std.specs.Prelude.{◌≡◌};
+
+use crate::tests::{INVERSION, feed_one, sources_of, witness};
+use ld_book::{Refusal, Totals};
+use ld_facts::{Facts, Outcome, facts};
+use ld_trace::Source;
+use ld_work::{Back, Desk, Feeder, Tally};
+use std::alloc::{AllocError, Global};
+use std::marker::Brand;
+use std::process::Abort;
+use std::sync::Wait;
+use std::sync::atomic::{AtomicU64, Ordering};
+use std::sync::ledger::{Blank, Ledger};
+use std::test::Fail;
+use std::thread;
+use std::thread::Threads;
+
+const OUT_OF_ORDER_RELEASE: &[u8] =
+    b"trace o\nacquire t A\nacquire t B\nrelease t A\nacquire t C\n";
+
+fn tally(traces: u64, events: u64) -> Tally {
+    Tally { traces, events }
+}
+
+/// What the desk's book has, of whose traces none is refused.
+fn totals_of<T: Ledger, E: Ledger, R: Wait>(rt: &R, desk: &Desk<'_, T, E>) -> Totals {
+    desk.look(rt).book().totals()
+}
+
+fn totals(traces: u64, events: u64, classes: u64, dependencies: u64) -> Totals {
+    Totals {
+        traces,
+        refused: 0,
+        events,
+        classes,
+        dependencies,
+    }
+}
+
+/// Asserts that these are the facts of `OUT_OF_ORDER_RELEASE`.
+fn expect_whole<R: Abort>(rt: &R, facts: Facts<'_>) {
+    assert_eq!(rt; facts.source().number, 0);
+    assert_eq!(rt; facts.outcome(), Outcome::Read { events: 4 });
+    assert_eq!(rt; facts.classes().len(), 3);
+    assert_eq!(rt; facts.edges().len(), 2);
+    drop(facts);
+}
+
+/// Submits a trace whose number may be listed, and tells whether it was added.
+fn submit<'a, T: Ledger, E: Ledger, R: Wait + Abort>(
+    rt: &R,
+    alloc: Global,
+    desk: &Desk<'a, T, E>,
+    source: Source<'a>,
+    mut feeder: Feeder<T, E>,
+) -> (Feeder<T, E>, bool) {
+    assert!(rt; source.fits());
+    let facts = facts(alloc, source).expect(rt, "the facts of a trace");
+    let answer = desk.look(rt).submit(&mut feeder, facts);
+    let added = answer.is_ok();
+    match answer {
+        Ok(()) => {}
+        Err(Refusal::Twice(facts)) => expect_whole(rt, facts),
+        Err(Refusal::Memory(facts)) => {
+            assert!(rt; false, "memory is refused");
+            drop(facts);
+        }
+    }
+    (feeder, added)
+}
+
+/// Asserts that the tally of a feeder is that of the trace where it was added, and else of nothing.
+fn expect_counted<T: Ledger, E: Ledger, R: Abort>(rt: &R, feeder: &Feeder<T, E>, added: bool) {
+    let wanted = if added { tally(1, 4) } else { tally(0, 0) };
+    assert_eq!(rt; feeder.tally(), wanted);
+}
+
+/// Two threads submit the same trace to a desk, which is then gathered.
+fn one_trace_twice<T, E, R>(rt: &R, alloc: Global, traces: Blank, events: Blank) -> Result<(), Fail>
+where
+    T: Ledger + Send + Sync,
+    E: Ledger + Send + Sync,
+    R: Threads + Wait + Abort + Sync,
+    requires traces { (traces.name ≡ T.name) × (traces.parts ≡ T.parts) × (traces.parts ≡ 2) }
+    requires events { (events.name ≡ E.name) × (events.parts ≡ E.parts) × (events.parts ≡ 2) }
+{
+    let sources = sources_of(alloc, OUT_OF_ORDER_RELEASE)?;
+    assert_eq!(rt; sources.len(), 1);
+    let source = sources[0];
+    let made = Desk::<T, E>::new(alloc, traces, events, 2);
+    let (desk, mut feeders) = made.expect(rt, "a desk");
+    let second = feeders.pop().expect(rt, "a second feeder");
+    let first = feeders.pop().expect(rt, "a first feeder");
+    let shared = &desk;
+    let (first, second) = thread::join(
+        rt,
+        move || submit(rt, alloc, shared, source, first),
+        move || submit(rt, alloc, shared, source, second),
+    );
+    let (first, first_added) = first;
+    let (second, second_added) = second;
+    assert!(rt; first_added != second_added);
+    expect_counted(rt, &first, first_added);
+    expect_counted(rt, &second, second_added);
+    assert!(rt; feeders.push(first).is_ok());
+    assert!(rt; feeders.push(second).is_ok());
+    let all = desk.gather(feeders).ok().expect(rt, "both feeders");
+    assert_eq!(rt; all.tally, tally(1, 4));
+    assert_eq!(rt; all.book.totals(), totals(1, 4, 3, 2));
+    drop(all);
+    Ok(())
+}
+
+#[test]
+fn one_of_two_threads_adds_a_trace(rt: HostRuntime) -> Result<(), Fail> {
+    let (traces, events) = (Blank::new(2), Blank::new(2));
+    one_trace_twice::<Brand, Brand, _>(&rt, rt.alloc(), traces, events)
+}
+
+/// Adds four of these traces, from that place on, the last of them first.
+fn feed_four<'a, T: Ledger, E: Ledger, R: Wait + Abort>(
+    rt: &R,
+    alloc: Global,
+    desk: &Desk<'a, T, E>,
+    sources: &[Source<'a>],
+    first: u64,
+    mut feeder: Feeder<T, E>,
+) -> Feeder<T, E> {
+    let first = first as usize;
+    assert!(rt; first < sources.len() && sources.len() - first >= 4);
+    for place in (first..first + 4).rev() {
+        feed_one(rt, alloc, desk, sources[place], &mut feeder);
+    }
+    feeder
+}
+
+/// Sixteen threads add four of these 64 traces each to a desk. It is then gathered, first without one of
+/// the feeders, which hands the desk back.
+fn sixteen_feeders<'a, T, E, R>(
+    rt: &R,
+    alloc: Global,
+    traces: Blank,
+    events: Blank,
+    sources: &[Source<'a>],
+)
+where
+    T: Ledger + Send + Sync,
+    E: Ledger + Send + Sync,
+    R: Threads + Wait + Abort + Sync,
+    requires traces { (traces.name ≡ T.name) × (traces.parts ≡ T.parts) × (traces.parts ≡ 16) }
+    requires events { (events.name ≡ E.name) × (events.parts ≡ E.parts) × (events.parts ≡ 16) }
+{
+    let made = Desk::<T, E>::new(alloc, traces, events, 16);
+    let (desk, feeders) = made.expect(rt, "a desk");
+    let next = AtomicU64::new(0);
+    let (shared, place) = (&desk, &next);
+    let fed = thread::map_vec(
+        rt,
+        feeders,
+        &|feeder: Feeder<T, E>| {
+            feed_four(
+                rt,
+                alloc,
+                shared,
+                sources,
+                place.fetch_add(4, Ordering::SeqCst),
+                feeder,
+            )
+        },
+    );
+    let mut feeders = fed.expect(rt, "sixteen feeders");
+    let last = feeders.pop().expect(rt, "a last feeder");
+    let back = desk
+        .gather(feeders)
+        .err()
+        .expect(rt, "fifteen feeders back");
+    let Back { desk, mut feeders } = back;
+    assert_eq!(rt; feeders.len(), 15);
+    assert!(rt; feeders.push(last).is_ok());
+    let all = desk.gather(feeders).ok().expect(rt, "all feeders");
+    assert_eq!(rt; all.tally, tally(64, 128));
+    assert_eq!(rt; all.book.totals(), totals(64, 128, 2, 1));
+    assert_eq!(rt; all.book.edge(b"A", b"B"), witness(0, 3));
+    drop(all);
+}
+
+#[test]
+fn sixteen_threads_feed_a_desk(rt: HostRuntime) -> Result<(), Fail> {
+    let stream = b"trace a\nacquire t A\nacquire t B\n".repeat(rt.alloc(), 64)?;
+    let sources = sources_of(rt.alloc(), &stream)?;
+    let (traces, events) = (Blank::new(16), Blank::new(16));
+    sixteen_feeders::<Brand, Brand, _>(&rt, rt.alloc(), traces, events, &sources);
+    Ok(())
+}
+
+/// The facts of a trace, whichever allocation is refused, as long as it is one alone.
+fn facts_of<'a, R: Abort>(rt: &R, alloc: Global, source: Source<'a>) -> Facts<'a> {
+    assert!(rt; source.fits());
+    match facts(alloc, source) {
+        Ok(facts) => facts,
+        Err(AllocError) => facts(alloc, source).expect(rt, "the facts of a trace"),
+    }
+}
+
+/// Submits a trace whose number isn't listed. The facts come back where memory is refused.
+fn try_submit<'a, T: Ledger, E: Ledger, R: Wait + Abort>(
+    rt: &R,
+    desk: &Desk<'a, T, E>,
+    facts: Facts<'a>,
+    feeder: &mut Feeder<T, E>,
+) -> Option<Facts<'a>> {
+    let answer = desk.look(rt).submit(feeder, facts);
+    match answer {
+        Ok(()) => None,
+        Err(Refusal::Memory(facts)) => Some(facts),
+        Err(Refusal::Twice(facts)) => {
+            assert!(rt; false, "no trace is listed");
+            Some(facts)
+        }
+    }
+}
+
+/// Submits the first trace of a desk. Where memory is refused the tally and the book are as before, and
+/// the call made again answers `Ok`.
+fn submit_first<'a, T: Ledger, E: Ledger, R: Wait + Abort>(
+    rt: &R,
+    alloc: Global,
+    desk: &Desk<'a, T, E>,
+    source: Source<'a>,
+    feeder: &mut Feeder<T, E>,
+) {
+    let facts = facts_of(rt, alloc, source);
+    if let Some(facts) = try_submit(rt, desk, facts, feeder) {
+        assert_eq!(rt; feeder.tally(), tally(0, 0));
+        assert_eq!(rt; totals_of(rt, desk), totals(0, 0, 0, 0));
+        let back = try_submit(rt, desk, facts, feeder);
+        assert!(rt; back.is_none());
+        drop(back);
+    }
+    assert_eq!(rt; feeder.tally(), tally(1, 4));
+    assert_eq!(rt; totals_of(rt, desk), totals(1, 4, 2, 1));
+}
+
+/// The one feeder of a desk submits a trace, where a growth may be refused: then there is no desk, or the
+/// trace is submitted again.
+fn one_feeder<'a, T: Ledger, E: Ledger, R: Wait + Abort>(
+    rt: &R,
+    alloc: Global,
+    traces: Blank,
+    events: Blank,
+    source: Source<'a>,
+)
+    requires traces { (traces.name ≡ T.name) × (traces.parts ≡ T.parts) × (traces.parts ≡ 1) }
+    requires events { (events.name ≡ E.name) × (events.parts ≡ E.parts) × (events.parts ≡ 1) }
+{
+    if let Ok((desk, mut feeders)) = Desk::<T, E>::new(alloc, traces, events, 1) {
+        let mut feeder = feeders.pop().expect(rt, "a feeder");
+        assert!(rt; feeders.is_empty());
+        submit_first(rt, alloc, &desk, source, &mut feeder);
+        drop(desk);
+    }
+}
+
+// Under `rt try --test --fail-alloc N` one allocation is refused, another for each N.
+#[test]
+fn a_refused_submit_changes_nothing(rt: HostRuntime) -> Result<(), Fail> {
+    let sources = sources_of(rt.alloc(), INVERSION)?;
+    assert_eq!(rt; sources.len(), 2);
+    let (traces, events) = (Blank::new(1), Blank::new(1));
+    one_feeder::<Brand, Brand, _>(&rt, rt.alloc(), traces, events, sources[0]);
+    Ok(())
+}
