@@ -67,6 +67,7 @@ fn the_first_line_with_a_fault_refuses_a_stream(rt: HostRuntime) {
     let alloc = rt.alloc();
     assert!(rt; refuses(alloc, b"trace\n", StreamFault::BadHeader(1)));
     assert!(rt; refuses(alloc, b"trace a b\n", StreamFault::BadHeader(1)));
+    assert!(rt; refuses(alloc, b"trace m\r\r", StreamFault::BadHeader(1)));
     assert!(rt;
         refuses(
             alloc,

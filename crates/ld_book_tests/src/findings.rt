@@ -66,6 +66,22 @@ fn findings_are_refused_or_whole(rt: HostRuntime) {
 }
 
 #[test]
+fn two_opposite_orders_are_two_inversions(rt: HostRuntime) {
+    let bytes = b"trace ab\nacquire t A\nacquire t B\nrelease t B\nrelease t A\n\
+        trace ba\nacquire t B\nacquire t A\nrelease t A\nrelease t B\n";
+    let book = book_of(&rt, rt.alloc(), bytes, &[0, 1]);
+    let findings = book.findings(rt.alloc()).expect(&rt, "the findings");
+    let cycles = findings.cycles.items();
+    assert_eq!(rt; cycles.len(), 2);
+    expect_cycle(&rt, &cycles[0], (b"A", b"B"), witness(0, 3), &[b"B", b"A"]);
+    expect_cycle(&rt, &cycles[1], (b"B", b"A"), witness(1, 8), &[b"A", b"B"]);
+    assert!(rt; findings.conflicts.items().is_empty());
+    assert!(rt; findings.forbidden.items().is_empty());
+    drop(findings);
+    drop(book);
+}
+
+#[test]
 fn orders_classes_by_the_bytes_of_their_names(rt: HostRuntime) {
     let bytes = b"trace a\nacquire t a@1\nacquire t a@2\ntrace B\nacquire t B@1\nacquire t B@2\n\
         trace AA\nacquire t AA@1\nacquire t AA@2\ntrace A\nacquire t A@1\nacquire t A@2\n\
