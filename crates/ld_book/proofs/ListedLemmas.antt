@@ -7,7 +7,7 @@ use Rattle.std.proofs.lemmas.Simd.{map-map}
 use Rattle.std.specs.List.{IsDistinct}
 use Rattle.ld_trace.specs.Sources.{PlainSource, plain}
 use Rattle.ld_rules.specs.declared.outcome.Listed.{Listed}
-use Rattle.ld_book.specs.Book.{sources_of}
+use Rattle.ld_batch.specs.Batch.{sources_of}
 
 -- what has numbers that are apart, is apart by its number
 pub apart_by : {A : Type 0} (number : A → ℕ) (xs : List A) → AllPairs (λ m n. m ≢ n) (map number xs) → AllPairs (λ a b. number a ≢ number b) xs

@@ -1,17 +1,7 @@
 -- What a book shows to its callers.
-use Rattle.std.specs.Prelude.{◌≡◌, ℕ, Bool, ◌==◌, List, map, All}
+use Rattle.std.specs.Prelude.{ℕ, Bool, ◌==◌, List}
 use Rattle.std.specs.List.{list_any}
-use Rattle.ld_trace.specs.Sources.{PlainSource, plain}
-use Rattle.ld_rules.specs.declared.outcome.Listed.{Listed}
-use Rattle.ld_facts.specs.Outcome.{outcome}
-
--- the sources of a list
-abbrev pub sources_of : List Listed → List PlainSource
-sources_of listed = map (λ l. plain l.source) listed
-
--- each is listed with its outcome
-abbrev pub AreOutcomes : List Listed → Type 0
-AreOutcomes listed = All (λ l. l.outcome ≡ outcome (plain l.source)) listed
+use Rattle.ld_trace.specs.Sources.{PlainSource}
 
 -- one of the sources has this number
 abbrev pub is_listed : List PlainSource → ℕ → Bool

@@ -5,7 +5,8 @@ ghost use Rattle.std.specs.List.{list_any};
 ghost use Rattle.ld_trace.specs.declared.source.TheConstants.{MOST_TRACES};
 ghost use Rattle.ld_trace.specs.Sources.{Fits, plain};
 ghost use Rattle.ld_facts.specs.Outcome.{outcome};
-ghost use Rattle.ld_book.specs.Book.{AreOutcomes, is_any_listed, is_listed, sources_of};
+ghost use Rattle.ld_batch.specs.Batch.{AreOutcomes, sources_of};
+ghost use Rattle.ld_book.specs.Book.{is_any_listed, is_listed};
 ghost use Rattle.ld_book.specs.Totals.{events, refused};
 
 use crate::totals::{events_of, refused_of};

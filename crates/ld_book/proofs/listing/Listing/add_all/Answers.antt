@@ -2,7 +2,8 @@ use Rattle.std.proofs.Common.{◌≡◌, ◌<◌, ◌++◌, ◌∷◌, [], ◌�
 use Rattle.std.proofs.lemmas.List.{get_or-map, length-map, take_more}
 use Rattle.ld_trace.specs.Sources.{Fits, PlainSource, plain}
 use Rattle.ld_rules.specs.declared.outcome.Listed.{Listed}
-use Rattle.ld_book.specs.Book.{is_listed, sources_of}
+use Rattle.ld_batch.specs.Batch.{sources_of}
+use Rattle.ld_book.specs.Book.{is_listed}
 use Rattle.ld_book.proofs.ListingLemmas.{fresh_next}
 use Rattle.ld_book.proofs.listing.Listing.add_all.Goals as goal
 

@@ -3,7 +3,8 @@ use Rattle.std.proofs.lemmas.List.{get_or-map, length-map}
 use Rattle.std.proofs.lemmas.List.Folds.{list_any_at, list_any_more}
 use Rattle.ld_trace.specs.Sources.{PlainSource, plain}
 use Rattle.ld_rules.specs.declared.outcome.Listed.{Listed}
-use Rattle.ld_book.specs.Book.{is_listed, sources_of}
+use Rattle.ld_batch.specs.Batch.{sources_of}
+use Rattle.ld_book.specs.Book.{is_listed}
 use Rattle.ld_book.proofs.listing.Listing.has_any.Goals as goal
 
 abbrev none : PlainSource
