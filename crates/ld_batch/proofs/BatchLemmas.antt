@@ -17,8 +17,8 @@ use Rattle.ld_rules.proofs.PlaceLemmas.{by_pushes, last_or-push}
 use Rattle.ld_rules.proofs.StepLemmas.{Decides-same_dependency}
 use Rattle.ld_rules.proofs.UsageLemmas.{Decides-same_use}
 use Rattle.ld_facts.specs.Facts as facts
-use Rattle.ld_facts.specs.Facts.{IsKnown, Known}
-use Rattle.ld_batch.specs.Batch.{AreOutcomes, DoRise, IsBatch, IsUse, IsWithin, PlainBatch, named, named_use, sources_of, witness_of}
+use Rattle.ld_facts.specs.Facts.{IsKnown, PlainFacts}
+use Rattle.ld_batch.specs.Batch.{AreOutcomes, AreRising, IsBatch, IsUse, IsWithin, PlainBatch, named, named_use, sources_of, witness_of}
 use Rattle.ld_batch.specs.Inner.Kept.{Fields, IsKept}
 use Rattle.ld_batch.specs.Inner.Names.{ArePlaces, IsLonger, with_names}
 use Rattle.ld_batch.specs.Inner.Rows.{AreNoted, edge_of, pair_of, same_bit_row, same_pair, use_of, with_row}
@@ -28,7 +28,7 @@ use Rattle.ld_batch.proofs.SourceLemmas.{exact-joined, shown-push}
 use Rattle.ld_batch.proofs.TraceLemmas.{edges-agree, edges-longer, edges-once, edges-placed, uses-agree, uses-longer, uses-once, uses-placed, used-longer, used-placed, within-longer, within-placed}
 
 -- a number above the last one's is above all, where numbers rise
-above-push : (sources : List PlainSource) (last : PlainSource) (number : ℕ) → DoRise (sources ++ last ∷ []) → last.number < number → All (λ s. s.number < number) (sources ++ last ∷ [])
+above-push : (sources : List PlainSource) (last : PlainSource) (number : ℕ) → AreRising (sources ++ last ∷ []) → last.number < number → All (λ s. s.number < number) (sources ++ last ∷ [])
 above-push sources last number rise above k d within = by (cases_order k (length sources))
   where
     here : get_or (sources ++ last ∷ []) (length sources) d ≡ last
@@ -42,21 +42,21 @@ above-push sources last number rise above k d within = by (cases_order k (length
         omega (arith, rises, at, above)
     by (inr (inr after)) = absurd (omega (arith, within, after, length_push sources last))
 
-pub above_all : (sources : List PlainSource) (number : ℕ) → DoRise sources → IfSome (last_or None sources) (λ last. last.number < number) → All (λ s. s.number < number) sources
-above_all sources number = by_pushes (λ ss. DoRise ss → IfSome (last_or None ss) (λ last. last.number < number) → All (λ s. s.number < number) ss)
+pub above_all : (sources : List PlainSource) (number : ℕ) → AreRising sources → IfSome (last_or None sources) (λ last. last.number < number) → All (λ s. s.number < number) sources
+above_all sources number = by_pushes (λ ss. AreRising ss → IfSome (last_or None ss) (λ last. last.number < number) → All (λ s. s.number < number) ss)
     (λ rise above. All-nil (λ s. s.number < number))
     (λ ss s before rise above. above-push ss s number rise (subst (λ o. IfSome o (λ last. last.number < number)) (last_or-push None ss s) above))
     sources
 
 -- rising numbers below a bound are few
-at_least : (sources : List PlainSource) (d : PlainSource) → DoRise sources → (k : ℕ) → k < length sources → k ≤ (get_or sources k d).number
+at_least : (sources : List PlainSource) (d : PlainSource) → AreRising sources → (k : ℕ) → k < length sources → k ≤ (get_or sources k d).number
 at_least sources d rise zero within = omega arith
 at_least sources d rise (suc k) within =
     let rises = rise k (suc k) d (omega arith) within in
     let before = at_least sources d rise k (omega (arith, within)) in
     omega (arith, rises, before)
 
-pub few_below : (sources : List PlainSource) (number : ℕ) → DoRise sources → All (λ s. s.number < number) sources → length sources ≤ number
+pub few_below : (sources : List PlainSource) (number : ℕ) → AreRising sources → All (λ s. s.number < number) sources → length sources ≤ number
 few_below sources number rise below = by (length sources) refl
   where
     none : PlainSource
@@ -69,7 +69,7 @@ few_below sources number rise below = by (length sources) refl
         omega (arith, below n none within, at_least sources none rise n within)
 
 -- rising numbers of sources that fit are few
-pub few_sources : (sources : List PlainSource) → All Fits sources → DoRise sources → length sources ≤ 65535
+pub few_sources : (sources : List PlainSource) → All Fits sources → AreRising sources → length sources ≤ 65535
 few_sources sources fit rise = by (length sources) refl
   where
     none : PlainSource
@@ -83,7 +83,7 @@ few_sources sources fit rise = by (length sources) refl
         omega (arith, at_least sources none rise n within, low)
 
 -- the fields before and after, and the trace that was added
-pub record Joins (old new : Fields) (last : Listed) (known : Known) (places : List ℕ) : Type 0 where
+pub record Joins (old new : Fields) (last : Listed) (known : PlainFacts) (places : List ℕ) : Type 0 where
   pub is_known : IsKnown known
   pub source : plain last.source ≡ known.source
   pub outcome : last.outcome ≡ known.outcome
@@ -99,7 +99,7 @@ pub record Joins (old new : Fields) (last : Listed) (known : Known) (places : Li
   pub count : length new.known ≡ length new.classes
   pub noted : AreNoted new.usage new.known
 
-module _ (old new : Fields) (last : Listed) (known : Known) (places : List ℕ) (kept : IsKept old) (joins : Joins old new last known places) where
+module _ (old new : Fields) (last : Listed) (known : PlainFacts) (places : List ℕ) (kept : IsKept old) (joins : Joins old new last known places) where
   low : All (λ s. s.number < known.source.number) (sources_of old.listed)
   low = above_all (sources_of old.listed) known.source.number kept.exact.rise joins.above
 

@@ -16,7 +16,7 @@ use Rattle.ld_rules.specs.Usage.{bit_of, same_use, usage_of}
 use Rattle.ld_rules.proofs.StepLemmas.{Decides-same_dependency}
 use Rattle.ld_rules.proofs.UsageLemmas.{Decides-same_use}
 use Rattle.ld_facts.specs.Facts as facts
-use Rattle.ld_facts.specs.Facts.{IsKnown, Known}
+use Rattle.ld_facts.specs.Facts.{IsKnown, PlainFacts}
 use Rattle.ld_facts.proofs.NamedLemmas.{distinct-classes}
 use Rattle.ld_batch.specs.declared.edges.WitnessedEdge.{WitnessedEdge}
 use Rattle.ld_batch.specs.declared.uses.WitnessedUse.{WitnessedUse}
@@ -40,7 +40,7 @@ pairs-map R f (x ∷ xs) pairs =
     AllPairs-cons R (f x) (map f xs) (All-map (R (f x)) f xs (first_pairs (λ a b. R (f a) (f b)) x xs pairs)) (pairs-map R f xs (later_pairs (λ a b. R (f a) (f b)) x xs pairs))
 
 -- the classes of a trace are distinct
-known_distinct : (known : Known) → IsKnown known → AreDistinct known.classes
+known_distinct : (known : PlainFacts) → IsKnown known → AreDistinct known.classes
 known_distinct known is = subst AreDistinct (sym is.classes) (by (outcome known.source))
   where
     by : (o : Outcome) → AreDistinct (if_read o (classes (events (positions known.source))))
@@ -90,7 +90,7 @@ module _ (names more : List (List ℕ)) (count : ℕ) (longer : IsLonger names m
   used-longer rows within = All-weaker (IsUse names) (IsUse more) (λ u h. (omega (arith, h.0, longer.least), h.1)) rows within
 
 -- a trace whose classes have these numbers
-module _ (known : Known) (is : IsKnown known) (more : List (List ℕ)) (places : List ℕ) (are : ArePlaces more known.classes places) (number : ℕ) where
+module _ (known : PlainFacts) (is : IsKnown known) (more : List (List ℕ)) (places : List ℕ) (are : ArePlaces more known.classes places) (number : ℕ) where
   pub edges-placed : map (named more) (map (edge_of places number) known.edges) ≡ map (met number) (map (facts.named known.classes) known.edges)
   edges-placed =
       map-map (named more) (edge_of places number) known.edges

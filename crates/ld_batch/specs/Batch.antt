@@ -27,8 +27,8 @@ abbrev pub AreOutcomes : List Listed → Type 0
 AreOutcomes listed = All (λ l. l.outcome ≡ outcome (plain l.source)) listed
 
 -- the numbers rise
-abbrev pub DoRise : List PlainSource → Type 0
-DoRise sources = AllPairs (λ a b. a.number < b.number) sources
+abbrev pub AreRising : List PlainSource → Type 0
+AreRising sources = AllPairs (λ a b. a.number < b.number) sources
 
 -- something, and where it was first seen
 pub record Met (A : Type 0) : Type 0 where
@@ -69,7 +69,7 @@ IsUse classes used = (used.class < length classes) × IsBit used.bit
 -- with its first witness, and no other.
 pub record IsBatch (batch : PlainBatch) : Type 0 where
   pub fit : All Fits batch.sources
-  pub rise : DoRise batch.sources
+  pub rise : AreRising batch.sources
   pub classes : batch.classes ≡ union_classes batch.sources
   pub within : All (IsWithin batch.classes) batch.edges
   pub once : AllPairs (λ d e. (d.from ≡ e.from) × (d.to ≡ e.to) → ⊥) batch.edges

@@ -2,14 +2,14 @@
 use Rattle.std.proofs.Common.{◌≡◌, ◌≢◌, ◌*◌, ◌≤◌, ◌++◌, AllPairs, List, length, sym, ap, subst, arith, length-append}
 use Rattle.ld_trace.specs.Sources.{PlainSource}
 use Rattle.ld_rules.specs.declared.outcome.TheConstants.{MOST_CLASSES}
-use Rattle.ld_batch.specs.Batch.{DoRise, IsBatch, PlainBatch}
+use Rattle.ld_batch.specs.Batch.{AreRising, IsBatch, PlainBatch}
 use Rattle.ld_book.specs.Inner.Kept.{Fields, IsKept}
 use Rattle.ld_find.specs.Inner.Numbers.{AreFound}
 use Rattle.ld_union.specs.Usage.{bits_of}
 use Rattle.ld_union.specs.Inner.Union.{Adds, Shows, edges_of}
 
 -- no two sources whose numbers rise have one number
-pub apart_from_rise : (sources : List PlainSource) → DoRise sources → AllPairs (λ a b. a.number ≢ b.number) sources
+pub apart_from_rise : (sources : List PlainSource) → AreRising sources → AllPairs (λ a b. a.number ≢ b.number) sources
 apart_from_rise sources rise i j d low within same = let rises = rise i j d low within in omega (arith, rises, same)
 
 -- what is kept of some traces and those of a batch

@@ -15,7 +15,7 @@ use Rattle.ld_trace.specs.Events.{position_of, positions, said_by}
 use Rattle.ld_rules.specs.declared.outcome.Listed.{Listed}
 use Rattle.ld_facts.specs.Outcome.{FaultyLine, faulty_lines, outcome, outcome_by}
 use Rattle.ld_batch.specs.Batch.{sources_of}
-use Rattle.ld_book.specs.Totals.{events, events_read}
+use Rattle.ld_book.specs.Totals.{event_count, events_read}
 
 -- traces of distinct numbers are few
 pub few_listed : (listed : List Listed) (keys : List ℕ) → keys ≡ map (λ l. l.source.number) listed → All (λ l. Fits (plain l.source)) listed → IsDistinct nat_eq keys → length listed ≤ MOST_TRACES
@@ -62,15 +62,15 @@ few_events source fits =
     omega (arith, fits.bytes)
 
 -- so the events of few sources can be counted
-pub events_bounded : (sources : List PlainSource) → All Fits sources → events sources ≤ length sources * LONGEST_STREAM
+pub events_bounded : (sources : List PlainSource) → All Fits sources → event_count sources ≤ length sources * LONGEST_STREAM
 events_bounded sources fit = sum_by-le (λ source. events_read (outcome source)) LONGEST_STREAM sources (λ k d within. few_events _ (fit k d within))
 
 pub events_fit : (listed : List Listed) (keys : List ℕ) (count more : ℕ) (source : PlainSource) → keys ≡ map (λ l. l.source.number) listed → All
     (λ l. Fits (plain l.source)) listed → IsDistinct nat_eq keys
-    → count ≡ events (sources_of listed) → more ≡ events_read (outcome source) → Fits source → count + more < 2 ^ 64
+    → count ≡ event_count (sources_of listed) → more ≡ events_read (outcome source) → Fits source → count + more < 2 ^ 64
 events_fit listed keys count more source numbers fit distinct counted more_is fits =
     let few : length listed ≤ 65535 = few_listed listed keys numbers fit distinct in
     let same : length (sources_of listed) ≡ length listed = length-map listed (λ l. plain l.source) in
-    let old : events (sources_of listed) ≤ length (sources_of listed) * 2147483648 = events_bounded (sources_of listed) (All-map Fits (λ (l : Listed). plain l.source) listed fit) in
+    let old : event_count (sources_of listed) ≤ length (sources_of listed) * 2147483648 = events_bounded (sources_of listed) (All-map Fits (λ (l : Listed). plain l.source) listed fit) in
     let new : events_read (outcome source) ≤ 2147483648 = few_events source fits in
     omega arith

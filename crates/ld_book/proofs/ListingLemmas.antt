@@ -12,7 +12,7 @@ use Rattle.ld_facts.specs.Outcome.{outcome}
 use Rattle.ld_batch.proofs.MetLemmas.{fails_at}
 use Rattle.ld_batch.specs.Batch.{sources_of}
 use Rattle.ld_book.specs.Book.{is_any_listed, is_listed}
-use Rattle.ld_book.specs.Totals.{events, events_read, is_refused, refused}
+use Rattle.ld_book.specs.Totals.{event_count, events_read, is_refused, refused_count}
 
 -- the test of the numbers that are kept
 pub listed_any : (listed : List Listed) (keys : List ℕ) (number : ℕ) → keys ≡ map (λ l. l.source.number) listed → list_any (nat_eq number) keys ≡ is_listed (sources_of listed) number
@@ -27,18 +27,18 @@ sources-push listed last = map-append (λ l. plain l.source) listed (last ∷ []
 
 -- their events, and how many are refused
 pub events-push : (listed : List Listed) (last : Listed) → last.outcome ≡ outcome (plain last.source)
-    → events (sources_of (listed ++ last ∷ [])) ≡ events (sources_of listed) + events_read last.outcome
+    → event_count (sources_of (listed ++ last ∷ [])) ≡ event_count (sources_of listed) + events_read last.outcome
 events-push listed last is =
-    ap events (sources-push listed last)
+    ap event_count (sources-push listed last)
     ∙ fold_push (λ n source. n + events_read (outcome source)) 0 (sources_of listed) (plain last.source)
-    ∙ ap (λ o. events (sources_of listed) + events_read o) (sym is)
+    ∙ ap (λ o. event_count (sources_of listed) + events_read o) (sym is)
 
 pub refused-push : (listed : List Listed) (last : Listed) → last.outcome ≡ outcome (plain last.source)
-    → refused (sources_of (listed ++ last ∷ [])) ≡ refused (sources_of listed) + cond (is_refused last.outcome) 1 0
+    → refused_count (sources_of (listed ++ last ∷ [])) ≡ refused_count (sources_of listed) + cond (is_refused last.outcome) 1 0
 refused-push listed last is =
-    ap refused (sources-push listed last)
+    ap refused_count (sources-push listed last)
     ∙ fold_push (λ n source. n + cond (is_refused (outcome source)) 1 0) 0 (sources_of listed) (plain last.source)
-    ∙ ap (λ o. refused (sources_of listed) + cond (is_refused o) 1 0) (sym is)
+    ∙ ap (λ o. refused_count (sources_of listed) + cond (is_refused o) 1 0) (sym is)
 
 -- one of some traces that are apart, none of which is listed, isn't listed with those before it
 pub fresh_next : (sources : List PlainSource) (more : List PlainSource) (i : ℕ) (d : PlainSource) → i < length more → is_any_listed sources more ≡ false

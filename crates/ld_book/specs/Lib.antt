@@ -1,6 +1,5 @@
 pub mod Totals
 pub mod Book
-pub mod Rising
 pub mod Inner
 pub use Rattle.ld_find.specs.Violations
 pub use Rattle.ld_find.specs.Alarms

@@ -18,20 +18,20 @@ events_read (Read count) = count
 events_read (Refused line fault) = 0
 
 -- how many of the sources are refused
-abbrev pub refused : List PlainSource → ℕ
-refused sources = count_by (λ source. is_refused (outcome source)) sources
+abbrev pub refused_count : List PlainSource → ℕ
+refused_count sources = count_by (λ source. is_refused (outcome source)) sources
 
 -- the sum of the events over those that are read
-abbrev pub events : List PlainSource → ℕ
-events sources = sum_by (λ source. events_read (outcome source)) sources
+abbrev pub event_count : List PlainSource → ℕ
+event_count sources = sum_by (λ source. events_read (outcome source)) sources
 
 -- Traces: the length of the list. Refused: how many are refused. Events: the sum over those that
 -- are read. Classes and dependencies: the numbers of distinct ones in the union.
 abbrev pub totals : List PlainSource → Totals
 totals sources = record {
   traces = length sources;
-  refused = refused sources;
-  events = events sources;
+  refused = refused_count sources;
+  events = event_count sources;
   classes = length (union_classes sources);
   dependencies = length (union_dependencies sources);
 }

@@ -158,7 +158,7 @@ impl<'a> Book<'a> {
         self.listing.room(traces.len())?;
         self.union.add(batch, &mut self.news)?;
         // From here on nothing is refused.
-        self.found.look(&self.union, &self.news);
+        self.found.note(&self.union, &self.news);
         self.listing.add_all(traces);
         Ok(())
     }

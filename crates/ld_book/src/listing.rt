@@ -7,7 +7,7 @@ ghost use Rattle.ld_trace.specs.Sources.{Fits, plain};
 ghost use Rattle.ld_facts.specs.Outcome.{outcome};
 ghost use Rattle.ld_batch.specs.Batch.{AreOutcomes, sources_of};
 ghost use Rattle.ld_book.specs.Book.{is_any_listed, is_listed};
-ghost use Rattle.ld_book.specs.Totals.{events, refused};
+ghost use Rattle.ld_book.specs.Totals.{event_count, refused_count};
 
 use crate::totals::{events_of, refused_of};
 use indexmap::IndexSet;
@@ -132,14 +132,14 @@ impl<'a> Listing<'a> {
 
     /// How many events those traces have that are read.
     pub(crate) fn events(&self) -> u64
-        ensures { result ≡ events self.now.sources }
+        ensures { result ≡ event_count self.now.sources }
     {
         self.events
     }
 
     /// How many traces are refused.
     pub(crate) fn refused(&self) -> u64
-        ensures { result ≡ refused self.now.sources }
+        ensures { result ≡ refused_count self.now.sources }
     {
         self.refused
     }

@@ -25,7 +25,7 @@ use Rattle.ld_rules.specs.Frames.{contexts, frame_of, task_of}
 use Rattle.ld_rules.specs.Held.{Key, held_by, held_in, lock_acquired}
 use Rattle.ld_rules.specs.Dependency.{Dependency, Seen, dependencies_at, seen, seen_at}
 use Rattle.ld_held.specs.Inner.Interrupts.{enabled_now, fresh, start_now}
-use Rattle.ld_rules.specs.Inner.Levels.{is_interrupt, stack, state_of}
+use Rattle.ld_rules.specs.Inner.Levels.{is_interrupt, stack, state_of_frame}
 use Rattle.ld_held.specs.Inner.Locks.{Hold}
 use Rattle.ld_rules.specs.Outcome.{class_acquired, classes, each_once, event_fault, events, is_bad_enable, is_bad_exit, is_badly_nested}
 use Rattle.ld_rules.specs.Outcome.{is_held_at_exit, is_masked, is_not_held, is_one_too_many, tasks}
@@ -313,7 +313,7 @@ module _ (all : List Position) (old : Scan) (is : IsAt all old) (name : List ℕ
         (ap (map (λ other. other.lock)) keys ∙ map-append (λ (other : Key). other.lock) (held_by (events all) name)
         (record { task = task_of (acquisition how name lock); frame = frame_of (events all) (task_of (acquisition how name lock)); lock = lock } ∷ []));
     classes = All-push (λ hold. IsNameAt new.classes hold.class hold.lock.class) held_now top (holds-now held_now before.classes) enters.class;
-    states = before.states ∙ sym (ap (map state_of) quiet);
+    states = before.states ∙ sym (ap (map state_of_frame) quiet);
     starts = before.starts ∙ sym (starts-kept (events all) (acquisition how name lock) name quiet);
     levels = λ state. before.levels state ∙ sym (levels-quiet (events all) (acquisition how name lock) name state (calm name lock how));
   }

@@ -20,7 +20,7 @@ use Rattle.ld_rules.specs.Flags.{is_enabled, same_state}
 use Rattle.ld_rules.specs.Frames.{contexts, frame_of, task_of}
 use Rattle.ld_rules.specs.Held.{held_by, held_in}
 use Rattle.ld_held.specs.Inner.Interrupts.{IsEntered, IsLeft, IsSet, enabled_now, fresh, nests_in, start_now, states_of}
-use Rattle.ld_rules.specs.Inner.Levels.{stack, state_of}
+use Rattle.ld_rules.specs.Inner.Levels.{stack, state_of_frame}
 use Rattle.ld_held.specs.Inner.Locks.{Hold, ChangesInterrupts, HeldByTasks}
 use Rattle.ld_rules.specs.Open.{is_some_and}
 use Rattle.ld_rules.specs.Outcome.{class_acquired, each_once, event_fault, events, is_bad_enable, is_bad_exit, is_badly_nested, is_held_at_exit, is_masked, is_one_too_many, tasks}
@@ -260,8 +260,8 @@ module _ (all : List Position) (old : Scan) (is : IsAt all old) (name : List ℕ
 
     -- `enable` and `disable`
 
-    quiet : (e : PlainEvent) → stack (events all ++ e ∷ []) name ≡ stack (events all) name → map state_of (stack (events all) name) ≡ map state_of (stack (events all ++ e ∷ []) name)
-    quiet e same = ap (map state_of) (sym same)
+    quiet : (e : PlainEvent) → stack (events all ++ e ∷ []) name ≡ stack (events all) name → map state_of_frame (stack (events all) name) ≡ map state_of_frame (stack (events all ++ e ∷ []) name)
+    quiet e same = ap (map state_of_frame) (sym same)
 
     bad-enable-is : is_bad_enable (events all) (Enable name state) ≡ list_any (same_state state) (states_of frames_now)
     bad-enable-is = any-context old.classes held_now frames_now (events all) name before (same_state state)

@@ -24,7 +24,7 @@ use Rattle.ld_rules.specs.Flags.{is_enabled}
 use Rattle.ld_rules.specs.Frames.{contexts, frame_of, task_of}
 use Rattle.ld_rules.specs.Held.{Key, same_frame, same_key, same_lock, held, held_by, held_in}
 use Rattle.ld_held.specs.Inner.Interrupts.{fresh, start_now}
-use Rattle.ld_rules.specs.Inner.Levels.{stack, starts, state_of}
+use Rattle.ld_rules.specs.Inner.Levels.{stack, starts, state_of_frame}
 use Rattle.ld_held.specs.Inner.Locks.{Hold, is_of}
 use Rattle.ld_rules.specs.Outcome.{each_once, event_fault, events, is_not_held, is_one_too_many, tasks}
 use Rattle.ld_facts.specs.Inner.Reading.{HasTask, IsAt, IsTask, happens}
@@ -221,7 +221,7 @@ module _ (all : List Position) (old : Scan) (is_at : IsAt all old) (name : List 
         (All-take (λ hold. IsNameAt old.classes hold.class hold.lock.class) (start_now frames_now) held_now before.classes)
         (All-remove_last (λ hold. IsNameAt old.classes hold.class hold.lock.class) (is_of lock) (drop (start_now frames_now) held_now)
         (All-drop (λ hold. IsNameAt old.classes hold.class hold.lock.class) (start_now frames_now) held_now before.classes));
-    states = before.states ∙ sym (ap (map state_of) quiet);
+    states = before.states ∙ sym (ap (map state_of_frame) quiet);
     starts = before.starts ∙ sym (starts-kept (events all) (Release name lock) name quiet);
     levels = λ state. before.levels state ∙ sym (levels-quiet (events all) (Release name lock) name state refl);
   }

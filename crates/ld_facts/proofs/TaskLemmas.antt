@@ -23,7 +23,7 @@ use Rattle.ld_held.specs.declared.interrupts.Interrupts.{Interrupts}
 use Rattle.ld_rules.specs.Frames.{task_of}
 use Rattle.ld_rules.specs.Held.{held_by}
 use Rattle.ld_held.specs.Inner.Interrupts.{fresh, levels_of, starts_of, states_of}
-use Rattle.ld_rules.specs.Inner.Levels.{levels, stack, starts_in, state_of}
+use Rattle.ld_rules.specs.Inner.Levels.{levels, stack, starts_in, state_of_frame}
 use Rattle.ld_held.specs.Inner.Locks.{Hold}
 use Rattle.ld_rules.specs.Outcome.{is_one_too_many, event_fault, events, tasks}
 use Rattle.ld_facts.specs.declared.scan.Taking.{Taking}
@@ -155,7 +155,7 @@ module _ (all : List Position) (scan : Scan) (is_at : IsAt all scan) (name : Lis
                 locks = ap (map (λ hold. hold.lock)) holds ∙ sym (ap (map (λ key. key.lock)) none.holds);
                 classes = All-same (λ hold. IsNameAt scan.classes hold.class hold.lock.class) (get_or scan.locks.stacks id []) [] holds
                     (All-nil (λ hold. IsNameAt scan.classes hold.class hold.lock.class));
-                states = ap states_of frames ∙ sym (ap (map state_of) none.frames);
+                states = ap states_of frames ∙ sym (ap (map state_of_frame) none.frames);
                 starts = ap starts_of frames ∙ sym (ap (starts_in (events all) other) none.frames);
                 levels = λ state. ap (levels_of state) frames ∙ fresh_levels state ∙ sym (none.flags state);
               }

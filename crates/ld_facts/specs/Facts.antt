@@ -11,7 +11,7 @@ use Rattle.ld_rules.specs.Dependency.{Dependency, Seen, least_line, same_depende
 use Rattle.ld_rules.specs.Usage.{IsBit, Use, bit_of, same_use}
 use Rattle.ld_rules.specs.Union.{classes_of, dependencies_of, uses_of}
 
-pub record Known : Type 0 where
+pub record PlainFacts : Type 0 where
   pub source : PlainSource
   pub outcome : Outcome
   pub classes : List (List ℕ)
@@ -41,7 +41,7 @@ IsUse classes one = (one.class < length classes) × IsBit one.bit
 
 -- The source fits. The outcome, the classes in order of first acquisition, no more than a trace may
 -- have, and each dependency and each usage bit once, with its least line.
-pub record IsKnown (known : Known) : Type 0 where
+pub record IsKnown (known : PlainFacts) : Type 0 where
   pub fits : Fits known.source
   pub outcome : known.outcome ≡ outcome known.source
   pub classes : known.classes ≡ classes_of known.source

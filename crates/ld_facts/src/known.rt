@@ -20,10 +20,10 @@ pub struct Facts<'a> {
 }
 
 impl<'a> Model for Facts<'a> {
-    ghost use Rattle.ld_facts.specs.Facts.{Known, IsKnown};
+    ghost use Rattle.ld_facts.specs.Facts.{PlainFacts, IsKnown};
     ghost use Rattle.ld_trace.specs.Sources.{plain};
 
-    ghost Value = { Known };
+    ghost Value = { PlainFacts };
 
     ghost view = { λ f. record {
       source = plain f.source;

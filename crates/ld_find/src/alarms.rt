@@ -84,7 +84,7 @@ impl Found {
     /// for a conflict at the new bits, and for a forbidden walk at the classes that were reached since and
     /// at the new bits. The union knows whether there is a cycle. What was found stays: nothing that traces
     /// show is taken back. Takes no memory.
-    pub fn look(&mut self, union: &Union<'_>, news: &News)
+    pub fn note(&mut self, union: &Union<'_>, news: &News)
         requires { IsTold union.now news.now }
         ensures { (old : PlainUnion) → Tells old union.now news.now
             → AreFound (edges_of old.dependencies) (bits_of old.usage) self.old

@@ -5,7 +5,7 @@ use Rattle.std.proofs.Common.{ap, subst, ◌∙◌}
 use Rattle.std.proofs.lemmas.List.{append_assoc, get_or_default}
 use Rattle.ld_graph.specs.Edges.{ComesBefore}
 use Rattle.ld_lists.specs.Lists.{IsNear}
-use Rattle.ld_graph.specs.Inner.Levels.{level_at, IsLeast}
+use Rattle.ld_graph.specs.Inner.Levels.{level_at, IsLeastAtLevel}
 use Rattle.ld_graph.specs.Walks.{IsDistance, DistanceIs, IsNext, ShownFrom, IsShownWalk}
 use Rattle.ld_graph.proofs.WalkLemmas.{Far, IsWalk-Far, Far-IsWalk, IsDistance-Far, DistanceIs-same}
 
@@ -22,7 +22,7 @@ module _ (near : List ℕ) (level : ℕ) (levels : List (Option ℕ)) (places : 
   pub IsLeastOf-all : (n : ℕ) (o : Option ℕ) → length near ≤ n
       → IsLeastOf near n level levels places o
       → MatchOption o ((x : ℕ) → Contains near x → level_at levels x ≡ Some level
-      → ⊥) (IsLeast (Contains near) level levels places)
+      → ⊥) (IsLeastAtLevel (Contains near) level levels places)
   IsLeastOf-all n None l h = λ x e f.
       let m = e.1 in h e.0 (omega arith) (ap (λ z. level_at levels z) (get_or_default near e.0 0 x m
       ∙ e.2) ∙ f)
@@ -96,7 +96,7 @@ module _ (lists : List (List ℕ)) (places : List ℕ) (levels : List (Option �
       (distance_is (IsNear lists) n.0 b (level_at levels n.0) (left - 1) (distances n.0)
       (subst (λ k. IsDistance (IsNear lists) n.0 b k) nearer_left n.1.1))
 
-  module _ (near : ℕ) (h : IsLeast (IsNear lists last) (left - 1) levels places near) where
+  module _ (near : ℕ) (h : IsLeastAtLevel (IsNear lists last) (left - 1) levels places near) where
     pub next_distance : IsDistance (IsNear lists) near b (left - 1)
     next_distance = distance_at (IsNear lists) near b (level_at levels near) (left - 1) (distances
         near) h.has_level

@@ -3,7 +3,7 @@
 ghost use Rattle.std.specs.Prelude.{◌≡◌, ℕ, ◌<◌, ◌↔◌, length, Some, Contains};
 ghost use Rattle.std.specs.Prelude.{IsTrue, IfOk, MatchOption};
 ghost use Rattle.ld_graph.specs.Edges.{ComesBefore};
-ghost use Rattle.ld_graph.specs.Inner.Levels.{IsLeast, level_at};
+ghost use Rattle.ld_graph.specs.Inner.Levels.{IsLeastAtLevel, level_at};
 ghost use Rattle.ld_lists.specs.Lists.{IsNear};
 ghost use Rattle.ld_graph.specs.Walks.{DistanceIs, IsShownWalk};
 
@@ -26,7 +26,7 @@ fn nearest(near: &[u32], level: u64, levels: &[Option<u64>], places: &[u32]) -> 
     requires places { (x : ℕ) → Contains near.now x → x < length places.now }
     ensures { MatchOption result
         ((x : ℕ) → Contains near.now x → level_at levels.now x ≡ Some level → ⊥)
-        (IsLeast (Contains near.now) level levels.now places.now) }
+        (IsLeastAtLevel (Contains near.now) level levels.now places.now) }
 {
     let mut least: Option<u32> = None;
     for x in near {

@@ -4,7 +4,7 @@ use Rattle.std.proofs.lemmas.List.Sorted.{IsPermutation-sym, IsPermutation-trans
 use Rattle.std.specs.List.Sorted.{IsPermutation}
 use Rattle.ld_trace.specs.Sources.{PlainSource}
 use Rattle.ld_book.specs.declared.totals.Totals.{Totals}
-use Rattle.ld_book.specs.Totals.{refused}
+use Rattle.ld_book.specs.Totals.{refused_count}
 use Rattle.ld_book.specs.Violations.{HasViolation}
 use Rattle.ld_book.proofs.PermutedLemmas.{findings-permuted, has_violation-permuted, totals-permuted}
 use Rattle.ld_report.specs.declared.verdict.Verdict.{Verdict}
@@ -30,7 +30,7 @@ module _ (sources listed : List PlainSource) (moved : IsPermutation sources list
   has_none none has = none (has_violation-permuted listed sources (IsPermutation-sym sources listed moved) has)
 
   -- as many are refused
-  as_many : refused listed ≡ refused sources
+  as_many : refused_count listed ≡ refused_count sources
   as_many = ap (λ (t : Totals). t.refused) (totals-permuted sources listed moved)
 
   -- the verdict on the sources in another order is theirs

@@ -1,7 +1,7 @@
 -- *Verdict*.
 use Rattle.std.specs.Prelude.{◌≡◌, ◌<◌, List}
 use Rattle.ld_trace.specs.Sources.{PlainSource}
-use Rattle.ld_book.specs.Totals.{refused}
+use Rattle.ld_book.specs.Totals.{refused_count}
 use Rattle.ld_book.specs.Violations.{HasViolation}
 use Rattle.ld_report.specs.declared.verdict.Verdict.{Verdict}
 use Rattle.ld_report.specs.declared.verdict.Verdict.TheVariants.{Clean, Refused, Violations}
@@ -10,5 +10,5 @@ use Rattle.ld_report.specs.declared.verdict.Verdict.TheVariants.{Clean, Refused,
 -- `Clean`
 abbrev pub VerdictIs : List PlainSource → Verdict → Type 0
 VerdictIs sources Violations = HasViolation sources
-VerdictIs sources Refused = (¬ HasViolation sources) × (0 < refused sources)
-VerdictIs sources Clean = (¬ HasViolation sources) × (refused sources ≡ 0)
+VerdictIs sources Refused = (¬ HasViolation sources) × (0 < refused_count sources)
+VerdictIs sources Clean = (¬ HasViolation sources) × (refused_count sources ≡ 0)

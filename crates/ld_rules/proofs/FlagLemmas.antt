@@ -17,7 +17,7 @@ use Rattle.ld_rules.specs.Open.{is_some_and}
 use Rattle.ld_rules.specs.Frames.{Frame, frames, frame_of, contexts, task_of, enters, exits, state_entered}
 use Rattle.ld_rules.specs.Held.{Placed, placed, same_frame}
 use Rattle.ld_rules.specs.Flags.{same_state, says_flag, says_flag_in, last_said, flag_in, flag, is_enabled}
-use Rattle.ld_rules.specs.Inner.Levels.{is_interrupt, levels, levels_in, stack, state_of, states}
+use Rattle.ld_rules.specs.Inner.Levels.{is_interrupt, levels, levels_in, stack, state_of_frame, states}
 use Rattle.ld_rules.specs.declared.outcome.TheConstants.{MOST_TASKS}
 use Rattle.ld_rules.specs.Outcome.{tasks, is_one_too_many, has_too_many_classes, is_too_deep, is_not_held, is_badly_nested, is_masked, is_bad_exit, is_held_at_exit, is_bad_enable, event_fault}
 use Rattle.ld_rules.proofs.PlaceLemmas.{by_pushes, last_or-push}
@@ -327,18 +327,18 @@ levels-exit past task left state inner outer is =
 -- The contexts.
 
 pub states-enter : (past : List PlainEvent) (task : List ℕ) (state : State) → states (past ++ Enter task state ∷ []) task ≡ state ∷ states past task
-states-enter past task state = ap (map state_of) (stack-enter_own past task state)
+states-enter past task state = ap (map state_of_frame) (stack-enter_own past task state)
 
 pub states-exit : (past : List PlainEvent) (task : List ℕ) (state : State) → states (past ++ Exit task state ∷ []) task ≡ drop 1 (states past task)
-states-exit past task state = ap (map state_of) (stack-exit past task state) ∙ sym (drop-map state_of 1 (stack past task))
+states-exit past task state = ap (map state_of_frame) (stack-exit past task state) ∙ sym (drop-map state_of_frame 1 (stack past task))
 
 pub states-other : (past : List PlainEvent) (task : List ℕ) (e : PlainEvent) → bytes_eq task (task_of e) ≡ false → states (past ++ e ∷ []) task ≡ states past task
-states-other past task e other = ap (map state_of) (stack-other past task e other)
+states-other past task e other = ap (map state_of_frame) (stack-other past task e other)
 
 -- each frame was opened by an `enter`
 abbrev pub AllEnter : List Frame → Type 0
 AllEnter [] = Unit {0}
-AllEnter (f ∷ fs) = (state_entered f.element ≡ Some (state_of f)) × AllEnter fs
+AllEnter (f ∷ fs) = (state_entered f.element ≡ Some (state_of_frame f)) × AllEnter fs
 
 stack_enters : (task : List ℕ) (past : List PlainEvent) → AllEnter (stack past task)
 stack_enters task past = stack_follows task (λ xs fs. AllEnter fs) tt (λ xs e fs all. all) (λ xs state all. (refl, all)) rest past
@@ -351,13 +351,13 @@ stack_enters task past = stack_follows task (λ xs fs. AllEnter fs) tt (λ xs e 
 pub contexts-states : (past : List PlainEvent) (task : List ℕ) → contexts past task ≡ reverse (states past task)
 contexts-states past task = ap (filter_map (λ o. state_entered o.element)) (frames_of_stack past task (stack past task) refl) ∙ each (stack past task) (stack_enters task past)
   where
-    each : (fs : List Frame) → AllEnter fs → filter_map (λ (o : Frame). state_entered o.element) (reverse fs) ≡ reverse (map state_of fs)
+    each : (fs : List Frame) → AllEnter fs → filter_map (λ (o : Frame). state_entered o.element) (reverse fs) ≡ reverse (map state_of_frame fs)
     each [] all = refl
     each (f ∷ fs) all =
         ap (filter_map (λ (o : Frame). state_entered o.element)) (reverse_onto fs f [])
         ∙ filter_map-append (λ (o : Frame). state_entered o.element) (reverse fs) (f ∷ [])
         ∙ (λ i. each fs all.1 i ++ cons_option (all.0 i) [])
-        ∙ sym (reverse_onto (map state_of fs) (state_of f) [])
+        ∙ sym (reverse_onto (map state_of_frame fs) (state_of_frame f) [])
 
 -- an exit that is no fault closes a frame
 pub levels-exit_good : (past : List PlainEvent) (task : List ℕ) (left state : State) → is_bad_exit past (Exit task left) ≡ false → levels
@@ -366,7 +366,7 @@ levels-exit_good past task left state good = each (stack past task) refl
   where
     each : (fs : List Frame) → stack past task ≡ fs → levels (past ++ Exit task left ∷ []) task state ≡ drop 1 (levels past task state)
     each [] is =
-        let none : contexts past task ≡ [] = contexts-states past task ∙ ap (λ gs. reverse (map state_of gs)) is in
+        let none : contexts past task ≡ [] = contexts-states past task ∙ ap (λ gs. reverse (map state_of_frame gs)) is in
         absurd (true≢false (ap (λ cs. not (is_some_and (same_state left) (last_or None cs))) (sym none) ∙ good))
     each (inner ∷ outer) is = levels-exit past task left state inner outer is
 

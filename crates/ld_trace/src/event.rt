@@ -4,7 +4,7 @@ ghost use Rattle.std.specs.List.{position};
 ghost use Rattle.std.specs.Option.{option_map};
 ghost use Rattle.ld_trace.specs.Events.{PlainEvent, PlainLock, answer_seen, is_sign, lock_of, plain_lock, said_by, said_of_lock, said_of_state, state_of};
 ghost use Rattle.ld_trace.specs.Lines.{fields};
-ghost use Rattle.ld_trace.specs.Inner.Reading.{both_now, pair_of, said_with_lock, said_with_state};
+ghost use Rattle.ld_trace.specs.Inner.Reading.{both_now, two_fields_of, said_with_lock, said_with_state};
 
 use crate::line::{begins_comment, is_name, is_word, next_field};
 
@@ -219,7 +219,7 @@ fn task_and_state(rest: &[u8]) -> Result<(&[u8], State), LineFault>
 
 /// The fields, where they are two.
 fn two_fields(rest: &[u8]) -> Option<(&[u8], &[u8])>
-    ensures { option_map both_now result ≡ pair_of (fields rest.now) }
+    ensures { option_map both_now result ≡ two_fields_of (fields rest.now) }
 {
     let (first, rest) = next_field(rest)?;
     let (second, rest) = next_field(rest)?;

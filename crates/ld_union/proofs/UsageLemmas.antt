@@ -18,7 +18,7 @@ use Rattle.ld_facts.specs.Usage.{Bit, Use, same_bit, same_use, usage_of}
 use Rattle.ld_facts.specs.Usage.Bit.{In, On}
 use Rattle.ld_union.specs.declared.usage.UsageRow.{UsageRow}
 use Rattle.ld_batch.specs.Inner.Names.{IsLonger}
-use Rattle.ld_union.specs.Inner.Union.{AreUsed, earlier_of, of_class, with_bit, with_use}
+use Rattle.ld_union.specs.Inner.Union.{AreUsed, earlier_of, of_class, with_bit, with_first_use}
 use Rattle.ld_union.specs.Usage.{bits, row_of, witnessed_bits}
 use Rattle.ld_union.proofs.UnionLemmas.{earlier_of-none, seen_cases}
 
@@ -156,13 +156,13 @@ module _ (classes : List (List ℕ)) (rows : List UsageRow) (first : Use → Opt
     this_use = record { class = get_or classes c []; bit = bit }
 
     -- the class's own row
-    own_row : row_of (with_bit (of_class first this_use.class) bit witness) ≡ row_of (of_class (with_use first this_use witness) this_use.class)
+    own_row : row_of (with_bit (of_class first this_use.class) bit witness) ≡ row_of (of_class (with_first_use first this_use witness) this_use.class)
     own_row =
         let same : true ≡ bytes_eq this_use.class this_use.class = sym ((bytes_eq-Decides this_use.class this_use.class).1 refl) in
         λ i. row_of (λ b. earlier_of (of_class first this_use.class b) (if same i && same_bit b bit then Some witness else None))
 
     -- other classes keep theirs
-    other_row : (k : ℕ) → k < length classes → k ≢ c → row_of (of_class first (get_or classes k [])) ≡ row_of (of_class (with_use first this_use witness) (get_or classes k []))
+    other_row : (k : ℕ) → k < length classes → k ≢ c → row_of (of_class first (get_or classes k [])) ≡ row_of (of_class (with_first_use first this_use witness) (get_or classes k []))
     other_row k k_within differs =
         let apart : bytes_eq (get_or classes k []) this_use.class ≡ false = false_from_ne_true _
         (λ same. differs (distinct k c this_use.class (k_within, (bytes_eq-Decides (get_or classes k []) this_use.class).0 same) (within, refl))) in
@@ -170,14 +170,14 @@ module _ (classes : List (List ℕ)) (rows : List UsageRow) (first : Use → Opt
         (λ i. row_of (λ b. earlier_of-none (of_class first (get_or classes k []) b) i))
         ∙ (λ i. row_of (λ b. earlier_of (of_class first (get_or classes k []) b) (if tests i && same_bit b bit then Some witness else None)))
 
-    pub used-seen : (row : UsageRow) → row ≡ row_of (with_bit (of_class first this_use.class) bit witness) → AreUsed classes (set rows c row) (with_use first this_use witness)
+    pub used-seen : (row : UsageRow) → row ≡ row_of (with_bit (of_class first this_use.class) bit witness) → AreUsed classes (set rows c row) (with_first_use first this_use witness)
     used-seen row is = record {
       each = same_lists (set rows c row) (map row_then_of classes) lengths at;
       known = λ what h. known what (seen_cases (first what) witness (same_use what this_use) h);
     }
       where
         row_then_of : List ℕ → UsageRow
-        row_then_of class = row_of (of_class (with_use first this_use witness) class)
+        row_then_of class = row_of (of_class (with_first_use first this_use witness) class)
 
         lengths : length (set rows c row) ≡ length (map row_then_of classes)
         lengths = length-set rows c row ∙ length_used ∙ sym (length-map classes row_then_of)

@@ -9,7 +9,7 @@ ghost use Rattle.ld_facts.specs.Union.{use_witness};
 ghost use Rattle.ld_facts.specs.Usage.{Bit, IsBit, Use, bit_of, same_bit};
 ghost use Rattle.ld_batch.specs.Inner.Names.{ArePlaces};
 ghost use Rattle.ld_union.specs.Inner.News.{TellsBits};
-ghost use Rattle.ld_union.specs.Inner.Union.{AreUsed, with_bit, with_first, with_use};
+ghost use Rattle.ld_union.specs.Inner.Union.{AreUsed, with_bit, with_first, with_first_use};
 ghost use Rattle.ld_union.specs.Usage.{bits, bits_of, row_of};
 
 use crate::news::NewBit;
@@ -115,7 +115,7 @@ fn note_use(rows: &mut [UsageRow], shown: NewBit, witness: Witness, bits: &mut V
         → vec_len bits.new + n ≤ vec_capacity bits.new }
     ensures used { (classes : List (List ℕ)) → AreDistinct classes
         → (first : Use → Option Witness) → AreUsed classes rows.old first
-        → AreUsed classes rows.new (with_use first
+        → AreUsed classes rows.new (with_first_use first
         (record { class = slice_index_or classes shown.class []; bit = bit_of shown.bit }) witness) }
     ensures told { (before : List Usage) → TellsBits before (bits_of rows.old) bits.old.items
         → TellsBits before (bits_of rows.new) bits.new.items }

@@ -3,12 +3,12 @@ use Rattle.std.specs.Prelude.{◌≡◌, ◌+◌, ◌⊎◌, false, List, [], �
 use Rattle.std.specs.List.{sum_by}
 use Rattle.ld_trace.specs.Sources.{PlainSource}
 use Rattle.ld_book.specs.Book.{is_any_listed}
-use Rattle.ld_book.specs.Totals.{events}
+use Rattle.ld_book.specs.Totals.{event_count}
 use Rattle.ld_work.specs.declared.feeder.Tally.{Tally}
 
 -- the traces and the events of some sources
 abbrev pub tally_of : List PlainSource → Tally
-tally_of sources = record { traces = length sources; events = events sources }
+tally_of sources = record { traces = length sources; events = event_count sources }
 
 -- both added up
 abbrev pub plus : Tally → Tally → Tally

@@ -3,7 +3,7 @@ use Rattle.std.specs.Prelude.{◌<◌, ◌≤◌, ◌⊎◌, ℕ, List, length, 
 use Rattle.std.specs.List.{Contains}
 use Rattle.std.specs.List.Sorted.{IsPermutation}
 use Rattle.ld_trace.specs.Sources.{PlainSource}
-pub use Rattle.ld_book.specs.Rising.{AreRising}
+pub use Rattle.ld_batch.specs.Batch.{AreRising}
 
 -- Each source is listed exactly once, as it stands, and nothing else is listed: the list is that of
 -- the sources, in some order.

@@ -2,7 +2,7 @@
 ghost use Rattle.std.specs.Prelude.{◌≡◌, ◌≢◌, ◌≤◌, ◌<◌, ◌+◌, ◌^◌, ◌↔◌, ◌∷◌, [], true, false, length, All, Err};
 ghost use Rattle.std.specs.Prelude.{IfErr, IfOk, IsErr, OnErr, OnOk};
 ghost use Rattle.ld_book.specs.Book.{is_any_listed, is_listed};
-ghost use Rattle.ld_book.specs.Totals.{events};
+ghost use Rattle.ld_book.specs.Totals.{event_count};
 ghost use Rattle.ld_work.specs.Desk.{IsEvent, IsSubmitted, plus, sum_of, tally_of};
 
 use crate::feeder::{Feeder, MOST_FEEDERS, Tally};
@@ -27,14 +27,14 @@ struct Locked<'a, T: Ledger, E: Ledger> {
 impl<'a, T: Ledger, E: Ledger> Model for Locked<'a, T, E> {
     ghost use Rattle.std.specs.Prelude.{◌≡◌, List, length};
     ghost use Rattle.ld_trace.specs.Sources.{PlainSource};
-    ghost use Rattle.ld_book.specs.Totals.{events};
+    ghost use Rattle.ld_book.specs.Totals.{event_count};
 
     ghost Value = { List PlainSource };
 
     ghost view = { λ l. l.book };
 
     ghost invariant = { λ l. (l.trace_sum.total ≡ length l.book)
-        × (l.event_sum.total ≡ events l.book)
+        × (l.event_sum.total ≡ event_count l.book)
         × (l.no_traces.parts ≡ 0) × (l.no_traces.amount ≡ 0)
         × (l.no_events.parts ≡ 0) × (l.no_events.amount ≡ 0) };
 }
@@ -85,7 +85,7 @@ impl<'a, T: Ledger, E: Ledger> Locked<'a, T, E> {
         ensures book { self.new ≡ self.old }
         ensures feeder { feeder.new ≡ feeder.old }
         ensures traces { feeder.old.traces ≤ length self.old }
-        ensures events { feeder.old.events ≤ events self.old }
+        ensures events { feeder.old.events ≤ event_count self.old }
     {
         self.trace_sum.audit(&mut feeder.traces);
         self.event_sum.audit(&mut feeder.events);
@@ -283,7 +283,7 @@ impl<'d, 'a, T: Ledger, E: Ledger> Look<'d, 'a, T, E> {
         ensures book { self.new ≡ self.old }
         ensures feeder { feeder.new ≡ feeder.old }
         ensures traces { feeder.old.traces ≤ length self.old }
-        ensures events { feeder.old.events ≤ events self.old }
+        ensures events { feeder.old.events ≤ event_count self.old }
     {
         self.guard.covers(feeder)
     }
@@ -333,7 +333,7 @@ fn audited<T: Ledger, E: Ledger>(
     mut event_share: Share<E>,
 ) -> Tally
     requires traces { (trace_sum.total ≡ length book.now) × (trace_share.parts ≡ T.parts) }
-    requires events { (event_sum.total ≡ events book.now) × (event_share.parts ≡ E.parts) }
+    requires events { (event_sum.total ≡ event_count book.now) × (event_share.parts ≡ E.parts) }
     ensures book { result ≡ tally_of book.now }
     ensures shares { result
         ≡ record { traces = trace_share.amount; events = event_share.amount } }

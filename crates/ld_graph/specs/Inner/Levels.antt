@@ -25,7 +25,7 @@ pub record Spreads (near : ℕ → Type 0) (level : ℕ) (old : List (Option ℕ
       → level_at new (slice_index after i) ≡ Some level
 
 -- of the classes of this level that are near, x comes first
-pub record IsLeast (near : ℕ → Type 0) (level : ℕ) (levels : List (Option ℕ)) (places : List ℕ)
+pub record IsLeastAtLevel (near : ℕ → Type 0) (level : ℕ) (levels : List (Option ℕ)) (places : List ℕ)
     (x : ℕ) : Type 0 where
   pub is_near : near x
   pub has_level : level_at levels x ≡ Some level

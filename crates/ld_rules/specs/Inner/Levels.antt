@@ -33,11 +33,11 @@ abbrev pub levels : List PlainEvent → List ℕ → State → List Bool
 levels past task state = levels_in task state past (stack past task)
 
 -- the state of a frame; its element is always an enter
-abbrev pub state_of : Frame → State
-state_of frame = unwrap_or (state_entered frame.element) Hard
+abbrev pub state_of_frame : Frame → State
+state_of_frame frame = unwrap_or (state_entered frame.element) Hard
 
 abbrev pub states : List PlainEvent → List ℕ → List State
-states past task = map state_of (stack past task)
+states past task = map state_of_frame (stack past task)
 
 -- how many locks the task held just before the enter of each frame
 abbrev pub starts_in : List PlainEvent → List ℕ → List Frame → List ℕ

@@ -14,11 +14,11 @@ use Rattle.ld_trace.specs.declared.event.StateVerb.TheVariants as state_verbs
 use Rattle.ld_trace.specs.Events.{PlainEvent, Acquire, Try, Release, Enter, Exit, Enable, Disable, PlainLock, Said, plain_lock, said_of_lock, said_of_state}
 
 -- the fields, where they are two
-abbrev pub pair_of : List (List ℕ) → Option (List ℕ × List ℕ)
-pair_of [] = None
-pair_of (first ∷ []) = None
-pair_of (first ∷ second ∷ []) = Some (first, second)
-pair_of (first ∷ second ∷ third ∷ others) = None
+abbrev pub two_fields_of : List (List ℕ) → Option (List ℕ × List ℕ)
+two_fields_of [] = None
+two_fields_of (first ∷ []) = None
+two_fields_of (first ∷ second ∷ []) = Some (first, second)
+two_fields_of (first ∷ second ∷ third ∷ others) = None
 
 abbrev pub both_now : Bor (List ℕ) × Bor (List ℕ) → List ℕ × List ℕ
 both_now pair = (pair.0.now, pair.1.now)

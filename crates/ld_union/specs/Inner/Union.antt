@@ -59,8 +59,8 @@ abbrev pub with_first : {A : Type 0} → (A → Option Witness) → (A → Optio
 with_first first more what = earlier_of (first what) (more what)
 
 -- the first witnesses, where this bit of a class was seen there too
-abbrev pub with_use : (Use → Option Witness) → Use → Witness → Use → Option Witness
-with_use first seen witness what = earlier_of (first what) (if same_use what seen then Some witness else None)
+abbrev pub with_first_use : (Use → Option Witness) → Use → Witness → Use → Option Witness
+with_first_use first seen witness what = earlier_of (first what) (if same_use what seen then Some witness else None)
 
 -- the first witness of each bit of this class
 abbrev pub of_class : (Use → Option Witness) → List ℕ → Bit → Option Witness

@@ -1,5 +1,5 @@
 use Rattle.std.proofs.Common.{◌≡◌, ◌-◌, ℕ, Contains, Some, arith, subst}
-use Rattle.ld_graph.specs.Inner.Levels.{IsLeast, level_at}
+use Rattle.ld_graph.specs.Inner.Levels.{IsLeastAtLevel, level_at}
 use Rattle.ld_lists.specs.Lists.{IsNear}
 use Rattle.ld_graph.proofs.ShownLemmas.{next_there, next_distance, next_shown}
 use Rattle.ld_graph.proofs.shown.show.Goals as goal
@@ -24,9 +24,9 @@ unreachable-requires c =
 
 pub loop-left-preserved : goal.loop-left-preserved
 loop-left-preserved c =
-    let least : IsLeast (IsNear c.args.lists.now.after.lists c.loop-left.last) (c.loop-left.left - 1)
+    let least : IsLeastAtLevel (IsNear c.args.lists.now.after.lists c.loop-left.last) (c.loop-left.left - 1)
     c.args.levels.now c.args.places.now c.in-Some.near =
-    subst (λ n. IsLeast (Contains n) (c.loop-left.left - 1) c.args.levels.now c.args.places.now
+    subst (λ n. IsLeastAtLevel (Contains n) (c.loop-left.left - 1) c.args.levels.now c.args.places.now
     c.in-Some.near) c.after.ensures.near c.in-Some.ensures in
     record {
       within = c.requires.ends c.loop-left.last c.in-Some.near least.is_near;

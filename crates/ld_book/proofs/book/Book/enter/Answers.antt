@@ -16,8 +16,8 @@ add-requires c =
     let sources : length batch.sources ≤ 65535 = few_sources batch.sources told.exact.fit told.exact.rise in
     omega arith
 
-pub look-requires : goal.look-requires
-look-requires c = (c.self.inside.union, c.in_ok-add.ensures.told)
+pub note-requires : goal.note-requires
+note-requires c = (c.self.inside.union, c.in_ok-add.ensures.told)
 
 pub add_all-requires-clause-fresh : goal.add_all-requires-clause-fresh
 add_all-requires-clause-fresh c = (λ i. is_any_listed ((c.room.ensures.sources ∙ c.self.view_is) i) (c.listed-traces.ensures.sources i)) ∙ c.requires
@@ -45,7 +45,7 @@ invariant_of-self-2 c =
     let told = c.listed-traces.ensures in
     kept-added _ _ c.args.batch.now c.self.invariant told.exact told.few c.in_ok-add.ensures.added
     (c.add_all.ensures ∙ (λ i. c.room.ensures.sources i ++ told.sources i))
-    (c.look.ensures c.self.inside.union c.in_ok-add.ensures.told c.self.invariant.exact)
+    (c.note.ensures c.self.inside.union c.in_ok-add.ensures.told c.self.invariant.exact)
 
 pub returns-clause-ok : goal.returns-clause-ok
 returns-clause-ok c = c.add_all.ensures ∙ (λ i. (c.room.ensures.sources ∙ c.self.view_is) i ++ c.listed-traces.ensures.sources i)

@@ -7,7 +7,7 @@ use Rattle.ld_rules.specs.declared.outcome.Listed.{Listed}
 use Rattle.ld_facts.specs.Outcome.{outcome}
 use Rattle.ld_batch.specs.Batch.{AreOutcomes, sources_of}
 use Rattle.ld_book.specs.Book.{is_listed}
-use Rattle.ld_book.specs.Totals.{events, events_read, refused}
+use Rattle.ld_book.specs.Totals.{event_count, events_read, refused_count}
 use Rattle.ld_book.proofs.BoundLemmas.{events_fit}
 use Rattle.ld_book.proofs.ListingLemmas.{events-push, listed_any, refused-push, sources-push}
 use Rattle.ld_book.proofs.listing.Listing.add.Goals as goal
@@ -45,11 +45,11 @@ invariant_of-self c =
       events =
           (λ i. is.events i + c.events_of.ensures i)
           ∙ sym (events-push list.traces.items trace c.requires.outcome)
-          ∙ ap (λ all. events (sources_of all)) (sym traces);
+          ∙ ap (λ all. event_count (sources_of all)) (sym traces);
       refused =
           (λ i. is.refused i + c.refused_of.ensures i)
           ∙ sym (refused-push list.traces.items trace c.requires.outcome)
-          ∙ ap (λ all. refused (sources_of all)) (sym traces);
+          ∙ ap (λ all. refused_count (sources_of all)) (sym traces);
       room_traces = omega (arith, is.room_traces, c.requires.room, spare, c.in-Ok-push.ensures.len, c.push.ensures.capacity);
       room_numbers = omega (arith, is.room_numbers, c.requires.room, spare, c.insert.ensures.spare);
     }

@@ -11,7 +11,7 @@ use Rattle.ld_union.specs.Usage.{bits_of}
 use Rattle.ld_find.specs.declared.alarms.Forbidden.{Forbidden}
 use Rattle.ld_find.specs.Alarms.{IsExact}
 use Rattle.ld_find.specs.Inner.Numbers.{IsConflictAt, IsForbiddenAt}
-use Rattle.ld_find.proofs.alarms.Found.look.Goals as goal
+use Rattle.ld_find.proofs.alarms.Found.note.Goals as goal
 
 pub returns : goal.returns
 returns c = λ old tells are. record {
