@@ -1,5 +1,5 @@
 //! Batches of traces, by what is told of each trace alone.
-use ld_batch::Batch;
+use ld_batch::{Batch, WitnessedEdge, WitnessedUse};
 use ld_class::Usage;
 use ld_facts::{Facts, Outcome, TraceFault, Witness, facts};
 use ld_trace::{Source, split};
@@ -156,7 +156,44 @@ fn batch_name<'a, R: Abort>(rt: &R, batch: &Batch<'a>, class: u32) -> &'a [u8] {
     batch.classes().name(class)
 }
 
-/// Asserts that the batch has just this union.
+fn named_edge<'a, R: Abort>(rt: &R, batch: &Batch<'a>, edge: WitnessedEdge) -> NamedEdge<'a> {
+    NamedEdge {
+        from: batch_name(rt, batch, edge.from),
+        to: batch_name(rt, batch, edge.to),
+        witness: edge.witness,
+    }
+}
+
+fn named_use<'a, R: Abort>(rt: &R, batch: &Batch<'a>, used: WitnessedUse) -> NamedUse<'a> {
+    NamedUse {
+        class: batch_name(rt, batch, used.class),
+        bit: used.bit,
+        witness: used.witness,
+    }
+}
+
+/// Whether the batch has this dependency.
+fn has_edge<R: Abort>(rt: &R, batch: &Batch<'_>, named: NamedEdge<'_>) -> bool {
+    for edge in batch.edges() {
+        if named_edge(rt, batch, *edge) == named {
+            return true;
+        }
+    }
+    false
+}
+
+/// Whether the batch has this usage bit.
+fn has_use<R: Abort>(rt: &R, batch: &Batch<'_>, named: NamedUse<'_>) -> bool {
+    for used in batch.usage() {
+        if named_use(rt, batch, *used) == named {
+            return true;
+        }
+    }
+    false
+}
+
+/// Asserts that the batch has just this union. The union has each dependency and each bit once, so
+/// lists that are as long and have them all have no other.
 fn assert_union<R: Abort>(rt: &R, batch: &Batch<'_>, told: &Told<'_>) {
     assert_eq!(rt; batch.listed().len(), told.outcomes.len());
     for (listed, outcome) in batch.listed().iter().zip(told.outcomes.iter()) {
@@ -167,22 +204,12 @@ fn assert_union<R: Abort>(rt: &R, batch: &Batch<'_>, told: &Told<'_>) {
         assert!(rt; batch_name(rt, batch, id as u32) == *name);
     }
     assert_eq!(rt; batch.edges().len(), told.edges.len());
-    for edge in batch.edges() {
-        let named = NamedEdge {
-            from: batch_name(rt, batch, edge.from),
-            to: batch_name(rt, batch, edge.to),
-            witness: edge.witness,
-        };
-        assert!(rt; told.edges.contains(&named));
+    for named in told.edges.iter() {
+        assert!(rt; has_edge(rt, batch, *named));
     }
     assert_eq!(rt; batch.usage().len(), told.usage.len());
-    for used in batch.usage() {
-        let named = NamedUse {
-            class: batch_name(rt, batch, used.class),
-            bit: used.bit,
-            witness: used.witness,
-        };
-        assert!(rt; told.usage.contains(&named));
+    for named in told.usage.iter() {
+        assert!(rt; has_use(rt, batch, *named));
     }
 }
 
@@ -224,6 +251,10 @@ const TRACES: &[&[u8]] = &[
     b"trace f\ndisable t hard\nacquire t A\nacquire t B\nenable t hard\n",
     b"trace g\nenter t soft\nacquire t S\nenter t hard\nacquire t A\nrelease t A\nexit t hard\n",
     b"trace h\nacquire t B\nacquire t C\nacquire t A\nacquire t S\n",
+    b"trace i\ntry t S\nacquire t A\nrelease t S\nacquire t D\n",
+    b"trace j\r\nenter t soft\r\nacquire t D\r\nacquire t E\r\n",
+    b"trace k\nacquire t E@1\nacquire t E@2\nenter t hard\nacquire t D\n",
+    b"trace l\nenable t soft\ndisable t soft\nacquire t X\nacquire t A\nenable t soft\n",
 ];
 
 /// The stream of these traces, with a trace that is refused at this place.
@@ -243,7 +274,7 @@ fn stream_with_refused(rt: &impl AllocGlobal, place: usize) -> Result<Vec<u8>, A
 
 #[test]
 fn a_batch_is_the_union_of_what_its_traces_show(rt: HostRuntime) -> Result<(), Fail> {
-    for place in 0..=8 {
+    for place in 0..=TRACES.len() {
         let bytes = stream_with_refused(&rt, place)?;
         let sources = sources_of(&rt, &bytes);
         for size in [1, 2, 3, 8] {
@@ -258,23 +289,89 @@ fn a_batch_is_the_union_of_what_its_traces_show(rt: HostRuntime) -> Result<(), F
     Ok(())
 }
 
-#[test]
-fn a_refused_push_changes_nothing(rt: HostRuntime) -> Result<(), Fail> {
-    let bytes =
-        b"trace a\nacquire t A\nacquire t B\ntrace b\nacquire t B\nacquire t C\nacquire t A\n";
-    let sources = sources_of(&rt, bytes);
-    let mut batch = batch_of(&rt, &sources[..1]);
-    if push(&rt, &mut batch, sources[1]).is_err() {
-        assert_eq!(rt; batch.listed().len(), 1);
-        assert_eq!(rt; batch.classes().len(), 2);
-        assert_eq!(rt; batch.edges().len(), 1);
-        assert_eq!(rt; batch.usage().len(), 4);
-        push(&rt, &mut batch, sources[1])?;
+/// Two traces; the second one has a class, dependencies and bits that the first one hasn't.
+const TWO: &[u8] =
+    b"trace a\nacquire t A\nacquire t B\ntrace b\nacquire t B\nacquire t C\nacquire t A\n";
+
+fn edge(from: u32, to: u32, number: u64, line: u64) -> WitnessedEdge {
+    WitnessedEdge {
+        from,
+        to,
+        witness: Witness { number, line },
     }
+}
+
+fn used(class: u32, bit: Usage, number: u64, line: u64) -> WitnessedUse {
+    WitnessedUse {
+        class,
+        bit,
+        witness: Witness { number, line },
+    }
+}
+
+/// Asserts that the batch has these lists.
+fn assert_lists<R: Abort>(
+    rt: &R,
+    batch: &Batch<'_>,
+    classes: &[&[u8]],
+    edges: &[WitnessedEdge],
+    usage: &[WitnessedUse],
+) {
+    assert_eq!(rt; batch.classes().len(), classes.len());
+    for (id, name) in classes.iter().enumerate() {
+        assert!(rt; batch_name(rt, batch, id as u32) == *name);
+    }
+    assert_eq!(rt; batch.edges().len(), edges.len());
+    assert!(rt; edges.iter().all(|edge| batch.edges().contains(edge)));
+    assert_eq!(rt; batch.usage().len(), usage.len());
+    assert!(rt; usage.iter().all(|used| batch.usage().contains(used)));
+}
+
+/// Asserts that the batch has just the first one of `TWO`.
+fn assert_first<R: Abort>(rt: &R, batch: &Batch<'_>) {
+    assert_eq!(rt; batch.listed().len(), 1);
+    assert_eq!(rt; batch.listed()[0].outcome, Outcome::Read { events: 2 });
+    let usage = [
+        used(0, Usage::ON_HARD, 0, 2),
+        used(0, Usage::ON_SOFT, 0, 2),
+        used(1, Usage::ON_HARD, 0, 3),
+        used(1, Usage::ON_SOFT, 0, 3),
+    ];
+    assert_lists(rt, batch, &[b"A", b"B"], &[edge(0, 1, 0, 3)], &usage);
+}
+
+/// Asserts that the batch has just both of `TWO`.
+fn assert_both<R: Abort>(rt: &R, batch: &Batch<'_>) {
     assert_eq!(rt; batch.listed().len(), 2);
-    assert_eq!(rt; batch.classes().len(), 3);
-    assert_eq!(rt; batch.edges().len(), 4);
-    assert_eq!(rt; batch.usage().len(), 6);
+    assert_eq!(rt; batch.listed()[0].outcome, Outcome::Read { events: 2 });
+    assert_eq!(rt; batch.listed()[1].outcome, Outcome::Read { events: 3 });
+    let edges = [
+        edge(0, 1, 0, 3),
+        edge(1, 2, 1, 6),
+        edge(1, 0, 1, 7),
+        edge(2, 0, 1, 7),
+    ];
+    let usage = [
+        used(0, Usage::ON_HARD, 0, 2),
+        used(0, Usage::ON_SOFT, 0, 2),
+        used(1, Usage::ON_HARD, 0, 3),
+        used(1, Usage::ON_SOFT, 0, 3),
+        used(2, Usage::ON_HARD, 1, 6),
+        used(2, Usage::ON_SOFT, 1, 6),
+    ];
+    assert_lists(rt, batch, &[b"A", b"B", b"C"], &edges, &usage);
+}
+
+#[test]
+fn a_refused_push_changes_nothing(rt: HostRuntime) {
+    let sources = sources_of(&rt, TWO);
+    assert_eq!(rt; sources.len(), 2);
+    let (first, second) = (sources[0], sources[1]);
+    let mut batch = batch_of(&rt, &[first]);
+    if push(&rt, &mut batch, second).is_err() {
+        assert_first(&rt, &batch);
+        push(&rt, &mut batch, second).expect(&rt, "memory");
+    }
+    assert_both(&rt, &batch);
     drop(batch);
-    Ok(())
 }
