@@ -3,57 +3,39 @@
 use crate::books::{NONE, THREE_TRACES, book_of, sources_of, totals, witness};
 use ld_book::{Batch, BatchRefusal, Book};
 use ld_trace::Source;
-use std::alloc::Global;
+use std::alloc::{AllocError, Global};
 use std::process::Abort;
 
 /// Two traces of one label that show the same.
 const SAME_LABEL: &[u8] = b"trace d\nacquire t A\nacquire t B\ntrace d\nacquire t A\nacquire t B\n";
 
-/// A batch of one trace.
-fn batch_of_one<'a, R: Abort>(rt: &R, alloc: Global, source: Source<'a>) -> Batch<'a> {
-    let mut batch = Batch::new(alloc);
-    assert!(rt; source.fits());
-    if batch.push(alloc, source).is_err() {
-        batch.push(alloc, source).expect(rt, "memory for a trace");
-    }
-    batch
-}
-
-/// A batch of two traces, the second of a greater number.
-fn batch_of_two<'a, R: Abort>(
+/// Reads one more trace, whose number is above that of the last one.
+fn push<'a, R: Abort>(
     rt: &R,
     alloc: Global,
-    first: Source<'a>,
-    second: Source<'a>,
-) -> Batch<'a> {
-    let mut batch = batch_of_one(rt, alloc, first);
-    push_last(rt, alloc, &mut batch, second);
-    batch
-}
-
-fn push_last<'a, R: Abort>(rt: &R, alloc: Global, batch: &mut Batch<'a>, source: Source<'a>) {
+    batch: &mut Batch<'a>,
+    source: Source<'a>,
+) -> Result<(), AllocError> {
     assert!(rt; source.fits());
-    let Some(last) = batch.listed().last() else {
-        assert!(rt; false);
-        return;
-    };
-    let number = last.source.number;
-    assert!(rt; number < source.number);
-    if batch.push(alloc, source).is_err() {
-        assert_eq!(rt; batch.listed().len(), 1);
-        push_again(rt, alloc, batch, source);
+    match batch.listed().last() {
+        Some(last) => {
+            let number = last.source.number;
+            assert!(rt; number < source.number);
+            batch.push(alloc, source)
+        }
+        None => batch.push(alloc, source),
     }
 }
 
-fn push_again<'a, R: Abort>(rt: &R, alloc: Global, batch: &mut Batch<'a>, source: Source<'a>) {
-    assert!(rt; source.fits());
-    let Some(last) = batch.listed().last() else {
-        assert!(rt; false);
-        return;
-    };
-    let number = last.source.number;
-    assert!(rt; number < source.number);
-    batch.push(alloc, source).expect(rt, "memory for a trace");
+/// A batch of these traces, whose numbers rise. What was refused memory is tried once more.
+fn batch_of<'a, R: Abort>(rt: &R, alloc: Global, sources: &[Source<'a>]) -> Batch<'a> {
+    let mut batch = Batch::new(alloc);
+    for source in sources {
+        if push(rt, alloc, &mut batch, *source).is_err() {
+            push(rt, alloc, &mut batch, *source).expect(rt, "memory for a trace");
+        }
+    }
+    batch
 }
 
 /// Adds a batch no number of which is listed. It comes back where memory is refused.
@@ -81,16 +63,17 @@ fn add_batch<'a, R: Abort>(rt: &R, book: &mut Book<'a>, batch: Batch<'a>) {
 fn a_batch_is_added_whole_or_comes_back(rt: HostRuntime) {
     let sources = sources_of(&rt, rt.alloc(), SAME_LABEL);
     assert_eq!(rt; sources.len(), 2);
-    let batch = batch_of_two(&rt, rt.alloc(), sources[0], sources[1]);
+    let batch = batch_of(&rt, rt.alloc(), &sources);
     assert_eq!(rt; batch.edges().len(), 1);
     let mut book = Book::new(rt.alloc());
     add_batch(&rt, &mut book, batch);
     assert_eq!(rt; book.totals(), totals(2, 0, 4, 2, 1));
     assert_eq!(rt; book.edge(b"A", b"B"), witness(0, 3));
-    let second = batch_of_one(&rt, rt.alloc(), sources[1]);
+    let second = batch_of(&rt, rt.alloc(), &sources[1..2]);
     let is_back = match book.add_batch(second) {
         Err(BatchRefusal::Twice(batch)) => batch.listed().len() == 1,
-        _ => false,
+        Err(BatchRefusal::Memory(_batch)) => false,
+        Ok(()) => false,
     };
     assert!(rt; is_back);
     assert_eq!(rt; book.totals(), totals(2, 0, 4, 2, 1));
@@ -104,7 +87,7 @@ fn a_refused_batch_changes_nothing(rt: HostRuntime) {
     let mut book = book_of(&rt, rt.alloc(), THREE_TRACES, &[0]);
     let sources = sources_of(&rt, rt.alloc(), THREE_TRACES);
     assert_eq!(rt; sources.len(), 3);
-    let batch = batch_of_one(&rt, rt.alloc(), sources[1]);
+    let batch = batch_of(&rt, rt.alloc(), &sources[1..2]);
     if let Some(batch) = try_add_batch(&rt, &mut book, batch) {
         assert_eq!(rt; book.totals(), totals(1, 0, 2, 2, 1));
         assert_eq!(rt; book.edge(b"B", b"C"), None);
