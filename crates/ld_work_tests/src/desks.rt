@@ -1,7 +1,7 @@
 //! Desks in the hands of callers with threads of their own.
 ghost use Rattle.std.specs.Prelude.{◌≡◌};
 
-use crate::tests::{INVERSION, feed_one, sources_of, witness};
+use crate::tests::{INVERSION, feed_one, long_trace, sources_of, witness};
 use ld_book::{Refusal, Totals};
 use ld_facts::{Facts, Outcome, facts};
 use ld_trace::Source;
@@ -19,16 +19,16 @@ use std::thread::Threads;
 const OUT_OF_ORDER_RELEASE: &[u8] =
     b"trace o\nacquire t A\nacquire t B\nrelease t A\nacquire t C\n";
 
-fn tally(traces: u64, events: u64) -> Tally {
+pub fn tally(traces: u64, events: u64) -> Tally {
     Tally { traces, events }
 }
 
 /// What the desk's book has, of whose traces none is refused.
-fn totals_of<T: Ledger, E: Ledger, R: Wait>(rt: &R, desk: &Desk<'_, T, E>) -> Totals {
+pub fn totals_of<T: Ledger, E: Ledger, R: Wait>(rt: &R, desk: &Desk<'_, T, E>) -> Totals {
     desk.look(rt).book().totals()
 }
 
-fn totals(traces: u64, events: u64, classes: u64, dependencies: u64) -> Totals {
+pub fn totals(traces: u64, events: u64, classes: u64, dependencies: u64) -> Totals {
     Totals {
         traces,
         refused: 0,
@@ -269,5 +269,36 @@ fn a_refused_submit_changes_nothing(rt: HostRuntime) -> Result<(), Fail> {
     assert_eq!(rt; sources.len(), 2);
     let (traces, events) = (Blank::new(1), Blank::new(1));
     one_feeder::<Brand, Brand, _>(&rt, rt.alloc(), traces, events, sources[0]);
+    Ok(())
+}
+
+/// The one feeder of a desk adds a trace of 20 000 events.
+fn one_long_trace<'a, T: Ledger, E: Ledger, R: Wait + Abort>(
+    rt: &R,
+    alloc: Global,
+    traces: Blank,
+    events: Blank,
+    source: Source<'a>,
+)
+    requires traces { (traces.name ≡ T.name) × (traces.parts ≡ T.parts) × (traces.parts ≡ 1) }
+    requires events { (events.name ≡ E.name) × (events.parts ≡ E.parts) × (events.parts ≡ 1) }
+{
+    let made = Desk::<T, E>::new(alloc, traces, events, 1);
+    let (desk, mut feeders) = made.expect(rt, "a desk");
+    let mut feeder = feeders.pop().expect(rt, "a feeder");
+    feed_one(rt, alloc, &desk, source, &mut feeder);
+    assert_eq!(rt; feeder.tally(), tally(1, 20_000));
+    assert_eq!(rt; totals_of(rt, &desk), totals(1, 20_000, 1, 0));
+    drop(desk);
+}
+
+// A `submit` that answered `Memory` for a long trace would meet every contract.
+#[test]
+fn a_long_trace_is_submitted(rt: HostRuntime) -> Result<(), Fail> {
+    let stream = long_trace(rt.alloc())?;
+    let sources = sources_of(rt.alloc(), &stream)?;
+    assert_eq!(rt; sources.len(), 1);
+    let (traces, events) = (Blank::new(1), Blank::new(1));
+    one_long_trace::<Brand, Brand, _>(&rt, rt.alloc(), traces, events, sources[0]);
     Ok(())
 }

@@ -2,7 +2,7 @@
 ghost use Rattle.std.specs.Prelude.{◌≡◌, ◌≤◌, All, IfOk, length, map};
 ghost use Rattle.ld_trace.specs.Sources.{AreNumbered, Fits, plain};
 
-use ld_book::{Batch, BatchRefusal, Book};
+use ld_book::Book;
 use ld_facts::{Witness, facts};
 use ld_trace::{MOST_TRACES, Source, split};
 use ld_work::{Back, Desk, Feeder, Gate, MOST_FEEDERS, NoGate, Tally, WorkFault, work};
@@ -22,8 +22,6 @@ pub const INVERSION: &[u8] = b"trace ab\nacquire t A\nacquire t B\nrelease t B\n
 
 const THREE_TRACES: &[u8] = b"trace x\nacquire t A\nacquire t B\n\
     trace y\nacquire t B\nacquire t C\ntrace z\nacquire t C\nacquire t A\n";
-
-const SAME_LABEL: &[u8] = b"trace d\nacquire t A\nacquire t B\ntrace d\nacquire t A\nacquire t B\n";
 
 /// The traces of a stream, whichever allocation is refused, as long as it is one alone.
 pub fn sources_of<'a>(alloc: Global, bytes: &'a [u8]) -> Result<Vec<Source<'a>>, Fail>
@@ -186,84 +184,6 @@ fn workers_read_several_traces(rt: HostRuntime) -> Result<(), Fail> {
     Ok(())
 }
 
-/// More traces than a worker hands on at once.
-#[test]
-fn workers_read_more_than_a_batch(rt: HostRuntime) -> Result<(), Fail> {
-    let stream = b"trace a\nacquire t A\nacquire t B\n"
-        .repeat(rt.alloc(), 20)
-        .expect(&rt, "a stream");
-    let sources = sources_of(rt.alloc(), &stream)?;
-    for workers in [1, 2, 16] {
-        let book = work(&rt, rt.alloc(), &sources, workers, &NoGate).expect(&rt, "a book");
-        let totals = book.totals();
-        assert_eq!(rt; totals.traces, 20);
-        assert_eq!(rt; totals.refused, 0);
-        assert_eq!(rt; totals.events, 40);
-        assert_eq!(rt; totals.classes, 2);
-        assert_eq!(rt; totals.dependencies, 1);
-        assert_eq!(rt; book.edge(b"A", b"B"), witness(0, 3));
-        drop(book);
-    }
-    Ok(())
-}
-
-/// Pushes a trace whose number is above the last one's.
-fn push_last<'a, R: Abort>(
-    rt: &R,
-    alloc: Global,
-    batch: &mut Batch<'a>,
-    source: Source<'a>,
-) -> Result<(), AllocError> {
-    assert!(rt; source.fits());
-    let last = batch.listed().last().expect(rt, "a trace");
-    let number = last.source.number;
-    assert!(rt; number < source.number);
-    batch.push(alloc, source)
-}
-
-/// Hands a batch of two traces to a desk of one feeder, and one of them once more.
-fn batch_fed<T, E, R>(rt: &R, alloc: Global, traces: Blank, events: Blank) -> Result<(), Fail>
-where
-    T: Ledger + Send + Sync,
-    E: Ledger + Send + Sync,
-    R: Wait + Abort,
-    requires traces { (traces.name ≡ T.name) × (traces.parts ≡ T.parts) × (traces.parts ≡ 1) }
-    requires events { (events.name ≡ E.name) × (events.parts ≡ E.parts) × (events.parts ≡ 1) }
-{
-    let sources = sources_of(alloc, SAME_LABEL)?;
-    assert_eq!(rt; sources.len(), 2);
-    let made = Desk::<T, E>::new(alloc, traces, events, 1);
-    let (desk, mut feeders) = made.expect(rt, "a desk");
-    let mut feeder = feeders.pop().expect(rt, "a feeder");
-    let mut batch = Batch::new(alloc);
-    assert!(rt; sources[0].fits());
-    batch.push(alloc, sources[0]).expect(rt, "memory");
-    push_last(rt, alloc, &mut batch, sources[1]).expect(rt, "memory");
-    let answer = desk.look(rt).submit_batch(&mut feeder, batch);
-    assert!(rt; answer.is_ok());
-    drop(answer);
-    let both = Tally {
-        traces: 2,
-        events: 4,
-    };
-    assert_eq!(rt; feeder.tally(), both);
-    let mut again = Batch::new(alloc);
-    again.push(alloc, sources[0]).expect(rt, "memory");
-    let answer = desk.look(rt).submit_batch(&mut feeder, again);
-    let is_back = matches!(answer, Err(BatchRefusal::Twice(_)));
-    drop(answer);
-    assert!(rt; is_back);
-    assert_eq!(rt; feeder.tally(), both);
-    drop(desk);
-    Ok(())
-}
-
-#[test]
-fn a_batch_counts_in_the_tally(rt: HostRuntime) -> Result<(), Fail> {
-    let (traces, events) = (Blank::new(1), Blank::new(1));
-    batch_fed::<Brand, Brand, HostRuntime>(&rt, rt.alloc(), traces, events)
-}
-
 /// Asserts that two workers give a book of so many traces and events.
 fn expect_totals<R>(
     rt: &R,
@@ -293,15 +213,21 @@ fn many_traces_are_read(rt: HostRuntime) -> Result<(), Fail> {
     expect_totals(&rt, rt.alloc(), &stream, 2_000, 4_000)
 }
 
-#[test]
-fn a_long_trace_is_read(rt: HostRuntime) -> Result<(), Fail> {
-    let mut stream = b"trace x\n".to_vec(rt.alloc())?;
+/// A stream of one trace that has more than a million bytes, and 20 000 events.
+pub fn long_trace(alloc: Global) -> Result<Vec<u8>, AllocError> {
+    let mut stream = b"trace x\n".to_vec(alloc)?;
     for _ in 0..10_000 {
         stream.extend_from_slice(
             b"# a long trace has many bytes, and as many as a million of them are still read\n",
         )?;
         stream.extend_from_slice(b"acquire t A\nrelease t A\n")?;
     }
+    Ok(stream)
+}
+
+#[test]
+fn a_long_trace_is_read(rt: HostRuntime) -> Result<(), Fail> {
+    let stream = long_trace(rt.alloc())?;
     expect_totals(&rt, rt.alloc(), &stream, 1, 20_000)
 }
 
