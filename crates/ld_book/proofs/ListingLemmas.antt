@@ -1,7 +1,7 @@
 -- The traces that are listed, and their numbers.
-use Rattle.std.proofs.Common.{◌≡◌, ◌≢◌, ◌+◌, ◌<◌, ◌++◌, ◌||◌, ◌∷◌, [], List, ℕ, false, AllPairs, arith, cond, length, map, nat_eq, get_or, take, sym, ap, subst, ◌∙◌}
+use Rattle.std.proofs.Common.{◌≡◌, ◌≢◌, ◌+◌, ◌<◌, ◌++◌, ◌||◌, ◌∷◌, [], List, ℕ, false, AllPairs, arith, cond, length, map, nat_eq, get_or, take, sym, ap, ◌∙◌}
 use Rattle.std.proofs.lemmas.Bool.{false_from_ne_true, eqb-true}
-use Rattle.std.proofs.lemmas.List.{get_or-map, get_or-take, get_or_default, length-map, length-take, map-append, take_more}
+use Rattle.std.proofs.lemmas.List.{get_or-take, get_or_default, length-take, map-append}
 use Rattle.std.proofs.lemmas.List.Folds.{list_any-append, list_any_none}
 use Rattle.std.proofs.lemmas.List.Sums.{fold_push}
 use Rattle.std.specs.List.{list_any}

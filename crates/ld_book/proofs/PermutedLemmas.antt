@@ -1,7 +1,6 @@
 -- What traces show together doesn't depend on their order.
-use Rattle.std.proofs.Common.{◌≡◌, [], ◌∷◌, ◌||◌, List, ℕ, Bool, false, not, cond, Option, Some, None, IsSome, length, fold, map, filter_map, flat_map, refl, sym, ap, subst, ◌∙◌, arith}
+use Rattle.std.proofs.Common.{◌≡◌, [], ◌∷◌, ◌||◌, List, ℕ, Bool, cond, Option, Some, None, IsSome, length, fold, map, filter_map, flat_map, refl, sym, ap, subst, ◌∙◌}
 use Rattle.std.proofs.Math.Bool.{or-false, or_assoc}
-use Rattle.std.proofs.lemmas.Bool.Decides.{nat_tests}
 use Rattle.std.proofs.lemmas.List.Folds.{list_any-append}
 use Rattle.std.proofs.lemmas.List.Sorted.{IsPermutation-sym, length_permutation, list_any-IsPermutation, sum_by-IsPermutation}
 use Rattle.std.proofs.lemmas.Map.Made.{length-from_same_keys}
@@ -16,7 +15,7 @@ use Rattle.ld_graph.specs.Walks.{HasWalk, IsShownWalk}
 use Rattle.ld_rules.specs.declared.outcome.Witness.{Witness}
 use Rattle.ld_facts.specs.Dependency.{Dependency, Seen, least_line, same_dependency}
 use Rattle.ld_facts.specs.Outcome.{each_once, outcome}
-use Rattle.ld_facts.specs.Union.{classes_of, dependencies_of, dependency_witness, earlier, first_of, first_witness, is_before, use_witness, uses_of}
+use Rattle.ld_facts.specs.Union.{classes_of, dependencies_of, dependency_witness, earlier, first_of, first_witness, use_witness, uses_of}
 use Rattle.ld_facts.specs.Usage.{Bit, Use, same_use}
 use Rattle.ld_facts.specs.Usage.Bit.{In, On}
 use Rattle.ld_rules.proofs.PlaceLemmas.{alike_from_decides, any_each_once}

@@ -1,5 +1,5 @@
 -- What a book keeps true of its fields.
-use Rattle.std.specs.Prelude.{ℕ, ◌*◌, ◌≤◌, List, length}
+use Rattle.std.specs.Prelude.{◌*◌, ◌≤◌, List, length}
 use Rattle.ld_trace.specs.Sources.{PlainSource}
 use Rattle.ld_rules.specs.declared.outcome.TheConstants.{MOST_CLASSES}
 use Rattle.ld_find.specs.declared.alarms.Found.{Found}

@@ -1,4 +1,4 @@
-use Rattle.std.proofs.Common.{◌≡◌, ◌≢◌, ◌*◌, ◌≤◌, ◌++◌, ◌∙◌, All, AllPairs, arith, length, subst, sym}
+use Rattle.std.proofs.Common.{◌≢◌, ◌*◌, ◌≤◌, ◌++◌, ◌∙◌, All, AllPairs, arith, length, subst, sym}
 use Rattle.ld_trace.specs.Sources.{Fits}
 use Rattle.ld_batch.proofs.BatchLemmas.{few_sources}
 use Rattle.ld_book.specs.Book.{is_any_listed}

@@ -1,4 +1,4 @@
-use Rattle.std.proofs.Common.{◌≡◌, ◌<◌, ◌||◌, [], ◌∙◌, List, ℕ, ap, get_or, length, subst, sym}
+use Rattle.std.proofs.Common.{◌<◌, ◌||◌, [], ◌∙◌, List, ℕ, ap, length, subst, sym}
 use Rattle.std.proofs.lemmas.List.{get_or-map, length-map}
 use Rattle.std.proofs.lemmas.List.Folds.{list_any_at, list_any_more}
 use Rattle.ld_trace.specs.Sources.{PlainSource, plain}
