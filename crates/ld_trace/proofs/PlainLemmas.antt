@@ -9,6 +9,7 @@ use Rattle.std.proofs.lemmas.Bool.Decides.{nat_tests}
 use Rattle.std.proofs.lemmas.List.{append-nil, drop_at, take_at}
 use Rattle.std.proofs.lemmas.List.Folds.{list_all-append, list_any-append}
 use Rattle.std.specs.Prelude.{◌==◌, IfSome, Option, nat_le}
+use Rattle.std.specs.Borrow.{Bor}
 use Rattle.std.specs.Char.{is_ascii_graphic}
 use Rattle.std.specs.List.{list_all, list_any, onto_first, prefix_len, position_or_len, slice_split, filter}
 use Rattle.ld_trace.specs.declared.line.TheConstants.{LONGEST_WORD}
@@ -18,10 +19,10 @@ use Rattle.ld_trace.specs.declared.event.LockVerb.TheVariants as lock_verbs
 use Rattle.ld_trace.specs.Events.{PlainEvent, Acquire, Try, Release, PlainLock, is_sign, lock_of, said_by, said_by_fields}
 use Rattle.ld_trace.specs.First.{IsFirstSaid}
 use Rattle.ld_trace.specs.Inner.Reading.{spelling_of_lock_verb}
-use Rattle.ld_trace.specs.Inner.Plain.{IsLockLine, in_name, spelling_with}
+use Rattle.ld_trace.specs.Inner.Plain.{IsFront, IsLockLine, in_name, spelling_with}
 
 -- the bytes that pass a test, up to the first that doesn't
-pub list_all-front : (p : ℕ → Bool) (bytes : List ℕ) → list_all p (take (prefix_len p bytes) bytes) ≡ true
+list_all-front : (p : ℕ → Bool) (bytes : List ℕ) → list_all p (take (prefix_len p bytes) bytes) ≡ true
 list_all-front p [] = refl
 list_all-front p (b ∷ bytes) = by (p b) refl (list_all-front p bytes)
   where
@@ -30,7 +31,7 @@ list_all-front p (b ∷ bytes) = by (p b) refl (list_all-front p bytes)
     by false is others = rw is refl
 
 -- a word is a run of bytes of words, neither empty nor too long
-pub word : (run : List ℕ) (n : ℕ) → length run ≡ n → 0 < n → n ≤ LONGEST_WORD → list_all is_ascii_graphic run ≡ true → is_word run ≡ true
+word : (run : List ℕ) (n : ℕ) → length run ≡ n → 0 < n → n ≤ LONGEST_WORD → list_all is_ascii_graphic run ≡ true → is_word run ≡ true
 word [] n is some few graphic = absurd (omega arith)
 word (b ∷ run) n is some few graphic =
     let short : nat_le (length (b ∷ run)) LONGEST_WORD ≡ true = grind (arith, nat_tests) in
@@ -50,10 +51,25 @@ split-name (b ∷ run) is =
     by true is = absurd (cc)
     by false is = refl
 
-pub name : (run : List ℕ) (n : ℕ) → length run ≡ n → 0 < n → n ≤ LONGEST_WORD → list_all in_name run ≡ true → is_name run ≡ true
+name : (run : List ℕ) (n : ℕ) → length run ≡ n → 0 < n → n ≤ LONGEST_WORD → list_all in_name run ≡ true → is_name run ≡ true
 name run n is some few all =
     let two = split-name run all in
     rw (word run n is some few two.0, two.1) refl
+
+-- so what is cut off after so many bytes is a word, or a name
+pub cut-word : (bytes : List ℕ) (len : ℕ) (cut : Option (Bor (List ℕ) × Bor (List ℕ))) → len ≡ prefix_len is_ascii_graphic bytes → IfSome cut (λ cut. IsFront bytes len cut.0.now) → IfSome cut
+    (λ cut. is_word cut.0.now ≡ true)
+cut-word bytes len None all front = tt
+cut-word bytes len (Some cut) all front =
+    let passes : list_all is_ascii_graphic (take len bytes) ≡ true = rw all (list_all-front is_ascii_graphic bytes) in
+    word cut.0.now len front.long front.some front.few (rw front.is passes)
+
+pub cut-name : (bytes : List ℕ) (len : ℕ) (cut : Option (Bor (List ℕ) × Bor (List ℕ))) → len ≡ prefix_len in_name bytes → IfSome cut (λ cut. IsFront bytes len cut.0.now) → IfSome cut
+    (λ cut. is_name cut.0.now ≡ true)
+cut-name bytes len None all front = tt
+cut-name bytes len (Some cut) all front =
+    let passes : list_all in_name (take len bytes) ≡ true = rw all (list_all-front in_name bytes) in
+    name cut.0.now len front.long front.some front.few (rw front.is passes)
 
 -- a run of bytes of words
 pub record IsRun (run : List ℕ) : Type 0 where

@@ -13,7 +13,7 @@ returns c =
     let rest = c.in_ok-lock.rest.now in
     let blank : c.in_ok-task.after.now ≡ 32 ∷ c.in_ok-after.after.now = search rules in
     let told = said-plain c.in_ok-verb.verb task lock c.args.bytes.now c.in_ok-verb.after.now c.in_ok-after.after.now rest
-    c.in_ok-verb.ensures (c.in_ok-task.ensures.whole ∙ ap (λ o. task ++ o) blank) c.in_ok-task.ensures.word c.in_ok-lock.ensures in
+    c.in_ok-verb.ensures (c.in_ok-task.ensures.whole ∙ ap (λ o. task ++ o) blank) c.in_ok-task.ensures.spelled c.in_ok-lock.ensures in
     let P : PlainEvent → Type 0 = λ event. IsFirstSaid c.args.bytes.now (Ok (Some event)) rest in
     elim c.match-verb.branch [
       | in-Acquire w ↦ subst P (ap (λ verb. event_of verb task lock) w.in-Acquire.is ∙ ap plain_event (sym w.event-is)) told

@@ -12,6 +12,6 @@ returns c =
       whole =
           c.in_ok-class.ensures.whole ∙ ap (λ o. class ++ o) (sign ∙ ap (λ o. 64 ∷ o) (c.in_ok-name.ensures.whole ∙ ap (λ o. name ++ o) end))
           ∙ sym (append_assoc class (64 ∷ name) (10 ∷ c.in_ok-rest.rest.now));
-      class = c.in_ok-class.ensures.name;
-      instance = c.in_ok-name.ensures.name;
+      class = c.in_ok-class.ensures.spelled;
+      instance = c.in_ok-name.ensures.spelled;
     }
