@@ -1,5 +1,7 @@
 //! Reads the facts of a trace.
-ghost use Rattle.std.specs.Prelude.{◌≡◌, IfOk};
+ghost use Rattle.std.specs.Prelude.{◌≡◌, [], IfOk, MatchOption};
+ghost use Rattle.ld_trace.specs.Events.{answer_seen};
+ghost use Rattle.ld_trace.specs.First.{IsFirstSaid};
 ghost use Rattle.ld_trace.specs.Sources.{plain, Fits};
 ghost use Rattle.ld_rules.specs.Outcome.{outcome};
 ghost use Rattle.ld_rules.specs.declared.outcome.Outcome.TheVariants.{Refused};
@@ -9,7 +11,7 @@ use crate::scan::{Scan, Stop};
 use ld_class::Classes;
 use ld_held::{Edges, Uses};
 use ld_rules::{Outcome, TraceFault};
-use ld_trace::{Source, next_line, read_event, text};
+use ld_trace::{Event, LineFault, Source, next_event, next_line, read_event, text};
 use std::alloc::{AllocError, Global};
 
 /// The facts of a trace: what became of it and, where it was read to its end, what it shows. A
@@ -24,8 +26,8 @@ pub fn facts<'a>(alloc: Global, source: Source<'a>) -> Result<Facts<'a>, AllocEr
     let mut rest = source.bytes;
     let mut line = source.first_line;
     let mut events = 0;
-    while let Some((first, others)) = next_line(rest) {
-        match read_event(text(first)) {
+    while let Some((said, others)) = next_said(rest) {
+        match said {
             Ok(None) => {}
             Ok(Some(event)) => match scan.step(event, line) {
                 Ok(()) => events += 1,
@@ -50,6 +52,18 @@ pub fn facts<'a>(alloc: Global, source: Source<'a>) -> Result<Facts<'a>, AllocEr
         edges: scan.locks.into_edges(),
         usage: scan.uses,
     })
+}
+
+/// What the first line says, or its fault, and what follows the line; `None` where there is no byte.
+fn next_said(bytes: &[u8]) -> Option<(Result<Option<Event<'_>>, LineFault>, &[u8])>
+    ensures { MatchOption result (bytes.now ≡ []) (λ cut.
+        IsFirstSaid bytes.now (answer_seen cut.0) cut.1.now) }
+{
+    if let Some((event, rest)) = next_event(bytes) {
+        return Some((Ok(Some(event)), rest));
+    }
+    let (line, rest) = next_line(bytes)?;
+    Some((read_event(text(line)), rest))
 }
 
 /// The facts of a trace with a fault. They have nothing of what the scan found before it.

@@ -1,64 +1,68 @@
 -- Each line takes the scan one position further, or refuses the trace.
-use Rattle.std.proofs.Common.{rules, ◌≡◌, ◌+◌, None, Ok, Err, arith, sym, ap, subst, ◌∙◌, length, length-append}
-use Rattle.std.specs.Option.{option_map}
+use Rattle.std.proofs.Common.{rules, ◌≡◌, ◌+◌, None, Some, Ok, Err, arith, sym, ap, subst, refl, ◌∙◌, length, length-append}
+use Rattle.ld_trace.specs.Lines.{text_of}
 use Rattle.ld_trace.specs.Sources.{plain}
-use Rattle.ld_trace.specs.Events.{plain_event, said_by}
+use Rattle.ld_trace.specs.Events.{answer_seen, plain_event, said_by}
 use Rattle.ld_facts.specs.Facts.{IsKnown}
 use Rattle.ld_rules.specs.declared.outcome.Outcome.TheVariants.{Read, Refused}
 use Rattle.ld_facts.proofs.KnownLemmas.{moved, read-none, read-known, read-nothing, read-event, refused-event, refused-line}
 use Rattle.ld_facts.proofs.reading.facts.Goals as goal
 use Rattle.ld_facts.proofs.reading.facts.Goals.{in-Ok-None, in-Ok-Some+in-Ok}
 
-pub loop-first-init : goal.loop-first-init
-loop-first-init c = record { many = search rules; lines = omega arith; counted = omega arith; read = read-none (plain c.args.source) _ c.before.new-scan.ensures }
+pub loop-said-init : goal.loop-said-init
+loop-said-init c = record { many = search rules; lines = omega arith; counted = omega arith; read = read-none (plain c.args.source) _ c.new-scan.ensures }
 
 pub refused-requires-clause-outcome : goal.refused-requires-clause-outcome
 refused-requires-clause-outcome c =
-    refused-event (plain c.args.source) c.loop-first.line c.loop-first.rest.now c.loop-first.scan c.loop-first.events c.loop-first.invariant.read
-    c.in-Some.first.now c.in-Some.others.now c.in-Some.ensures.first
-    (plain_event c.in-Ok-Some.event) c.in-Err-Fault.fault (ap said_by (sym c.text.ensures) ∙ sym c.in-Ok-Some.ensures ∙ ap (λ o. Ok (option_map plain_event o)) c.in-Ok-Some.field-0-is)
+    let first = c.in-Some.ensures in
+    let is : said_by (text_of first.line) ≡ Ok (Some (plain_event c.in-Ok-Some.event)) = search rules in
+    refused-event (plain c.args.source) c.loop-said.line c.loop-said.rest.now c.loop-said.scan c.loop-said.events c.loop-said.invariant.read
+    first.line c.in-Some.others.now first.first
+    (plain_event c.in-Ok-Some.event) c.in-Err-Fault.fault is
     (c.step.ensures.fault c.in-Err-Fault.fault (c.in-Err-Fault.is ∙ ap Err c.in-Err-Fault.field-0-is))
-    ∙ ap (Refused c.loop-first.line) (sym c.in-Err-Fault.fault-is)
+    ∙ ap (Refused c.loop-said.line) (sym c.in-Err-Fault.fault-is)
 
 pub refused-requires-in-Err-clause-outcome : goal.refused-requires-in-Err-clause-outcome
 refused-requires-in-Err-clause-outcome c =
-    refused-line (plain c.args.source) c.loop-first.line c.loop-first.rest.now c.loop-first.scan c.loop-first.events c.loop-first.invariant.read
-    c.in-Some.first.now c.in-Some.others.now c.in-Some.ensures.first
-    c.in-Err.fault (ap said_by (sym c.text.ensures) ∙ sym c.in-Err.ensures)
-    ∙ ap (Refused c.loop-first.line) (sym c.from-fault.ensures)
+    let first = c.in-Some.ensures in
+    refused-line (plain c.args.source) c.loop-said.line c.loop-said.rest.now c.loop-said.scan c.loop-said.events c.loop-said.invariant.read
+    first.line c.in-Some.others.now first.first
+    c.in-Err.fault (first.says ∙ ap answer_seen c.in-Err.is)
+    ∙ ap (Refused c.loop-said.line) (sym c.from-fault.ensures)
 
-pub loop-first-preserved : goal.loop-first-preserved
-loop-first-preserved c = elim c.match-read_event-2.branch [
-  | in-Ok-None w ↦ let is : said_by c.text.result.now ≡ Ok None = search rules in record {
-    many = search rules;
-    lines = omega (arith, ap length c.in-Some.ensures.whole, length-append c.in-Some.first.now c.in-Some.others.now, c.in-Some.ensures.nonempty);
-    counted = omega (arith, ap length c.in-Some.ensures.whole, length-append c.in-Some.first.now c.in-Some.others.now, c.in-Some.ensures.nonempty);
-    read =
-        moved (plain c.args.source) (c.loop-first.line + 1) c.in-Some.others.now _ _ _ _ w.scan-is w.events-is
-        (read-nothing (plain c.args.source) c.loop-first.line c.loop-first.rest.now c.loop-first.scan c.loop-first.events c.loop-first.invariant.read
-        c.in-Some.first.now c.in-Some.others.now c.in-Some.ensures.first
-        (ap said_by (sym c.text.ensures) ∙ is));
-  }
-  | in-Ok-Some+in-Ok w ↦ record {
-    many = search rules;
-    lines = omega (arith, ap length c.in-Some.ensures.whole, length-append c.in-Some.first.now c.in-Some.others.now, c.in-Some.ensures.nonempty);
-    counted = omega (arith, ap length c.in-Some.ensures.whole, length-append c.in-Some.first.now c.in-Some.others.now, c.in-Some.ensures.nonempty);
-    read =
-        moved (plain c.args.source) (c.loop-first.line + 1) c.in-Some.others.now _ _ _ _ w.scan-is w.events-is
-        (read-event (plain c.args.source) c.loop-first.line c.loop-first.rest.now c.loop-first.scan c.loop-first.events c.loop-first.invariant.read
-        c.in-Some.first.now c.in-Some.others.now c.in-Some.ensures.first
-        c.text.result.now _ w.step.new.self c.text.ensures w.in-Ok.ensures.ok (search rules));
-  }
-]
+pub loop-said-preserved : goal.loop-said-preserved
+loop-said-preserved c =
+    let first = c.in-Some.ensures in
+    elim c.match-said-2.branch [
+      | in-Ok-None w ↦ let is : said_by (text_of first.line) ≡ Ok None = search rules in record {
+        many = search rules;
+        lines = omega (arith, ap length first.whole, length-append first.line c.in-Some.others.now, first.nonempty);
+        counted = omega (arith, ap length first.whole, length-append first.line c.in-Some.others.now, first.nonempty);
+        read =
+            moved (plain c.args.source) (c.loop-said.line + 1) c.in-Some.others.now _ _ _ _ w.scan-is w.events-is
+            (read-nothing (plain c.args.source) c.loop-said.line c.loop-said.rest.now c.loop-said.scan c.loop-said.events c.loop-said.invariant.read
+            first.line c.in-Some.others.now first.first is);
+      }
+      | in-Ok-Some+in-Ok w ↦ record {
+        many = search rules;
+        lines = omega (arith, ap length first.whole, length-append first.line c.in-Some.others.now, first.nonempty);
+        counted = omega (arith, ap length first.whole, length-append first.line c.in-Some.others.now, first.nonempty);
+        read =
+            moved (plain c.args.source) (c.loop-said.line + 1) c.in-Some.others.now _ _ _ _ w.scan-is w.events-is
+            (read-event (plain c.args.source) c.loop-said.line c.loop-said.rest.now c.loop-said.scan c.loop-said.events c.loop-said.invariant.read
+            first.line c.in-Some.others.now first.first
+            (text_of first.line) _ w.step.new.self refl w.in-Ok.ensures.ok (search rules));
+      }
+    ]
 
 pub invariant_of-result : goal.invariant_of-result
 invariant_of-result c =
     subst (λ edges. IsKnown (record {
       source = plain c.args.source;
-      outcome = Read c.loop-first.events;
-      classes = c.loop-first.scan.classes;
+      outcome = Read c.loop-said.events;
+      classes = c.loop-said.scan.classes;
       edges =
           edges;
-      usage = c.loop-first.scan.uses;
+      usage = c.loop-said.scan.uses;
     })) (sym c.into_edges.ensures)
-    (read-known (plain c.args.source) c.loop-first.line c.loop-first.rest.now c.loop-first.scan c.loop-first.events c.requires c.loop-first.invariant.read c.in_default.ensures.first)
+    (read-known (plain c.args.source) c.loop-said.line c.loop-said.rest.now c.loop-said.scan c.loop-said.events c.requires c.loop-said.invariant.read c.in_default.ensures)
