@@ -2,3 +2,4 @@ pub mod StackLemmas
 pub mod ChainLemmas
 pub mod EdgeLemmas
 pub mod LockLemmas
+pub mod OwnLemmas
