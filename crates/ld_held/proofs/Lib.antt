@@ -3,3 +3,4 @@ pub mod ChainLemmas
 pub mod EdgeLemmas
 pub mod LockLemmas
 pub mod OwnLemmas
+pub mod UseLemmas

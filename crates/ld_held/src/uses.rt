@@ -1,6 +1,6 @@
 //! The usage bits of a trace's numbered classes.
-ghost use Rattle.std.specs.Prelude.{◌≡◌, ◌<◌, ℕ, [], ◌∷◌, fold, map, slice_index_or, vec_len};
-ghost use Rattle.std.specs.Prelude.{OnErr, OnOk};
+ghost use Rattle.std.specs.Prelude.{◌≡◌, ◌<◌, ◌-◌, ℕ, [], ◌∷◌, fold, length, map, slice_index_or, take};
+ghost use Rattle.std.specs.Prelude.{vec_len, OnErr, OnOk};
 ghost use Rattle.ld_class.specs.Usage.{no_bits};
 ghost use Rattle.ld_rules.specs.Usage.{IsBit};
 ghost use Rattle.ld_held.specs.Inner.Uses.{in_facts, on_facts, told, with_use};
@@ -127,6 +127,24 @@ impl Uses {
             self.add_each(stack, Usage::ON_SOFT, line)?;
         }
         Ok(())
+    }
+
+    /// Keeps the first `count` of the bits.
+    pub fn cut(&mut self, count: usize)
+        ensures { self.new ≡ take count self.old }
+    {
+        while count < self.facts.len() {
+            self.drop_last();
+        }
+    }
+
+    /// Takes away the bit that came last, where there is one.
+    fn drop_last(&mut self)
+        ensures { self.new ≡ take (length self.old - 1) self.old }
+    {
+        if let Some(fact) = self.facts.pop() {
+            self.known[fact.class as usize].remove(fact.bit);
+        }
     }
 
     /// Adds a bit of the class of each lock, where it isn't there yet.
