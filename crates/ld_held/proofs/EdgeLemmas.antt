@@ -1,6 +1,6 @@
 -- Dependencies kept as a list and as a set of pairs.
-use Rattle.std.proofs.Common.{◌≡◌, ◌≤◌, ◌+◌, ◌∷◌, [], ◌++◌, ◌&&◌, List, Bool, true, false, nat_eq, not, ap, ◌∙◌, sym, refl, arith, length, map, if◌then◌else◌, length-append, fold, take}
-use Rattle.std.proofs.lemmas.List.{append-nil, take-append-le, take-take, take_all}
+use Rattle.std.proofs.Common.{◌≡◌, ◌+◌, ◌∷◌, [], ◌++◌, ◌&&◌, List, Bool, true, false, nat_eq, not, ap, ◌∙◌, sym, refl, arith, length, map, if◌then◌else◌, length-append}
+use Rattle.std.proofs.lemmas.List.{append-nil}
 use Rattle.std.specs.List.{list_any}
 use Rattle.ld_class.proofs.Mapped.{list_any-map}
 use Rattle.ld_held.specs.declared.edges.EdgeFact.{EdgeFact}
@@ -31,18 +31,3 @@ module _ (edges : List EdgeFact) (edge : EdgeFact) (keys after : List Pair) (is_
 
   pub with_edge_fact-new : not is_new ≡ false → edges ++ edge ∷ [] ≡ with_edge_fact edges edge
   with_edge_fact-new new = sym (ap (λ (b : Bool). edges ++ (if b then [] else edge ∷ [])) (found ∙ new))
-
--- those that were there stay, and stand first
-with_edge_fact-first : (edges : List EdgeFact) (edge : EdgeFact) → take (length edges) (with_edge_fact edges edge) ≡ edges
-with_edge_fact-first edges edge =
-    let more = if list_any (same_pair edge) edges then [] else edge ∷ [] in
-    take-append-le (length edges) edges more (omega arith) ∙ take_all (length edges) edges (omega arith)
-
-pub told_first : (edges more : List EdgeFact) → take (length edges) (fold with_edge_fact edges more) ≡ edges
-told_first edges [] = take_all (length edges) edges (omega arith)
-told_first edges (edge ∷ more) =
-    let next = with_edge_fact edges edge in
-    let short : length edges ≤ length next = omega (arith, length-append edges (if list_any (same_pair edge) edges then [] else edge ∷ [])) in
-    sym (take-take (length edges) (length next) (fold with_edge_fact next more) short)
-    ∙ ap (take (length edges)) (told_first next more)
-    ∙ with_edge_fact-first edges edge

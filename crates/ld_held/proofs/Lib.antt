@@ -4,3 +4,4 @@ pub mod EdgeLemmas
 pub mod LockLemmas
 pub mod OwnLemmas
 pub mod UseLemmas
+pub mod FirstLemmas

@@ -73,7 +73,9 @@ impl Uses {
         interrupts: Interrupts,
         line: u64,
     ) -> Result<(), AllocError>
-        ensures { OnOk result (self.new ≡ fold with_use self.old (in_facts interrupts line class)) }
+        ensures uses { OnOk result
+            (self.new ≡ fold with_use self.old (in_facts interrupts line class)) }
+        ensures first { take (length self.old) self.new ≡ self.old }
     {
         // The outermost frame first: a hard one lies over a soft one.
         if interrupts.has(State::Soft) {
@@ -95,8 +97,9 @@ impl Uses {
         interrupts: Interrupts,
         line: u64,
     ) -> Result<(), AllocError>
-        ensures { OnOk result
+        ensures uses { OnOk result
             (self.new ≡ fold with_use self.old (on_facts interrupts line (class ∷ []))) }
+        ensures first { take (length self.old) self.new ≡ self.old }
     {
         if interrupts.is_enabled(State::Hard) {
             let bit = Usage::ON_HARD;
@@ -117,8 +120,9 @@ impl Uses {
         interrupts: Interrupts,
         line: u64,
     ) -> Result<(), AllocError>
-        ensures { OnOk result (self.new ≡ fold with_use self.old
+        ensures uses { OnOk result (self.new ≡ fold with_use self.old
             (on_facts interrupts line (map (λ held. held.class) stack.now))) }
+        ensures first { take (length self.old) self.new ≡ self.old }
     {
         if interrupts.is_enabled(State::Hard) {
             self.add_each(stack, Usage::ON_HARD, line)?;
@@ -150,8 +154,9 @@ impl Uses {
     /// Adds a bit of the class of each lock, where it isn't there yet.
     fn add_each(&mut self, stack: &[Held<'_>], bit: Usage, line: u64) -> Result<(), AllocError>
         requires { IsBit bit }
-        ensures { OnOk result (self.new ≡ fold with_use self.old
+        ensures uses { OnOk result (self.new ≡ fold with_use self.old
             (map (told bit line) (map (λ held. held.class) stack.now))) }
+        ensures first { take (length self.old) self.new ≡ self.old }
     {
         for held in stack {
             let class = held.class;
@@ -165,6 +170,7 @@ impl Uses {
         requires { IsBit fact.bit }
         ensures added { OnOk result (self.new ≡ with_use self.old fact) }
         ensures refused { OnErr result (self.new ≡ self.old) }
+        ensures first { take (length self.old) self.new ≡ self.old }
     {
         reach(&mut self.known, fact.class)?;
         let class = fact.class as usize;
