@@ -5,3 +5,4 @@ pub mod LockLemmas
 pub mod OwnLemmas
 pub mod UseLemmas
 pub mod FirstLemmas
+pub mod BegunLemmas
