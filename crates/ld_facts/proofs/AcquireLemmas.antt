@@ -337,7 +337,7 @@ module _ (all : List Position) (old : Scan) (is : IsAt all old) (name : List ℕ
     tasks = new.tasks;
     classes = new.classes;
     locks =
-        record { stacks = slice_set new.locks.stacks id (held_now ++ top ∷ []); interrupts = new.locks.interrupts; edges = edges };
+        record { stacks = slice_set new.locks.stacks id (held_now ++ top ∷ []); interrupts = new.locks.interrupts; edges = edges; begun = new.locks.begun };
     uses = uses;
   }
 

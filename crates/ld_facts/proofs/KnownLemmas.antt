@@ -168,7 +168,7 @@ pub read-none : (source : PlainSource) (scan : Scan) → scan ≡ record {
   tasks = [];
   classes = [];
   locks =
-      record { stacks = []; interrupts = []; edges = [] };
+      record { stacks = []; interrupts = []; edges = []; begun = [] };
   uses = [];
 } → IsReadTo source source.first_line source.bytes scan 0
 read-none source scan new = subst (λ s. IsReadTo source source.first_line source.bytes s 0) (sym new) (record {

@@ -206,7 +206,13 @@ module _ (all : List Position) (old : Scan) (is_at : IsAt all old) (name : List 
   left = take (start_now frames_now) held_now ++ remove_last (is_of lock) (drop (start_now frames_now) held_now)
 
   abbrev pub scan_left : Scan
-  scan_left = record { tasks = mid.tasks; classes = mid.classes; locks = record { stacks = set mid.locks.stacks id left; interrupts = mid.locks.interrupts; edges = mid.locks.edges }; uses = mid.uses }
+  scan_left = record {
+    tasks = mid.tasks;
+    classes = mid.classes;
+    locks =
+        record { stacks = set mid.locks.stacks id left; interrupts = mid.locks.interrupts; edges = mid.locks.edges; begun = mid.locks.begun };
+    uses = mid.uses;
+  }
 
   inside : id < length mid.locks.stacks
   inside = omega (arith, has.place.0, has.many.0)

@@ -65,7 +65,7 @@ impl<'a> Scan<'a> {
         ensures { result ≡ record {
           tasks = [];
           classes = [];
-          locks = record { stacks = []; interrupts = []; edges = [] };
+          locks = record { stacks = []; interrupts = []; edges = []; begun = [] };
           uses = [];
         } }
     {
