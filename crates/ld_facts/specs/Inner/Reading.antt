@@ -1,4 +1,5 @@
--- What the scan of a trace keeps, against the positions so far. No public contract cites this file.
+-- What the scan of a trace keeps, against what it had when the trace began and the positions so far. The
+-- calls of a scan and `read_into` cite this, and no clause of `Facts`.
 use Rattle.std.specs.Prelude.{◌≡◌, ◌<◌, ◌≤◌, ◌+◌, ℕ, None, Ok, List, [], ◌∷◌, ◌++◌}
 use Rattle.std.specs.Prelude.{All, drop, fold, map, length, slice_index_or, slice_set}
 use Rattle.std.specs.List.{filter_map, enumerate_from}
