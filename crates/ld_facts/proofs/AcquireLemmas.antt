@@ -276,12 +276,8 @@ module _ {start : Start} (all : List Position) (old : Scan) (is : IsAt start all
 
   -- the scan with it, and with these dependencies and usage bits
   abbrev with_top : List EdgeFact → List UsageFact → Scan
-  with_top edges uses = record {
-    tasks = new.tasks;
-    classes = new.classes;
-    own = new.own;
-    locks =
-        record { stacks = slice_set new.locks.stacks id (held_now ++ top ∷ []); interrupts = new.locks.interrupts; edges = edges };
+  with_top edges uses = record new {
+    locks = record new.locks { stacks = slice_set new.locks.stacks id (held_now ++ top ∷ []); edges = edges };
     uses = uses;
   }
 

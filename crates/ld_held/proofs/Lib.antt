@@ -3,3 +3,6 @@ pub mod ChainLemmas
 pub mod EdgeLemmas
 pub mod LockLemmas
 pub mod OwnLemmas
+pub mod UseLemmas
+pub mod FirstLemmas
+pub mod BegunLemmas

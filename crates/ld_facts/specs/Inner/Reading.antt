@@ -106,7 +106,7 @@ empty_scan = record {
   tasks = [];
   classes = [];
   own = [];
-  locks = record { stacks = []; interrupts = []; edges = [] };
+  locks = record { stacks = []; interrupts = []; edges = []; begun = [] };
   uses = [];
 }
 
