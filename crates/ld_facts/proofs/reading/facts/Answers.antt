@@ -1,68 +1,24 @@
--- Each line takes the scan one position further, or refuses the trace.
-use Rattle.std.proofs.Common.{rules, ◌≡◌, ◌+◌, None, Some, Ok, Err, arith, sym, ap, subst, refl, ◌∙◌, length, length-append}
-use Rattle.ld_trace.specs.Lines.{text_of}
+-- A new scan is at a start with nothing, so what is read into it is what the trace shows.
+use Rattle.std.proofs.Common.{Ok, ap, sym, subst, ◌∙◌}
 use Rattle.ld_trace.specs.Sources.{plain}
-use Rattle.ld_trace.specs.Events.{answer_seen, plain_event, said_by}
+use Rattle.ld_rules.specs.declared.outcome.Outcome.TheVariants.{Read}
 use Rattle.ld_facts.specs.Facts.{IsKnown}
-use Rattle.ld_rules.specs.declared.outcome.Outcome.TheVariants.{Read, Refused}
-use Rattle.ld_facts.proofs.KnownLemmas.{moved, read-none, read-known, read-nothing, read-event, refused-event, refused-line}
+use Rattle.ld_facts.specs.Inner.Reading.{no_start}
+use Rattle.ld_facts.proofs.KnownLemmas.{none-at, read-known}
 use Rattle.ld_facts.proofs.reading.facts.Goals as goal
-use Rattle.ld_facts.proofs.reading.facts.Goals.{in-Ok-None, in-Ok-Some+in-Ok}
-
-pub loop-said-init : goal.loop-said-init
-loop-said-init c = record { many = search rules; lines = omega arith; counted = omega arith; read = read-none (plain c.args.source) _ c.new-scan.ensures }
-
-pub refused-requires-clause-outcome : goal.refused-requires-clause-outcome
-refused-requires-clause-outcome c =
-    let first = c.in-Some.ensures in
-    let is : said_by (text_of first.line) ≡ Ok (Some (plain_event c.in-Ok-Some.event)) = search rules in
-    refused-event (plain c.args.source) c.loop-said.line c.loop-said.rest.now c.loop-said.scan c.loop-said.events c.loop-said.invariant.read
-    first.line c.in-Some.others.now first.first
-    (plain_event c.in-Ok-Some.event) c.in-Err-Fault.fault is
-    (c.step.ensures.fault c.in-Err-Fault.fault (c.in-Err-Fault.is ∙ ap Err c.in-Err-Fault.field-0-is))
-    ∙ ap (Refused c.loop-said.line) (sym c.in-Err-Fault.fault-is)
-
-pub refused-requires-in-Err-clause-outcome : goal.refused-requires-in-Err-clause-outcome
-refused-requires-in-Err-clause-outcome c =
-    let first = c.in-Some.ensures in
-    refused-line (plain c.args.source) c.loop-said.line c.loop-said.rest.now c.loop-said.scan c.loop-said.events c.loop-said.invariant.read
-    first.line c.in-Some.others.now first.first
-    c.in-Err.fault (first.says ∙ ap answer_seen c.in-Err.is)
-    ∙ ap (Refused c.loop-said.line) (sym c.from-fault.ensures)
-
-pub loop-said-preserved : goal.loop-said-preserved
-loop-said-preserved c =
-    let first = c.in-Some.ensures in
-    elim c.match-said-2.branch [
-      | in-Ok-None w ↦ let is : said_by (text_of first.line) ≡ Ok None = search rules in record {
-        many = search rules;
-        lines = omega (arith, ap length first.whole, length-append first.line c.in-Some.others.now, first.nonempty);
-        counted = omega (arith, ap length first.whole, length-append first.line c.in-Some.others.now, first.nonempty);
-        read =
-            moved (plain c.args.source) (c.loop-said.line + 1) c.in-Some.others.now _ _ _ _ w.scan-is w.events-is
-            (read-nothing (plain c.args.source) c.loop-said.line c.loop-said.rest.now c.loop-said.scan c.loop-said.events c.loop-said.invariant.read
-            first.line c.in-Some.others.now first.first is);
-      }
-      | in-Ok-Some+in-Ok w ↦ record {
-        many = search rules;
-        lines = omega (arith, ap length first.whole, length-append first.line c.in-Some.others.now, first.nonempty);
-        counted = omega (arith, ap length first.whole, length-append first.line c.in-Some.others.now, first.nonempty);
-        read =
-            moved (plain c.args.source) (c.loop-said.line + 1) c.in-Some.others.now _ _ _ _ w.scan-is w.events-is
-            (read-event (plain c.args.source) c.loop-said.line c.loop-said.rest.now c.loop-said.scan c.loop-said.events c.loop-said.invariant.read
-            first.line c.in-Some.others.now first.first
-            (text_of first.line) _ w.step.new.self refl w.in-Ok.ensures.ok (search rules));
-      }
-    ]
 
 pub invariant_of-result : goal.invariant_of-result
 invariant_of-result c =
     subst (λ edges. IsKnown (record {
       source = plain c.args.source;
-      outcome = Read c.loop-said.events;
-      classes = c.loop-said.scan.classes;
-      edges =
-          edges;
-      usage = c.loop-said.scan.uses;
+      outcome = Read c.in-Ok-Read.events;
+      classes = c.read_into.new.scan.classes;
+      edges = edges;
+      usage = c.read_into.new.scan.uses;
     })) (sym c.into_edges.ensures)
-    (read-known (plain c.args.source) c.loop-said.line c.loop-said.rest.now c.loop-said.scan c.loop-said.events c.requires c.loop-said.invariant.read c.in_default.ensures)
+    (read-known (plain c.args.source) c.read_into.new.scan c.in-Ok-Read.events c.requires
+    (c.read_into.ensures.read c.in-Ok-Read.events (c.in-Ok-Read.is ∙ ap Ok c.in-Ok-Read.field-0-is) no_start (none-at c.new-scan.result c.new-scan.ensures))
+    (sym (c.in-Ok-Read.ensures.told no_start (none-at c.new-scan.result c.new-scan.ensures)) ∙ c.in-Ok-Read.field-0-is))
+
+pub refused-requires-clause-outcome : goal.refused-requires-clause-outcome
+refused-requires-clause-outcome c = sym (c.in-Ok-Refused.ensures.told no_start (none-at c.new-scan.result c.new-scan.ensures)) ∙ c.in-Ok-Refused.field-0-is
