@@ -14,7 +14,8 @@ invariant_of-self c = record {
       (chained_left c.self.inside.chains (get_or c.self.inside.stacks c.args.task empty_stack).held
       (get_or c.self.inside.stacks c.args.task empty_stack).interrupts c.interrupts-interrupts.result c.exit.new.self
       (ap start_now (interrupts_shown c.self.inside.stacks c.self.inside.edges c.args.self.now c.args.task c.self.view_is) ∙ c.requires.empty
-      ∙ sym (ap length (holds_shown c.self.inside.stacks c.self.inside.edges c.args.self.now c.args.task c.self.view_is)) ∙ length-map (get_or c.self.inside.stacks c.args.task empty_stack).held hold_of)
+      ∙ sym (ap length (holds_shown c.self.inside.stacks c.self.inside.edges c.args.self.now c.args.task c.self.view_is))
+      ∙ length-map (get_or c.self.inside.stacks c.args.task empty_stack).held hold_of)
       c.interrupts-interrupts.ensures c.exit.ensures (c.self.invariant.tied.chained c.args.task));
   mark = c.self.invariant.mark;
 }
