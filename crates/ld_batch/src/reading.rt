@@ -1,0 +1,119 @@
+//! Reads a trace into what a batch keeps.
+ghost use Rattle.std.specs.Prelude.{◌≡◌, ◌++◌, ◌+◌, ◌*◌, ◌≤◌, ℕ, [], IfOk, Ok, OnErr, OnOk, drop, length, map, take};
+ghost use Rattle.ld_trace.specs.Sources.{Fits, plain};
+ghost use Rattle.ld_class.specs.declared.names.TheConstants.{MOST_NAMES};
+ghost use Rattle.ld_rules.specs.declared.outcome.TheConstants.{MOST_CLASSES};
+ghost use Rattle.ld_rules.specs.Outcome.{outcome};
+ghost use Rattle.ld_facts.specs.Inner.Reading.{AreMany, IsAt, Start};
+ghost use Rattle.ld_trace.specs.Events.{positions};
+ghost use Rattle.ld_rules.specs.declared.outcome.Outcome.TheVariants.{Read};
+ghost use Rattle.ld_batch.specs.Inner.Kept.{IsOnTop, IsReady, Shows, ready, start_of};
+ghost use Rattle.ld_batch.specs.Inner.Rows.{edge_of, use_of};
+
+use crate::edges::{WitnessedEdge, add_edges};
+use crate::uses::{WitnessedUse, add_uses};
+use ld_facts::{Outcome, Scan};
+use ld_trace::Source;
+use std::alloc::AllocError;
+
+/// Reads one more trace on top of what the scan has, and adds the rows that it told first. A refused
+/// trace adds nothing. The scan is then ready for the next trace.
+///
+/// `AllocError` where memory was refused. Nothing has changed then but spare memory.
+pub(crate) fn read<'a>(
+    scan: &mut Scan<'a>,
+    edges: &mut Vec<WitnessedEdge>,
+    usage: &mut Vec<WitnessedUse>,
+    source: Source<'a>,
+) -> Result<Outcome, AllocError>
+    requires fits { Fits (plain source) }
+    requires ready { IsReady scan.old }
+    requires begun { IsAt (start_of scan.old) [] scan.old }
+    requires room { length scan.old.classes + 2 * MOST_CLASSES ≤ MOST_NAMES }
+    requires edges { length edges.old.items ≡ length scan.old.locks.edges }
+    requires usage { length usage.old.items ≡ length scan.old.uses }
+    ensures told { IfOk result (λ told. told ≡ outcome (plain source.entry)) }
+    ensures shows { OnOk result (Shows scan.old (plain source.entry) scan.new) }
+    ensures ready { OnOk result (IsReady scan.new) }
+    ensures begun { OnOk result (IsAt (start_of scan.new) [] scan.new) }
+    ensures edges { OnOk result (edges.new.items ≡ edges.old.items
+        ++ map (edge_of source.entry.number) (drop (length edges.old.items) scan.new.locks.edges)) }
+    ensures usage { OnOk result (usage.new.items ≡ usage.old.items
+        ++ map (use_of source.entry.number) (drop (length usage.old.items) scan.new.uses)) }
+    ensures refused { OnErr result ((scan.new ≡ scan.old)
+        × (edges.new.items ≡ edges.old.items) × (usage.new.items ≡ usage.old.items)) }
+{
+    let classes = scan.classes.len();
+    let outcome = scan_source(scan, source)?;
+    let more_edges = &scan.locks.edges()[edges.len()..];
+    let more_uses = &scan.uses.as_slice()[usage.len()..];
+    if edges.reserve(more_edges.len()).is_err() || usage.reserve(more_uses.len()).is_err() {
+        undo(scan, classes, usage.len());
+        return Err(AllocError);
+    }
+    // From here on nothing is refused.
+    add_edges(edges, more_edges, source.number);
+    add_uses(usage, more_uses, source.number);
+    begin(scan);
+    Ok(outcome)
+}
+
+/// Scans one more trace. One that isn't read to its end leaves nothing.
+fn scan_source<'a>(scan: &mut Scan<'a>, source: Source<'a>) -> Result<Outcome, AllocError>
+    requires fits { Fits (plain source) }
+    requires ready { IsReady scan.old }
+    requires begun { IsAt (start_of scan.old) [] scan.old }
+    ensures told { IfOk result (λ told. told ≡ outcome (plain source.entry)) }
+    ensures shows { OnOk result (Shows scan.old (plain source.entry) scan.new) }
+    ensures first { OnOk result (IsOnTop scan.old scan.new) }
+    ensures more { OnOk result (length scan.old.locks.edges ≤ length scan.new.locks.edges) }
+    ensures refused { OnErr result (scan.new ≡ scan.old) }
+{
+    let classes = scan.classes.len();
+    let uses = scan.uses.as_slice().len();
+    match read_into(scan, source) {
+        Ok(Outcome::Read { events }) => Ok(Outcome::Read { events }),
+        Ok(Outcome::Refused { line, fault }) => {
+            undo(scan, classes, uses);
+            Ok(Outcome::Refused { line, fault })
+        }
+        Err(refusal) => {
+            undo(scan, classes, uses);
+            Err(refusal)
+        }
+    }
+}
+
+/// A trace begins on top of what the scan has.
+fn begin(scan: &mut Scan<'_>)
+    ensures { scan.new ≡ ready scan.old.classes scan.old.locks.edges scan.old.uses }
+{
+    scan.tasks.cut(0);
+    scan.own.begin();
+    scan.locks.begin();
+}
+
+/// The scan is again as when the trace began, when it had so many classes and usage bits.
+fn undo(scan: &mut Scan<'_>, classes: usize, uses: usize)
+    ensures { scan.new ≡ ready (take classes scan.old.classes) scan.old.locks.begun
+        (take uses scan.old.uses) }
+{
+    scan.tasks.cut(0);
+    scan.classes.cut(classes);
+    scan.own.begin();
+    scan.locks.undo();
+    scan.uses.cut(uses);
+}
+
+fn read_into<'a>(scan: &mut Scan<'a>, source: Source<'a>) -> Result<Outcome, AllocError>
+    requires fits { Fits (plain source) }
+    requires many { AreMany scan.old }
+    ensures told { IfOk result (λ told. (start : Start) → IsAt start [] scan.old →
+        told ≡ outcome (plain source.entry)) }
+    ensures read { (events : ℕ) → result ≡ Ok (Read events) →
+        (start : Start) → IsAt start [] scan.old →
+        IsAt start (positions (plain source.entry)) scan.new }
+    ensures first { IsOnTop scan.old scan.new }
+{
+    Err(AllocError)
+}
