@@ -9,3 +9,4 @@ pub mod AcquireLemmas
 pub mod ReleaseLemmas
 pub mod InterruptLemmas
 pub mod KnownLemmas
+pub mod StartLemmas

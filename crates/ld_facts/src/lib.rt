@@ -10,4 +10,4 @@ pub use known::Facts;
 pub use ld_held::{EdgeFact, UsageFact};
 pub use ld_rules::{Listed, MOST_CLASSES, MOST_HELD, MOST_TASKS, Outcome, TraceFault, Witness};
 pub use reading::{facts, read_into};
-pub use scan::Scan;
+pub use scan::{Mark, Scan};

@@ -8,7 +8,7 @@ ghost use Rattle.ld_trace.specs.Events.PlainEvent.{Disable, Enable, Enter, Exit,
 ghost use Rattle.ld_held.specs.Inner.Interrupts.{fresh};
 ghost use Rattle.ld_rules.specs.Outcome.{event_fault, events};
 ghost use Rattle.ld_facts.specs.Inner.Reading.{AreMany, HasTask, IsAt, Start, acquisition, happens};
-ghost use Rattle.ld_facts.specs.Inner.Reading.{empty_scan, own_names, taken, waited};
+ghost use Rattle.ld_facts.specs.Inner.Reading.{begun, empty_scan, own_names, taken, undone, waited};
 ghost use Rattle.ld_held.specs.Inner.Uses.{on_facts, with_use};
 ghost use Rattle.ld_rules.specs.declared.fault.TraceFault.{TraceFault};
 ghost use Rattle.ld_rules.specs.declared.outcome.TheConstants.{MOST_CLASSES, MOST_HELD, MOST_TASKS};
@@ -47,6 +47,13 @@ pub enum Taking {
     Trying,
 }
 
+/// How much a scan had when a trace began.
+#[derive(Clone, Copy)]
+pub struct Mark {
+    classes: usize,
+    uses: usize,
+}
+
 /// What the events of a trace so far leave, on top of what was there before them.
 #[derive(Drop)]
 pub struct Scan<'a> {
@@ -75,6 +82,32 @@ impl<'a> Scan<'a> {
             locks: Locks::new(alloc),
             uses: Uses::new(alloc),
         }
+    }
+
+    /// Another trace begins, on top of what is there. The memory stays.
+    pub fn begin(&mut self) -> Mark
+        ensures begun { self.new ≡ begun self.old }
+        ensures mark { (result.classes ≡ length self.old.classes)
+            × (result.uses ≡ length self.old.uses) }
+    {
+        self.tasks.cut(0);
+        self.own.begin();
+        self.locks.begin();
+        Mark {
+            classes: self.classes.len(),
+            uses: self.uses.as_slice().len(),
+        }
+    }
+
+    /// Takes back what the trace added that began at this mark.
+    pub fn undo(&mut self, mark: Mark)
+        ensures { self.new ≡ undone self.old mark.classes mark.uses }
+    {
+        self.tasks.cut(0);
+        self.classes.cut(mark.classes);
+        self.own.begin();
+        self.locks.undo();
+        self.uses.cut(mark.uses);
     }
 
     /// One more event, at this line.

@@ -1,7 +1,7 @@
 -- What the scan of a trace keeps, against what it had when the trace began and the positions so far. The
 -- calls of a scan and `read_into` cite this, and no clause of `Facts`.
 use Rattle.std.specs.Prelude.{◌≡◌, ◌<◌, ◌≤◌, ◌+◌, ℕ, None, Ok, List, [], ◌∷◌, ◌++◌}
-use Rattle.std.specs.Prelude.{All, drop, fold, map, length, slice_index_or, slice_set}
+use Rattle.std.specs.Prelude.{All, drop, fold, map, length, slice_index_or, slice_set, take}
 use Rattle.std.specs.List.{filter_map, enumerate_from}
 use Rattle.ld_class.specs.Names.{AreDistinct, IsNameAt, place_of, with_name}
 use Rattle.ld_class.specs.declared.names.TheConstants.{MOST_NAMES}
@@ -108,6 +108,32 @@ empty_scan = record {
   own = [];
   locks = record { stacks = []; interrupts = []; edges = []; begun = [] };
   uses = [];
+}
+
+-- what a scan has, as the start of another trace
+abbrev pub start_of : Scan → Start
+start_of scan = record {
+  classes = scan.classes;
+  edges = map (named scan.classes) scan.locks.edges;
+  uses = map (named_use scan.classes) scan.uses;
+}
+
+-- the scan when another trace begins on top of what it has
+abbrev pub begun : Scan → Scan
+begun scan = record scan {
+  tasks = [];
+  own = [];
+  locks = record { stacks = []; interrupts = []; edges = scan.locks.edges; begun = scan.locks.edges };
+}
+
+-- the scan without what its trace added, where it had so many classes and usage bits when that began
+abbrev pub undone : Scan → ℕ → ℕ → Scan
+undone scan classes uses = record {
+  tasks = [];
+  classes = take classes scan.classes;
+  own = [];
+  locks = record { stacks = []; interrupts = []; edges = scan.locks.begun; begun = scan.locks.begun };
+  uses = take uses scan.uses;
 }
 
 -- the task has this number now, and all else is as before
