@@ -29,10 +29,11 @@ use Rattle.ld_held.specs.declared.uses.UsageFact.{UsageFact}
 use Rattle.ld_facts.specs.declared.scan.Scan.{Scan}
 use Rattle.ld_facts.specs.Facts as facts
 use Rattle.ld_facts.specs.Inner.Reading as reading
-use Rattle.ld_facts.specs.Inner.Reading.{IsAt, empty_scan, names_at}
+use Rattle.ld_facts.specs.Inner.Reading.{IsAt, empty_scan, start_of, undone}
 use Rattle.ld_facts.proofs.KnownLemmas.{none-at}
+use Rattle.ld_facts.proofs.StartLemmas.{begun-at}
 use Rattle.ld_batch.specs.Batch.{AreOutcomes, AreRising, IsBatch, IsUse, IsWithin, PlainBatch, named, named_use, sources_of, witness_of}
-use Rattle.ld_batch.specs.Inner.Kept.{Fields, IsKept, IsOnTop, IsReady, Shows, ready, start_of}
+use Rattle.ld_batch.specs.Inner.Kept.{Fields, IsKept, IsOnTop, IsReady, Shows}
 use Rattle.ld_batch.specs.Inner.Names.{IsLonger, with_names}
 use Rattle.ld_batch.specs.Inner.Rows.{AreMet, edge_of, seen_of, use_of}
 use Rattle.ld_batch.proofs.MetLemmas.{then_added}
@@ -167,32 +168,20 @@ pub record Adds (old new : Fields) (last : Listed) : Type 0 where
   pub begun : IsAt (start_of new.scan) [] new.scan
 
 -- A trace begins where a scan is ready for it.
-begins-ready : (names : List (List ℕ)) (edges : List EdgeFact) (uses : List UsageFact) → AreDistinct names → All (reading.IsWithin names) edges → All (facts.IsUse names) uses
-    → length names ≤ 1073733633 → IsAt (start_of (ready names edges uses)) [] (ready names edges uses)
-begins-ready names edges uses distinct within used room = record {
-  clean = refl;
-  tasks = refl;
-  names = refl;
-  distinct = distinct;
-  own = refl;
-  few_tasks = omega arith;
-  few_classes = omega arith;
-  many = (refl, refl, λ k d below. absurd (omega arith), omega (arith, room));
-  each = λ id name at. absurd (omega (arith, at.0));
-  shallow = λ id. omega arith;
-  edges = refl;
-  within = within;
-  uses = refl;
-  used = used;
-}
-
 pub begins : (old new : Scan) (source : PlainSource) → IsReady new → Shows old source new → length new.classes ≤ 1073733633 → IsAt (start_of new) [] new
-begins old new source is shows room = subst (λ scan. IsAt (start_of scan) [] scan) (sym is)
-    (begins-ready new.classes new.locks.edges new.uses shows.distinct shows.within shows.used room)
+begins old new source is shows room = subst (IsAt (start_of new) []) (sym is) (begun-at new shows.distinct shows.within shows.used (omega (arith, room)))
 
 -- what is taken back leaves what was there
-pub undone : (old new : Scan) → IsReady old → IsOnTop old new → ready (take (length old.classes) new.classes) new.locks.begun (take (length old.uses) new.uses) ≡ old
-undone old new is top = (λ i. ready (top.classes i) ((top.begun ∙ ap (λ s. s.locks.begun) is) i) (top.uses i)) ∙ sym is
+pub taken-back : (old new : Scan) → IsReady old → IsOnTop old new → undone new (length old.classes) (length old.uses) ≡ old
+taken-back old new is top =
+    let edges : new.locks.begun ≡ old.locks.edges = top.begun ∙ ap (λ s. s.locks.begun) is in
+    (λ i. record {
+      tasks = [];
+      classes = top.classes i;
+      own = [];
+      locks = record { stacks = []; interrupts = []; edges = edges i; begun = edges i };
+      uses = top.uses i;
+    }) ∙ sym is
 
 -- a batch without a trace
 pub kept-none : (scan : Scan) → scan ≡ empty_scan → IsKept (record { listed = []; scan = scan; edges = []; usage = [] })

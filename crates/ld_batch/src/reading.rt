@@ -4,15 +4,15 @@ ghost use Rattle.ld_trace.specs.Sources.{Fits, plain};
 ghost use Rattle.ld_class.specs.declared.names.TheConstants.{MOST_NAMES};
 ghost use Rattle.ld_rules.specs.declared.outcome.TheConstants.{MOST_CLASSES};
 ghost use Rattle.ld_rules.specs.Outcome.{outcome};
-ghost use Rattle.ld_facts.specs.Inner.Reading.{AreMany, IsAt, Start};
+ghost use Rattle.ld_facts.specs.Inner.Reading.{AreMany, IsAt, Start, start_of};
 ghost use Rattle.ld_trace.specs.Events.{positions};
 ghost use Rattle.ld_rules.specs.declared.outcome.Outcome.TheVariants.{Read};
-ghost use Rattle.ld_batch.specs.Inner.Kept.{IsOnTop, IsReady, Shows, ready, start_of};
+ghost use Rattle.ld_batch.specs.Inner.Kept.{IsOnTop, IsReady, Shows};
 ghost use Rattle.ld_batch.specs.Inner.Rows.{edge_of, use_of};
 
 use crate::edges::{WitnessedEdge, add_edges};
 use crate::uses::{WitnessedUse, add_uses};
-use ld_facts::{Outcome, Scan};
+use ld_facts::{Mark, Outcome, Scan};
 use ld_trace::Source;
 use std::alloc::AllocError;
 
@@ -43,66 +43,48 @@ pub(crate) fn read<'a>(
     ensures refused { OnErr result ((scan.new ≡ scan.old)
         × (edges.new.items ≡ edges.old.items) × (usage.new.items ≡ usage.old.items)) }
 {
-    let classes = scan.classes.len();
-    let outcome = scan_source(scan, source)?;
+    let mark = scan.begin();
+    let outcome = scan_source(scan, mark, source)?;
     let more_edges = &scan.locks.edges()[edges.len()..];
     let more_uses = &scan.uses.as_slice()[usage.len()..];
     if edges.reserve(more_edges.len()).is_err() || usage.reserve(more_uses.len()).is_err() {
-        undo(scan, classes, usage.len());
+        scan.undo(mark);
         return Err(AllocError);
     }
     // From here on nothing is refused.
     add_edges(edges, more_edges, source.number);
     add_uses(usage, more_uses, source.number);
-    begin(scan);
+    scan.begin();
     Ok(outcome)
 }
 
-/// Scans one more trace. One that isn't read to its end leaves nothing.
-fn scan_source<'a>(scan: &mut Scan<'a>, source: Source<'a>) -> Result<Outcome, AllocError>
+/// Scans one more trace, which begins at this mark. One that isn't read to its end leaves nothing.
+fn scan_source<'a>(
+    scan: &mut Scan<'a>,
+    mark: Mark,
+    source: Source<'a>,
+) -> Result<Outcome, AllocError>
     requires fits { Fits (plain source) }
     requires ready { IsReady scan.old }
     requires begun { IsAt (start_of scan.old) [] scan.old }
+    requires mark { (mark.classes ≡ length scan.old.classes) × (mark.uses ≡ length scan.old.uses) }
     ensures told { IfOk result (λ told. told ≡ outcome (plain source.entry)) }
     ensures shows { OnOk result (Shows scan.old (plain source.entry) scan.new) }
     ensures first { OnOk result (IsOnTop scan.old scan.new) }
     ensures more { OnOk result (length scan.old.locks.edges ≤ length scan.new.locks.edges) }
     ensures refused { OnErr result (scan.new ≡ scan.old) }
 {
-    let classes = scan.classes.len();
-    let uses = scan.uses.as_slice().len();
     match read_into(scan, source) {
         Ok(Outcome::Read { events }) => Ok(Outcome::Read { events }),
         Ok(Outcome::Refused { line, fault }) => {
-            undo(scan, classes, uses);
+            scan.undo(mark);
             Ok(Outcome::Refused { line, fault })
         }
         Err(refusal) => {
-            undo(scan, classes, uses);
+            scan.undo(mark);
             Err(refusal)
         }
     }
-}
-
-/// A trace begins on top of what the scan has.
-fn begin(scan: &mut Scan<'_>)
-    ensures { scan.new ≡ ready scan.old.classes scan.old.locks.edges scan.old.uses }
-{
-    scan.tasks.cut(0);
-    scan.own.begin();
-    scan.locks.begin();
-}
-
-/// The scan is again as when the trace began, when it had so many classes and usage bits.
-fn undo(scan: &mut Scan<'_>, classes: usize, uses: usize)
-    ensures { scan.new ≡ ready (take classes scan.old.classes) scan.old.locks.begun
-        (take uses scan.old.uses) }
-{
-    scan.tasks.cut(0);
-    scan.classes.cut(classes);
-    scan.own.begin();
-    scan.locks.undo();
-    scan.uses.cut(uses);
 }
 
 fn read_into<'a>(scan: &mut Scan<'a>, source: Source<'a>) -> Result<Outcome, AllocError>

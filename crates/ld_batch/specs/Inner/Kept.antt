@@ -4,14 +4,12 @@ use Rattle.ld_class.specs.Names.{AreDistinct}
 use Rattle.ld_trace.specs.Sources.{PlainSource}
 use Rattle.ld_rules.specs.declared.outcome.Listed.{Listed}
 use Rattle.ld_rules.specs.declared.outcome.TheConstants.{MOST_CLASSES}
-use Rattle.ld_held.specs.declared.edges.EdgeFact.{EdgeFact}
-use Rattle.ld_held.specs.declared.uses.UsageFact.{UsageFact}
 use Rattle.ld_rules.specs.Inner.Scanned.{same_dependency_seen, same_use_seen, with_new}
 use Rattle.ld_rules.specs.Union.{classes_of, dependencies_of, uses_of}
 use Rattle.ld_facts.specs.declared.scan.Scan.{Scan}
 use Rattle.ld_facts.specs.Facts as facts
 use Rattle.ld_facts.specs.Inner.Reading as reading
-use Rattle.ld_facts.specs.Inner.Reading.{IsAt, Start}
+use Rattle.ld_facts.specs.Inner.Reading.{IsAt, begun, start_of}
 use Rattle.ld_batch.specs.declared.edges.WitnessedEdge.{WitnessedEdge}
 use Rattle.ld_batch.specs.declared.uses.WitnessedUse.{WitnessedUse}
 use Rattle.ld_batch.specs.Batch.{AreOutcomes, IsBatch, PlainBatch, named, named_use, sources_of}
@@ -33,26 +31,9 @@ batch_of fields = record {
   usage = fields.usage;
 }
 
--- a trace begins on top of what this scan has
-abbrev pub start_of : Scan → Start
-start_of scan = record {
-  classes = scan.classes;
-  edges = map (facts.named scan.classes) scan.locks.edges;
-  uses = map (facts.named_use scan.classes) scan.uses;
-}
-
--- a scan that has these, and is ready for a trace
-abbrev pub ready : List (List ℕ) → List EdgeFact → List UsageFact → Scan
-ready classes edges uses = record {
-  tasks = [];
-  classes = classes;
-  own = [];
-  locks = record { stacks = []; interrupts = []; edges = edges; begun = edges };
-  uses = uses;
-}
-
+-- a trace may begin on top of what this scan has
 abbrev pub IsReady : Scan → Type 0
-IsReady scan = scan ≡ ready scan.classes scan.locks.edges scan.uses
+IsReady scan = scan ≡ begun scan
 
 -- The batch is what its traces show. A trace may begin on top of what the scan has, which is what the
 -- rows have, but for the traces' numbers.

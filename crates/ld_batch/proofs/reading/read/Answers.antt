@@ -6,6 +6,6 @@ use Rattle.ld_batch.proofs.reading.read.Goals as goal
 
 pub returns-clause-begun : goal.returns-clause-begun
 returns-clause-begun c =
-    let is : IsReady c.begin.new.scan = search rules in
-    let shows : Shows c.args.scan.now (plain c.args.source) c.begin.new.scan = search rules in
-    begins c.args.scan.now c.begin.new.scan (plain c.args.source) is shows (room-left c.args.scan.now c.begin.new.scan (plain c.args.source) shows (omega (arith, c.requires.room)))
+    let is : IsReady c.begin.new.self = search rules in
+    let shows : Shows c.args.scan.now (plain c.args.source) c.begin.new.self = search rules in
+    begins c.args.scan.now c.begin.new.self (plain c.args.source) is shows (room-left c.args.scan.now c.begin.new.self (plain c.args.source) shows (omega (arith, c.requires.room)))

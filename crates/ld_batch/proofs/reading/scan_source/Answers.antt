@@ -1,6 +1,7 @@
 use Rattle.std.proofs.Common.{rules, ◌≡◌, ◌≤◌, ◌∙◌, Ok, ap, length, sym}
 use Rattle.ld_trace.specs.Sources.{plain}
-use Rattle.ld_batch.specs.Inner.Kept.{Shows, start_of}
+use Rattle.ld_batch.specs.Inner.Kept.{Shows}
+use Rattle.ld_facts.specs.Inner.Reading.{start_of}
 use Rattle.ld_batch.proofs.BatchLemmas.{more-edges, shows-none, shows-read}
 use Rattle.ld_batch.proofs.reading.scan_source.Goals as goal
 
@@ -25,6 +26,6 @@ returns-in-Ok-Refused-clause-told c = sym c.in-Ok-Refused.field-0-is ∙ c.in-Ok
 
 pub returns-in-Ok-Refused-clause-shows : goal.returns-in-Ok-Refused-clause-shows
 returns-in-Ok-Refused-clause-shows c =
-    let same : c.undo.new.scan ≡ c.args.scan.now = search rules in
-    shows-none c.args.scan.now c.undo.new.scan (plain c.args.source) c.in-Ok-Refused.line c.in-Ok-Refused.fault
+    let same : c.undo.new.self ≡ c.args.scan.now = search rules in
+    shows-none c.args.scan.now c.undo.new.self (plain c.args.source) c.in-Ok-Refused.line c.in-Ok-Refused.fault
     (sym (c.in-Ok-Refused.ensures.told (start_of c.args.scan.now) c.requires.begun) ∙ c.in-Ok-Refused.field-0-is) same c.requires.begun
