@@ -1,5 +1,5 @@
 -- What a batch keeps true of its fields. No contract of a `Batch` cites this file.
-use Rattle.std.specs.Prelude.{◌≡◌, ℕ, ◌*◌, ◌≤◌, All, List, [], fold, length, map, take}
+use Rattle.std.specs.Prelude.{◌≡◌, ◌*◌, ◌≤◌, All, List, [], fold, length, map, take}
 use Rattle.ld_class.specs.Names.{AreDistinct}
 use Rattle.ld_trace.specs.Sources.{PlainSource}
 use Rattle.ld_rules.specs.declared.outcome.Listed.{Listed}

@@ -1,6 +1,5 @@
-use Rattle.std.proofs.Common.{rules, ◌≡◌, ◌≤◌, ◌∙◌, Ok, ap, length, sym}
+use Rattle.std.proofs.Common.{rules, ◌≡◌, ◌∙◌, Ok, ap, sym}
 use Rattle.ld_trace.specs.Sources.{plain}
-use Rattle.ld_batch.specs.Inner.Kept.{Shows}
 use Rattle.ld_facts.specs.Inner.Reading.{start_of}
 use Rattle.ld_batch.proofs.BatchLemmas.{more-edges, shows-none, shows-read}
 use Rattle.ld_batch.proofs.reading.scan_source.Goals as goal
