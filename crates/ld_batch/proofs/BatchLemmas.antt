@@ -1,12 +1,12 @@
 -- A batch to which one more trace is added.
-use Rattle.std.proofs.Common.{◌≡◌, ◌≢◌, ◌+◌, ◌<◌, ◌≤◌, ◌++◌, ◌∷◌, [], ◌⊎◌, inl, inr, All, List, ℕ, zero, suc, None, IfSome, drop, length, map, fold, flat_map, get_or, refl, ap, sym, subst, ◌∙◌, arith, length-append, Bool}
+use Rattle.std.proofs.Common.{◌≡◌, ◌≢◌, ◌+◌, ◌<◌, ◌≤◌, ◌++◌, ◌∷◌, [], ◌⊎◌, inl, inr, All, Bool, List, ℕ, zero, suc, None, IfSome}
+use Rattle.std.proofs.Common.{drop, length, map, fold, flat_map, get_or, refl, ap, sym, subst, ◌∙◌, arith, length-append}
 use Rattle.std.proofs.lemmas.Bool.{cases_order}
-use Rattle.std.proofs.lemmas.List.{append-nil, drop_all, get_or_push, length-map, length_push, map-append}
+use Rattle.std.proofs.lemmas.List.{get_or_push, length-map, length_push, map-append}
 use Rattle.std.proofs.lemmas.List.Elements.{All-append, All-drop, All-map, All-nil, All-push}
 use Rattle.std.proofs.lemmas.List.Quantifiers.{all_pairs_push}
 use Rattle.std.specs.List.{last_or}
 use Rattle.std.specs.Str.{bytes_eq}
-use Rattle.ld_class.specs.Names.{AreDistinct}
 use Rattle.ld_trace.specs.Events.{PlainEvent, positions}
 use Rattle.ld_trace.specs.Sources.{Fits, PlainSource, plain}
 use Rattle.ld_trace.proofs.PositionLemmas.{positions-ascend}
@@ -23,8 +23,6 @@ use Rattle.ld_rules.proofs.LeastLemmas.{Ascend, seen-Ascend}
 use Rattle.ld_rules.proofs.PlaceLemmas.{by_pushes, last_or-push}
 use Rattle.ld_rules.proofs.StepLemmas.{Decides-same_dependency}
 use Rattle.ld_rules.proofs.UsageLemmas.{Decides-same_use}
-use Rattle.ld_held.specs.declared.edges.EdgeFact.{EdgeFact}
-use Rattle.ld_held.specs.declared.uses.UsageFact.{UsageFact}
 use Rattle.ld_facts.specs.declared.scan.Scan.{Scan}
 use Rattle.ld_facts.specs.Facts as facts
 use Rattle.ld_facts.specs.Inner.Reading as reading
@@ -32,7 +30,7 @@ use Rattle.ld_facts.specs.Inner.Reading.{IsAt, empty_scan, start_of, undone}
 use Rattle.ld_facts.proofs.KnownLemmas.{none-at}
 use Rattle.ld_facts.proofs.StartLemmas.{begun-at}
 use Rattle.ld_batch.specs.Batch.{AreOutcomes, AreRising, IsBatch, IsUse, IsWithin, PlainBatch, named, named_use, sources_of, witness_of}
-use Rattle.ld_batch.specs.Inner.Kept.{Fields, IsKept, IsOnTop, IsReady, Shows}
+use Rattle.ld_batch.specs.Inner.Kept.{Fields, IsKept, IsReady, Shows}
 use Rattle.ld_batch.specs.Inner.Names.{IsLonger, with_names}
 use Rattle.ld_batch.specs.Inner.Rows.{AreMet, edge_of, seen_of, use_of}
 use Rattle.ld_batch.proofs.MetLemmas.{then_added}
@@ -95,18 +93,6 @@ few_sources sources fit rise = by (length sources) refl
         let low : (get_or sources n none).number < 65535 = (fit n none within).number in
         omega (arith, at_least sources none rise n within, low)
 
--- the same of a scan that has the same
-pub shows-same : (old new ready : Scan) (source : PlainSource) → ready.classes ≡ new.classes → ready.locks.edges ≡ new.locks.edges → ready.uses ≡ new.uses → Shows old source new → Shows old source ready
-shows-same old new ready source classes edges uses shows = record {
-  names = classes ∙ shows.names;
-  few = shows.few;
-  distinct = subst AreDistinct (sym classes) shows.distinct;
-  edges = (λ i. map (facts.named (classes i)) (edges i)) ∙ shows.edges;
-  within = subst (λ (p : List (List ℕ) × List EdgeFact). All (reading.IsWithin p.0) p.1) (λ i. (sym classes i, sym edges i)) shows.within;
-  uses = (λ i. map (facts.named_use (classes i)) (uses i)) ∙ shows.uses;
-  used = subst (λ (p : List (List ℕ) × List UsageFact). All (facts.IsUse p.0) p.1) (λ i. (sym classes i, sym uses i)) shows.used;
-}
-
 -- A scan with more has no fewer rows.
 grown : {X : Type 0} (same : X → X → Bool) (known xs : List X) → length known ≤ length (fold (with_new same) known xs)
 grown same known xs =
@@ -122,24 +108,11 @@ more-edges old new source shows = omega (
   grown same_dependency_seen (start_of old).edges (dependencies_of source),
 )
 
-pub more-uses : (old new : Scan) (source : PlainSource) → Shows old source new → length old.uses ≤ length new.uses
-more-uses old new source shows = omega (
-  arith,
-  length-map old.uses (facts.named_use old.classes),
-  length-map new.uses (facts.named_use new.classes),
-  ap length shows.uses,
-  grown same_use_seen (start_of old).uses (uses_of source),
-)
-
 -- nor does it have many more names
 pub room-left : (old new : Scan) (source : PlainSource) → Shows old source new → length old.classes + 16382 ≤ 1073741824 → length new.classes ≤ 1073733633
 room-left old new source shows room =
     let longer = longer_all old.classes (classes_of source) in
     omega (arith, shows.few, ap length shows.names, longer.most, room)
-
--- where there is nothing more, no row is added
-pub none-more : {X Y : Type 0} (f : Y → X) (rows : List X) (facts : List Y) → length rows ≡ length facts → rows ≡ rows ++ map f (drop (length rows) facts)
-none-more f rows facts same = sym (ap (λ ys. rows ++ map f ys) (drop_all (length rows) facts (omega (arith, same))) ∙ append-nil rows)
 
 -- the rows of a batch are as many as its scan has
 pub many-edges : (fields : Fields) → IsKept fields → length fields.edges ≡ length fields.scan.locks.edges
@@ -169,18 +142,6 @@ pub record Adds (old new : Fields) (last : Listed) : Type 0 where
 -- A trace begins where a scan is ready for it.
 pub begins : (old new : Scan) (source : PlainSource) → IsReady new → Shows old source new → length new.classes ≤ 1073733633 → IsAt (start_of new) [] new
 begins old new source is shows room = subst (IsAt (start_of new) []) (sym is) (begun-at new shows.distinct shows.within shows.used (omega (arith, room)))
-
--- what is taken back leaves what was there
-pub taken-back : (old new : Scan) → IsReady old → IsOnTop old new → undone new (length old.classes) (length old.uses) ≡ old
-taken-back old new is top =
-    let edges : new.locks.begun ≡ old.locks.edges = top.begun ∙ ap (λ s. s.locks.begun) is in
-    (λ i. record {
-      tasks = [];
-      classes = top.classes i;
-      own = [];
-      locks = record { stacks = []; interrupts = []; edges = edges i; begun = edges i };
-      uses = top.uses i;
-    }) ∙ sym is
 
 -- a batch without a trace
 pub kept-none : (scan : Scan) → scan ≡ empty_scan → IsKept (record { listed = []; scan = scan; edges = []; usage = [] })
@@ -301,7 +262,8 @@ module _ (old new : Fields) (last : Listed) (kept : IsKept old) (adds : Adds old
             ∙ ap (λ all. with_names all (classes_of source)) was.classes
             ∙ with_names-each_once (flat_map classes_of sources) (classes_of source)
             ∙ ap (each_once bytes_eq) (sym (shown-push sources source));
-        within = All-append (IsWithin names) old.edges (map (edge_of source.number) (drop (length old.edges) new.scan.locks.edges)) (within-longer old.scan.classes names count longer old.edges was.within)
+        within = All-append (IsWithin names) old.edges (map (edge_of source.number) (drop (length old.edges) new.scan.locks.edges))
+            (within-longer old.scan.classes names count longer old.edges was.within)
             (All-map (IsWithin names) (edge_of source.number) (drop (length old.edges) new.scan.locks.edges)
             (All-drop (reading.IsWithin names) (length old.edges) new.scan.locks.edges adds.shows.within));
         once = λ i j d before within both. pairs-of (λ m n. m.what ≢ n.what) (named names) joined.edges all_edges.apart i j d before within
@@ -309,7 +271,8 @@ module _ (old new : Fields) (last : Listed) (kept : IsKept old) (adds : Adds old
         edges = witness-new same_dependency Decides-same_dependency dependencies_of sources source (named names) (facts.named names) (edge_of source.number) (λ e. refl) old.edges
             new.scan.locks.edges (start_of old.scan).edges met_edges adds.shows.edges
             (λ what. ap (λ all. witness_of same_dependency all what) same_edges ∙ was.edges what) (shown-Ascend dependencies_at source) low;
-        used_within = All-append (IsUse names) old.usage (map (use_of source.number) (drop (length old.usage) new.scan.uses)) (used-longer old.scan.classes names count longer old.usage was.used_within)
+        used_within = All-append (IsUse names) old.usage (map (use_of source.number) (drop (length old.usage) new.scan.uses))
+            (used-longer old.scan.classes names count longer old.usage was.used_within)
             (All-map (IsUse names) (use_of source.number) (drop (length old.usage) new.scan.uses)
             (All-drop (facts.IsUse names) (length old.usage) new.scan.uses adds.shows.used));
         used_once = λ i j d before within both. pairs-of (λ m n. m.what ≢ n.what) (named_use names) joined.usage all_uses.apart i j d before within

@@ -72,8 +72,8 @@ pub longer_all : (names more : List (List ℕ)) → IsLonger names (with_names n
 longer_all names more = by_pushes (λ these. IsLonger names (with_names names these) (length these))
     (record { front = take_all (length names) names (omega arith); least = omega arith; most = omega arith })
     (λ these name is.
-        subst (λ all. IsLonger names all (length (these ++ name ∷ []))) (sym (fold-append with_name names these (name ∷ [])))
-        (subst (IsLonger names (with_name (with_names names these) name)) (sym (length_push these name)) (longer_more names (with_names names these) name (length these) is)))
+    subst (λ all. IsLonger names all (length (these ++ name ∷ []))) (sym (fold-append with_name names these (name ∷ [])))
+    (subst (IsLonger names (with_name (with_names names these) name)) (sym (length_push these name)) (longer_more names (with_names names these) name (length these) is)))
     more
 
 -- a list's names, each once, with those of another list are the names of both, each once
