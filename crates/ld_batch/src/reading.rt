@@ -1,18 +1,16 @@
 //! Reads a trace into what a batch keeps.
-ghost use Rattle.std.specs.Prelude.{◌≡◌, ◌++◌, ◌+◌, ◌*◌, ◌≤◌, ℕ, [], IfOk, Ok, OnErr, OnOk, drop, length, map, take};
+ghost use Rattle.std.specs.Prelude.{◌≡◌, ◌++◌, ◌+◌, ◌*◌, ◌≤◌, [], IfOk, OnErr, OnOk, drop, length, map};
 ghost use Rattle.ld_trace.specs.Sources.{Fits, plain};
 ghost use Rattle.ld_class.specs.declared.names.TheConstants.{MOST_NAMES};
 ghost use Rattle.ld_rules.specs.declared.outcome.TheConstants.{MOST_CLASSES};
 ghost use Rattle.ld_rules.specs.Outcome.{outcome};
-ghost use Rattle.ld_facts.specs.Inner.Reading.{AreMany, IsAt, Start, start_of};
-ghost use Rattle.ld_trace.specs.Events.{positions};
-ghost use Rattle.ld_rules.specs.declared.outcome.Outcome.TheVariants.{Read};
+ghost use Rattle.ld_facts.specs.Inner.Reading.{IsAt, start_of};
 ghost use Rattle.ld_batch.specs.Inner.Kept.{IsOnTop, IsReady, Shows};
 ghost use Rattle.ld_batch.specs.Inner.Rows.{edge_of, use_of};
 
 use crate::edges::{WitnessedEdge, add_edges};
 use crate::uses::{WitnessedUse, add_uses};
-use ld_facts::{Mark, Outcome, Scan};
+use ld_facts::{Mark, Outcome, Scan, read_into};
 use ld_trace::Source;
 use std::alloc::AllocError;
 
@@ -85,17 +83,4 @@ fn scan_source<'a>(
             Err(refusal)
         }
     }
-}
-
-fn read_into<'a>(scan: &mut Scan<'a>, source: Source<'a>) -> Result<Outcome, AllocError>
-    requires fits { Fits (plain source) }
-    requires many { AreMany scan.old }
-    ensures told { IfOk result (λ told. (start : Start) → IsAt start [] scan.old →
-        told ≡ outcome (plain source.entry)) }
-    ensures read { (events : ℕ) → result ≡ Ok (Read events) →
-        (start : Start) → IsAt start [] scan.old →
-        IsAt start (positions (plain source.entry)) scan.new }
-    ensures first { IsOnTop scan.old scan.new }
-{
-    Err(AllocError)
 }
