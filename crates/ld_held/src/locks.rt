@@ -15,7 +15,7 @@ ghost use Rattle.ld_rules.specs.Inner.Scanned.{remove_last};
 ghost use Rattle.ld_rules.specs.declared.outcome.TheConstants.{MOST_HELD};
 
 use crate::chains::{Chains, Link, Told};
-use crate::edges::Edges;
+use crate::edges::{EdgeFact, Edges};
 use crate::held::{Held, Stacks, latest};
 use crate::interrupts::Interrupts;
 use arrayvec::ArrayVec;
@@ -256,6 +256,13 @@ impl<'a> Locks<'a> {
         let mut interrupts = self.stacks.interrupts(task);
         interrupts.set(state, on);
         self.stacks.set_interrupts(task, interrupts);
+    }
+
+    /// The dependencies, in the order in which they came.
+    pub fn edges(&self) -> &[EdgeFact]
+        ensures { result.now ≡ self.now.edges }
+    {
+        self.edges.as_slice()
     }
 
     /// The dependencies.
