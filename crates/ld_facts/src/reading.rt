@@ -5,7 +5,7 @@ ghost use Rattle.ld_trace.specs.Events.{answer_seen, positions};
 ghost use Rattle.ld_trace.specs.First.{IsFirstSaid};
 ghost use Rattle.ld_rules.specs.Outcome.{outcome};
 ghost use Rattle.ld_rules.specs.declared.outcome.Outcome.TheVariants.{Read, Refused};
-ghost use Rattle.ld_facts.specs.Inner.Reading.{AreMany, IsAt, Start};
+ghost use Rattle.ld_facts.specs.Inner.Reading.{AreMany, IsAt, StandsOn, Start};
 
 use crate::known::Facts;
 use crate::scan::{Scan, Stop};
@@ -52,6 +52,7 @@ pub fn read_into<'a>(scan: &mut Scan<'a>, source: Source<'a>) -> Result<Outcome,
     ensures read { (events : ℕ) → result ≡ Ok (Read events) →
         (start : Start) → IsAt start [] scan.old →
         IsAt start (positions (plain source.entry)) scan.new }
+    ensures first { StandsOn scan.old scan.new }
 {
     let mut rest = source.bytes;
     let mut line = source.first_line;

@@ -8,7 +8,7 @@ ghost use Rattle.ld_trace.specs.Events.PlainEvent.{Disable, Enable, Enter, Exit,
 ghost use Rattle.ld_held.specs.Inner.Interrupts.{fresh};
 ghost use Rattle.ld_rules.specs.Outcome.{event_fault, events};
 ghost use Rattle.ld_facts.specs.Inner.Reading.{AreMany, HasTask, IsAt, Start, acquisition, happens};
-ghost use Rattle.ld_facts.specs.Inner.Reading.{begun, empty_scan, own_names, taken, undone, waited};
+ghost use Rattle.ld_facts.specs.Inner.Reading.{StandsOn, begun, empty_scan, own_names, taken, undone, waited};
 ghost use Rattle.ld_held.specs.Inner.Uses.{on_facts, with_use};
 ghost use Rattle.ld_rules.specs.declared.fault.TraceFault.{TraceFault};
 ghost use Rattle.ld_rules.specs.declared.outcome.TheConstants.{MOST_CLASSES, MOST_HELD, MOST_TASKS};
@@ -120,6 +120,7 @@ impl<'a> Scan<'a> {
         ensures fault { (fault : TraceFault) → result ≡ Err (Stop.Fault fault) →
             (start : Start) (all : List Position) → IsAt start all self.old →
             event_fault (events all) (plain_event event.entry) ≡ Some fault }
+        ensures first { StandsOn self.old self.new }
     {
         match event {
             Event::Acquire { task, lock } => self.acquire(task, lock, line, Taking::Waiting),
@@ -151,6 +152,7 @@ impl<'a> Scan<'a> {
             (start : Start) (all : List Position) → IsAt start all self.old →
             event_fault (events all) (acquisition how task.entry.now (plain_lock lock.entry))
             ≡ Some fault }
+        ensures first { StandsOn self.old self.new }
     {
         let task = self.task(task)?;
         let class = self.class(lock.class)?;
@@ -170,6 +172,7 @@ impl<'a> Scan<'a> {
     fn wait(&mut self, task: u32, class: u32, line: u64) -> Result<(), AllocError>
         requires { task < length self.old.locks.stacks }
         ensures { OnOk result (self.new ≡ waited self.old task class line) }
+        ensures first { StandsOn self.old self.new }
     {
         self.locks.tell(task, class, line)?;
         let interrupts = self.locks.interrupts(task);
@@ -181,6 +184,7 @@ impl<'a> Scan<'a> {
         requires task { task < length self.old.locks.stacks }
         requires room { length (slice_index_or self.old.locks.stacks task []) < MOST_HELD }
         ensures { OnOk result (self.new ≡ taken self.old task class (plain_lock lock.entry) line) }
+        ensures first { StandsOn self.old self.new }
     {
         self.locks.hold(task, lock, class)?;
         let interrupts = self.locks.interrupts(task);
@@ -198,6 +202,7 @@ impl<'a> Scan<'a> {
         ensures fault { (fault : TraceFault) → result ≡ Err (Stop.Fault fault) →
             (start : Start) (all : List Position) → IsAt start all self.old →
             event_fault (events all) (Release task.entry.now (plain_lock lock.entry)) ≡ Some fault }
+        ensures first { StandsOn self.old self.new }
     {
         let task = self.task(task)?;
         if self.locks.let_go(task, lock)? {
@@ -217,6 +222,7 @@ impl<'a> Scan<'a> {
         ensures fault { (fault : TraceFault) → result ≡ Err (Stop.Fault fault) →
             (start : Start) (all : List Position) → IsAt start all self.old →
             event_fault (events all) (Enter task.entry.now state) ≡ Some fault }
+        ensures first { StandsOn self.old self.new }
     {
         let task = self.task(task)?;
         let interrupts = self.locks.interrupts(task);
@@ -240,6 +246,7 @@ impl<'a> Scan<'a> {
         ensures fault { (fault : TraceFault) → result ≡ Err (Stop.Fault fault) →
             (start : Start) (all : List Position) → IsAt start all self.old →
             event_fault (events all) (Exit task.entry.now state) ≡ Some fault }
+        ensures first { StandsOn self.old self.new }
     {
         let task = self.task(task)?;
         let interrupts = self.locks.interrupts(task);
@@ -264,6 +271,7 @@ impl<'a> Scan<'a> {
         ensures fault { (fault : TraceFault) → result ≡ Err (Stop.Fault fault) →
             (start : Start) (all : List Position) → IsAt start all self.old →
             event_fault (events all) (Enable task.entry.now state) ≡ Some fault }
+        ensures first { StandsOn self.old self.new }
     {
         let task = self.task(task)?;
         if self.locks.interrupts(task).has(state) {
@@ -284,6 +292,7 @@ impl<'a> Scan<'a> {
         ensures fault { (fault : TraceFault) → result ≡ Err (Stop.Fault fault) →
             (start : Start) (all : List Position) → IsAt start all self.old →
             event_fault (events all) (Disable task.entry.now state) ≡ Some fault }
+        ensures first { StandsOn self.old self.new }
     {
         let task = self.task(task)?;
         self.locks.set(task, state, false);
@@ -298,6 +307,7 @@ impl<'a> Scan<'a> {
               (on_facts (slice_index_or self.old.locks.interrupts task fresh) line
               (map (λ hold. hold.class) (slice_index_or self.old.locks.stacks task [])));
         }) }
+        ensures first { StandsOn self.old self.new }
     {
         let interrupts = self.locks.interrupts(task);
         self.uses.held(self.locks.held(task), interrupts, line)
@@ -311,6 +321,7 @@ impl<'a> Scan<'a> {
             (fault ≡ TraceFault.TooManyTasks)
             × (place_of self.old.tasks name.entry.now ≡ None)
             × (MOST_TASKS ≤ length self.old.tasks) }
+        ensures first { StandsOn self.old self.new }
     {
         if let Some(task) = self.tasks.find(name) {
             return Ok(task);
@@ -340,6 +351,7 @@ impl<'a> Scan<'a> {
             (fault ≡ TraceFault.TooManyClasses)
             × (place_of (own_names self.old) name.entry.now ≡ None)
             × (MOST_CLASSES ≤ length self.old.own) }
+        ensures first { StandsOn self.old self.new }
     {
         let known = self.classes.find(name);
         if let Some(class) = known {
@@ -370,6 +382,7 @@ impl<'a> Scan<'a> {
             (fault ≡ TraceFault.TooManyClasses)
             × (place_of (own_names self.old) name.entry.now ≡ None)
             × (MOST_CLASSES ≤ length self.old.own) }
+        ensures first { StandsOn self.old self.new }
     {
         if self.own.len() >= MOST_CLASSES {
             return Err(Stop::Fault(TraceFault::TooManyClasses));
@@ -388,6 +401,7 @@ impl<'a> Scan<'a> {
         ensures classes { OnOk result
             (self.new.classes ≡ with_name self.old.classes name.entry.now) }
         ensures others { self.new ≡ record self.old { classes = self.new.classes } }
+        ensures first { StandsOn self.old self.new }
     {
         match known {
             Some(class) => Ok(class),

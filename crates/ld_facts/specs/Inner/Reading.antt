@@ -126,6 +126,12 @@ begun scan = record scan {
   locks = record { stacks = []; interrupts = []; edges = scan.locks.edges; begun = scan.locks.edges };
 }
 
+-- what the old scan had stands first in the new one, which is still that of the same trace
+pub record StandsOn (old new : Scan) : Type 0 where
+  pub classes : take (length old.classes) new.classes ≡ old.classes
+  pub begun : new.locks.begun ≡ old.locks.begun
+  pub uses : take (length old.uses) new.uses ≡ old.uses
+
 -- the scan without what its trace added, where it had so many classes and usage bits when that began
 abbrev pub undone : Scan → ℕ → ℕ → Scan
 undone scan classes uses = record {
