@@ -9,12 +9,13 @@ ghost use Rattle.ld_held.specs.Inner.Interrupts.{fresh};
 ghost use Rattle.ld_rules.specs.Outcome.{event_fault, events};
 ghost use Rattle.ld_facts.specs.Inner.Reading.{AreMany, HasTask, IsAt, Start, acquisition, happens};
 ghost use Rattle.ld_facts.specs.Inner.Reading.{StandsOn, begun, empty_scan, own_names, taken, undone, waited};
-ghost use Rattle.ld_held.specs.Inner.Uses.{on_facts, with_use};
+ghost use Rattle.ld_uses.specs.Inner.Uses.{on_facts, with_use};
 ghost use Rattle.ld_rules.specs.declared.fault.TraceFault.{TraceFault};
 ghost use Rattle.ld_rules.specs.declared.outcome.TheConstants.{MOST_CLASSES, MOST_HELD, MOST_TASKS};
 
 use ld_class::Classes;
-use ld_held::{Locks, OwnClasses, Uses};
+use ld_held::Locks;
+use ld_uses::{OwnClasses, Uses};
 use ld_rules::{MOST_CLASSES, MOST_HELD, MOST_TASKS, TraceFault};
 use ld_trace::{Event, Lock, State};
 use std::alloc::{AllocError, Global};

@@ -5,11 +5,10 @@ ghost use Rattle.ld_trace.specs.Sources.{AreNumbered, Fits, plain};
 ghost use Rattle.ld_tickets.specs.Draw.{IsSeatOf};
 ghost use Rattle.ld_work.specs.Work.{IsUneven, ListsEachOnce};
 
-use crate::desk::Desk;
 use crate::even::uneven;
-use crate::feeder::{Feeder, MOST_FEEDERS};
 use crate::gate::Gate;
 use ld_book::{Batch, BatchRefusal, Book};
+use ld_desk::{Desk, Feeder, MOST_FEEDERS};
 use ld_tickets::{DrawSeat, Tickets};
 use ld_trace::{MOST_TRACES, Source};
 use std::alloc::{AllocError, Global};

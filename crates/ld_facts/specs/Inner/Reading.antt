@@ -21,7 +21,7 @@ use Rattle.ld_held.specs.Inner.Edges.{edge_to, with_edge_fact}
 use Rattle.ld_held.specs.Inner.Interrupts.{fresh, levels_of, start_now, starts_of, states_of}
 use Rattle.ld_rules.specs.Inner.Levels.{levels, starts, states}
 use Rattle.ld_facts.specs.Facts.{IsUse}
-use Rattle.ld_held.specs.Inner.Uses.{in_facts, on_facts, with_use}
+use Rattle.ld_uses.specs.Inner.Uses.{in_facts, on_facts, with_use}
 use Rattle.ld_rules.specs.Usage.{uses_at}
 use Rattle.ld_rules.specs.Held.{held_by}
 use Rattle.ld_held.specs.Inner.Locks.{Hold}
