@@ -14,7 +14,7 @@ ghost use Rattle.ld_rules.specs.declared.fault.TraceFault.{TraceFault};
 ghost use Rattle.ld_rules.specs.declared.outcome.TheConstants.{MOST_CLASSES, MOST_HELD, MOST_TASKS};
 
 use ld_class::Classes;
-use ld_held::Locks;
+use ld_held::{Flag, Locks};
 use ld_uses::{OwnClasses, Uses};
 use ld_rules::{MOST_CLASSES, MOST_HELD, MOST_TASKS, TraceFault};
 use ld_trace::{Event, Lock, State};
@@ -278,7 +278,7 @@ impl<'a> Scan<'a> {
         if self.locks.interrupts(task).has(state) {
             return Err(Stop::Fault(TraceFault::BadEnable));
         }
-        self.locks.set(task, state, true);
+        self.locks.set(task, state, Flag::On);
         self.count_held(task, line)?;
         Ok(())
     }
@@ -296,7 +296,7 @@ impl<'a> Scan<'a> {
         ensures first { StandsOn self.old self.new }
     {
         let task = self.task(task)?;
-        self.locks.set(task, state, false);
+        self.locks.set(task, state, Flag::Off);
         Ok(())
     }
 

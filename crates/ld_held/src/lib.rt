@@ -10,5 +10,5 @@ mod locks;
 
 pub use edges::{EdgeFact, Edges};
 pub use held::Held;
-pub use interrupts::Interrupts;
+pub use interrupts::{Flag, Interrupts};
 pub use locks::Locks;
