@@ -4,8 +4,8 @@ ghost use Rattle.ld_trace.specs.Sources.{Fits, plain};
 ghost use Rattle.ld_class.specs.declared.names.TheConstants.{MOST_NAMES};
 ghost use Rattle.ld_rules.specs.declared.outcome.TheConstants.{MOST_CLASSES};
 ghost use Rattle.ld_rules.specs.Outcome.{outcome};
-ghost use Rattle.ld_facts.specs.Inner.Reading.{IsAt, start_of};
-ghost use Rattle.ld_batch.specs.Inner.Kept.{IsOnTop, IsReady, Shows};
+ghost use Rattle.ld_facts.specs.Inner.Reading.{IsAt, StandsOn, start_of};
+ghost use Rattle.ld_batch.specs.Inner.Kept.{IsReady, Shows};
 ghost use Rattle.ld_batch.specs.Inner.Rows.{edge_of, use_of};
 
 use crate::edges::{WitnessedEdge, add_edges};
@@ -68,7 +68,7 @@ fn scan_source<'a>(
     requires mark { (mark.classes ≡ length scan.old.classes) × (mark.uses ≡ length scan.old.uses) }
     ensures told { IfOk result (λ told. told ≡ outcome (plain source.entry)) }
     ensures shows { OnOk result (Shows scan.old (plain source.entry) scan.new) }
-    ensures first { OnOk result (IsOnTop scan.old scan.new) }
+    ensures first { OnOk result (StandsOn scan.old scan.new) }
     ensures more { OnOk result (length scan.old.locks.edges ≤ length scan.new.locks.edges) }
     ensures refused { OnErr result (scan.new ≡ scan.old) }
 {

@@ -1,5 +1,5 @@
 -- A trace that begins on top of what a scan has.
-use Rattle.std.proofs.Common.{◌+◌, ◌≤◌, [], All, length, refl, arith}
+use Rattle.std.proofs.Common.{◌≡◌, ◌+◌, ◌≤◌, [], All, length, refl, arith}
 use Rattle.ld_class.specs.Names.{AreDistinct}
 use Rattle.ld_class.specs.declared.names.TheConstants.{MOST_NAMES}
 use Rattle.ld_rules.specs.declared.outcome.TheConstants.{MOST_CLASSES}

@@ -5,6 +5,7 @@
 mod known;
 mod reading;
 mod scan;
+mod stop;
 
 pub use known::Facts;
 pub use ld_held::EdgeFact;

@@ -8,7 +8,8 @@ ghost use Rattle.ld_rules.specs.declared.outcome.Outcome.TheVariants.{Read, Refu
 ghost use Rattle.ld_facts.specs.Inner.Reading.{AreMany, IsAt, StandsOn, Start};
 
 use crate::known::Facts;
-use crate::scan::{Scan, Stop};
+use crate::scan::Scan;
+use crate::stop::Stop;
 use ld_class::Classes;
 use ld_held::Edges;
 use ld_uses::Uses;

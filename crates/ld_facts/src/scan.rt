@@ -13,31 +13,13 @@ ghost use Rattle.ld_uses.specs.Inner.Uses.{on_facts, with_use};
 ghost use Rattle.ld_rules.specs.declared.fault.TraceFault.{TraceFault};
 ghost use Rattle.ld_rules.specs.declared.outcome.TheConstants.{MOST_CLASSES, MOST_HELD, MOST_TASKS};
 
+use crate::stop::Stop;
 use ld_class::Classes;
 use ld_held::{Flag, Locks};
 use ld_uses::{OwnClasses, Uses};
 use ld_rules::{MOST_CLASSES, MOST_HELD, MOST_TASKS, TraceFault};
 use ld_trace::{Event, Lock, State};
 use std::alloc::{AllocError, Global};
-
-/// Why a scan ends before its trace does.
-#[derive(Clone, Copy)]
-pub enum Stop {
-    /// There is no memory.
-    Memory,
-    /// The trace is refused.
-    Fault(TraceFault),
-}
-
-impl From<AllocError> for Stop {
-    ghost use Rattle.ld_facts.specs.declared.scan.Stop.TheVariants.{Memory};
-
-    ghost from_gives = { λ _ stop. stop ≡ Memory };
-
-    fn from(_: AllocError) -> Stop {
-        Stop::Memory
-    }
-}
 
 /// How a lock is taken.
 #[derive(Clone, Copy)]
@@ -172,7 +154,7 @@ impl<'a> Scan<'a> {
     /// task's contexts.
     fn wait(&mut self, task: u32, class: u32, line: u64) -> Result<(), AllocError>
         requires { task < length self.old.locks.stacks }
-        ensures { OnOk result (self.new ≡ waited self.old task class line) }
+        ensures waited { OnOk result (self.new ≡ waited self.old task class line) }
         ensures first { StandsOn self.old self.new }
     {
         self.locks.tell(task, class, line)?;
@@ -184,7 +166,8 @@ impl<'a> Scan<'a> {
     fn take(&mut self, task: u32, class: u32, lock: Lock<'a>, line: u64) -> Result<(), AllocError>
         requires task { task < length self.old.locks.stacks }
         requires room { length (slice_index_or self.old.locks.stacks task []) < MOST_HELD }
-        ensures { OnOk result (self.new ≡ taken self.old task class (plain_lock lock.entry) line) }
+        ensures taken { OnOk result
+            (self.new ≡ taken self.old task class (plain_lock lock.entry) line) }
         ensures first { StandsOn self.old self.new }
     {
         self.locks.hold(task, lock, class)?;
@@ -303,7 +286,7 @@ impl<'a> Scan<'a> {
     /// All that the task holds, in every frame, counts under its flags.
     fn count_held(&mut self, task: u32, line: u64) -> Result<(), AllocError>
         requires { task < length self.old.locks.stacks }
-        ensures { OnOk result (self.new ≡ record self.old {
+        ensures counted { OnOk result (self.new ≡ record self.old {
           uses = fold with_use self.old.uses
               (on_facts (slice_index_or self.old.locks.interrupts task fresh) line
               (map (λ hold. hold.class) (slice_index_or self.old.locks.stacks task [])));

@@ -1,5 +1,5 @@
 -- What a batch keeps true of its fields. No contract of a `Batch` cites this file.
-use Rattle.std.specs.Prelude.{◌≡◌, ◌*◌, ◌≤◌, All, List, [], fold, length, map, take}
+use Rattle.std.specs.Prelude.{◌≡◌, ◌*◌, ◌≤◌, All, List, [], fold, length, map}
 use Rattle.ld_class.specs.Names.{AreDistinct}
 use Rattle.ld_trace.specs.Sources.{PlainSource}
 use Rattle.ld_rules.specs.declared.outcome.Listed.{Listed}
@@ -57,9 +57,3 @@ pub record Shows (old : Scan) (source : PlainSource) (new : Scan) : Type 0 where
   pub uses : (start_of new).uses
       ≡ fold (with_new same_use_seen) (start_of old).uses (uses_of source)
   pub used : All (facts.IsUse new.classes) new.uses
-
--- what the one scan had stands first in the other, and is still what the trace began on
-pub record IsOnTop (old new : Scan) : Type 0 where
-  pub classes : take (length old.classes) new.classes ≡ old.classes
-  pub begun : new.locks.begun ≡ old.locks.begun
-  pub uses : take (length old.uses) new.uses ≡ old.uses
