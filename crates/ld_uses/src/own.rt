@@ -79,7 +79,7 @@ impl OwnClasses {
         ensures added { OnOk result (self.new ≡ self.old ++ class ∷ []) }
         ensures refused { OnErr result (self.new ≡ self.old) }
     {
-        reach(&mut self.place, class)?;
+        extend_to(&mut self.place, class)?;
         self.order.reserve(1)?;
         self.place[class as usize] = self.order.len() as u32;
         if self.order.push(class).is_err() {
@@ -90,7 +90,7 @@ impl OwnClasses {
 }
 
 /// Gives the class a place, where it has none yet.
-fn reach(place: &mut Vec<u32>, class: u32) -> Result<(), AllocError>
+fn extend_to(place: &mut Vec<u32>, class: u32) -> Result<(), AllocError>
     requires { length place.old.items ≤ 2 ^ 32 }
     ensures few { length place.new.items ≤ 2 ^ 32 }
     ensures more { length place.old.items ≤ length place.new.items }

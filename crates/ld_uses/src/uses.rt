@@ -3,7 +3,7 @@ ghost use Rattle.std.specs.Prelude.{◌≡◌, ◌<◌, ◌-◌, ℕ, [], ◌∷
 ghost use Rattle.std.specs.Prelude.{vec_len, OnErr, OnOk};
 ghost use Rattle.ld_class.specs.Usage.{no_bits};
 ghost use Rattle.ld_rules.specs.Usage.{IsBit};
-ghost use Rattle.ld_uses.specs.Inner.Uses.{in_facts, on_facts, told, with_use};
+ghost use Rattle.ld_uses.specs.Inner.Uses.{in_facts, on_facts, use_at, with_use};
 
 use bitflags::Flags;
 use ld_class::Usage;
@@ -23,14 +23,14 @@ pub struct UsageFact {
     pub line: u64,
 }
 
-/// Usage bits, each of each class once, with the line that was told first.
+/// Usage bits, each of each class once, with the line at which it came first.
 ///
 /// A call answers `AllocError` where a growth of memory was refused. It may have noted some bits then,
 /// so the owner gives the whole up.
 #[derive(Drop)]
 pub struct Uses {
     facts: Vec<UsageFact>,
-    /// The bits that are told, by the number of their class.
+    /// The bits that are there, by the number of their class.
     known: Vec<Usage>,
 }
 
@@ -154,7 +154,7 @@ impl Uses {
     fn add_each(&mut self, stack: &[Held<'_>], bit: Usage, line: u64) -> Result<(), AllocError>
         requires { IsBit bit }
         ensures uses { OnOk result (self.new ≡ fold with_use self.old
-            (map (told bit line) (map (λ held. held.class) stack.now))) }
+            (map (use_at bit line) (map (λ held. held.class) stack.now))) }
         ensures first { take (length self.old) self.new ≡ self.old }
     {
         for held in stack {
@@ -171,7 +171,7 @@ impl Uses {
         ensures refused { OnErr result (self.new ≡ self.old) }
         ensures first { take (length self.old) self.new ≡ self.old }
     {
-        reach(&mut self.known, fact.class)?;
+        extend_to(&mut self.known, fact.class)?;
         let class = fact.class as usize;
         if self.known[class].contains(fact.bit) {
             return Ok(());
@@ -183,7 +183,7 @@ impl Uses {
 }
 
 /// Gives the class a set, where it has none yet: it and those below it get empty ones.
-fn reach(known: &mut Vec<Usage>, class: u32) -> Result<(), AllocError>
+fn extend_to(known: &mut Vec<Usage>, class: u32) -> Result<(), AllocError>
     ensures kept { (k : ℕ)
         → slice_index_or known.new.items k no_bits ≡ slice_index_or known.old.items k no_bits }
     ensures reached { OnOk result (class < vec_len known.new) }

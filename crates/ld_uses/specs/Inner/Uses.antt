@@ -20,13 +20,13 @@ same_fact a b = a.class == b.class && a.bit.0 == b.bit.0
 abbrev pub with_use : List UsageFact → UsageFact → List UsageFact
 with_use facts more = facts ++ (if list_any (same_fact more) facts then [] else more ∷ [])
 
--- a set of the bits of a class, told at this line
-abbrev pub told : Usage → ℕ → ℕ → UsageFact
-told usage line class = record { class = class; bit = usage; line = line }
+-- a set of the bits of a class, at this line
+abbrev pub use_at : Usage → ℕ → ℕ → UsageFact
+use_at usage line class = record { class = class; bit = usage; line = line }
 
--- a bit of a class, told at this line
+-- a bit of a class, at this line
 abbrev pub fact : Bit → ℕ → ℕ → UsageFact
-fact bit line class = told (usage_of bit) line class
+fact bit line class = use_at (usage_of bit) line class
 
 -- those of a class that is waited for in these contexts: the outermost first
 abbrev pub in_facts : Interrupts → ℕ → ℕ → List UsageFact
