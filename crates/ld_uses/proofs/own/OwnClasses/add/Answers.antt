@@ -11,7 +11,7 @@ overflow_cast-len c =
     let room : length c.self.inside.order.items < 2 ^ 32 =
     room_for c.self.inside.order.items c.extend_to.new.place.items
     (reached c.self.inside.order.items c.self.inside.place.items c.self.invariant c.extend_to.new.place.items c.extend_to.ensures.few c.extend_to.ensures.more c.extend_to.ensures.kept)
-    c.args.class c.in_ok-reach.ensures.reached none in
+    c.args.class c.in_ok-extend_to.ensures.reached none in
     omega (arith, c.len.ensures, ap length c.reserve.ensures.items)
 
 pub invariant_of-self-2 : goal.invariant_of-self-2
@@ -24,4 +24,4 @@ invariant_of-self-2 c =
     (sym (items ∙ ap (λ xs. xs ++ c.args.class ∷ []) c.reserve.ensures.items))
     (pushed c.self.inside.order.items c.extend_to.new.place.items
     (reached c.self.inside.order.items c.self.inside.place.items c.self.invariant c.extend_to.new.place.items c.extend_to.ensures.few c.extend_to.ensures.more c.extend_to.ensures.kept)
-    c.args.class c.in_ok-reach.ensures.reached none))
+    c.args.class c.in_ok-extend_to.ensures.reached none))

@@ -8,7 +8,7 @@ use Rattle.ld_uses.proofs.uses.Uses.add.Goals as goal
 
 pub invariant_of-self-2 : goal.invariant_of-self-2
 invariant_of-self-2 c =
-    let within : c.args.fact.class < length c.extend_to.new.known.items = omega (arith, c.in_ok-reach.ensures.reached) in
+    let within : c.args.fact.class < length c.extend_to.new.known.items = omega (arith, c.in_ok-extend_to.ensures.reached) in
     subst (λ fs. AreNoted fs (set c.extend_to.new.known.items c.args.fact.class c.insert.new.self)) (sym c.in_ok-push.ensures.items)
     (noted_push c.self.inside.facts.items c.extend_to.new.known.items c.args.fact
     (noted_reached c.self.inside.facts.items c.self.inside.known.items c.extend_to.new.known.items c.self.invariant c.extend_to.ensures.kept)
