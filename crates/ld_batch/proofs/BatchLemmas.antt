@@ -30,7 +30,7 @@ use Rattle.ld_facts.specs.Inner.Reading.{IsAt, empty_scan, start_of, undone}
 use Rattle.ld_facts.proofs.KnownLemmas.{none-at}
 use Rattle.ld_facts.proofs.StartLemmas.{begun-at}
 use Rattle.ld_batch.specs.Batch.{AreOutcomes, AreRising, IsBatch, IsUse, IsWithin, PlainBatch, named, named_use, sources_of, witness_of}
-use Rattle.ld_batch.specs.Inner.Kept.{Fields, IsKept, IsReady, Shows}
+use Rattle.ld_batch.specs.Inner.Kept.{Fields, IsKept, IsRead, IsReady}
 use Rattle.ld_batch.specs.Inner.Names.{IsLonger, with_names}
 use Rattle.ld_batch.specs.Inner.Rows.{AreMet, edge_of, seen_of, use_of}
 use Rattle.ld_batch.proofs.MetLemmas.{then_added}
@@ -99,7 +99,7 @@ grown same known xs =
     let all = fold (with_new same) known xs in
     omega (arith, ap length (then_added same known xs), length-append known (drop (length known) all))
 
-pub more-edges : (old new : Scan) (source : PlainSource) → Shows old source new → length old.locks.edges ≤ length new.locks.edges
+pub more-edges : (old new : Scan) (source : PlainSource) → IsRead old source new → length old.locks.edges ≤ length new.locks.edges
 more-edges old new source shows = omega (
   arith,
   length-map old.locks.edges (facts.named old.classes),
@@ -109,7 +109,7 @@ more-edges old new source shows = omega (
 )
 
 -- nor does it have many more names
-pub room-left : (old new : Scan) (source : PlainSource) → Shows old source new → length old.classes + 16382 ≤ 1073741824 → length new.classes ≤ 1073733633
+pub room-left : (old new : Scan) (source : PlainSource) → IsRead old source new → length old.classes + 16382 ≤ 1073741824 → length new.classes ≤ 1073733633
 room-left old new source shows room =
     let longer = longer_all old.classes (classes_of source) in
     omega (arith, shows.few, ap length shows.names, longer.most, room)
@@ -128,19 +128,19 @@ many-uses fields kept =
     omega (arith, length-map fields.usage (named_use names), length-map met seen_of, ap length kept.usage.same, length-map fields.scan.uses (facts.named_use names))
 
 -- the fields before and after, and the trace that was added
-pub record Adds (old new : Fields) (last : Listed) : Type 0 where
+pub record IsPushed (old new : Fields) (last : Listed) : Type 0 where
   pub fits : Fits (plain last.source)
   pub outcome : last.outcome ≡ outcome (plain last.source)
   pub above : IfSome (last_or None (sources_of old.listed)) (λ l. l.number < last.source.number)
   pub listed : new.listed ≡ old.listed ++ last ∷ []
-  pub shows : Shows old.scan (plain last.source) new.scan
+  pub shows : IsRead old.scan (plain last.source) new.scan
   pub edges : new.edges ≡ old.edges ++ map (edge_of last.source.number) (drop (length old.edges) new.scan.locks.edges)
   pub usage : new.usage ≡ old.usage ++ map (use_of last.source.number) (drop (length old.usage) new.scan.uses)
   pub ready : IsReady new.scan
   pub begun : IsAt (start_of new.scan) [] new.scan
 
 -- A trace begins where a scan is ready for it.
-pub begins : (old new : Scan) (source : PlainSource) → IsReady new → Shows old source new → length new.classes ≤ 1073733633 → IsAt (start_of new) [] new
+pub begins : (old new : Scan) (source : PlainSource) → IsReady new → IsRead old source new → length new.classes ≤ 1073733633 → IsAt (start_of new) [] new
 begins old new source is shows room = subst (IsAt (start_of new) []) (sym is) (begun-at new shows.distinct shows.within shows.used (omega (arith, room)))
 
 -- a batch without a trace
@@ -166,7 +166,7 @@ kept-none scan new = subst (λ s. IsKept (record { listed = []; scan = s; edges 
 })
 
 -- what a scan has where it read the source to its end
-pub shows-read : (old new : Scan) (source : PlainSource) (count : ℕ) → outcome source ≡ Read count → IsAt (start_of old) (positions source) new → Shows old source new
+pub shows-read : (old new : Scan) (source : PlainSource) (count : ℕ) → outcome source ≡ Read count → IsAt (start_of old) (positions source) new → IsRead old source new
 shows-read old new source count is at =
     let all = positions source in
     let own : classes (events all) ≡ classes_of source = (λ i. if_read (sym is i) (classes (events all))) in
@@ -181,10 +181,10 @@ shows-read old new source count is at =
     }
 
 -- a refused source shows nothing
-pub shows-none : (old new : Scan) (source : PlainSource) (line : ℕ) (fault : TraceFault) → outcome source ≡ Refused line fault → new ≡ old → IsAt (start_of old) [] old → Shows old source new
+pub shows-none : (old new : Scan) (source : PlainSource) (line : ℕ) (fault : TraceFault) → outcome source ≡ Refused line fault → new ≡ old → IsAt (start_of old) [] old → IsRead old source new
 shows-none old new source line fault is same at =
     let nothing : classes_of source ≡ [] = (λ i. if_read (is i) (classes (events (positions source)))) in
-    subst (Shows old source) (sym same) (record {
+    subst (IsRead old source) (sym same) (record {
       names = ap (with_names old.classes) (sym nothing);
       few = omega (arith, ap length nothing);
       distinct = at.distinct;
@@ -202,7 +202,7 @@ shown-Ascend {A} at source = by (outcome source)
     by (Read count) = seen-Ascend at (positions source) (positions-ascend source)
     by (Refused line fault) = λ i j d before within. absurd (omega (arith, within))
 
-module _ (old new : Fields) (last : Listed) (kept : IsKept old) (adds : Adds old new last) where
+module _ (old new : Fields) (last : Listed) (kept : IsKept old) (adds : IsPushed old new last) where
   abbrev source : PlainSource
   source = plain last.source
 

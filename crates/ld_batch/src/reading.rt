@@ -5,7 +5,7 @@ ghost use Rattle.ld_class.specs.declared.names.TheConstants.{MOST_NAMES};
 ghost use Rattle.ld_rules.specs.declared.outcome.TheConstants.{MOST_CLASSES};
 ghost use Rattle.ld_rules.specs.Outcome.{outcome};
 ghost use Rattle.ld_facts.specs.Inner.Reading.{IsAt, StandsOn, start_of};
-ghost use Rattle.ld_batch.specs.Inner.Kept.{IsReady, Shows};
+ghost use Rattle.ld_batch.specs.Inner.Kept.{IsRead, IsReady};
 ghost use Rattle.ld_batch.specs.Inner.Rows.{edge_of, use_of};
 
 use crate::edges::{WitnessedEdge, add_edges};
@@ -31,7 +31,7 @@ pub(crate) fn read<'a>(
     requires edges { length edges.old.items ≡ length scan.old.locks.edges }
     requires usage { length usage.old.items ≡ length scan.old.uses }
     ensures told { IfOk result (λ told. told ≡ outcome (plain source.entry)) }
-    ensures shows { OnOk result (Shows scan.old (plain source.entry) scan.new) }
+    ensures shows { OnOk result (IsRead scan.old (plain source.entry) scan.new) }
     ensures ready { OnOk result (IsReady scan.new) }
     ensures begun { OnOk result (IsAt (start_of scan.new) [] scan.new) }
     ensures edges { OnOk result (edges.new.items ≡ edges.old.items
@@ -67,7 +67,7 @@ fn scan_source<'a>(
     requires begun { IsAt (start_of scan.old) [] scan.old }
     requires mark { (mark.classes ≡ length scan.old.classes) × (mark.uses ≡ length scan.old.uses) }
     ensures told { IfOk result (λ told. told ≡ outcome (plain source.entry)) }
-    ensures shows { OnOk result (Shows scan.old (plain source.entry) scan.new) }
+    ensures shows { OnOk result (IsRead scan.old (plain source.entry) scan.new) }
     ensures first { OnOk result (StandsOn scan.old scan.new) }
     ensures more { OnOk result (length scan.old.locks.edges ≤ length scan.new.locks.edges) }
     ensures refused { OnErr result (scan.new ≡ scan.old) }

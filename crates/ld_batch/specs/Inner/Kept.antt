@@ -47,7 +47,7 @@ pub record IsKept (fields : Fields) : Type 0 where
   pub usage : AreMet (start_of fields.scan).uses (map (named_use fields.scan.classes) fields.usage)
 
 -- on top of what the one scan has the other has what this source shows
-pub record Shows (old : Scan) (source : PlainSource) (new : Scan) : Type 0 where
+pub record IsRead (old : Scan) (source : PlainSource) (new : Scan) : Type 0 where
   pub names : new.classes ≡ with_names old.classes (classes_of source)
   pub few : length (classes_of source) ≤ MOST_CLASSES
   pub distinct : AreDistinct new.classes
