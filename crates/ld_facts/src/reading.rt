@@ -43,7 +43,8 @@ pub fn facts<'a>(alloc: Global, source: Source<'a>) -> Result<Facts<'a>, AllocEr
 }
 
 /// Reads a trace, and answers what became of it. Where it was read to its end, the scan has what it
-/// shows on top of what it had; else what it has is of no use.
+/// shows on top of what it had. Else what the scan had stands first in it, and [`Scan::undo`] takes
+/// back what follows.
 ///
 /// `AllocError` where a growth of memory was refused, whatever the trace says.
 pub fn read_into<'a>(scan: &mut Scan<'a>, source: Source<'a>) -> Result<Outcome, AllocError>
