@@ -12,9 +12,9 @@ use crate::scan::Scan;
 use crate::stop::Stop;
 use ld_class::Classes;
 use ld_held::Edges;
-use ld_uses::Uses;
 use ld_rules::{Outcome, TraceFault};
 use ld_trace::{Event, LineFault, Source, next_event, next_line, read_event, text};
+use ld_uses::Uses;
 use std::alloc::{AllocError, Global};
 
 /// The facts of a trace: what became of it and, where it was read to its end, what it shows. A

@@ -16,9 +16,9 @@ ghost use Rattle.ld_rules.specs.declared.outcome.TheConstants.{MOST_CLASSES, MOS
 use crate::stop::Stop;
 use ld_class::Classes;
 use ld_held::{Flag, Locks};
-use ld_uses::{OwnClasses, Uses};
 use ld_rules::{MOST_CLASSES, MOST_HELD, MOST_TASKS, TraceFault};
 use ld_trace::{Event, Lock, State};
+use ld_uses::{OwnClasses, Uses};
 use std::alloc::{AllocError, Global};
 
 /// How a lock is taken.
