@@ -14,7 +14,7 @@ ghost use Rattle.ld_rules.specs.declared.fault.TraceFault.{TraceFault};
 ghost use Rattle.ld_rules.specs.declared.outcome.TheConstants.{MOST_CLASSES, MOST_HELD, MOST_TASKS};
 
 use crate::stop::Stop;
-use ld_class::Classes;
+use ld_class::{Classes, RecentNames};
 use ld_held::{Flag, Locks};
 use ld_rules::{MOST_CLASSES, MOST_HELD, MOST_TASKS, TraceFault};
 use ld_trace::{Event, Lock, State};
@@ -41,7 +41,7 @@ pub struct Mark {
 #[derive(Drop)]
 pub struct Scan<'a> {
     /// The tasks, in order of first event.
-    pub tasks: Classes<'a>,
+    pub tasks: RecentNames<'a>,
     /// The classes: those that were there before the trace, then those that it adds, in order of
     /// first acquisition.
     pub classes: Classes<'a>,
@@ -59,7 +59,7 @@ impl<'a> Scan<'a> {
         ensures { result ≡ empty_scan }
     {
         Scan {
-            tasks: Classes::new(alloc),
+            tasks: RecentNames::new(alloc),
             classes: Classes::new(alloc),
             own: OwnClasses::new(alloc),
             locks: Locks::new(alloc),
@@ -73,7 +73,7 @@ impl<'a> Scan<'a> {
         ensures mark { (result.classes ≡ length self.old.classes)
             × (result.uses ≡ length self.old.uses) }
     {
-        self.tasks.cut(0);
+        self.tasks.clear();
         self.own.begin();
         self.locks.begin();
         Mark {
@@ -86,7 +86,7 @@ impl<'a> Scan<'a> {
     pub fn undo(&mut self, mark: Mark)
         ensures { self.new ≡ undone self.old mark.classes mark.uses }
     {
-        self.tasks.cut(0);
+        self.tasks.clear();
         self.classes.cut(mark.classes);
         self.own.begin();
         self.locks.undo();
