@@ -3,7 +3,7 @@ ghost use Rattle.std.specs.Prelude.{◌≡◌, ◌<◌, ◌≤◌, ◌*◌, ◌+
 ghost use Rattle.std.specs.List.{last_or};
 ghost use Rattle.ld_trace.specs.Sources.{Fits, plain};
 ghost use Rattle.ld_rules.specs.declared.outcome.TheConstants.{MOST_CLASSES};
-ghost use Rattle.ld_batch.specs.Batch.{AreOutcomes, IsBatch, sources_of};
+ghost use Rattle.ld_batch.specs.Batch.{AreOutcomes, IsBatch, empty_batch, sources_of};
 
 use crate::edges::WitnessedEdge;
 use crate::reading::read;
@@ -53,7 +53,7 @@ impl<'a> Model for Batch<'a> {
 impl<'a> Batch<'a> {
     /// A batch that lists no trace. Takes no memory.
     pub fn new(alloc: Global) -> Batch<'a>
-        ensures { result ≡ record { sources = []; classes = []; edges = []; usage = [] } }
+        ensures { result ≡ empty_batch }
     {
         Batch {
             listed: Vec::new(alloc),
@@ -61,6 +61,16 @@ impl<'a> Batch<'a> {
             edges: Vec::new(alloc),
             usage: Vec::new(alloc),
         }
+    }
+
+    /// Lists no trace from here on, as a new batch does. The memory stays for further traces.
+    pub fn clear(&mut self)
+        ensures { self.new ≡ empty_batch }
+    {
+        self.listed.clear();
+        self.scan.clear();
+        self.edges.clear();
+        self.usage.clear();
     }
 
     /// A batch of the one trace that these facts are of.

@@ -1,12 +1,13 @@
 //! A book behind a lock, which several threads feed.
 ghost use Rattle.std.specs.Prelude.{◌≡◌, ◌≢◌, ◌≤◌, ◌<◌, ◌+◌, ◌^◌, ◌↔◌, ◌∷◌, [], true, false, length, All, Err};
 ghost use Rattle.std.specs.Prelude.{IfErr, IfOk, IsErr, OnErr, OnOk};
+ghost use Rattle.ld_batch.specs.Batch.{empty_batch};
 ghost use Rattle.ld_book.specs.Book.{is_any_listed, is_listed};
 ghost use Rattle.ld_book.specs.Totals.{event_count};
 ghost use Rattle.ld_desk.specs.Desk.{IsEvent, IsSubmitted, plus, sum_of, tally_of};
 
 use crate::feeder::{Feeder, MOST_FEEDERS, Tally};
-use ld_book::{Batch, BatchRefusal, Book, Refusal, Totals};
+use ld_book::{Batch, BatchRefusal, Book, Refusal, TakeRefusal, Totals};
 use ld_facts::Facts;
 use std::alloc::{AllocError, Global};
 use std::marker::Model;
@@ -75,6 +76,31 @@ impl<'a, T: Ledger, E: Ledger> Locked<'a, T, E> {
     {
         let before = self.book.totals();
         self.book.add_batch(batch)?;
+        let more = added_since(before, self.book.totals());
+        count(&mut self.trace_sum, &mut self.event_sum, feeder, more);
+        Ok(())
+    }
+
+    /// Adds the traces of a batch to the book, and to the tally of the feeder, and leaves the batch
+    /// without traces.
+    fn take(
+        &mut self,
+        feeder: &mut Feeder<T, E>,
+        batch: &mut Batch<'a>,
+    ) -> Result<(), TakeRefusal>
+        ensures ok { OnOk result
+            (IsSubmitted batch.old.sources self.old self.new feeder.old feeder.new) }
+        ensures emptied { OnOk result (batch.new ≡ empty_batch) }
+        ensures err { OnErr result (self.new ≡ self.old) }
+        ensures back { OnErr result (batch.new ≡ batch.old) }
+        ensures not_counted { OnErr result (feeder.new ≡ feeder.old) }
+        ensures twice { is_any_listed self.old batch.old.sources ≡ true
+            → result ≡ Err TakeRefusal.Twice }
+        ensures memory { is_any_listed self.old batch.old.sources ≡ false
+            → OnErr result (result ≡ Err TakeRefusal.Memory) }
+    {
+        let before = self.book.totals();
+        self.book.take(batch)?;
         let more = added_since(before, self.book.totals());
         count(&mut self.trace_sum, &mut self.event_sum, feeder, more);
         Ok(())
@@ -275,6 +301,32 @@ impl<'d, 'a, T: Ledger, E: Ledger> Look<'d, 'a, T, E> {
         ensures event { IsEvent self.old self.new feeder.old feeder.new }
     {
         self.guard.submit_batch(feeder, batch)
+    }
+
+    /// Adds the traces of a batch to the desk's book, as `Book::take` does, and counts them in the
+    /// feeder's tally. The batch then lists none, and has its memory for further traces.
+    ///
+    /// # Errors
+    ///
+    /// Those of `Book::take`: the batch, the book and the tally are as before.
+    pub fn take(
+        &mut self,
+        feeder: &mut Feeder<T, E>,
+        batch: &mut Batch<'a>,
+    ) -> Result<(), TakeRefusal>
+        ensures ok { OnOk result
+            (IsSubmitted batch.old.sources self.old self.new feeder.old feeder.new) }
+        ensures emptied { OnOk result (batch.new ≡ empty_batch) }
+        ensures err { OnErr result (self.new ≡ self.old) }
+        ensures back { OnErr result (batch.new ≡ batch.old) }
+        ensures not_counted { OnErr result (feeder.new ≡ feeder.old) }
+        ensures twice { is_any_listed self.old batch.old.sources ≡ true
+            → result ≡ Err TakeRefusal.Twice }
+        ensures memory { is_any_listed self.old batch.old.sources ≡ false
+            → OnErr result (result ≡ Err TakeRefusal.Memory) }
+        ensures event { IsEvent self.old self.new feeder.old feeder.new }
+    {
+        self.guard.take(feeder, batch)
     }
 
     /// Changes nothing, and tells that the book has at least the traces and the events that this

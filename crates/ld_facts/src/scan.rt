@@ -82,6 +82,17 @@ impl<'a> Scan<'a> {
         }
     }
 
+    /// Takes all away. The memory stays.
+    pub fn clear(&mut self)
+        ensures { self.new ≡ empty_scan }
+    {
+        self.tasks.clear();
+        self.classes.cut(0);
+        self.own.begin();
+        self.locks.clear();
+        self.uses.cut(0);
+    }
+
     /// Takes back what the trace added that began at this mark.
     pub fn undo(&mut self, mark: Mark)
         ensures { self.new ≡ undone self.old mark.classes mark.uses }

@@ -106,6 +106,17 @@ impl<'a> Locks<'a> {
         self.told.cut(self.begun.told);
     }
 
+    /// Takes all away. The memory stays.
+    pub fn clear(&mut self)
+        ensures { self.new ≡ record { stacks = []; interrupts = []; edges = []; begun = [] } }
+    {
+        self.stacks.begin();
+        self.chains.clear();
+        self.told.cut(0);
+        self.edges.cut(0);
+        self.begun = Begun { edges: 0, told: 0 };
+    }
+
     /// One more task, which holds nothing and is outside frames.
     pub fn grow(&mut self) -> Result<(), AllocError>
         ensures begun { self.new.begun ≡ self.old.begun }

@@ -1,7 +1,7 @@
 use Rattle.std.proofs.Common.{◌∙◌, sym}
 use Rattle.std.proofs.lemmas.Bool.{true≢false}
 use Rattle.ld_book.specs.Book.{is_any_listed}
-use Rattle.ld_book.proofs.book.Book.add_batch.Goals as goal
+use Rattle.ld_book.proofs.book.Book.take.Goals as goal
 
 pub returns-then-has_any-clause-memory : goal.returns-then-has_any-clause-memory
 returns-then-has_any-clause-memory c absent = absurd (true≢false (c.if-has_any.ensures ∙ (λ i. is_any_listed (c.self.view_is i) (c.listed.ensures.sources i)) ∙ absent))
@@ -9,6 +9,6 @@ returns-then-has_any-clause-memory c absent = absurd (true≢false (c.if-has_any
 pub enter-requires : goal.enter-requires
 enter-requires c = sym (c.if-has_any.ensures ∙ (λ i. is_any_listed (c.self.view_is i) (c.listed.ensures.sources i)))
 
-pub returns-in-Ok-clause-twice : goal.returns-in-Ok-clause-twice
-returns-in-Ok-clause-twice c there =
+pub returns-clause-twice : goal.returns-clause-twice
+returns-clause-twice c there =
     absurd (true≢false (sym there ∙ sym (λ i. is_any_listed (c.self.view_is i) (c.listed.ensures.sources i)) ∙ sym c.if-has_any.ensures))
