@@ -3,6 +3,7 @@
 
 mod desk;
 mod feeder;
+mod sums;
 
 pub use desk::{Back, Desk, Gathered, Look};
 pub use feeder::{Feeder, MOST_FEEDERS, Tally};
