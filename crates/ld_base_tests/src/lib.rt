@@ -7,6 +7,8 @@ mod classes;
 #[cfg(test)]
 mod events;
 #[cfg(test)]
+mod fast;
+#[cfg(test)]
 mod graphs;
 #[cfg(test)]
 mod reaches;

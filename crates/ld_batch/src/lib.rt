@@ -1,4 +1,4 @@
-//! A batch of traces: what a few traces show together, by itself, before it goes to what many show.
+//! A batch of traces: what a few traces show together, by itself, before it is added to the union of many.
 #![tactic(auto)]
 
 mod batch;

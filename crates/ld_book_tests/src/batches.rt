@@ -108,3 +108,17 @@ fn a_batch_without_traces_changes_nothing(rt: HostRuntime) {
     assert_eq!(rt; book.listed().len(), 2);
     drop(book);
 }
+
+// Only want of memory may keep a batch of many traces out, and here there is memory.
+#[test]
+fn a_batch_of_twenty_traces_is_added(rt: HostRuntime) {
+    let stream = b"trace a\nacquire t A\nacquire t B\n"
+        .repeat(rt.alloc(), 20)
+        .expect(&rt, "a stream");
+    let sources = sources_of(&rt, rt.alloc(), &stream);
+    let mut book = Book::new(rt.alloc());
+    add_batch(&rt, &mut book, batch_of(&rt, rt.alloc(), &sources));
+    assert_eq!(rt; book.totals(), totals(20, 0, 40, 2, 1));
+    assert_eq!(rt; book.edge(b"A", b"B"), witness(0, 3));
+    drop(book);
+}

@@ -1,8 +1,7 @@
 -- An acquisition, against the positions before it.
-use Rattle.std.proofs.Common.{◌≡◌, ◌<◌, ◌≤◌, ◌++◌, ◌∷◌, [], ◌∙◌, Bool, true, false, ℕ, List, None, Some, Ok, length, map, drop, refl, ap, sym, subst}
+use Rattle.std.proofs.Common.{◌≡◌, ◌<◌, ◌≤◌, ◌++◌, ◌∷◌, [], ◌∙◌, true, ℕ, List, None, Some, Ok, length, map, drop, refl, ap, sym, subst}
 use Rattle.std.proofs.Common.{arith, slice_index_or, All, length-append, if◌then◌else◌}
-use Rattle.std.proofs.lemmas.Bool.{eq-eqb, ne_eqb}
-use Rattle.std.proofs.lemmas.List.{length-set, get_or-set_same, get_or-set_other, map-append}
+use Rattle.std.proofs.lemmas.List.{length-map, length-set, get_or-set_same, get_or-set_other, map-append}
 use Rattle.std.proofs.lemmas.List.Elements.{All-cons, All-drop, All-nil, All-push}
 use Rattle.std.proofs.lemmas.Slice.Eq.{bytes_eq-Decides}
 use Rattle.std.specs.Prelude.{slice_set, fold}
@@ -11,9 +10,8 @@ use Rattle.std.proofs.lemmas.Simd.{map-map}
 use Rattle.ld_class.specs.Names.{AreDistinct, IsNameAt, place_of, with_name}
 use Rattle.ld_trace.specs.declared.event.State.{State}
 use Rattle.ld_trace.specs.declared.event.State.TheVariants.{Hard, Soft}
-use Rattle.ld_trace.specs.Events.{PlainEvent, PlainLock, Position}
+use Rattle.ld_trace.specs.Events.{PlainLock, Position}
 use Rattle.ld_trace.specs.Events.PlainEvent.{Acquire, Try}
-use Rattle.ld_rules.specs.declared.fault.TraceFault.TheVariants.{TooManyClasses, TooDeep}
 use Rattle.ld_held.specs.declared.interrupts.Interrupts.{Interrupts}
 use Rattle.ld_rules.specs.declared.outcome.TheConstants.{MOST_CLASSES, MOST_HELD, MOST_TASKS}
 use Rattle.ld_held.specs.declared.edges.EdgeFact.{EdgeFact}
@@ -22,107 +20,30 @@ use Rattle.ld_held.specs.declared.uses.UsageFact.{UsageFact}
 use Rattle.ld_held.specs.Inner.Edges.{edge_to, with_edge_fact}
 use Rattle.ld_rules.specs.Flags.{is_enabled}
 use Rattle.ld_rules.specs.Frames.{contexts, frame_of, task_of}
-use Rattle.ld_rules.specs.Held.{Key, held_by, held_in, lock_acquired}
-use Rattle.ld_rules.specs.Dependency.{Dependency, Seen, dependencies_at, seen, seen_at}
+use Rattle.ld_rules.specs.Held.{Key, held_by, held_in}
+use Rattle.ld_rules.specs.Dependency.{Dependency, Seen, dependencies_at, seen_at}
 use Rattle.ld_held.specs.Inner.Interrupts.{enabled_now, fresh, start_now}
-use Rattle.ld_rules.specs.Inner.Levels.{is_interrupt, stack, state_of_frame}
+use Rattle.ld_rules.specs.Inner.Levels.{stack, state_of_frame}
 use Rattle.ld_held.specs.Inner.Locks.{Hold}
-use Rattle.ld_rules.specs.Outcome.{class_acquired, classes, each_once, event_fault, events, is_bad_enable, is_bad_exit, is_badly_nested}
-use Rattle.ld_rules.specs.Outcome.{is_held_at_exit, is_masked, is_not_held, is_one_too_many, tasks}
+use Rattle.ld_rules.specs.Outcome.{classes, events}
 use Rattle.ld_facts.specs.declared.scan.Taking.{Taking}
 use Rattle.ld_facts.specs.declared.scan.Taking.TheVariants.{Trying, Waiting}
-use Rattle.ld_facts.specs.Inner.Reading.{AreMany, HasTask, IsAt, IsTask, IsWithin, acquisition, happens}
+use Rattle.ld_facts.specs.Inner.Reading.{AreMany, HasTask, IsAt, IsTask, IsWithin, Start, acquisition, classes_after, edges_after, happens, names_at, own_names, uses_after}
 use Rattle.ld_facts.specs.Facts.{named, named_use}
-use Rattle.ld_rules.specs.Usage.{uses_at}
-use Rattle.ld_rules.specs.Inner.Scanned.{same_dependency_seen, same_use_seen}
+use Rattle.ld_rules.specs.Inner.Scanned.{same_dependency_seen, same_use_seen, with_new}
 use Rattle.ld_facts.specs.Facts.{IsUse}
 use Rattle.ld_held.specs.Inner.Uses.{in_facts, on_facts, with_use}
 use Rattle.ld_rules.proofs.FlagLemmas.{is_enabled-quiet, levels-quiet, stack-quiet}
 use Rattle.ld_rules.proofs.GroupLemmas.{starts-kept}
 use Rattle.ld_rules.proofs.HeldLemmas.{enters_none, held_by-acquires}
+use Rattle.ld_facts.proofs.AcquireFaults.{acquired, calm, class-acquired, fault-none, task-acquired}
 use Rattle.ld_facts.proofs.InnerLemmas.{clean-grouped, contexts-are, enabled-is, inner-is, length-is}
 use Rattle.ld_facts.proofs.MovedLemmas.{moved-at}
-use Rattle.ld_facts.proofs.NamedLemmas.{IsNameAt-more, distinct-classes, holds-more, holds-names, holds-within, named-more, tell-named, within-more, within-tell}
-use Rattle.ld_rules.proofs.PlaceLemmas.{with_new}
-use Rattle.ld_rules.proofs.StepLemmas.{classes-acquires, dependencies-push}
-use Rattle.ld_facts.proofs.TaskLemmas.{is_one_too_many-fits, is_one_too_many-full, task-at, with_name-few}
-use Rattle.ld_rules.proofs.UsageLemmas.{at_line, on_use, uses_in, uses_once, uses_once-push_new, with_uses-append}
+use Rattle.ld_facts.proofs.NamedLemmas.{IsNameAt-more, distinct-more, holds-more, holds-names, holds-within, named-more, tell-named, within-more, within-tell}
+use Rattle.ld_rules.proofs.StepLemmas.{added_names-more, classes-acquires, dependencies-push}
+use Rattle.ld_facts.proofs.TaskLemmas.{task-at, with_name-few}
+use Rattle.ld_rules.proofs.UsageLemmas.{at_line, on_use, uses_in, uses_from-push, with_uses-append}
 use Rattle.ld_facts.proofs.UseLemmas.{in_facts-named, in_facts-within, named_use-more, on_facts-named, on_facts-within, uses-named, uses-within, within_use-more}
-
--- an acquisition is of its task and its lock
-module _ (name : List ℕ) (lock : PlainLock) where
-  pub acquired : (how : Taking) → lock_acquired (acquisition how name lock) ≡ Some lock
-  acquired Trying = refl
-  acquired Waiting = refl
-
-  pub class-acquired : (how : Taking) → class_acquired (acquisition how name lock) ≡ Some lock.class
-  class-acquired Trying = refl
-  class-acquired Waiting = refl
-
-  pub task-acquired : (how : Taking) → task_of (acquisition how name lock) ≡ name
-  task-acquired Trying = refl
-  task-acquired Waiting = refl
-
-  calm : (how : Taking) → is_interrupt (acquisition how name lock) ≡ false
-  calm Trying = refl
-  calm Waiting = refl
-
--- it has none of the later faults
-record NoLater (past : List PlainEvent) (event : PlainEvent) : Type 0 where
-  is_held : is_not_held past event ≡ false
-  nests : is_badly_nested past event ≡ false
-  unmasked : is_masked past event ≡ false
-  exits : is_bad_exit past event ≡ false
-  holds_none : is_held_at_exit past event ≡ false
-  enables : is_bad_enable past event ≡ false
-
-no-later : (past : List PlainEvent) (name : List ℕ) (lock : PlainLock) (how : Taking) → NoLater past (acquisition how name lock)
-no-later past name lock Trying = record { is_held = refl; nests = refl; unmasked = refl; exits = refl; holds_none = refl; enables = refl }
-no-later past name lock Waiting = record { is_held = refl; nests = refl; unmasked = refl; exits = refl; holds_none = refl; enables = refl }
-
--- the faults of an acquisition, in their order
-module _ (all : List Position) (old : Scan) (is : IsAt all old) (how : Taking) (name : List ℕ) (lock : PlainLock) (fits : place_of old.tasks name ≡ None → length old.tasks < MOST_TASKS) where
-  tasks_fit : is_one_too_many MOST_TASKS (tasks (events all)) (task_of (acquisition how name lock)) ≡ false
-  tasks_fit = rw (task-acquired name lock how, ← is.tasks) (is_one_too_many-fits MOST_TASKS old.tasks name fits)
-
-  pub fault-classes : place_of old.classes lock.class ≡ None → MOST_CLASSES ≤ length old.classes → event_fault (events all) (acquisition how name lock) ≡ Some TooManyClasses
-  fault-classes new full =
-      let many : is_one_too_many MOST_CLASSES (classes (events all)) lock.class ≡ true = rw (← is.classes) (is_one_too_many-full MOST_CLASSES old.classes lock.class new full is.few_classes) in
-      rw (tasks_fit, class-acquired name lock how, many) refl
-
-  module _ (class_fits : place_of old.classes lock.class ≡ None → length old.classes < MOST_CLASSES) where
-    classes_fit : is_one_too_many MOST_CLASSES (classes (events all)) lock.class ≡ false
-    classes_fit = rw (← is.classes) (is_one_too_many-fits MOST_CLASSES old.classes lock.class class_fits)
-
-    pub fault-deep : length (held_by (events all) name) ≡ MOST_HELD → event_fault (events all) (acquisition how name lock) ≡ Some TooDeep
-    fault-deep deep = rw (
-      tasks_fit,
-      class-acquired name lock how,
-      classes_fit,
-      acquired name lock how,
-      task-acquired name lock how,
-      eq-eqb
-          (length (held_by (events all) name)) MOST_HELD deep,
-    ) refl
-
-    pub fault-none : length (held_by (events all) name) < MOST_HELD → event_fault (events all) (acquisition how name lock) ≡ None
-    fault-none shallow =
-        let later = no-later (events all) name lock how in
-        rw (
-          tasks_fit,
-          class-acquired name lock how,
-          classes_fit,
-          acquired name lock how,
-          task-acquired name lock how,
-          ne_eqb
-              (length (held_by (events all) name)) MOST_HELD (λ same. omega arith),
-          later.is_held,
-          later.nests,
-          later.unmasked,
-          later.exits,
-          later.holds_none,
-          later.enables,
-        ) refl
 
 -- what is known when the task and the class of an acquisition have their numbers
 pub record Entered (old : Scan) (name class_name : List ℕ) (id number : ℕ) (new : Scan) : Type 0 where
@@ -136,24 +57,29 @@ pub record Entered (old : Scan) (name class_name : List ℕ) (id number : ℕ) (
   pub uses : new.uses ≡ old.uses
   pub classes : new.classes ≡ with_name old.classes class_name
   pub class : IsNameAt new.classes number class_name
-  pub few_classes : place_of old.classes class_name ≡ None → length old.classes < MOST_CLASSES
+  pub own : own_names new ≡ with_name (own_names old) class_name
+  pub few_classes : place_of (own_names old) class_name ≡ None → length old.own < MOST_CLASSES
 
 pub entered : (old mid new : Scan) (name class : List ℕ) (id number : ℕ) → HasTask old name id mid → (new.tasks ≡ mid.tasks) × (new.locks ≡ mid.locks)
-    × (new.uses ≡ mid.uses) → new.classes ≡ with_name mid.classes class → IsNameAt new.classes number class →
-    (place_of mid.classes class ≡ None → length mid.classes < MOST_CLASSES) → Entered old name class id number new
-entered old mid new name class id number has same more at few = record {
+    × (new.uses ≡ mid.uses) → AreMany new → new.classes ≡ with_name mid.classes class → own_names new ≡ with_name (own_names mid) class → IsNameAt new.classes number class →
+    (place_of (own_names mid) class ≡ None → length mid.own < MOST_CLASSES) → Entered old name class id number new
+entered old mid new name class id number has same many more own at few = record {
   tasks = same.0 ∙ has.tasks;
   place = subst (λ names. IsNameAt names id name) (sym same.0) has.place;
   fits = has.fits;
-  many = (ap (λ locks. length locks.stacks) same.1 ∙ has.many.0 ∙ ap length (sym same.0), ap (λ locks. length locks.interrupts) same.1 ∙ has.many.1 ∙ ap length (sym same.0));
+  many = many;
   stacks = λ k. ap (λ locks. slice_index_or locks.stacks k []) same.1 ∙ has.stacks k;
   interrupts = λ k. ap (λ locks. slice_index_or locks.interrupts k fresh) same.1 ∙ has.interrupts k;
   edges = ap (λ locks. locks.edges) same.1 ∙ has.edges;
   uses = same.2 ∙ has.uses;
   classes = more ∙ ap (λ names. with_name names class) has.classes;
   class = at;
-  few_classes = subst (λ names. place_of names class ≡ None → length names < MOST_CLASSES) has.classes few;
+  own = own ∙ ap (λ names. with_name names class) names;
+  few_classes = λ new. subst (λ (own : List ℕ). length own < MOST_CLASSES) has.own (few (ap (λ ns. place_of ns class) names ∙ new));
 }
+  where
+    names : own_names mid ≡ own_names old
+    names = (λ i. names_at (has.classes i) (has.own i))
 
 -- a dependency on this class, told at this line
 abbrev on_class : List ℕ → ℕ → List ℕ → Seen Dependency
@@ -171,7 +97,8 @@ told-of_numbers names number line [] = refl
 told-of_numbers names number line (from ∷ froms) = ap (λ o. on_class (slice_index_or names number []) line (slice_index_or names from []) ∷ o) (told-of_numbers names number line froms)
 
 -- an acquisition that fits is one more position
-module _ (all : List Position) (old : Scan) (is : IsAt all old) (name : List ℕ) (lock : PlainLock) (line id number : ℕ) (new : Scan) (enters : Entered old name lock.class id number new) where
+module _ {start : Start} (all : List Position) (old : Scan) (is : IsAt start all old)
+    (name : List ℕ) (lock : PlainLock) (line id number : ℕ) (new : Scan) (enters : Entered old name lock.class id number new) where
   abbrev held_now : List Hold
   held_now = slice_index_or new.locks.stacks id []
 
@@ -193,11 +120,27 @@ module _ (all : List Position) (old : Scan) (is : IsAt all old) (name : List ℕ
   pub length-held : length (held_by (events all) name) ≡ length held_now
   length-held = sym (length-is old.classes held_now frames_now (events all) name before)
 
-  classes-now : (how : Taking) → new.classes ≡ classes (events all ++ acquisition how name lock ∷ [])
-  classes-now how = enters.classes ∙ ap (λ ns. with_name ns lock.class) is.classes ∙ sym (classes-acquires (events all) (acquisition how name lock) lock.class (class-acquired name lock how))
+  names-now : (how : Taking) → new.classes ≡ classes_after start (events all ++ acquisition how name lock ∷ [])
+  names-now how =
+      enters.classes
+      ∙ ap (λ ns. with_name ns lock.class) is.names
+      ∙ sym (added_names-more start.classes (classes (events all)) lock.class)
+      ∙ ap (fold with_name start.classes) (sym (classes-acquires (events all) (acquisition how name lock) lock.class (class-acquired name lock how)))
+
+  own-now : (how : Taking) → own_names new ≡ classes (events all ++ acquisition how name lock ∷ [])
+  own-now how = enters.own ∙ ap (λ ns. with_name ns lock.class) is.own ∙ sym (classes-acquires (events all) (acquisition how name lock) lock.class (class-acquired name lock how))
+
+  few-now : length new.own ≤ MOST_CLASSES
+  few-now = omega (
+    arith,
+    length-map new.own (λ n. slice_index_or new.classes n []),
+    ap length enters.own,
+    with_name-few MOST_CLASSES (own_names old) lock.class (λ fresh. let low = enters.few_classes fresh in omega (arith, low, length-map old.own (λ n. slice_index_or old.classes n [])))
+        (omega (arith, is.few_classes, length-map old.own (λ n. slice_index_or old.classes n []))),
+  )
 
   distinct : AreDistinct new.classes
-  distinct = subst AreDistinct (sym (classes-now Waiting)) (distinct-classes (events all ++ Acquire name lock ∷ []))
+  distinct = subst AreDistinct (sym enters.classes) (distinct-more old.classes lock.class is.distinct)
 
   -- the numbers of the classes that were held before are those of the same names now
   holds-now : (other : List Hold) → All (λ hold. IsNameAt old.classes hold.class hold.lock.class) other → All (λ hold. IsNameAt new.classes hold.class hold.lock.class) other
@@ -205,7 +148,7 @@ module _ (all : List Position) (old : Scan) (is : IsAt all old) (name : List ℕ
 
   -- The dependencies.
 
-  edges-now : map (named new.classes) new.locks.edges ≡ each_once same_dependency_seen (seen dependencies_at all)
+  edges-now : map (named new.classes) new.locks.edges ≡ edges_after start all
   edges-now = (λ i. map (named (enters.classes i)) (enters.edges i)) ∙ named-more old.classes lock.class old.locks.edges is.within ∙ is.edges
 
   within-now : All (IsWithin new.classes) new.locks.edges
@@ -238,17 +181,17 @@ module _ (all : List Position) (old : Scan) (is : IsAt all old) (name : List ℕ
   abbrev told_edges : List EdgeFact
   told_edges = fold with_edge_fact new.locks.edges (map (edge_to number line) froms)
 
-  edges-told : map (named new.classes) told_edges ≡ each_once same_dependency_seen (seen dependencies_at (all ++ happens line (Acquire name lock) ∷ []))
+  edges-told : map (named new.classes) told_edges ≡ edges_after start (all ++ happens line (Acquire name lock) ∷ [])
   edges-told =
       tell-named new.classes distinct new.locks.edges line number froms within-now enters.class.0 (holds-within new.classes inner inner-now)
       ∙ (λ i. fold (with_new same_dependency_seen) (edges-now i) (told-now i))
-      ∙ sym (dependencies-push all (happens line (Acquire name lock)))
+      ∙ sym (dependencies-push start.edges all (happens line (Acquire name lock)))
 
   within-told : All (IsWithin new.classes) told_edges
   within-told = within-tell new.classes new.locks.edges line number froms within-now enters.class.0 (holds-within new.classes inner inner-now)
 
-  edges-untold : map (named new.classes) new.locks.edges ≡ each_once same_dependency_seen (seen dependencies_at (all ++ happens line (Try name lock) ∷ []))
-  edges-untold = edges-now ∙ sym (dependencies-push all (happens line (Try name lock)))
+  edges-untold : map (named new.classes) new.locks.edges ≡ edges_after start (all ++ happens line (Try name lock) ∷ [])
+  edges-untold = edges-now ∙ sym (dependencies-push start.edges all (happens line (Try name lock)))
 
   -- The usage.
 
@@ -267,7 +210,7 @@ module _ (all : List Position) (old : Scan) (is : IsAt all old) (name : List ℕ
   ins-within : All (IsUse new.classes) ins
   ins-within = in_facts-within new.classes frames_now line number enters.class.0
 
-  uses-now : map (named_use new.classes) new.uses ≡ each_once same_use_seen (seen uses_at all)
+  uses-now : map (named_use new.classes) new.uses ≡ uses_after start all
   uses-now = (λ i. map (named_use (enters.classes i)) (enters.uses i)) ∙ named_use-more old.classes lock.class old.uses is.used ∙ is.uses
 
   used-now : All (IsUse new.classes) new.uses
@@ -289,26 +232,26 @@ module _ (all : List Position) (old : Scan) (is : IsAt all old) (name : List ℕ
       in_facts-named new.classes frames_now line number lock enters.class
       ∙ ap (λ cs. map (at_line line) (uses_in cs (Some lock))) (sym (contexts-are old.classes held_now frames_now (events all) name before))
 
-  uses-tried : map (named_use new.classes) (fold with_use new.uses ons) ≡ each_once same_use_seen (seen uses_at (all ++ happens line (Try name lock) ∷ []))
+  uses-tried : map (named_use new.classes) (fold with_use new.uses ons) ≡ uses_after start (all ++ happens line (Try name lock) ∷ [])
   uses-tried =
       uses-named new.classes distinct new.uses ons used-now ons-within
       ∙ (λ i. fold (with_new same_use_seen) (uses-now i) (ons-are Trying i))
-      ∙ sym (uses_once-push_new all (happens line (Try name lock)))
+      ∙ sym (uses_from-push start.uses all (happens line (Try name lock)))
 
-  uses-acquired : map (named_use new.classes) (fold with_use (fold with_use new.uses ins) ons) ≡ each_once same_use_seen (seen uses_at (all ++ happens line (Acquire name lock) ∷ []))
+  uses-acquired : map (named_use new.classes) (fold with_use (fold with_use new.uses ins) ons) ≡ uses_after start (all ++ happens line (Acquire name lock) ∷ [])
   uses-acquired =
       uses-named new.classes distinct (fold with_use new.uses ins) ons (uses-within new.classes new.uses ins used-now ins-within) ons-within
       ∙ ap (λ known. fold (with_new same_use_seen) known (map (named_use new.classes) ons)) (uses-named new.classes distinct new.uses ins used-now ins-within)
       ∙ (λ i. fold (with_new same_use_seen) (fold (with_new same_use_seen) (uses-now i) (ins-are i)) (ons-are Waiting i))
-      ∙ sym (with_uses-append line (uses_once all) (uses_in (contexts (events all) name) (Some lock))
+      ∙ sym (with_uses-append line (uses_after start all) (uses_in (contexts (events all) name) (Some lock))
       (map (on_use Hard) (if is_enabled (events all ++ Acquire name lock ∷ []) name Hard then key ∷ [] else []) ++ map (on_use Soft)
       (if is_enabled (events all ++ Acquire name lock ∷ []) name Soft then key ∷ [] else [])))
-      ∙ sym (uses_once-push_new all (happens line (Acquire name lock)))
+      ∙ sym (uses_from-push start.uses all (happens line (Acquire name lock)))
 
   -- The task.
 
-  own : (how : Taking) → IsTask new.classes (held_now ++ top ∷ []) frames_now (events all ++ acquisition how name lock ∷ []) name
-  own how = record {
+  task : (how : Taking) → IsTask new.classes (held_now ++ top ∷ []) frames_now (events all ++ acquisition how name lock ∷ []) name
+  task how = record {
     locks = map-append (λ (hold : Hold). hold.lock) held_now (top ∷ []) ∙ ap (λ locks. locks ++ lock ∷ []) before.locks ∙ sym
         (ap (map (λ other. other.lock)) keys ∙ map-append (λ (other : Key). other.lock) (held_by (events all) name)
         (record { task = task_of (acquisition how name lock); frame = frame_of (events all) (task_of (acquisition how name lock)); lock = lock } ∷ []));
@@ -333,11 +276,8 @@ module _ (all : List Position) (old : Scan) (is : IsAt all old) (name : List ℕ
 
   -- the scan with it, and with these dependencies and usage bits
   abbrev with_top : List EdgeFact → List UsageFact → Scan
-  with_top edges uses = record {
-    tasks = new.tasks;
-    classes = new.classes;
-    locks =
-        record { stacks = slice_set new.locks.stacks id (held_now ++ top ∷ []); interrupts = new.locks.interrupts; edges = edges };
+  with_top edges uses = record new {
+    locks = record new.locks { stacks = slice_set new.locks.stacks id (held_now ++ top ∷ []); edges = edges };
     uses = uses;
   }
 
@@ -348,24 +288,26 @@ module _ (all : List Position) (old : Scan) (is : IsAt all old) (name : List ℕ
   same = get_or-set_same new.locks.stacks id (held_now ++ top ∷ []) [] inside
 
   acquired-by : (how : Taking) (edges : List EdgeFact) (uses : List UsageFact) → length held_now < MOST_HELD → map (named new.classes) edges ≡
-      each_once same_dependency_seen (seen dependencies_at (all ++ happens line (acquisition how name lock) ∷ [])) → All (IsWithin new.classes) edges → map
-      (named_use new.classes) uses ≡ each_once same_use_seen (seen uses_at (all ++ happens line (acquisition how name lock) ∷ [])) → All
-      (IsUse new.classes) uses → IsAt (all ++ happens line (acquisition how name lock) ∷ []) (with_top edges uses)
+      edges_after start (all ++ happens line (acquisition how name lock) ∷ []) → All (IsWithin new.classes) edges → map
+      (named_use new.classes) uses ≡ uses_after start (all ++ happens line (acquisition how name lock) ∷ []) → All
+      (IsUse new.classes) uses → IsAt start (all ++ happens line (acquisition how name lock) ∷ []) (with_top edges uses)
   acquired-by how edges uses room shown within counted used =
       moved-at all old (acquisition how name lock) line id (with_top edges uses) is (record {
         fault = fault-none all old is how name lock enters.fits enters.few_classes (omega (arith, room, length-held));
         tasks = enters.tasks ∙ ap (with_name old.tasks) (sym own_task);
         place = subst (IsNameAt new.tasks id) (sym own_task) enters.place;
         fits = subst (λ task. place_of old.tasks task ≡ None → length old.tasks < MOST_TASKS) (sym own_task) enters.fits;
-        many = (length-set new.locks.stacks id (held_now ++ top ∷ []) ∙ enters.many.0, enters.many.1);
-        classes = classes-now how;
-        few_classes = subst (λ (names : List (List ℕ)). length names ≤ MOST_CLASSES) (sym enters.classes) (with_name-few MOST_CLASSES old.classes lock.class enters.few_classes is.few_classes);
+        many = (length-set new.locks.stacks id (held_now ++ top ∷ []) ∙ enters.many.0, enters.many.1, enters.many.2, enters.many.3);
+        names = names-now how;
+        distinct = distinct;
+        own = own-now how;
+        few_classes = few-now;
         stays = λ n other at. subst (λ names. IsNameAt names n other) (sym enters.classes) (IsNameAt-more old.classes lock.class n other at);
         stacks = λ k apart. get_or-set_other new.locks.stacks id k (held_now ++ top ∷ []) [] apart ∙ enters.stacks k;
         interrupts = λ k apart. enters.interrupts k;
-        own =
+        task =
             subst (λ held. IsTask new.classes held frames_now (events all ++ acquisition how name lock ∷ []) (task_of (acquisition how name lock))) (sym same)
-            (subst (IsTask new.classes (held_now ++ top ∷ []) frames_now (events all ++ acquisition how name lock ∷ [])) (sym own_task) (own how));
+            (subst (IsTask new.classes (held_now ++ top ∷ []) frames_now (events all ++ acquisition how name lock ∷ [])) (sym own_task) (task how));
         shallow = omega (arith, ap length same, length-append held_now (top ∷ []), room);
         edges = shown;
         within = within;
@@ -376,10 +318,10 @@ module _ (all : List Position) (old : Scan) (is : IsAt all old) (name : List ℕ
       own_task : task_of (acquisition how name lock) ≡ name
       own_task = task-acquired name lock how
 
-  pub tried-at : length held_now < MOST_HELD → IsAt (all ++ happens line (Try name lock) ∷ []) (with_top new.locks.edges (fold with_use new.uses ons))
+  pub tried-at : length held_now < MOST_HELD → IsAt start (all ++ happens line (Try name lock) ∷ []) (with_top new.locks.edges (fold with_use new.uses ons))
   tried-at room = acquired-by Trying new.locks.edges (fold with_use new.uses ons) room edges-untold within-now uses-tried (uses-within new.classes new.uses ons used-now ons-within)
 
-  pub acquired-at : length held_now < MOST_HELD → IsAt (all ++ happens line (Acquire name lock) ∷ []) (with_top told_edges (fold with_use (fold with_use new.uses ins) ons))
+  pub acquired-at : length held_now < MOST_HELD → IsAt start (all ++ happens line (Acquire name lock) ∷ []) (with_top told_edges (fold with_use (fold with_use new.uses ins) ons))
   acquired-at room =
       acquired-by Waiting told_edges (fold with_use (fold with_use new.uses ins) ons) room edges-told within-told uses-acquired
       (uses-within new.classes (fold with_use new.uses ins) ons (uses-within new.classes new.uses ins used-now ins-within) ons-within)

@@ -4,7 +4,6 @@ use Rattle.std.proofs.Common.{get_or, refl, ap, sym, subst, arith, if◌then◌e
 use Rattle.std.specs.Prelude.{slice_get}
 use Rattle.std.specs.List.{list_any}
 use Rattle.std.proofs.lemmas.List.{length-drop, length-map}
-use Rattle.ld_class.specs.Names.{AreDistinct}
 use Rattle.ld_trace.specs.declared.event.State.{State}
 use Rattle.ld_trace.specs.declared.event.State.TheVariants.{Hard, Soft}
 use Rattle.ld_trace.specs.Events.{PlainEvent, Position}
@@ -14,7 +13,7 @@ use Rattle.ld_held.specs.declared.interrupts.Interrupts.{Interrupts}
 use Rattle.ld_rules.specs.declared.outcome.TheConstants.{MOST_HELD, MOST_TASKS}
 use Rattle.ld_facts.specs.declared.scan.Scan.{Scan}
 use Rattle.ld_held.specs.declared.uses.UsageFact.{UsageFact}
-use Rattle.ld_rules.specs.Dependency.{dependencies_at, seen}
+use Rattle.ld_rules.specs.Dependency.{dependencies_at}
 use Rattle.ld_facts.specs.Facts.{named_use}
 use Rattle.ld_rules.specs.Flags.{is_enabled, same_state}
 use Rattle.ld_rules.specs.Frames.{contexts, frame_of, task_of}
@@ -23,10 +22,9 @@ use Rattle.ld_held.specs.Inner.Interrupts.{IsEntered, IsLeft, IsSet, enabled_now
 use Rattle.ld_rules.specs.Inner.Levels.{stack, state_of_frame}
 use Rattle.ld_held.specs.Inner.Locks.{Hold, ChangesInterrupts, HeldByTasks}
 use Rattle.ld_rules.specs.Open.{is_some_and}
-use Rattle.ld_rules.specs.Outcome.{class_acquired, each_once, event_fault, events, is_bad_enable, is_bad_exit, is_badly_nested, is_held_at_exit, is_masked, is_one_too_many, tasks}
-use Rattle.ld_facts.specs.Inner.Reading.{HasTask, IsAt, IsTask, happens}
-use Rattle.ld_rules.specs.Usage.{uses_at}
-use Rattle.ld_rules.specs.Inner.Scanned.{same_use_seen}
+use Rattle.ld_rules.specs.Outcome.{class_acquired, event_fault, events, is_bad_enable, is_bad_exit, is_badly_nested, is_held_at_exit, is_masked, is_one_too_many, tasks}
+use Rattle.ld_facts.specs.Inner.Reading.{HasTask, IsAt, IsTask, Start, happens, uses_after}
+use Rattle.ld_rules.specs.Inner.Scanned.{same_use_seen, with_new}
 use Rattle.ld_facts.specs.Facts.{IsUse}
 use Rattle.ld_held.specs.Inner.Uses.{on_facts, with_use}
 use Rattle.ld_rules.proofs.FlagLemmas.{levels-disable, levels-enable, levels-enter, levels-exit_good, stack-quiet, states-enter, states-exit}
@@ -34,10 +32,9 @@ use Rattle.ld_rules.proofs.GroupLemmas.{IsGrouped, start-within, starts-enter, s
 use Rattle.ld_rules.proofs.HeldLemmas.{held_by-other}
 use Rattle.ld_facts.proofs.InnerLemmas.{any-context, classes-are, clean-grouped, enabled-is, flag-is, inner-is, last-context, length-is, start-is}
 use Rattle.ld_facts.proofs.MovedLemmas.{Changed, own-before, shallow-before, tasks-fit, unacquired}
-use Rattle.ld_facts.proofs.NamedLemmas.{distinct-classes, holds-within}
-use Rattle.ld_rules.proofs.PlaceLemmas.{with_new}
+use Rattle.ld_facts.proofs.NamedLemmas.{holds-within}
 use Rattle.ld_facts.proofs.ReleaseLemmas.{uses-uncounted}
-use Rattle.ld_rules.proofs.UsageLemmas.{new_keys, on_use, uses_in, uses_once, uses_once-push_new, waits_for, with_uses}
+use Rattle.ld_rules.proofs.UsageLemmas.{new_keys, on_use, uses_in, uses_from-push, waits_for, with_uses}
 use Rattle.ld_facts.proofs.UseLemmas.{on_facts-named, on_facts-within, uses-named, uses-within}
 
 not_not : (b : Bool) → b ≡ not (not b)
@@ -67,7 +64,7 @@ module _ (past : List PlainEvent) (name : List ℕ) (state : State) (fits : is_o
   disable_fault = rw fits refl
 
 -- the scan with the task of the event
-module _ (all : List Position) (old : Scan) (is : IsAt all old) (name : List ℕ) (id : ℕ) (mid : Scan) (has : HasTask old name id mid) where
+module _ {start : Start} (all : List Position) (old : Scan) (is : IsAt start all old) (name : List ℕ) (id : ℕ) (mid : Scan) (has : HasTask old name id mid) where
   abbrev held_now : List Hold
   held_now = get_or mid.locks.stacks id []
 
@@ -84,12 +81,13 @@ module _ (all : List Position) (old : Scan) (is : IsAt all old) (name : List ℕ
   fits = tasks-fit all old is name id mid has
 
   -- where only the frames and flags of the task change
-  changed : (locks : HeldByTasks) (uses : List UsageFact) → ChangesInterrupts mid.locks locks id → Changed mid id (record { tasks = mid.tasks; classes = mid.classes; locks = locks; uses = uses })
+  changed : (locks : HeldByTasks) (uses : List UsageFact) → ChangesInterrupts mid.locks locks id → Changed mid id (record mid { locks = locks; uses = uses })
   changed locks uses moved = record {
     tasks = refl;
     classes = refl;
+    own = refl;
     edges = moved.edges;
-    many = (ap length moved.stacks ∙ has.many.0, moved.many ∙ has.many.1);
+    many = (ap length moved.stacks ∙ has.many.0, moved.many ∙ has.many.1, has.many.2, has.many.3);
     stacks = λ k apart. ap (λ ss. get_or ss k []) moved.stacks;
     interrupts = moved.others;
   }
@@ -104,35 +102,36 @@ module _ (all : List Position) (old : Scan) (is : IsAt all old) (name : List ℕ
   module _ (e : PlainEvent) (line : ℕ) (own_task : task_of e ≡ name) (locks : HeldByTasks) (moved : ChangesInterrupts mid.locks locks id)
       (fault : event_fault (events all) e ≡ None) (acquires_none : class_acquired e ≡ None) (depends_none : dependencies_at (events all) e ≡ [])
       (own : IsTask old.classes held_now (get_or locks.interrupts id fresh) (events all ++ e ∷ []) name) where
-    moved-by : (uses : List UsageFact) → map (named_use old.classes) uses ≡ each_once same_use_seen (seen uses_at (all ++ happens line e ∷ [])) → All
-        (IsUse old.classes) uses → IsAt (all ++ happens line e ∷ []) (record { tasks = mid.tasks; classes = mid.classes; locks = locks; uses = uses })
+    moved-by : (uses : List UsageFact) → map (named_use old.classes) uses ≡ uses_after start (all ++ happens line e ∷ []) → All
+        (IsUse old.classes) uses → IsAt start (all ++ happens line e ∷ []) (record mid { locks = locks; uses = uses })
     moved-by uses shown used =
-        unacquired all old e line id mid (record { tasks = mid.tasks; classes = mid.classes; locks = locks; uses = uses }) is
+        unacquired all old e line id mid (record mid { locks = locks; uses = uses }) is
         (subst (λ task. HasTask old task id mid) (sym own_task) has) (changed locks uses moved) fault acquires_none depends_none
         (subst (λ task. IsTask old.classes (get_or locks.stacks id []) (get_or locks.interrupts id fresh) (events all ++ e ∷ []) task) (sym own_task)
         (subst (λ held. IsTask old.classes held (get_or locks.interrupts id fresh) (events all ++ e ∷ []) name) (sym (held_same locks moved)) own))
         (shallow locks moved) shown used
 
-    uncounted-by : waits_for e ≡ None → new_keys (events all) e ≡ [] → IsAt (all ++ happens line e ∷ []) (record { tasks = mid.tasks; classes = mid.classes; locks = locks; uses = mid.uses })
+    uncounted-by : waits_for e ≡ None → new_keys (events all) e ≡ [] → IsAt start (all ++ happens line e ∷ []) (record mid { locks = locks })
     uncounted-by waits_none counts_none =
-        moved-by mid.uses (ap (map (named_use old.classes)) has.uses ∙ is.uses ∙ sym (uses-uncounted all e line waits_none counts_none)) (subst (All (IsUse old.classes)) (sym has.uses) is.used)
+        moved-by mid.uses (ap (map (named_use old.classes)) has.uses ∙ is.uses ∙ sym (uses-uncounted start all e line waits_none counts_none)) (subst (All (IsUse old.classes)) (sym has.uses) is.used)
 
     -- what the task holds counts under the flags that it has then
     abbrev counted : List UsageFact
     counted = fold with_use mid.uses (on_facts (get_or locks.interrupts id fresh) line (map (λ hold. hold.class) (get_or locks.stacks id [])))
 
-    counted-by : waits_for e ≡ None → new_keys (events all) e ≡ held_by (events all) name → IsAt (all ++ happens line e ∷ [])
-        (record { tasks = mid.tasks; classes = mid.classes; locks = locks; uses = counted })
+    counted-by : waits_for e ≡ None → new_keys (events all) e ≡ held_by (events all) name → IsAt start (all ++ happens line e ∷ [])
+        (record mid { locks = locks; uses = counted })
     counted-by waits_none counts_held =
         moved-by counted
         ((λ i. map (named_use old.classes) (fold with_use (has.uses i) (on_facts interrupts line (map (λ hold. hold.class) (held_same locks moved i)))))
-        ∙ uses-named old.classes distinct old.uses (on_facts interrupts line numbers) is.used within
+        ∙ uses-named old.classes is.distinct old.uses (on_facts interrupts line numbers) is.used within
         ∙ (λ i. fold (with_new same_use_seen) (is.uses i) (on_facts-named old.classes interrupts line numbers (held_by (events all) name)
         (classes-are old.classes held_now frames_now (events all) name before) i))
-        ∙ ap (with_uses line (uses_once all)) (
+        ∙ ap (with_uses line (uses_after start all)) (
         (λ i. map (on_use Hard) (if enabled Hard i then counts i else []) ++ map (on_use Soft) (if enabled Soft i then counts i else []))
         )
-        ∙ sym (uses_once-push_new all (happens line e) ∙ ap (with_uses line (uses_once all)) (λ i. uses_in (contexts (events all) (task_of e)) (waits_none i) ++ (new Hard i ++ new Soft i))))
+        ∙ sym (uses_from-push start.uses all (happens line e)
+        ∙ ap (with_uses line (uses_after start all)) (λ i. uses_in (contexts (events all) (task_of e)) (waits_none i) ++ (new Hard i ++ new Soft i))))
         (subst (λ us. All (IsUse old.classes) (fold with_use us (on_facts interrupts line (map (λ hold. hold.class) (get_or locks.stacks id []))))) (sym has.uses)
         (subst (λ (held : List Hold). All (IsUse old.classes) (fold with_use old.uses (on_facts interrupts line (map (λ hold. hold.class) held)))) (sym (held_same locks moved))
         (uses-within old.classes old.uses (on_facts interrupts line numbers) is.used within)))
@@ -142,9 +141,6 @@ module _ (all : List Position) (old : Scan) (is : IsAt all old) (name : List ℕ
 
         numbers : List ℕ
         numbers = map (λ hold. hold.class) held_now
-
-        distinct : AreDistinct old.classes
-        distinct = subst AreDistinct (sym is.classes) (distinct-classes (events all))
 
         within : All (IsUse old.classes) (on_facts interrupts line numbers)
         within = on_facts-within old.classes interrupts line numbers (holds-within old.classes held_now before.classes)
@@ -180,8 +176,8 @@ module _ (all : List Position) (old : Scan) (is : IsAt all old) (name : List ℕ
     enter-masked nests on = enter_fault (events all) name state fits ∙ (λ i. if (nest-is ∙ ap not nests) i then Some BadNest else if (masked-is ∙ ap not on) i then Some Masked else None)
 
     pub entered-at : (line : ℕ) (locks : HeldByTasks) → nests_in (states_of frames_now) state ≡ true → enabled_now state frames_now ≡ true → ChangesInterrupts
-        mid.locks locks id → IsEntered state (length held_now) frames_now (get_or locks.interrupts id fresh) → IsAt
-        (all ++ happens line (Enter name state) ∷ []) (record { tasks = mid.tasks; classes = mid.classes; locks = locks; uses = mid.uses })
+        mid.locks locks id → IsEntered state (length held_now) frames_now (get_or locks.interrupts id fresh) → IsAt start
+        (all ++ happens line (Enter name state) ∷ []) (record mid { locks = locks })
     entered-at line locks nests on moved entered =
         uncounted-by (Enter name state) line refl locks moved
         (enter_fault (events all) name state fits ∙ (λ i. if (nest-is ∙ ap not nests) i then Some BadNest else if (masked-is ∙ ap not on) i then Some Masked else None)) refl refl
@@ -231,11 +227,9 @@ module _ (all : List Position) (old : Scan) (is : IsAt all old) (name : List ℕ
         some = some_there (held_in (events all) name (frame_of (events all) name)) (omega (arith, length-inner, start_least, more))
 
     pub exited-at : (line : ℕ) (locks : HeldByTasks) → is_some_and (same_state state) (slice_get (states_of frames_now) 0) ≡ true → length held_now ≡
-        start_now frames_now → ChangesInterrupts mid.locks locks id → IsLeft frames_now (get_or locks.interrupts id fresh) → IsAt
+        start_now frames_now → ChangesInterrupts mid.locks locks id → IsLeft frames_now (get_or locks.interrupts id fresh) → IsAt start
         (all ++ happens line (Exit name state) ∷ [])
-        (record {
-          tasks = mid.tasks;
-          classes = mid.classes;
+        (record mid {
           locks = locks;
           uses = fold with_use mid.uses
               (on_facts (get_or locks.interrupts id fresh) line (map (λ hold. hold.class) (get_or locks.stacks id [])));
@@ -270,10 +264,8 @@ module _ (all : List Position) (old : Scan) (is : IsAt all old) (name : List ℕ
     enable-bad among = enable_fault (events all) name state fits ∙ ap (λ (b : Bool). if b then Some BadEnable else None) (bad-enable-is ∙ among)
 
     pub enabled-at : (line : ℕ) (locks : HeldByTasks) → list_any (same_state state) (states_of frames_now) ≡ false → ChangesInterrupts mid.locks locks id → IsSet
-        state true frames_now (get_or locks.interrupts id fresh) → IsAt (all ++ happens line (Enable name state) ∷ [])
-        (record {
-          tasks = mid.tasks;
-          classes = mid.classes;
+        state true frames_now (get_or locks.interrupts id fresh) → IsAt start (all ++ happens line (Enable name state) ∷ [])
+        (record mid {
           locks = locks;
           uses = fold with_use mid.uses
               (on_facts (get_or locks.interrupts id fresh) line (map (λ hold. hold.class) (get_or locks.stacks id [])));
@@ -290,8 +282,8 @@ module _ (all : List Position) (old : Scan) (is : IsAt all old) (name : List ℕ
         })
         refl refl
 
-    pub disabled-at : (line : ℕ) (locks : HeldByTasks) → ChangesInterrupts mid.locks locks id → IsSet state false frames_now (get_or locks.interrupts id fresh) → IsAt
-        (all ++ happens line (Disable name state) ∷ []) (record { tasks = mid.tasks; classes = mid.classes; locks = locks; uses = mid.uses })
+    pub disabled-at : (line : ℕ) (locks : HeldByTasks) → ChangesInterrupts mid.locks locks id → IsSet state false frames_now (get_or locks.interrupts id fresh) → IsAt start
+        (all ++ happens line (Disable name state) ∷ []) (record mid { locks = locks })
     disabled-at line locks moved set =
         uncounted-by (Disable name state) line refl locks moved (disable_fault (events all) name state fits) refl refl
         (record {

@@ -15,17 +15,17 @@ use Rattle.ld_held.specs.declared.edges.EdgeFact.{EdgeFact}
 use Rattle.ld_rules.specs.declared.fault.TraceFault.{TraceFault}
 use Rattle.ld_rules.specs.declared.outcome.Outcome.TheVariants.{Read, Refused}
 use Rattle.ld_facts.specs.declared.scan.Scan.{Scan}
-use Rattle.ld_rules.specs.Outcome.{each_once, classes, event_fault, events, faulty_lines, outcome, outcome_by, of_line, said_fault}
+use Rattle.ld_rules.specs.Outcome.{each_once, class_acquired, classes, event_fault, events, faulty_lines, outcome, outcome_by, of_line, said_fault}
 use Rattle.ld_rules.specs.Dependency.{Dependency, Seen, dependencies_at, least_line, same_dependency, seen}
 use Rattle.ld_rules.specs.Union.{if_read}
 use Rattle.ld_facts.specs.Facts.{IsKnown, named, named_use}
 use Rattle.ld_rules.specs.Usage.{Use, bit_of, same_use, uses_at}
 use Rattle.ld_rules.specs.Inner.Scanned.{same_dependency_seen, same_use_seen}
 use Rattle.ld_held.specs.declared.uses.UsageFact.{UsageFact}
-use Rattle.ld_facts.specs.Inner.Reading.{IsAt, IsReadTo, happens, positions_from}
+use Rattle.ld_facts.specs.Inner.Reading.{IsAt, IsReadTo, Start, empty_scan, happens, no_start, positions_from}
 use Rattle.ld_rules.proofs.OutcomeLemmas.{first_fault}
-use Rattle.ld_rules.proofs.PlaceLemmas.{alike_from_decides, by_pushes, each_once-more}
-use Rattle.ld_rules.proofs.StepLemmas.{Decides-same_dependency}
+use Rattle.ld_rules.proofs.PlaceLemmas.{alike_from_decides, by_pushes, each_once-append, each_once-more}
+use Rattle.ld_rules.proofs.StepLemmas.{Decides-same_dependency, added_names-once}
 use Rattle.ld_rules.proofs.UsageLemmas.{Decides-same_use, same_use_seen-alike}
 use Rattle.ld_rules.proofs.LeastLemmas.{least_once, seen-Ascend}
 use Rattle.ld_trace.proofs.PositionLemmas.{positions-ascend}
@@ -92,15 +92,15 @@ once_used names uses shown is i j d before below both =
     true≢false (sym ((Decides-same_use (named_use names (get_or uses j d)).what (named_use names (get_or uses i d)).what).1 alike) ∙ (λ k. same_use_seen (sym there k) (sym here k)) ∙ differ)
 
 -- the same scan and count by other names
-pub moved : (source : PlainSource) (line : ℕ) (rest : List ℕ) (scan old : Scan) (count before : ℕ) → scan ≡ old → count ≡ before → IsReadTo source
-    line rest old before → IsReadTo source line rest scan count
-moved source line rest scan old count before is many read = subst (λ s. IsReadTo source line rest s count) (sym is) (subst (IsReadTo source line rest old) (sym many) read)
+pub moved : (source : PlainSource) (line : ℕ) (rest : List ℕ) (first scan old : Scan) (count before : ℕ) → scan ≡ old → count ≡ before → IsReadTo source
+    line rest first old before → IsReadTo source line rest first scan count
+moved source line rest first scan old count before is many read = subst (λ s. IsReadTo source line rest first s count) (sym is) (subst (IsReadTo source line rest first old) (sym many) read)
 
 -- the scan of a source, one line further on
-module _ (source : PlainSource) (line : ℕ) (rest : List ℕ) (scan : Scan) (count : ℕ) (read : IsReadTo source line rest scan count)
+module _ (source : PlainSource) (line : ℕ) (rest : List ℕ) (old scan : Scan) (count : ℕ) (read : IsReadTo source line rest old scan count)
     (first others : List ℕ) (cut : lines rest ≡ first ∷ lines others) where
   -- a line that says nothing
-  pub read-nothing : said_by (text_of first) ≡ Ok None → IsReadTo source (line + 1) others scan count
+  pub read-nothing : said_by (text_of first) ≡ Ok None → IsReadTo source (line + 1) others old scan count
   read-nothing is = record {
     before = read.before;
     whole = read.whole ∙ ap (λ ps. read.before ++ ps) (positions-first line rest first others (Ok None) cut is);
@@ -110,83 +110,95 @@ module _ (source : PlainSource) (line : ℕ) (rest : List ℕ) (scan : Scan) (co
 
   -- an event without a fault, which leaves another scan
   pub read-event : (text : List ℕ) (event : Event) (next : Scan) → text ≡ text_of first →
-      ((all : List Position) → IsAt all scan → IsAt (all ++ happens line (plain_event event) ∷ []) next) → said_by text ≡ Ok
-      (Some (plain_event event)) → IsReadTo source (line + 1) others next (count + 1)
+      ((start : Start) (all : List Position) → IsAt start all scan → IsAt start (all ++ happens line (plain_event event) ∷ []) next) → said_by text ≡ Ok
+      (Some (plain_event event)) → IsReadTo source (line + 1) others old next (count + 1)
   read-event text event next shown scanned says = record {
     before = read.before ++ happens line (plain_event event) ∷ [];
     whole =
         read.whole ∙ ap (λ ps. read.before ++ ps) (positions-first line rest first others (Ok (Some (plain_event event))) cut (ap said_by (sym shown) ∙ says))
         ∙ sym (append_assoc read.before (happens line (plain_event event) ∷ []) (positions_from (line + 1) others));
-    scanned = scanned read.before read.scanned;
+    scanned = λ start is. scanned start read.before (read.scanned start is);
     counted = ap (λ n. n + 1) read.counted ∙ sym (length-append read.before (happens line (plain_event event) ∷ []));
   }
 
   -- a position with a fault: the trace is refused
-  refused : (said : Said) (p : Position) (fault : TraceFault) → said_by (text_of first) ≡ said → position_of line said ≡ Some p → said_fault
-      (events read.before) p.says ≡ Some fault → outcome source ≡ Refused p.line fault
-  refused said p fault is at faulty =
-      let whole : positions source ≡ read.before ++ p ∷ positions_from (line + 1) others =
-      read.whole ∙ ap (λ ps. read.before ++ ps) (positions-first line rest first others said cut is ∙ ap (λ o. cons_option o (positions_from (line + 1) others)) at) in
-      ap (outcome_by (length (positions source))) (ap (λ ps. slice_get (faulty_lines ps) 0) whole ∙ first_fault read.before p (positions_from (line + 1) others) fault read.scanned.clean faulty)
+  module _ (start : Start) (is_at : IsAt start [] old) where
+    refused : (said : Said) (p : Position) (fault : TraceFault) → said_by (text_of first) ≡ said → position_of line said ≡ Some p → said_fault
+        (events read.before) p.says ≡ Some fault → outcome source ≡ Refused p.line fault
+    refused said p fault is at faulty =
+        let whole : positions source ≡ read.before ++ p ∷ positions_from (line + 1) others =
+        read.whole ∙ ap (λ ps. read.before ++ ps) (positions-first line rest first others said cut is ∙ ap (λ o. cons_option o (positions_from (line + 1) others)) at) in
+        ap (outcome_by (length (positions source)))
+        (ap (λ ps. slice_get (faulty_lines ps) 0) whole ∙ first_fault read.before p (positions_from (line + 1) others) fault (read.scanned start is_at).clean faulty)
 
-  pub refused-event : (event : PlainEvent) (fault : TraceFault) → said_by (text_of first) ≡ Ok (Some event) →
-      ((all : List Position) → IsAt all scan → event_fault (events all) event ≡ Some fault) → outcome source ≡ Refused line fault
-  refused-event event fault is faulty = refused (Ok (Some event)) (happens line event) fault is refl (faulty read.before read.scanned)
+    pub refused-event : (event : PlainEvent) (fault : TraceFault) → said_by (text_of first) ≡ Ok (Some event) →
+        ((start : Start) (all : List Position) → IsAt start all scan → event_fault (events all) event ≡ Some fault) → outcome source ≡ Refused line fault
+    refused-event event fault is faulty = refused (Ok (Some event)) (happens line event) fault is refl (faulty start read.before (read.scanned start is_at))
 
-  pub refused-line : (fault : LineFault) → said_by (text_of first) ≡ Err fault → outcome source ≡ Refused line (of_line fault)
-  refused-line fault is = refused (Err fault) (record { line = line; says = Err fault }) (of_line fault) is refl refl
+    pub refused-line : (fault : LineFault) → said_by (text_of first) ≡ Err fault → outcome source ≡ Refused line (of_line fault)
+    refused-line fault is = refused (Err fault) (record { line = line; says = Err fault }) (of_line fault) is refl refl
 
--- a scan that is read to the end has the facts
-pub read-known : (source : PlainSource) (line : ℕ) (rest : List ℕ) (scan : Scan) (count : ℕ) → Fits source → IsReadTo source line rest scan count →
-    rest ≡ [] → IsKnown (record { source = source; outcome = Read count; classes = scan.classes; edges = scan.locks.edges; usage = scan.uses })
-read-known source line rest scan count fits read ended =
-    let all : positions source ≡ read.before = read.whole ∙ ap (λ bytes. read.before ++ positions_from line bytes) ended ∙ append-nil read.before in
-    let ascend : AllPairs (λ p q. p.line < q.line) read.before = subst (AllPairs (λ p q. p.line < q.line)) all (positions-ascend source) in
-    let is : outcome source ≡ Read count =
-    (λ i. outcome_by (length (all i)) (slice_get (faulty_lines (all i)) 0)) ∙ (λ i. outcome_by (sym read.counted i) (slice_get (read.scanned.clean i) 0)) in
+-- a scan that is read to the end
+module _ (source : PlainSource) (line : ℕ) (rest : List ℕ) (old scan : Scan) (count : ℕ) (read : IsReadTo source line rest old scan count) (ended : rest ≡ [])
+    (start : Start) (is_at : IsAt start [] old) where
+  all : positions source ≡ read.before
+  all = read.whole ∙ ap (λ bytes. read.before ++ positions_from line bytes) ended ∙ append-nil read.before
+
+  pub read-at : IsAt start (positions source) scan
+  read-at = subst (λ ps. IsAt start ps scan) (sym all) (read.scanned start is_at)
+
+  pub read-outcome : outcome source ≡ Read count
+  read-outcome = (λ i. outcome_by (length (all i)) (slice_get (faulty_lines (all i)) 0)) ∙ (λ i. outcome_by (sym read.counted i) (slice_get ((read.scanned start is_at).clean i) 0))
+
+-- a scan that began with nothing has the facts of its trace
+pub read-known : (source : PlainSource) (scan : Scan) (count : ℕ) → Fits source → IsAt no_start (positions source) scan → outcome source ≡ Read count →
+    IsKnown (record { source = source; outcome = Read count; classes = scan.classes; edges = scan.locks.edges; usage = scan.uses })
+read-known source scan count fits at is =
+    let names : scan.classes ≡ classes (events (positions source)) = at.names ∙ added_names-once (filter_map class_acquired (events (positions source))) in
+    let edges : map (named scan.classes) scan.locks.edges ≡ each_once same_dependency_seen (seen dependencies_at (positions source)) =
+    at.edges ∙ sym (each_once-append same_dependency_seen alike_seen [] (seen dependencies_at (positions source))) in
+    let uses : map (named_use scan.classes) scan.uses ≡ each_once same_use_seen (seen uses_at (positions source)) =
+    at.uses ∙ sym (each_once-append same_use_seen same_use_seen-alike [] (seen uses_at (positions source))) in
     record {
       fits = fits;
       outcome = sym is;
-      few = read.scanned.few_classes;
-      classes = read.scanned.classes ∙ (λ i. if_read (sym is i) (classes (events (sym all i))));
-      within = read.scanned.within;
-      once = once_named scan.classes scan.locks.edges (seen dependencies_at read.before) read.scanned.edges;
+      few = omega (arith, at.few_classes, length-map scan.own (λ n. get_or scan.classes n []), ap length at.own, ap length names);
+      classes = names ∙ (λ i. if_read (sym is i) (classes (events (positions source))));
+      within = at.within;
+      once = once_named scan.classes scan.locks.edges (seen dependencies_at (positions source)) edges;
       edges = λ what.
-          ap (λ es. least_line same_dependency es what) read.scanned.edges
-          ∙ least_once same_dependency (alike_from_decides same_dependency Decides-same_dependency) (seen dependencies_at read.before) (seen-Ascend dependencies_at read.before ascend) what
-          ∙ (λ i. least_line same_dependency (if_read (sym is i) (seen dependencies_at (sym all i))) what);
-      used_within = read.scanned.used;
-      used_once = once_used scan.classes scan.uses (seen uses_at read.before) read.scanned.uses;
+          ap (λ es. least_line same_dependency es what) edges
+          ∙ least_once same_dependency (alike_from_decides same_dependency Decides-same_dependency) (seen dependencies_at (positions source))
+          (seen-Ascend dependencies_at (positions source) (positions-ascend source)) what
+          ∙ (λ i. least_line same_dependency (if_read (sym is i) (seen dependencies_at (positions source))) what);
+      used_within = at.used;
+      used_once = once_used scan.classes scan.uses (seen uses_at (positions source)) uses;
       usage = λ what.
-          ap (λ us. least_line same_use us what) read.scanned.uses
-          ∙ least_once same_use (alike_from_decides same_use Decides-same_use) (seen uses_at read.before) (seen-Ascend uses_at read.before ascend) what
-          ∙ (λ i. least_line same_use (if_read (sym is i) (seen uses_at (sym all i))) what);
+          ap (λ us. least_line same_use us what) uses
+          ∙ least_once same_use (alike_from_decides same_use Decides-same_use) (seen uses_at (positions source))
+          (seen-Ascend uses_at (positions source) (positions-ascend source)) what
+          ∙ (λ i. least_line same_use (if_read (sym is i) (seen uses_at (positions source))) what);
     }
 
 -- before the first line
-pub read-none : (source : PlainSource) (scan : Scan) → scan ≡ record {
-  tasks = [];
-  classes = [];
-  locks =
-      record { stacks = []; interrupts = []; edges = [] };
-  uses = [];
-} → IsReadTo source source.first_line source.bytes scan 0
-read-none source scan new = subst (λ s. IsReadTo source source.first_line source.bytes s 0) (sym new) (record {
-  before = [];
-  whole = refl;
-  scanned = record {
-    clean = refl;
-    tasks = refl;
-    classes = refl;
-    few_tasks = omega arith;
-    few_classes = omega arith;
-    many = (refl, refl);
-    each = λ id name at. absurd (omega (arith, at.0));
-    shallow = λ id. omega arith;
-    edges = refl;
-    within = λ k d below. absurd (omega arith);
-    uses = refl;
-    used = λ k d below. absurd (omega arith);
-  };
-  counted = refl;
+pub read-none : (source : PlainSource) (scan : Scan) → IsReadTo source source.first_line source.bytes scan scan 0
+read-none source scan = record { before = []; whole = refl; scanned = λ start is. is; counted = refl }
+
+-- a new scan
+pub none-at : (scan : Scan) → scan ≡ empty_scan → IsAt no_start [] scan
+none-at scan new = subst (λ s. IsAt no_start [] s) (sym new) (record {
+  clean = refl;
+  tasks = refl;
+  names = refl;
+  distinct = λ i j name at_i at_j. absurd (omega (arith, at_i.0));
+  own = refl;
+  few_tasks = omega arith;
+  few_classes = omega arith;
+  many = (refl, refl, λ k d below. absurd (omega arith), omega arith);
+  each = λ id name at. absurd (omega (arith, at.0));
+  shallow = λ id. omega arith;
+  edges = refl;
+  within = λ k d below. absurd (omega arith);
+  uses = refl;
+  used = λ k d below. absurd (omega arith);
 })

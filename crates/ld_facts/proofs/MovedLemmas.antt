@@ -2,51 +2,54 @@
 -- it, and all other tasks stay.
 use Rattle.std.proofs.Common.{◌≡◌, ◌≢◌, ◌<◌, ◌≤◌, ◌++◌, ◌∷◌, [], ◌∙◌, ⊎_elim, eqb, true, false, ℕ, List, None, fold, length, map, ap, sym, subst, get_or, All}
 use Rattle.std.proofs.lemmas.Bool.Decides.{eqb_tells}
-use Rattle.ld_class.specs.Names.{IsNameAt, place_of, with_name}
+use Rattle.ld_class.specs.Names.{AreDistinct, IsNameAt, place_of, with_name}
 use Rattle.ld_trace.specs.Events.{PlainEvent, Position}
 use Rattle.ld_rules.specs.declared.outcome.TheConstants.{MOST_CLASSES, MOST_HELD, MOST_TASKS}
 use Rattle.ld_facts.specs.declared.scan.Scan.{Scan}
 use Rattle.ld_rules.specs.Frames.{task_of}
-use Rattle.ld_rules.specs.Dependency.{Dependency, dependencies_at, seen}
+use Rattle.ld_rules.specs.Dependency.{Dependency, dependencies_at}
 use Rattle.ld_facts.specs.Facts.{named, named_use}
 use Rattle.ld_held.specs.Inner.Interrupts.{fresh}
-use Rattle.ld_rules.specs.Outcome.{class_acquired, classes, each_once, event_fault, events, is_one_too_many, tasks}
-use Rattle.ld_facts.specs.Inner.Reading.{AreMany, HasTask, IsAt, IsTask, IsWithin, happens}
-use Rattle.ld_rules.specs.Usage.{uses_at}
-use Rattle.ld_rules.specs.Inner.Scanned.{same_dependency_seen, same_use_seen}
+use Rattle.ld_rules.specs.Outcome.{class_acquired, classes, event_fault, events, is_one_too_many, tasks}
+use Rattle.ld_facts.specs.Inner.Reading.{AreMany, HasTask, IsAt, IsTask, IsWithin, Start, classes_after, edges_after, happens, names_at, own_names, uses_after}
+use Rattle.ld_rules.specs.Inner.Scanned.{same_dependency_seen, with_new}
 use Rattle.ld_facts.specs.Facts.{IsUse}
 use Rattle.ld_rules.proofs.OutcomeLemmas.{events-push, no_fault}
-use Rattle.ld_rules.proofs.PlaceLemmas.{with_new}
 use Rattle.ld_rules.proofs.StepLemmas.{classes-other, dependencies-push, tasks-push}
 use Rattle.ld_facts.proofs.TaskLemmas.{scan_not_too_many_tasks, task-at, task-other, task-unmoved, with_name-few}
 
-pub record Moved (all : List Position) (old : Scan) (e : PlainEvent) (line id : ℕ) (new : Scan) : Type 0 where
+pub record Moved (start : Start) (all : List Position) (old : Scan) (e : PlainEvent) (line id : ℕ) (new : Scan) : Type 0 where
   pub fault : event_fault (events all) e ≡ None
   pub tasks : new.tasks ≡ with_name old.tasks (task_of e)
   pub place : IsNameAt new.tasks id (task_of e)
   pub fits : place_of old.tasks (task_of e) ≡ None → length old.tasks < MOST_TASKS
   pub many : AreMany new
-  pub classes : new.classes ≡ classes (events all ++ e ∷ [])
-  pub few_classes : length new.classes ≤ MOST_CLASSES
+  pub names : new.classes ≡ classes_after start (events all ++ e ∷ [])
+  pub distinct : AreDistinct new.classes
+  pub own : own_names new ≡ classes (events all ++ e ∷ [])
+  pub few_classes : length new.own ≤ MOST_CLASSES
   pub stays : (number : ℕ) (name : List ℕ) → IsNameAt old.classes number name → IsNameAt new.classes number name
   pub stacks : (k : ℕ) → k ≢ id → get_or new.locks.stacks k [] ≡ get_or old.locks.stacks k []
   pub interrupts : (k : ℕ) → k ≢ id → get_or new.locks.interrupts k fresh ≡ get_or old.locks.interrupts k fresh
-  pub own : IsTask new.classes (get_or new.locks.stacks id []) (get_or new.locks.interrupts id fresh) (events all ++ e ∷ []) (task_of e)
+  pub task : IsTask new.classes (get_or new.locks.stacks id []) (get_or new.locks.interrupts id fresh) (events all ++ e ∷ []) (task_of e)
   pub shallow : length (get_or new.locks.stacks id []) ≤ MOST_HELD
-  pub edges : map (named new.classes) new.locks.edges ≡ each_once same_dependency_seen (seen dependencies_at (all ++ happens line e ∷ []))
+  pub edges : map (named new.classes) new.locks.edges ≡ edges_after start (all ++ happens line e ∷ [])
   pub within : All (IsWithin new.classes) new.locks.edges
-  pub uses : map (named_use new.classes) new.uses ≡ each_once same_use_seen (seen uses_at (all ++ happens line e ∷ []))
+  pub uses : map (named_use new.classes) new.uses ≡ uses_after start (all ++ happens line e ∷ [])
   pub used : All (IsUse new.classes) new.uses
 
 -- a number is the task's own, or another's
 own_or_other : (P : Type 0) (k id : ℕ) → (k ≡ id → P) → (k ≢ id → P) → P
 own_or_other P k id own other = ⊎_elim (λ (same : (eqb k id ≡ true) × (k ≡ id)). own same.1) (λ (apart : (eqb k id ≡ false) × (k ≢ id)). other apart.1) (eqb_tells k id)
 
-pub moved-at : (all : List Position) (old : Scan) (e : PlainEvent) (line id : ℕ) (new : Scan) → IsAt all old → Moved all old e line id new → IsAt (all ++ happens line e ∷ []) new
-moved-at all old e line id new is m = record {
+pub moved-at : {start : Start} (all : List Position) (old : Scan) (e : PlainEvent) (line id : ℕ) (new : Scan) → IsAt start all old →
+    Moved start all old e line id new → IsAt start (all ++ happens line e ∷ []) new
+moved-at {start} all old e line id new is m = record {
   clean = no_fault all (happens line e) is.clean m.fault;
   tasks = m.tasks ∙ ap (λ ns. with_name ns (task_of e)) is.tasks ∙ sym (tasks-push (events all) e) ∙ ap tasks (sym now);
-  classes = m.classes ∙ ap classes (sym now);
+  names = m.names ∙ ap (classes_after start) (sym now);
+  distinct = m.distinct;
+  own = m.own ∙ ap classes (sym now);
   few_tasks = subst (λ ns. length ns ≤ MOST_TASKS) (sym m.tasks) (with_name-few MOST_TASKS old.tasks (task_of e) m.fits is.few_tasks);
   few_classes = m.few_classes;
   many = m.many;
@@ -67,7 +70,7 @@ moved-at all old e line id new is m = record {
     own k other at same =
         let name : task_of e ≡ other = sym m.place.1 ∙ ap (λ n. get_or new.tasks n []) (sym same) ∙ at.1 in
         subst (λ n. IsTask new.classes (get_or new.locks.stacks n []) (get_or new.locks.interrupts n fresh) (events all ++ e ∷ []) other) (sym same)
-        (subst (λ task. IsTask new.classes (get_or new.locks.stacks id []) (get_or new.locks.interrupts id fresh) (events all ++ e ∷ []) task) name m.own)
+        (subst (λ task. IsTask new.classes (get_or new.locks.stacks id []) (get_or new.locks.interrupts id fresh) (events all ++ e ∷ []) task) name m.task)
 
     stays_other : (k : ℕ) (other : List ℕ) → IsNameAt new.tasks k other → k ≢ id → IsTask new.classes (get_or new.locks.stacks k []) (get_or new.locks.interrupts k fresh) (events all ++ e ∷ []) other
     stays_other k other at apart =
@@ -84,13 +87,14 @@ moved-at all old e line id new is m = record {
 pub record Changed (mid : Scan) (id : ℕ) (new : Scan) : Type 0 where
   pub tasks : new.tasks ≡ mid.tasks
   pub classes : new.classes ≡ mid.classes
+  pub own : new.own ≡ mid.own
   pub edges : new.locks.edges ≡ mid.locks.edges
   pub many : AreMany new
   pub stacks : (k : ℕ) → k ≢ id → get_or new.locks.stacks k [] ≡ get_or mid.locks.stacks k []
   pub interrupts : (k : ℕ) → k ≢ id → get_or new.locks.interrupts k fresh ≡ get_or mid.locks.interrupts k fresh
 
 -- the task of one more event has its number
-module _ (all : List Position) (old : Scan) (is : IsAt all old) (name : List ℕ) (id : ℕ) (mid : Scan) (has : HasTask old name id mid) where
+module _ {start : Start} (all : List Position) (old : Scan) (is : IsAt start all old) (name : List ℕ) (id : ℕ) (mid : Scan) (has : HasTask old name id mid) where
   -- what is kept of it then
   pub own-before : IsTask old.classes (get_or mid.locks.stacks id []) (get_or mid.locks.interrupts id fresh) (events all) name
   own-before =
@@ -106,12 +110,13 @@ module _ (all : List Position) (old : Scan) (is : IsAt all old) (name : List ℕ
   tasks-fit = scan_not_too_many_tasks all old name is has.fits
 
 -- an event that acquires nothing leaves the classes and the dependencies
-pub unacquired : (all : List Position) (old : Scan) (e : PlainEvent) (line id : ℕ) (mid new : Scan) → IsAt all old → HasTask old (task_of e) id mid →
+pub unacquired : {start : Start} (all : List Position) (old : Scan) (e : PlainEvent) (line id : ℕ) (mid new : Scan) → IsAt start all old → HasTask old (task_of e) id mid →
     Changed mid id new → event_fault (events all) e ≡ None → class_acquired e ≡ None → dependencies_at (events all) e ≡ [] → IsTask old.classes
     (get_or new.locks.stacks id []) (get_or new.locks.interrupts id fresh) (events all ++ e ∷ []) (task_of e) → length (get_or new.locks.stacks id [])
-    ≤ MOST_HELD → map (named_use old.classes) new.uses ≡ each_once same_use_seen (seen uses_at (all ++ happens line e ∷ [])) → All (IsUse old.classes) new.uses → IsAt (all ++ happens line e ∷ []) new
-unacquired all old e line id mid new is has changed fault acquires_none depends_none own shallow uses used =
+    ≤ MOST_HELD → map (named_use old.classes) new.uses ≡ uses_after start (all ++ happens line e ∷ []) → All (IsUse old.classes) new.uses → IsAt start (all ++ happens line e ∷ []) new
+unacquired {start} all old e line id mid new is has changed fault acquires_none depends_none own shallow uses used =
     let classes-same : new.classes ≡ old.classes = changed.classes ∙ has.classes in
+    let own-same : new.own ≡ old.own = changed.own ∙ has.own in
     let edges-same : new.locks.edges ≡ old.locks.edges = changed.edges ∙ has.edges in
     moved-at all old e line id new is (record {
       fault = fault;
@@ -119,17 +124,19 @@ unacquired all old e line id mid new is has changed fault acquires_none depends_
       place = subst (λ ns. IsNameAt ns id (task_of e)) (sym changed.tasks) has.place;
       fits = has.fits;
       many = changed.many;
-      classes = classes-same ∙ is.classes ∙ sym (classes-other (events all) e acquires_none);
-      few_classes = subst (λ ns. length ns ≤ MOST_CLASSES) (sym classes-same) is.few_classes;
+      names = classes-same ∙ is.names ∙ ap (fold with_name start.classes) (sym (classes-other (events all) e acquires_none));
+      distinct = subst AreDistinct (sym classes-same) is.distinct;
+      own = (λ i. names_at (classes-same i) (own-same i)) ∙ is.own ∙ sym (classes-other (events all) e acquires_none);
+      few_classes = subst (λ own. length own ≤ MOST_CLASSES) (sym own-same) is.few_classes;
       stays = λ number name at. subst (λ ns. IsNameAt ns number name) (sym classes-same) at;
       stacks = λ k apart. changed.stacks k apart ∙ has.stacks k;
       interrupts = λ k apart. changed.interrupts k apart ∙ has.interrupts k;
-      own = subst (λ ns. IsTask ns (get_or new.locks.stacks id []) (get_or new.locks.interrupts id fresh) (events all ++ e ∷ []) (task_of e)) (sym classes-same) own;
+      task = subst (λ ns. IsTask ns (get_or new.locks.stacks id []) (get_or new.locks.interrupts id fresh) (events all ++ e ∷ []) (task_of e)) (sym classes-same) own;
       shallow = shallow;
       edges =
           (λ i. map (named (classes-same i)) (edges-same i))
           ∙ is.edges
-          ∙ sym (dependencies-push all (happens line e) ∙ ap (λ ds. fold (with_new same_dependency_seen) (each_once same_dependency_seen (seen dependencies_at all))
+          ∙ sym (dependencies-push start.edges all (happens line e) ∙ ap (λ ds. fold (with_new same_dependency_seen) (edges_after start all)
           (map (λ (what : Dependency). record { what = what; line = line }) ds)) depends_none);
       within = subst (λ ns. All (IsWithin ns) new.locks.edges) (sym classes-same) (subst (All (IsWithin old.classes)) (sym edges-same) is.within);
       uses = ap (λ ns. map (named_use ns) new.uses) classes-same ∙ uses;

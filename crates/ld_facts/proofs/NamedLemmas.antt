@@ -17,10 +17,10 @@ use Rattle.ld_held.specs.declared.edges.EdgeFact.{EdgeFact}
 use Rattle.ld_held.specs.Inner.Edges.{edge_to, same_pair, with_edge_fact}
 use Rattle.ld_held.specs.Inner.Locks.{Hold}
 use Rattle.ld_rules.specs.Outcome.{class_acquired, classes, each_once}
-use Rattle.ld_rules.specs.Inner.Scanned.{same_dependency_seen}
+use Rattle.ld_rules.specs.Inner.Scanned.{same_dependency_seen, with_new}
 use Rattle.ld_facts.specs.Inner.Reading.{IsWithin}
 use Rattle.ld_facts.specs.Facts.{named}
-use Rattle.ld_rules.proofs.PlaceLemmas.{by_pushes, with_new}
+use Rattle.ld_rules.proofs.PlaceLemmas.{by_pushes}
 use Rattle.ld_rules.proofs.StepLemmas.{names-more}
 
 -- two tests that pass together are one

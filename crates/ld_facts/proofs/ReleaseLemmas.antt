@@ -17,8 +17,7 @@ use Rattle.ld_rules.specs.declared.fault.TraceFault.TheVariants.{NotHeld}
 use Rattle.ld_held.specs.declared.interrupts.Interrupts.{Interrupts}
 use Rattle.ld_rules.specs.declared.outcome.TheConstants.{MOST_HELD, MOST_TASKS}
 use Rattle.ld_facts.specs.declared.scan.Scan.{Scan}
-use Rattle.ld_rules.specs.Inner.Scanned.{remove_last, same_use_seen}
-use Rattle.ld_rules.specs.Dependency.{seen}
+use Rattle.ld_rules.specs.Inner.Scanned.{remove_last}
 use Rattle.ld_facts.specs.Facts.{named_use}
 use Rattle.ld_rules.specs.Flags.{is_enabled}
 use Rattle.ld_rules.specs.Frames.{contexts, frame_of, task_of}
@@ -26,9 +25,8 @@ use Rattle.ld_rules.specs.Held.{Key, same_frame, same_key, same_lock, held, held
 use Rattle.ld_held.specs.Inner.Interrupts.{fresh, start_now}
 use Rattle.ld_rules.specs.Inner.Levels.{stack, starts, state_of_frame}
 use Rattle.ld_held.specs.Inner.Locks.{Hold, is_of}
-use Rattle.ld_rules.specs.Outcome.{each_once, event_fault, events, is_not_held, is_one_too_many, tasks}
-use Rattle.ld_facts.specs.Inner.Reading.{HasTask, IsAt, IsTask, happens}
-use Rattle.ld_rules.specs.Usage.{uses_at}
+use Rattle.ld_rules.specs.Outcome.{event_fault, events, is_not_held, is_one_too_many, tasks}
+use Rattle.ld_facts.specs.Inner.Reading.{HasTask, IsAt, IsTask, Start, happens, uses_after}
 use Rattle.ld_facts.specs.Facts.{IsUse}
 use Rattle.ld_rules.proofs.RemoveLemmas.{list_any-filter, map-remove_last}
 use Rattle.ld_rules.proofs.HeldLemmas.{Decides-same_frame, Decides-same_key, any_held_by, held_by-releases}
@@ -36,7 +34,7 @@ use Rattle.ld_rules.proofs.FlagLemmas.{levels-quiet, stack-quiet}
 use Rattle.ld_rules.proofs.GroupLemmas.{IsGrouped, held_in-innermost, outer_elsewhere, remove_last-append, starts-kept}
 use Rattle.ld_facts.proofs.InnerLemmas.{clean-grouped, inner-is, start-is}
 use Rattle.ld_facts.proofs.MovedLemmas.{own-before, shallow-before, tasks-fit, unacquired}
-use Rattle.ld_rules.proofs.UsageLemmas.{list_all-filter, list_all_mono, new_keys, new_uses, on_use, uses_in, uses_once, uses_once-push_new, waits_for, with_uses}
+use Rattle.ld_rules.proofs.UsageLemmas.{list_all-filter, list_all_mono, new_keys, new_uses, on_use, uses_in, uses_from-push, waits_for, with_uses}
 
 -- two tests that agree at each element of which a third holds
 module _ {X : Type 0} (p q r : X → Bool) (same : (x : X) → r x ≡ true → p x ≡ q x) where
@@ -169,18 +167,18 @@ none_counted : (state : State) (b : Bool) → map (on_use state) (if b then [] e
 none_counted state true = refl
 none_counted state false = refl
 
-pub uses-uncounted : (all : List Position) (e : PlainEvent) (line : ℕ) → waits_for e ≡ None → new_keys (events all) e ≡ [] → each_once same_use_seen
-    (seen uses_at (all ++ happens line e ∷ [])) ≡ each_once same_use_seen (seen uses_at all)
-uses-uncounted all e line waits_none counts_none =
-    uses_once-push_new all (happens line e)
-    ∙ ap (with_uses line (uses_once all)) ((λ i. uses_in (contexts (events all) (task_of e)) (waits_none i) ++ (none Hard i ++ none Soft i)))
+pub uses-uncounted : (start : Start) (all : List Position) (e : PlainEvent) (line : ℕ) → waits_for e ≡ None → new_keys (events all) e ≡ [] → uses_after start
+    (all ++ happens line e ∷ []) ≡ uses_after start all
+uses-uncounted start all e line waits_none counts_none =
+    uses_from-push start.uses all (happens line e)
+    ∙ ap (with_uses line (uses_after start all)) ((λ i. uses_in (contexts (events all) (task_of e)) (waits_none i) ++ (none Hard i ++ none Soft i)))
   where
     none : (state : State) → new_uses (events all) e state ≡ []
     none state = ap (λ keys. map (on_use state) (if is_enabled (events all ++ e ∷ []) (task_of e) state then keys else [])) counts_none ∙ none_counted
         state (is_enabled (events all ++ e ∷ []) (task_of e) state)
 
 -- the scan with the task of the release
-module _ (all : List Position) (old : Scan) (is_at : IsAt all old) (name : List ℕ) (lock : PlainLock) (id : ℕ) (mid : Scan) (has : HasTask old name id mid) where
+module _ {start : Start} (all : List Position) (old : Scan) (is_at : IsAt start all old) (name : List ℕ) (lock : PlainLock) (id : ℕ) (mid : Scan) (has : HasTask old name id mid) where
   abbrev held_now : List Hold
   held_now = get_or mid.locks.stacks id []
 
@@ -206,7 +204,7 @@ module _ (all : List Position) (old : Scan) (is_at : IsAt all old) (name : List 
   left = take (start_now frames_now) held_now ++ remove_last (is_of lock) (drop (start_now frames_now) held_now)
 
   abbrev pub scan_left : Scan
-  scan_left = record { tasks = mid.tasks; classes = mid.classes; locks = record { stacks = set mid.locks.stacks id left; interrupts = mid.locks.interrupts; edges = mid.locks.edges }; uses = mid.uses }
+  scan_left = record mid { locks = record mid.locks { stacks = set mid.locks.stacks id left } }
 
   inside : id < length mid.locks.stacks
   inside = omega (arith, has.place.0, has.many.0)
@@ -240,19 +238,20 @@ module _ (all : List Position) (old : Scan) (is_at : IsAt all old) (name : List 
   )
 
   -- where it is, the scan without it is what the release leaves
-  pub release-at : (line : ℕ) → list_any (is_of lock) (drop (start_now frames_now) held_now) ≡ true → IsAt (all ++ happens line (Release name lock) ∷ []) scan_left
+  pub release-at : (line : ℕ) → list_any (is_of lock) (drop (start_now frames_now) held_now) ≡ true → IsAt start (all ++ happens line (Release name lock) ∷ []) scan_left
   release-at line found =
       unacquired all old (Release name lock) line id mid scan_left is_at has
       (record {
         tasks = refl;
         classes = refl;
+        own = refl;
         edges = refl;
-        many = (length-set mid.locks.stacks id left ∙ has.many.0, has.many.1);
+        many = (length-set mid.locks.stacks id left ∙ has.many.0, has.many.1, has.many.2, has.many.3);
         stacks = λ k apart. get_or-set_other mid.locks.stacks id k left [] apart;
         interrupts = λ k apart. refl;
       })
       (fault_by true found) refl refl
       (subst (λ held. IsTask old.classes held frames_now (events all ++ Release name lock ∷ []) name) (sym same) own)
       (subst (λ (held : List Hold). length held ≤ MOST_HELD) (sym same) shorter)
-      (ap (map (named_use old.classes)) has.uses ∙ is_at.uses ∙ sym (uses-uncounted all (Release name lock) line refl refl))
+      (ap (map (named_use old.classes)) has.uses ∙ is_at.uses ∙ sym (uses-uncounted start all (Release name lock) line refl refl))
       (subst (All (IsUse old.classes)) (sym has.uses) is_at.used)

@@ -28,7 +28,7 @@ use Rattle.ld_held.specs.Inner.Locks.{Hold}
 use Rattle.ld_rules.specs.Outcome.{is_one_too_many, event_fault, events, tasks}
 use Rattle.ld_facts.specs.declared.scan.Taking.{Taking}
 use Rattle.ld_facts.specs.declared.scan.Taking.TheVariants.{Trying, Waiting}
-use Rattle.ld_facts.specs.Inner.Reading.{IsAt, IsTask, acquisition}
+use Rattle.ld_facts.specs.Inner.Reading.{IsAt, IsTask, Start, acquisition}
 use Rattle.ld_rules.proofs.PlaceLemmas.{alike_from_decides, any_each_once, by_pushes}
 use Rattle.ld_rules.proofs.FlagLemmas.{levels-other, stack-other, states-other}
 use Rattle.ld_rules.proofs.GroupLemmas.{held_by-other_task, starts-kept}
@@ -133,7 +133,7 @@ fresh_levels Hard = refl
 fresh_levels Soft = refl
 
 -- the scan with the task of one more event among its tasks
-module _ (all : List Position) (scan : Scan) (is_at : IsAt all scan) (name : List ℕ) (names : List (List ℕ)) (is : names ≡ with_name scan.tasks name) where
+module _ {start : Start} (all : List Position) (scan : Scan) (is_at : IsAt start all scan) (name : List ℕ) (names : List (List ℕ)) (is : names ≡ with_name scan.tasks name) where
   -- what it keeps of each task, and of a new one
   pub task-at : (id : ℕ) (other : List ℕ) → IsNameAt names id other → IsTask scan.classes (get_or scan.locks.stacks id []) (get_or scan.locks.interrupts id fresh) (events all) other
   task-at id other at = by (place_of scan.tasks name) refl
@@ -173,18 +173,18 @@ module _ (all : List Position) (scan : Scan) (is_at : IsAt all scan) (name : Lis
       by true eq = absurd (apart (task-distinct k id name (there.0, there.1 ∙ (bytes_eq-Decides other name).0 eq) here))
 
 -- a scan that has too many tasks for one more
-pub scan_too_many_tasks : (all : List Position) (scan : Scan) (e : PlainEvent) → IsAt all scan → place_of scan.tasks (task_of e) ≡ None → MOST_TASKS ≤
+pub scan_too_many_tasks : {start : Start} (all : List Position) (scan : Scan) (e : PlainEvent) → IsAt start all scan → place_of scan.tasks (task_of e) ≡ None → MOST_TASKS ≤
     length scan.tasks → event_fault (events all) e ≡ Some TooManyTasks
 scan_too_many_tasks all scan e is_at new full =
     too_many_tasks (events all) e (ap (λ ns. is_one_too_many MOST_TASKS ns (task_of e)) (sym is_at.tasks) ∙ is_one_too_many-full MOST_TASKS scan.tasks (task_of e) new full is_at.few_tasks)
 
 -- the same of an acquisition
-pub acquisition_too_many_tasks : (all : List Position) (scan : Scan) (how : Taking) (name : List ℕ) (lock : PlainLock) → IsAt all scan → place_of
+pub acquisition_too_many_tasks : {start : Start} (all : List Position) (scan : Scan) (how : Taking) (name : List ℕ) (lock : PlainLock) → IsAt start all scan → place_of
     scan.tasks name ≡ None → MOST_TASKS ≤ length scan.tasks → event_fault (events all) (acquisition how name lock) ≡ Some TooManyTasks
 acquisition_too_many_tasks all scan Trying name lock is_at new full = scan_too_many_tasks all scan (Try name lock) is_at new full
 acquisition_too_many_tasks all scan Waiting name lock is_at new full = scan_too_many_tasks all scan (Acquire name lock) is_at new full
 
 -- one that has not
-pub scan_not_too_many_tasks : (all : List Position) (scan : Scan) (name : List ℕ) → IsAt all scan →
+pub scan_not_too_many_tasks : {start : Start} (all : List Position) (scan : Scan) (name : List ℕ) → IsAt start all scan →
     (place_of scan.tasks name ≡ None → length scan.tasks < MOST_TASKS) → is_one_too_many MOST_TASKS (tasks (events all)) name ≡ false
 scan_not_too_many_tasks all scan name is_at fits = ap (λ ns. is_one_too_many MOST_TASKS ns name) (sym is_at.tasks) ∙ is_one_too_many-fits MOST_TASKS scan.tasks name fits

@@ -19,11 +19,10 @@ use Rattle.ld_rules.specs.Held.{Key}
 use Rattle.ld_held.specs.Inner.Interrupts.{enabled_now, states_of}
 use Rattle.ld_rules.specs.Usage.{Bit, Use, bit_of, usage_of}
 use Rattle.ld_rules.specs.Usage.Bit.{In, On}
-use Rattle.ld_rules.specs.Inner.Scanned.{same_use_seen}
+use Rattle.ld_rules.specs.Inner.Scanned.{same_use_seen, with_new}
 use Rattle.ld_facts.specs.Facts.{IsUse}
 use Rattle.ld_held.specs.Inner.Uses.{fact, in_facts, on_facts, same_fact, with_use}
 use Rattle.ld_facts.proofs.NamedLemmas.{name-more, number-more}
-use Rattle.ld_rules.proofs.PlaceLemmas.{with_new}
 use Rattle.ld_rules.proofs.UsageLemmas.{Decides-same_use, at_line, on_use, uses_in}
 
 -- usage bits of which the names are told apart, and one more

@@ -9,4 +9,5 @@ mod scan;
 pub use known::Facts;
 pub use ld_held::{EdgeFact, UsageFact};
 pub use ld_rules::{Listed, MOST_CLASSES, MOST_HELD, MOST_TASKS, Outcome, TraceFault, Witness};
-pub use reading::facts;
+pub use reading::{facts, read_into};
+pub use scan::{Mark, Scan};

@@ -1,15 +1,18 @@
 //! Reads the facts of a trace.
-ghost use Rattle.std.specs.Prelude.{◌≡◌, IfOk};
+ghost use Rattle.std.specs.Prelude.{◌≡◌, ℕ, [], Ok, IfOk, MatchOption};
 ghost use Rattle.ld_trace.specs.Sources.{plain, Fits};
+ghost use Rattle.ld_trace.specs.Events.{answer_seen, positions};
+ghost use Rattle.ld_trace.specs.First.{IsFirstSaid};
 ghost use Rattle.ld_rules.specs.Outcome.{outcome};
-ghost use Rattle.ld_rules.specs.declared.outcome.Outcome.TheVariants.{Refused};
+ghost use Rattle.ld_rules.specs.declared.outcome.Outcome.TheVariants.{Read, Refused};
+ghost use Rattle.ld_facts.specs.Inner.Reading.{AreMany, IsAt, Start};
 
 use crate::known::Facts;
 use crate::scan::{Scan, Stop};
 use ld_class::Classes;
 use ld_held::{Edges, Uses};
 use ld_rules::{Outcome, TraceFault};
-use ld_trace::{Source, next_line, read_event, text};
+use ld_trace::{Event, LineFault, Source, next_event, next_line, read_event, text};
 use std::alloc::{AllocError, Global};
 
 /// The facts of a trace: what became of it and, where it was read to its end, what it shows. A
@@ -21,35 +24,67 @@ pub fn facts<'a>(alloc: Global, source: Source<'a>) -> Result<Facts<'a>, AllocEr
     ensures { IfOk result (λ facts. facts.source ≡ plain source.entry) }
 {
     let mut scan = Scan::new(alloc);
+    match read_into(&mut scan, source) {
+        Ok(Outcome::Read { events }) => Ok(Facts {
+            source,
+            outcome: Outcome::Read { events },
+            classes: scan.classes,
+            edges: scan.locks.into_edges(),
+            usage: scan.uses,
+        }),
+        Ok(Outcome::Refused { line, fault }) => Ok(refused(alloc, scan, source, line, fault)),
+        Err(refusal) => {
+            drop(scan);
+            Err(refusal)
+        }
+    }
+}
+
+/// Reads a trace, and answers what became of it. Where it was read to its end, the scan has what it
+/// shows on top of what it had; else what it has is of no use.
+///
+/// `AllocError` where a growth of memory was refused, whatever the trace says.
+pub fn read_into<'a>(scan: &mut Scan<'a>, source: Source<'a>) -> Result<Outcome, AllocError>
+    requires fits { Fits (plain source) }
+    requires many { AreMany scan.old }
+    ensures told { IfOk result (λ told. (start : Start) → IsAt start [] scan.old →
+        told ≡ outcome (plain source.entry)) }
+    ensures read { (events : ℕ) → result ≡ Ok (Read events) →
+        (start : Start) → IsAt start [] scan.old →
+        IsAt start (positions (plain source.entry)) scan.new }
+{
     let mut rest = source.bytes;
     let mut line = source.first_line;
     let mut events = 0;
-    while let Some((first, others)) = next_line(rest) {
-        match read_event(text(first)) {
+    while let Some((said, others)) = next_said(rest) {
+        match said {
             Ok(None) => {}
             Ok(Some(event)) => match scan.step(event, line) {
                 Ok(()) => events += 1,
-                Err(Stop::Memory) => {
-                    drop(scan);
-                    return Err(AllocError);
-                }
-                Err(Stop::Fault(fault)) => return Ok(refused(alloc, scan, source, line, fault)),
+                Err(Stop::Memory) => return Err(AllocError),
+                Err(Stop::Fault(fault)) => return Ok(Outcome::Refused { line, fault }),
             },
             Err(fault) => {
                 let fault = TraceFault::from(fault);
-                return Ok(refused(alloc, scan, source, line, fault));
+                return Ok(Outcome::Refused { line, fault });
             }
         }
         rest = others;
         line += 1;
     }
-    Ok(Facts {
-        source,
-        outcome: Outcome::Read { events },
-        classes: scan.classes,
-        edges: scan.locks.into_edges(),
-        usage: scan.uses,
-    })
+    Ok(Outcome::Read { events })
+}
+
+/// What the first line says, or its fault, and what follows the line; `None` where there is no byte.
+fn next_said(bytes: &[u8]) -> Option<(Result<Option<Event<'_>>, LineFault>, &[u8])>
+    ensures { MatchOption result (bytes.now ≡ []) (λ cut.
+        IsFirstSaid bytes.now (answer_seen cut.0) cut.1.now) }
+{
+    if let Some((event, rest)) = next_event(bytes) {
+        return Some((Ok(Some(event)), rest));
+    }
+    let (line, rest) = next_line(bytes)?;
+    Some((read_event(text(line)), rest))
 }
 
 /// The facts of a trace with a fault. They have nothing of what the scan found before it.

@@ -2,18 +2,19 @@
 ghost use Rattle.std.specs.Prelude.{◌≡◌, ◌<◌, ◌≤◌, ◌++◌, ◌∷◌, ℕ, List, [], None, Some, Err, fold};
 ghost use Rattle.std.specs.Prelude.{length, map, slice_index_or, IfOk, OnOk};
 ghost use Rattle.ld_class.specs.Names.{place_of, with_name, IsNameAt};
+ghost use Rattle.ld_class.specs.declared.names.TheConstants.{MOST_NAMES};
 ghost use Rattle.ld_trace.specs.Events.{Position, plain_event, plain_lock};
 ghost use Rattle.ld_trace.specs.Events.PlainEvent.{Disable, Enable, Enter, Exit, Release};
 ghost use Rattle.ld_held.specs.Inner.Interrupts.{fresh};
 ghost use Rattle.ld_rules.specs.Outcome.{event_fault, events};
-ghost use Rattle.ld_facts.specs.Inner.Reading.{AreMany, HasTask, IsAt, acquisition, happens, taken};
-ghost use Rattle.ld_facts.specs.Inner.Reading.{waited};
+ghost use Rattle.ld_facts.specs.Inner.Reading.{AreMany, HasTask, IsAt, Start, acquisition, happens};
+ghost use Rattle.ld_facts.specs.Inner.Reading.{begun, empty_scan, own_names, taken, undone, waited};
 ghost use Rattle.ld_held.specs.Inner.Uses.{on_facts, with_use};
 ghost use Rattle.ld_rules.specs.declared.fault.TraceFault.{TraceFault};
 ghost use Rattle.ld_rules.specs.declared.outcome.TheConstants.{MOST_CLASSES, MOST_HELD, MOST_TASKS};
 
 use ld_class::Classes;
-use ld_held::{Locks, Uses};
+use ld_held::{Locks, OwnClasses, Uses};
 use ld_rules::{MOST_CLASSES, MOST_HELD, MOST_TASKS, TraceFault};
 use ld_trace::{Event, Lock, State};
 use std::alloc::{AllocError, Global};
@@ -46,13 +47,23 @@ pub enum Taking {
     Trying,
 }
 
-/// What the events of a trace so far leave.
+/// How much a scan had when a trace began.
+#[derive(Clone, Copy)]
+pub struct Mark {
+    classes: usize,
+    uses: usize,
+}
+
+/// What the events of a trace so far leave, on top of what was there before them.
 #[derive(Drop)]
 pub struct Scan<'a> {
     /// The tasks, in order of first event.
     pub tasks: Classes<'a>,
-    /// The classes, in order of first acquisition.
+    /// The classes: those that were there before the trace, then those that it adds, in order of
+    /// first acquisition.
     pub classes: Classes<'a>,
+    /// The classes of the trace, by their numbers, in order of first acquisition.
+    pub own: OwnClasses,
     /// What the tasks hold, by their numbers, their frames and flags, and the dependencies.
     pub locks: Locks<'a>,
     /// The usage bits of the classes, by their numbers.
@@ -62,29 +73,52 @@ pub struct Scan<'a> {
 impl<'a> Scan<'a> {
     /// Before the first event.
     pub fn new(alloc: Global) -> Scan<'a>
-        ensures { result ≡ record {
-          tasks = [];
-          classes = [];
-          locks = record { stacks = []; interrupts = []; edges = [] };
-          uses = [];
-        } }
+        ensures { result ≡ empty_scan }
     {
         Scan {
             tasks: Classes::new(alloc),
             classes: Classes::new(alloc),
+            own: OwnClasses::new(alloc),
             locks: Locks::new(alloc),
             uses: Uses::new(alloc),
         }
+    }
+
+    /// Another trace begins, on top of what is there. The memory stays.
+    pub fn begin(&mut self) -> Mark
+        ensures begun { self.new ≡ begun self.old }
+        ensures mark { (result.classes ≡ length self.old.classes)
+            × (result.uses ≡ length self.old.uses) }
+    {
+        self.tasks.cut(0);
+        self.own.begin();
+        self.locks.begin();
+        Mark {
+            classes: self.classes.len(),
+            uses: self.uses.as_slice().len(),
+        }
+    }
+
+    /// Takes back what the trace added that began at this mark.
+    pub fn undo(&mut self, mark: Mark)
+        ensures { self.new ≡ undone self.old mark.classes mark.uses }
+    {
+        self.tasks.cut(0);
+        self.classes.cut(mark.classes);
+        self.own.begin();
+        self.locks.undo();
+        self.uses.cut(mark.uses);
     }
 
     /// One more event, at this line.
     pub fn step(&mut self, event: Event<'a>, line: u64) -> Result<(), Stop>
         requires many { AreMany self.old }
         ensures many { OnOk result (AreMany self.new) }
-        ensures ok { OnOk result ((all : List Position) → IsAt all self.old →
-            IsAt (all ++ happens line (plain_event event.entry) ∷ []) self.new) }
+        ensures ok { OnOk result ((start : Start) (all : List Position) →
+            IsAt start all self.old →
+            IsAt start (all ++ happens line (plain_event event.entry) ∷ []) self.new) }
         ensures fault { (fault : TraceFault) → result ≡ Err (Stop.Fault fault) →
-            (all : List Position) → IsAt all self.old →
+            (start : Start) (all : List Position) → IsAt start all self.old →
             event_fault (events all) (plain_event event.entry) ≡ Some fault }
     {
         match event {
@@ -108,12 +142,13 @@ impl<'a> Scan<'a> {
     ) -> Result<(), Stop>
         requires many { AreMany self.old }
         ensures many { OnOk result (AreMany self.new) }
-        ensures ok { OnOk result ((all : List Position) → IsAt all self.old →
-            IsAt (all ++
+        ensures ok { OnOk result ((start : Start) (all : List Position) →
+            IsAt start all self.old →
+            IsAt start (all ++
             happens line (acquisition how task.entry.now (plain_lock lock.entry)) ∷ [])
             self.new) }
         ensures fault { (fault : TraceFault) → result ≡ Err (Stop.Fault fault) →
-            (all : List Position) → IsAt all self.old →
+            (start : Start) (all : List Position) → IsAt start all self.old →
             event_fault (events all) (acquisition how task.entry.now (plain_lock lock.entry))
             ≡ Some fault }
     {
@@ -156,11 +191,12 @@ impl<'a> Scan<'a> {
     fn release(&mut self, task: &'a [u8], lock: Lock<'a>) -> Result<(), Stop>
         requires many { AreMany self.old }
         ensures many { OnOk result (AreMany self.new) }
-        ensures ok { OnOk result ((all : List Position) (line : ℕ) → IsAt all self.old →
-            IsAt (all ++ happens line (Release task.entry.now (plain_lock lock.entry)) ∷ [])
+        ensures ok { OnOk result ((start : Start) (all : List Position) (line : ℕ) →
+            IsAt start all self.old →
+            IsAt start (all ++ happens line (Release task.entry.now (plain_lock lock.entry)) ∷ [])
             self.new) }
         ensures fault { (fault : TraceFault) → result ≡ Err (Stop.Fault fault) →
-            (all : List Position) → IsAt all self.old →
+            (start : Start) (all : List Position) → IsAt start all self.old →
             event_fault (events all) (Release task.entry.now (plain_lock lock.entry)) ≡ Some fault }
     {
         let task = self.task(task)?;
@@ -175,10 +211,11 @@ impl<'a> Scan<'a> {
     fn enter(&mut self, task: &'a [u8], state: State) -> Result<(), Stop>
         requires many { AreMany self.old }
         ensures many { OnOk result (AreMany self.new) }
-        ensures ok { OnOk result ((all : List Position) (line : ℕ) → IsAt all self.old →
-            IsAt (all ++ happens line (Enter task.entry.now state) ∷ []) self.new) }
+        ensures ok { OnOk result ((start : Start) (all : List Position) (line : ℕ) →
+            IsAt start all self.old →
+            IsAt start (all ++ happens line (Enter task.entry.now state) ∷ []) self.new) }
         ensures fault { (fault : TraceFault) → result ≡ Err (Stop.Fault fault) →
-            (all : List Position) → IsAt all self.old →
+            (start : Start) (all : List Position) → IsAt start all self.old →
             event_fault (events all) (Enter task.entry.now state) ≡ Some fault }
     {
         let task = self.task(task)?;
@@ -197,10 +234,11 @@ impl<'a> Scan<'a> {
     fn exit(&mut self, task: &'a [u8], state: State, line: u64) -> Result<(), Stop>
         requires many { AreMany self.old }
         ensures many { OnOk result (AreMany self.new) }
-        ensures ok { OnOk result ((all : List Position) → IsAt all self.old →
-            IsAt (all ++ happens line (Exit task.entry.now state) ∷ []) self.new) }
+        ensures ok { OnOk result ((start : Start) (all : List Position) →
+            IsAt start all self.old →
+            IsAt start (all ++ happens line (Exit task.entry.now state) ∷ []) self.new) }
         ensures fault { (fault : TraceFault) → result ≡ Err (Stop.Fault fault) →
-            (all : List Position) → IsAt all self.old →
+            (start : Start) (all : List Position) → IsAt start all self.old →
             event_fault (events all) (Exit task.entry.now state) ≡ Some fault }
     {
         let task = self.task(task)?;
@@ -220,10 +258,11 @@ impl<'a> Scan<'a> {
     fn enable(&mut self, task: &'a [u8], state: State, line: u64) -> Result<(), Stop>
         requires many { AreMany self.old }
         ensures many { OnOk result (AreMany self.new) }
-        ensures ok { OnOk result ((all : List Position) → IsAt all self.old →
-            IsAt (all ++ happens line (Enable task.entry.now state) ∷ []) self.new) }
+        ensures ok { OnOk result ((start : Start) (all : List Position) →
+            IsAt start all self.old →
+            IsAt start (all ++ happens line (Enable task.entry.now state) ∷ []) self.new) }
         ensures fault { (fault : TraceFault) → result ≡ Err (Stop.Fault fault) →
-            (all : List Position) → IsAt all self.old →
+            (start : Start) (all : List Position) → IsAt start all self.old →
             event_fault (events all) (Enable task.entry.now state) ≡ Some fault }
     {
         let task = self.task(task)?;
@@ -239,10 +278,11 @@ impl<'a> Scan<'a> {
     fn disable(&mut self, task: &'a [u8], state: State) -> Result<(), Stop>
         requires many { AreMany self.old }
         ensures many { OnOk result (AreMany self.new) }
-        ensures ok { OnOk result ((all : List Position) (line : ℕ) → IsAt all self.old →
-            IsAt (all ++ happens line (Disable task.entry.now state) ∷ []) self.new) }
+        ensures ok { OnOk result ((start : Start) (all : List Position) (line : ℕ) →
+            IsAt start all self.old →
+            IsAt start (all ++ happens line (Disable task.entry.now state) ∷ []) self.new) }
         ensures fault { (fault : TraceFault) → result ≡ Err (Stop.Fault fault) →
-            (all : List Position) → IsAt all self.old →
+            (start : Start) (all : List Position) → IsAt start all self.old →
             event_fault (events all) (Disable task.entry.now state) ≡ Some fault }
     {
         let task = self.task(task)?;
@@ -282,27 +322,76 @@ impl<'a> Scan<'a> {
         Ok(self.tasks.intern(name)?)
     }
 
-    /// The number of the class, which may be new.
+    /// The number of the class, which may be new, or new to the trace.
     fn class(&mut self, name: &'a [u8]) -> Result<u32, Stop>
+        requires many { AreMany self.old }
+        ensures many { OnOk result (AreMany self.new) }
         ensures place { IfOk result (λ id. IsNameAt self.new.classes id name.entry.now) }
         ensures classes { OnOk result
             (self.new.classes ≡ with_name self.old.classes name.entry.now) }
-        ensures fits { OnOk result (place_of self.old.classes name.entry.now ≡ None →
-            length self.old.classes < MOST_CLASSES) }
+        ensures own { OnOk result
+            (own_names self.new ≡ with_name (own_names self.old) name.entry.now) }
+        ensures fits { OnOk result (place_of (own_names self.old) name.entry.now ≡ None →
+            length self.old.own < MOST_CLASSES) }
         ensures others { (self.new.tasks ≡ self.old.tasks)
             × (self.new.locks ≡ self.old.locks)
             × (self.new.uses ≡ self.old.uses) }
         ensures fault { (fault : TraceFault) → result ≡ Err (Stop.Fault fault) →
             (fault ≡ TraceFault.TooManyClasses)
-            × (place_of self.old.classes name.entry.now ≡ None)
-            × (MOST_CLASSES ≤ length self.old.classes) }
+            × (place_of (own_names self.old) name.entry.now ≡ None)
+            × (MOST_CLASSES ≤ length self.old.own) }
     {
-        if let Some(class) = self.classes.find(name) {
-            return Ok(class);
+        let known = self.classes.find(name);
+        if let Some(class) = known {
+            if self.own.has(class) {
+                return Ok(class);
+            }
         }
-        if self.classes.len() >= MOST_CLASSES {
+        self.own_class(known, name)
+    }
+
+    /// The number of a class that is new to the trace; the number that it is known by, if any, is
+    /// `known`.
+    fn own_class(&mut self, known: Option<u32>, name: &'a [u8]) -> Result<u32, Stop>
+        requires many { AreMany self.old }
+        requires known { known ≡ place_of self.old.classes name.now }
+        requires new { place_of (own_names self.old) name.now ≡ None }
+        ensures many { OnOk result (AreMany self.new) }
+        ensures place { IfOk result (λ id. IsNameAt self.new.classes id name.entry.now) }
+        ensures classes { OnOk result
+            (self.new.classes ≡ with_name self.old.classes name.entry.now) }
+        ensures own { OnOk result
+            (own_names self.new ≡ with_name (own_names self.old) name.entry.now) }
+        ensures fits { OnOk result (length self.old.own < MOST_CLASSES) }
+        ensures others { (self.new.tasks ≡ self.old.tasks)
+            × (self.new.locks ≡ self.old.locks)
+            × (self.new.uses ≡ self.old.uses) }
+        ensures fault { (fault : TraceFault) → result ≡ Err (Stop.Fault fault) →
+            (fault ≡ TraceFault.TooManyClasses)
+            × (place_of (own_names self.old) name.entry.now ≡ None)
+            × (MOST_CLASSES ≤ length self.old.own) }
+    {
+        if self.own.len() >= MOST_CLASSES {
             return Err(Stop::Fault(TraceFault::TooManyClasses));
         }
-        Ok(self.classes.intern(name)?)
+        let class = self.number(known, name)?;
+        self.own.add(class)?;
+        Ok(class)
+    }
+
+    /// The number of the class among all, which may be new; the number that it is known by, if any,
+    /// is `known`.
+    fn number(&mut self, known: Option<u32>, name: &'a [u8]) -> Result<u32, AllocError>
+        requires known { known ≡ place_of self.old.classes name.now }
+        requires room { length self.old.classes < MOST_NAMES }
+        ensures place { IfOk result (λ id. IsNameAt self.new.classes id name.entry.now) }
+        ensures classes { OnOk result
+            (self.new.classes ≡ with_name self.old.classes name.entry.now) }
+        ensures others { self.new ≡ record self.old { classes = self.new.classes } }
+    {
+        match known {
+            Some(class) => Ok(class),
+            None => self.classes.intern(name),
+        }
     }
 }

@@ -1,4 +1,4 @@
-//! Batches of traces, by what is told of each trace alone.
+//! Batches, compared with what `facts` says of each trace alone.
 use ld_batch::{Batch, WitnessedEdge, WitnessedUse};
 use ld_class::Usage;
 use ld_facts::{Facts, Outcome, TraceFault, Witness, facts};
@@ -277,7 +277,7 @@ fn a_batch_is_the_union_of_what_its_traces_show(rt: HostRuntime) -> Result<(), F
     for place in 0..=TRACES.len() {
         let bytes = stream_with_refused(&rt, place)?;
         let sources = sources_of(&rt, &bytes);
-        for size in [1, 2, 3, 8] {
+        for size in [1, 2, 3, 8, 13] {
             for some in sources.chunks(size) {
                 let batch = batch_of(&rt, some);
                 let told = told_alone(&rt, some)?;

@@ -300,25 +300,25 @@ module _ (stacks : List PlainStack) (chains : List (List ℕ)) (told : List Link
       (starts_of (get_or stacks task empty_stack).interrupts) (tied.chained task))
 
   -- a waiting acquisition that was told tells nothing new
-  pub known_told : (known : HeldByTasks) → held_by_tasks stacks edges ≡ known → (task class line : ℕ) (before : Option ℕ) → before ≡ chain_of
+  pub known_told : {begun : List EdgeFact} (known : HeldByTasks) → held_by_tasks stacks edges begun ≡ known → (task class line : ℕ) (before : Option ℕ) → before ≡ chain_of
       (inner (get_or stacks task empty_stack)) → list_any (same_link (record { before = before; class = class })) told ≡ true → known ≡ record known
       { edges = fold with_edge_fact known.edges (map (edge_to class line) (map (λ (h : Hold). h.class) (drop (start_now (get_or known.interrupts task fresh)) (get_or known.stacks task [])))) }
-  known_told known is task class line before at there =
+  known_told {begun} known is task class line before at there =
       subst (λ (k : HeldByTasks). k ≡ record k {
         edges = fold with_edge_fact k.edges
             (map (edge_to class line) (map (λ (h : Hold). h.class) (drop (start_now (get_or k.interrupts task fresh)) (get_or k.stacks task []))));
       }) is
-      (λ i. record (held_by_tasks stacks edges) { edges = sym all i })
+      (λ i. record (held_by_tasks stacks edges begun) { edges = sym all i })
     where
-      froms : map (λ (h : Hold). h.class) (drop (start_now (get_or (held_by_tasks stacks edges).interrupts task fresh))
-          (get_or (held_by_tasks stacks edges).stacks task [])) ≡ classes_held (inner (get_or stacks task empty_stack))
+      froms : map (λ (h : Hold). h.class) (drop (start_now (get_or (held_by_tasks stacks edges begun).interrupts task fresh))
+          (get_or (held_by_tasks stacks edges begun).stacks task [])) ≡ classes_held (inner (get_or stacks task empty_stack))
       froms = ap (map (λ (h : Hold). h.class)) (inner_at stacks task) ∙ map-map (λ (h : Hold). h.class) hold_of (inner (get_or stacks task empty_stack))
 
       is_told : HasItsEdges chains edges (record { before = before; class = class })
       is_told = link_told (λ link. HasItsEdges chains edges link) told (record { before = before; class = class }) tied.complete there
 
       all : fold with_edge_fact edges (map (edge_to class line) (map (λ (h : Hold). h.class)
-          (drop (start_now (get_or (held_by_tasks stacks edges).interrupts task fresh)) (get_or (held_by_tasks stacks edges).stacks task [])))) ≡ edges
+          (drop (start_now (get_or (held_by_tasks stacks edges begun).interrupts task fresh)) (get_or (held_by_tasks stacks edges begun).stacks task [])))) ≡ edges
       all = ap (λ fs. fold with_edge_fact edges (map (edge_to class line) fs)) (froms ∙ sym (numbered task).chain ∙ ap (chain_before chains) (sym at)) ∙
           none_new class line edges (chain_before chains before) is_told.told
 
@@ -383,50 +383,52 @@ tied_push stacks chains told edges tied task held before within more extended at
     (known, is ∙ ap (λ c. c ++ held.class ∷ []) (ap (chain_before chains) at ∙ (numbered stacks chains told edges tied task).chain)))
 
 -- a waiting acquisition that tells its dependencies, as callers see it
-pub told_shown : {E : Type 0} (r : Result (Unit {0}) E) (stacks : List PlainStack) (edges : List EdgeFact) (known : HeldByTasks) (task class line : ℕ)
-    (new : List EdgeFact) → held_by_tasks stacks edges ≡ known → new ≡ fold with_edge_fact edges
-    (map (edge_to class line) (classes_held (inner (get_or stacks task empty_stack)))) → OnOk r
-    (held_by_tasks stacks new ≡ record known {
+pub told_shown : {E : Type 0} {begun after : List EdgeFact} (r : Result (Unit {0}) E) (stacks : List PlainStack) (edges : List EdgeFact) (known : HeldByTasks) (task class line : ℕ)
+    (new : List EdgeFact) → held_by_tasks stacks edges begun ≡ known → new ≡ fold with_edge_fact edges
+    (map (edge_to class line) (classes_held (inner (get_or stacks task empty_stack)))) → after ≡ begun → OnOk r
+    (held_by_tasks stacks new after ≡ record known {
       edges = fold with_edge_fact known.edges
           (map (edge_to class line) (map (λ (h : Hold). h.class) (drop (start_now (get_or known.interrupts task fresh)) (get_or known.stacks task []))));
     })
-told_shown r stacks edges known task class line new is told = by r
+told_shown {E} {begun} {after} r stacks edges known task class line new is told same = by r
   where
-    froms : map (λ (h : Hold). h.class) (drop (start_now (get_or (held_by_tasks stacks edges).interrupts task fresh))
-        (get_or (held_by_tasks stacks edges).stacks task [])) ≡ classes_held (inner (get_or stacks task empty_stack))
+    froms : map (λ (h : Hold). h.class) (drop (start_now (get_or (held_by_tasks stacks edges begun).interrupts task fresh))
+        (get_or (held_by_tasks stacks edges begun).stacks task [])) ≡ classes_held (inner (get_or stacks task empty_stack))
     froms = ap (map (λ (h : Hold). h.class)) (inner_at stacks task) ∙ map-map (λ (h : Hold). h.class) hold_of (inner (get_or stacks task empty_stack))
 
     edges_are : new ≡ fold with_edge_fact edges (map (edge_to class line)
-        (map (λ (h : Hold). h.class) (drop (start_now (get_or (held_by_tasks stacks edges).interrupts task fresh)) (get_or (held_by_tasks stacks edges).stacks task []))))
+        (map (λ (h : Hold). h.class) (drop (start_now (get_or (held_by_tasks stacks edges begun).interrupts task fresh)) (get_or (held_by_tasks stacks edges begun).stacks task []))))
     edges_are = told ∙ ap (λ fs. fold with_edge_fact edges (map (edge_to class line) fs)) (sym froms)
 
-    whole : held_by_tasks stacks new ≡ record known {
+    whole : held_by_tasks stacks new after ≡ record known {
       edges = fold with_edge_fact known.edges
           (map (edge_to class line) (map (λ (h : Hold). h.class) (drop (start_now (get_or known.interrupts task fresh)) (get_or known.stacks task []))));
     }
     whole =
-        subst (λ (k : HeldByTasks). held_by_tasks stacks new ≡ record k {
+        subst (λ (k : HeldByTasks). held_by_tasks stacks new after ≡ record k {
           edges = fold with_edge_fact k.edges
               (map (edge_to class line) (map (λ (h : Hold). h.class) (drop (start_now (get_or k.interrupts task fresh)) (get_or k.stacks task []))));
         }) is
-        (λ i. record (held_by_tasks stacks edges) { edges = edges_are i })
+        (λ i. record (held_by_tasks stacks edges begun) { edges = edges_are i; begun = same i })
 
-    by : {E : Type 0} (r : Result (Unit {0}) E) → OnOk r (held_by_tasks stacks new ≡ record known
+    by : {E : Type 0} (r : Result (Unit {0}) E) → OnOk r (held_by_tasks stacks new after ≡ record known
         { edges = fold with_edge_fact known.edges (map (edge_to class line) (map (λ (h : Hold). h.class) (drop (start_now (get_or known.interrupts task fresh)) (get_or known.stacks task [])))) })
     by (Ok u) = whole
     by (Err e) = tt
 
 -- the number of tasks, as callers see it
-pub within_shown : (stacks : List PlainStack) (edges : List EdgeFact) (known : HeldByTasks) (task : ℕ) → held_by_tasks stacks edges ≡ known → task < length known.stacks → task < length stacks
-within_shown stacks edges known task is within = subst (λ n. task < n) (ap (λ (k : HeldByTasks). length k.stacks) (sym is) ∙ length-map stacks (λ (s : PlainStack). map hold_of s.held)) within
+pub within_shown : {begun : List EdgeFact} (stacks : List PlainStack) (edges : List EdgeFact) (known : HeldByTasks) (task : ℕ) → held_by_tasks stacks edges begun ≡ known →
+    task < length known.stacks → task < length stacks
+within_shown {begun} stacks edges known task is within =
+    subst (λ n. task < n) (ap (λ (k : HeldByTasks). length k.stacks) (sym is) ∙ length-map stacks (λ (s : PlainStack). map hold_of s.held)) within
 
 -- another stack of a task, as callers see it
-pub shown_held : (stacks : List PlainStack) (edges : List EdgeFact) (known : HeldByTasks) (task : ℕ) → held_by_tasks stacks edges ≡ known →
+pub shown_held : {begun : List EdgeFact} (stacks : List PlainStack) (edges : List EdgeFact) (known : HeldByTasks) (task : ℕ) → held_by_tasks stacks edges begun ≡ known →
     (held : List PlainHeld) (holding : List Hold) → map hold_of held ≡ holding → held_by_tasks
-    (set stacks task (record (get_or stacks task empty_stack) { held = held })) edges ≡ record known { stacks = set known.stacks task holding }
-shown_held stacks edges known task is held holding same =
-    subst (λ (k : HeldByTasks). held_by_tasks (set stacks task stack) edges ≡ record k { stacks = set k.stacks task holding }) is
-    (λ i. record { stacks = stacks_are i; interrupts = interrupts_are i; edges = edges })
+    (set stacks task (record (get_or stacks task empty_stack) { held = held })) edges begun ≡ record known { stacks = set known.stacks task holding }
+shown_held {begun} stacks edges known task is held holding same =
+    subst (λ (k : HeldByTasks). held_by_tasks (set stacks task stack) edges begun ≡ record k { stacks = set k.stacks task holding }) is
+    (λ i. record { stacks = stacks_are i; interrupts = interrupts_are i; edges = edges; begun = begun })
   where
     stack : PlainStack
     stack = record (get_or stacks task empty_stack) { held = held }
@@ -443,13 +445,14 @@ shown_held stacks edges known task is held holding same =
         ∙ set-get_or (map (λ (s : PlainStack). s.interrupts) stacks) task fresh
 
 -- other frames and flags of a task, as callers see them
-pub shown_moved : (stacks : List PlainStack) (edges : List EdgeFact) (known : HeldByTasks) (task : ℕ) → held_by_tasks stacks edges ≡ known →
-    (interrupts : Interrupts) → ChangesInterrupts known (held_by_tasks (set stacks task (record (get_or stacks task empty_stack) { interrupts = interrupts })) edges) task
-shown_moved stacks edges known task is interrupts =
-    subst (λ (k : HeldByTasks). ChangesInterrupts k (held_by_tasks (set stacks task (record (get_or stacks task empty_stack) { interrupts = interrupts })) edges) task) is
+pub shown_moved : {begun : List EdgeFact} (stacks : List PlainStack) (edges : List EdgeFact) (known : HeldByTasks) (task : ℕ) → held_by_tasks stacks edges begun ≡ known →
+    (interrupts : Interrupts) → ChangesInterrupts known (held_by_tasks (set stacks task (record (get_or stacks task empty_stack) { interrupts = interrupts })) edges begun) task
+shown_moved {begun} stacks edges known task is interrupts =
+    subst (λ (k : HeldByTasks). ChangesInterrupts k (held_by_tasks (set stacks task (record (get_or stacks task empty_stack) { interrupts = interrupts })) edges begun) task) is
     (record {
       stacks = stacks_are;
       edges = refl;
+      begun = refl;
       many = many;
       others = λ k other. ap (λ xs. get_or xs k fresh) interrupts_are ∙ get_or-set_other
           (map (λ (s : PlainStack). s.interrupts) stacks) task k interrupts fresh other;
@@ -479,8 +482,8 @@ module _ (stacks : List PlainStack) (task : ℕ) (interrupts : Interrupts) (afte
       subst (λ ss. AreTied ss chains told edges) (sym is)
       (tied_set stacks chains told edges tied task (record (get_or stacks task empty_stack) { interrupts = interrupts }) within are)
 
-  pub moved_is : (edges : List EdgeFact) (known : HeldByTasks) → held_by_tasks stacks edges ≡ known → ChangesInterrupts known (held_by_tasks after edges) task
-  moved_is edges known shown = subst (λ ss. ChangesInterrupts known (held_by_tasks ss edges) task) (sym is) (shown_moved stacks edges known task shown interrupts)
+  pub moved_is : {begun : List EdgeFact} (edges : List EdgeFact) (known : HeldByTasks) → held_by_tasks stacks edges begun ≡ known → ChangesInterrupts known (held_by_tasks after edges begun) task
+  moved_is {begun} edges known shown = subst (λ ss. ChangesInterrupts known (held_by_tasks ss edges begun) task) (sym is) (shown_moved stacks edges known task shown interrupts)
 
   pub moved_to : task < length stacks → get_or (map (λ (s : PlainStack). s.interrupts) after) task fresh ≡ interrupts
   moved_to within =
@@ -488,18 +491,18 @@ module _ (stacks : List PlainStack) (task : ℕ) (interrupts : Interrupts) (afte
       ∙ ap (λ ss. (get_or ss task empty_stack).interrupts) is
       ∙ ap (λ (s : PlainStack). s.interrupts) (get_or-set_same stacks task (record (get_or stacks task empty_stack) { interrupts = interrupts }) empty_stack within)
 
-pub interrupts_shown : (stacks : List PlainStack) (edges : List EdgeFact) (known : HeldByTasks) (task : ℕ) → held_by_tasks stacks edges ≡ known →
+pub interrupts_shown : {begun : List EdgeFact} (stacks : List PlainStack) (edges : List EdgeFact) (known : HeldByTasks) (task : ℕ) → held_by_tasks stacks edges begun ≡ known →
     (get_or stacks task empty_stack).interrupts ≡ get_or known.interrupts task fresh
-interrupts_shown stacks edges known task is = sym (interrupts_at stacks task) ∙ ap (λ (k : HeldByTasks). get_or k.interrupts task fresh) is
+interrupts_shown {begun} stacks edges known task is = sym (interrupts_at stacks task) ∙ ap (λ (k : HeldByTasks). get_or k.interrupts task fresh) is
 
-pub holds_shown : (stacks : List PlainStack) (edges : List EdgeFact) (known : HeldByTasks) (task : ℕ) → held_by_tasks stacks edges ≡ known → map hold_of
+pub holds_shown : {begun : List EdgeFact} (stacks : List PlainStack) (edges : List EdgeFact) (known : HeldByTasks) (task : ℕ) → held_by_tasks stacks edges begun ≡ known → map hold_of
     (get_or stacks task empty_stack).held ≡ get_or known.stacks task []
-holds_shown stacks edges known task is = sym (holds_at stacks task) ∙ ap (λ (k : HeldByTasks). get_or k.stacks task []) is
+holds_shown {begun} stacks edges known task is = sym (holds_at stacks task) ∙ ap (λ (k : HeldByTasks). get_or k.stacks task []) is
 
 -- the locks that a task holds, as callers see them
-pub held_shown : (stacks : List PlainStack) (edges : List EdgeFact) (known : HeldByTasks) (task : ℕ) → held_by_tasks stacks edges ≡ known → (held : List Held) →
+pub held_shown : {begun : List EdgeFact} (stacks : List PlainStack) (edges : List EdgeFact) (known : HeldByTasks) (task : ℕ) → held_by_tasks stacks edges begun ≡ known → (held : List Held) →
     map plain_held held ≡ (get_or stacks task empty_stack).held → holds_of held ≡ get_or known.stacks task []
-held_shown stacks edges known task is held same = sym (map-map hold_of plain_held held) ∙ ap (map hold_of) same ∙ holds_shown stacks edges known task is
+held_shown {begun} stacks edges known task is held same = sym (map-map hold_of plain_held held) ∙ ap (map hold_of) same ∙ holds_shown stacks edges known task is
 
 -- what holds of the frames and flags that were read and written, as callers see them
 pub shown_as : (R : Interrupts → Interrupts → Type 0) (old before new after : Interrupts) → old ≡ before → after ≡ new → R old new → R before after
@@ -569,9 +572,9 @@ module _ (old now : HeldByTasks) (task i : ℕ) (locks : List Held) (so_far : no
 -- a release
 
 -- a lock is held in the innermost frame, as callers see it
-pub any_shown : (stacks : List PlainStack) (edges : List EdgeFact) (known : HeldByTasks) (task : ℕ) (lock : PlainLock) → held_by_tasks stacks edges ≡ known →
+pub any_shown : {begun : List EdgeFact} (stacks : List PlainStack) (edges : List EdgeFact) (known : HeldByTasks) (task : ℕ) (lock : PlainLock) → held_by_tasks stacks edges begun ≡ known →
     list_any (is_of lock) (drop (start_now (get_or known.interrupts task fresh)) (get_or known.stacks task [])) ≡ list_any (holds lock) (inner (get_or stacks task empty_stack))
-any_shown stacks edges known task lock is =
+any_shown {begun} stacks edges known task lock is =
     ap (λ (k : HeldByTasks). list_any (is_of lock) (drop (start_now (get_or k.interrupts task fresh)) (get_or k.stacks task []))) (sym is)
     ∙ ap (list_any (is_of lock)) (inner_at stacks task)
     ∙ list_any-map hold_of (is_of lock) (inner (get_or stacks task empty_stack))

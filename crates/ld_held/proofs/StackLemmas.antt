@@ -1,6 +1,7 @@
 -- The stacks as plain data, after a change of one of them.
 use Rattle.std.proofs.Common.{◌≡◌, ◌<◌, ◌≤◌, ◌+◌, ◌-◌, ◌||◌, ◌∷◌, [], List, ℕ, zero, suc, Bool, true, false, map, length, get_or, set, take, drop, remove, refl, ap, sym, ◌∙◌, arith}
-use Rattle.std.proofs.lemmas.List.{get_or-map, map-set, length-map, drop_more, take_rest}
+use Rattle.std.proofs.lemmas.List.{get_or-map, get_or-take, map-set, length-map, length-take-le, drop_more, take_rest}
+use Rattle.std.proofs.Math.Seq.{take-set-lt}
 use Rattle.std.proofs.lemmas.List.Folds.{list_any_at}
 use Rattle.std.specs.List.{drop-map, list_any}
 use Rattle.ld_trace.specs.Events.{PlainLock, plain_lock}
@@ -14,18 +15,23 @@ use Rattle.ld_rules.specs.Inner.Scanned.{remove_last}
 abbrev pub shown : Stack → PlainStack
 shown stack = record { held = map plain_held stack.held.items; interrupts = stack.interrupts }
 
--- a stack that is read, as plain data
-pub seen_at : (view : List PlainStack) (stacks : List Stack) (i : ℕ) (old : Stack) → map shown stacks ≡ view → i < length view → old ≡ get_or stacks i old → get_or view i empty_stack ≡ shown old
-seen_at view stacks i old is inside read =
-    let within : i < length stacks = omega (arith, inside, length-map stacks shown, ap length is) in
-    ap (λ v. get_or v i empty_stack) (sym is) ∙ get_or-map shown stacks i old empty_stack within ∙ ap shown (sym read)
+module _ (view : List PlainStack) (stacks : List Stack) (live : ℕ) (short : live ≤ length stacks) (is : map shown (take live stacks) ≡ view)
+    (i : ℕ) (inside : i < length view) (old : Stack) (read : old ≡ get_or stacks i old) where
+  within : i < live
+  within = omega (arith, inside, length-map (take live stacks) shown, length-take-le live stacks short, ap length is)
 
--- one stack is put in another's place
-pub put : (view : List PlainStack) (stacks : List Stack) (i : ℕ) (old new : Stack) (after : PlainStack → PlainStack) → map shown stacks ≡ view → i <
-    length view → old ≡ get_or stacks i old → shown new ≡ after (shown old) → map shown (set stacks i new) ≡ set view i (after (get_or view i empty_stack))
-put view stacks i old new after is inside read changed =
-    let here = seen_at view stacks i old is inside read in
-    map-set shown stacks i new ∙ (λ k. set (is k) i (changed k)) ∙ ap (λ s. set view i (after s)) (sym here)
+  -- a stack that is read, as plain data
+  pub seen_at : get_or view i empty_stack ≡ shown old
+  seen_at =
+      ap (λ v. get_or v i empty_stack) (sym is)
+      ∙ get_or-map shown (take live stacks) i old empty_stack (omega (arith, within, length-take-le live stacks short))
+      ∙ ap shown (get_or-take live stacks i old within ∙ sym read)
+
+  -- one stack is put in another's place
+  pub put : (new : Stack) (after : PlainStack → PlainStack) → shown new ≡ after (shown old) → map shown (take live (set stacks i new)) ≡ set view i (after (get_or view i empty_stack))
+  put new after changed =
+      ap (map shown) (take-set-lt live stacks i new within) ∙ map-set shown (take live stacks) i new
+      ∙ (λ k. set (is k) i (changed k)) ∙ ap (λ s. set view i (after s)) (sym seen_at)
 
 -- the locks from a place of a stack on, as plain data
 pub part_is : (stack : PlainStack) (held : List Held) (start : ℕ) → map plain_held held ≡ stack.held → start ≡ start_now stack.interrupts → map

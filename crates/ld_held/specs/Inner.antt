@@ -6,3 +6,4 @@ pub mod Edges
 pub mod Locks
 pub mod Interrupts
 pub mod Uses
+pub mod Own

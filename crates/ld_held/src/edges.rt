@@ -1,5 +1,5 @@
 //! The dependencies of a trace between numbered classes.
-ghost use Rattle.std.specs.Prelude.{◌≡◌, Bool, true, [], fold, map, OnErr, OnOk};
+ghost use Rattle.std.specs.Prelude.{◌≡◌, Bool, true, [], fold, length, map, take, OnErr, OnOk};
 ghost use Rattle.std.specs.List.{list_any};
 ghost use Rattle.ld_held.specs.Inner.Edges.{edge_to, with_edge_fact};
 
@@ -86,10 +86,19 @@ impl Edges {
         Ok(())
     }
 
+    /// Keeps the first `count` of the dependencies.
+    pub fn cut(&mut self, count: usize)
+        ensures { self.new ≡ take count self.old }
+    {
+        self.edges.truncate(count);
+        self.pairs.truncate(count);
+    }
+
     /// Adds the dependencies from the classes of these locks to the class.
     pub fn tell(&mut self, stack: &[Held<'_>], class: u32, line: u64) -> Result<(), AllocError>
         ensures kept { (test : EdgeFact → Bool)
             → list_any test self.old ≡ true → list_any test self.new ≡ true }
+        ensures first { take (length self.old) self.new ≡ self.old }
         ensures told { OnOk result (self.new ≡ fold with_edge_fact self.old
             (map (edge_to class line) (map (λ held. held.class) stack.now))) }
     {

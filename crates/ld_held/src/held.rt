@@ -4,7 +4,7 @@ ghost use Rattle.std.specs.Prelude.{take, slice_index_or, slice_set, IfNone, IfS
 ghost use Rattle.std.specs.List.{list_any};
 ghost use Rattle.ld_trace.specs.Events.{plain_lock};
 ghost use Rattle.ld_rules.specs.Held.{same_lock};
-ghost use Rattle.ld_held.specs.Inner.Interrupts.{start_now};
+ghost use Rattle.ld_held.specs.Inner.Interrupts.{fresh, start_now};
 ghost use Rattle.ld_held.specs.Inner.Stacks.{empty_stack, holds, inner, plain_held};
 ghost use Rattle.ld_rules.specs.Inner.Scanned.{remove_last};
 ghost use Rattle.ld_rules.specs.declared.outcome.TheConstants.{MOST_HELD};
@@ -49,14 +49,39 @@ struct Stack<'a> {
     interrupts: Interrupts,
 }
 
+impl<'a> Stack<'a> {
+    /// That of a task before its first event.
+    fn new() -> Stack<'a>
+        ensures held { result.held.items ≡ [] }
+        ensures interrupts { result.interrupts ≡ fresh }
+    {
+        Stack {
+            held: ArrayVec::new(),
+            interrupts: Interrupts::new(),
+        }
+    }
+
+    /// The same, of a stack that was in use.
+    fn clear(&mut self)
+        ensures held { self.new.held.items ≡ [] }
+        ensures interrupts { self.new.interrupts ≡ fresh }
+    {
+        self.held.clear();
+        self.interrupts = Interrupts::new();
+    }
+}
+
 /// The stacks of tasks, by the task's number.
 #[derive(Drop)]
 pub struct Stacks<'a> {
+    /// Those of the tasks first. The others are kept for tasks to come, for their memory alone.
     stacks: Vec<Stack<'a>>,
+    /// How many tasks there are.
+    live: usize,
 }
 
 impl<'a> Model for Stacks<'a> {
-    ghost use Rattle.std.specs.Prelude.{List, map};
+    ghost use Rattle.std.specs.Prelude.{◌≤◌, List, length, map, take};
     ghost use Rattle.ld_held.specs.Inner.Stacks.{PlainStack};
 
     ghost Value = { List PlainStack };
@@ -66,7 +91,9 @@ impl<'a> Model for Stacks<'a> {
     ghost view = { λ s. map (λ stack. record {
       held = map plain_held stack.held.items;
       interrupts = stack.interrupts;
-    }) s.stacks.items };
+    }) (take s.live s.stacks.items) };
+
+    ghost invariant = { λ s. s.live ≤ length s.stacks.items };
 }
 
 impl<'a> Stacks<'a> {
@@ -75,7 +102,15 @@ impl<'a> Stacks<'a> {
     {
         Stacks {
             stacks: Vec::new(alloc),
+            live: 0,
         }
+    }
+
+    /// Begins anew, with no task. The memory stays.
+    pub fn begin(&mut self)
+        ensures { self.new ≡ [] }
+    {
+        self.live = 0;
     }
 
     /// One more task, which holds nothing and is outside frames.
@@ -83,11 +118,12 @@ impl<'a> Stacks<'a> {
         ensures grown { OnOk result (self.new ≡ self.old ++ empty_stack ∷ []) }
         ensures refused { OnErr result (self.new ≡ self.old) }
     {
-        let stack = Stack {
-            held: ArrayVec::new(),
-            interrupts: Interrupts::new(),
-        };
-        self.stacks.push(stack)?;
+        if self.live < self.stacks.len() {
+            self.stacks[self.live].clear();
+        } else {
+            self.stacks.push(Stack::new())?;
+        }
+        self.live += 1;
         Ok(())
     }
 

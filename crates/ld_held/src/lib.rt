@@ -7,10 +7,12 @@ mod edges;
 mod held;
 mod interrupts;
 mod locks;
+mod own;
 mod uses;
 
 pub use edges::{EdgeFact, Edges};
 pub use held::Held;
 pub use interrupts::Interrupts;
 pub use locks::Locks;
+pub use own::OwnClasses;
 pub use uses::{UsageFact, Uses};

@@ -24,46 +24,92 @@ use ld_trace::{Lock, State};
 use std::alloc::{AllocError, Global};
 use std::marker::Model;
 
-/// What each task holds and where it is, by the task's number, and the dependencies so far.
+/// How much there was when the trace began.
+#[derive(Clone, Copy)]
+struct Begun {
+    /// How many dependencies.
+    edges: usize,
+    /// How many waiting acquisitions had theirs told.
+    told: usize,
+}
+
+/// What each task of a trace holds and where it is, by the task's number, and the dependencies so
+/// far, also of the traces before it.
 ///
 /// Beside them stands a cache: a waiting acquisition whose chain was met before tells nothing anew.
 ///
 /// A call answers `AllocError` where a growth of memory was refused. It may have done a part of its
-/// work then, so the owner gives the whole up.
+/// work then, so the owner takes the trace back, or gives the whole up.
 #[derive(Drop)]
 pub struct Locks<'a> {
     stacks: Stacks<'a>,
     chains: Chains,
     told: Told,
     edges: Edges,
+    begun: Begun,
 }
 
 impl<'a> Model for Locks<'a> {
-    ghost use Rattle.ld_held.specs.Inner.Locks.{AreTied, HeldByTasks, held_by_tasks};
+    ghost use Rattle.std.specs.Prelude.{take};
+    ghost use Rattle.ld_held.specs.Inner.Locks.{HeldByTasks};
 
     ghost Value = { HeldByTasks };
 
-    ghost view = { λ l. held_by_tasks l.stacks l.edges };
+    ghost use Rattle.ld_held.specs.Inner.Locks.{IsKept, held_by_tasks};
 
-    ghost invariant = { λ l. AreTied l.stacks l.chains l.told l.edges };
+    ghost view = { λ l. held_by_tasks l.stacks l.edges (take l.begun.edges l.edges) };
+
+    ghost invariant = { λ l. IsKept l.stacks l.chains l.told l.edges l.begun };
 }
 
 impl<'a> Locks<'a> {
     /// No task. Takes no memory.
     pub fn new(alloc: Global) -> Locks<'a>
-        ensures { result ≡ record { stacks = []; interrupts = []; edges = [] } }
+        ensures { result ≡ record { stacks = []; interrupts = []; edges = []; begun = [] } }
     {
         Locks {
             stacks: Stacks::new(alloc),
             chains: Chains::new(alloc),
             told: Told::new(alloc),
             edges: Edges::new(alloc),
+            begun: Begun { edges: 0, told: 0 },
         }
+    }
+
+    /// A trace begins, with no task, on top of the dependencies that are there.
+    pub fn begin(&mut self)
+        ensures { self.new ≡ record {
+          stacks = [];
+          interrupts = [];
+          edges = self.old.edges;
+          begun = self.old.edges;
+        } }
+    {
+        self.stacks.begin();
+        self.begun = Begun {
+            edges: self.edges.as_slice().len(),
+            told: self.told.len(),
+        };
+    }
+
+    /// All is again as when the trace began, with no task.
+    pub fn undo(&mut self)
+        ensures { self.new ≡ record {
+          stacks = [];
+          interrupts = [];
+          edges = self.old.begun;
+          begun = self.old.begun;
+        } }
+    {
+        self.stacks.begin();
+        self.edges.cut(self.begun.edges);
+        self.told.cut(self.begun.told);
     }
 
     /// One more task, which holds nothing and is outside frames.
     pub fn grow(&mut self) -> Result<(), AllocError>
-        ensures { OnOk result (self.new ≡ record self.old {
+        ensures begun { self.new.begun ≡ self.old.begun }
+        ensures grown { OnOk result (self.new ≡ record self.old {
           stacks = self.old.stacks ++ [] ∷ [];
           interrupts = self.old.interrupts ++ fresh ∷ [];
         }) }
@@ -91,7 +137,8 @@ impl<'a> Locks<'a> {
     /// its innermost frame.
     pub fn tell(&mut self, task: u32, class: u32, line: u64) -> Result<(), AllocError>
         requires { task < length self.old.stacks }
-        ensures { OnOk result (self.new ≡ record self.old {
+        ensures begun { self.new.begun ≡ self.old.begun }
+        ensures told { OnOk result (self.new ≡ record self.old {
           edges = fold with_edge_fact self.old.edges
               (map (edge_to class line) (map (λ hold. hold.class) (inner_of self.old task)));
         }) }
@@ -110,7 +157,8 @@ impl<'a> Locks<'a> {
     pub fn hold(&mut self, task: u32, lock: Lock<'a>, class: u32) -> Result<(), AllocError>
         requires task { task < length self.old.stacks }
         requires room { length (slice_index_or self.old.stacks task []) < MOST_HELD }
-        ensures { OnOk result (self.new ≡ record self.old {
+        ensures begun { self.new.begun ≡ self.old.begun }
+        ensures held { OnOk result (self.new ≡ record self.old {
           stacks = slice_set self.old.stacks task (slice_index_or self.old.stacks task []
               ++ record { lock = plain_lock lock.entry; class = class } ∷ []);
         }) }
@@ -126,7 +174,8 @@ impl<'a> Locks<'a> {
         requires task { task < length self.old.stacks }
         requires room { length (slice_index_or self.old.stacks task []) + length locks.now
             ≤ MOST_HELD }
-        ensures { OnOk result (self.new ≡ record self.old {
+        ensures begun { self.new.begun ≡ self.old.begun }
+        ensures held { OnOk result (self.new ≡ record self.old {
           stacks = slice_set self.old.stacks task
               (slice_index_or self.old.stacks task [] ++ holds_of locks.now);
         }) }
@@ -141,6 +190,7 @@ impl<'a> Locks<'a> {
     /// whether there was one.
     pub fn let_go(&mut self, task: u32, lock: Lock<'a>) -> Result<bool, AllocError>
         requires { task < length self.old.stacks }
+        ensures begun { self.new.begun ≡ self.old.begun }
         ensures held { IfOk result (λ was.
             was ≡ list_any (is_of (plain_lock lock.entry)) (inner_of self.old task)) }
         ensures stacks { OnOk result (self.new ≡ record self.old {

@@ -1,6 +1,6 @@
 //! The usage bits of a trace's numbered classes.
-ghost use Rattle.std.specs.Prelude.{◌≡◌, ◌<◌, ℕ, [], ◌∷◌, fold, map, slice_index_or, vec_len};
-ghost use Rattle.std.specs.Prelude.{OnErr, OnOk};
+ghost use Rattle.std.specs.Prelude.{◌≡◌, ◌<◌, ◌-◌, ℕ, [], ◌∷◌, fold, length, map, slice_index_or, take};
+ghost use Rattle.std.specs.Prelude.{vec_len, OnErr, OnOk};
 ghost use Rattle.ld_class.specs.Usage.{no_bits};
 ghost use Rattle.ld_rules.specs.Usage.{IsBit};
 ghost use Rattle.ld_held.specs.Inner.Uses.{in_facts, on_facts, told, with_use};
@@ -73,7 +73,9 @@ impl Uses {
         interrupts: Interrupts,
         line: u64,
     ) -> Result<(), AllocError>
-        ensures { OnOk result (self.new ≡ fold with_use self.old (in_facts interrupts line class)) }
+        ensures uses { OnOk result
+            (self.new ≡ fold with_use self.old (in_facts interrupts line class)) }
+        ensures first { take (length self.old) self.new ≡ self.old }
     {
         // The outermost frame first: a hard one lies over a soft one.
         if interrupts.has(State::Soft) {
@@ -95,8 +97,9 @@ impl Uses {
         interrupts: Interrupts,
         line: u64,
     ) -> Result<(), AllocError>
-        ensures { OnOk result
+        ensures uses { OnOk result
             (self.new ≡ fold with_use self.old (on_facts interrupts line (class ∷ []))) }
+        ensures first { take (length self.old) self.new ≡ self.old }
     {
         if interrupts.is_enabled(State::Hard) {
             let bit = Usage::ON_HARD;
@@ -117,8 +120,9 @@ impl Uses {
         interrupts: Interrupts,
         line: u64,
     ) -> Result<(), AllocError>
-        ensures { OnOk result (self.new ≡ fold with_use self.old
+        ensures uses { OnOk result (self.new ≡ fold with_use self.old
             (on_facts interrupts line (map (λ held. held.class) stack.now))) }
+        ensures first { take (length self.old) self.new ≡ self.old }
     {
         if interrupts.is_enabled(State::Hard) {
             self.add_each(stack, Usage::ON_HARD, line)?;
@@ -129,11 +133,30 @@ impl Uses {
         Ok(())
     }
 
+    /// Keeps the first `count` of the bits.
+    pub fn cut(&mut self, count: usize)
+        ensures { self.new ≡ take count self.old }
+    {
+        while count < self.facts.len() {
+            self.drop_last();
+        }
+    }
+
+    /// Takes away the bit that came last, where there is one.
+    fn drop_last(&mut self)
+        ensures { self.new ≡ take (length self.old - 1) self.old }
+    {
+        if let Some(fact) = self.facts.pop() {
+            self.known[fact.class as usize].remove(fact.bit);
+        }
+    }
+
     /// Adds a bit of the class of each lock, where it isn't there yet.
     fn add_each(&mut self, stack: &[Held<'_>], bit: Usage, line: u64) -> Result<(), AllocError>
         requires { IsBit bit }
-        ensures { OnOk result (self.new ≡ fold with_use self.old
+        ensures uses { OnOk result (self.new ≡ fold with_use self.old
             (map (told bit line) (map (λ held. held.class) stack.now))) }
+        ensures first { take (length self.old) self.new ≡ self.old }
     {
         for held in stack {
             let class = held.class;
@@ -147,6 +170,7 @@ impl Uses {
         requires { IsBit fact.bit }
         ensures added { OnOk result (self.new ≡ with_use self.old fact) }
         ensures refused { OnErr result (self.new ≡ self.old) }
+        ensures first { take (length self.old) self.new ≡ self.old }
     {
         reach(&mut self.known, fact.class)?;
         let class = fact.class as usize;

@@ -1,14 +1,16 @@
 -- The elements of a list with their places, and the list with each element once.
 use Rattle.std.proofs.Common.{◌≡◌, ◌<◌, ◌≤◌, ◌+◌, ◌++◌, ◌∷◌, [], List, ℕ, suc, Bool, true, false, ◌||◌, cond, length, take, map, flat_map, filter_map}
 use Rattle.std.proofs.Common.{Option, Some, None, refl, ap, sym, subst, ◌∙◌, arith, if◌then◌else◌, append_assoc}
-use Rattle.std.proofs.lemmas.Bool.{true≢false, and_parts}
+use Rattle.std.proofs.lemmas.Bool.{true≢false, and_parts, or_left, or_right}
 use Rattle.std.proofs.lemmas.List.{take-append-le, take_at, append-nil}
 use Rattle.std.proofs.lemmas.List.Elements.{filter_map-append}
 use Rattle.std.proofs.lemmas.List.Folds.{list_any-append, find-append}
+use Rattle.std.proofs.lemmas.List.Sums.{fold-append}
 use Rattle.std.specs.Bool.{Decides}
 use Rattle.std.specs.List.{cons_option, enumerate_from, find, fold, last_or, list_all, list_any}
 use Rattle.std.specs.Option.{option_or}
 use Rattle.ld_rules.specs.Outcome.{each_once}
+use Rattle.ld_rules.specs.Inner.Scanned.{with_new}
 
 or_false : (b : Bool) → (b || false) ≡ b
 or_false true = refl
@@ -27,9 +29,14 @@ found_where_any p (x ∷ xs) o there = by (p x) refl (found_where_any p xs o)
     by true is rest = refl
     by false is rest = rest (ap (λ b. b || list_any p xs) (sym is) ∙ there)
 
--- the list, with y at its end where nothing the same is there
-abbrev pub with_new : {X : Type 0} → (X → X → Bool) → List X → X → List X
-with_new same xs y = xs ++ (if list_any (same y) xs then [] else y ∷ [])
+module _ {X : Type 0} (same : X → X → Bool) (p : X → Bool) where
+  -- what is there stays
+  pub any_with_new : (known : List X) (y : X) → list_any p known ≡ true → list_any p (with_new same known y) ≡ true
+  any_with_new known y there = list_any-append p known (if list_any (same y) known then [] else y ∷ []) ∙ or_left (list_any p known) (list_any p (if list_any (same y) known then [] else y ∷ [])) there
+
+  pub any_with_all : (known ys : List X) → list_any p known ≡ true → list_any p (fold (with_new same) known ys) ≡ true
+  any_with_all known [] there = there
+  any_with_all known (y ∷ ys) there = any_with_all (with_new same known y) ys (any_with_new known y there)
 
 -- where all are there, nothing is added
 pub all_known : {X : Type 0} (same : X → X → Bool) (xs ys : List X) → list_all (λ y. list_any (same y) xs) ys ≡ true → fold (with_new same) xs ys ≡ xs
@@ -145,6 +152,31 @@ module _ {X : Type 0} (same : X → X → Bool) (alike : (x y : X) → same x y 
   pub each_once-append : (xs ys : List X) → each_once same (xs ++ ys) ≡ fold (with_new same) (each_once same xs) ys
   each_once-append xs [] = ap (each_once same) (append-nil xs)
   each_once-append xs (y ∷ ys) = ap (each_once same) (sym (append_assoc xs (y ∷ []) ys)) ∙ each_once-append (xs ++ y ∷ []) ys ∙ ap (λ zs. fold (with_new same) zs ys) (each_once-more xs y)
+
+  -- what is among the elements that are added is there then
+  pub any_of_added : (x : X) (known ys : List X) → list_any (same x) ys ≡ true → list_any (same x) (fold (with_new same) known ys) ≡ true
+  any_of_added x known [] there = absurd (true≢false (sym there))
+  any_of_added x known (y ∷ ys) there = by (same x y) refl (any_of_added x (with_new same known y) ys)
+    where
+      added : (b : Bool) → list_any (same y) known ≡ b → same x y ≡ true → list_any (same x) (known ++ (if b then [] else y ∷ [])) ≡ true
+      added true is eq = ap (list_any (same x)) (append-nil known) ∙ ap (λ (p : X → Bool). list_any p known) (λ i z. alike x y eq z i) ∙ is
+      added false is eq = list_any-append (same x) known (y ∷ []) ∙ or_right (list_any (same x) known) (same x y || false) (or_left (same x y) false eq)
+
+      by : (b : Bool) → same x y ≡ b → (list_any (same x) ys ≡ true → list_any (same x) (fold (with_new same) (with_new same known y) ys) ≡ true) → list_any
+          (same x) (fold (with_new same) (with_new same known y) ys) ≡ true
+      by true eq rest = any_with_all same (same x) (with_new same known y) ys (added (list_any (same y) known) refl eq)
+      by false eq rest = rest (ap (λ b. b || list_any (same x) ys) (sym eq) ∙ there)
+
+  -- one more among those that are added is one more in the end
+  pub added-more : (known ys : List X) (y : X) → fold (with_new same) known (with_new same ys y) ≡ with_new same (fold (with_new same) known ys) y
+  added-more known ys y = by (list_any (same y) ys) refl
+    where
+      by : (b : Bool) → list_any (same y) ys ≡ b → fold (with_new same) known (ys ++ (if b then [] else y ∷ [])) ≡ with_new same (fold (with_new same) known ys) y
+      by true is =
+          ap (fold (with_new same) known) (append-nil ys)
+          ∙ sym (append-nil (fold (with_new same) known ys))
+          ∙ ap (λ (b : Bool). fold (with_new same) known ys ++ (if b then [] else y ∷ [])) (sym (any_of_added y known ys is))
+      by false is = fold-append (with_new same) known ys (y ∷ [])
 
 -- a test that tells equal elements treats equal ones alike
 pub alike_from_decides : {X : Type 0} (same : X → X → Bool) → ((a b : X) → Decides (same a b) (a ≡ b)) → (x y : X) → same x y ≡ true → (z : X) → same x z ≡ same y z

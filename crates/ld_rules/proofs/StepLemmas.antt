@@ -6,6 +6,7 @@ use Rattle.std.proofs.lemmas.Bool.{lt-ltb, le-ltb}
 use Rattle.std.proofs.lemmas.Bool.Decides.{nat_tests, Decides-and, Decides-like}
 use Rattle.std.proofs.lemmas.List.{append-nil, map-append}
 use Rattle.std.proofs.lemmas.List.Elements.{filter_map-append}
+use Rattle.std.proofs.lemmas.List.Sums.{fold-append}
 use Rattle.std.proofs.lemmas.Slice.Eq.{bytes_eq-Decides}
 use Rattle.std.specs.Bool.{Decides}
 use Rattle.std.specs.List.{cons_option, list_any, position_or_len}
@@ -14,9 +15,9 @@ use Rattle.ld_class.specs.Names.{with_name}
 use Rattle.ld_trace.specs.Events.{PlainEvent, Position}
 use Rattle.ld_rules.specs.Frames.{task_of}
 use Rattle.ld_rules.specs.Outcome.{each_once, class_acquired, tasks, classes, events}
-use Rattle.ld_rules.specs.Dependency.{Dependency, same_dependency, dependencies_at, seen, seen_at}
-use Rattle.ld_rules.specs.Inner.Scanned.{same_dependency_seen}
-use Rattle.ld_rules.proofs.PlaceLemmas.{alike_from_decides, each_once-more, each_once-append, with_new}
+use Rattle.ld_rules.specs.Dependency.{Dependency, Seen, same_dependency, dependencies_at, seen, seen_at}
+use Rattle.ld_rules.specs.Inner.Scanned.{same_dependency_seen, with_new}
+use Rattle.ld_rules.proofs.PlaceLemmas.{added-more, alike_from_decides, by_pushes, each_once-more}
 use Rattle.ld_rules.proofs.OutcomeLemmas.{seen-push}
 
 -- a place is found where an element passes
@@ -30,23 +31,41 @@ found_is_any p (x ∷ xs) = by (p x) (found_is_any p xs)
         let same : ltb (1 + position_or_len p xs) (length (x ∷ xs)) ≡ ltb (position_or_len p xs) (length xs) = grind (arith, nat_tests) in
         same ∙ rest
 
-some_is_any : {X : Type 0} (p : X → Bool) (xs : List X) → is_some (position p xs) ≡ list_any p xs
+pub some_is_any : {X : Type 0} (p : X → Bool) (xs : List X) → is_some (position p xs) ≡ list_any p xs
 some_is_any p xs = by (ltb (position_or_len p xs) (length xs)) ∙ found_is_any p xs
   where
     by : (b : Bool) → is_some (cond b (Some (position_or_len p xs)) None) ≡ b
     by true = refl
     by false = refl
 
+-- one more name, where it isn't there yet
+pub with_new-names : (names : List (List ℕ)) (name : List ℕ) → with_new bytes_eq names name ≡ with_name names name
+with_new-names names name =
+    by (list_any (bytes_eq name) names)
+    ∙ ap (λ (b : Bool). if b then names else names ++ name ∷ []) (sym (some_is_any (bytes_eq name) names))
+  where
+    by : (b : Bool) → names ++ (if b then [] else name ∷ []) ≡ (if b then names else names ++ name ∷ [])
+    by true = append-nil names
+    by false = refl
+
 -- names, each once, with one more
 pub names-more : (names : List (List ℕ)) (name : List ℕ) → each_once bytes_eq (names ++ name ∷ []) ≡ with_name (each_once bytes_eq names) name
-names-more names name =
-    each_once-more bytes_eq (alike_from_decides bytes_eq bytes_eq-Decides) names name
-    ∙ by (list_any (bytes_eq name) (each_once bytes_eq names))
-    ∙ ap (λ (b : Bool). if b then each_once bytes_eq names else each_once bytes_eq names ++ name ∷ []) (sym (some_is_any (bytes_eq name) (each_once bytes_eq names)))
+names-more names name = each_once-more bytes_eq (alike_from_decides bytes_eq bytes_eq-Decides) names name ∙ with_new-names (each_once bytes_eq names) name
+
+-- names that are added to others, with one more
+pub added_names-more : (known names : List (List ℕ)) (name : List ℕ) → fold with_name known (with_name names name) ≡ with_name (fold with_name known names) name
+added_names-more known names name =
+    (λ i. fold (with i) known (with i names name))
+    ∙ added-more bytes_eq (alike_from_decides bytes_eq bytes_eq-Decides) known names name
+    ∙ (λ i. with_new-names (fold (sym with i) known names) name i)
   where
-    by : (b : Bool) → each_once bytes_eq names ++ (if b then [] else name ∷ []) ≡ (if b then each_once bytes_eq names else each_once bytes_eq names ++ name ∷ [])
-    by true = append-nil (each_once bytes_eq names)
-    by false = refl
+    with : with_name ≡ with_new bytes_eq
+    with = (λ i ns n. sym (with_new-names ns n) i)
+
+-- names, each once, are added to none as they stand
+pub added_names-once : (names : List (List ℕ)) → fold with_name [] (each_once bytes_eq names) ≡ each_once bytes_eq names
+added_names-once names = by_pushes (λ ns. fold with_name [] (each_once bytes_eq ns) ≡ each_once bytes_eq ns) refl
+    (λ ns n h. ap (fold with_name []) (names-more ns n) ∙ added_names-more [] (each_once bytes_eq ns) n ∙ ap (λ us. with_name us n) h ∙ sym (names-more ns n)) names
 
 -- the tasks of a trace, with one more event
 pub tasks-push : (past : List PlainEvent) (e : PlainEvent) → tasks (past ++ e ∷ []) ≡ with_name (tasks past) (task_of e)
@@ -66,11 +85,11 @@ pub Decides-same_dependency : (a b : Dependency) → Decides (same_dependency a 
 Decides-same_dependency a b = Decides-like (same_dependency a b) (λ h. λ i. record { from = h.0 i; to = h.1 i }) (λ h. (ap (λ d. d.from) h, ap (λ d. d.to) h))
     (Decides-and (bytes_eq a.from b.from) (bytes_eq a.to b.to) (bytes_eq-Decides a.from b.from) (bytes_eq-Decides a.to b.to))
 
--- the dependencies of a trace, each once with its least line: those of one more position are added where
--- they aren't there yet
-pub dependencies-push : (all : List Position) (p : Position) → each_once same_dependency_seen (seen dependencies_at (all ++ p ∷ [])) ≡ fold (with_new same_dependency_seen)
-    (each_once same_dependency_seen (seen dependencies_at all)) (seen_at dependencies_at (events all) p.line p.says)
-dependencies-push all p =
-    ap (each_once same_dependency_seen) (seen-push dependencies_at all p)
-    ∙ each_once-append same_dependency_seen (λ x y is z. alike_from_decides same_dependency Decides-same_dependency x.what y.what is z.what)
-    (seen dependencies_at all) (seen_at dependencies_at (events all) p.line p.says)
+-- the dependencies of a trace, added to others: those of one more position are added where they aren't
+-- there yet
+pub dependencies-push : (known : List (Seen Dependency)) (all : List Position) (p : Position) → fold (with_new same_dependency_seen) known
+    (seen dependencies_at (all ++ p ∷ [])) ≡ fold (with_new same_dependency_seen) (fold (with_new same_dependency_seen) known (seen dependencies_at all))
+    (seen_at dependencies_at (events all) p.line p.says)
+dependencies-push known all p =
+    ap (fold (with_new same_dependency_seen) known) (seen-push dependencies_at all p)
+    ∙ fold-append (with_new same_dependency_seen) known (seen dependencies_at all) (seen_at dependencies_at (events all) p.line p.says)

@@ -22,13 +22,13 @@ use Rattle.ld_rules.specs.Frames.{task_of, contexts, frame_of}
 use Rattle.ld_rules.specs.Inner.Levels.{is_interrupt}
 use Rattle.ld_rules.specs.Held.{Key, held, held_by, lock_acquired, same_key}
 use Rattle.ld_rules.specs.Flags.{same_state, is_enabled}
-use Rattle.ld_rules.specs.Outcome.{each_once, events}
+use Rattle.ld_rules.specs.Outcome.{events}
 use Rattle.ld_rules.specs.Dependency.{Seen, seen_at, seen}
 use Rattle.ld_rules.specs.Usage.{Bit, same_bit, Use, same_use, in_uses, on_uses, uses_at}
 use Rattle.ld_rules.specs.Usage.Bit.{In, On}
-use Rattle.ld_rules.specs.Inner.Scanned.{same_use_seen}
+use Rattle.ld_rules.specs.Inner.Scanned.{same_use_seen, with_new}
 use Rattle.ld_rules.proofs.RemoveLemmas.{filter-remove_other, list_all-remove_last}
-use Rattle.ld_rules.proofs.PlaceLemmas.{with_new, all_known, by_pushes, each_once-append, any_each_once}
+use Rattle.ld_rules.proofs.PlaceLemmas.{all_known, any_of_added, any_with_all, any_with_new, by_pushes}
 use Rattle.ld_rules.proofs.FrameLemmas.{contexts-other}
 use Rattle.ld_rules.proofs.HeldLemmas.{Decides-same_key, held-acquires, held-releases, held-other, held_by-acquires, held_by-releases, held_by-other}
 use Rattle.ld_rules.proofs.OutcomeLemmas.{events-push, seen-push}
@@ -71,14 +71,6 @@ filter_where t q false same (x ∷ xs) = by (filter_where t q false same xs) (t 
     by rest false is = rest
 
 -- The list with each that is new.
-
-module _ {Y : Type 0} (same : Y → Y → Bool) (p : Y → Bool) where
-  pub any_with_new : (known : List Y) (y : Y) → list_any p known ≡ true → list_any p (with_new same known y) ≡ true
-  any_with_new known y there = list_any-append p known (if list_any (same y) known then [] else y ∷ []) ∙ or_left (list_any p known) (list_any p (if list_any (same y) known then [] else y ∷ [])) there
-
-  pub any_with_all : (known ys : List Y) → list_any p known ≡ true → list_any p (fold (with_new same) known ys) ≡ true
-  any_with_all known [] there = there
-  any_with_all known (y ∷ ys) there = any_with_all (with_new same known y) ys (any_with_new known y there)
 
 or_more : (a b c d : Bool) → (c ≡ true → d ≡ true) → (a || (b || c)) ≡ true → (a || (b || d)) ≡ true
 or_more true b c d more h = refl
@@ -429,13 +421,13 @@ on_uses-seen state all = by_pushes (λ ps. list_all (is_known (seen uses_at ps))
             (list_any-map (at_line p.line) (λ s. same_use u s.what) (uses_at (events ps) e) ∙ there))
             (on_uses (events ps ++ e ∷ []) state) (on_uses_within (events ps) e state)
 
--- the uses seen, each once, in order of first line
-abbrev pub uses_once : List Position → List (Seen Use)
-uses_once all = each_once same_use_seen (seen uses_at all)
+-- the uses seen, each added to these where it isn't there yet, in order of first line
+abbrev pub uses_from : List (Seen Use) → List Position → List (Seen Use)
+uses_from known all = fold (with_new same_use_seen) known (seen uses_at all)
 
-pub on_uses-once : (state : State) (all : List Position) → list_all (is_known (uses_once all)) (on_uses (events all) state) ≡ true
-on_uses-once state all = list_all_mono (is_known (seen uses_at all)) (is_known (uses_once all))
-    (λ u there. any_each_once same_use_seen same_use_seen-alike (at_line 0 u) (seen uses_at all) ∙ there) (on_uses (events all) state) (on_uses-seen state all)
+pub on_uses-from : (known : List (Seen Use)) (state : State) (all : List Position) → list_all (is_known (uses_from known all)) (on_uses (events all) state) ≡ true
+on_uses-from known state all = list_all_mono (is_known (seen uses_at all)) (is_known (uses_from known all))
+    (λ u there. any_of_added same_use_seen same_use_seen-alike (at_line 0 u) known (seen uses_at all) there) (on_uses (events all) state) (on_uses-seen state all)
 
 -- What one more position adds: of the uses that it may newly show those that aren't there yet, with its
 -- line.
@@ -443,12 +435,13 @@ abbrev pub with_said_new : List (Seen Use) → List PlainEvent → ℕ → Resul
 with_said_new known past line (Ok event) = with_uses line known (new_uses_at past event)
 with_said_new known past line (Err fault) = known
 
-pub uses_once-push_new : (all : List Position) (p : Position) → uses_once (all ++ p ∷ []) ≡ with_said_new (uses_once all) (events all) p.line p.says
-uses_once-push_new all p =
-    ap (each_once same_use_seen) (seen-push uses_at all p)
-    ∙ each_once-append same_use_seen same_use_seen-alike (seen uses_at all) (seen_at uses_at (events all) p.line p.says)
+pub uses_from-push : (known : List (Seen Use)) (all : List Position) (p : Position) → uses_from known (all ++ p ∷ []) ≡ with_said_new (uses_from known all) (events all) p.line p.says
+uses_from-push known all p =
+    ap (fold (with_new same_use_seen) known) (seen-push uses_at all p)
+    ∙ fold-append (with_new same_use_seen) known (seen uses_at all) (seen_at uses_at (events all) p.line p.says)
     ∙ by p.says
   where
-    by : (says : Result PlainEvent LineFault) → fold (with_new same_use_seen) (uses_once all) (seen_at uses_at (events all) p.line says) ≡ with_said_new (uses_once all) (events all) p.line says
-    by (Ok e) = with_new_uses_at (events all) e p.line (uses_once all) (λ state. on_uses-once state all)
+    by : (says : Result PlainEvent LineFault) → fold (with_new same_use_seen) (uses_from known all) (seen_at uses_at (events all) p.line says) ≡ with_said_new
+        (uses_from known all) (events all) p.line says
+    by (Ok e) = with_new_uses_at (events all) e p.line (uses_from known all) (λ state. on_uses-from known state all)
     by (Err fault) = refl

@@ -22,7 +22,7 @@ pub enum TraceFault {
     TooManyClasses,
     /// An `acquire` or `try` by a task that holds 48 locks over all its frames.
     TooDeep,
-    /// A `release` whose key has no open acquisition.
+    /// A `release` of a lock that the task doesn't hold in its innermost frame.
     NotHeld,
     /// An `enter hard` with a hard frame open, or an `enter soft` with any frame open.
     BadNest,

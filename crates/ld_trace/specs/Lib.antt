@@ -1,4 +1,5 @@
 pub mod Lines
 pub mod Sources
 pub mod Events
+pub mod First
 pub mod Inner

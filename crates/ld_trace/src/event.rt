@@ -80,7 +80,7 @@ enum Verb {
 
 /// A verb that takes a task and a lock.
 #[derive(Clone, Copy)]
-enum LockVerb {
+pub enum LockVerb {
     Acquire,
     Try,
     Release,

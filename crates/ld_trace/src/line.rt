@@ -102,7 +102,7 @@ pub fn is_word(field: &[u8]) -> bool
 }
 
 /// Whether a byte stands in words and not in names.
-fn is_separator(byte: u8) -> bool
+pub fn is_separator(byte: u8) -> bool
     ensures { result ≡ is_separator byte }
 {
     byte == b'@' || byte == b'/'

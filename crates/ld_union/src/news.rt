@@ -1,4 +1,4 @@
-//! What one more trace showed for the first time.
+//! What the batch that was added last showed for the first time.
 ghost use Rattle.std.specs.Prelude.{◌≡◌, [], OnErr, OnOk, vec_len, vec_capacity};
 ghost use Rattle.ld_union.specs.Inner.States.{of_state};
 

@@ -43,8 +43,11 @@ impl From<AllocError> for WorkFault {
     }
 }
 
-/// How many traces a worker reads before it hands them on together.
+/// How many traces a worker reads at most before it hands them on together.
 const MOST_IN_BATCH: usize = 8;
+
+// No clause cites the constant, so all would hold with any other number.
+const _: () = prove!(MOST_IN_BATCH == 1 << 3);
 
 /// What a worker begins with.
 #[derive(Drop)]
@@ -58,7 +61,7 @@ struct Job<T: Ledger, E: Ledger> {
 #[derive(Drop)]
 struct Done<T: Ledger, E: Ledger> {
     feeder: Feeder<T, E>,
-    /// A growth of memory was refused, and the worker ended before its last trace.
+    /// A growth of memory was refused: the worker drew no more, and what its batch had isn't in the book.
     refused: bool,
 }
 

@@ -6,13 +6,15 @@ use crate::desks::{tally, totals, totals_of};
 use crate::tests::{sources_of, witness};
 use ld_book::{Batch, BatchRefusal};
 use ld_trace::Source;
-use ld_work::{Desk, Feeder, NoGate, work};
+use ld_work::{Desk, Feeder, Gate, NoGate, work};
 use std::alloc::Global;
 use std::marker::Brand;
 use std::process::Abort;
 use std::sync::Wait;
+use std::sync::atomic::{AtomicU64, Ordering};
 use std::sync::ledger::{Blank, Ledger};
 use std::test::Fail;
+use std::thread;
 
 /// Two traces of one label that show the same.
 const SAME_LABEL: &[u8] = b"trace d\nacquire t A\nacquire t B\ntrace d\nacquire t A\nacquire t B\n";
@@ -150,5 +152,55 @@ fn workers_read_more_than_a_batch(rt: HostRuntime) -> Result<(), Fail> {
         assert_eq!(rt; book.edge(b"A", b"B"), witness(0, 3));
         drop(book);
     }
+    Ok(())
+}
+
+/// Holds the worker that reads the first trace until the other one has come to number 12, and that one until
+/// all numbers were drawn.
+#[derive(Drop)]
+struct InTurn {
+    came: AtomicU64,
+}
+
+impl Gate for InTurn {
+    fn pass(&self, _worker: u64, number: u64) {
+        if number > 20 {
+            return;
+        }
+        self.came.fetch_add(1, Ordering::SeqCst);
+        let awaited = match number {
+            0 => 13,
+            12 => 21,
+            _ => 0,
+        };
+        for _ in 0..10_000_000u64 {
+            if self.came.load(Ordering::SeqCst) >= awaited {
+                return;
+            }
+            thread::yield_now();
+        }
+        // Nobody else need wait for those that didn't come.
+        self.came.fetch_add(awaited, Ordering::SeqCst);
+    }
+}
+
+// One worker reads number 0 and waits, the other one reads 1 to 11: it has handed on 1 to 8. Then the first
+// one reads 13 to 20: it has handed on 0 and 13 to 19 when the other one goes on.
+#[test]
+fn eight_traces_are_handed_on_together(rt: HostRuntime) -> Result<(), Fail> {
+    let stream = b"trace a\nacquire t A\nacquire t B\n"
+        .repeat(rt.alloc(), 21)
+        .expect(&rt, "a stream");
+    let sources = sources_of(rt.alloc(), &stream)?;
+    let gate = InTurn {
+        came: AtomicU64::new(0),
+    };
+    let book = work(&rt, rt.alloc(), &sources, 2, &gate).expect(&rt, "a book");
+    assert_eq!(rt; book.totals(), totals(21, 42, 2, 1));
+    let first = [1, 2, 3, 4, 5, 6, 7, 8, 0, 13, 14, 15, 16, 17, 18, 19];
+    for (listed, number) in book.listed().iter().zip(first) {
+        assert_eq!(rt; listed.source.number, number);
+    }
+    drop(book);
     Ok(())
 }

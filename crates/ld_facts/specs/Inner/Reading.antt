@@ -1,8 +1,10 @@
--- What the scan of a trace keeps, against the positions so far. No public contract cites this file.
-use Rattle.std.specs.Prelude.{◌≡◌, ◌<◌, ◌≤◌, ℕ, Bool, true, false, None, Ok, List, [], ◌∷◌, ◌++◌}
-use Rattle.std.specs.Prelude.{All, drop, fold, map, length, slice_index_or, slice_set}
+-- What the scan of a trace keeps, against what it had when the trace began and the positions so far. The
+-- calls of a scan and `read_into` cite this, and no clause of `Facts`.
+use Rattle.std.specs.Prelude.{◌≡◌, ◌<◌, ◌≤◌, ◌+◌, ℕ, None, Ok, List, [], ◌∷◌, ◌++◌}
+use Rattle.std.specs.Prelude.{All, drop, fold, map, length, slice_index_or, slice_set, take}
 use Rattle.std.specs.List.{filter_map, enumerate_from}
-use Rattle.ld_class.specs.Names.{IsNameAt, place_of, with_name}
+use Rattle.ld_class.specs.Names.{AreDistinct, IsNameAt, place_of, with_name}
+use Rattle.ld_class.specs.declared.names.TheConstants.{MOST_NAMES}
 use Rattle.ld_trace.specs.declared.event.State.{State}
 use Rattle.ld_trace.specs.Lines.{lines, text_of}
 use Rattle.ld_trace.specs.Sources.{PlainSource}
@@ -23,9 +25,39 @@ use Rattle.ld_held.specs.Inner.Uses.{in_facts, on_facts, with_use}
 use Rattle.ld_rules.specs.Usage.{uses_at}
 use Rattle.ld_rules.specs.Held.{held_by}
 use Rattle.ld_held.specs.Inner.Locks.{Hold}
-use Rattle.ld_rules.specs.Outcome.{classes, each_once, events, faulty_lines, tasks}
-use Rattle.ld_rules.specs.Dependency.{dependencies_at, seen}
-use Rattle.ld_rules.specs.Inner.Scanned.{same_dependency_seen, same_use_seen}
+use Rattle.ld_rules.specs.Outcome.{classes, events, faulty_lines, tasks}
+use Rattle.ld_rules.specs.Dependency.{Dependency, Seen, dependencies_at, seen}
+use Rattle.ld_rules.specs.Usage.{Use}
+use Rattle.ld_rules.specs.Inner.Scanned.{same_dependency_seen, same_use_seen, with_new}
+
+-- what a scan had when its trace began: classes, and by their names dependencies and usage bits, each
+-- with the line at which it was told
+pub record Start : Type 0 where
+  pub classes : List (List ℕ)
+  pub edges : List (Seen Dependency)
+  pub uses : List (Seen Use)
+
+abbrev pub no_start : Start
+no_start = record { classes = []; edges = []; uses = [] }
+
+-- what is there after these positions: what they show is added, where it isn't there yet
+
+abbrev pub classes_after : Start → List PlainEvent → List (List ℕ)
+classes_after start past = fold with_name start.classes (classes past)
+
+abbrev pub edges_after : Start → List Position → List (Seen Dependency)
+edges_after start all = fold (with_new same_dependency_seen) start.edges (seen dependencies_at all)
+
+abbrev pub uses_after : Start → List Position → List (Seen Use)
+uses_after start all = fold (with_new same_use_seen) start.uses (seen uses_at all)
+
+-- the names of the classes with these numbers
+abbrev pub names_at : List (List ℕ) → List ℕ → List (List ℕ)
+names_at names numbers = map (λ n. slice_index_or names n []) numbers
+
+-- the trace's own classes
+abbrev pub own_names : Scan → List (List ℕ)
+own_names scan = names_at scan.classes scan.own
 
 -- the numbers of a dependency's classes are numbers of classes
 abbrev pub IsWithin : List (List ℕ) → EdgeFact → Type 0
@@ -40,29 +72,69 @@ pub record IsTask (names : List (List ℕ)) (stack : List Hold) (interrupts : In
   pub starts : starts_of interrupts ≡ starts past task
   pub levels : (state : State) → levels_of state interrupts ≡ levels past task state
 
--- each task has its stack, and its frames and flags
+-- each task has its stack, and its frames and flags; the trace's own classes are among the classes, and
+-- there are numbers for as many as it may have
 abbrev pub AreMany : Scan → Type 0
 AreMany scan =
     (length scan.locks.stacks ≡ length scan.tasks)
     × (length scan.locks.interrupts ≡ length scan.tasks)
+    × All (λ class. class < length scan.classes) scan.own
+    × (length scan.classes + MOST_CLASSES ≤ MOST_NAMES + length scan.own)
 
--- the scan is what these positions leave, none of which has a fault
-pub record IsAt (all : List Position) (scan : Scan) : Type 0 where
+-- on top of what it had, the scan is what these positions leave, none of which has a fault
+pub record IsAt (start : Start) (all : List Position) (scan : Scan) : Type 0 where
   pub clean : faulty_lines all ≡ []
   pub tasks : scan.tasks ≡ tasks (events all)
-  pub classes : scan.classes ≡ classes (events all)
+  pub names : scan.classes ≡ classes_after start (events all)
+  pub distinct : AreDistinct scan.classes
+  pub own : own_names scan ≡ classes (events all)
   pub few_tasks : length scan.tasks ≤ MOST_TASKS
-  pub few_classes : length scan.classes ≤ MOST_CLASSES
+  pub few_classes : length scan.own ≤ MOST_CLASSES
   pub many : AreMany scan
   pub each : (id : ℕ) (name : List ℕ) → IsNameAt scan.tasks id name
       → IsTask scan.classes (slice_index_or scan.locks.stacks id [])
       (slice_index_or scan.locks.interrupts id fresh) (events all) name
   pub shallow : (id : ℕ) → length (slice_index_or scan.locks.stacks id []) ≤ MOST_HELD
-  pub edges :
-      map (named scan.classes) scan.locks.edges ≡ each_once same_dependency_seen (seen dependencies_at all)
+  pub edges : map (named scan.classes) scan.locks.edges ≡ edges_after start all
   pub within : All (IsWithin scan.classes) scan.locks.edges
-  pub uses : map (named_use scan.classes) scan.uses ≡ each_once same_use_seen (seen uses_at all)
+  pub uses : map (named_use scan.classes) scan.uses ≡ uses_after start all
   pub used : All (IsUse scan.classes) scan.uses
+
+-- a scan before the first trace
+abbrev pub empty_scan : Scan
+empty_scan = record {
+  tasks = [];
+  classes = [];
+  own = [];
+  locks = record { stacks = []; interrupts = []; edges = []; begun = [] };
+  uses = [];
+}
+
+-- what a scan has, as the start of another trace
+abbrev pub start_of : Scan → Start
+start_of scan = record {
+  classes = scan.classes;
+  edges = map (named scan.classes) scan.locks.edges;
+  uses = map (named_use scan.classes) scan.uses;
+}
+
+-- the scan when another trace begins on top of what it has
+abbrev pub begun : Scan → Scan
+begun scan = record scan {
+  tasks = [];
+  own = [];
+  locks = record { stacks = []; interrupts = []; edges = scan.locks.edges; begun = scan.locks.edges };
+}
+
+-- the scan without what its trace added, where it had so many classes and usage bits when that began
+abbrev pub undone : Scan → ℕ → ℕ → Scan
+undone scan classes uses = record {
+  tasks = [];
+  classes = take classes scan.classes;
+  own = [];
+  locks = record { stacks = []; interrupts = []; edges = scan.locks.begun; begun = scan.locks.begun };
+  uses = take uses scan.uses;
+}
 
 -- the task has this number now, and all else is as before
 pub record HasTask (old : Scan) (name : List ℕ) (id : ℕ) (new : Scan) : Type 0 where
@@ -71,6 +143,7 @@ pub record HasTask (old : Scan) (name : List ℕ) (id : ℕ) (new : Scan) : Type
   pub fits : place_of old.tasks name ≡ None → length old.tasks < MOST_TASKS
   pub many : AreMany new
   pub classes : new.classes ≡ old.classes
+  pub own : new.own ≡ old.own
   pub stacks : (k : ℕ) → slice_index_or new.locks.stacks k [] ≡ slice_index_or old.locks.stacks k []
   pub interrupts : (k : ℕ)
       → slice_index_or new.locks.interrupts k fresh ≡ slice_index_or old.locks.interrupts k fresh
@@ -116,10 +189,10 @@ abbrev pub positions_from : ℕ → List ℕ → List Position
 positions_from line bytes =
     filter_map (λ p. position_of p.0 (said_by (text_of p.1))) (enumerate_from line (lines bytes))
 
--- the positions before these lines, and the scan that they leave
-pub record IsReadTo (source : PlainSource) (line : ℕ) (rest : List ℕ) (scan : Scan)
+-- the positions before these lines, and the scan that they leave where it began as another
+pub record IsReadTo (source : PlainSource) (line : ℕ) (rest : List ℕ) (old scan : Scan)
     (count : ℕ) : Type 0 where
   pub before : List Position
   pub whole : positions source ≡ before ++ positions_from line rest
-  pub scanned : IsAt before scan
+  pub scanned : (start : Start) → IsAt start [] old → IsAt start before scan
   pub counted : count ≡ length before

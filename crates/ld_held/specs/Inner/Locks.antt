@@ -12,6 +12,7 @@ use Rattle.ld_rules.specs.Held.{same_lock}
 use Rattle.ld_held.specs.Inner.Interrupts.{fresh, start_now, starts_of}
 use Rattle.ld_held.specs.Inner.Stacks.{PlainHeld, PlainStack, empty_stack, plain_held}
 use Rattle.ld_held.specs.declared.held.Held.{Held}
+use Rattle.ld_held.specs.declared.locks.Begun.{Begun}
 use Rattle.ld_held.specs.declared.interrupts.Interrupts.{Interrupts}
 
 -- a lock that a task holds, and the number of its class
@@ -23,17 +24,19 @@ abbrev pub hold_of : PlainHeld → Hold
 hold_of held = record { lock = held.lock; class = held.class }
 
 -- by the numbers of the tasks, what each holds in all its frames, in order of acquisition, and its
--- frames and flags; and the dependencies so far
+-- frames and flags; and the dependencies so far, and those that there were when the trace began
 pub record HeldByTasks : Type 0 where
   pub stacks : List (List Hold)
   pub interrupts : List Interrupts
   pub edges : List EdgeFact
+  pub begun : List EdgeFact
 
-abbrev pub held_by_tasks : List PlainStack → List EdgeFact → HeldByTasks
-held_by_tasks stacks edges = record {
+abbrev pub held_by_tasks : List PlainStack → List EdgeFact → List EdgeFact → HeldByTasks
+held_by_tasks stacks edges begun = record {
   stacks = map (λ stack. map hold_of stack.held) stacks;
   interrupts = map (λ stack. stack.interrupts) stacks;
   edges = edges;
+  begun = begun;
 }
 
 -- what the task holds in its innermost frame, and what it holds in the frames around it
@@ -51,6 +54,7 @@ outer_of known task =
 pub record ChangesInterrupts (old new : HeldByTasks) (task : ℕ) : Type 0 where
   pub stacks : new.stacks ≡ old.stacks
   pub edges : new.edges ≡ old.edges
+  pub begun : new.begun ≡ old.begun
   pub many : length new.interrupts ≡ length old.interrupts
   pub others : (k : ℕ) → (k ≡ task → ⊥)
       → slice_index_or new.interrupts k fresh ≡ slice_index_or old.interrupts k fresh
@@ -103,6 +107,19 @@ pub record AreTied (stacks : List PlainStack) (chains : List (List ℕ)) (told :
       → AreChainedIn chains (slice_index_or stacks task empty_stack).held
       (starts_of (slice_index_or stacks task empty_stack).interrupts)
   pub complete : All (λ link. HasItsEdges chains edges link) told
+
+-- of what was there when the trace began, the dependencies of each acquisition are there too
+pub record IsBegun (begun : Begun) (chains : List (List ℕ)) (told : List Link)
+    (edges : List EdgeFact) : Type 0 where
+  pub edges_within : begun.edges ≤ length edges
+  pub told_within : begun.told ≤ length told
+  pub complete : All (λ link. HasItsEdges chains (take begun.edges edges) link) (take begun.told told)
+
+-- what ties all that is kept
+pub record IsKept (stacks : List PlainStack) (chains : List (List ℕ)) (told : List Link)
+    (edges : List EdgeFact) (begun : Begun) : Type 0 where
+  pub tied : AreTied stacks chains told edges
+  pub mark : IsBegun begun chains told edges
 
 -- it is of this lock
 abbrev pub is_of : PlainLock → Hold → Bool

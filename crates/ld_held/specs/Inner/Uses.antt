@@ -1,6 +1,6 @@
 -- The usage bits of numbered classes, as the scan keeps them. The calls of ld_held cite it, and nothing that
 -- a caller of ld_facts sees.
-use Rattle.std.specs.Prelude.{ℕ, Bool, ◌&&◌, ◌==◌, List, [], ◌∷◌, ◌++◌, ◌≡◌, map}
+use Rattle.std.specs.Prelude.{ℕ, Bool, false, ◌&&◌, ◌==◌, List, [], ◌∷◌, ◌++◌, ◌≡◌, ◌<◌, length, map, take}
 use Rattle.std.specs.Prelude.{reverse, slice_index_or, if◌then◌else◌}
 use Rattle.std.specs.List.{list_any}
 use Rattle.ld_class.specs.declared.usage.Usage.{Usage}
@@ -9,7 +9,7 @@ use Rattle.ld_trace.specs.declared.event.State.TheVariants.{Hard, Soft}
 use Rattle.ld_held.specs.declared.uses.UsageFact.{UsageFact}
 use Rattle.ld_held.specs.declared.interrupts.Interrupts.{Interrupts}
 use Rattle.ld_held.specs.Inner.Interrupts.{enabled_now, states_of}
-use Rattle.ld_rules.specs.Usage.{Bit, usage_of}
+use Rattle.ld_rules.specs.Usage.{Bit, IsBit, usage_of}
 use Rattle.ld_rules.specs.Usage.Bit.{In, On}
 
 -- the same bit of the same class
@@ -39,9 +39,11 @@ on_facts interrupts line classes =
     map (fact (On Hard) line) (if enabled_now Hard interrupts then classes else [])
     ++ map (fact (On Soft) line) (if enabled_now Soft interrupts then classes else [])
 
--- for each class the set of the bits that stand there
-abbrev pub AreNoted : List UsageFact → List Usage → Type 0
-AreNoted facts known =
-    (class : ℕ) (bit : Bit)
-    → has_bit (slice_index_or known class no_bits) (usage_of bit)
-    ≡ list_any (same_fact (fact bit 0 class)) facts
+-- for each class the set of the bits that stand there, each bit of each class once
+pub record AreNoted (facts : List UsageFact) (known : List Usage) : Type 0 where
+  pub noted : (class : ℕ) (bit : Bit)
+      → has_bit (slice_index_or known class no_bits) (usage_of bit)
+      ≡ list_any (same_fact (fact bit 0 class)) facts
+  pub bits : (i : ℕ) (d : UsageFact) → i < length facts → IsBit (slice_index_or facts i d).bit
+  pub once : (i : ℕ) (d : UsageFact) → i < length facts
+      → list_any (same_fact (slice_index_or facts i d)) (take i facts) ≡ false

@@ -1,6 +1,6 @@
 -- What a scan does to its lists, by what stands at the positions that it has read. No public contract
 -- cites this file.
-use Rattle.std.specs.Prelude.{Bool, List, [], ◌∷◌, cond}
+use Rattle.std.specs.Prelude.{Bool, List, [], ◌∷◌, ◌++◌, cond, if◌then◌else◌}
 use Rattle.std.specs.List.{list_any}
 use Rattle.ld_rules.specs.Dependency.{Dependency, Seen, same_dependency}
 use Rattle.ld_rules.specs.Usage.{Use, same_use}
@@ -9,6 +9,10 @@ use Rattle.ld_rules.specs.Usage.{Use, same_use}
 abbrev pub remove_last : {X : Type 0} → (X → Bool) → List X → List X
 remove_last p [] = []
 remove_last p (x ∷ xs) = cond (list_any p xs) (x ∷ remove_last p xs) (cond (p x) xs (x ∷ xs))
+
+-- the list, with y at its end where nothing the same is there
+abbrev pub with_new : {X : Type 0} → (X → X → Bool) → List X → X → List X
+with_new same xs y = xs ++ (if list_any (same y) xs then [] else y ∷ [])
 
 -- of the same two classes, at whatever line
 abbrev pub same_dependency_seen : Seen Dependency → Seen Dependency → Bool

@@ -1,4 +1,4 @@
--- What one more trace showed for the first time. No contract of a `Book` cites this file.
+-- What the batch that was added last showed for the first time. No contract of a `Book` cites this file.
 use Rattle.std.specs.Prelude.{◌≡◌, ℕ, List, length, take, All, Contains}
 use Rattle.ld_class.specs.declared.usage.Usage.{Usage}
 use Rattle.ld_trace.specs.declared.event.State.{State}

@@ -12,14 +12,15 @@ use Rattle.ld_held.specs.declared.held.Held.{Held}
 use Rattle.ld_rules.specs.declared.outcome.TheConstants.{MOST_CLASSES, MOST_HELD}
 use Rattle.ld_facts.specs.declared.scan.Scan.{Scan}
 use Rattle.ld_held.specs.Inner.Locks.{hold_of}
-use Rattle.ld_facts.specs.Inner.Reading.{IsAt, acquisition, happens, taken}
+use Rattle.ld_facts.specs.Inner.Reading.{IsAt, acquisition, happens, names_at, own_names, taken}
 use Rattle.ld_held.specs.Inner.Stacks.{plain_held}
-use Rattle.ld_facts.proofs.AcquireLemmas.{acquired-at, entered, fault-classes, fault-deep, length-held, tried-at}
+use Rattle.ld_facts.proofs.AcquireFaults.{fault-classes, fault-deep}
+use Rattle.ld_facts.proofs.AcquireLemmas.{acquired-at, entered, length-held, tried-at}
 use Rattle.ld_facts.proofs.scan.Scan.acquire.Goals.{in-Waiting+in_ok-wait-in-Waiting, in-Trying}
 use Rattle.ld_facts.proofs.scan.Scan.acquire.Goals as goal
 
 pub returns-in_err-task-clause-fault : goal.returns-in_err-task-clause-fault
-returns-in_err-task-clause-fault c fault is all is_at =
+returns-in_err-task-clause-fault c fault is start all is_at =
     let h = c.in_err-task.ensures.fault fault in
     let p = err_from_is_err_and c.from_residual.result c.from_residual.ensures.1 in
     let same : c.in_err-task.field-0.0 ≡ Fault fault = cc (p.1, p.2, is) in
@@ -27,21 +28,22 @@ returns-in_err-task-clause-fault c fault is all is_at =
     acquisition_too_many_tasks all c.args.self.now c.args.how c.args.task.now (plain_lock c.args.lock) is_at at.1 at.2 ∙ ap Some (sym at.0)
 
 pub returns-in_err-class-clause-fault : goal.returns-in_err-class-clause-fault
-returns-in_err-class-clause-fault c fault is all is_at =
+returns-in_err-class-clause-fault c fault is start all is_at =
     let p = err_from_is_err_and c.from_residual-in_err-class.result c.from_residual-in_err-class.ensures.1 in
     let stop : p.0 ≡ Fault fault = (let both = sym p.1 ∙ is in cc) in
     let e : c.class.result ≡ Err (Fault fault) = c.in_err-class.was ∙ ap (λ x. Err x) (sym p.2 ∙ stop) in
     let why = c.class.ensures.fault fault e in
-    let same = c.in_ok-task.ensures.task.classes in
-    let new : place_of c.args.self.now.classes c.args.lock.class.now ≡ None = ap (λ names. place_of names c.args.lock.class.now) (sym same) ∙ why.1 in
-    let full : MOST_CLASSES ≤ length c.args.self.now.classes = subst (λ (names : List (List ℕ)). MOST_CLASSES ≤ length names) same why.2 in
-    fault-classes all c.args.self.now is_at c.args.how c.args.task.now (plain_lock c.args.lock) c.in_ok-task.ensures.task.fits new full ∙ ap Some (sym why.0)
+    let has = c.in_ok-task.ensures.task in
+    let new : place_of (own_names c.args.self.now) c.args.lock.class.now ≡ None =
+    (λ i. place_of (names_at (sym has.classes i) (sym has.own i)) c.args.lock.class.now) ∙ why.1 in
+    let full : MOST_CLASSES ≤ length c.args.self.now.own = subst (λ (own : List ℕ). MOST_CLASSES ≤ length own) has.own why.2 in
+    fault-classes all c.args.self.now is_at c.args.how c.args.task.now (plain_lock c.args.lock) has.fits new full ∙ ap Some (sym why.0)
 
 pub returns-then-held-ge-MOST_HELD-clause-fault : goal.returns-then-held-ge-MOST_HELD-clause-fault
-returns-then-held-ge-MOST_HELD-clause-fault c fault is all is_at =
+returns-then-held-ge-MOST_HELD-clause-fault c fault is start all is_at =
     let id = c.in_ok-task.task in
     let enters = entered c.args.self.now c.task.new.self c.class.new.self c.args.task.now c.args.lock.class.now id c.in_ok-class.class
-    c.in_ok-task.ensures.task c.class.ensures.others c.in_ok-class.ensures.classes c.in_ok-class.ensures.place c.in_ok-class.ensures.fits in
+    c.in_ok-task.ensures.task c.class.ensures.others c.in_ok-class.ensures.many c.in_ok-class.ensures.classes c.in_ok-class.ensures.own c.in_ok-class.ensures.place c.in_ok-class.ensures.fits in
     let held = length-held all c.args.self.now is_at c.args.task.now (plain_lock c.args.lock) c.args.line id c.in_ok-class.class c.class.new.self enters in
     let long : length (get_or c.class.new.self.locks.stacks id []) ≡ length c.held.result.now = ap length (sym c.held.ensures) ∙ length-map
     c.held.result.now (λ (held : Held). hold_of (plain_held held)) in
@@ -50,22 +52,23 @@ returns-then-held-ge-MOST_HELD-clause-fault c fault is all is_at =
     (omega (arith, held, long, c.if-held-ge-MOST_HELD.true, ap length (enters.stacks id), is_at.shallow id)) ∙ ap Some same
 
 pub returns-clause-ok : goal.returns-clause-ok
-returns-clause-ok c all is_at =
+returns-clause-ok c start all is_at =
     let id = c.in_ok-task.task in
     let class = c.in_ok-class.class in
     let lock = plain_lock c.args.lock in
     let enters = entered c.args.self.now c.task.new.self c.class.new.self c.args.task.now c.args.lock.class.now id class
-    c.in_ok-task.ensures.task c.class.ensures.others c.in_ok-class.ensures.classes c.in_ok-class.ensures.place c.in_ok-class.ensures.fits in
+    c.in_ok-task.ensures.task c.class.ensures.others c.in_ok-class.ensures.many c.in_ok-class.ensures.classes c.in_ok-class.ensures.own c.in_ok-class.ensures.place c.in_ok-class.ensures.fits in
     let shallow : length (get_or c.class.new.self.locks.stacks id []) < MOST_HELD =
     omega (arith, ap length (sym c.held.ensures), length-map c.held.result.now (λ (held : Held). hold_of (plain_held held)), c.if-held-ge-MOST_HELD.false) in
-    subst (IsAt (all ++ happens c.args.line (acquisition c.args.how c.args.task.now lock) ∷ [])) (sym c.in_ok-take.ensures)
+    subst (IsAt start (all ++ happens c.args.line (acquisition c.args.how c.args.task.now lock) ∷ [])) (sym c.in_ok-take.ensures)
     (elim c.match-how.branch [
       | in-Waiting+in_ok-wait-in-Waiting w ↦
-          subst (λ how. IsAt (all ++ happens c.args.line (acquisition how c.args.task.now lock) ∷ []) (taken c.match-how.self id class lock c.args.line)) (sym w.in-Waiting.is)
-          (subst (λ (scan : Scan). IsAt (all ++ happens c.args.line (Acquire c.args.task.now lock) ∷ []) (taken scan id class lock c.args.line)) (sym (w.self-is ∙ w.in_ok-wait-in-Waiting.ensures))
+          subst (λ how. IsAt start (all ++ happens c.args.line (acquisition how c.args.task.now lock) ∷ []) (taken c.match-how.self id class lock c.args.line)) (sym w.in-Waiting.is)
+          (subst (λ (scan : Scan). IsAt start (all ++ happens c.args.line (Acquire c.args.task.now lock) ∷ []) (taken scan id class lock c.args.line))
+          (sym (w.self-is ∙ w.in_ok-wait-in-Waiting.ensures))
           (acquired-at all c.args.self.now is_at c.args.task.now lock c.args.line id class c.class.new.self enters shallow))
       | in-Trying w ↦
-          subst (λ how. IsAt (all ++ happens c.args.line (acquisition how c.args.task.now lock) ∷ []) (taken c.match-how.self id class lock c.args.line)) (sym w.in-Trying.is)
-          (subst (λ (scan : Scan). IsAt (all ++ happens c.args.line (Try c.args.task.now lock) ∷ []) (taken scan id class lock c.args.line)) (sym w.self-is)
+          subst (λ how. IsAt start (all ++ happens c.args.line (acquisition how c.args.task.now lock) ∷ []) (taken c.match-how.self id class lock c.args.line)) (sym w.in-Trying.is)
+          (subst (λ (scan : Scan). IsAt start (all ++ happens c.args.line (Try c.args.task.now lock) ∷ []) (taken scan id class lock c.args.line)) (sym w.self-is)
           (tried-at all c.args.self.now is_at c.args.task.now lock c.args.line id class c.class.new.self enters shallow))
     ])

@@ -10,9 +10,9 @@ use Rattle.ld_facts.proofs.scan.Scan.count_held.Goals as goal
 
 pub returns : goal.returns
 returns c = on_ok_weaker c.held-2.result
-    (λ counted. ap (λ (uses : List UsageFact). record { tasks = c.args.self.now.tasks; classes = c.args.self.now.classes; locks = c.args.self.now.locks; uses = uses })
+    (λ counted. ap (λ (uses : List UsageFact). record { tasks = c.args.self.now.tasks; classes = c.args.self.now.classes; own = c.args.self.now.own; locks = c.args.self.now.locks; uses = uses })
     (counted ∙ (λ i. fold with_use c.args.self.now.uses (on_facts (c.interrupts-interrupts.ensures i) c.args.line (classes i)))))
-    c.held-2.ensures
+    c.held-2.ensures.uses
   where
     classes : map (λ (held : Held). held.class) c.held.result.now ≡ map (λ (hold : Hold). hold.class) (get_or c.args.self.now.locks.stacks c.args.task [])
     classes = sym (map-map (λ (hold : Hold). hold.class) (λ (held : Held). hold_of (plain_held held)) c.held.result.now) ∙ ap (map (λ hold. hold.class)) c.held.ensures

@@ -18,7 +18,7 @@ use Rattle.ld_facts.proofs.InterruptLemmas.{exit-bad, exit-held, exited-at}
 use Rattle.ld_facts.proofs.scan.Scan.exit.Goals as goal
 
 pub returns-in_err-task-clause-fault : goal.returns-in_err-task-clause-fault
-returns-in_err-task-clause-fault c fault is all is_at =
+returns-in_err-task-clause-fault c fault is start all is_at =
     let h = c.in_err-task.ensures.fault fault in
     let p = err_from_is_err_and c.from_residual.result c.from_residual.ensures.1 in
     let same : c.in_err-task.field-0.0 ≡ Fault fault = cc (p.1, p.2, is) in
@@ -26,14 +26,14 @@ returns-in_err-task-clause-fault c fault is all is_at =
     scan_too_many_tasks all c.args.self.now (Exit c.args.task.now c.args.state) is_at at.1 at.2 ∙ ap Some (sym at.0)
 
 pub returns-then-not-is_innermost-clause-fault : goal.returns-then-not-is_innermost-clause-fault
-returns-then-not-is_innermost-clause-fault c fault is all is_at =
+returns-then-not-is_innermost-clause-fault c fault is start all is_at =
     let same : BadExit ≡ fault = cc in
     let other : is_some_and (same_state c.args.state) (slice_get (states_of (get_or c.task.new.self.locks.interrupts c.in_ok-task.task fresh)) 0) ≡
     false = ap (λ i. is_some_and (same_state c.args.state) (slice_get (states_of i) 0)) (sym c.interrupts-interrupts.ensures) ∙ sym c.is_innermost.ensures ∙ c.if-not-is_innermost.true in
     exit-bad all c.args.self.now is_at c.args.task.now c.in_ok-task.task c.task.new.self c.in_ok-task.ensures.task c.args.state other ∙ ap Some same
 
 pub returns-then-held-start-clause-fault : goal.returns-then-held-start-clause-fault
-returns-then-held-start-clause-fault c fault is all is_at =
+returns-then-held-start-clause-fault c fault is start all is_at =
     let same : HeldAtExit ≡ fault = cc in
     let own : is_some_and (same_state c.args.state) (slice_get (states_of (get_or c.task.new.self.locks.interrupts c.in_ok-task.task fresh)) 0) ≡
     true = ap (λ i. is_some_and (same_state c.args.state) (slice_get (states_of i) 0)) (sym c.interrupts-interrupts.ensures) ∙ sym c.is_innermost.ensures ∙ c.if-not-is_innermost.false in
@@ -45,12 +45,12 @@ returns-then-held-start-clause-fault c fault is all is_at =
     exit-held all c.args.self.now is_at c.args.task.now c.in_ok-task.task c.task.new.self c.in_ok-task.ensures.task c.args.state own more ∙ ap Some same
 
 pub returns-clause-ok : goal.returns-clause-ok
-returns-clause-ok c all is_at =
+returns-clause-ok c began all is_at =
     let own : is_some_and (same_state c.args.state) (slice_get (states_of (get_or c.task.new.self.locks.interrupts c.in_ok-task.task fresh)) 0) ≡
     true = ap (λ i. is_some_and (same_state c.args.state) (slice_get (states_of i) 0)) (sym c.interrupts-interrupts.ensures) ∙ sym c.is_innermost.ensures ∙ c.if-not-is_innermost.false in
     let long : length (get_or c.task.new.self.locks.stacks c.in_ok-task.task []) ≡ length c.held.result.now = ap length (sym c.held.ensures) ∙
     length-map c.held.result.now (λ (held : Held). hold_of (plain_held held)) in
     let start : start_now (get_or c.task.new.self.locks.interrupts c.in_ok-task.task fresh) ≡ c.start.result = ap start_now (sym c.interrupts-interrupts.ensures) ∙ sym c.start.ensures in
-    subst (IsAt (all ++ happens c.args.line (Exit c.args.task.now c.args.state) ∷ [])) (sym c.in_ok-count_held.ensures)
+    subst (IsAt began (all ++ happens c.args.line (Exit c.args.task.now c.args.state) ∷ [])) (sym c.in_ok-count_held.ensures)
     (exited-at all c.args.self.now is_at c.args.task.now c.in_ok-task.task c.task.new.self c.in_ok-task.ensures.task c.args.state c.args.line
     c.exit.new.self own (long ∙ c.if-held-start.false ∙ sym start) c.exit.ensures.moved c.exit.ensures.left)

@@ -11,7 +11,7 @@ use Rattle.ld_facts.proofs.ReleaseLemmas.{release-not_held, release-at}
 use Rattle.ld_facts.proofs.scan.Scan.release.Goals as goal
 
 pub returns-in_err-task-clause-fault : goal.returns-in_err-task-clause-fault
-returns-in_err-task-clause-fault c fault is all is_at =
+returns-in_err-task-clause-fault c fault is start all is_at =
     let h = c.in_err-task.ensures.fault fault in
     let p = err_from_is_err_and c.from_residual.result c.from_residual.ensures.1 in
     let same : c.in_err-task.field-0.0 ≡ Fault fault = cc (p.1, p.2, is) in
@@ -19,14 +19,14 @@ returns-in_err-task-clause-fault c fault is all is_at =
     scan_too_many_tasks all c.args.self.now (Release c.args.task.now (plain_lock c.args.lock)) is_at at.1 at.2 ∙ ap Some (sym at.0)
 
 pub returns-else-branch-clause-fault : goal.returns-else-branch-clause-fault
-returns-else-branch-clause-fault c fault is all is_at =
+returns-else-branch-clause-fault c fault is start all is_at =
     let same : NotHeld ≡ fault = cc in
     release-not_held all c.args.self.now is_at c.args.task.now (plain_lock c.args.lock) c.in_ok-task.task c.task.new.self c.in_ok-task.ensures.task
     (sym c.in_ok-let_go.ensures.held ∙ c.if-branch.false) ∙ ap Some same
 
 pub returns-then-branch-clause-ok : goal.returns-then-branch-clause-ok
-returns-then-branch-clause-ok c all line is_at =
-    subst (λ (locks : HeldByTasks). IsAt (all ++ happens line (Release c.args.task.now (plain_lock c.args.lock)) ∷ [])
-    (record { tasks = c.task.new.self.tasks; classes = c.task.new.self.classes; locks = locks; uses = c.task.new.self.uses })) (sym c.in_ok-let_go.ensures.stacks)
+returns-then-branch-clause-ok c start all line is_at =
+    subst (λ (locks : HeldByTasks). IsAt start (all ++ happens line (Release c.args.task.now (plain_lock c.args.lock)) ∷ [])
+    (record { tasks = c.task.new.self.tasks; classes = c.task.new.self.classes; own = c.task.new.self.own; locks = locks; uses = c.task.new.self.uses })) (sym c.in_ok-let_go.ensures.stacks)
     (release-at all c.args.self.now is_at c.args.task.now (plain_lock c.args.lock) c.in_ok-task.task c.task.new.self c.in_ok-task.ensures.task line
     (sym c.in_ok-let_go.ensures.held ∙ c.if-branch.true))

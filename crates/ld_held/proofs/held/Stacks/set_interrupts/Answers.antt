@@ -5,5 +5,5 @@ use Rattle.ld_held.proofs.held.Stacks.set_interrupts.Goals as goal
 
 pub returns : goal.returns
 returns c =
-    put c.args.self.now c.self.inside.stacks.items c.args.task c.index_mut.result.now _
-    (λ (s : PlainStack). record s { interrupts = c.args.interrupts }) c.self.view_is c.requires c.index_mut.ensures.value refl
+    put c.args.self.now c.self.inside.stacks.items c.self.inside.live c.self.invariant c.self.view_is c.args.task c.requires c.index_mut.result.now c.index_mut.ensures.value _
+    (λ (s : PlainStack). record s { interrupts = c.args.interrupts }) refl

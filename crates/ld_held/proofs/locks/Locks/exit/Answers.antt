@@ -7,14 +7,18 @@ use Rattle.ld_held.proofs.LockLemmas.{chained_left, holds_shown, interrupts_show
 use Rattle.ld_held.proofs.locks.Locks.exit.Goals as goal
 
 pub invariant_of-self : goal.invariant_of-self
-invariant_of-self c =
-    tied_moved c.self.inside.stacks c.args.task c.exit.new.self c.set_interrupts.new.self c.set_interrupts.ensures c.self.inside.chains c.self.inside.told c.self.inside.edges c.self.invariant
-    (within_shown c.self.inside.stacks c.self.inside.edges c.args.self.now c.args.task c.self.view_is c.requires.task)
-    (chained_left c.self.inside.chains (get_or c.self.inside.stacks c.args.task empty_stack).held
-    (get_or c.self.inside.stacks c.args.task empty_stack).interrupts c.interrupts-interrupts.result c.exit.new.self
-    (ap start_now (interrupts_shown c.self.inside.stacks c.self.inside.edges c.args.self.now c.args.task c.self.view_is) ∙ c.requires.empty
-    ∙ sym (ap length (holds_shown c.self.inside.stacks c.self.inside.edges c.args.self.now c.args.task c.self.view_is)) ∙ length-map (get_or c.self.inside.stacks c.args.task empty_stack).held hold_of)
-    c.interrupts-interrupts.ensures c.exit.ensures (c.self.invariant.chained c.args.task))
+invariant_of-self c = record {
+  tied =
+      tied_moved c.self.inside.stacks c.args.task c.exit.new.self c.set_interrupts.new.self c.set_interrupts.ensures c.self.inside.chains c.self.inside.told c.self.inside.edges c.self.invariant.tied
+      (within_shown c.self.inside.stacks c.self.inside.edges c.args.self.now c.args.task c.self.view_is c.requires.task)
+      (chained_left c.self.inside.chains (get_or c.self.inside.stacks c.args.task empty_stack).held
+      (get_or c.self.inside.stacks c.args.task empty_stack).interrupts c.interrupts-interrupts.result c.exit.new.self
+      (ap start_now (interrupts_shown c.self.inside.stacks c.self.inside.edges c.args.self.now c.args.task c.self.view_is) ∙ c.requires.empty
+      ∙ sym (ap length (holds_shown c.self.inside.stacks c.self.inside.edges c.args.self.now c.args.task c.self.view_is))
+      ∙ length-map (get_or c.self.inside.stacks c.args.task empty_stack).held hold_of)
+      c.interrupts-interrupts.ensures c.exit.ensures (c.self.invariant.tied.chained c.args.task));
+  mark = c.self.invariant.mark;
+}
 
 pub returns-clause-moved : goal.returns-clause-moved
 returns-clause-moved c = moved_is c.self.inside.stacks c.args.task c.exit.new.self c.set_interrupts.new.self c.set_interrupts.ensures c.self.inside.edges c.args.self.now c.self.view_is

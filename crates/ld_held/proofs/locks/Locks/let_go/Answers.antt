@@ -15,8 +15,8 @@ use Rattle.ld_held.proofs.LockLemmas.{any_shown, none_gone, removed_some, hold_g
 use Rattle.ld_held.proofs.locks.Locks.let_go.Goals as goal
 
 -- what the search says of the innermost frame, as the fields show it
-module _ (stacks : List PlainStack) (edges : List EdgeFact) (known : HeldByTasks) (task : ℕ) (lock : PlainLock) (held : List Held) (start : ℕ)
-    (is : held_by_tasks stacks edges ≡ known) (same : map plain_held held ≡ (get_or stacks task empty_stack).held) (starts : start ≡ start_now (get_or stacks task empty_stack).interrupts) where
+module _ {begun : List EdgeFact} (stacks : List PlainStack) (edges : List EdgeFact) (known : HeldByTasks) (task : ℕ) (lock : PlainLock) (held : List Held) (start : ℕ)
+    (is : held_by_tasks stacks edges begun ≡ known) (same : map plain_held held ≡ (get_or stacks task empty_stack).held) (starts : start ≡ start_now (get_or stacks task empty_stack).interrupts) where
   abbrev stack : PlainStack
   stack = get_or stacks task empty_stack
 
@@ -98,26 +98,32 @@ returns-in_default-clause-stacks c =
     c.start-start.result c.self.view_is c.held-held.ensures.held (c.start-start.ensures ∙ ap start_now c.interrupts.ensures) c.in_default.ensures.none)
 
 pub invariant_of-self : goal.invariant_of-self
-invariant_of-self c =
-    let high : (c.start-start.result + c.in-Some.place) < length (get_or c.self.inside.stacks c.args.task empty_stack).held = high
-    c.self.inside.stacks c.self.inside.edges c.args.self.now c.args.task (plain_lock c.args.lock) c.held-held.result.now c.start-start.result
-    c.self.view_is c.held-held.ensures.held (c.start-start.ensures ∙ ap start_now c.interrupts.ensures) c.in-Some.place c.in-Some.ensures.place c.in-Some.ensures.last in
-    subst (λ ss. AreTied ss c.self.inside.chains c.self.inside.told c.self.inside.edges) (sym c.truncate.ensures)
-    (tied_cut c.self.inside.stacks c.self.inside.chains c.self.inside.told c.self.inside.edges c.self.invariant c.args.task
-    (c.start-start.result + c.in-Some.place) (within_shown c.self.inside.stacks c.self.inside.edges c.args.self.now c.args.task c.self.view_is c.requires)
-    (low c.self.inside.stacks c.self.inside.edges c.args.self.now c.args.task (plain_lock c.args.lock) c.held-held.result.now c.start-start.result
-    c.self.view_is c.held-held.ensures.held (c.start-start.ensures ∙ ap start_now c.interrupts.ensures) c.in-Some.place c.in-Some.ensures.place c.in-Some.ensures.last) (omega (arith, high)))
+invariant_of-self c = record {
+  tied =
+      let high : (c.start-start.result + c.in-Some.place) < length (get_or c.self.inside.stacks c.args.task empty_stack).held = high
+      c.self.inside.stacks c.self.inside.edges c.args.self.now c.args.task (plain_lock c.args.lock) c.held-held.result.now c.start-start.result
+      c.self.view_is c.held-held.ensures.held (c.start-start.ensures ∙ ap start_now c.interrupts.ensures) c.in-Some.place c.in-Some.ensures.place c.in-Some.ensures.last in
+      subst (λ ss. AreTied ss c.self.inside.chains c.self.inside.told c.self.inside.edges) (sym c.truncate.ensures)
+      (tied_cut c.self.inside.stacks c.self.inside.chains c.self.inside.told c.self.inside.edges c.self.invariant.tied c.args.task
+      (c.start-start.result + c.in-Some.place) (within_shown c.self.inside.stacks c.self.inside.edges c.args.self.now c.args.task c.self.view_is c.requires)
+      (low c.self.inside.stacks c.self.inside.edges c.args.self.now c.args.task (plain_lock c.args.lock) c.held-held.result.now c.start-start.result
+      c.self.view_is c.held-held.ensures.held (c.start-start.ensures ∙ ap start_now c.interrupts.ensures) c.in-Some.place c.in-Some.ensures.place c.in-Some.ensures.last) (omega (arith, high)));
+  mark = c.self.invariant.mark;
+}
 
 pub invariant_of-self-else-place-held : goal.invariant_of-self-else-place-held
-invariant_of-self-else-place-held c =
-    let high : (c.start-start.result + c.in-Some.place) < length (get_or c.self.inside.stacks c.args.task empty_stack).held = high
-    c.self.inside.stacks c.self.inside.edges c.args.self.now c.args.task (plain_lock c.args.lock) c.held-held.result.now c.start-start.result
-    c.self.view_is c.held-held.ensures.held (c.start-start.ensures ∙ ap start_now c.interrupts.ensures) c.in-Some.place c.in-Some.ensures.place c.in-Some.ensures.last in
-    subst (λ ss. AreTied ss c.self.inside.chains c.self.inside.told c.self.inside.edges) (sym c.truncate-else-place-held.ensures)
-    (tied_cut c.self.inside.stacks c.self.inside.chains c.self.inside.told c.self.inside.edges c.self.invariant c.args.task
-    (c.start-start.result + c.in-Some.place) (within_shown c.self.inside.stacks c.self.inside.edges c.args.self.now c.args.task c.self.view_is c.requires)
-    (low c.self.inside.stacks c.self.inside.edges c.args.self.now c.args.task (plain_lock c.args.lock) c.held-held.result.now c.start-start.result
-    c.self.view_is c.held-held.ensures.held (c.start-start.ensures ∙ ap start_now c.interrupts.ensures) c.in-Some.place c.in-Some.ensures.place c.in-Some.ensures.last) (omega (arith, high)))
+invariant_of-self-else-place-held c = record {
+  tied =
+      let high : (c.start-start.result + c.in-Some.place) < length (get_or c.self.inside.stacks c.args.task empty_stack).held = high
+      c.self.inside.stacks c.self.inside.edges c.args.self.now c.args.task (plain_lock c.args.lock) c.held-held.result.now c.start-start.result
+      c.self.view_is c.held-held.ensures.held (c.start-start.ensures ∙ ap start_now c.interrupts.ensures) c.in-Some.place c.in-Some.ensures.place c.in-Some.ensures.last in
+      subst (λ ss. AreTied ss c.self.inside.chains c.self.inside.told c.self.inside.edges) (sym c.truncate-else-place-held.ensures)
+      (tied_cut c.self.inside.stacks c.self.inside.chains c.self.inside.told c.self.inside.edges c.self.invariant.tied c.args.task
+      (c.start-start.result + c.in-Some.place) (within_shown c.self.inside.stacks c.self.inside.edges c.args.self.now c.args.task c.self.view_is c.requires)
+      (low c.self.inside.stacks c.self.inside.edges c.args.self.now c.args.task (plain_lock c.args.lock) c.held-held.result.now c.start-start.result
+      c.self.view_is c.held-held.ensures.held (c.start-start.ensures ∙ ap start_now c.interrupts.ensures) c.in-Some.place c.in-Some.ensures.place c.in-Some.ensures.last) (omega (arith, high)));
+  mark = c.self.invariant.mark;
+}
 
 pub hold_all-requires-clause-room : goal.hold_all-requires-clause-room
 hold_all-requires-clause-room c =
@@ -138,7 +144,7 @@ returns-in_ok-hold_all-clause-held c =
 
 pub returns-then-place-held-clause-stacks : goal.returns-then-place-held-clause-stacks
 returns-then-place-held-clause-stacks c =
-    ap (λ (ss : List PlainStack). held_by_tasks ss c.self.inside.edges) c.truncate.ensures
+    ap (λ (ss : List PlainStack). held_by_tasks ss c.self.inside.edges (take c.self.inside.begun.edges c.self.inside.edges)) c.truncate.ensures
     ∙ shown_held c.self.inside.stacks c.self.inside.edges c.args.self.now c.args.task c.self.view_is
     (take (c.start-start.result + c.in-Some.place) (get_or c.self.inside.stacks c.args.task empty_stack).held) _
     (top_gone c.self.inside.stacks c.self.inside.edges c.args.self.now c.args.task (plain_lock c.args.lock) c.held-held.result.now
@@ -148,11 +154,12 @@ returns-then-place-held-clause-stacks c =
 pub returns-in_ok-hold_all-clause-stacks : goal.returns-in_ok-hold_all-clause-stacks
 returns-in_ok-hold_all-clause-stacks c =
     let front = map hold_of (take (c.start-start.result + c.in-Some.place) (get_or c.self.inside.stacks c.args.task empty_stack).held) in
-    held_again c.args.self.now (held_by_tasks c.truncate-else-place-held.new.self c.self.inside.edges) c.hold_all.new.self c.args.task front (holds_of c.as_slice.result.now)
-    (ap (λ (ss : List PlainStack). held_by_tasks ss c.self.inside.edges) c.truncate-else-place-held.ensures
+    held_again c.args.self.now
+    (held_by_tasks c.truncate-else-place-held.new.self c.self.inside.edges (take c.self.inside.begun.edges c.self.inside.edges)) c.hold_all.new.self c.args.task front (holds_of c.as_slice.result.now)
+    (ap (λ (ss : List PlainStack). held_by_tasks ss c.self.inside.edges (take c.self.inside.begun.edges c.self.inside.edges)) c.truncate-else-place-held.ensures
     ∙ shown_held c.self.inside.stacks c.self.inside.edges c.args.self.now c.args.task c.self.view_is
     (take (c.start-start.result + c.in-Some.place) (get_or c.self.inside.stacks c.args.task empty_stack).held) front refl)
-    c.in_ok-hold_all.ensures c.requires
+    c.in_ok-hold_all.ensures.held c.requires
     ∙ ap (λ hs. record c.args.self.now { stacks = set c.args.self.now.stacks c.args.task hs })
     (ap (λ hs. front ++ hs) (later_are c.self.inside.stacks c.self.inside.edges c.args.self.now c.args.task (plain_lock c.args.lock)
     c.held-held.result.now c.start-start.result c.self.view_is c.held-held.ensures.held

@@ -6,11 +6,14 @@ use Rattle.ld_held.proofs.LockLemmas.{interrupts_shown, moved_is, moved_to, show
 use Rattle.ld_held.proofs.locks.Locks.set.Goals as goal
 
 pub invariant_of-self : goal.invariant_of-self
-invariant_of-self c =
-    tied_moved c.self.inside.stacks c.args.task c.set.new.self c.set_interrupts.new.self c.set_interrupts.ensures c.self.inside.chains c.self.inside.told c.self.inside.edges c.self.invariant
-    (within_shown c.self.inside.stacks c.self.inside.edges c.args.self.now c.args.task c.self.view_is c.requires.task)
-    (subst (AreChainedIn c.self.inside.chains (get_or c.self.inside.stacks c.args.task empty_stack).held)
-    (sym (c.set.ensures.starts ∙ ap starts_of c.interrupts-interrupts.ensures)) (c.self.invariant.chained c.args.task))
+invariant_of-self c = record {
+  tied =
+      tied_moved c.self.inside.stacks c.args.task c.set.new.self c.set_interrupts.new.self c.set_interrupts.ensures c.self.inside.chains c.self.inside.told c.self.inside.edges c.self.invariant.tied
+      (within_shown c.self.inside.stacks c.self.inside.edges c.args.self.now c.args.task c.self.view_is c.requires.task)
+      (subst (AreChainedIn c.self.inside.chains (get_or c.self.inside.stacks c.args.task empty_stack).held)
+      (sym (c.set.ensures.starts ∙ ap starts_of c.interrupts-interrupts.ensures)) (c.self.invariant.tied.chained c.args.task));
+  mark = c.self.invariant.mark;
+}
 
 pub returns-clause-moved : goal.returns-clause-moved
 returns-clause-moved c = moved_is c.self.inside.stacks c.args.task c.set.new.self c.set_interrupts.new.self c.set_interrupts.ensures c.self.inside.edges c.args.self.now c.self.view_is

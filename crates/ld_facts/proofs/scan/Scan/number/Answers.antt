@@ -1,0 +1,6 @@
+use Rattle.std.proofs.Common.{sym, ◌∙◌}
+use Rattle.ld_class.proofs.NameLemmas.{place_of-Some}
+use Rattle.ld_facts.proofs.scan.Scan.number.Goals as goal
+
+pub returns-in-Some-clause-place : goal.returns-in-Some-clause-place
+returns-in-Some-clause-place c = place_of-Some c.args.self.now.classes c.args.name.now c.in-Some.class (sym c.requires.known ∙ c.in-Some.is)

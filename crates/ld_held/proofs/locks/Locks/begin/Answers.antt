@@ -1,0 +1,22 @@
+use Rattle.std.proofs.Common.{◌≡◌, ap, subst, sym, ◌∙◌, length, take, arith}
+use Rattle.std.proofs.lemmas.List.{take_all}
+use Rattle.ld_held.specs.Inner.Locks.{AreTied, HeldByTasks}
+use Rattle.ld_held.proofs.BegunLemmas.{begun_now, none_shown, tied_none}
+use Rattle.ld_held.proofs.locks.Locks.begin.Goals as goal
+
+pub invariant_of-self : goal.invariant_of-self
+invariant_of-self c =
+    record {
+      tied =
+          subst (λ ss. AreTied ss c.self.inside.chains c.self.inside.told c.self.inside.edges) (sym c.begin.ensures)
+          (tied_none c.self.inside.chains c.self.inside.told c.self.inside.edges c.self.invariant.tied.complete);
+      mark = begun_now c.self.inside.chains c.self.inside.told c.self.inside.edges c.self.invariant.tied.complete
+          (record { edges = length c.as_slice.result.now; told = c.len.result }) (ap length c.as_slice.ensures) c.len.ensures;
+    }
+
+pub returns : goal.returns
+returns c =
+    let many : length c.as_slice.result.now ≡ length c.self.inside.edges = ap length c.as_slice.ensures in
+    let edges = ap (λ (k : HeldByTasks). k.edges) c.self.view_is in
+    none_shown c.begin.new.self c.self.inside.edges (take (length c.as_slice.result.now) c.self.inside.edges) c.args.self.now.edges c.args.self.now.edges c.begin.ensures edges
+    (take_all (length c.as_slice.result.now) c.self.inside.edges (omega arith) ∙ edges)

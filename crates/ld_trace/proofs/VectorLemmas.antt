@@ -1,0 +1,53 @@
+-- A run of bytes, by a vector of those at the front and the bits of those that end it.
+use Rattle.std.proofs.Common.{◌≡◌, ℕ, ◌+◌, ◌*◌, ◌%◌, ◌^◌, ◌<◌, ◌≤◌, Bool, true, false, not, cond, eqb, List, [], ◌∷◌, map, length, take, drop, replicate, refl, sym, ap, ap₂, ◌∙◌, arith, w8, Fits}
+use Rattle.std.proofs.lemmas.Bool.{agree_below, agree_below_at, ne_eqb}
+use Rattle.std.proofs.lemmas.Simd.{map-map, mask_l-mod, trailing_mask_l, zip2_splat_left}
+use Rattle.std.proofs.lemmas.List.{length-map, take-append-drop}
+use Rattle.std.proofs.lemmas.List.Folds.{prefix_len-append}
+use Rattle.std.proofs.lemmas.List.Sums.{prefix_len-le-length}
+use Rattle.std.specs.List.{prefix_len}
+use lib.Count.{count_trailing_zeros}
+use lib.Lanes.{zip2, mask_l, top, Each1}
+
+-- an operation on a number and what each lane has by f
+pub from_splat : (h : ℕ → ℕ → ℕ) (f : ℕ → ℕ) (y n : ℕ) (v : List ℕ) {a : List ℕ} → length v ≡ n → a ≡ map f v → zip2 h (replicate n y) a ≡ map (λ x. h y (f x)) v
+from_splat h f y n v long p = ap (zip2 h (replicate n y)) p ∙ zip2_splat_left h y n (map f v) (length-map v f ∙ long) ∙ map-map (h y) f v
+
+each_byte : (f : ℕ → ℕ) (p : ℕ → Bool) → agree_below (λ x. top 7 (f x)) p 256 ≡ true → (v : List ℕ) → Each1 (Fits w8) v → map (top 7) (map f v) ≡ map p v
+each_byte f p all [] fits = refl
+each_byte f p all (x ∷ xs) fits = ap₂ (λ a b. a ∷ b) (agree_below_at (λ y. top 7 (f y)) p 256 x all fits.0.fits) (each_byte f p all xs fits.1)
+
+-- the bits of the lanes whose top bit says of each byte what the test says of it
+pub masked : (f : ℕ → ℕ) (p : ℕ → Bool) (v z : List ℕ) → length v ≤ 64 → Each1 (Fits w8) v → z ≡ map f v → agree_below (λ x. top 7 (f x)) p 256 ≡ true
+    → mask_l (map (top 7) z) % 2 ^ 64 ≡ mask_l (map p v)
+masked f p v z short fits e all =
+    ap (λ l. mask_l l % 2 ^ 64) (ap (map (top 7)) e ∙ each_byte f p all v fits) ∙ mask_l-mod (map p v) 64 (omega (arith, length-map v p))
+
+-- where all bytes pass, no bit is set
+none_fails : (b : Bool) (n l m : ℕ) → n ≤ l → cond (not (not b)) (1 + n) 0 ≡ 1 + l → (n ≡ l → m ≡ 0) → cond (not b) 1 0 + 2 * m ≡ 0
+none_fails false n l m le e ih = let no : ⊥ = omega arith in absurd no
+none_fails true n l m le e ih = let z = ih (omega arith) in omega arith
+
+same : (b : Bool) → not (not b) ≡ b
+same true = refl
+same false = refl
+
+module _ (p : ℕ → Bool) where
+  same_run : (xs : List ℕ) → prefix_len (λ x. not (not (p x))) xs ≡ prefix_len p xs
+  same_run [] = refl
+  same_run (x ∷ xs) = ap₂ (λ b n. cond b (1 + n) 0) (same (p x)) (same_run xs)
+
+  all_pass : (xs : List ℕ) → prefix_len (λ x. not (not (p x))) xs ≡ length xs → mask_l (map (λ x. not (p x)) xs) ≡ 0
+  all_pass [] e = refl
+  all_pass (x ∷ xs) e = none_fails (p x) _ (length xs) _ (prefix_len-le-length (λ y. not (not (p y))) xs) (omega arith) (all_pass xs)
+
+  -- the lowest bit that is set is where the run ends
+  pub run-ends : (xs : List ℕ) (n : ℕ) → n ≤ 64 → length (take n xs) ≡ n → 0 < mask_l (map (λ x. not (p x)) (take n xs))
+      → count_trailing_zeros 64 (mask_l (map (λ x. not (p x)) (take n xs))) ≡ prefix_len p xs
+  run-ends xs n short long some =
+      let front = take n xs in
+      let less : eqb (prefix_len p front) (length front) ≡ false = ne_eqb _ _ (λ (e : prefix_len p front ≡ length front). omega (arith, all_pass front (same_run front ∙ e))) in
+      let whole : prefix_len p xs ≡ prefix_len p front =
+      ap (prefix_len p) (sym (take-append-drop n xs)) ∙ prefix_len-append p front (drop n xs)
+      ∙ ap (λ b. cond b (length front + prefix_len p (drop n xs)) (prefix_len p front)) less in
+      trailing_mask_l (λ x. not (p x)) 64 front (omega (arith, long)) some ∙ same_run front ∙ sym whole
