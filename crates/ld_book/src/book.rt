@@ -246,14 +246,14 @@ impl<'a> Book<'a> {
     /// or `None` where no trace shows it. Takes no memory.
     pub fn edge(&self, from: ClassName<'_>, to: ClassName<'_>) -> Option<Witness>
         ensures { result ≡ dependency_witness self.now
-            (record { from = plain_class from; to = plain_class to }) }
+            (record { from = plain_class from.entry; to = plain_class to.entry }) }
     {
         self.union.witness(from, to)
     }
 
     /// The usage of a class over all traces, or `None` where no trace shows the class. Takes no memory.
     pub fn usage(&self, class: ClassName<'_>) -> Option<UsageRow>
-        ensures { result ≡ usage_row self.now (plain_class class) }
+        ensures { result ≡ usage_row self.now (plain_class class.entry) }
     {
         self.union.usage_row(class)
     }

@@ -160,7 +160,7 @@ fn write_name(
     class: ClassName<'_>,
 ) -> Result<(), AllocError>
     ensures { OnOk result (text.new.items ≡ text.old.items ++ words.now ++
-        class_text (plain_class class)) }
+        class_text (plain_class class.entry)) }
 {
     write_bytes(text, words, class.name)?;
     if class.sub == 0 {
@@ -201,7 +201,7 @@ fn write_class(
     marks: &[u8],
 ) -> Result<(), AllocError>
     ensures { OnOk result (text.new.items ≡ text.old.items ++ words.now ++
-        marked (plain_class class) marks.now) }
+        marked (plain_class class.entry) marks.now) }
 {
     write_name(text, words, class)?;
     write_bytes(text, " {", marks)?;

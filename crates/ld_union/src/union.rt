@@ -179,7 +179,7 @@ impl<'a> Union<'a> {
     pub fn witness(&self, from: ClassName<'_>, to: ClassName<'_>) -> Option<Witness>
         ensures { (first : Dependency → Option Witness)
             → AreWitnessed self.now.classes self.now.dependencies first
-            → result ≡ first (record { from = plain_class from; to = plain_class to }) }
+            → result ≡ first (record { from = plain_class from.entry; to = plain_class to.entry }) }
     {
         let from = self.classes.find(from)?;
         let to = self.classes.find(to)?;
@@ -191,7 +191,7 @@ impl<'a> Union<'a> {
     pub fn usage_row(&self, class: ClassName<'_>) -> Option<UsageRow>
         ensures { (first : Use → Option Witness)
             → AreUsed self.now.classes self.now.usage first
-            → result ≡ known_row self.now.classes first (plain_class class) }
+            → result ≡ known_row self.now.classes first (plain_class class.entry) }
     {
         let number = self.classes.find(class)?;
         Some(self.usage[number as usize])
