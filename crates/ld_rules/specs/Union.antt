@@ -1,5 +1,5 @@
 -- *Union*: what the sources that are read show together, and where it was first seen.
-use Rattle.std.specs.Prelude.{ℕ, Bool, ◌&&◌, ◌||◌, ◌==◌, nat_lt, List, [], map, flat_map}
+use Rattle.std.specs.Prelude.{Bool, ◌&&◌, ◌||◌, ◌==◌, nat_lt, List, [], map, flat_map}
 use Rattle.std.specs.Prelude.{filter_map, Option, option_map, if◌then◌else◌}
 use Rattle.std.specs.List.{reduce}
 use Rattle.ld_class.specs.Names.{PlainClass, same_class}
