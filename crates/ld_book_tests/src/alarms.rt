@@ -1,6 +1,6 @@
 //! One violation of each kind.
 
-use crate::books::{A, A_1, B, C, NONE, THREE_TRACES, book_of, class};
+use crate::books::{A, A_1, B, C, NONE, THREE_TRACES, book_of};
 use ld_book::{Alarms, ClassName};
 use std::alloc::Global;
 use std::process::Abort;
@@ -26,8 +26,14 @@ const FORBIDDEN_THROUGH: &[u8] = b"trace g\nenter t hard\nacquire t H\nrelease t
 const APART: &[u8] = b"trace a\ndisable t hard\nacquire t H\nacquire t U\n\
     trace b\nacquire t U\ntrace c\nenter t hard\nacquire t H\n";
 
-const H: ClassName<'static> = class(b"H", 0);
-const U: ClassName<'static> = class(b"U", 0);
+const H: ClassName<'static> = ClassName {
+    name: b"H",
+    sub: 0,
+};
+const U: ClassName<'static> = ClassName {
+    name: b"U",
+    sub: 0,
+};
 
 /// The alarms of the book of a stream, whose traces are added in this order.
 fn alarms_of<'a, R: Abort>(rt: &R, alloc: Global, bytes: &'a [u8], order: &[usize]) -> Alarms<'a> {

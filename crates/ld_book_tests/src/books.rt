@@ -7,12 +7,24 @@ use ld_trace::{Source, split};
 use std::alloc::{AllocError, Global};
 use std::process::Abort;
 
-pub(crate) const A: ClassName<'static> = class(b"A", 0);
-pub(crate) const B: ClassName<'static> = class(b"B", 0);
-pub(crate) const C: ClassName<'static> = class(b"C", 0);
+pub(crate) const A: ClassName<'static> = ClassName {
+    name: b"A",
+    sub: 0,
+};
+pub(crate) const B: ClassName<'static> = ClassName {
+    name: b"B",
+    sub: 0,
+};
+pub(crate) const C: ClassName<'static> = ClassName {
+    name: b"C",
+    sub: 0,
+};
 
 /// The subclass 1 of A.
-pub(crate) const A_1: ClassName<'static> = class(b"A", 1);
+pub(crate) const A_1: ClassName<'static> = ClassName {
+    name: b"A",
+    sub: 1,
+};
 
 /// The alarms of a book without a violation.
 pub(crate) const NONE: Alarms<'static> = Alarms {
@@ -26,7 +38,7 @@ pub(crate) const THREE_TRACES: &[u8] = b"trace x\nacquire t A\nacquire t B\n\
     trace y\nacquire t B\nacquire t C\ntrace z\nacquire t C\nacquire t A\n";
 
 /// The class of this name, or its subclass of this number where that isn't 0.
-pub(crate) const fn class(name: &[u8], sub: u8) -> ClassName<'_> {
+pub(crate) fn class(name: &[u8], sub: u8) -> ClassName<'_> {
     ClassName { name, sub }
 }
 
