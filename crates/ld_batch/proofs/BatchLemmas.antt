@@ -1,31 +1,42 @@
 -- A batch to which one more trace is added.
-use Rattle.std.proofs.Common.{◌≡◌, ◌<◌, ◌≤◌, ◌++◌, ◌∷◌, [], ◌⊎◌, inl, inr, All, List, ℕ, zero, suc, None, IfSome, length, map, fold, flat_map, get_or, refl, ap, sym, subst, ◌∙◌, arith}
-use Rattle.std.proofs.lemmas.Bool.{true≢false, and_from, cases_order, eq-eqb}
-use Rattle.std.proofs.lemmas.List.{get_or_push, length_push, map-append}
-use Rattle.std.proofs.lemmas.List.Elements.{All-nil, All-push}
+use Rattle.std.proofs.Common.{◌≡◌, ◌≢◌, ◌+◌, ◌<◌, ◌≤◌, ◌++◌, ◌∷◌, [], ◌⊎◌, inl, inr, All, Bool, List, ℕ, zero, suc, None, IfSome}
+use Rattle.std.proofs.Common.{drop, length, map, fold, flat_map, get_or, refl, ap, sym, subst, ◌∙◌, arith, length-append}
+use Rattle.std.proofs.lemmas.Bool.{cases_order}
+use Rattle.std.proofs.lemmas.List.{get_or_push, length-map, length_push, map-append}
+use Rattle.std.proofs.lemmas.List.Elements.{All-append, All-drop, All-map, All-nil, All-push}
 use Rattle.std.proofs.lemmas.List.Quantifiers.{all_pairs_push}
 use Rattle.std.specs.List.{last_or}
 use Rattle.std.specs.Str.{bytes_eq}
-use Rattle.ld_class.specs.Names.{AreDistinct}
+use Rattle.ld_trace.specs.Events.{PlainEvent, positions}
 use Rattle.ld_trace.specs.Sources.{Fits, PlainSource, plain}
+use Rattle.ld_trace.proofs.PositionLemmas.{positions-ascend}
+use Rattle.ld_rules.specs.declared.fault.TraceFault.{TraceFault}
 use Rattle.ld_rules.specs.declared.outcome.Listed.{Listed}
-use Rattle.ld_rules.specs.Dependency.{same_dependency}
-use Rattle.ld_rules.specs.Outcome.{each_once, outcome}
-use Rattle.ld_rules.specs.Union.{classes_of, dependencies_of, uses_of}
-use Rattle.ld_rules.specs.Usage.{same_use}
+use Rattle.ld_rules.specs.declared.outcome.Outcome.{Outcome}
+use Rattle.ld_rules.specs.declared.outcome.Outcome.TheVariants.{Read, Refused}
+use Rattle.ld_rules.specs.Dependency.{dependencies_at, same_dependency, seen}
+use Rattle.ld_rules.specs.Inner.Scanned.{same_dependency_seen, same_use_seen, with_new}
+use Rattle.ld_rules.specs.Outcome.{classes, each_once, events, outcome}
+use Rattle.ld_rules.specs.Union.{classes_of, dependencies_of, if_read, uses_of}
+use Rattle.ld_rules.specs.Usage.{bit_of, same_use, uses_at}
+use Rattle.ld_rules.proofs.LeastLemmas.{Ascend, seen-Ascend}
 use Rattle.ld_rules.proofs.PlaceLemmas.{by_pushes, last_or-push}
 use Rattle.ld_rules.proofs.StepLemmas.{Decides-same_dependency}
 use Rattle.ld_rules.proofs.UsageLemmas.{Decides-same_use}
+use Rattle.ld_facts.specs.declared.scan.Scan.{Scan}
 use Rattle.ld_facts.specs.Facts as facts
-use Rattle.ld_facts.specs.Facts.{IsKnown, PlainFacts}
+use Rattle.ld_facts.specs.Inner.Reading as reading
+use Rattle.ld_facts.specs.Inner.Reading.{IsAt, empty_scan, start_of, undone}
+use Rattle.ld_facts.proofs.KnownLemmas.{none-at}
+use Rattle.ld_facts.proofs.StartLemmas.{begun-at}
 use Rattle.ld_batch.specs.Batch.{AreOutcomes, AreRising, IsBatch, IsUse, IsWithin, PlainBatch, named, named_use, sources_of, witness_of}
-use Rattle.ld_batch.specs.Inner.Kept.{Fields, IsKept}
-use Rattle.ld_batch.specs.Inner.Names.{ArePlaces, IsLonger, with_names}
-use Rattle.ld_batch.specs.Inner.Rows.{AreNoted, edge_of, pair_of, same_bit_row, same_pair, use_of, with_row}
-use Rattle.ld_batch.proofs.MetLemmas.{rows-All, rows-once}
-use Rattle.ld_batch.proofs.NameLemmas.{with_names-each_once}
-use Rattle.ld_batch.proofs.SourceLemmas.{exact-joined, shown-push}
-use Rattle.ld_batch.proofs.TraceLemmas.{edges-agree, edges-longer, edges-once, edges-placed, uses-agree, uses-longer, uses-once, uses-placed, used-longer, used-placed, within-longer, within-placed}
+use Rattle.ld_batch.specs.Inner.Kept.{Fields, IsKept, IsRead, IsReady}
+use Rattle.ld_batch.specs.Inner.Names.{IsLonger, with_names}
+use Rattle.ld_batch.specs.Inner.Rows.{AreMet, edge_of, seen_of, use_of}
+use Rattle.ld_batch.proofs.MetLemmas.{then_added}
+use Rattle.ld_batch.proofs.NameLemmas.{longer_all, with_names-each_once}
+use Rattle.ld_batch.proofs.SourceLemmas.{are-met, pairs-of, shown-push, witness-new}
+use Rattle.ld_batch.proofs.TraceLemmas.{edges-longer, uses-longer, used-longer, within-longer}
 
 -- a number above the last one's is above all, where numbers rise
 above-push : (sources : List PlainSource) (last : PlainSource) (number : ℕ) → AreRising (sources ++ last ∷ []) → last.number < number → All (λ s. s.number < number) (sources ++ last ∷ [])
@@ -82,82 +93,202 @@ few_sources sources fit rise = by (length sources) refl
         let low : (get_or sources n none).number < 65535 = (fit n none within).number in
         omega (arith, at_least sources none rise n within, low)
 
+-- A scan with more has no fewer rows.
+grown : {X : Type 0} (same : X → X → Bool) (known xs : List X) → length known ≤ length (fold (with_new same) known xs)
+grown same known xs =
+    let all = fold (with_new same) known xs in
+    omega (arith, ap length (then_added same known xs), length-append known (drop (length known) all))
+
+pub more-edges : (old new : Scan) (source : PlainSource) → IsRead old source new → length old.locks.edges ≤ length new.locks.edges
+more-edges old new source shows = omega (
+  arith,
+  length-map old.locks.edges (facts.named old.classes),
+  length-map new.locks.edges (facts.named new.classes),
+  ap length shows.edges,
+  grown same_dependency_seen (start_of old).edges (dependencies_of source),
+)
+
+-- nor does it have many more names
+pub room-left : (old new : Scan) (source : PlainSource) → IsRead old source new → length old.classes + 16382 ≤ 1073741824 → length new.classes ≤ 1073733633
+room-left old new source shows room =
+    let longer = longer_all old.classes (classes_of source) in
+    omega (arith, shows.few, ap length shows.names, longer.most, room)
+
+-- the rows of a batch are as many as its scan has
+pub many-edges : (fields : Fields) → IsKept fields → length fields.edges ≡ length fields.scan.locks.edges
+many-edges fields kept =
+    let names = fields.scan.classes in
+    let met = map (named names) fields.edges in
+    omega (arith, length-map fields.edges (named names), length-map met seen_of, ap length kept.edges.same, length-map fields.scan.locks.edges (facts.named names))
+
+pub many-uses : (fields : Fields) → IsKept fields → length fields.usage ≡ length fields.scan.uses
+many-uses fields kept =
+    let names = fields.scan.classes in
+    let met = map (named_use names) fields.usage in
+    omega (arith, length-map fields.usage (named_use names), length-map met seen_of, ap length kept.usage.same, length-map fields.scan.uses (facts.named_use names))
+
 -- the fields before and after, and the trace that was added
-pub record Joins (old new : Fields) (last : Listed) (known : PlainFacts) (places : List ℕ) : Type 0 where
-  pub is_known : IsKnown known
-  pub source : plain last.source ≡ known.source
-  pub outcome : last.outcome ≡ known.outcome
-  pub above : IfSome (last_or None (sources_of old.listed)) (λ l. l.number < known.source.number)
+pub record IsPushed (old new : Fields) (last : Listed) : Type 0 where
+  pub fits : Fits (plain last.source)
+  pub outcome : last.outcome ≡ outcome (plain last.source)
+  pub above : IfSome (last_or None (sources_of old.listed)) (λ l. l.number < last.source.number)
   pub listed : new.listed ≡ old.listed ++ last ∷ []
-  pub named : new.classes ≡ with_names old.classes known.classes
-  pub longer : IsLonger old.classes new.classes (length known.classes)
-  pub distinct : AreDistinct new.classes
-  pub placed : ArePlaces new.classes known.classes places
-  pub edges : new.edges ≡ fold (with_row same_pair) old.edges (map (edge_of places known.source.number) known.edges)
-  pub pairs : map pair_of new.edges ≡ new.pairs
-  pub usage : new.usage ≡ fold (with_row same_bit_row) old.usage (map (use_of places known.source.number) known.usage)
-  pub count : length new.known ≡ length new.classes
-  pub noted : AreNoted new.usage new.known
+  pub shows : IsRead old.scan (plain last.source) new.scan
+  pub edges : new.edges ≡ old.edges ++ map (edge_of last.source.number) (drop (length old.edges) new.scan.locks.edges)
+  pub usage : new.usage ≡ old.usage ++ map (use_of last.source.number) (drop (length old.usage) new.scan.uses)
+  pub ready : IsReady new.scan
+  pub begun : IsAt (start_of new.scan) [] new.scan
 
-module _ (old new : Fields) (last : Listed) (known : PlainFacts) (places : List ℕ) (kept : IsKept old) (joins : Joins old new last known places) where
-  low : All (λ s. s.number < known.source.number) (sources_of old.listed)
-  low = above_all (sources_of old.listed) known.source.number kept.exact.rise joins.above
+-- A trace begins where a scan is ready for it.
+pub begins : (old new : Scan) (source : PlainSource) → IsReady new → IsRead old source new → length new.classes ≤ 1073733633 → IsAt (start_of new) [] new
+begins old new source is shows room = subst (IsAt (start_of new) []) (sym is) (begun-at new shows.distinct shows.within shows.used (omega (arith, room)))
 
-  sources : sources_of new.listed ≡ sources_of old.listed ++ known.source ∷ []
-  sources = ap sources_of joins.listed ∙ map-append (λ l. plain l.source) old.listed (last ∷ []) ∙ ap (λ s. sources_of old.listed ++ s ∷ []) joins.source
+-- a batch without a trace
+pub kept-none : (scan : Scan) → scan ≡ empty_scan → IsKept (record { listed = []; scan = scan; edges = []; usage = [] })
+kept-none scan new = subst (λ s. IsKept (record { listed = []; scan = s; edges = []; usage = [] })) (sym new) (record {
+  exact = record {
+    fit = All-nil Fits;
+    rise = λ i j d before within. absurd (omega (arith, within));
+    classes = refl;
+    within = All-nil (IsWithin []);
+    once = λ i j d before within. absurd (omega (arith, within));
+    edges = λ what. refl;
+    used_within = All-nil (IsUse []);
+    used_once = λ i j d before within. absurd (omega (arith, within));
+    usage = λ what. refl;
+  };
+  outcomes = All-nil (λ (l : Listed). l.outcome ≡ outcome (plain l.source));
+  few = omega arith;
+  ready = refl;
+  begun = none-at empty_scan refl;
+  edges = record { same = refl; apart = λ i j d before within. absurd (omega (arith, within)) };
+  usage = record { same = refl; apart = λ i j d before within. absurd (omega (arith, within)) };
+})
+
+-- what a scan has where it read the source to its end
+pub shows-read : (old new : Scan) (source : PlainSource) (count : ℕ) → outcome source ≡ Read count → IsAt (start_of old) (positions source) new → IsRead old source new
+shows-read old new source count is at =
+    let all = positions source in
+    let own : classes (events all) ≡ classes_of source = (λ i. if_read (sym is i) (classes (events all))) in
+    record {
+      names = at.names ∙ ap (with_names old.classes) own;
+      few = omega (arith, at.few_classes, length-map new.own (λ n. get_or new.classes n []), ap length at.own, ap length own);
+      distinct = at.distinct;
+      edges = at.edges ∙ (λ i. fold (with_new same_dependency_seen) (start_of old).edges (if_read (sym is i) (seen dependencies_at all)));
+      within = at.within;
+      uses = at.uses ∙ (λ i. fold (with_new same_use_seen) (start_of old).uses (if_read (sym is i) (seen uses_at all)));
+      used = at.used;
+    }
+
+-- a refused source shows nothing
+pub shows-none : (old new : Scan) (source : PlainSource) (line : ℕ) (fault : TraceFault) → outcome source ≡ Refused line fault → new ≡ old → IsAt (start_of old) [] old → IsRead old source new
+shows-none old new source line fault is same at =
+    let nothing : classes_of source ≡ [] = (λ i. if_read (is i) (classes (events (positions source)))) in
+    subst (IsRead old source) (sym same) (record {
+      names = ap (with_names old.classes) (sym nothing);
+      few = omega (arith, ap length nothing);
+      distinct = at.distinct;
+      edges = (λ i. fold (with_new same_dependency_seen) (start_of old).edges (if_read (sym is i) (seen dependencies_at (positions source))));
+      within = at.within;
+      uses = (λ i. fold (with_new same_use_seen) (start_of old).uses (if_read (sym is i) (seen uses_at (positions source))));
+      used = at.used;
+    })
+
+-- what a source shows stands there in order of line
+shown-Ascend : {A : Type 0} (at : List PlainEvent → PlainEvent → List A) (source : PlainSource) → Ascend (if_read (outcome source) (seen at (positions source)))
+shown-Ascend {A} at source = by (outcome source)
+  where
+    by : (o : Outcome) → Ascend {A = A} (if_read o (seen at (positions source)))
+    by (Read count) = seen-Ascend at (positions source) (positions-ascend source)
+    by (Refused line fault) = λ i j d before within. absurd (omega (arith, within))
+
+module _ (old new : Fields) (last : Listed) (kept : IsKept old) (adds : IsPushed old new last) where
+  abbrev source : PlainSource
+  source = plain last.source
+
+  abbrev sources : List PlainSource
+  sources = sources_of old.listed
+
+  abbrev names : List (List ℕ)
+  names = new.scan.classes
+
+  low : All (λ s. s.number < source.number) sources
+  low = above_all sources source.number kept.exact.rise adds.above
+
+  all_sources : sources_of new.listed ≡ sources ++ source ∷ []
+  all_sources = ap sources_of adds.listed ∙ map-append (λ l. plain l.source) old.listed (last ∷ [])
+
+  longer : IsLonger old.scan.classes names (length (classes_of source))
+  longer = subst (λ all. IsLonger old.scan.classes all (length (classes_of source))) (sym adds.shows.names) (longer_all old.scan.classes (classes_of source))
+
+  same_edges : map (named names) old.edges ≡ map (named old.scan.classes) old.edges
+  same_edges = edges-longer old.scan.classes names (length (classes_of source)) longer old.edges kept.exact.within
+
+  same_uses : map (named_use names) old.usage ≡ map (named_use old.scan.classes) old.usage
+  same_uses = uses-longer old.scan.classes names (length (classes_of source)) longer old.usage kept.exact.used_within
+
+  met_edges : AreMet (start_of old.scan).edges (map (named names) old.edges)
+  met_edges = subst (AreMet (start_of old.scan).edges) (sym same_edges) kept.edges
+
+  met_uses : AreMet (start_of old.scan).uses (map (named_use names) old.usage)
+  met_uses = subst (AreMet (start_of old.scan).uses) (sym same_uses) kept.usage
 
   -- the batch with the trace
   abbrev joined : PlainBatch
   joined = record {
-    sources = sources_of old.listed ++ known.source ∷ [];
-    classes = new.classes;
-    edges = fold (with_row same_pair) old.edges (map (edge_of places known.source.number) known.edges);
-    usage = fold (with_row same_bit_row) old.usage (map (use_of places known.source.number) known.usage);
+    sources = sources ++ source ∷ [];
+    classes = names;
+    edges = old.edges ++ map (edge_of source.number) (drop (length old.edges) new.scan.locks.edges);
+    usage = old.usage ++ map (use_of source.number) (drop (length old.usage) new.scan.uses);
   }
+
+  all_edges : AreMet (start_of new.scan).edges (map (named names) joined.edges)
+  all_edges = are-met same_dependency Decides-same_dependency dependencies_of sources source (named names) (facts.named names) (edge_of source.number) (λ e. refl) old.edges new.scan.locks.edges
+      (start_of old.scan).edges met_edges adds.shows.edges
+
+  all_uses : AreMet (start_of new.scan).uses (map (named_use names) joined.usage)
+  all_uses = are-met same_use Decides-same_use uses_of sources source (named_use names) (facts.named_use names) (use_of source.number) (λ u. refl) old.usage new.scan.uses
+      (start_of old.scan).uses met_uses adds.shows.uses
 
   exact : IsBatch joined
   exact =
       let was = kept.exact in
-      let number = known.source.number in
-      let names = new.classes in
-      let of_edges = edge_of places number in
-      let of_uses = use_of places number in
-      let in_edges = within-longer old.classes names (length known.classes) joins.longer old.edges was.within in
-      let more_edges = within-placed known joins.is_known names places joins.placed number in
-      let in_uses = used-longer old.classes names (length known.classes) joins.longer old.usage was.used_within in
-      let more_uses = used-placed known joins.is_known names places joins.placed number in
+      let count = length (classes_of source) in
       record {
-        fit = All-push Fits (sources_of old.listed) known.source was.fit joins.is_known.fits;
-        rise = all_pairs_push (λ a b. a.number < b.number) (sources_of old.listed) known.source was.rise low;
+        fit = All-push Fits sources source was.fit adds.fits;
+        rise = all_pairs_push (λ a b. a.number < b.number) sources source was.rise low;
         classes =
-            joins.named
-            ∙ (λ i. with_names (was.classes i) (joins.is_known.classes i))
-            ∙ with_names-each_once (flat_map classes_of (sources_of old.listed)) (classes_of known.source)
-            ∙ ap (each_once bytes_eq) (sym (shown-push (sources_of old.listed) known.source));
-        within = rows-All same_dependency Decides-same_dependency (named names) same_pair (IsWithin names) (edges-agree names joins.distinct) old.edges (map of_edges known.edges) in_edges more_edges;
-        once = rows-once same_pair (λ d e. (d.from ≡ e.from) × (d.to ≡ e.to) → ⊥)
-            (λ a b apart same. true≢false (sym (and_from _ _ (eq-eqb b.from a.from (sym same.0)) (eq-eqb b.to a.to (sym same.1))) ∙ apart)) old.edges (map of_edges known.edges) was.once;
-        edges = exact-joined same_dependency Decides-same_dependency dependencies_of (named names) (facts.named known.classes) of_edges same_pair (IsWithin names) (edges-agree names joins.distinct)
-            old.edges known.edges (sources_of old.listed) known.source in_edges more_edges
-            (λ what. ap (λ all. witness_of same_dependency all what) (edges-longer old.classes names (length known.classes) joins.longer old.edges was.within) ∙ was.edges what)
-            (edges-placed known joins.is_known names places joins.placed number) (edges-once known joins.is_known names places joins.placed number) joins.is_known.edges low;
-        used_within = rows-All same_use Decides-same_use (named_use names) same_bit_row (IsUse names) (uses-agree names joins.distinct) old.usage (map of_uses known.usage) in_uses more_uses;
-        used_once = rows-once same_bit_row (λ u v. (u.class ≡ v.class) × (u.bit ≡ v.bit) → ⊥)
-            (λ a b apart same. true≢false (sym (and_from _ _ (eq-eqb b.class a.class (sym same.0)) (eq-eqb b.bit.0 a.bit.0 (ap (λ u. u.0) (sym same.1)))) ∙ apart))
-            old.usage (map of_uses known.usage) was.used_once;
-        usage = exact-joined same_use Decides-same_use uses_of (named_use names) (facts.named_use known.classes) of_uses same_bit_row (IsUse names) (uses-agree names joins.distinct)
-            old.usage known.usage (sources_of old.listed) known.source in_uses more_uses
-            (λ what. ap (λ all. witness_of same_use all what) (uses-longer old.classes names (length known.classes) joins.longer old.usage was.used_within) ∙ was.usage what)
-            (uses-placed known joins.is_known names places joins.placed number) (uses-once known joins.is_known names places joins.placed number) joins.is_known.usage low;
+            adds.shows.names
+            ∙ ap (λ all. with_names all (classes_of source)) was.classes
+            ∙ with_names-each_once (flat_map classes_of sources) (classes_of source)
+            ∙ ap (each_once bytes_eq) (sym (shown-push sources source));
+        within = All-append (IsWithin names) old.edges (map (edge_of source.number) (drop (length old.edges) new.scan.locks.edges))
+            (within-longer old.scan.classes names count longer old.edges was.within)
+            (All-map (IsWithin names) (edge_of source.number) (drop (length old.edges) new.scan.locks.edges)
+            (All-drop (reading.IsWithin names) (length old.edges) new.scan.locks.edges adds.shows.within));
+        once = λ i j d before within both. pairs-of (λ m n. m.what ≢ n.what) (named names) joined.edges all_edges.apart i j d before within
+            (λ k. record { from = get_or names (both.0 k) []; to = get_or names (both.1 k) [] });
+        edges = witness-new same_dependency Decides-same_dependency dependencies_of sources source (named names) (facts.named names) (edge_of source.number) (λ e. refl) old.edges
+            new.scan.locks.edges (start_of old.scan).edges met_edges adds.shows.edges
+            (λ what. ap (λ all. witness_of same_dependency all what) same_edges ∙ was.edges what) (shown-Ascend dependencies_at source) low;
+        used_within = All-append (IsUse names) old.usage (map (use_of source.number) (drop (length old.usage) new.scan.uses))
+            (used-longer old.scan.classes names count longer old.usage was.used_within)
+            (All-map (IsUse names) (use_of source.number) (drop (length old.usage) new.scan.uses)
+            (All-drop (facts.IsUse names) (length old.usage) new.scan.uses adds.shows.used));
+        used_once = λ i j d before within both. pairs-of (λ m n. m.what ≢ n.what) (named_use names) joined.usage all_uses.apart i j d before within
+            (λ k. record { class = get_or names (both.0 k) []; bit = bit_of (both.1 k) });
+        usage = witness-new same_use Decides-same_use uses_of sources source (named_use names) (facts.named_use names) (use_of source.number) (λ u. refl) old.usage
+            new.scan.uses (start_of old.scan).uses met_uses adds.shows.uses
+            (λ what. ap (λ all. witness_of same_use all what) same_uses ∙ was.usage what) (shown-Ascend uses_at source) low;
       }
 
-  pub kept-joined : IsKept new
-  kept-joined = record {
-    exact = subst IsBatch (λ i. record { sources = sym sources i; classes = new.classes; edges = sym joins.edges i; usage = sym joins.usage i }) exact;
-    outcomes = subst AreOutcomes (sym joins.listed) (All-push (λ (l : Listed). l.outcome ≡ outcome (plain l.source)) old.listed last kept.outcomes
-        (joins.outcome ∙ joins.is_known.outcome ∙ ap outcome (sym joins.source)));
-    few = let more : length known.classes ≤ 8191 = joins.is_known.few in omega (arith, kept.few, joins.longer.most, ap length joins.listed, length_push old.listed last);
-    pairs = joins.pairs;
-    count = joins.count;
-    noted = joins.noted;
+  pub kept-added : IsKept new
+  kept-added = record {
+    exact = subst IsBatch (λ i. record { sources = sym all_sources i; classes = names; edges = sym adds.edges i; usage = sym adds.usage i }) exact;
+    outcomes = subst AreOutcomes (sym adds.listed) (All-push (λ (l : Listed). l.outcome ≡ outcome (plain l.source)) old.listed last kept.outcomes adds.outcome);
+    few = let more : length (classes_of source) ≤ 8191 = adds.shows.few in omega (arith, kept.few, longer.most, more, ap length adds.listed, length_push old.listed last);
+    ready = adds.ready;
+    begun = adds.begun;
+    edges = subst (λ rows. AreMet (start_of new.scan).edges (map (named names) rows)) (sym adds.edges) all_edges;
+    usage = subst (λ rows. AreMet (start_of new.scan).uses (map (named_use names) rows)) (sym adds.usage) all_uses;
   }

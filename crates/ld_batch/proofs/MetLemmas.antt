@@ -1,25 +1,21 @@
 -- Things with witnesses, each there once: more of them are added where they aren't there yet.
-use Rattle.std.proofs.Common.{◌≡◌, ◌≢◌, ◌++◌, ◌∷◌, [], ◌||◌, All, AllPairs, Bool, true, false, cond, List, ℕ, suc, Option, Some, None}
-use Rattle.std.proofs.Common.{fold, map, filter, min, get_or, refl, ap, sym, subst, ◌∙◌, arith, if◌then◌else◌, option_map}
-use Rattle.std.proofs.lemmas.Bool.{false_from_ne_true, true≢false}
-use Rattle.std.proofs.lemmas.List.{append-nil, map-append}
-use Rattle.std.proofs.lemmas.List.Elements.{All-append, All-cons, All-head, All-nil, All-tail}
+use Rattle.std.proofs.Common.{◌≡◌, ◌≢◌, ◌≤◌, ◌++◌, ◌∷◌, [], ◌||◌, All, AllPairs, Bool, true, false, cond, List, ℕ, Option, Some, None}
+use Rattle.std.proofs.Common.{drop, fold, length, map, take, get_or, refl, ap, sym, subst, ◌∙◌, arith, if◌then◌else◌, option_map, append_assoc, length-append}
+use Rattle.std.proofs.lemmas.Bool.{true≢false}
+use Rattle.std.proofs.lemmas.List.{append-nil, length-map, map-append, take-append-drop, take-append-le, take_all}
+use Rattle.std.proofs.lemmas.List.Elements.{All-cons, All-nil}
 use Rattle.std.proofs.lemmas.List.Folds.{find-append}
 use Rattle.std.proofs.lemmas.List.Quantifiers.{all_pairs_push}
+use Rattle.std.proofs.Math.Seq.{drop-append_seam}
 use Rattle.std.specs.Bool.{Decides}
-use Rattle.std.specs.List.{find, list_any, reduce}
+use Rattle.std.specs.List.{find, list_any}
 use Rattle.std.specs.Option.{option_or}
 use Rattle.ld_rules.specs.Dependency.{Seen, least_line}
+use Rattle.ld_rules.specs.Inner.Scanned.{with_new}
 use Rattle.ld_rules.specs.declared.outcome.Witness.{Witness}
+use Rattle.ld_rules.proofs.LeastLemmas.{Ascend, first_line, least_is_first}
 use Rattle.ld_batch.specs.Batch.{Met, witness_of}
-use Rattle.ld_batch.specs.Inner.Rows.{with_row}
-
--- what holds of an element and of each later one
-pub first_pairs : {X : Type 0} (R : X → X → Type 0) (x : X) (xs : List X) → AllPairs R (x ∷ xs) → All (R x) xs
-first_pairs R x xs pairs k d within = pairs 0 (suc k) d (omega arith) (omega arith)
-
-pub later_pairs : {X : Type 0} (R : X → X → Type 0) (x : X) (xs : List X) → AllPairs R (x ∷ xs) → AllPairs R xs
-later_pairs R x xs pairs i j d before within = pairs (suc i) (suc j) d (omega arith) (omega arith)
+use Rattle.ld_batch.specs.Inner.Rows.{seen_of}
 
 -- no element passes where none is found
 none_passes : {X : Type 0} (p : X → Bool) (xs : List X) → find p xs ≡ None → list_any p xs ≡ false
@@ -59,22 +55,25 @@ met number seen = record { what = seen.what; witness = record { number = number;
 abbrev pub seen_in : ℕ → Option ℕ → Option Witness
 seen_in number line = option_map (λ l. record { number = number; line = l }) line
 
-module _ {A : Type 0} (same : A → A → Bool) (decides : (a b : A) → Decides (same a b) (a ≡ b)) where
-  -- the same thing, wherever it was seen
-  abbrev pub same_met : Met A → Met A → Bool
-  same_met m n = same m.what n.what
+-- of the same thing, wherever it was seen
+abbrev pub same_met : {A : Type 0} → (A → A → Bool) → Met A → Met A → Bool
+same_met same m n = same m.what n.what
 
+abbrev pub same_seen : {A : Type 0} → (A → A → Bool) → Seen A → Seen A → Bool
+same_seen same s t = same s.what t.what
+
+module _ {A : Type 0} (same : A → A → Bool) (decides : (a b : A) → Decides (same a b) (a ≡ b)) where
   abbrev is_of : A → Met A → Bool
   is_of what m = same what m.what
 
   -- one more
-  one_more : (all : List (Met A)) (m : Met A) (what : A) → witness_of same (with_row same_met all m) what ≡ option_or (witness_of same all what) (witness_of same (m ∷ []) what)
+  one_more : (all : List (Met A)) (m : Met A) (what : A) → witness_of same (with_new (same_met same) all m) what ≡ option_or (witness_of same all what) (witness_of same (m ∷ []) what)
   one_more all m what =
-      ap (option_map (λ n. n.witness)) (find-append (is_of what) all (if list_any (same_met m) all then [] else m ∷ []))
-      ∙ map_or (λ n. n.witness) (find (is_of what) all) (find (is_of what) (if list_any (same_met m) all then [] else m ∷ []))
-      ∙ by (list_any (same_met m) all) refl (find (is_of what) all) refl (same what m.what) refl
+      ap (option_map (λ n. n.witness)) (find-append (is_of what) all (if list_any (same_met same m) all then [] else m ∷ []))
+      ∙ map_or (λ n. n.witness) (find (is_of what) all) (find (is_of what) (if list_any (same_met same m) all then [] else m ∷ []))
+      ∙ by (list_any (same_met same m) all) refl (find (is_of what) all) refl (same what m.what) refl
     where
-      by : (b : Bool) → list_any (same_met m) all ≡ b → (found : Option (Met A)) → find (is_of what) all ≡ found → (here : Bool) → same what m.what ≡ here
+      by : (b : Bool) → list_any (same_met same m) all ≡ b → (found : Option (Met A)) → find (is_of what) all ≡ found → (here : Bool) → same what m.what ≡ here
           → option_or (option_map (λ n. n.witness) found) (option_map (λ n. n.witness) (find (is_of what) (if b then [] else m ∷ [])))
           ≡ option_or (option_map (λ n. n.witness) found) (option_map (λ n. n.witness) (cond here (Some m) None))
       by b known (Some n) found here is = refl
@@ -82,14 +81,14 @@ module _ {A : Type 0} (same : A → A → Bool) (decides : (a b : A) → Decides
       by true known None found false is = refl
       by true known None found true is =
           let none : list_any (is_of what) all ≡ false = none_passes (is_of what) all found in
-          let alike : list_any (is_of what) all ≡ list_any (same_met m) all = ap (λ a. list_any (is_of a) all) ((decides what m.what).0 is) in
+          let alike : list_any (is_of what) all ≡ list_any (same_met same m) all = ap (λ a. list_any (is_of a) all) ((decides what m.what).0 is) in
           absurd (true≢false (sym known ∙ sym alike ∙ none))
 
   -- more, in turn
-  pub joined : (all more : List (Met A)) (what : A) → witness_of same (fold (with_row same_met) all more) what ≡ option_or (witness_of same all what) (witness_of same more what)
+  pub joined : (all more : List (Met A)) (what : A) → witness_of same (fold (with_new (same_met same)) all more) what ≡ option_or (witness_of same all what) (witness_of same more what)
   joined all [] what = sym (or_none (witness_of same all what))
   joined all (m ∷ more) what =
-      joined (with_row same_met all m) more what
+      joined (with_new (same_met same) all m) more what
       ∙ ap (λ o. option_or o (witness_of same more what)) (one_more all m what)
       ∙ or_assoc (witness_of same all what) (witness_of same (m ∷ []) what) (witness_of same more what)
       ∙ ap (option_or (witness_of same all what)) (by (same what m.what))
@@ -98,76 +97,98 @@ module _ {A : Type 0} (same : A → A → Bool) (decides : (a b : A) → Decides
       by true = refl
       by false = refl
 
-  -- no line, where none is of this
-  no_lines : (what : A) (all : List (Seen A)) → All (λ s. same what s.what ≡ false) all → map (λ s. s.line) (filter (λ s. same what s.what) all) ≡ []
-  no_lines what [] none = refl
-  no_lines what (s ∷ all) none =
-      ap (λ b. map (λ t. t.line) (cond b (s ∷ filter (λ t. same what t.what) all) (filter (λ t. same what t.what) all))) (All-head (λ t. same what t.what ≡ false) s all none)
-      ∙ no_lines what all (All-tail (λ t. same what t.what ≡ false) s all none)
-
-  -- what a trace shows, each thing once, by its least line
-  pub of_seen : (number : ℕ) (all : List (Seen A)) → AllPairs (λ s t. s.what ≢ t.what) all → (what : A)
-      → witness_of same (map (met number) all) what ≡ seen_in number (least_line same all what)
-  of_seen number [] once what = refl
-  of_seen number (s ∷ all) once what = by (same what s.what) refl (of_seen number all (later_pairs (λ t u. t.what ≢ u.what) s all once) what)
+  -- the first of these
+  first : (number : ℕ) (all : List (Seen A)) (what : A) → witness_of same (map (met number) all) what ≡ seen_in number (first_line same all what)
+  first number [] what = refl
+  first number (s ∷ all) what = by (same what s.what) (first number all what)
     where
-      apart : what ≡ s.what → All (λ t. same what t.what ≡ false) all
-      apart is k d within = false_from_ne_true _
-          (λ alike. first_pairs (λ t u. t.what ≢ u.what) s all once k d within (sym is ∙ (decides what (get_or all k d).what).0 alike))
-
-      by : (here : Bool) → same what s.what ≡ here → witness_of same (map (met number) all) what ≡ seen_in number (least_line same all what)
+      by : (here : Bool) → witness_of same (map (met number) all) what ≡ seen_in number (first_line same all what)
           → option_map (λ n. n.witness) (cond here (Some (met number s)) (find (is_of what) (map (met number) all)))
-          ≡ seen_in number (reduce min (map (λ t. t.line) (cond here (s ∷ filter (λ t. same what t.what) all) (filter (λ t. same what t.what) all))))
-      by true is rest = ap (λ lines. seen_in number (reduce min (s.line ∷ lines))) (sym (no_lines what all (apart ((decides what s.what).0 is))))
-      by false is rest = rest
+          ≡ seen_in number (option_map (λ t. t.line) (cond here (Some s) (find (λ t. same what t.what) all)))
+      by true rest = refl
+      by false rest = rest
 
-  -- Rows that stand for things, as a test of rows tells them apart.
-  module _ {R : Type 0} (name : R → Met A) (same_row : R → R → Bool) (P : R → Type 0) (agree : (a b : R) → P a → P b → same (name a).what (name b).what ≡ same_row a b) where
-    any_named : (rows : List R) (row : R) → All P rows → P row → list_any (same_met (name row)) (map name rows) ≡ list_any (same_row row) rows
-    any_named [] row all here = refl
-    any_named (x ∷ rows) row all here =
-        let first = agree row x here (All-head P x rows all) in
-        let rest = any_named rows row (All-tail P x rows all) here in
-        (λ i. first i || rest i)
+  -- what a trace shows, in order of line, by its least line
+  pub met_seen : (number : ℕ) (all : List (Seen A)) → Ascend all → (what : A) → witness_of same (map (met number) all) what ≡ seen_in number (least_line same all what)
+  met_seen number all ascend what = first number all what ∙ ap (seen_in number) (sym (least_is_first same all ascend what))
 
-    row-named : (rows : List R) (row : R) → All P rows → P row → map name (with_row same_row rows row) ≡ with_row same_met (map name rows) (name row)
-    row-named rows row all here =
-        map-append name rows (if list_any (same_row row) rows then [] else row ∷ [])
-        ∙ ap (λ zs. map name rows ++ zs) (by (list_any (same_row row) rows))
-        ∙ ap (λ (b : Bool). map name rows ++ (if b then [] else name row ∷ [])) (sym (any_named rows row all here))
-      where
-        by : (b : Bool) → map name (if b then [] else row ∷ []) ≡ (if b then [] else name row ∷ [])
-        by true = refl
-        by false = refl
-
-    row-All : (rows : List R) (row : R) → All P rows → P row → All P (with_row same_row rows row)
-    row-All rows row all here = All-append P rows (if list_any (same_row row) rows then [] else row ∷ []) all (by (list_any (same_row row) rows))
-      where
-        by : (b : Bool) → All P (if b then [] else row ∷ [])
-        by true = All-nil P
-        by false = All-cons P row [] here (All-nil P)
-
-    pub rows-named : (rows more : List R) → All P rows → All P more → map name (fold (with_row same_row) rows more) ≡ fold (with_row same_met) (map name rows) (map name more)
-    rows-named rows [] all all_more = refl
-    rows-named rows (row ∷ more) all all_more =
-        let here = All-head P row more all_more in
-        rows-named (with_row same_row rows row) more (row-All rows row all here) (All-tail P row more all_more)
-        ∙ ap (λ zs. fold (with_row same_met) zs (map name more)) (row-named rows row all here)
-
-    pub rows-All : (rows more : List R) → All P rows → All P more → All P (fold (with_row same_row) rows more)
-    rows-All rows [] all all_more = all
-    rows-All rows (row ∷ more) all all_more =
-        rows-All (with_row same_row rows row) more (row-All rows row all (All-head P row more all_more)) (All-tail P row more all_more)
-
--- rows of which no two are the same stay so
-module _ {R : Type 0} (same_row : R → R → Bool) (Apart : R → R → Type 0) (apart : (a b : R) → same_row b a ≡ false → Apart a b) where
-  row-once : (rows : List R) (row : R) → AllPairs Apart rows → AllPairs Apart (with_row same_row rows row)
-  row-once rows row once = by (list_any (same_row row) rows) refl
+  -- things of which no two are the same stay so
+  once_more : (all : List (Met A)) (m : Met A) → AllPairs (λ a b. a.what ≢ b.what) all → AllPairs (λ a b. a.what ≢ b.what) (with_new (same_met same) all m)
+  once_more all m once = by (list_any (same_met same m) all) refl
     where
-      by : (b : Bool) → list_any (same_row row) rows ≡ b → AllPairs Apart (rows ++ (if b then [] else row ∷ []))
-      by true is = subst (AllPairs Apart) (sym (append-nil rows)) once
-      by false is = all_pairs_push Apart rows row once (λ k d within. apart (get_or rows k d) row (fails_at (same_row row) rows is k d within))
+      by : (b : Bool) → list_any (same_met same m) all ≡ b → AllPairs (λ a b. a.what ≢ b.what) (all ++ (if b then [] else m ∷ []))
+      by true is = subst (AllPairs (λ a b. a.what ≢ b.what)) (sym (append-nil all)) once
+      by false is = all_pairs_push (λ a b. a.what ≢ b.what) all m once
+          (λ k d within alike. true≢false (sym ((decides m.what (get_or all k d).what).1 (sym alike)) ∙ fails_at (same_met same m) all is k d within))
 
-  pub rows-once : (rows more : List R) → AllPairs Apart rows → AllPairs Apart (fold (with_row same_row) rows more)
-  rows-once rows [] once = once
-  rows-once rows (row ∷ more) once = rows-once (with_row same_row rows row) more (row-once rows row once)
+  pub once_all : (all more : List (Met A)) → AllPairs (λ a b. a.what ≢ b.what) all → AllPairs (λ a b. a.what ≢ b.what) (fold (with_new (same_met same)) all more)
+  once_all all [] once = once
+  once_all all (m ∷ more) once = once_all (with_new (same_met same) all m) more (once_more all m once)
+
+-- What is added to a list, each thing once, comes after what was there.
+module _ {X : Type 0} (same : X → X → Bool) where
+  stays_first : (n : ℕ) (known xs : List X) → n ≤ length known → take n (fold (with_new same) known xs) ≡ take n known
+  stays_first n known [] low = refl
+  stays_first n known (x ∷ xs) low =
+      let more : List X = if list_any (same x) known then [] else x ∷ [] in
+      stays_first n (known ++ more) xs (omega (arith, low, length-append known more)) ∙ take-append-le n known more low
+
+  pub then_added : (known xs : List X) → known ++ drop (length known) (fold (with_new same) known xs) ≡ fold (with_new same) known xs
+  then_added known xs =
+      let all = fold (with_new same) known xs in
+      ap (λ zs. zs ++ drop (length known) all) (sym (stays_first (length known) known xs (omega arith) ∙ take_all (length known) known (omega arith)))
+      ∙ take-append-drop (length known) all
+
+-- Things with witnesses, beside the same things as they were seen.
+module _ {A : Type 0} (same : A → A → Bool) (number : ℕ) where
+  seen_met : (all : List (Seen A)) → map seen_of (map (met number) all) ≡ all
+  seen_met [] = refl
+  seen_met (s ∷ all) = ap (λ ss. s ∷ ss) (seen_met all)
+
+  any_seen : (s : Seen A) (all : List (Met A)) → list_any (same_met same (met number s)) all ≡ list_any (same_seen same s) (map seen_of all)
+  any_seen s [] = refl
+  any_seen s (m ∷ all) = ap (λ b. same s.what m.what || b) (any_seen s all)
+
+  -- these were there, and these came with the trace of this number
+  seen_both : (all : List (Met A)) (more : List (Seen A)) → map seen_of (all ++ map (met number) more) ≡ map seen_of all ++ more
+  seen_both all more = map-append seen_of all (map (met number) more) ∙ ap (λ ss. map seen_of all ++ ss) (seen_met more)
+
+  abbrev Comes : List (Met A) → List (Seen A) → List (Seen A) → Type 0
+  Comes all xs more = fold (with_new (same_met same)) (all ++ map (met number) more) (map (met number) xs)
+      ≡ all ++ map (met number) (drop (length all) (fold (with_new (same_seen same)) (map seen_of all ++ more) xs))
+
+  come : (all : List (Met A)) (more xs : List (Seen A)) → Comes all xs more
+  come all more [] =
+      ap (λ ss. all ++ map (met number) ss) (sym (ap (λ n. drop n (map seen_of all ++ more)) (sym (length-map all seen_of)) ∙ drop-append_seam (map seen_of all) more))
+  come all more (s ∷ xs) =
+      ap (λ (b : Bool). fold (with_new (same_met same)) ((all ++ map (met number) more) ++ (if b then [] else met number s ∷ [])) (map (met number) xs))
+      (any_seen s (all ++ map (met number) more) ∙ ap (list_any (same_seen same s)) (seen_both all more))
+      ∙ by (list_any (same_seen same s) (map seen_of all ++ more)) (come all more xs) (come all (more ++ s ∷ []) xs)
+    where
+      by : (b : Bool) → Comes all xs more → Comes all xs (more ++ s ∷ [])
+          → fold (with_new (same_met same)) ((all ++ map (met number) more) ++ (if b then [] else met number s ∷ [])) (map (met number) xs)
+          ≡ all ++ map (met number) (drop (length all) (fold (with_new (same_seen same)) ((map seen_of all ++ more) ++ (if b then [] else s ∷ [])) xs))
+      by true known new =
+          ap (λ ms. fold (with_new (same_met same)) ms (map (met number) xs)) (append-nil (all ++ map (met number) more))
+          ∙ known
+          ∙ ap (λ ss. all ++ map (met number) (drop (length all) (fold (with_new (same_seen same)) ss xs))) (sym (append-nil (map seen_of all ++ more)))
+      by false known new =
+          ap (λ ms. fold (with_new (same_met same)) ms (map (met number) xs))
+          (append_assoc all (map (met number) more) (met number s ∷ []) ∙ ap (λ ms. all ++ ms) (sym (map-append (met number) more (s ∷ []))))
+          ∙ new
+          ∙ ap (λ ss. all ++ map (met number) (drop (length all) (fold (with_new (same_seen same)) ss xs))) (sym (append_assoc (map seen_of all) more (s ∷ [])))
+
+  -- What a trace adds to things that were seen is what it adds to them where they have witnesses.
+  pub come_added : (all : List (Met A)) (xs : List (Seen A))
+      → fold (with_new (same_met same)) all (map (met number) xs) ≡ all ++ map (met number) (drop (length all) (fold (with_new (same_seen same)) (map seen_of all) xs))
+  come_added all xs =
+      ap (λ ms. fold (with_new (same_met same)) ms (map (met number) xs)) (sym (append-nil all))
+      ∙ come all [] xs
+      ∙ ap (λ ss. all ++ map (met number) (drop (length all) (fold (with_new (same_seen same)) ss xs))) (append-nil (map seen_of all))
+
+  pub seen_added : (all : List (Met A)) (xs : List (Seen A)) → map seen_of (fold (with_new (same_met same)) all (map (met number) xs)) ≡ fold (with_new (same_seen same)) (map seen_of all) xs
+  seen_added all xs =
+      ap (map seen_of) (come_added all xs)
+      ∙ seen_both all (drop (length all) (fold (with_new (same_seen same)) (map seen_of all) xs))
+      ∙ ap (λ n. map seen_of all ++ drop n (fold (with_new (same_seen same)) (map seen_of all) xs)) (sym (length-map all seen_of))
+      ∙ then_added (same_seen same) (map seen_of all) xs

@@ -2,8 +2,9 @@
 use Rattle.std.proofs.Common.{◌≡◌, ◌||◌, ◌+◌, ◌<◌, ◌≤◌, ◌⊎◌, inl, inr, ◌++◌, ◌∷◌, [], List, ℕ, Bool, true, false, Option, Some, None, is_some, length, take}
 use Rattle.std.proofs.Common.{get_or, refl, sym, ap, subst, ◌∙◌, if◌then◌else◌, arith, append_assoc, length-append}
 use Rattle.std.proofs.lemmas.Bool.{cases_order}
-use Rattle.std.proofs.lemmas.List.{append-nil, get_or_append_left, get_or_push, length_push, take-append-le}
+use Rattle.std.proofs.lemmas.List.{append-nil, get_or_append_left, get_or_push, length_push, take-append-le, take_all}
 use Rattle.std.proofs.lemmas.List.Folds.{list_any-append}
+use Rattle.std.proofs.lemmas.List.Sums.{fold-append}
 use Rattle.std.proofs.Math.Bool.{or-true}
 use Rattle.std.proofs.lemmas.Slice.Eq.{bytes_eq-Decides}
 use Rattle.std.specs.List.{list_any}
@@ -65,6 +66,15 @@ longer_more old names name more is =
       least = omega (arith, is.least);
       most = omega (arith, is.most);
     }
+
+-- nor do more in turn
+pub longer_all : (names more : List (List ℕ)) → IsLonger names (with_names names more) (length more)
+longer_all names more = by_pushes (λ these. IsLonger names (with_names names these) (length these))
+    (record { front = take_all (length names) names (omega arith); least = omega arith; most = omega arith })
+    (λ these name is.
+    subst (λ all. IsLonger names all (length (these ++ name ∷ []))) (sym (fold-append with_name names these (name ∷ [])))
+    (subst (IsLonger names (with_name (with_names names these) name)) (sym (length_push these name)) (longer_more names (with_names names these) name (length these) is)))
+    more
 
 -- a list's names, each once, with those of another list are the names of both, each once
 pub with_name-each_once : (all : List (List ℕ)) (name : List ℕ) → with_name (each_once bytes_eq all) name ≡ each_once bytes_eq (all ++ name ∷ [])

@@ -1,20 +1,23 @@
 -- The first witnesses over some sources and one more, whose number is above theirs.
 use Rattle.std.proofs.Common.{◌≡◌, ◌≢◌, ◌<◌, ◌==◌, ◌&&◌, ◌||◌, ◌++◌, ◌∷◌, [], All, AllPairs, Bool, true, false, List, ℕ, Option, Some, None, IfSome, nat_lt, filter_map}
-use Rattle.std.proofs.Common.{flat_map, fold, map, refl, ap, sym, ◌∙◌, append_assoc, arith, if◌then◌else◌}
+use Rattle.std.proofs.Common.{drop, flat_map, fold, get_or, length, map, refl, ap, sym, subst, ◌∙◌, append_assoc, arith, if◌then◌else◌}
 use Rattle.std.proofs.lemmas.Bool.{eqb-true, false_from_ne_true, ltb-true}
-use Rattle.std.proofs.lemmas.List.{append-nil}
+use Rattle.std.proofs.lemmas.List.{append-nil, drop-map, get_or-map, length-map, map-append}
 use Rattle.std.proofs.lemmas.List.Elements.{All-cons, All-head, All-nil, All-tail, filter_map-append}
 use Rattle.std.proofs.lemmas.List.Sums.{fold-append}
+use Rattle.std.proofs.lemmas.Simd.{map-map}
 use Rattle.std.specs.Bool.{Decides}
 use Rattle.std.specs.List.{cons_option}
 use Rattle.std.specs.Option.{option_or}
 use Rattle.ld_trace.specs.Sources.{PlainSource}
 use Rattle.ld_rules.specs.declared.outcome.Witness.{Witness}
 use Rattle.ld_rules.specs.Dependency.{Seen, least_line}
+use Rattle.ld_rules.specs.Inner.Scanned.{with_new}
 use Rattle.ld_rules.specs.Union.{classes_of, earlier, first_of, first_witness, is_before}
+use Rattle.ld_rules.proofs.LeastLemmas.{Ascend}
 use Rattle.ld_batch.specs.Batch.{Met, witness_of}
-use Rattle.ld_batch.specs.Inner.Rows.{with_row}
-use Rattle.ld_batch.proofs.MetLemmas.{joined, met, of_seen, rows-named, seen_in}
+use Rattle.ld_batch.specs.Inner.Rows.{AreMet, seen_of}
+use Rattle.ld_batch.proofs.MetLemmas.{come_added, joined, met, met_seen, once_all, same_seen, same_met, seen_added, seen_in}
 
 -- the classes that some sources and one more show
 pub shown-push : (sources : List PlainSource) (source : PlainSource) → flat_map classes_of (sources ++ source ∷ []) ≡ flat_map classes_of sources ++ classes_of source
@@ -93,17 +96,44 @@ module _ {A : Type 0} (same : A → A → Bool) (shown : PlainSource → List (S
       ∙ stays source.number (first_witness same shown sources what) (least_line same (shown source) what)
       (first-low source.number (filter_map (shown_in what) sources) (all-low source.number sources what low))
 
--- Rows with the first witnesses over some sources, to which the facts of one more are added.
-pub exact-joined : {A R F : Type 0} (same : A → A → Bool) (decides : (a b : A) → Decides (same a b) (a ≡ b)) (shown : PlainSource → List (Seen A))
-    → (name : R → Met A) (seen : F → Seen A) (row : F → R) (same_row : R → R → Bool) (P : R → Type 0) (agree : (a b : R) → P a → P b → same (name a).what (name b).what ≡ same_row a b)
-    → (old : List R) (facts : List F) (sources : List PlainSource) (source : PlainSource) → All P old → All P (map row facts)
-    → ((what : A) → witness_of same (map name old) what ≡ first_witness same shown sources what)
-    → map name (map row facts) ≡ map (met source.number) (map seen facts) → AllPairs (λ s t. s.what ≢ t.what) (map seen facts)
-    → ((what : A) → least_line same (map seen facts) what ≡ least_line same (shown source) what) → All (λ s. s.number < source.number) sources
-    → (what : A) → witness_of same (map name (fold (with_row same_row) old (map row facts))) what ≡ first_witness same shown (sources ++ source ∷ []) what
-exact-joined same decides shown name seen row same_row P agree old facts sources source all_old all_new is_old is_new once least low what =
-    ap (λ all. witness_of same all what) (rows-named same decides name same_row P agree old (map row facts) all_old all_new)
-    ∙ joined same decides (map name old) (map name (map row facts)) what
-    ∙ (λ i. option_or (is_old what i) (witness_of same (is_new i) what))
-    ∙ ap (option_or (first_witness same shown sources what)) (of_seen same decides source.number (map seen facts) once what ∙ ap (seen_in source.number) (least what))
-    ∙ sym (witness-then same shown sources source what low)
+-- Rows with the first witnesses over some sources, to which are added those that a scan of one more
+-- adds to what was seen.
+module _ {A R F : Type 0} (same : A → A → Bool) (decides : (a b : A) → Decides (same a b) (a ≡ b)) (shown : PlainSource → List (Seen A)) (sources : List PlainSource) (source : PlainSource)
+    (name : R → Met A) (seen : F → Seen A) (row : F → R) (rows_of : (f : F) → name (row f) ≡ met source.number (seen f)) (old : List R) (facts : List F)
+    (start : List (Seen A)) (are : AreMet start (map name old)) (added : map seen facts ≡ fold (with_new (same_seen same)) start (shown source)) where
+  abbrev more : List F
+  more = drop (length old) facts
+
+  abbrev all_met : List (Met A)
+  all_met = fold (with_new (same_met same)) (map name old) (map (met source.number) (shown source))
+
+  met-new : map name (old ++ map row more) ≡ all_met
+  met-new =
+      let number = source.number in
+      map-append name old (map row more)
+      ∙ ap (λ ms. map name old ++ ms) (map-map name row more ∙ ap (λ f. map f more) (λ i f. rows_of f i) ∙ sym (map-map (met number) seen more))
+      ∙ ap (λ ss. map name old ++ map (met number) ss) (sym (drop-map seen (length old) facts) ∙ ap (drop (length old)) added)
+      ∙ (λ i. map name old ++ map (met number) (drop (sym (length-map old name) i) (fold (with_new (same_seen same)) (sym are.same i) (shown source))))
+      ∙ sym (come_added same number (map name old) (shown source))
+
+  pub are-met : AreMet (map seen facts) (map name (old ++ map row more))
+  are-met = record {
+    same =
+        ap (map seen_of) met-new ∙ seen_added same source.number (map name old) (shown source)
+        ∙ ap (λ ss. fold (with_new (same_seen same)) ss (shown source)) are.same ∙ sym added;
+    apart = subst (AllPairs (λ m n. m.what ≢ n.what)) (sym met-new) (once_all same decides (map name old) (map (met source.number) (shown source)) are.apart);
+  }
+
+  pub witness-new : ((what : A) → witness_of same (map name old) what ≡ first_witness same shown sources what) → Ascend (shown source) → All (λ s. s.number < source.number) sources
+      → (what : A) → witness_of same (map name (old ++ map row more)) what ≡ first_witness same shown (sources ++ source ∷ []) what
+  witness-new is_old ascend low what =
+      ap (λ all. witness_of same all what) met-new
+      ∙ joined same decides (map name old) (map (met source.number) (shown source)) what
+      ∙ (λ i. option_or (is_old what i) (met_seen same decides source.number (shown source) ascend what i))
+      ∙ sym (witness-then same shown sources source what low)
+
+-- what holds of what each two stand for
+pub pairs-of : {X Y : Type 0} (R : Y → Y → Type 0) (f : X → Y) (xs : List X) → AllPairs R (map f xs) → AllPairs (λ a b. R (f a) (f b)) xs
+pairs-of R f xs pairs i j d before within =
+    subst (λ y. R y (f (get_or xs j d))) (get_or-map f xs i d (f d) (omega (arith, before, within)))
+    (subst (R (get_or (map f xs) i (f d))) (get_or-map f xs j d (f d) within) (pairs i j (f d) before (omega (arith, within, length-map xs f))))

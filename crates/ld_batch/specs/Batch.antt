@@ -18,6 +18,10 @@ pub record PlainBatch : Type 0 where
   pub edges : List WitnessedEdge
   pub usage : List WitnessedUse
 
+-- one that lists no trace
+abbrev pub empty_batch : PlainBatch
+empty_batch = record { sources = []; classes = []; edges = []; usage = [] }
+
 -- the sources of a list
 abbrev pub sources_of : List Listed → List PlainSource
 sources_of listed = map (λ l. plain l.source) listed

@@ -3,13 +3,13 @@ ghost use Rattle.std.specs.Prelude.{◌≡◌, ◌<◌, ◌≤◌, ◌*◌, ◌+
 ghost use Rattle.std.specs.List.{last_or};
 ghost use Rattle.ld_trace.specs.Sources.{Fits, plain};
 ghost use Rattle.ld_rules.specs.declared.outcome.TheConstants.{MOST_CLASSES};
-ghost use Rattle.ld_batch.specs.Batch.{AreOutcomes, IsBatch, sources_of};
+ghost use Rattle.ld_batch.specs.Batch.{AreOutcomes, IsBatch, empty_batch, sources_of};
 
-use crate::edges::{Edges, WitnessedEdge};
-use crate::names::intern_all;
-use crate::uses::{Uses, WitnessedUse};
+use crate::edges::WitnessedEdge;
+use crate::reading::read;
+use crate::uses::WitnessedUse;
 use ld_class::Classes;
-use ld_facts::{Facts, Listed, facts};
+use ld_facts::{Facts, Listed, Scan};
 use ld_trace::Source;
 use std::alloc::{AllocError, Global};
 use std::marker::Model;
@@ -21,12 +21,12 @@ use std::marker::Model;
 #[derive(Drop)]
 pub struct Batch<'a> {
     listed: Vec<Listed<'a>>,
-    classes: Classes<'a>,
-    edges: Edges,
-    usage: Uses,
-    /// The numbers of the classes of the trace that came last, by their numbers there. It keeps its
-    /// memory for the next one.
-    places: Vec<u32>,
+    /// It scans each trace on top of what the ones before it show, and is ready for the next one.
+    scan: Scan<'a>,
+    /// The dependencies of the scan, with the numbers of the traces that told them first.
+    edges: Vec<WitnessedEdge>,
+    /// The same of its usage bits.
+    usage: Vec<WitnessedUse>,
 }
 
 impl<'a> Model for Batch<'a> {
@@ -37,35 +37,40 @@ impl<'a> Model for Batch<'a> {
 
     ghost view = { λ b. batch_of (record {
       listed = b.listed.items;
-      classes = b.classes;
-      edges = b.edges.rows.items;
-      pairs = b.edges.pairs.keys;
-      usage = b.usage.rows.items;
-      known = b.usage.known.items;
+      scan = b.scan;
+      edges = b.edges.items;
+      usage = b.usage.items;
     }) };
 
     ghost invariant = { λ b. IsKept (record {
       listed = b.listed.items;
-      classes = b.classes;
-      edges = b.edges.rows.items;
-      pairs = b.edges.pairs.keys;
-      usage = b.usage.rows.items;
-      known = b.usage.known.items;
+      scan = b.scan;
+      edges = b.edges.items;
+      usage = b.usage.items;
     }) };
 }
 
 impl<'a> Batch<'a> {
     /// A batch that lists no trace. Takes no memory.
     pub fn new(alloc: Global) -> Batch<'a>
-        ensures { result ≡ record { sources = []; classes = []; edges = []; usage = [] } }
+        ensures { result ≡ empty_batch }
     {
         Batch {
             listed: Vec::new(alloc),
-            classes: Classes::new(alloc),
-            edges: Edges::new(alloc),
-            usage: Uses::new(alloc),
-            places: Vec::new(alloc),
+            scan: Scan::new(alloc),
+            edges: Vec::new(alloc),
+            usage: Vec::new(alloc),
         }
+    }
+
+    /// Lists no trace from here on, as a new batch does. The memory stays for further traces.
+    pub fn clear(&mut self)
+        ensures { self.new ≡ empty_batch }
+    {
+        self.listed.clear();
+        self.scan.clear();
+        self.edges.clear();
+        self.usage.clear();
     }
 
     /// A batch of the one trace that these facts are of.
@@ -77,7 +82,7 @@ impl<'a> Batch<'a> {
         ensures { IfOk result (λ batch. batch.sources ≡ facts.now.source ∷ []) }
     {
         let mut batch = Batch::new(alloc);
-        match batch.join(facts) {
+        match batch.push(alloc, facts.source()) {
             Ok(()) => Ok(batch),
             Err(refusal) => {
                 drop(batch);
@@ -92,38 +97,16 @@ impl<'a> Batch<'a> {
     /// # Errors
     ///
     /// `AllocError` where a growth of memory was refused. Nothing has changed then but spare memory.
-    pub fn push(&mut self, alloc: Global, source: Source<'a>) -> Result<(), AllocError>
+    pub fn push(&mut self, _alloc: Global, source: Source<'a>) -> Result<(), AllocError>
         requires fits { Fits (plain source) }
         requires above { IfSome (last_or None self.old.sources)
             (λ last. last.number < source.number) }
         ensures ok { OnOk result (self.new.sources ≡ self.old.sources ++ plain source.entry ∷ []) }
         ensures refused { OnErr result (self.new ≡ self.old) }
     {
-        let facts = facts(alloc, source)?;
-        let joined = self.join(&facts);
-        drop(facts);
-        joined
-    }
-
-    /// Lists one more trace, and adds what it shows.
-    ///
-    /// `AllocError` where memory was refused. Nothing has changed then but spare memory.
-    fn join(&mut self, facts: &Facts<'a>) -> Result<(), AllocError>
-        requires above { IfSome (last_or None self.old.sources)
-            (λ last. last.number < facts.now.source.number) }
-        ensures ok { OnOk result (self.new.sources ≡ self.old.sources ++ facts.now.source ∷ []) }
-        ensures refused { OnErr result (self.new ≡ self.old) }
-    {
-        let source = facts.source();
-        let outcome = facts.outcome();
         self.listed.reserve(1)?;
-        self.edges.room(facts.edges().len())?;
-        self.usage.room(facts.classes().len(), facts.usage().len())?;
-        intern_all(&mut self.classes, facts.classes(), &mut self.places)?;
+        let outcome = read(&mut self.scan, &mut self.edges, &mut self.usage, source)?;
         // From here on nothing is refused.
-        self.usage.enter_classes(self.classes.len());
-        self.edges.join(facts.edges(), &self.places, source.number);
-        self.usage.join(facts.usage(), &self.places, source.number);
         let Ok(()) = self.listed.push(Listed { source, outcome }) else {
             unreachable!()
         };
@@ -144,7 +127,7 @@ impl<'a> Batch<'a> {
     pub fn classes(&self) -> &Classes<'a>
         ensures { result.now ≡ self.now.classes }
     {
-        &self.classes
+        &self.scan.classes
     }
 
     /// The dependencies, each once with its first witness, in no promised order. Takes no memory.
@@ -152,7 +135,7 @@ impl<'a> Batch<'a> {
         ensures same { result.now ≡ self.now.edges }
         ensures exact { IsBatch self.now }
     {
-        &self.edges.rows
+        &self.edges
     }
 
     /// The usage bits, each of each class once with its first witness, in no promised order. Takes no
@@ -161,6 +144,6 @@ impl<'a> Batch<'a> {
         ensures same { result.now ≡ self.now.usage }
         ensures exact { IsBatch self.now }
     {
-        &self.usage.rows
+        &self.usage
     }
 }

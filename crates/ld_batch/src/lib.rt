@@ -4,6 +4,7 @@
 mod batch;
 mod edges;
 mod names;
+mod reading;
 mod uses;
 
 pub use batch::Batch;

@@ -4,7 +4,7 @@ ghost use Rattle.std.specs.Prelude.{true, false};
 ghost use Rattle.ld_facts.specs.Union.{dependency_witness};
 ghost use Rattle.ld_find.specs.Alarms.{AreExact, plain_alarms};
 ghost use Rattle.ld_find.specs.Findings.{AreFindings, plain_findings};
-ghost use Rattle.ld_batch.specs.Batch.{AreOutcomes, sources_of};
+ghost use Rattle.ld_batch.specs.Batch.{AreOutcomes, empty_batch, sources_of};
 ghost use Rattle.ld_book.specs.Book.{is_any_listed, is_listed};
 ghost use Rattle.ld_trace.specs.Sources.{Fits};
 ghost use Rattle.ld_book.specs.Totals.{totals};
@@ -35,6 +35,15 @@ pub enum BatchRefusal<'a> {
     Twice(Batch<'a>),
     /// A growth of memory was refused.
     Memory(Batch<'a>),
+}
+
+/// Why a book didn't take the traces of a batch.
+#[derive(Clone, Copy, Debug, PartialEq, Eq)]
+pub enum TakeRefusal {
+    /// A trace of one of its numbers is listed.
+    Twice,
+    /// A growth of memory was refused.
+    Memory,
 }
 
 /// What some traces show together, seen as the list of the traces, in order of arrival.
@@ -106,13 +115,40 @@ impl<'a> Book<'a> {
         }
     }
 
-    /// Lists the traces of a batch, and adds what they show. A batch without traces changes nothing.
+    /// Lists the traces of a batch, and adds what they show. The batch then lists none, as a new one
+    /// does, and has its memory for further traces. A batch without traces changes nothing.
+    ///
+    /// # Errors
+    ///
+    /// Book and batch are as before, but for spare memory: `Twice` where a trace of one of its numbers
+    /// is listed, which is tested first, and `Memory` where a growth of memory was refused.
+    pub fn take(&mut self, batch: &mut Batch<'a>) -> Result<(), TakeRefusal>
+        ensures ok { OnOk result (self.new ≡ self.old ++ batch.old.sources) }
+        ensures emptied { OnOk result (batch.new ≡ empty_batch) }
+        ensures err { OnErr result (self.new ≡ self.old) }
+        ensures back { OnErr result (batch.new ≡ batch.old) }
+        ensures twice { is_any_listed self.old batch.old.sources ≡ true
+            → result ≡ Err TakeRefusal.Twice }
+        ensures memory { is_any_listed self.old batch.old.sources ≡ false
+            → OnErr result (result ≡ Err TakeRefusal.Memory) }
+    {
+        if self.listing.has_any(batch.listed()) {
+            return Err(TakeRefusal::Twice);
+        }
+        if self.enter(batch).is_err() {
+            return Err(TakeRefusal::Memory);
+        }
+        batch.clear();
+        Ok(())
+    }
+
+    /// Lists the traces of a batch, and adds what they show, as `take` does.
     ///
     /// # Errors
     ///
     /// The batch comes back, and nothing has changed but spare memory: `Twice` where a trace of one of its
     /// numbers is listed, which is tested first, and `Memory` where a growth of memory was refused.
-    pub fn add_batch(&mut self, batch: Batch<'a>) -> Result<(), BatchRefusal<'a>>
+    pub fn add_batch(&mut self, mut batch: Batch<'a>) -> Result<(), BatchRefusal<'a>>
         ensures ok { OnOk result (self.new ≡ self.old ++ batch.entry.sources) }
         ensures err { OnErr result (self.new ≡ self.old) }
         ensures twice { is_any_listed self.old batch.entry.sources ≡ true
@@ -120,15 +156,13 @@ impl<'a> Book<'a> {
         ensures memory { is_any_listed self.old batch.entry.sources ≡ false
             → OnErr result (result ≡ Err (BatchRefusal.Memory batch.entry)) }
     {
-        if self.listing.has_any(batch.listed()) {
-            return Err(BatchRefusal::Twice(batch));
-        }
-        match self.enter(&batch) {
+        match self.take(&mut batch) {
             Ok(()) => {
                 drop(batch);
                 Ok(())
             }
-            Err(AllocError) => Err(BatchRefusal::Memory(batch)),
+            Err(TakeRefusal::Twice) => Err(BatchRefusal::Twice(batch)),
+            Err(TakeRefusal::Memory) => Err(BatchRefusal::Memory(batch)),
         }
     }
 

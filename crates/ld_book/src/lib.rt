@@ -6,7 +6,7 @@ mod listing;
 mod totals;
 mod traces;
 
-pub use book::{BatchRefusal, Book, Refusal};
+pub use book::{BatchRefusal, Book, Refusal, TakeRefusal};
 pub use ld_batch::Batch;
 pub use ld_find::{Alarms, ConflictRow, CycleRow, Findings, ForbiddenRow, Rows};
 pub use ld_union::UsageRow;

@@ -1,7 +1,7 @@
 //! Books that take batches.
 
 use crate::books::{NONE, THREE_TRACES, book_of, sources_of, totals, witness};
-use ld_book::{Batch, BatchRefusal, Book};
+use ld_book::{Batch, BatchRefusal, Book, TakeRefusal};
 use ld_trace::Source;
 use std::alloc::{AllocError, Global};
 use std::process::Abort;
@@ -30,12 +30,17 @@ fn push<'a, R: Abort>(
 /// A batch of these traces, whose numbers rise. What was refused memory is tried once more.
 fn batch_of<'a, R: Abort>(rt: &R, alloc: Global, sources: &[Source<'a>]) -> Batch<'a> {
     let mut batch = Batch::new(alloc);
+    fill(rt, alloc, &mut batch, sources);
+    batch
+}
+
+/// Pushes these traces, whose numbers rise. What was refused memory is tried once more.
+fn fill<'a, R: Abort>(rt: &R, alloc: Global, batch: &mut Batch<'a>, sources: &[Source<'a>]) {
     for source in sources {
-        if push(rt, alloc, &mut batch, *source).is_err() {
-            push(rt, alloc, &mut batch, *source).expect(rt, "memory for a trace");
+        if push(rt, alloc, batch, *source).is_err() {
+            push(rt, alloc, batch, *source).expect(rt, "memory for a trace");
         }
     }
-    batch
 }
 
 /// Adds a batch no number of which is listed. It comes back where memory is refused.
@@ -106,6 +111,36 @@ fn a_batch_without_traces_changes_nothing(rt: HostRuntime) {
     add_batch(&rt, &mut book, Batch::new(rt.alloc()));
     assert_eq!(rt; book.totals(), before);
     assert_eq!(rt; book.listed().len(), 2);
+    drop(book);
+}
+
+/// Takes a batch no number of which is listed. Where memory is refused it is taken once more.
+fn take<'a, R: Abort>(rt: &R, book: &mut Book<'a>, batch: &mut Batch<'a>) {
+    let count = batch.listed().len();
+    if book.take(batch).is_err() {
+        assert_eq!(rt; batch.listed().len(), count);
+        book.take(batch).expect(rt, "memory for a batch");
+    }
+}
+
+#[test]
+fn a_batch_that_was_taken_is_filled_again(rt: HostRuntime) {
+    let sources = sources_of(&rt, rt.alloc(), THREE_TRACES);
+    assert_eq!(rt; sources.len(), 3);
+    let mut book = Book::new(rt.alloc());
+    let mut batch = batch_of(&rt, rt.alloc(), &sources[..2]);
+    take(&rt, &mut book, &mut batch);
+    assert_eq!(rt; book.totals(), totals(2, 0, 4, 3, 2));
+    assert!(rt; batch.listed().is_empty() && batch.edges().is_empty() && batch.usage().is_empty());
+    assert_eq!(rt; batch.classes().len(), 0);
+    fill(&rt, rt.alloc(), &mut batch, &sources[2..]);
+    take(&rt, &mut book, &mut batch);
+    assert_eq!(rt; book.totals(), totals(3, 0, 6, 3, 3));
+    fill(&rt, rt.alloc(), &mut batch, &sources[1..]);
+    assert!(rt; book.take(&mut batch) == Err(TakeRefusal::Twice));
+    assert_eq!(rt; batch.listed().len(), 2);
+    assert_eq!(rt; book.totals(), totals(3, 0, 6, 3, 3));
+    drop(batch);
     drop(book);
 }
 

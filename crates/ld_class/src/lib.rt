@@ -3,7 +3,9 @@
 #![tactic(auto)]
 
 mod names;
+mod recent;
 mod usage;
 
 pub use names::{Classes, MOST_NAMES};
+pub use recent::RecentNames;
 pub use usage::Usage;

@@ -16,7 +16,7 @@ use Rattle.ld_held.specs.declared.interrupts.Interrupts.{Interrupts}
 use Rattle.ld_rules.specs.declared.outcome.TheConstants.{MOST_CLASSES, MOST_HELD, MOST_TASKS}
 use Rattle.ld_held.specs.declared.edges.EdgeFact.{EdgeFact}
 use Rattle.ld_facts.specs.declared.scan.Scan.{Scan}
-use Rattle.ld_held.specs.declared.uses.UsageFact.{UsageFact}
+use Rattle.ld_uses.specs.declared.uses.UsageFact.{UsageFact}
 use Rattle.ld_held.specs.Inner.Edges.{edge_to, with_edge_fact}
 use Rattle.ld_rules.specs.Flags.{is_enabled}
 use Rattle.ld_rules.specs.Frames.{contexts, frame_of, task_of}
@@ -32,7 +32,7 @@ use Rattle.ld_facts.specs.Inner.Reading.{AreMany, HasTask, IsAt, IsTask, IsWithi
 use Rattle.ld_facts.specs.Facts.{named, named_use}
 use Rattle.ld_rules.specs.Inner.Scanned.{same_dependency_seen, same_use_seen, with_new}
 use Rattle.ld_facts.specs.Facts.{IsUse}
-use Rattle.ld_held.specs.Inner.Uses.{in_facts, on_facts, with_use}
+use Rattle.ld_uses.specs.Inner.Uses.{in_facts, on_facts, with_use}
 use Rattle.ld_rules.proofs.FlagLemmas.{is_enabled-quiet, levels-quiet, stack-quiet}
 use Rattle.ld_rules.proofs.GroupLemmas.{starts-kept}
 use Rattle.ld_rules.proofs.HeldLemmas.{enters_none, held_by-acquires}

@@ -12,7 +12,7 @@ use Rattle.ld_rules.specs.declared.fault.TraceFault.TheVariants.{BadEnable, BadE
 use Rattle.ld_held.specs.declared.interrupts.Interrupts.{Interrupts}
 use Rattle.ld_rules.specs.declared.outcome.TheConstants.{MOST_HELD, MOST_TASKS}
 use Rattle.ld_facts.specs.declared.scan.Scan.{Scan}
-use Rattle.ld_held.specs.declared.uses.UsageFact.{UsageFact}
+use Rattle.ld_uses.specs.declared.uses.UsageFact.{UsageFact}
 use Rattle.ld_rules.specs.Dependency.{dependencies_at}
 use Rattle.ld_facts.specs.Facts.{named_use}
 use Rattle.ld_rules.specs.Flags.{is_enabled, same_state}
@@ -26,7 +26,7 @@ use Rattle.ld_rules.specs.Outcome.{class_acquired, event_fault, events, is_bad_e
 use Rattle.ld_facts.specs.Inner.Reading.{HasTask, IsAt, IsTask, Start, happens, uses_after}
 use Rattle.ld_rules.specs.Inner.Scanned.{same_use_seen, with_new}
 use Rattle.ld_facts.specs.Facts.{IsUse}
-use Rattle.ld_held.specs.Inner.Uses.{on_facts, with_use}
+use Rattle.ld_uses.specs.Inner.Uses.{on_facts, with_use}
 use Rattle.ld_rules.proofs.FlagLemmas.{levels-disable, levels-enable, levels-enter, levels-exit_good, stack-quiet, states-enter, states-exit}
 use Rattle.ld_rules.proofs.GroupLemmas.{IsGrouped, start-within, starts-enter, starts-exit, starts-kept}
 use Rattle.ld_rules.proofs.HeldLemmas.{held_by-other}

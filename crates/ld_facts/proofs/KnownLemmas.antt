@@ -21,7 +21,7 @@ use Rattle.ld_rules.specs.Union.{if_read}
 use Rattle.ld_facts.specs.Facts.{IsKnown, named, named_use}
 use Rattle.ld_rules.specs.Usage.{Use, bit_of, same_use, uses_at}
 use Rattle.ld_rules.specs.Inner.Scanned.{same_dependency_seen, same_use_seen}
-use Rattle.ld_held.specs.declared.uses.UsageFact.{UsageFact}
+use Rattle.ld_uses.specs.declared.uses.UsageFact.{UsageFact}
 use Rattle.ld_facts.specs.Inner.Reading.{IsAt, IsReadTo, Start, empty_scan, happens, no_start, positions_from}
 use Rattle.ld_rules.proofs.OutcomeLemmas.{first_fault}
 use Rattle.ld_rules.proofs.PlaceLemmas.{alike_from_decides, by_pushes, each_once-append, each_once-more}

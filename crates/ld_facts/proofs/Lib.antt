@@ -9,4 +9,5 @@ pub mod AcquireLemmas
 pub mod ReleaseLemmas
 pub mod InterruptLemmas
 pub mod KnownLemmas
+pub mod StandsLemmas
 pub mod StartLemmas

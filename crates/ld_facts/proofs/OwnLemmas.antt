@@ -1,5 +1,6 @@
 -- The trace's own classes, by their names among all names.
-use Rattle.std.proofs.Common.{◌≡◌, ◌+◌, ◌<◌, ◌≤◌, ◌++◌, ◌∷◌, [], ◌||◌, List, ℕ, Bool, true, false, None, Some, Option, All, length, get_or, nat_eq, refl, ap, sym, subst, ◌∙◌, arith, if◌then◌else◌, is_some, length-append}
+use Rattle.std.proofs.Common.{◌≡◌, ◌+◌, ◌<◌, ◌≤◌, ◌++◌, ◌∷◌, [], ◌||◌, List, ℕ, Bool, true, false, None, Some, Option}
+use Rattle.std.proofs.Common.{All, length, get_or, nat_eq, refl, ap, sym, subst, ◌∙◌, arith, if◌then◌else◌, is_some, length-append}
 use Rattle.std.proofs.lemmas.Bool.{true≢false, eq-eqb, false_from_ne_true, or_left, or_right}
 use Rattle.std.proofs.lemmas.Bool.Decides.{Decides-eqb}
 use Rattle.std.proofs.lemmas.List.{append-nil, get_or-map, length-map, map-append}

@@ -1,11 +1,11 @@
 -- A trace that begins on top of what a scan has.
-use Rattle.std.proofs.Common.{◌+◌, ◌≤◌, [], All, length, refl, arith}
+use Rattle.std.proofs.Common.{◌≡◌, ◌+◌, ◌≤◌, [], All, length, refl, arith}
 use Rattle.ld_class.specs.Names.{AreDistinct}
 use Rattle.ld_class.specs.declared.names.TheConstants.{MOST_NAMES}
 use Rattle.ld_rules.specs.declared.outcome.TheConstants.{MOST_CLASSES}
 use Rattle.ld_facts.specs.declared.scan.Scan.{Scan}
 use Rattle.ld_facts.specs.Facts.{IsUse}
-use Rattle.ld_facts.specs.Inner.Reading.{IsAt, IsWithin, begun, start_of}
+use Rattle.ld_facts.specs.Inner.Reading.{IsAt, IsWithin, StandsOn, begun, start_of, undone}
 
 -- it is at what the scan has, before its first event
 pub begun-at : (scan : Scan) → AreDistinct scan.classes → All (IsWithin scan.classes) scan.locks.edges → All (IsUse scan.classes) scan.uses →
@@ -25,4 +25,14 @@ begun-at scan distinct within used room = record {
   within = within;
   uses = refl;
   used = used;
+}
+
+-- what stands on it is it again, once it is taken back
+pub undone-is : (old new : Scan) → StandsOn (begun old) new → undone new (length old.classes) (length old.uses) ≡ begun old
+undone-is old new on = λ i. record {
+  tasks = [];
+  classes = on.classes i;
+  own = [];
+  locks = record { stacks = []; interrupts = []; edges = on.begun i; begun = on.begun i };
+  uses = on.uses i;
 }

@@ -11,7 +11,7 @@ use Rattle.ld_class.specs.Names.{AreDistinct, IsNameAt, with_name}
 use Rattle.ld_trace.specs.declared.event.State.{State}
 use Rattle.ld_trace.specs.declared.event.State.TheVariants.{Hard, Soft}
 use Rattle.ld_trace.specs.Events.{PlainLock}
-use Rattle.ld_held.specs.declared.uses.UsageFact.{UsageFact}
+use Rattle.ld_uses.specs.declared.uses.UsageFact.{UsageFact}
 use Rattle.ld_held.specs.declared.interrupts.Interrupts.{Interrupts}
 use Rattle.ld_rules.specs.Dependency.{Seen}
 use Rattle.ld_facts.specs.Facts.{named_use}
@@ -21,7 +21,7 @@ use Rattle.ld_rules.specs.Usage.{Bit, Use, bit_of, usage_of}
 use Rattle.ld_rules.specs.Usage.Bit.{In, On}
 use Rattle.ld_rules.specs.Inner.Scanned.{same_use_seen, with_new}
 use Rattle.ld_facts.specs.Facts.{IsUse}
-use Rattle.ld_held.specs.Inner.Uses.{fact, in_facts, on_facts, same_fact, with_use}
+use Rattle.ld_uses.specs.Inner.Uses.{fact, in_facts, on_facts, same_fact, with_use}
 use Rattle.ld_facts.proofs.NamedLemmas.{name-more, number-more}
 use Rattle.ld_rules.proofs.UsageLemmas.{Decides-same_use, at_line, on_use, uses_in}
 

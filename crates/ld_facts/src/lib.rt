@@ -5,9 +5,11 @@
 mod known;
 mod reading;
 mod scan;
+mod stop;
 
 pub use known::Facts;
-pub use ld_held::{EdgeFact, UsageFact};
+pub use ld_held::EdgeFact;
 pub use ld_rules::{Listed, MOST_CLASSES, MOST_HELD, MOST_TASKS, Outcome, TraceFault, Witness};
+pub use ld_uses::UsageFact;
 pub use reading::{facts, read_into};
 pub use scan::{Mark, Scan};

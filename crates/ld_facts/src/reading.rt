@@ -5,14 +5,16 @@ ghost use Rattle.ld_trace.specs.Events.{answer_seen, positions};
 ghost use Rattle.ld_trace.specs.First.{IsFirstSaid};
 ghost use Rattle.ld_rules.specs.Outcome.{outcome};
 ghost use Rattle.ld_rules.specs.declared.outcome.Outcome.TheVariants.{Read, Refused};
-ghost use Rattle.ld_facts.specs.Inner.Reading.{AreMany, IsAt, Start};
+ghost use Rattle.ld_facts.specs.Inner.Reading.{AreMany, IsAt, StandsOn, Start};
 
 use crate::known::Facts;
-use crate::scan::{Scan, Stop};
+use crate::scan::Scan;
+use crate::stop::Stop;
 use ld_class::Classes;
-use ld_held::{Edges, Uses};
+use ld_held::Edges;
 use ld_rules::{Outcome, TraceFault};
 use ld_trace::{Event, LineFault, Source, next_event, next_line, read_event, text};
+use ld_uses::Uses;
 use std::alloc::{AllocError, Global};
 
 /// The facts of a trace: what became of it and, where it was read to its end, what it shows. A
@@ -41,7 +43,8 @@ pub fn facts<'a>(alloc: Global, source: Source<'a>) -> Result<Facts<'a>, AllocEr
 }
 
 /// Reads a trace, and answers what became of it. Where it was read to its end, the scan has what it
-/// shows on top of what it had; else what it has is of no use.
+/// shows on top of what it had. Else what the scan had stands first in it, and [`Scan::undo`] takes
+/// back what follows.
 ///
 /// `AllocError` where a growth of memory was refused, whatever the trace says.
 pub fn read_into<'a>(scan: &mut Scan<'a>, source: Source<'a>) -> Result<Outcome, AllocError>
@@ -52,6 +55,7 @@ pub fn read_into<'a>(scan: &mut Scan<'a>, source: Source<'a>) -> Result<Outcome,
     ensures read { (events : ℕ) → result ≡ Ok (Read events) →
         (start : Start) → IsAt start [] scan.old →
         IsAt start (positions (plain source.entry)) scan.new }
+    ensures first { StandsOn scan.old scan.new }
 {
     let mut rest = source.bytes;
     let mut line = source.first_line;

@@ -8,35 +8,18 @@ ghost use Rattle.ld_trace.specs.Events.PlainEvent.{Disable, Enable, Enter, Exit,
 ghost use Rattle.ld_held.specs.Inner.Interrupts.{fresh};
 ghost use Rattle.ld_rules.specs.Outcome.{event_fault, events};
 ghost use Rattle.ld_facts.specs.Inner.Reading.{AreMany, HasTask, IsAt, Start, acquisition, happens};
-ghost use Rattle.ld_facts.specs.Inner.Reading.{begun, empty_scan, own_names, taken, undone, waited};
-ghost use Rattle.ld_held.specs.Inner.Uses.{on_facts, with_use};
+ghost use Rattle.ld_facts.specs.Inner.Reading.{StandsOn, begun, empty_scan, own_names, taken, undone, waited};
+ghost use Rattle.ld_uses.specs.Inner.Uses.{on_facts, with_use};
 ghost use Rattle.ld_rules.specs.declared.fault.TraceFault.{TraceFault};
 ghost use Rattle.ld_rules.specs.declared.outcome.TheConstants.{MOST_CLASSES, MOST_HELD, MOST_TASKS};
 
-use ld_class::Classes;
-use ld_held::{Locks, OwnClasses, Uses};
+use crate::stop::Stop;
+use ld_class::{Classes, RecentNames};
+use ld_held::{Flag, Locks};
 use ld_rules::{MOST_CLASSES, MOST_HELD, MOST_TASKS, TraceFault};
 use ld_trace::{Event, Lock, State};
+use ld_uses::{OwnClasses, Uses};
 use std::alloc::{AllocError, Global};
-
-/// Why a scan ends before its trace does.
-#[derive(Clone, Copy)]
-pub enum Stop {
-    /// There is no memory.
-    Memory,
-    /// The trace is refused.
-    Fault(TraceFault),
-}
-
-impl From<AllocError> for Stop {
-    ghost use Rattle.ld_facts.specs.declared.scan.Stop.TheVariants.{Memory};
-
-    ghost from_gives = { λ _ stop. stop ≡ Memory };
-
-    fn from(_: AllocError) -> Stop {
-        Stop::Memory
-    }
-}
 
 /// How a lock is taken.
 #[derive(Clone, Copy)]
@@ -58,7 +41,7 @@ pub struct Mark {
 #[derive(Drop)]
 pub struct Scan<'a> {
     /// The tasks, in order of first event.
-    pub tasks: Classes<'a>,
+    pub tasks: RecentNames<'a>,
     /// The classes: those that were there before the trace, then those that it adds, in order of
     /// first acquisition.
     pub classes: Classes<'a>,
@@ -76,7 +59,7 @@ impl<'a> Scan<'a> {
         ensures { result ≡ empty_scan }
     {
         Scan {
-            tasks: Classes::new(alloc),
+            tasks: RecentNames::new(alloc),
             classes: Classes::new(alloc),
             own: OwnClasses::new(alloc),
             locks: Locks::new(alloc),
@@ -90,7 +73,7 @@ impl<'a> Scan<'a> {
         ensures mark { (result.classes ≡ length self.old.classes)
             × (result.uses ≡ length self.old.uses) }
     {
-        self.tasks.cut(0);
+        self.tasks.clear();
         self.own.begin();
         self.locks.begin();
         Mark {
@@ -99,11 +82,22 @@ impl<'a> Scan<'a> {
         }
     }
 
+    /// Takes all away. The memory stays.
+    pub fn clear(&mut self)
+        ensures { self.new ≡ empty_scan }
+    {
+        self.tasks.clear();
+        self.classes.cut(0);
+        self.own.begin();
+        self.locks.clear();
+        self.uses.cut(0);
+    }
+
     /// Takes back what the trace added that began at this mark.
     pub fn undo(&mut self, mark: Mark)
         ensures { self.new ≡ undone self.old mark.classes mark.uses }
     {
-        self.tasks.cut(0);
+        self.tasks.clear();
         self.classes.cut(mark.classes);
         self.own.begin();
         self.locks.undo();
@@ -120,6 +114,7 @@ impl<'a> Scan<'a> {
         ensures fault { (fault : TraceFault) → result ≡ Err (Stop.Fault fault) →
             (start : Start) (all : List Position) → IsAt start all self.old →
             event_fault (events all) (plain_event event.entry) ≡ Some fault }
+        ensures first { StandsOn self.old self.new }
     {
         match event {
             Event::Acquire { task, lock } => self.acquire(task, lock, line, Taking::Waiting),
@@ -151,6 +146,7 @@ impl<'a> Scan<'a> {
             (start : Start) (all : List Position) → IsAt start all self.old →
             event_fault (events all) (acquisition how task.entry.now (plain_lock lock.entry))
             ≡ Some fault }
+        ensures first { StandsOn self.old self.new }
     {
         let task = self.task(task)?;
         let class = self.class(lock.class)?;
@@ -169,7 +165,8 @@ impl<'a> Scan<'a> {
     /// task's contexts.
     fn wait(&mut self, task: u32, class: u32, line: u64) -> Result<(), AllocError>
         requires { task < length self.old.locks.stacks }
-        ensures { OnOk result (self.new ≡ waited self.old task class line) }
+        ensures waited { OnOk result (self.new ≡ waited self.old task class line) }
+        ensures first { StandsOn self.old self.new }
     {
         self.locks.tell(task, class, line)?;
         let interrupts = self.locks.interrupts(task);
@@ -180,7 +177,9 @@ impl<'a> Scan<'a> {
     fn take(&mut self, task: u32, class: u32, lock: Lock<'a>, line: u64) -> Result<(), AllocError>
         requires task { task < length self.old.locks.stacks }
         requires room { length (slice_index_or self.old.locks.stacks task []) < MOST_HELD }
-        ensures { OnOk result (self.new ≡ taken self.old task class (plain_lock lock.entry) line) }
+        ensures taken { OnOk result
+            (self.new ≡ taken self.old task class (plain_lock lock.entry) line) }
+        ensures first { StandsOn self.old self.new }
     {
         self.locks.hold(task, lock, class)?;
         let interrupts = self.locks.interrupts(task);
@@ -198,6 +197,7 @@ impl<'a> Scan<'a> {
         ensures fault { (fault : TraceFault) → result ≡ Err (Stop.Fault fault) →
             (start : Start) (all : List Position) → IsAt start all self.old →
             event_fault (events all) (Release task.entry.now (plain_lock lock.entry)) ≡ Some fault }
+        ensures first { StandsOn self.old self.new }
     {
         let task = self.task(task)?;
         if self.locks.let_go(task, lock)? {
@@ -217,6 +217,7 @@ impl<'a> Scan<'a> {
         ensures fault { (fault : TraceFault) → result ≡ Err (Stop.Fault fault) →
             (start : Start) (all : List Position) → IsAt start all self.old →
             event_fault (events all) (Enter task.entry.now state) ≡ Some fault }
+        ensures first { StandsOn self.old self.new }
     {
         let task = self.task(task)?;
         let interrupts = self.locks.interrupts(task);
@@ -240,6 +241,7 @@ impl<'a> Scan<'a> {
         ensures fault { (fault : TraceFault) → result ≡ Err (Stop.Fault fault) →
             (start : Start) (all : List Position) → IsAt start all self.old →
             event_fault (events all) (Exit task.entry.now state) ≡ Some fault }
+        ensures first { StandsOn self.old self.new }
     {
         let task = self.task(task)?;
         let interrupts = self.locks.interrupts(task);
@@ -264,12 +266,13 @@ impl<'a> Scan<'a> {
         ensures fault { (fault : TraceFault) → result ≡ Err (Stop.Fault fault) →
             (start : Start) (all : List Position) → IsAt start all self.old →
             event_fault (events all) (Enable task.entry.now state) ≡ Some fault }
+        ensures first { StandsOn self.old self.new }
     {
         let task = self.task(task)?;
         if self.locks.interrupts(task).has(state) {
             return Err(Stop::Fault(TraceFault::BadEnable));
         }
-        self.locks.set(task, state, true);
+        self.locks.set(task, state, Flag::On);
         self.count_held(task, line)?;
         Ok(())
     }
@@ -284,20 +287,22 @@ impl<'a> Scan<'a> {
         ensures fault { (fault : TraceFault) → result ≡ Err (Stop.Fault fault) →
             (start : Start) (all : List Position) → IsAt start all self.old →
             event_fault (events all) (Disable task.entry.now state) ≡ Some fault }
+        ensures first { StandsOn self.old self.new }
     {
         let task = self.task(task)?;
-        self.locks.set(task, state, false);
+        self.locks.set(task, state, Flag::Off);
         Ok(())
     }
 
     /// All that the task holds, in every frame, counts under its flags.
     fn count_held(&mut self, task: u32, line: u64) -> Result<(), AllocError>
         requires { task < length self.old.locks.stacks }
-        ensures { OnOk result (self.new ≡ record self.old {
+        ensures counted { OnOk result (self.new ≡ record self.old {
           uses = fold with_use self.old.uses
               (on_facts (slice_index_or self.old.locks.interrupts task fresh) line
               (map (λ hold. hold.class) (slice_index_or self.old.locks.stacks task [])));
         }) }
+        ensures first { StandsOn self.old self.new }
     {
         let interrupts = self.locks.interrupts(task);
         self.uses.held(self.locks.held(task), interrupts, line)
@@ -311,6 +316,7 @@ impl<'a> Scan<'a> {
             (fault ≡ TraceFault.TooManyTasks)
             × (place_of self.old.tasks name.entry.now ≡ None)
             × (MOST_TASKS ≤ length self.old.tasks) }
+        ensures first { StandsOn self.old self.new }
     {
         if let Some(task) = self.tasks.find(name) {
             return Ok(task);
@@ -340,6 +346,7 @@ impl<'a> Scan<'a> {
             (fault ≡ TraceFault.TooManyClasses)
             × (place_of (own_names self.old) name.entry.now ≡ None)
             × (MOST_CLASSES ≤ length self.old.own) }
+        ensures first { StandsOn self.old self.new }
     {
         let known = self.classes.find(name);
         if let Some(class) = known {
@@ -370,6 +377,7 @@ impl<'a> Scan<'a> {
             (fault ≡ TraceFault.TooManyClasses)
             × (place_of (own_names self.old) name.entry.now ≡ None)
             × (MOST_CLASSES ≤ length self.old.own) }
+        ensures first { StandsOn self.old self.new }
     {
         if self.own.len() >= MOST_CLASSES {
             return Err(Stop::Fault(TraceFault::TooManyClasses));
@@ -388,6 +396,7 @@ impl<'a> Scan<'a> {
         ensures classes { OnOk result
             (self.new.classes ≡ with_name self.old.classes name.entry.now) }
         ensures others { self.new ≡ record self.old { classes = self.new.classes } }
+        ensures first { StandsOn self.old self.new }
     {
         match known {
             Some(class) => Ok(class),

@@ -27,12 +27,17 @@ fn push<'a, R: AllocGlobal + Abort>(
 /// A batch of these traces. What was refused memory is tried once more.
 fn batch_of<'a, R: AllocGlobal + Abort>(rt: &R, sources: &[Source<'a>]) -> Batch<'a> {
     let mut batch = Batch::new(rt.alloc());
+    fill(rt, &mut batch, sources);
+    batch
+}
+
+/// Pushes these traces. What was refused memory is tried once more.
+fn fill<'a, R: AllocGlobal + Abort>(rt: &R, batch: &mut Batch<'a>, sources: &[Source<'a>]) {
     for source in sources {
-        if push(rt, &mut batch, *source).is_err() {
-            push(rt, &mut batch, *source).expect(rt, "memory");
+        if push(rt, batch, *source).is_err() {
+            push(rt, batch, *source).expect(rt, "memory");
         }
     }
-    batch
 }
 
 /// The sources of a stream. What was refused memory is tried once more.
@@ -272,19 +277,32 @@ fn stream_with_refused(rt: &impl AllocGlobal, place: usize) -> Result<Vec<u8>, A
     Ok(bytes)
 }
 
+/// Fills one batch with some of these traces after others, and asserts what it has each time.
+fn assert_unions<'a, R: AllocGlobal + Abort>(
+    rt: &R,
+    batch: &mut Batch<'a>,
+    sources: &[Source<'a>],
+) -> Result<(), AllocError> {
+    for size in [1, 2, 3, 8, 13] {
+        for some in sources.chunks(size) {
+            batch.clear();
+            fill(rt, batch, some);
+            let told = told_alone(rt, some)?;
+            assert_union(rt, batch, &told);
+        }
+    }
+    Ok(())
+}
+
 #[test]
 fn a_batch_is_the_union_of_what_its_traces_show(rt: HostRuntime) -> Result<(), Fail> {
     for place in 0..=TRACES.len() {
         let bytes = stream_with_refused(&rt, place)?;
         let sources = sources_of(&rt, &bytes);
-        for size in [1, 2, 3, 8, 13] {
-            for some in sources.chunks(size) {
-                let batch = batch_of(&rt, some);
-                let told = told_alone(&rt, some)?;
-                assert_union(&rt, &batch, &told);
-                drop(batch);
-            }
-        }
+        let mut batch = Batch::new(rt.alloc());
+        let told = assert_unions(&rt, &mut batch, &sources);
+        drop(batch);
+        told?;
     }
     Ok(())
 }

@@ -9,6 +9,7 @@ use Rattle.std.proofs.lemmas.List.{get_or-append_right}
 use Rattle.std.proofs.lemmas.List.Elements.{Contains-append_cases, Contains-get_or}
 use Rattle.std.proofs.lemmas.Map.Keys.{IsDistinct-from_apart, apart_from_distinct}
 use Rattle.std.proofs.lemmas.Map.Steps.{length-le_from_distinct_below}
+use Rattle.ld_graph.specs.declared.repair.Part.TheVariants as Part
 use Rattle.ld_graph.specs.declared.turns.Side.{Side}
 use Rattle.ld_graph.specs.declared.turns.Side.TheVariants.{After, Before}
 use Rattle.ld_graph.specs.Walks.{HasWalk}
@@ -189,7 +190,7 @@ module _ (after before : ℕ → ℕ → Type 0) (turned : (x y : ℕ) → after
 
     behind_front : (x y : ℕ) → after x y → IsInside low (length row) (rank x)
         → IsInside low (length row) (rank y)
-        → is_part behind true (rank y - low) ≡ true → is_part behind true (rank x - low) ≡ true
+        → is_part behind Part.Found (rank y - low) ≡ true → is_part behind Part.Found (rank x - low) ≡ true
     behind_front x y s i j e =
         Contains_any behind (rank x - low) (behind_closed x y (
           (ends x y s).1,
@@ -242,12 +243,12 @@ module _ (after before : ℕ → ℕ → Type 0) (turned : (x y : ℕ) → after
 
     ahead_front : (x y : ℕ) → after x y → IsInside low (length row) (rank x)
         → IsInside low (length row) (rank y)
-        → is_part ahead false (rank y - low) ≡ true → is_part ahead false (rank x - low) ≡ true
+        → is_part ahead Part.Rest (rank y - low) ≡ true → is_part ahead Part.Rest (rank x - low) ≡ true
     ahead_front x y s i j e = by (bool_cases (list_any (nat_eq (rank x - low)) ahead))
       where
         by : (list_any (nat_eq (rank x - low)) ahead ≡ true)
             ⊎ (list_any (nat_eq (rank x - low)) ahead ≡ false)
-            → is_part ahead false (rank x - low) ≡ true
+            → is_part ahead Part.Rest (rank x - low) ≡ true
         by (inr q) = ap not q
         by (inl q) =
             let b = j.1 in

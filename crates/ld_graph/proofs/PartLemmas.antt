@@ -1,13 +1,14 @@
 -- The part of a row that was found, and its rest.
 use Rattle.std.proofs.Common.{◌≡◌, ◌⊎◌, inl, inr, ℕ, zero, suc, ◌+◌, Bool, true, false, not}
-use Rattle.std.proofs.Common.{true≢false, if◌then◌else◌, List, [], ◌∷◌, ◌++◌, nat_eq, Contains, refl, sym}
+use Rattle.std.proofs.Common.{if◌then◌else◌, List, [], ◌∷◌, ◌++◌, nat_eq, Contains, refl, sym}
 use Rattle.std.proofs.Common.{ap, ◌∙◌}
-use Rattle.std.proofs.Math.Bool.{beq}
 use Rattle.std.specs.List.{list_any}
 use Rattle.std.proofs.lemmas.Bool.{eqb-true}
 use Rattle.std.proofs.lemmas.Cmp.{nat_eq_equiv}
 use Rattle.std.proofs.lemmas.Map.Views.{Contains-from_any, list_any-from_Contains}
-use Rattle.ld_graph.specs.Inner.Repairs.{count, is_part, picked}
+use Rattle.ld_graph.specs.declared.repair.Part.{Part}
+use Rattle.ld_graph.specs.declared.repair.Part.TheVariants.{Found, Rest}
+use Rattle.ld_graph.specs.Inner.Repairs.{count, is_part, other, picked}
 use Rattle.ld_graph.proofs.MarkLemmas.{bool_cases}
 
 pub any_Contains : (found : List ℕ) (k : ℕ) → list_any (nat_eq k) found ≡ true → Contains found k
@@ -25,10 +26,10 @@ any_none found k free = by (bool_cases (list_any (nat_eq k) found))
     by (inr e) = e
 
 -- the other part is the rest
-pub part_rest : (found : List ℕ) (front : Bool) (k : ℕ) → is_part found (not front) k
+pub part_rest : (found : List ℕ) (front : Part) (k : ℕ) → is_part found (other front) k
     ≡ not (is_part found front k)
-part_rest found true k = refl
-part_rest found false k = by (list_any (nat_eq k) found)
+part_rest found Found k = refl
+part_rest found Rest k = by (list_any (nat_eq k) found)
   where
     by : (b : Bool) → b ≡ not (not b)
     by true = refl
@@ -46,11 +47,3 @@ module _ (p q : ℕ → Bool) (same : (k : ℕ) → p k ≡ q k) where
   picked-same item (suc n) =
       ap (λ z. if p n then z ++ item n ∷ [] else z) (picked-same item n)
       ∙ ap (λ z. if z then picked q item n ++ item n ∷ [] else picked q item n) (same n)
-
--- an offset whose test gave what was wanted
-pub part_here : (found : List ℕ) (wanted b : Bool) (k : ℕ) → b ≡ list_any (nat_eq k) found
-    → beq b wanted ≡ true → is_part found wanted k ≡ true
-part_here found true true k e h = sym e
-part_here found true false k e h = absurd (true≢false (sym h))
-part_here found false true k e h = absurd (true≢false (sym h))
-part_here found false false k e h = ap not (sym e)

@@ -6,7 +6,7 @@ ghost use Rattle.std.specs.Bool.{OnTrue, OnFalse};
 ghost use Rattle.ld_graph.specs.declared.graph.TheConstants.{MOST_GRAPH_CLASSES};
 ghost use Rattle.ld_graph.specs.Inner.Repairs.{AreInverse, HasMet, AreRanked, IsPlan, IsRepaired};
 ghost use Rattle.ld_graph.specs.Inner.Repairs.{IsRow, IsOrReaches};
-ghost use Rattle.ld_graph.specs.Inner.Repairs.{count, in_front, is_part, picked, split};
+ghost use Rattle.ld_graph.specs.Inner.Repairs.{count, in_front, is_part, other, picked, split};
 ghost use Rattle.ld_lists.specs.Lists.{IsNear};
 
 use crate::search::Search;
@@ -24,19 +24,50 @@ pub struct Space {
     pub moved: Vec<u32>,
 }
 
-/// Appends those classes of the row whose offsets were found, or those whose offsets weren't, in
-/// their order.
-fn append_part(row: &[u32], search: &Search, found: bool, moved: &mut Vec<u32>)
+/// A part of a row, by what a search has found.
+#[derive(Clone, Copy)]
+enum Part {
+    /// The classes whose offsets were found.
+    Found,
+    /// The others.
+    Rest,
+}
+
+impl Part {
+    /// The rest of the row beside this part.
+    fn other(self) -> Part
+        ensures { result ≡ other self }
+    {
+        match self {
+            Part::Found => Part::Rest,
+            Part::Rest => Part::Found,
+        }
+    }
+
+    /// Whether the class at the offset is in the part.
+    fn has(self, search: &Search, offset: u32) -> bool
+        requires { offset < search.now.size }
+        ensures { result ≡ is_part search.now.found self offset }
+    {
+        match self {
+            Part::Found => search.has(offset),
+            Part::Rest => !search.has(offset),
+        }
+    }
+}
+
+/// Appends the classes of one part of the row, in their order.
+fn append_part(row: &[u32], search: &Search, part: Part, moved: &mut Vec<u32>)
     requires size { length row.now ≤ search.now.size }
     requires few { length row.now ≤ MOST_GRAPH_CLASSES }
-    requires room { vec_len moved.old + count (is_part search.now.found found) (length row.now)
+    requires room { vec_len moved.old + count (is_part search.now.found part) (length row.now)
         ≤ vec_capacity moved.old }
     ensures items { moved.new.items ≡ moved.old.items
-        ++ picked (is_part search.now.found found) (slice_index row.now) (length row.now) }
+        ++ picked (is_part search.now.found part) (slice_index row.now) (length row.now) }
     ensures capacity { vec_capacity moved.old ≤ vec_capacity moved.new }
 {
     for offset in 0..row.len() {
-        if search.has(offset as u32) == found {
+        if part.has(search, offset as u32) {
             let Ok(()) = moved.push(row[offset]) else {
                 unreachable!()
             };
@@ -44,9 +75,8 @@ fn append_part(row: &[u32], search: &Search, found: bool, moved: &mut Vec<u32>)
     }
 }
 
-/// Puts those classes of the row first whose offsets were found, or those whose offsets weren't, and
-/// then the others, all in their order.
-fn split_row(row: &[u32], search: &Search, front: bool, moved: &mut Vec<u32>)
+/// Puts the classes of one part of the row first, and then the others, all in their order.
+fn split_row(row: &[u32], search: &Search, front: Part, moved: &mut Vec<u32>)
     requires size { length row.now ≤ search.now.size }
     requires few { length row.now ≤ MOST_GRAPH_CLASSES }
     requires room { length row.now ≤ vec_capacity moved.old }
@@ -56,7 +86,7 @@ fn split_row(row: &[u32], search: &Search, front: bool, moved: &mut Vec<u32>)
 {
     moved.clear();
     append_part(row, search, front, moved);
-    append_part(row, search, !front, moved);
+    append_part(row, search, front.other(), moved);
 }
 
 /// Puts the classes of the row in their new order, by the search that has ended, and answers whether
@@ -80,13 +110,13 @@ fn reorder(ended: Side, row: &[u32], behind: &Search, ahead: &Search, moved: &mu
             if behind.has(0) {
                 return false;
             }
-            split_row(row, behind, true, moved);
+            split_row(row, behind, Part::Found, moved);
         }
         Side::After => {
             if ahead.has(row.len() as u32 - 1) {
                 return false;
             }
-            split_row(row, ahead, false, moved);
+            split_row(row, ahead, Part::Rest, moved);
         }
     }
     true

@@ -2,7 +2,5 @@ pub mod StackLemmas
 pub mod ChainLemmas
 pub mod EdgeLemmas
 pub mod LockLemmas
-pub mod OwnLemmas
-pub mod UseLemmas
 pub mod FirstLemmas
 pub mod BegunLemmas

@@ -5,5 +5,3 @@ pub mod Chains
 pub mod Edges
 pub mod Locks
 pub mod Interrupts
-pub mod Uses
-pub mod Own

@@ -42,6 +42,13 @@ impl Chains {
         }
     }
 
+    /// Takes all chains away. The memory stays.
+    pub fn clear(&mut self)
+        ensures { self.new ≡ [] }
+    {
+        self.links.truncate(0);
+    }
+
     /// The number of the chain with one more class.
     pub fn extend(&mut self, before: Option<usize>, class: u32) -> Result<usize, AllocError>
         requires { IfSome before (λ n. n < length self.old) }

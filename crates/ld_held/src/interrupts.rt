@@ -5,9 +5,27 @@ ghost use Rattle.ld_trace.specs.declared.event.State.{State};
 ghost use Rattle.ld_rules.specs.Flags.{same_state};
 ghost use Rattle.ld_rules.specs.Open.{is_some_and};
 ghost use Rattle.ld_held.specs.Inner.Interrupts.{IsEntered, IsLeft, IsSet, enabled_now, flag_now, fresh};
-ghost use Rattle.ld_held.specs.Inner.Interrupts.{nests_in, start_now, states_of};
+ghost use Rattle.ld_held.specs.Inner.Interrupts.{is_on, nests_in, start_now, states_of};
 
 use ld_trace::State;
+
+/// What a flag is set to.
+#[derive(Clone, Copy)]
+pub enum Flag {
+    On,
+    Off,
+}
+
+impl Flag {
+    fn is_on(self) -> bool
+        ensures { result ≡ is_on self }
+    {
+        match self {
+            Flag::On => true,
+            Flag::Off => false,
+        }
+    }
+}
 
 /// The flags of a task. Softirqs come in only where both are on.
 #[derive(Clone, Copy)]
@@ -153,13 +171,13 @@ impl Interrupts {
     }
 
     /// The flag for the state goes on or off in the innermost frame.
-    pub fn set(&mut self, state: State, on: bool)
-        ensures { IsSet state on self.old self.new }
+    pub fn set(&mut self, state: State, flag: Flag)
+        ensures { IsSet state (is_on flag) self.old self.new }
     {
         let mut flags = self.flags();
         match state {
-            State::Hard => flags.hard = on,
-            State::Soft => flags.soft = on,
+            State::Hard => flags.hard = flag.is_on(),
+            State::Soft => flags.soft = flag.is_on(),
         }
         if let Some(frame) = self.hard {
             self.hard = Some(OpenFrame { flags, ..frame });

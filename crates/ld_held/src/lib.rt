@@ -1,5 +1,5 @@
-//! What the scan of a trace keeps, by the numbers of tasks and classes: the locks that each task
-//! holds, its frames and flags, and the dependencies and usage bits so far.
+//! What the scan of a trace keeps of tasks, by the numbers of tasks and classes: the locks that each
+//! task holds, its frames and flags, and the dependencies so far.
 #![tactic(auto)]
 
 mod chains;
@@ -7,12 +7,8 @@ mod edges;
 mod held;
 mod interrupts;
 mod locks;
-mod own;
-mod uses;
 
 pub use edges::{EdgeFact, Edges};
 pub use held::Held;
-pub use interrupts::Interrupts;
+pub use interrupts::{Flag, Interrupts};
 pub use locks::Locks;
-pub use own::OwnClasses;
-pub use uses::{UsageFact, Uses};

@@ -8,16 +8,16 @@ ghost use Rattle.std.specs.List.{list_any};
 ghost use Rattle.ld_trace.specs.Events.{plain_lock};
 ghost use Rattle.ld_held.specs.Inner.Edges.{edge_to, with_edge_fact};
 ghost use Rattle.ld_held.specs.Inner.Interrupts.{IsEntered, IsLeft, IsSet, fresh, nests_in, start_now};
-ghost use Rattle.ld_held.specs.Inner.Interrupts.{states_of};
+ghost use Rattle.ld_held.specs.Inner.Interrupts.{is_on, states_of};
 ghost use Rattle.ld_held.specs.Inner.Locks.{ChangesInterrupts, chain_of, holds_of, inner_of, is_of, outer_of};
 ghost use Rattle.ld_held.specs.Inner.Stacks.{plain_held};
 ghost use Rattle.ld_rules.specs.Inner.Scanned.{remove_last};
 ghost use Rattle.ld_rules.specs.declared.outcome.TheConstants.{MOST_HELD};
 
 use crate::chains::{Chains, Link, Told};
-use crate::edges::Edges;
+use crate::edges::{EdgeFact, Edges};
 use crate::held::{Held, Stacks, latest};
-use crate::interrupts::Interrupts;
+use crate::interrupts::{Flag, Interrupts};
 use arrayvec::ArrayVec;
 use ld_rules::MOST_HELD;
 use ld_trace::{Lock, State};
@@ -104,6 +104,17 @@ impl<'a> Locks<'a> {
         self.stacks.begin();
         self.edges.cut(self.begun.edges);
         self.told.cut(self.begun.told);
+    }
+
+    /// Takes all away. The memory stays.
+    pub fn clear(&mut self)
+        ensures { self.new ≡ record { stacks = []; interrupts = []; edges = []; begun = [] } }
+    {
+        self.stacks.begin();
+        self.chains.clear();
+        self.told.cut(0);
+        self.edges.cut(0);
+        self.begun = Begun { edges: 0, told: 0 };
     }
 
     /// One more task, which holds nothing and is outside frames.
@@ -247,15 +258,22 @@ impl<'a> Locks<'a> {
     }
 
     /// The task's flag for the state goes on or off in its innermost frame.
-    pub fn set(&mut self, task: u32, state: State, on: bool)
+    pub fn set(&mut self, task: u32, state: State, flag: Flag)
         requires task { task < length self.old.stacks }
         ensures moved { ChangesInterrupts self.old self.new task }
-        ensures set { IsSet state on (slice_index_or self.old.interrupts task fresh)
+        ensures set { IsSet state (is_on flag) (slice_index_or self.old.interrupts task fresh)
             (slice_index_or self.new.interrupts task fresh) }
     {
         let mut interrupts = self.stacks.interrupts(task);
-        interrupts.set(state, on);
+        interrupts.set(state, flag);
         self.stacks.set_interrupts(task, interrupts);
+    }
+
+    /// The dependencies, in the order in which they came.
+    pub fn edges(&self) -> &[EdgeFact]
+        ensures { result.now ≡ self.now.edges }
+    {
+        self.edges.as_slice()
     }
 
     /// The dependencies.

@@ -1,4 +1,3 @@
-pub mod Desk
 pub mod Work
 -- what callers of the tickets cite
 pub use Rattle.ld_tickets.specs.Draw

@@ -5,19 +5,18 @@ ghost use Rattle.ld_trace.specs.Sources.{AreNumbered, Fits, plain};
 ghost use Rattle.ld_tickets.specs.Draw.{IsSeatOf};
 ghost use Rattle.ld_work.specs.Work.{IsUneven, ListsEachOnce};
 
-use crate::desk::Desk;
 use crate::even::uneven;
-use crate::feeder::{Feeder, MOST_FEEDERS};
 use crate::gate::Gate;
-use ld_book::{Batch, BatchRefusal, Book};
+use ld_book::{Batch, Book, TakeRefusal};
+use ld_desk::{Desk, Feeder, MOST_FEEDERS};
 use ld_tickets::{DrawSeat, Tickets};
 use ld_trace::{MOST_TRACES, Source};
 use std::alloc::{AllocError, Global};
 use std::marker::Brand;
 use std::sync::Wait;
 use std::sync::ledger::{Blank, Ledger};
+use std::thread;
 use std::thread::Threads;
-use std::{mem, thread};
 use thiserror::Error;
 
 /// Why the work gave no book.
@@ -264,7 +263,7 @@ fn run_one<'a, T: Ledger, E: Ledger, G: Gate, R: Wait>(
         }
     }
     if !refused && !batch.listed().is_empty() {
-        refused = submit(rt, alloc, desk, &mut batch, &mut feeder).is_err();
+        refused = submit(rt, desk, &mut batch, &mut feeder).is_err();
     }
     drop(batch);
     Done { feeder, refused }
@@ -289,25 +288,26 @@ fn read<'a, T: Ledger, E: Ledger, R: Wait>(
     if batch.listed().len() < MOST_IN_BATCH {
         return Ok(());
     }
-    submit(rt, alloc, desk, batch, feeder)
+    submit(rt, desk, batch, feeder)
 }
 
 /// Adds the traces of the batch to the desk's book, unless one of their numbers is listed, and leaves
 /// a batch without traces.
 fn submit<'a, T: Ledger, E: Ledger, R: Wait>(
     rt: &R,
-    alloc: Global,
     desk: &Desk<'a, T, E>,
     batch: &mut Batch<'a>,
     feeder: &mut Feeder<T, E>,
 ) -> Result<(), AllocError>
     ensures { batch.new.sources ≡ [] }
 {
-    let full = mem::replace(batch, Batch::new(alloc));
-    let answer = desk.look(rt).submit_batch(feeder, full);
-    let is_refused = matches!(answer, Err(BatchRefusal::Memory(_)));
-    drop(answer);
-    if is_refused { Err(AllocError) } else { Ok(()) }
+    let answer = desk.look(rt).take(feeder, batch);
+    // What wasn't taken is given up: a worker goes on with its next draw, or ends.
+    batch.clear();
+    match answer {
+        Err(TakeRefusal::Memory) => Err(AllocError),
+        Ok(()) | Err(TakeRefusal::Twice) => Ok(()),
+    }
 }
 
 /// The feeders of all workers.

@@ -1,36 +1,59 @@
 -- What a batch keeps true of its fields. No contract of a `Batch` cites this file.
-use Rattle.std.specs.Prelude.{◌≡◌, ℕ, ◌*◌, ◌≤◌, List, length, map}
-use Rattle.ld_class.specs.declared.usage.Usage.{Usage}
+use Rattle.std.specs.Prelude.{◌≡◌, ◌*◌, ◌≤◌, All, List, [], fold, length, map}
+use Rattle.ld_class.specs.Names.{AreDistinct}
+use Rattle.ld_trace.specs.Sources.{PlainSource}
 use Rattle.ld_rules.specs.declared.outcome.Listed.{Listed}
 use Rattle.ld_rules.specs.declared.outcome.TheConstants.{MOST_CLASSES}
-use Rattle.ld_batch.specs.declared.edges.Pair.{Pair}
+use Rattle.ld_rules.specs.Inner.Scanned.{same_dependency_seen, same_use_seen, with_new}
+use Rattle.ld_rules.specs.Union.{classes_of, dependencies_of, uses_of}
+use Rattle.ld_facts.specs.declared.scan.Scan.{Scan}
+use Rattle.ld_facts.specs.Facts as facts
+use Rattle.ld_facts.specs.Inner.Reading as reading
+use Rattle.ld_facts.specs.Inner.Reading.{IsAt, begun, start_of}
 use Rattle.ld_batch.specs.declared.edges.WitnessedEdge.{WitnessedEdge}
 use Rattle.ld_batch.specs.declared.uses.WitnessedUse.{WitnessedUse}
-use Rattle.ld_batch.specs.Batch.{AreOutcomes, IsBatch, PlainBatch, sources_of}
-use Rattle.ld_batch.specs.Inner.Rows.{AreNoted, pair_of}
+use Rattle.ld_batch.specs.Batch.{AreOutcomes, IsBatch, PlainBatch, named, named_use, sources_of}
+use Rattle.ld_batch.specs.Inner.Names.{with_names}
+use Rattle.ld_batch.specs.Inner.Rows.{AreMet}
 
 -- the fields, as they are seen
 pub record Fields : Type 0 where
   pub listed : List Listed
-  pub classes : List (List ℕ)
+  pub scan : Scan
   pub edges : List WitnessedEdge
-  pub pairs : List Pair
   pub usage : List WitnessedUse
-  pub known : List Usage
 
 abbrev pub batch_of : Fields → PlainBatch
 batch_of fields = record {
   sources = sources_of fields.listed;
-  classes = fields.classes;
+  classes = fields.scan.classes;
   edges = fields.edges;
   usage = fields.usage;
 }
 
--- The batch is what its traces show, and the tables fit the rows.
+-- a trace may begin on top of what this scan has
+abbrev pub IsReady : Scan → Type 0
+IsReady scan = scan ≡ begun scan
+
+-- The batch is what its traces show. A trace may begin on top of what the scan has, which is what the
+-- rows have, but for the traces' numbers.
 pub record IsKept (fields : Fields) : Type 0 where
   pub exact : IsBatch (batch_of fields)
   pub outcomes : AreOutcomes fields.listed
-  pub few : length fields.classes ≤ length fields.listed * MOST_CLASSES
-  pub pairs : map pair_of fields.edges ≡ fields.pairs
-  pub count : length fields.known ≡ length fields.classes
-  pub noted : AreNoted fields.usage fields.known
+  pub few : length fields.scan.classes ≤ length fields.listed * MOST_CLASSES
+  pub ready : IsReady fields.scan
+  pub begun : IsAt (start_of fields.scan) [] fields.scan
+  pub edges : AreMet (start_of fields.scan).edges (map (named fields.scan.classes) fields.edges)
+  pub usage : AreMet (start_of fields.scan).uses (map (named_use fields.scan.classes) fields.usage)
+
+-- on top of what the one scan has the other has what this source shows
+pub record IsRead (old : Scan) (source : PlainSource) (new : Scan) : Type 0 where
+  pub names : new.classes ≡ with_names old.classes (classes_of source)
+  pub few : length (classes_of source) ≤ MOST_CLASSES
+  pub distinct : AreDistinct new.classes
+  pub edges : (start_of new).edges
+      ≡ fold (with_new same_dependency_seen) (start_of old).edges (dependencies_of source)
+  pub within : All (reading.IsWithin new.classes) new.locks.edges
+  pub uses : (start_of new).uses
+      ≡ fold (with_new same_use_seen) (start_of old).uses (uses_of source)
+  pub used : All (facts.IsUse new.classes) new.uses

@@ -21,7 +21,7 @@ use Rattle.ld_held.specs.Inner.Edges.{edge_to, with_edge_fact}
 use Rattle.ld_held.specs.Inner.Interrupts.{fresh, levels_of, start_now, starts_of, states_of}
 use Rattle.ld_rules.specs.Inner.Levels.{levels, starts, states}
 use Rattle.ld_facts.specs.Facts.{IsUse}
-use Rattle.ld_held.specs.Inner.Uses.{in_facts, on_facts, with_use}
+use Rattle.ld_uses.specs.Inner.Uses.{in_facts, on_facts, with_use}
 use Rattle.ld_rules.specs.Usage.{uses_at}
 use Rattle.ld_rules.specs.Held.{held_by}
 use Rattle.ld_held.specs.Inner.Locks.{Hold}
@@ -125,6 +125,12 @@ begun scan = record scan {
   own = [];
   locks = record { stacks = []; interrupts = []; edges = scan.locks.edges; begun = scan.locks.edges };
 }
+
+-- what the old scan had stands first in the new one, which is still that of the same trace
+pub record StandsOn (old new : Scan) : Type 0 where
+  pub classes : take (length old.classes) new.classes ≡ old.classes
+  pub begun : new.locks.begun ≡ old.locks.begun
+  pub uses : take (length old.uses) new.uses ≡ old.uses
 
 -- the scan without what its trace added, where it had so many classes and usage bits when that began
 abbrev pub undone : Scan → ℕ → ℕ → Scan

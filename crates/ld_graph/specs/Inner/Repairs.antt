@@ -2,6 +2,8 @@
 use Rattle.std.specs.Prelude.{◌≡◌, ◌≢◌, true, false, nat_eq, ℕ, zero, suc, ◌+◌, ◌<◌, ◌≤◌, Bool, not, if◌then◌else◌, List, []}
 use Rattle.std.specs.Prelude.{◌∷◌, ◌++◌, ◌-◌, ◌⊎◌, length, slice_index, Contains}
 use Rattle.std.specs.List.{list_any}
+use Rattle.ld_graph.specs.declared.repair.Part.{Part}
+use Rattle.ld_graph.specs.declared.repair.Part.TheVariants.{Found, Rest}
 use Rattle.ld_graph.specs.declared.turns.Side.{Side}
 use Rattle.ld_graph.specs.declared.turns.Side.TheVariants.{After, Before}
 use Rattle.ld_lists.specs.Lists.{IsNear, Sides}
@@ -83,14 +85,18 @@ HasEnded After sides ranks low row behind ahead =
     HasAllNear (IsNear sides.after.lists) ranks low row ahead (length ahead)
 
 -- the offset is one of those that were found, or is none of them
-abbrev pub is_part : List ℕ → Bool → ℕ → Bool
-is_part found true k = list_any (nat_eq k) found
-is_part found false k = not (list_any (nat_eq k) found)
+abbrev pub is_part : List ℕ → Part → ℕ → Bool
+is_part found Found k = list_any (nat_eq k) found
+is_part found Rest k = not (list_any (nat_eq k) found)
+
+abbrev pub other : Part → Part
+other Found = Rest
+other Rest = Found
 
 -- the offsets that go to the front: what the search backward found, or what the other didn't find
 abbrev pub in_front : Side → (behind ahead : List ℕ) → ℕ → Bool
-in_front Before behind ahead = is_part behind true
-in_front After behind ahead = is_part ahead false
+in_front Before behind ahead = is_part behind Found
+in_front After behind ahead = is_part ahead Rest
 
 -- the search that ended has found the offset that the other one began at
 abbrev pub HasMet : Side → (len : ℕ) → (behind ahead : List ℕ) → Type 0

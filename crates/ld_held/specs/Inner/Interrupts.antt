@@ -5,6 +5,8 @@ use Rattle.std.specs.Prelude.{slice_index_or, Option, Some, None, if◌then◌el
 use Rattle.std.specs.List.{list_any}
 use Rattle.ld_trace.specs.declared.event.State.{State}
 use Rattle.ld_trace.specs.declared.event.State.TheVariants.{Hard, Soft}
+use Rattle.ld_held.specs.declared.interrupts.Flag.{Flag}
+use Rattle.ld_held.specs.declared.interrupts.Flag.TheVariants.{On, Off}
 use Rattle.ld_held.specs.declared.interrupts.Flags.{Flags}
 use Rattle.ld_held.specs.declared.interrupts.OpenFrame.{OpenFrame}
 use Rattle.ld_held.specs.declared.interrupts.Interrupts.{Interrupts}
@@ -75,6 +77,10 @@ pub record IsLeft (old new : Interrupts) : Type 0 where
   pub states : states_of new ≡ drop 1 (states_of old)
   pub starts : starts_of new ≡ drop 1 (starts_of old)
   pub levels : (of : State) → levels_of of new ≡ drop 1 (levels_of of old)
+
+abbrev pub is_on : Flag → Bool
+is_on On = true
+is_on Off = false
 
 -- the flag for this state went on or off in the innermost frame
 pub record IsSet (state : State) (on : Bool) (old new : Interrupts) : Type 0 where

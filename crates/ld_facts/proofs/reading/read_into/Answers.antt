@@ -1,15 +1,17 @@
 -- Each line takes the scan one position further, or refuses the trace.
-use Rattle.std.proofs.Common.{rules, ◌≡◌, ◌+◌, None, Some, Ok, Err, arith, sym, ap, refl, ◌∙◌, length, length-append}
+use Rattle.std.proofs.Common.{rules, ◌≡◌, ◌+◌, None, Some, Ok, Err, arith, sym, ap, subst, refl, ◌∙◌, length, length-append}
 use Rattle.ld_trace.specs.Lines.{text_of}
 use Rattle.ld_trace.specs.Sources.{plain}
 use Rattle.ld_trace.specs.Events.{answer_seen, plain_event, said_by}
 use Rattle.ld_rules.specs.declared.outcome.Outcome.TheVariants.{Refused}
+use Rattle.ld_facts.specs.Inner.Reading.{StandsOn}
 use Rattle.ld_facts.proofs.KnownLemmas.{moved, read-at, read-none, read-outcome, read-nothing, read-event, refused-event, refused-line}
+use Rattle.ld_facts.proofs.StandsLemmas.{stands-further, stands-same}
 use Rattle.ld_facts.proofs.reading.read_into.Goals as goal
 use Rattle.ld_facts.proofs.reading.read_into.Goals.{in-Ok-None, in-Ok-Some+in-Ok}
 
 pub loop-said-init : goal.loop-said-init
-loop-said-init c = record { many = c.requires.many; lines = omega arith; counted = omega arith; read = read-none (plain c.args.source) c.args.scan.now }
+loop-said-init c = record { many = c.requires.many; lines = omega arith; counted = omega arith; read = read-none (plain c.args.source) c.args.scan.now; stands = stands-same c.args.scan.now }
 
 pub returns-in-Err-Fault-clause-told : goal.returns-in-Err-Fault-clause-told
 returns-in-Err-Fault-clause-told c start is_at =
@@ -51,6 +53,7 @@ loop-said-preserved c =
             moved (plain c.args.source) (c.loop-said.line + 1) c.in-Some.others.now c.args.scan.now _ _ _ _ w.scan-is w.events-is
             (read-nothing (plain c.args.source) c.loop-said.line c.loop-said.rest.now c.args.scan.now c.loop-said.scan c.loop-said.events c.loop-said.invariant.read
             first.line c.in-Some.others.now first.first is);
+        stands = subst (StandsOn c.args.scan.now) (sym w.scan-is) c.loop-said.invariant.stands;
       }
       | in-Ok-Some+in-Ok w ↦ record {
         many = search rules;
@@ -61,5 +64,8 @@ loop-said-preserved c =
             (read-event (plain c.args.source) c.loop-said.line c.loop-said.rest.now c.args.scan.now c.loop-said.scan c.loop-said.events c.loop-said.invariant.read
             first.line c.in-Some.others.now first.first
             (text_of first.line) _ w.step.new.self refl w.in-Ok.ensures.ok (search rules));
+        stands =
+            subst (StandsOn c.args.scan.now) (sym w.scan-is)
+            (stands-further c.args.scan.now c.loop-said.scan w.step.new.self c.loop-said.invariant.stands w.step.ensures.first);
       }
     ]

@@ -1,6 +1,6 @@
 use Rattle.std.proofs.Common.{◌+◌, ◌≤◌, length}
 use Rattle.ld_trace.specs.Sources.{plain}
-use Rattle.ld_facts.specs.Inner.Reading.{AreMany, IsReadTo}
+use Rattle.ld_facts.specs.Inner.Reading.{AreMany, IsReadTo, StandsOn}
 use Rattle.ld_facts.proofs.reading.read_into.Given as goal
 
 abbrev pub invariant-loop-said : goal.invariant-loop-said
@@ -9,6 +9,7 @@ invariant-loop-said l = record {
   lines : l.line + length l.rest ≤ l.fn.source.first_line + length l.fn.source.bytes.now;
   counted : l.events + length l.rest ≤ length l.fn.source.bytes.now;
   read : IsReadTo (plain l.fn.source) l.line l.rest l.fn.scan l.scan l.events;
+  stands : StandsOn l.fn.scan l.scan;
 }
 
 abbrev pub decreases-loop-said : goal.decreases-loop-said

@@ -1,7 +1,7 @@
 use Rattle.std.proofs.Common.{◌≡◌, Some, Err, ap, sym, ◌∙◌}
 use Rattle.std.proofs.lemmas.Result.{err_from_is_err_and}
 use Rattle.ld_trace.specs.Events.{plain_lock}
-use Rattle.ld_facts.specs.declared.scan.Stop.TheVariants.{Fault}
+use Rattle.ld_facts.specs.declared.stop.Stop.TheVariants.{Fault}
 use Rattle.ld_facts.proofs.TaskLemmas.{acquisition_too_many_tasks}
 use Rattle.std.proofs.Common.{◌<◌, ◌≤◌, None, List, ℕ, length, get_or, subst, arith, ◌++◌, ◌∷◌, []}
 use Rattle.std.proofs.lemmas.List.{length-map}
@@ -60,12 +60,12 @@ returns-clause-ok c start all is_at =
     c.in_ok-task.ensures.task c.class.ensures.others c.in_ok-class.ensures.many c.in_ok-class.ensures.classes c.in_ok-class.ensures.own c.in_ok-class.ensures.place c.in_ok-class.ensures.fits in
     let shallow : length (get_or c.class.new.self.locks.stacks id []) < MOST_HELD =
     omega (arith, ap length (sym c.held.ensures), length-map c.held.result.now (λ (held : Held). hold_of (plain_held held)), c.if-held-ge-MOST_HELD.false) in
-    subst (IsAt start (all ++ happens c.args.line (acquisition c.args.how c.args.task.now lock) ∷ [])) (sym c.in_ok-take.ensures)
+    subst (IsAt start (all ++ happens c.args.line (acquisition c.args.how c.args.task.now lock) ∷ [])) (sym c.in_ok-take.ensures.taken)
     (elim c.match-how.branch [
       | in-Waiting+in_ok-wait-in-Waiting w ↦
           subst (λ how. IsAt start (all ++ happens c.args.line (acquisition how c.args.task.now lock) ∷ []) (taken c.match-how.self id class lock c.args.line)) (sym w.in-Waiting.is)
           (subst (λ (scan : Scan). IsAt start (all ++ happens c.args.line (Acquire c.args.task.now lock) ∷ []) (taken scan id class lock c.args.line))
-          (sym (w.self-is ∙ w.in_ok-wait-in-Waiting.ensures))
+          (sym (w.self-is ∙ w.in_ok-wait-in-Waiting.ensures.waited))
           (acquired-at all c.args.self.now is_at c.args.task.now lock c.args.line id class c.class.new.self enters shallow))
       | in-Trying w ↦
           subst (λ how. IsAt start (all ++ happens c.args.line (acquisition how c.args.task.now lock) ∷ []) (taken c.match-how.self id class lock c.args.line)) (sym w.in-Trying.is)

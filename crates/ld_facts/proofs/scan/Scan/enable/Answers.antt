@@ -1,7 +1,7 @@
 use Rattle.std.proofs.Common.{◌≡◌, Some, Err, ap, sym, ◌∙◌}
 use Rattle.std.proofs.lemmas.Result.{err_from_is_err_and}
 use Rattle.ld_trace.specs.Events.PlainEvent.{Enable}
-use Rattle.ld_facts.specs.declared.scan.Stop.TheVariants.{Fault}
+use Rattle.ld_facts.specs.declared.stop.Stop.TheVariants.{Fault}
 use Rattle.ld_facts.proofs.TaskLemmas.{scan_too_many_tasks}
 use Rattle.std.proofs.Common.{true, false, get_or, subst, ◌++◌, ◌∷◌, []}
 use Rattle.std.specs.List.{list_any}
@@ -31,6 +31,6 @@ pub returns-clause-ok : goal.returns-clause-ok
 returns-clause-ok c start all is_at =
     let among : list_any (same_state c.args.state) (states_of (get_or c.task.new.self.locks.interrupts c.in_ok-task.task fresh)) ≡ false = ap
     (λ i. list_any (same_state c.args.state) (states_of i)) (sym c.interrupts.ensures) ∙ sym c.has.ensures ∙ c.if-has.false in
-    subst (IsAt start (all ++ happens c.args.line (Enable c.args.task.now c.args.state) ∷ [])) (sym c.in_ok-count_held.ensures)
+    subst (IsAt start (all ++ happens c.args.line (Enable c.args.task.now c.args.state) ∷ [])) (sym c.in_ok-count_held.ensures.counted)
     (enabled-at all c.args.self.now is_at c.args.task.now c.in_ok-task.task c.task.new.self c.in_ok-task.ensures.task c.args.state c.args.line
     c.set.new.self among c.set.ensures.moved c.set.ensures.set)

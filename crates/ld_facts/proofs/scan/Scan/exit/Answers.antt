@@ -1,7 +1,7 @@
 use Rattle.std.proofs.Common.{◌≡◌, Some, Err, ap, sym, ◌∙◌}
 use Rattle.std.proofs.lemmas.Result.{err_from_is_err_and}
 use Rattle.ld_trace.specs.Events.PlainEvent.{Exit}
-use Rattle.ld_facts.specs.declared.scan.Stop.TheVariants.{Fault}
+use Rattle.ld_facts.specs.declared.stop.Stop.TheVariants.{Fault}
 use Rattle.ld_facts.proofs.TaskLemmas.{scan_too_many_tasks}
 use Rattle.std.proofs.Common.{◌≢◌, true, false, get_or, length, subst, ◌++◌, ◌∷◌, []}
 use Rattle.std.proofs.lemmas.List.{length-map}
@@ -51,6 +51,6 @@ returns-clause-ok c began all is_at =
     let long : length (get_or c.task.new.self.locks.stacks c.in_ok-task.task []) ≡ length c.held.result.now = ap length (sym c.held.ensures) ∙
     length-map c.held.result.now (λ (held : Held). hold_of (plain_held held)) in
     let start : start_now (get_or c.task.new.self.locks.interrupts c.in_ok-task.task fresh) ≡ c.start.result = ap start_now (sym c.interrupts-interrupts.ensures) ∙ sym c.start.ensures in
-    subst (IsAt began (all ++ happens c.args.line (Exit c.args.task.now c.args.state) ∷ [])) (sym c.in_ok-count_held.ensures)
+    subst (IsAt began (all ++ happens c.args.line (Exit c.args.task.now c.args.state) ∷ [])) (sym c.in_ok-count_held.ensures.counted)
     (exited-at all c.args.self.now is_at c.args.task.now c.in_ok-task.task c.task.new.self c.in_ok-task.ensures.task c.args.state c.args.line
     c.exit.new.self own (long ∙ c.if-held-start.false ∙ sym start) c.exit.ensures.moved c.exit.ensures.left)

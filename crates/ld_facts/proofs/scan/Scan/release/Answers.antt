@@ -3,7 +3,7 @@ use Rattle.std.proofs.lemmas.Result.{err_from_is_err_and}
 use Rattle.ld_trace.specs.Events.{plain_lock}
 use Rattle.ld_trace.specs.Events.PlainEvent.{Release}
 use Rattle.ld_rules.specs.declared.fault.TraceFault.TheVariants.{NotHeld}
-use Rattle.ld_facts.specs.declared.scan.Stop.TheVariants.{Fault}
+use Rattle.ld_facts.specs.declared.stop.Stop.TheVariants.{Fault}
 use Rattle.ld_held.specs.Inner.Locks.{HeldByTasks}
 use Rattle.ld_facts.specs.Inner.Reading.{IsAt, happens}
 use Rattle.ld_facts.proofs.TaskLemmas.{scan_too_many_tasks}

@@ -1,5 +1,5 @@
 use Rattle.std.proofs.Common.{get_or, map, sym, ap, subst, ◌∙◌}
-use Rattle.ld_held.specs.Inner.Interrupts.{IsSet, fresh, starts_of}
+use Rattle.ld_held.specs.Inner.Interrupts.{IsSet, fresh, is_on, starts_of}
 use Rattle.ld_held.specs.Inner.Locks.{AreChainedIn}
 use Rattle.ld_held.specs.Inner.Stacks.{PlainStack, empty_stack}
 use Rattle.ld_held.proofs.LockLemmas.{interrupts_shown, moved_is, moved_to, shown_as, tied_moved, within_shown}
@@ -20,7 +20,7 @@ returns-clause-moved c = moved_is c.self.inside.stacks c.args.task c.set.new.sel
 
 pub returns-clause-set : goal.returns-clause-set
 returns-clause-set c =
-    shown_as (IsSet c.args.state c.args.on) c.interrupts-interrupts.result (get_or c.args.self.now.interrupts c.args.task fresh) c.set.new.self
+    shown_as (IsSet c.args.state (is_on c.args.flag)) c.interrupts-interrupts.result (get_or c.args.self.now.interrupts c.args.task fresh) c.set.new.self
     (get_or (map (λ (s : PlainStack). s.interrupts) c.set_interrupts.new.self) c.args.task fresh)
     (c.interrupts-interrupts.ensures ∙ interrupts_shown c.self.inside.stacks c.self.inside.edges c.args.self.now c.args.task c.self.view_is)
     (moved_to c.self.inside.stacks c.args.task c.set.new.self c.set_interrupts.new.self c.set_interrupts.ensures

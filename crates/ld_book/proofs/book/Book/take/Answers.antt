@@ -1,0 +1,14 @@
+use Rattle.std.proofs.Common.{◌∙◌, sym}
+use Rattle.std.proofs.lemmas.Bool.{true≢false}
+use Rattle.ld_book.specs.Book.{is_any_listed}
+use Rattle.ld_book.proofs.book.Book.take.Goals as goal
+
+pub returns-then-has_any-clause-memory : goal.returns-then-has_any-clause-memory
+returns-then-has_any-clause-memory c absent = absurd (true≢false (c.if-has_any.ensures ∙ (λ i. is_any_listed (c.self.view_is i) (c.listed.ensures.sources i)) ∙ absent))
+
+pub enter-requires : goal.enter-requires
+enter-requires c = sym (c.if-has_any.ensures ∙ (λ i. is_any_listed (c.self.view_is i) (c.listed.ensures.sources i)))
+
+pub returns-clause-twice : goal.returns-clause-twice
+returns-clause-twice c there =
+    absurd (true≢false (sym there ∙ sym (λ i. is_any_listed (c.self.view_is i) (c.listed.ensures.sources i)) ∙ sym c.if-has_any.ensures))

@@ -1,0 +1,339 @@
+//! A book behind a lock, which several threads feed.
+ghost use Rattle.std.specs.Prelude.{◌≡◌, ◌≢◌, ◌≤◌, ◌<◌, ◌+◌, ◌^◌, ◌↔◌, ◌∷◌, [], true, false, length, All, Err};
+ghost use Rattle.std.specs.Prelude.{IfErr, IfOk, IsErr, OnErr, OnOk};
+ghost use Rattle.ld_batch.specs.Batch.{empty_batch};
+ghost use Rattle.ld_book.specs.Book.{is_any_listed, is_listed};
+ghost use Rattle.ld_book.specs.Totals.{event_count};
+ghost use Rattle.ld_desk.specs.Desk.{IsEvent, IsSubmitted, sum_of, tally_of};
+
+use crate::feeder::{Feeder, MOST_FEEDERS, Tally};
+use crate::sums::{added_since, audited, count, joined};
+use ld_book::{Batch, BatchRefusal, Book, Refusal, TakeRefusal};
+use ld_facts::Facts;
+use std::alloc::{AllocError, Global};
+use std::marker::Model;
+use std::sync::ledger::{Blank, Ledger, Share};
+use std::sync::{Mutex, MutexGuard, Wait, ledger};
+
+/// What the lock of a desk keeps: the book, beside the sum of what all feeders added to it.
+#[derive(Drop)]
+struct Locked<'a, T: Ledger, E: Ledger> {
+    book: Book<'a>,
+    trace_sum: ledger::Book<T>,
+    event_sum: ledger::Book<E>,
+    /// Of no feeder, to begin a sum with.
+    no_traces: Share<T>,
+    no_events: Share<E>,
+}
+
+impl<'a, T: Ledger, E: Ledger> Model for Locked<'a, T, E> {
+    ghost use Rattle.std.specs.Prelude.{◌≡◌, List, length};
+    ghost use Rattle.ld_trace.specs.Sources.{PlainSource};
+    ghost use Rattle.ld_book.specs.Totals.{event_count};
+
+    ghost Value = { List PlainSource };
+
+    ghost view = { λ l. l.book };
+
+    ghost invariant = { λ l. (l.trace_sum.total ≡ length l.book)
+        × (l.event_sum.total ≡ event_count l.book)
+        × (l.no_traces.parts ≡ 0) × (l.no_traces.amount ≡ 0)
+        × (l.no_events.parts ≡ 0) × (l.no_events.amount ≡ 0) };
+}
+
+impl<'a, T: Ledger, E: Ledger> Locked<'a, T, E> {
+    /// Adds a trace to the book, and to the tally of the feeder.
+    fn submit(&mut self, feeder: &mut Feeder<T, E>, facts: Facts<'a>) -> Result<(), Refusal<'a>>
+        ensures ok { OnOk result
+            (IsSubmitted (facts.entry.source ∷ []) self.old self.new feeder.old feeder.new) }
+        ensures err { OnErr result (self.new ≡ self.old) }
+        ensures not_counted { OnErr result (feeder.new ≡ feeder.old) }
+        ensures twice { is_listed self.old facts.entry.source.number ≡ true
+            → result ≡ Err (Refusal.Twice facts.entry) }
+        ensures memory { is_listed self.old facts.entry.source.number ≡ false
+            → OnErr result (result ≡ Err (Refusal.Memory facts.entry)) }
+    {
+        let before = self.book.totals();
+        self.book.add(facts)?;
+        let more = added_since(before, self.book.totals());
+        count(&mut self.trace_sum, &mut self.event_sum, feeder, more);
+        Ok(())
+    }
+
+    /// Adds the traces of a batch to the book, and to the tally of the feeder.
+    fn submit_batch(
+        &mut self,
+        feeder: &mut Feeder<T, E>,
+        batch: Batch<'a>,
+    ) -> Result<(), BatchRefusal<'a>>
+        ensures ok { OnOk result
+            (IsSubmitted batch.entry.sources self.old self.new feeder.old feeder.new) }
+        ensures err { OnErr result (self.new ≡ self.old) }
+        ensures not_counted { OnErr result (feeder.new ≡ feeder.old) }
+        ensures twice { is_any_listed self.old batch.entry.sources ≡ true
+            → result ≡ Err (BatchRefusal.Twice batch.entry) }
+        ensures memory { is_any_listed self.old batch.entry.sources ≡ false
+            → OnErr result (result ≡ Err (BatchRefusal.Memory batch.entry)) }
+    {
+        let before = self.book.totals();
+        self.book.add_batch(batch)?;
+        let more = added_since(before, self.book.totals());
+        count(&mut self.trace_sum, &mut self.event_sum, feeder, more);
+        Ok(())
+    }
+
+    /// Adds the traces of a batch to the book, and to the tally of the feeder, and leaves the batch
+    /// without traces.
+    fn take(&mut self, feeder: &mut Feeder<T, E>, batch: &mut Batch<'a>) -> Result<(), TakeRefusal>
+        ensures ok { OnOk result
+            (IsSubmitted batch.old.sources self.old self.new feeder.old feeder.new) }
+        ensures emptied { OnOk result (batch.new ≡ empty_batch) }
+        ensures err { OnErr result (self.new ≡ self.old) }
+        ensures back { OnErr result (batch.new ≡ batch.old) }
+        ensures not_counted { OnErr result (feeder.new ≡ feeder.old) }
+        ensures twice { is_any_listed self.old batch.old.sources ≡ true
+            → result ≡ Err TakeRefusal.Twice }
+        ensures memory { is_any_listed self.old batch.old.sources ≡ false
+            → OnErr result (result ≡ Err TakeRefusal.Memory) }
+    {
+        let before = self.book.totals();
+        self.book.take(batch)?;
+        let more = added_since(before, self.book.totals());
+        count(&mut self.trace_sum, &mut self.event_sum, feeder, more);
+        Ok(())
+    }
+
+    /// Changes nothing, and tells how the feeder's tally stands to the book.
+    fn covers(&mut self, feeder: &mut Feeder<T, E>)
+        ensures book { self.new ≡ self.old }
+        ensures feeder { feeder.new ≡ feeder.old }
+        ensures traces { feeder.old.traces ≤ length self.old }
+        ensures events { feeder.old.events ≤ event_count self.old }
+    {
+        self.trace_sum.audit(&mut feeder.traces);
+        self.event_sum.audit(&mut feeder.events);
+    }
+}
+
+/// A book that several threads feed, seen as the number of its feeders.
+///
+/// The book has as many traces and events as the feeders added. `T` and `E` name the desk's ledgers of traces and of
+/// events, by which a feeder is known to be of this desk.
+#[derive(Drop)]
+pub struct Desk<'a, T: Ledger, E: Ledger> {
+    locked: Mutex<Locked<'a, T, E>>,
+    feeders: usize,
+}
+
+impl<'a, T: Ledger, E: Ledger> Model for Desk<'a, T, E> {
+    ghost use Rattle.std.specs.Prelude.{◌≡◌, ℕ};
+
+    ghost Value = { ℕ };
+
+    ghost view = { λ d. d.feeders };
+
+    ghost invariant = { λ d. (d.feeders ≡ T.parts) × (d.feeders ≡ E.parts) };
+}
+
+/// The book of a desk, while no other thread has it, seen as the list of its traces.
+#[derive(Drop)]
+pub struct Look<'d, 'a, T: Ledger, E: Ledger> {
+    guard: MutexGuard<'d, Locked<'a, T, E>>,
+}
+
+impl<'d, 'a, T: Ledger, E: Ledger> Model for Look<'d, 'a, T, E> {
+    ghost use Rattle.std.specs.Prelude.{List};
+    ghost use Rattle.std.specs.Sync.Mutex.{mutex_guard_value};
+    ghost use Rattle.ld_trace.specs.Sources.{PlainSource};
+
+    ghost Value = { List PlainSource };
+
+    ghost view = { λ l. mutex_guard_value l.guard };
+}
+
+/// What a desk gives at its end.
+#[derive(Drop)]
+pub struct Gathered<'a> {
+    pub book: Book<'a>,
+    /// The sum of the tallies of all feeders.
+    pub tally: Tally,
+}
+
+/// What wasn't gathered, because the feeders aren't as many as the desk was made with.
+#[derive(Drop)]
+pub struct Back<'a, T: Ledger, E: Ledger> {
+    pub desk: Desk<'a, T, E>,
+    pub feeders: Vec<Feeder<T, E>>,
+}
+
+impl<'a, T: Ledger, E: Ledger> Desk<'a, T, E> {
+    /// A desk with an empty book, and its feeders, which have added nothing.
+    ///
+    /// # Errors
+    ///
+    /// `AllocError` where memory for the feeders was refused. The blanks don't come back.
+    pub fn new(
+        alloc: Global,
+        traces: Blank,
+        events: Blank,
+        feeders: usize,
+    ) -> Result<(Desk<'a, T, E>, Vec<Feeder<T, E>>), AllocError>
+        requires some { (1 ≤ feeders) × (feeders ≤ MOST_FEEDERS) }
+        requires traces { (traces.name ≡ T.name) × (traces.parts ≡ T.parts)
+            × (traces.parts ≡ feeders) }
+        requires events { (events.name ≡ E.name) × (events.parts ≡ E.parts)
+            × (events.parts ≡ feeders) }
+        ensures desk { IfOk result (λ made. made.0 ≡ feeders) }
+        ensures count { IfOk result (λ made. length made.1.items ≡ feeders) }
+        ensures fresh { IfOk result (λ made. All (λ tally. tally ≡ tally_of []) made.1.items) }
+    {
+        let (trace_sum, mut no_traces) = traces.open::<T>();
+        let (event_sum, mut no_events) = events.open::<E>();
+        let mut made = Vec::new(alloc);
+        for _ in 0..feeders {
+            made.push(Feeder {
+                tally: Tally {
+                    traces: 0,
+                    events: 0,
+                },
+                traces: no_traces.split_off(1, 0),
+                events: no_events.split_off(1, 0),
+            })?;
+        }
+        let locked = Mutex::new(Locked {
+            book: Book::new(alloc),
+            trace_sum,
+            event_sum,
+            no_traces,
+            no_events,
+        });
+        Ok((Desk { locked, feeders }, made))
+    }
+
+    /// Waits until no other thread has the book, and lends it. Takes no memory.
+    pub fn look<R: Wait>(&self, rt: &R) -> Look<'_, 'a, T, E> {
+        Look {
+            guard: self.locked.lock(rt),
+        }
+    }
+
+    /// Ends the desk: gives its book, and the sum of the tallies of all feeders, which are just the
+    /// book's traces and events. Doesn't wait, and takes no memory.
+    ///
+    /// # Errors
+    ///
+    /// Desk and feeders come back where the feeders aren't as many as the desk was made with.
+    pub fn gather(self, feeders: Vec<Feeder<T, E>>) -> Result<Gathered<'a>, Back<'a, T, E>>
+        ensures not_all { IsErr result ↔ (length feeders.items ≢ self.entry) }
+        ensures back { IfErr result (λ back.
+            (back.desk ≡ self.entry) × (back.feeders ≡ feeders)) }
+        ensures sum { IfOk result (λ all. all.tally ≡ sum_of feeders.items) }
+        ensures book { IfOk result (λ all. all.tally ≡ tally_of all.book) }
+    {
+        if feeders.len() != self.feeders {
+            return Err(Back {
+                desk: self,
+                feeders,
+            });
+        }
+        let Locked {
+            book,
+            trace_sum,
+            event_sum,
+            no_traces,
+            no_events,
+        } = self.locked.into_inner();
+        let (traces, events) = joined(feeders, no_traces, no_events);
+        let tally = audited(&book, trace_sum, event_sum, traces, events);
+        Ok(Gathered { book, tally })
+    }
+}
+
+impl<'d, 'a, T: Ledger, E: Ledger> Look<'d, 'a, T, E> {
+    /// The desk's book, as it is until this look ends. Takes no memory.
+    pub fn book(&self) -> &Book<'a>
+        ensures { result.now ≡ self.now }
+    {
+        &self.guard.book
+    }
+
+    /// Adds a trace to the desk's book, as `Book::add` does, and counts it in the feeder's tally.
+    ///
+    /// # Errors
+    ///
+    /// Those of `Book::add`: the facts come back, and the book and the tally are as before.
+    pub fn submit(&mut self, feeder: &mut Feeder<T, E>, facts: Facts<'a>) -> Result<(), Refusal<'a>>
+        ensures ok { OnOk result
+            (IsSubmitted (facts.entry.source ∷ []) self.old self.new feeder.old feeder.new) }
+        ensures err { OnErr result (self.new ≡ self.old) }
+        ensures not_counted { OnErr result (feeder.new ≡ feeder.old) }
+        ensures twice { is_listed self.old facts.entry.source.number ≡ true
+            → result ≡ Err (Refusal.Twice facts.entry) }
+        ensures memory { is_listed self.old facts.entry.source.number ≡ false
+            → OnErr result (result ≡ Err (Refusal.Memory facts.entry)) }
+        ensures event { IsEvent self.old self.new feeder.old feeder.new }
+    {
+        self.guard.submit(feeder, facts)
+    }
+
+    /// Adds the traces of a batch to the desk's book, as `Book::add_batch` does, and counts them in the
+    /// feeder's tally.
+    ///
+    /// # Errors
+    ///
+    /// Those of `Book::add_batch`: the batch comes back, and the book and the tally are as before.
+    pub fn submit_batch(
+        &mut self,
+        feeder: &mut Feeder<T, E>,
+        batch: Batch<'a>,
+    ) -> Result<(), BatchRefusal<'a>>
+        ensures ok { OnOk result
+            (IsSubmitted batch.entry.sources self.old self.new feeder.old feeder.new) }
+        ensures err { OnErr result (self.new ≡ self.old) }
+        ensures not_counted { OnErr result (feeder.new ≡ feeder.old) }
+        ensures twice { is_any_listed self.old batch.entry.sources ≡ true
+            → result ≡ Err (BatchRefusal.Twice batch.entry) }
+        ensures memory { is_any_listed self.old batch.entry.sources ≡ false
+            → OnErr result (result ≡ Err (BatchRefusal.Memory batch.entry)) }
+        ensures event { IsEvent self.old self.new feeder.old feeder.new }
+    {
+        self.guard.submit_batch(feeder, batch)
+    }
+
+    /// Adds the traces of a batch to the desk's book, as `Book::take` does, and counts them in the
+    /// feeder's tally. The batch then lists none, and has its memory for further traces.
+    ///
+    /// # Errors
+    ///
+    /// Those of `Book::take`: the batch, the book and the tally are as before.
+    pub fn take(
+        &mut self,
+        feeder: &mut Feeder<T, E>,
+        batch: &mut Batch<'a>,
+    ) -> Result<(), TakeRefusal>
+        ensures ok { OnOk result
+            (IsSubmitted batch.old.sources self.old self.new feeder.old feeder.new) }
+        ensures emptied { OnOk result (batch.new ≡ empty_batch) }
+        ensures err { OnErr result (self.new ≡ self.old) }
+        ensures back { OnErr result (batch.new ≡ batch.old) }
+        ensures not_counted { OnErr result (feeder.new ≡ feeder.old) }
+        ensures twice { is_any_listed self.old batch.old.sources ≡ true
+            → result ≡ Err TakeRefusal.Twice }
+        ensures memory { is_any_listed self.old batch.old.sources ≡ false
+            → OnErr result (result ≡ Err TakeRefusal.Memory) }
+        ensures event { IsEvent self.old self.new feeder.old feeder.new }
+    {
+        self.guard.take(feeder, batch)
+    }
+
+    /// Changes nothing, and tells that the book has at least the traces and the events that this
+    /// feeder added to it. Takes no memory.
+    pub fn covers(&mut self, feeder: &mut Feeder<T, E>)
+        ensures book { self.new ≡ self.old }
+        ensures feeder { feeder.new ≡ feeder.old }
+        ensures traces { feeder.old.traces ≤ length self.old }
+        ensures events { feeder.old.events ≤ event_count self.old }
+    {
+        self.guard.covers(feeder)
+    }
+}

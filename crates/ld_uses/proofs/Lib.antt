@@ -1,0 +1,2 @@
+pub mod UseLemmas
+pub mod OwnLemmas

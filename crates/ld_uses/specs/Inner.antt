@@ -1,0 +1,4 @@
+-- What invariants and proofs cite, and what the calls of ld_uses say to ld_facts: a reader of the
+-- promises needs none of it.
+pub mod Uses
+pub mod Own
