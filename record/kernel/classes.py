@@ -1,6 +1,7 @@
 """Names of lock classes, as the stream has them."""
 import re
 import zlib
+from collections import namedtuple
 
 from text import Damaged, quote
 
@@ -8,9 +9,13 @@ MOST_BYTES = 64  # of a name, by the trace format
 CLASS_LINE = re.compile(
     r'([0-9a-f]+)(?: OPS: *\d+)?(?: FD: *\d+ BD: *\d+ \S+)?: (.+)\n').fullmatch
 BESIDE = re.compile(r'all lock classes:\n|\n| -> \[[0-9a-f]+\] .*\n').fullmatch
-VERSIONED = re.compile(r'(.+?)(?:#(\d+))?(?:/(\d+))?').fullmatch
+VERSIONED = re.compile(r'(.+?)(?:#(\d+))?(?:/([1-7]))?').fullmatch
 SPECIAL = re.compile(r'[^\x21-\x7e]|[@/%!#]')
 SPECIAL_OF_TASK = re.compile(r'[^\x21-\x7e]|%')
+MOST_SUBCLASS = 7  # of lockdep, and of the trace format
+
+# A class: what a stream calls it, and its subclass, 0 where it is none of another class.
+LockClass = namedtuple('LockClass', 'name subclass')
 
 
 def escape(text, special=SPECIAL):
@@ -25,39 +30,41 @@ def fitted(name):
     return '%s~%08x' % (name[:MOST_BYTES - 9], zlib.crc32(name.encode('ascii')))
 
 
-def class_name(text, version, subclass):
-    """NAME#VERSION!SUBCLASS, where version 1 and subclass 0 are left out, as lockdep does."""
-    name = escape(text)
-    if version > 1:
-        name += '#%d' % version
-    if subclass:
-        name += '!%d' % subclass
-    return fitted(name)
+def class_of(text, version, subclass):
+    """The class NAME#VERSION with this subclass; version 1 is left out, as lockdep does."""
+    name = fitted(escape(text) + ('#%d' % version if version > 1 else ''))
+    lock_class = LockClass(name, subclass)
+    return lock_class if subclass <= MOST_SUBCLASS else apart(lock_class)
 
 
-def lockdep_names(lines):
-    """Of the lines of /proc/lockdep: class key to name. A name that came before is left out."""
-    names = {}
+def apart(lock_class):
+    """A subclass as a class NAME!SUBCLASS of its own, for what no `nested` can say."""
+    return LockClass(fitted('%s!%d' % lock_class), 0)
+
+
+def lockdep_classes(lines):
+    """Of the lines of /proc/lockdep: key to class. A class that came before is left out."""
+    classes = {}
     taken = set()
     for number, line in enumerate(lines, 1):
         match = CLASS_LINE(line)
         if match:
             text, version, subclass = VERSIONED(match[2]).groups()
-            name = class_name(text, int(version or 1), int(subclass or 0))
-            if name not in taken:
-                taken.add(name)
-                names[int(match[1], 16)] = name
+            lock_class = class_of(text, int(version or 1), int(subclass or 0))
+            if lock_class not in taken:
+                taken.add(lock_class)
+                classes[int(match[1], 16)] = lock_class
         elif not BESIDE(line):
             hint = ' (boot with no_hash_pointers)' if 'ptrval' in line else ''
             raise Damaged(f'the file of --lockdep, line {number}: not a line of /proc/lockdep: '
                           f'{quote(line.strip())}{hint}')
-    if not names:
+    if not classes:
         raise Damaged('the file of --lockdep has no class')
-    return names
+    return classes
 
 
 class Classes:
-    """One name for each class key, and never one name for two."""
+    """One class for each class key, and never one class for two."""
 
     def __init__(self, lockdep=None):
         self.lockdep = lockdep or {}
@@ -67,21 +74,24 @@ class Classes:
         self.count = {}     # text to the number of its versions
         self.unknown = 0    # classes that the lockdep file doesn't have
 
-    def name(self, key, subclass, text):
+    def find(self, key, subclass, text):
         """The class with this key, which an event with this subclass calls by this text."""
-        name = self.by_key.get(key)
-        if name is None:
-            name = self.lockdep.get(key) or self.own_name(key - subclass, subclass, text)
-            self.by_key[key] = name
-        return name
+        lock_class = self.by_key.get(key)
+        if lock_class is None:
+            lock_class = self.lockdep.get(key)
+            # A name may end as a subclass does, and the event tells.
+            if lock_class is None or lock_class.subclass != subclass:
+                lock_class = self.own(key - subclass, subclass, text)
+            self.by_key[key] = lock_class
+        return lock_class
 
-    def own_name(self, base, subclass, text):
-        """A name without lockdep's help: versions count the keys of one text as they appear."""
+    def own(self, base, subclass, text):
+        """A class without lockdep's help: versions count the keys of one text as they appear."""
         self.unknown += 1
         version = self.versions.get((text, base))
-        while version is None or class_name(text, version, subclass) in self.taken:
+        while version is None or class_of(text, version, subclass) in self.taken:
             version = self.count[text] = self.count.get(text, 0) + 1
         self.versions[(text, base)] = version
-        name = class_name(text, version, subclass)
-        self.taken.add(name)
-        return name
+        lock_class = class_of(text, version, subclass)
+        self.taken.add(lock_class)
+        return lock_class

@@ -2,7 +2,7 @@
 import re
 from collections import Counter
 
-from classes import SPECIAL_OF_TASK, escape, fitted
+from classes import SPECIAL_OF_TASK, LockClass, apart, escape, fitted
 from stream import Held, Task, forget
 from text import COLUMNS_INSIDE, EVENT, NMI, Contexts, Damaged, Header, fault, quote
 
@@ -148,7 +148,7 @@ class Events:
         lock_class = site.lock_class
         if lock_class is None:  # a static lock's first acquisition
             self.instance(address)
-            lock_class = self.classes.name(int(address, 16) + site.subclass, site.subclass, site.text)
+            lock_class = self.classes.find(int(address, 16) + site.subclass, site.subclass, site.text)
         verb = site.verb
         if site.nest and is_nested(task, site.nest, lock_class):
             verb = 'try'
@@ -162,7 +162,7 @@ class Events:
         left_out = 'readers' if read != '0' else 'unchecked' if check == '0' else None
         site = Site(text, trylock == '1', left_out, int(subclass), nest if int(nest, 16) else None)
         if not left_out and int(key, 16):
-            site.lock_class = self.classes.name(int(key, 16), site.subclass, text)
+            site.lock_class = self.classes.find(int(key, 16), site.subclass, text)
         self.sites[tail] = site
         self.kinds.add('module')
         return site
@@ -185,7 +185,7 @@ class Events:
             raise Damaged(f'not what lock_acquire writes: {quote(tail)}')
         trylock, read, text = match.groups()
         site = self.sites[tail] = Site(text, trylock, 'readers' if read else None)
-        site.lock_class = fitted(escape(text))
+        site.lock_class = LockClass(fitted(escape(text)), 0)
         self.kinds.add('stock')
         return site
 
@@ -204,13 +204,16 @@ class Events:
         if level == 0:
             return lock_class
         self.counts['split recursions'] += 1
-        name = fitted(f'{lock_class}!{level}')
-        self.levels[name] = lock_class, level
-        return name
+        split = apart(LockClass(lock_class.name, level))
+        self.levels[split] = lock_class, level
+        return split
 
     def keep(self, task, context, verb, address, lock_class):
         instance = self.instances.get(address) or self.instance(address)
-        self.stream.acquire(task, verb, Held(address, f'{lock_class}@{instance}', lock_class), context)
+        if lock_class.subclass and verb == 'try':  # `nested` is for what a task waits for
+            lock_class = apart(lock_class)
+            self.counts['tried subclasses'] += 1
+        self.stream.acquire(task, verb, Held(address, f'{lock_class.name}@{instance}', lock_class), context)
 
     def leave_out(self, task, context, address, why):
         """Remembers a lock that the stream doesn't have, so that its release is left out too."""

@@ -105,7 +105,15 @@ class Stream:
         held.depth = len(task.frames)
         task.held.append(held)
         task.kept += 1
-        self.lines.append(f'{verb} {task.name} {held.name}\n')
+        self.write(task, verb, held)
+
+    def write(self, task, verb, held):
+        """The line of an acquisition: `nested` for one of a subclass, which is never a `try`."""
+        subclass = held.lock_class.subclass
+        if subclass:
+            self.lines.append(f'nested {task.name} {held.name} {subclass}\n')
+        else:
+            self.lines.append(f'{verb} {task.name} {held.name}\n')
 
     def release(self, task, held, context):
         """Writes that a task released one of its locks, in the handler that acquired it."""
@@ -201,7 +209,10 @@ class Stream:
         return self.tasks < MOST_TASKS and len(self.classes | wanted) <= MOST_CLASSES
 
     def carry(self, task):
-        """Takes over from an earlier trace what the task's handlers, flags and held locks are."""
+        """Takes over from an earlier trace what the task's handlers, flags and held locks are.
+
+        A `nested` tells again what the earlier trace tells of it, as here too the same is held before it.
+        """
         frames = task.frames
         task.frames, task.kinds = [Frame(None, True, True)], ()
         if not task.kept:
@@ -215,4 +226,4 @@ class Stream:
             for held in task.held:
                 if held.depth == depth and held.name is not None:
                     self.classes.add(held.lock_class)
-                    self.lines.append(f'try {task.name} {held.name}\n')
+                    self.write(task, 'try', held)

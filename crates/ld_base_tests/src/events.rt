@@ -1,6 +1,6 @@
 //! The rows of `read_event`.
 
-use ld_trace::{Event, LineFault, State, read_event};
+use ld_trace::{Event, LineFault, Lock, State, read_event};
 use std::alloc::Global;
 use std::test::Fail;
 
@@ -55,6 +55,21 @@ fn events_are_read(rt: HostRuntime) {
 }
 
 #[test]
+fn nested_acquisitions_are_read(rt: HostRuntime) {
+    let task = b"t".as_slice();
+    let lock = Lock {
+        class: b"A",
+        instance: None,
+    };
+    assert!(rt; names(b"nested t A 1", Event::Nested { task, lock, sub: 1 }));
+    let lock = Lock {
+        class: b"A",
+        instance: Some(b"7"),
+    };
+    assert!(rt; names(b" nested\tt  A@7 7 ", Event::Nested { task, lock, sub: 7 }));
+}
+
+#[test]
 fn events_with_a_state_are_read(rt: HostRuntime) {
     let task = b"t".as_slice();
     let (hard, soft) = (State::Hard, State::Soft);
@@ -73,7 +88,7 @@ fn the_first_fault_of_a_line_is_told(rt: HostRuntime) -> Result<(), Fail> {
     assert!(rt; refuses(b"lock t A", LineFault::BadVerb));
     assert!(rt; refuses(b"Acquire t A", LineFault::BadVerb));
     assert!(rt; refuses(b"trace a", LineFault::BadVerb));
-    assert!(rt; refuses(b"nested t A 1", LineFault::BadVerb));
+    assert!(rt; refuses(b"Nested t A 1", LineFault::BadVerb));
     assert!(rt; refuses(b"begin t on on", LineFault::BadVerb));
     assert!(rt; refuses(b"acquire t", LineFault::BadCount));
     assert!(rt; refuses(b"acquire t A B", LineFault::BadCount));
@@ -81,11 +96,20 @@ fn the_first_fault_of_a_line_is_told(rt: HostRuntime) -> Result<(), Fail> {
     assert!(rt; refuses(b"acquire t @1", LineFault::BadName));
     assert!(rt; refuses(b"acquire t A@1@2", LineFault::BadName));
     assert!(rt; refuses(b"acquire t A/1", LineFault::BadName));
+    assert!(rt; refuses(b"nested t A", LineFault::BadCount));
+    assert!(rt; refuses(b"nested t A 1 1", LineFault::BadCount));
+    assert!(rt; refuses(b"nested t A 0", LineFault::BadName));
+    assert!(rt; refuses(b"nested t A 8", LineFault::BadName));
+    assert!(rt; refuses(b"nested t A 01", LineFault::BadName));
+    assert!(rt; refuses(b"nested t A@ 1", LineFault::BadName));
+    assert!(rt; refuses(b"nested t A/1 1", LineFault::BadName));
     assert!(rt; refuses(b"exit t", LineFault::BadCount));
     assert!(rt; refuses(b"enable t hard soft", LineFault::BadCount));
     assert!(rt; refuses(b"enter t nmi", LineFault::BadState));
     assert!(rt; refuses(b"disable t Hard", LineFault::BadState));
     let task = with_letters(rt.alloc(), b"enter ", 65, b" nmi")?;
+    assert!(rt; refuses(task.as_slice(), LineFault::BadName));
+    let task = with_letters(rt.alloc(), b"nested ", 65, b" A 1")?;
     assert!(rt; refuses(task.as_slice(), LineFault::BadName));
     Ok(())
 }

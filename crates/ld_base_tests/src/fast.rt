@@ -122,9 +122,11 @@ fn longer_words_are_left(rt: HostRuntime) -> Result<(), Fail> {
 
 #[test]
 fn other_lines_are_left(rt: HostRuntime) -> Result<(), Fail> {
-    let lines: [&[u8]; 26] = [
+    let lines: [&[u8]; 28] = [
         b"\n",
         b"# acquire t A\n",
+        b"nested t A 1\n",
+        b"nested t A\n",
         b"enter t hard\n",
         b"exit t soft\n",
         b"enable t hard\n",

@@ -6,7 +6,7 @@ use Rattle.std.proofs.lemmas.List.{get_or_push, length-map, length_push, map-app
 use Rattle.std.proofs.lemmas.List.Elements.{All-append, All-drop, All-map, All-nil, All-push}
 use Rattle.std.proofs.lemmas.List.Quantifiers.{all_pairs_push}
 use Rattle.std.specs.List.{last_or}
-use Rattle.std.specs.Str.{bytes_eq}
+use Rattle.ld_class.specs.Names.{PlainClass, no_class, same_class}
 use Rattle.ld_trace.specs.Events.{PlainEvent, positions}
 use Rattle.ld_trace.specs.Sources.{Fits, PlainSource, plain}
 use Rattle.ld_trace.proofs.PositionLemmas.{positions-ascend}
@@ -172,7 +172,7 @@ shows-read old new source count is at =
     let own : classes (events all) ≡ classes_of source = (λ i. if_read (sym is i) (classes (events all))) in
     record {
       names = at.names ∙ ap (with_names old.classes) own;
-      few = omega (arith, at.few_classes, length-map new.own (λ n. get_or new.classes n []), ap length at.own, ap length own);
+      few = omega (arith, at.few_classes, length-map new.own (λ n. get_or new.classes n no_class), ap length at.own, ap length own);
       distinct = at.distinct;
       edges = at.edges ∙ (λ i. fold (with_new same_dependency_seen) (start_of old).edges (if_read (sym is i) (seen dependencies_at all)));
       within = at.within;
@@ -209,7 +209,7 @@ module _ (old new : Fields) (last : Listed) (kept : IsKept old) (adds : IsPushed
   abbrev sources : List PlainSource
   sources = sources_of old.listed
 
-  abbrev names : List (List ℕ)
+  abbrev names : List PlainClass
   names = new.scan.classes
 
   low : All (λ s. s.number < source.number) sources
@@ -261,13 +261,13 @@ module _ (old new : Fields) (last : Listed) (kept : IsKept old) (adds : IsPushed
             adds.shows.names
             ∙ ap (λ all. with_names all (classes_of source)) was.classes
             ∙ with_names-each_once (flat_map classes_of sources) (classes_of source)
-            ∙ ap (each_once bytes_eq) (sym (shown-push sources source));
+            ∙ ap (each_once same_class) (sym (shown-push sources source));
         within = All-append (IsWithin names) old.edges (map (edge_of source.number) (drop (length old.edges) new.scan.locks.edges))
             (within-longer old.scan.classes names count longer old.edges was.within)
             (All-map (IsWithin names) (edge_of source.number) (drop (length old.edges) new.scan.locks.edges)
             (All-drop (reading.IsWithin names) (length old.edges) new.scan.locks.edges adds.shows.within));
         once = λ i j d before within both. pairs-of (λ m n. m.what ≢ n.what) (named names) joined.edges all_edges.apart i j d before within
-            (λ k. record { from = get_or names (both.0 k) []; to = get_or names (both.1 k) [] });
+            (λ k. record { from = get_or names (both.0 k) no_class; to = get_or names (both.1 k) no_class });
         edges = witness-new same_dependency Decides-same_dependency dependencies_of sources source (named names) (facts.named names) (edge_of source.number) (λ e. refl) old.edges
             new.scan.locks.edges (start_of old.scan).edges met_edges adds.shows.edges
             (λ what. ap (λ all. witness_of same_dependency all what) same_edges ∙ was.edges what) (shown-Ascend dependencies_at source) low;
@@ -276,7 +276,7 @@ module _ (old new : Fields) (last : Listed) (kept : IsKept old) (adds : IsPushed
             (All-map (IsUse names) (use_of source.number) (drop (length old.usage) new.scan.uses)
             (All-drop (facts.IsUse names) (length old.usage) new.scan.uses adds.shows.used));
         used_once = λ i j d before within both. pairs-of (λ m n. m.what ≢ n.what) (named_use names) joined.usage all_uses.apart i j d before within
-            (λ k. record { class = get_or names (both.0 k) []; bit = bit_of (both.1 k) });
+            (λ k. record { class = get_or names (both.0 k) no_class; bit = bit_of (both.1 k) });
         usage = witness-new same_use Decides-same_use uses_of sources source (named_use names) (facts.named_use names) (use_of source.number) (λ u. refl) old.usage
             new.scan.uses (start_of old.scan).uses met_uses adds.shows.uses
             (λ what. ap (λ all. witness_of same_use all what) same_uses ∙ was.usage what) (shown-Ascend uses_at source) low;

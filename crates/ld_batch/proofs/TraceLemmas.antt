@@ -2,6 +2,7 @@
 use Rattle.std.proofs.Common.{◌≡◌, ◌<◌, ◌∷◌, [], All, List, ℕ, length, map, get_or, refl, ap, sym, ◌∙◌, arith}
 use Rattle.std.proofs.lemmas.List.{get_or-take}
 use Rattle.std.proofs.lemmas.List.Elements.{All-head, All-tail, All-weaker}
+use Rattle.ld_class.specs.Names.{PlainClass, no_class}
 use Rattle.ld_rules.specs.Usage.{bit_of}
 use Rattle.ld_batch.specs.declared.edges.WitnessedEdge.{WitnessedEdge}
 use Rattle.ld_batch.specs.declared.uses.WitnessedUse.{WitnessedUse}
@@ -17,9 +18,9 @@ same_maps f g P agree (x ∷ xs) all =
     (λ i. here i ∷ rest i)
 
 -- more names, among which those that were there keep their places
-module _ (names more : List (List ℕ)) (count : ℕ) (longer : IsLonger names more count) where
-  same_name : (k : ℕ) → k < length names → get_or more k [] ≡ get_or names k []
-  same_name k within = sym (get_or-take (length names) more k [] within) ∙ ap (λ all. get_or all k []) longer.front
+module _ (names more : List PlainClass) (count : ℕ) (longer : IsLonger names more count) where
+  same_name : (k : ℕ) → k < length names → get_or more k no_class ≡ get_or names k no_class
+  same_name k within = sym (get_or-take (length names) more k no_class within) ∙ ap (λ all. get_or all k no_class) longer.front
 
   pub edges-longer : (rows : List WitnessedEdge) → All (IsWithin names) rows → map (named more) rows ≡ map (named names) rows
   edges-longer = same_maps (named more) (named names) (IsWithin names)

@@ -2,6 +2,7 @@
 use Rattle.std.specs.Prelude.{◌≡◌, ℕ, ◌<◌, Bool, List, [], map, length, slice_index_or, All, AllPairs}
 use Rattle.std.specs.Prelude.{Option, option_map}
 use Rattle.std.specs.List.{find}
+use Rattle.ld_class.specs.Names.{PlainClass, no_class}
 use Rattle.ld_trace.specs.Sources.{Fits, PlainSource, plain}
 use Rattle.ld_rules.specs.declared.outcome.Listed.{Listed}
 use Rattle.ld_rules.specs.declared.outcome.Witness.{Witness}
@@ -14,7 +15,7 @@ use Rattle.ld_batch.specs.declared.uses.WitnessedUse.{WitnessedUse}
 
 pub record PlainBatch : Type 0 where
   pub sources : List PlainSource
-  pub classes : List (List ℕ)
+  pub classes : List PlainClass
   pub edges : List WitnessedEdge
   pub usage : List WitnessedUse
 
@@ -44,28 +45,28 @@ abbrev pub witness_of : {A : Type 0} → (A → A → Bool) → List (Met A) →
 witness_of same all what = option_map (λ m. m.witness) (find (λ m. same what m.what) all)
 
 -- a dependency by the names of its classes, with its witness
-abbrev pub named : List (List ℕ) → WitnessedEdge → Met Dependency
+abbrev pub named : List PlainClass → WitnessedEdge → Met Dependency
 named classes edge = record {
   what = record {
-    from = slice_index_or classes edge.from [];
-    to = slice_index_or classes edge.to [];
+    from = slice_index_or classes edge.from no_class;
+    to = slice_index_or classes edge.to no_class;
   };
   witness = edge.witness;
 }
 
 -- a usage bit by the name of its class, with its witness
-abbrev pub named_use : List (List ℕ) → WitnessedUse → Met Use
+abbrev pub named_use : List PlainClass → WitnessedUse → Met Use
 named_use classes used = record {
-  what = record { class = slice_index_or classes used.class []; bit = bit_of used.bit };
+  what = record { class = slice_index_or classes used.class no_class; bit = bit_of used.bit };
   witness = used.witness;
 }
 
 -- both classes are among these
-abbrev pub IsWithin : List (List ℕ) → WitnessedEdge → Type 0
+abbrev pub IsWithin : List PlainClass → WitnessedEdge → Type 0
 IsWithin classes edge = (edge.from < length classes) × (edge.to < length classes)
 
 -- it is one bit of one of these classes
-abbrev pub IsUse : List (List ℕ) → WitnessedUse → Type 0
+abbrev pub IsUse : List PlainClass → WitnessedUse → Type 0
 IsUse classes used = (used.class < length classes) × IsBit used.bit
 
 -- The sources fit, and their numbers rise. The classes are those of their union, each once, in the

@@ -4,11 +4,11 @@ use Rattle.std.proofs.Math.Bool.{or-false, or_assoc}
 use Rattle.std.proofs.lemmas.List.Folds.{list_any-append}
 use Rattle.std.proofs.lemmas.List.Sorted.{IsPermutation-sym, length_permutation, list_any-IsPermutation, sum_by-IsPermutation}
 use Rattle.std.proofs.lemmas.Map.Made.{length-from_same_keys}
-use Rattle.std.proofs.lemmas.Slice.Eq.{bytes_eq-Decides}
 use Rattle.std.specs.Bool.{Decides}
 use Rattle.std.specs.List.{cons_option, list_any}
 use Rattle.std.specs.List.Sorted.{IsPermutation}
-use Rattle.std.specs.Str.{bytes_eq}
+use Rattle.ld_class.specs.Names.{PlainClass, same_class}
+use Rattle.ld_class.proofs.NameLemmas.{same_class-Decides}
 use Rattle.ld_class.specs.Usage.{marks_of}
 use Rattle.ld_trace.specs.Sources.{PlainSource}
 use Rattle.ld_graph.specs.Walks.{HasWalk, IsShownWalk}
@@ -93,7 +93,7 @@ totals-permuted sources listed moved =
     let traces = length_permutation sources listed moved in
     let refused = sum_by-IsPermutation (λ s. cond (is_refused (outcome s)) 1 0) sources listed moved in
     let events = sum_by-IsPermutation (λ s. events_read (outcome s)) sources listed moved in
-    let classes = count-permuted bytes_eq bytes_eq-Decides classes_of sources listed moved in
+    let classes = count-permuted same_class same_class-Decides classes_of sources listed moved in
     let dependencies = count-permuted same_dependency Decides-same_dependency (λ s. map (λ d. d.what) (dependencies_of s)) sources listed moved in
     λ i. record { traces = traces i; refused = refused i; events = events i; classes = classes i; dependencies = dependencies i }
 
@@ -108,11 +108,11 @@ rows-same key IsRow IsRow' IsOwed IsOwed' before rows row_same owed_same are = r
 
 module _ (sources listed : List PlainSource) (moved : IsPermutation sources listed) where
   -- what holds of the dependencies of the one list holds of those of the other
-  of_dependencies : (P : (List ℕ → List ℕ → Type 0) → Type 0) → P (Depends listed) → P (Depends sources)
+  of_dependencies : (P : (PlainClass → PlainClass → Type 0) → Type 0) → P (Depends listed) → P (Depends sources)
   of_dependencies P = subst (λ (first : Dependency → Option Witness). P (λ a b. IsSome (first (record { from = a; to = b })))) (λ i what. dependency_witness-permuted sources listed moved what i)
 
   -- a class keeps its bits
-  has_bit-same : (class : List ℕ) (bit : Bit) → HasBit listed class bit → HasBit sources class bit
+  has_bit-same : (class : PlainClass) (bit : Bit) → HasBit listed class bit → HasBit sources class bit
   has_bit-same class bit = subst IsSome (use_witness-permuted sources listed moved (record { class = class; bit = bit }))
 
   -- each violation of the one list is one of the other
@@ -122,11 +122,11 @@ module _ (sources listed : List PlainSource) (moved : IsPermutation sources list
   violation-same (Forbidden state from to) is = (has_bit-same from (In state) is.0, has_bit-same to (On state) is.1, of_dependencies (λ depends. HasWalk depends from to) is.2)
 
   -- a class keeps its usage characters
-  marks-same : (class : List ℕ) → shown_marks listed class ≡ shown_marks sources class
+  marks-same : (class : PlainClass) → shown_marks listed class ≡ shown_marks sources class
   marks-same class = ap (λ (first : Bit → Option Witness). marks_of (witnessed_bits first)) (λ i bit. use_witness-permuted sources listed moved (record { class = class; bit = bit }) i)
 
   -- a bit of a class was first seen at the same place
-  use-same : (class : List ℕ) (bit : Bit) (at : Witness) → use_witness listed (record { class = class; bit = bit }) ≡ Some at → use_witness sources (record { class = class; bit = bit }) ≡ Some at
+  use-same : (class : PlainClass) (bit : Bit) (at : Witness) → use_witness listed (record { class = class; bit = bit }) ≡ Some at → use_witness sources (record { class = class; bit = bit }) ≡ Some at
   use-same class bit at is = sym (use_witness-permuted sources listed moved (record { class = class; bit = bit })) ∙ is
 
   -- each row says what it said: that of a cycle

@@ -8,6 +8,7 @@ use Rattle.std.proofs.lemmas.Map.Keys.{IsDistinct-from_apart}
 use Rattle.std.proofs.lemmas.Map.Made.{length-from_same_keys}
 use Rattle.std.specs.Bool.{Decides}
 use Rattle.std.specs.List.{cons_option, list_any, reduce}
+use Rattle.ld_class.specs.Names.{PlainClass}
 use Rattle.ld_class.proofs.Mapped.{list_any-map}
 use Rattle.ld_graph.specs.Edges.{edge}
 use Rattle.ld_trace.specs.Sources.{PlainSource}
@@ -53,7 +54,7 @@ union_any (source ∷ sources) what =
     (filter_map (λ s. seen_in s.number (least_line same_dependency (dependencies_of s) what)) sources))
 
 -- a row stands for a dependency where it has a first witness
-rows_any : (classes : List (List ℕ)) (rows : List Witnessed) (first : Dependency → Option Witness) → AreWitnessed classes rows first → (what : Dependency)
+rows_any : (classes : List PlainClass) (rows : List Witnessed) (first : Dependency → Option Witness) → AreWitnessed classes rows first → (what : Dependency)
     → list_any (λ r. same_dependency what (named_edge classes r.edge)) rows ≡ is_some (first what)
 rows_any classes rows first witnessed what = by (is_some (first what)) refl
   where
@@ -72,7 +73,7 @@ rows_any classes rows first witnessed what = by (is_some (first what)) refl
     by false is = false_from_ne_true _ (absent is)
 
 -- the edges are as many as the dependencies of the union
-pub length-edges : (classes : List (List ℕ)) (rows : List Witnessed) (sources : List PlainSource) → AreBetween classes rows →
+pub length-edges : (classes : List PlainClass) (rows : List Witnessed) (sources : List PlainSource) → AreBetween classes rows →
     AreWitnessed classes rows (dependency_witness sources)
     → length rows ≡ length (union_dependencies sources)
 length-edges classes rows sources is witnessed =

@@ -1,6 +1,7 @@
 //! `Book`, which keeps what many traces show together.
 ghost use Rattle.std.specs.Prelude.{◌≡◌, ◌≢◌, ◌++◌, ◌∷◌, [], All, AllPairs, Err, IfOk, OnErr, OnOk};
 ghost use Rattle.std.specs.Prelude.{true, false};
+ghost use Rattle.ld_class.specs.Names.{plain_class};
 ghost use Rattle.ld_facts.specs.Union.{dependency_witness};
 ghost use Rattle.ld_find.specs.Alarms.{AreExact, plain_alarms};
 ghost use Rattle.ld_find.specs.Findings.{AreFindings, plain_findings};
@@ -13,6 +14,7 @@ ghost use Rattle.ld_union.specs.Usage.{usage_row};
 use crate::listing::Listing;
 use crate::totals::Totals;
 use ld_batch::Batch;
+use ld_class::ClassName;
 use ld_facts::{Facts, Listed, Witness};
 use ld_find::{Alarms, Findings, Found, findings_of};
 use ld_union::{News, Union, UsageRow};
@@ -242,17 +244,17 @@ impl<'a> Book<'a> {
 
     /// Where the dependency between these two classes was first seen, the least trace number first,
     /// or `None` where no trace shows it. Takes no memory.
-    pub fn edge(&self, from: &[u8], to: &[u8]) -> Option<Witness>
+    pub fn edge(&self, from: ClassName<'_>, to: ClassName<'_>) -> Option<Witness>
         ensures { result ≡ dependency_witness self.now
-            (record { from = from.now; to = to.now }) }
+            (record { from = plain_class from.entry; to = plain_class to.entry }) }
     {
         self.union.witness(from, to)
     }
 
     /// The usage of a class over all traces, or `None` where no trace shows the class. Takes no memory.
-    pub fn usage(&self, name: &[u8]) -> Option<UsageRow>
-        ensures { result ≡ usage_row self.now name.now }
+    pub fn usage(&self, class: ClassName<'_>) -> Option<UsageRow>
+        ensures { result ≡ usage_row self.now (plain_class class.entry) }
     {
-        self.union.usage_row(name)
+        self.union.usage_row(class)
     }
 }

@@ -8,6 +8,7 @@ mod traces;
 
 pub use book::{BatchRefusal, Book, Refusal, TakeRefusal};
 pub use ld_batch::Batch;
+pub use ld_class::ClassName;
 pub use ld_find::{Alarms, ConflictRow, CycleRow, Findings, ForbiddenRow, Rows};
 pub use ld_union::UsageRow;
 pub use totals::Totals;

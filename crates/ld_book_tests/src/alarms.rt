@@ -1,7 +1,7 @@
 //! One violation of each kind.
 
-use crate::books::{NONE, THREE_TRACES, book_of};
-use ld_book::Alarms;
+use crate::books::{A, A_1, B, C, NONE, THREE_TRACES, book_of};
+use ld_book::{Alarms, ClassName};
 use std::alloc::Global;
 use std::process::Abort;
 
@@ -25,6 +25,15 @@ const FORBIDDEN_THROUGH: &[u8] = b"trace g\nenter t hard\nacquire t H\nrelease t
 /// Three traces that show a forbidden walk only together.
 const APART: &[u8] = b"trace a\ndisable t hard\nacquire t H\nacquire t U\n\
     trace b\nacquire t U\ntrace c\nenter t hard\nacquire t H\n";
+
+const H: ClassName<'static> = ClassName {
+    name: b"H",
+    sub: 0,
+};
+const U: ClassName<'static> = ClassName {
+    name: b"U",
+    sub: 0,
+};
 
 /// The alarms of the book of a stream, whose traces are added in this order.
 fn alarms_of<'a, R: Abort>(rt: &R, alloc: Global, bytes: &'a [u8], order: &[usize]) -> Alarms<'a> {
@@ -70,14 +79,16 @@ fn no_alarm_without_a_violation(rt: HostRuntime) {
 #[test]
 fn a_dependency_on_a_cycle_is_an_alarm(rt: HostRuntime) {
     let recursion = b"trace r\nacquire t A@1\nacquire t A@2\n";
-    let cycles: [(&[u8], &[usize], &[(&[u8], &[u8])]); 3] = [
-        (INVERSION, &[0, 1], &[(b"A", b"B"), (b"B", b"A")]),
+    let nested = b"trace n\nnested t A@1 1\nnested t A@2 1\n";
+    let cycles: [(&[u8], &[usize], &[(ClassName<'_>, ClassName<'_>)]); 4] = [
+        (INVERSION, &[0, 1], &[(A, B), (B, A)]),
         (
             THREE_TRACES,
             &[0, 1, 2],
-            &[(b"A", b"B"), (b"B", b"C"), (b"C", b"A")],
+            &[(A, B), (B, C), (C, A)],
         ),
-        (recursion, &[0], &[(b"A", b"A")]),
+        (recursion, &[0], &[(A, A)]),
+        (nested, &[0], &[(A_1, A_1)]),
     ];
     for (bytes, order, wanted) in cycles {
         let alarms = alarms_of(&rt, rt.alloc(), bytes, order);
@@ -93,8 +104,7 @@ fn a_dependency_on_a_cycle_is_an_alarm(rt: HostRuntime) {
 
 #[test]
 fn the_other_kinds_are_alarms_of_their_state(rt: HostRuntime) {
-    let a = b"A".as_slice();
-    let walk = (b"H".as_slice(), b"U".as_slice());
+    let walk = (H, U);
     let hard_walk = Alarms {
         forbidden: [Some(walk), None],
         ..NONE
@@ -103,14 +113,14 @@ fn the_other_kinds_are_alarms_of_their_state(rt: HostRuntime) {
         (
             CONFLICT,
             Alarms {
-                conflict: [Some(a), None],
+                conflict: [Some(A), None],
                 ..NONE
             },
         ),
         (
             CONFLICT_SOFT,
             Alarms {
-                conflict: [None, Some(a)],
+                conflict: [None, Some(A)],
                 ..NONE
             },
         ),
@@ -129,7 +139,7 @@ fn a_new_bit_makes_a_forbidden_walk(rt: HostRuntime) {
         trace u\nacquire t U\n";
     assert_eq!(rt; alarms_of(&rt, rt.alloc(), bytes, &[0]), NONE);
     let alarms = alarms_of(&rt, rt.alloc(), bytes, &[0, 1]);
-    let walk = (b"H".as_slice(), b"U".as_slice());
+    let walk = (H, U);
     assert_eq!(rt; alarms.forbidden, [Some(walk), None]);
 }
 
@@ -143,7 +153,7 @@ fn a_forbidden_walk_comes_with_the_last_trace_in_any_order(rt: HostRuntime) {
         [2, 0, 1],
         [2, 1, 0],
     ];
-    let walk = (b"H".as_slice(), b"U".as_slice());
+    let walk = (H, U);
     let wanted = Alarms {
         forbidden: [Some(walk), None],
         ..NONE

@@ -1,6 +1,6 @@
 //! Books that take batches.
 
-use crate::books::{NONE, THREE_TRACES, book_of, sources_of, totals, witness};
+use crate::books::{A, B, C, NONE, THREE_TRACES, book_of, sources_of, totals, witness};
 use ld_book::{Batch, BatchRefusal, Book, TakeRefusal};
 use ld_trace::Source;
 use std::alloc::{AllocError, Global};
@@ -73,7 +73,7 @@ fn a_batch_is_added_whole_or_comes_back(rt: HostRuntime) {
     let mut book = Book::new(rt.alloc());
     add_batch(&rt, &mut book, batch);
     assert_eq!(rt; book.totals(), totals(2, 0, 4, 2, 1));
-    assert_eq!(rt; book.edge(b"A", b"B"), witness(0, 3));
+    assert_eq!(rt; book.edge(A, B), witness(0, 3));
     let second = batch_of(&rt, rt.alloc(), &sources[1..2]);
     let is_back = match book.add_batch(second) {
         Err(BatchRefusal::Twice(batch)) => batch.listed().len() == 1,
@@ -95,8 +95,8 @@ fn a_refused_batch_changes_nothing(rt: HostRuntime) {
     let batch = batch_of(&rt, rt.alloc(), &sources[1..2]);
     if let Some(batch) = try_add_batch(&rt, &mut book, batch) {
         assert_eq!(rt; book.totals(), totals(1, 0, 2, 2, 1));
-        assert_eq!(rt; book.edge(b"B", b"C"), None);
-        assert!(rt; book.usage(b"C").is_none());
+        assert_eq!(rt; book.edge(B, C), None);
+        assert!(rt; book.usage(C).is_none());
         assert_eq!(rt; book.alarms(), NONE);
         add_batch(&rt, &mut book, batch);
     }
@@ -154,6 +154,6 @@ fn a_batch_of_twenty_traces_is_added(rt: HostRuntime) {
     let mut book = Book::new(rt.alloc());
     add_batch(&rt, &mut book, batch_of(&rt, rt.alloc(), &sources));
     assert_eq!(rt; book.totals(), totals(20, 0, 40, 2, 1));
-    assert_eq!(rt; book.edge(b"A", b"B"), witness(0, 3));
+    assert_eq!(rt; book.edge(A, B), witness(0, 3));
     drop(book);
 }

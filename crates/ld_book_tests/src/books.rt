@@ -1,11 +1,30 @@
 //! Worked books. Each call that takes memory is made once more where it was refused, so what stands on
 //! these holds whichever allocation fails.
 
-use ld_book::{Alarms, Book, Refusal, Totals};
+use ld_book::{Alarms, Book, ClassName, Refusal, Totals};
 use ld_facts::{Facts, Witness, facts};
 use ld_trace::{Source, split};
 use std::alloc::{AllocError, Global};
 use std::process::Abort;
+
+pub(crate) const A: ClassName<'static> = ClassName {
+    name: b"A",
+    sub: 0,
+};
+pub(crate) const B: ClassName<'static> = ClassName {
+    name: b"B",
+    sub: 0,
+};
+pub(crate) const C: ClassName<'static> = ClassName {
+    name: b"C",
+    sub: 0,
+};
+
+/// The subclass 1 of A.
+pub(crate) const A_1: ClassName<'static> = ClassName {
+    name: b"A",
+    sub: 1,
+};
 
 /// The alarms of a book without a violation.
 pub(crate) const NONE: Alarms<'static> = Alarms {
@@ -17,6 +36,11 @@ pub(crate) const NONE: Alarms<'static> = Alarms {
 /// Three traces, each of which shows one dependency of a cycle.
 pub(crate) const THREE_TRACES: &[u8] = b"trace x\nacquire t A\nacquire t B\n\
     trace y\nacquire t B\nacquire t C\ntrace z\nacquire t C\nacquire t A\n";
+
+/// The class of this name, or its subclass of this number where that isn't 0.
+pub(crate) fn class(name: &[u8], sub: u8) -> ClassName<'_> {
+    ClassName { name, sub }
+}
 
 /// The sources of a stream.
 pub(crate) fn sources_of<'a, R: Abort>(rt: &R, alloc: Global, bytes: &'a [u8]) -> Vec<Source<'a>> {

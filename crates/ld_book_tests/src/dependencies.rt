@@ -1,7 +1,7 @@
 //! The traces that a book lists, their totals, and the dependencies with their first witnesses.
 
-use crate::books::{book_of, facts_of, totals, witness};
-use ld_book::{Refusal, Totals};
+use crate::books::{A, A_1, B, C, book_of, class, facts_of, totals, witness};
+use ld_book::{ClassName, Refusal, Totals};
 use ld_facts::Witness;
 use std::alloc::Global;
 use std::process::Abort;
@@ -14,12 +14,12 @@ fn expect<'a, R: Abort>(
     bytes: &'a [u8],
     order: &[usize],
     wanted: Totals,
-    edges: &[(&[u8], &[u8], Option<Witness>)],
+    edges: &[(ClassName<'_>, ClassName<'_>, Option<Witness>)],
 ) {
     let book = book_of(rt, alloc, bytes, order);
     assert_eq!(rt; book.totals(), wanted);
     for (from, to, first) in edges {
-        assert_eq!(rt; book.edge(from, to), *first);
+        assert_eq!(rt; book.edge(*from, *to), *first);
     }
     let listed = book.listed();
     assert_eq!(rt; listed.len(), order.len());
@@ -31,7 +31,7 @@ fn expect<'a, R: Abort>(
 
 #[test]
 fn a_new_book_lists_nothing(rt: HostRuntime) {
-    let edges = [(b"A".as_slice(), b"B".as_slice(), None)];
+    let edges = [(A, B, None)];
     expect(&rt, rt.alloc(), b"", &[], totals(0, 0, 0, 0, 0), &edges);
 }
 
@@ -39,8 +39,8 @@ fn a_new_book_lists_nothing(rt: HostRuntime) {
 fn the_least_witness_stands_in_either_order(rt: HostRuntime) {
     let bytes = b"trace d\nacquire t A\nacquire t B\ntrace d\nacquire t A\nacquire t B\n";
     let edges = [
-        (b"A".as_slice(), b"B".as_slice(), witness(0, 3)),
-        (b"B".as_slice(), b"A".as_slice(), None),
+        (A, B, witness(0, 3)),
+        (B, A, None),
     ];
     let wanted = totals(2, 0, 4, 2, 1);
     expect(&rt, rt.alloc(), bytes, &[0, 1], wanted, &edges);
@@ -64,7 +64,7 @@ fn a_number_that_is_listed_comes_back(rt: HostRuntime) {
         }
     }
     assert_eq!(rt; book.totals(), totals(2, 0, 4, 2, 1));
-    assert_eq!(rt; book.edge(b"A", b"B"), witness(0, 3));
+    assert_eq!(rt; book.edge(A, B), witness(0, 3));
     drop(book);
 }
 
@@ -72,8 +72,8 @@ fn a_number_that_is_listed_comes_back(rt: HostRuntime) {
 fn a_trylock_is_no_target(rt: HostRuntime) {
     let bytes = b"trace p\nacquire t A\ntry t B\ntrace q\nacquire t B\nacquire t A\n";
     let edges = [
-        (b"B".as_slice(), b"A".as_slice(), witness(1, 6)),
-        (b"A".as_slice(), b"B".as_slice(), None),
+        (B, A, witness(1, 6)),
+        (A, B, None),
     ];
     expect(
         &rt,
@@ -88,23 +88,23 @@ fn a_trylock_is_no_target(rt: HostRuntime) {
 #[test]
 fn a_held_trylock_is_a_source(rt: HostRuntime) {
     let bytes = b"trace h\ntry t A\nacquire t B\n";
-    let edges = [(b"A".as_slice(), b"B".as_slice(), witness(0, 3))];
+    let edges = [(A, B, witness(0, 3))];
     expect(&rt, rt.alloc(), bytes, &[0], totals(1, 0, 2, 2, 1), &edges);
 }
 
 #[test]
 fn lines_are_those_of_the_stream(rt: HostRuntime) {
     let bytes = b"# run 7\r\n\ntrace k\r\nacquire\tt\tA\n  # held\nacquire t  B\r";
-    let edges = [(b"A".as_slice(), b"B".as_slice(), witness(0, 6))];
+    let edges = [(A, B, witness(0, 6))];
     expect(&rt, rt.alloc(), bytes, &[0], totals(1, 0, 2, 2, 1), &edges);
 }
 
 #[test]
 fn a_refused_trace_is_listed_and_shows_nothing(rt: HostRuntime) {
     let bytes = b"trace m\nacquire t A\nacquire t B\nlock t C\ntrace n\nacquire t A\nacquire t B\n";
-    let none = [(b"A".as_slice(), b"B".as_slice(), None)];
+    let none = [(A, B, None)];
     expect(&rt, rt.alloc(), bytes, &[0], totals(1, 1, 0, 0, 0), &none);
-    let edges = [(b"A".as_slice(), b"B".as_slice(), witness(1, 7))];
+    let edges = [(A, B, witness(1, 7))];
     expect(
         &rt,
         rt.alloc(),
@@ -119,13 +119,14 @@ fn a_refused_trace_is_listed_and_shows_nothing(rt: HostRuntime) {
 fn traces_show_their_dependencies_together(rt: HostRuntime) {
     let bytes = b"trace x\nacquire t A\nacquire t B\ntrace y\nacquire t B\nacquire t C\n\
         trace z\nacquire t C\nacquire t A\n";
+    let d = class(b"D", 0);
     let edges = [
-        (b"A".as_slice(), b"B".as_slice(), witness(0, 3)),
-        (b"B".as_slice(), b"C".as_slice(), witness(1, 6)),
-        (b"C".as_slice(), b"A".as_slice(), witness(2, 9)),
-        (b"A".as_slice(), b"C".as_slice(), None),
-        (b"A".as_slice(), b"D".as_slice(), None),
-        (b"D".as_slice(), b"A".as_slice(), None),
+        (A, B, witness(0, 3)),
+        (B, C, witness(1, 6)),
+        (C, A, witness(2, 9)),
+        (A, C, None),
+        (A, d, None),
+        (d, A, None),
     ];
     expect(
         &rt,
@@ -135,4 +136,17 @@ fn traces_show_their_dependencies_together(rt: HostRuntime) {
         totals(3, 0, 6, 3, 3),
         &edges,
     );
+}
+
+#[test]
+fn a_subclass_is_a_class_of_its_own(rt: HostRuntime) {
+    let bytes = b"trace n\nacquire t A\nnested t A 1\nrelease t A\nacquire t B\n";
+    let edges = [
+        (A, A_1, witness(0, 3)),
+        (A, B, witness(0, 5)),
+        (A_1, B, None),
+        (A_1, A, None),
+        (A, class(b"A", 2), None),
+    ];
+    expect(&rt, rt.alloc(), bytes, &[0], totals(1, 0, 4, 3, 2), &edges);
 }

@@ -1,7 +1,7 @@
 //! All violations, in the order of a report.
 
-use crate::books::{THREE_TRACES, book_of, totals, witness};
-use ld_book::{CycleRow, Findings};
+use crate::books::{A, A_1, B, C, THREE_TRACES, book_of, class, totals, witness};
+use ld_book::{ClassName, CycleRow, Findings};
 use ld_facts::Witness;
 use std::alloc::AllocError;
 use std::process::Abort;
@@ -11,9 +11,9 @@ use std::test::Fail;
 fn expect_cycle<R: Abort>(
     rt: &R,
     row: &CycleRow<'_>,
-    ends: (&[u8], &[u8]),
+    ends: (ClassName<'_>, ClassName<'_>),
     at: Option<Witness>,
-    via: &[&[u8]],
+    via: &[ClassName<'_>],
 ) {
     assert_eq!(rt; (row.from, row.to), ends);
     assert_eq!(rt; Some(row.at), at);
@@ -27,23 +27,23 @@ fn expect_three_cycles<R: Abort>(rt: &R, findings: &Findings<'_>) {
     expect_cycle(
         rt,
         &cycles[0],
-        (b"A", b"B"),
+        (A, B),
         witness(0, 3),
-        &[b"B", b"C", b"A"],
+        &[B, C, A],
     );
     expect_cycle(
         rt,
         &cycles[1],
-        (b"B", b"C"),
+        (B, C),
         witness(1, 6),
-        &[b"C", b"A", b"B"],
+        &[C, A, B],
     );
     expect_cycle(
         rt,
         &cycles[2],
-        (b"C", b"A"),
+        (C, A),
         witness(2, 9),
-        &[b"A", b"B", b"C"],
+        &[A, B, C],
     );
     assert!(rt; findings.conflicts.items().is_empty());
     assert!(rt; findings.forbidden.items().is_empty());
@@ -73,8 +73,8 @@ fn two_opposite_orders_are_two_inversions(rt: HostRuntime) {
     let findings = book.findings(rt.alloc()).expect(&rt, "the findings");
     let cycles = findings.cycles.items();
     assert_eq!(rt; cycles.len(), 2);
-    expect_cycle(&rt, &cycles[0], (b"A", b"B"), witness(0, 3), &[b"B", b"A"]);
-    expect_cycle(&rt, &cycles[1], (b"B", b"A"), witness(1, 8), &[b"A", b"B"]);
+    expect_cycle(&rt, &cycles[0], (A, B), witness(0, 3), &[B, A]);
+    expect_cycle(&rt, &cycles[1], (B, A), witness(1, 8), &[A, B]);
     assert!(rt; findings.conflicts.items().is_empty());
     assert!(rt; findings.forbidden.items().is_empty());
     drop(findings);
@@ -96,11 +96,48 @@ fn orders_classes_by_the_bytes_of_their_names(rt: HostRuntime) {
         let cycles = findings.cycles.items();
         assert_eq!(rt; cycles.len(), wanted.len());
         for (row, name) in cycles.iter().zip(wanted) {
-            assert_eq!(rt; (row.from, row.to), (*name, *name));
+            assert_eq!(rt; (row.from, row.to), (class(name, 0), class(name, 0)));
         }
         drop(findings);
         drop(book);
     }
+}
+
+#[test]
+fn orders_a_subclass_behind_its_class(rt: HostRuntime) {
+    let bytes = b"trace a\nacquire t A!@1\nacquire t A!@2\ntrace b\nnested t A@1 7\nnested t A@2 7\n\
+        trace c\nacquire t A0@1\nacquire t A0@2\ntrace d\nnested t A@1 1\nnested t A@2 1\n\
+        trace e\nacquire t A@1\nacquire t A@2\n";
+    let book = book_of(&rt, rt.alloc(), bytes, &[0, 1, 2, 3, 4]);
+    let findings = book.findings(rt.alloc()).expect(&rt, "the findings");
+    let wanted = [A, A_1, class(b"A", 7), class(b"A!", 0), class(b"A0", 0)];
+    let cycles = findings.cycles.items();
+    assert_eq!(rt; cycles.len(), wanted.len());
+    for (row, class) in cycles.iter().zip(&wanted) {
+        assert_eq!(rt; (row.from, row.to), (*class, *class));
+    }
+    drop(findings);
+    drop(book);
+}
+
+/// Two walks from A to B are shortest, by the subclass 1 of A and by `A!`.
+#[test]
+fn a_walk_goes_by_the_subclass_before_a_longer_name(rt: HostRuntime) {
+    let bytes = b"trace p\nacquire t A\nacquire t A!\ntrace q\nacquire t A!\nacquire t B\n\
+        trace r\nacquire t A\nnested t A 1\ntrace s\nnested t A 1\nacquire t B\n\
+        trace u\nacquire t B\nacquire t A\n";
+    let other = class(b"A!", 0);
+    let book = book_of(&rt, rt.alloc(), bytes, &[0, 1, 2, 3, 4]);
+    let findings = book.findings(rt.alloc()).expect(&rt, "the findings");
+    let cycles = findings.cycles.items();
+    assert_eq!(rt; cycles.len(), 5);
+    expect_cycle(&rt, &cycles[0], (A, A_1), witness(2, 9), &[A_1, B, A]);
+    expect_cycle(&rt, &cycles[1], (A, other), witness(0, 3), &[other, B, A]);
+    expect_cycle(&rt, &cycles[2], (A_1, B), witness(3, 12), &[B, A, A_1]);
+    expect_cycle(&rt, &cycles[3], (other, B), witness(1, 6), &[B, A, other]);
+    expect_cycle(&rt, &cycles[4], (B, A), witness(4, 15), &[A, A_1, B]);
+    drop(findings);
+    drop(book);
 }
 
 /// Each of a hundred classes is acquired under itself, and in a hard handler too. Findings that are

@@ -1,6 +1,6 @@
 //! Refused memory, and many traces.
 
-use crate::books::{NONE, THREE_TRACES, add_now, book_of, facts_of, totals, try_add};
+use crate::books::{B, C, NONE, THREE_TRACES, add_now, book_of, facts_of, totals, try_add};
 use ld_book::Book;
 use ld_facts::facts;
 use ld_trace::split;
@@ -13,8 +13,8 @@ fn a_refused_add_changes_nothing(rt: HostRuntime) {
     let facts = facts_of(&rt, rt.alloc(), THREE_TRACES, 1);
     if let Some(facts) = try_add(&rt, &mut book, facts) {
         assert_eq!(rt; book.totals(), totals(1, 0, 2, 2, 1));
-        assert_eq!(rt; book.edge(b"B", b"C"), None);
-        assert!(rt; book.usage(b"C").is_none());
+        assert_eq!(rt; book.edge(B, C), None);
+        assert!(rt; book.usage(C).is_none());
         assert_eq!(rt; book.alarms(), NONE);
         add_now(&rt, &mut book, facts);
     }

@@ -1,7 +1,7 @@
 //! The usage of classes, with its first witnesses.
 
-use crate::books::{book_of, witness};
-use ld_book::UsageRow;
+use crate::books::{A, A_1, B, book_of, class, witness};
+use ld_book::{ClassName, UsageRow};
 use ld_facts::Witness;
 use std::alloc::Global;
 use std::process::Abort;
@@ -22,11 +22,11 @@ fn expect_usage<'a, R: Abort>(
     alloc: Global,
     bytes: &'a [u8],
     order: &[usize],
-    usage: &[(&[u8], Option<Told>)],
+    usage: &[(ClassName<'_>, Option<Told>)],
 ) {
     let book = book_of(rt, alloc, bytes, order);
-    for (name, wanted) in usage {
-        assert_eq!(rt; told(book.usage(name)), *wanted);
+    for (class, wanted) in usage {
+        assert_eq!(rt; told(book.usage(*class)), *wanted);
     }
     drop(book);
 }
@@ -36,8 +36,8 @@ fn interrupts_enabled_while_held_are_usage(rt: HostRuntime) {
     let bytes = b"trace e\ndisable t hard\nacquire t A\nenable t hard\nrelease t A\n";
     let first = [None, witness(0, 4), None, witness(0, 4)];
     let usage = [
-        (b"A".as_slice(), Some((*b"+.+.", first))),
-        (b"B".as_slice(), None),
+        (A, Some((*b"+.+.", first))),
+        (B, None),
     ];
     expect_usage(&rt, rt.alloc(), bytes, &[0], &usage);
 }
@@ -49,8 +49,8 @@ fn frames_are_told_apart(rt: HostRuntime) {
     let outer = [None, witness(0, 3), witness(0, 3), None];
     let inner = [witness(0, 5), None, witness(0, 5), None];
     let usage = [
-        (b"S".as_slice(), Some((*b"+.-.", outer))),
-        (b"H".as_slice(), Some((*b"-.-.", inner))),
+        (class(b"S", 0), Some((*b"+.-.", outer))),
+        (class(b"H", 0), Some((*b"-.-.", inner))),
     ];
     expect_usage(&rt, rt.alloc(), bytes, &[0], &usage);
 }
@@ -62,8 +62,8 @@ fn the_least_witness_of_a_bit_stands_in_either_order(rt: HostRuntime) {
     let held = [None, witness(0, 2), None, witness(0, 2)];
     let handled = [witness(1, 6), None, None, None];
     let usage = [
-        (b"A".as_slice(), Some((*b"+.+.", held))),
-        (b"B".as_slice(), Some((*b"-...", handled))),
+        (A, Some((*b"+.+.", held))),
+        (B, Some((*b"-...", handled))),
     ];
     expect_usage(&rt, rt.alloc(), bytes, &[0, 1], &usage);
     expect_usage(&rt, rt.alloc(), bytes, &[1, 0], &usage);
@@ -72,6 +72,19 @@ fn the_least_witness_of_a_bit_stands_in_either_order(rt: HostRuntime) {
 #[test]
 fn a_class_can_be_without_usage(rt: HostRuntime) {
     let bytes = b"trace c\ndisable t hard\nacquire t A\nrelease t A\n";
-    let usage = [(b"A".as_slice(), Some((*b"....", [None; 4])))];
+    let usage = [(A, Some((*b"....", [None; 4])))];
+    expect_usage(&rt, rt.alloc(), bytes, &[0], &usage);
+}
+
+#[test]
+fn a_subclass_has_usage_of_its_own(rt: HostRuntime) {
+    let bytes = b"trace n\nacquire t A\nrelease t A\nenter t hard\nnested t A 1\n";
+    let held = [None, witness(0, 2), None, witness(0, 2)];
+    let handled = [witness(0, 5), None, None, None];
+    let usage = [
+        (A, Some((*b"+.+.", held))),
+        (A_1, Some((*b"-...", handled))),
+        (class(b"A", 2), None),
+    ];
     expect_usage(&rt, rt.alloc(), bytes, &[0], &usage);
 }

@@ -1,4 +1,5 @@
 pub mod Mapped
+pub mod AnyNames
 pub mod NameLemmas
 pub mod Shown
 pub mod UsageLemmas

@@ -1,28 +1,35 @@
-//! Names of which the one that was asked for last is found by its bytes alone.
+//! Names of tasks, of which the one that was asked for last is found by its bytes alone.
 ghost use Rattle.std.specs.Prelude.{◌≡◌, ◌<◌, [], length, IfOk, IfSome, OnOk, OnErr, Some};
 ghost use Rattle.std.specs.Bool.{OnTrue};
-ghost use Rattle.ld_class.specs.Names.{AreDistinct, IsNameAt, place_of, with_name};
+ghost use Rattle.ld_class.specs.Names.{AreDistinctTasks, IsTaskAt, place_of, place_of_task};
+ghost use Rattle.ld_class.specs.Names.{plain_class, with_task};
 ghost use Rattle.ld_class.specs.declared.names.TheConstants.{MOST_NAMES};
 
+use crate::class_name::ClassName;
 use crate::names::Classes;
 use std::alloc::{AllocError, Global};
 use std::marker::Model;
 
-/// Distinct names in the order in which each was first interned, as [`Classes`] has them. One that
-/// is asked for several times on end is looked up once.
+/// Distinct names of tasks in the order in which each was first interned. One that is asked for
+/// several times on end is looked up once.
 #[derive(Drop)]
 pub struct RecentNames<'a> {
+    /// Each as the name of a class, without a subclass.
     names: Classes<'a>,
     /// The place that was answered last. It may be past the end, and says nothing then.
     last: u32,
 }
 
 impl<'a> Model for RecentNames<'a> {
-    ghost use Rattle.std.specs.Prelude.{ℕ, List};
+    ghost use Rattle.std.specs.Prelude.{◌≡◌, ℕ, List, map};
+    ghost use Rattle.ld_class.specs.Names.{class_of_task};
 
     ghost Value = { List (List ℕ) };
 
-    ghost view = { λ r. r.names };
+    ghost view = { λ r. map (λ class. class.name) r.names };
+
+    ghost invariant = { λ r. r.names
+        ≡ map class_of_task (map (λ class. class.name) r.names) };
 }
 
 impl<'a> RecentNames<'a> {
@@ -39,7 +46,7 @@ impl<'a> RecentNames<'a> {
     /// The number of names.
     pub fn len(&self) -> usize
         ensures len { result ≡ length self.now }
-        ensures distinct { AreDistinct self.now }
+        ensures distinct { AreDistinctTasks self.now }
     {
         self.names.len()
     }
@@ -47,9 +54,10 @@ impl<'a> RecentNames<'a> {
     /// The place of `name`, or `None` where it is not there.
     pub fn find(&mut self, name: &[u8]) -> Option<u32>
         ensures same { self.new ≡ self.old }
-        ensures place { result ≡ place_of self.old name.now }
-        ensures here { IfSome result (λ id. IsNameAt self.old id name.now) }
+        ensures place { result ≡ place_of_task self.old name.now }
+        ensures here { IfSome result (λ id. IsTaskAt self.old id name.now) }
     {
+        let name = ClassName { name, sub: 0 };
         if is_at(&self.names, self.last, name) {
             return Some(self.last);
         }
@@ -63,11 +71,11 @@ impl<'a> RecentNames<'a> {
     /// `AllocError` where it is new and the memory for it was refused.
     pub fn intern(&mut self, name: &'a [u8]) -> Result<u32, AllocError>
         requires { length self.old < MOST_NAMES }
-        ensures names { OnOk result (self.new ≡ with_name self.old name.entry.now) }
+        ensures names { OnOk result (self.new ≡ with_task self.old name.entry.now) }
         ensures refused { OnErr result (self.new ≡ self.old) }
-        ensures place { IfOk result (λ id. IsNameAt self.new id name.entry.now) }
+        ensures place { IfOk result (λ id. IsTaskAt self.new id name.entry.now) }
     {
-        let place = self.names.intern(name)?;
+        let place = self.names.intern(ClassName { name, sub: 0 })?;
         self.last = place;
         Ok(place)
     }
@@ -81,9 +89,8 @@ impl<'a> RecentNames<'a> {
 }
 
 /// Whether the name stands at the place.
-fn is_at(names: &Classes<'_>, place: u32, name: &[u8]) -> bool
-    ensures place { OnTrue result (place_of names.now name.now ≡ Some place) }
-    ensures here { OnTrue result (IsNameAt names.now place name.now) }
+fn is_at(names: &Classes<'_>, place: u32, name: ClassName<'_>) -> bool
+    ensures { OnTrue result (place_of names.now (plain_class name.entry) ≡ Some place) }
 {
     (place as usize) < names.len() && names.name(place) == name
 }

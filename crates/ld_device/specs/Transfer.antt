@@ -1,6 +1,6 @@
 -- What whole transfers do to the bytes that an input has left and an output holds, where these
 -- are known.
-use Rattle.std.specs.Prelude.{ℕ, List, Bool, true, ◌≡◌, ◌≤◌, ◌⊎◌, ◌++◌, length, take, Option}
+use Rattle.std.specs.Prelude.{ℕ, List, Bool, true, ◌≡◌, ◌≤◌, ◌⊎◌, length, take, Option}
 use Rattle.std.specs.Io.KnownBytes.{Appends, Consumes, IsAtEnd}
 use Rattle.ld_device.specs.declared.transfer.TheConstants.{MOST_READ}
 
@@ -11,10 +11,6 @@ AppendsPart old new text = (k : ℕ) × Appends old new (take k text)
 -- known bytes begin with at most so many bytes, and lose them
 abbrev pub ConsumesAtMost : Option (List ℕ) → Option (List ℕ) → ℕ → Type 0
 ConsumesAtMost old new most = (bytes : List ℕ) × Consumes old new bytes × (length bytes ≤ most)
-
--- a list gains some items at its end, of which P holds
-abbrev pub Gains : List ℕ → List ℕ → (List ℕ → Type 0) → Type 0
-Gains old new P = (items : List ℕ) × (new ≡ old ++ items) × P items
 
 -- These bytes were read of an input: known bytes begin with them and lose them, and there are as many
 -- as are ever read, or the input has ended and has no known byte left.

@@ -3,7 +3,8 @@ ghost use Rattle.std.specs.Prelude.{◌≡◌, ◌<◌, ◌≤◌, ◌+◌, ◌�
 ghost use Rattle.std.specs.Io.KnownBytes.{Appends, Consumes, IsAtEnd};
 ghost use Rattle.ld_device.specs.declared.transfer.ReadFault.TheVariants.{Memory, Read};
 ghost use Rattle.ld_device.specs.Devices.{finds_end};
-ghost use Rattle.ld_device.specs.Transfer.{AppendsPart, ConsumesAtMost, Gains, ReadsWhole};
+ghost use Rattle.ld_device.specs.Inner.Reading.{Gains};
+ghost use Rattle.ld_device.specs.Transfer.{AppendsPart, ConsumesAtMost, ReadsWhole};
 
 use crate::devices::{DeviceFault, Input, Output};
 use ld_trace::LONGEST_STREAM;

@@ -8,22 +8,23 @@ use Rattle.std.proofs.lemmas.List.{drop-map, length-map}
 use Rattle.std.proofs.lemmas.List.Folds.{list_any-append}
 use Rattle.std.specs.Prelude.{reverse}
 use Rattle.std.proofs.lemmas.Simd.{map-map}
+use Rattle.ld_class.specs.Names.{PlainClass, no_class}
 use Rattle.ld_trace.specs.declared.event.LineFault.{LineFault}
 use Rattle.ld_trace.specs.declared.event.State.{State}
 use Rattle.ld_trace.specs.declared.event.State.TheVariants.{Hard, Soft}
-use Rattle.ld_trace.specs.Events.{PlainEvent, PlainLock, Position}
+use Rattle.ld_trace.specs.Events.{PlainEvent, Position}
 use Rattle.ld_held.specs.declared.interrupts.Interrupts.{Interrupts}
 use Rattle.ld_rules.specs.Flags.{flag, is_enabled}
 use Rattle.ld_rules.specs.Frames.{contexts, frame_of}
-use Rattle.ld_rules.specs.Held.{Key, held_by, held_in}
+use Rattle.ld_rules.specs.Held.{held_by, held_in}
 use Rattle.ld_held.specs.Inner.Interrupts.{enabled_now, flag_now, start_now, states_of}
 use Rattle.ld_rules.specs.Inner.Levels.{starts}
 use Rattle.ld_held.specs.Inner.Locks.{Hold}
 use Rattle.ld_rules.specs.Outcome.{event_said, events, faulty_lines, said_fault}
-use Rattle.ld_facts.specs.Inner.Reading.{IsTask}
+use Rattle.ld_facts.specs.Inner.Reading.{HeldLock, IsTask, lock_held, named_hold}
 use Rattle.ld_rules.proofs.FlagLemmas.{contexts-states, flag-levels, no_fault_parts}
 use Rattle.ld_rules.proofs.GroupLemmas.{IsGrouped, grouped-empty, grouped-push, held_in-innermost}
-use Rattle.ld_facts.proofs.NamedLemmas.{holds-names}
+use Rattle.ld_facts.proofs.NamedLemmas.{holds-classes}
 use Rattle.ld_rules.proofs.OutcomeLemmas.{events-push, faulty, faulty_lines-push}
 use Rattle.ld_rules.proofs.PlaceLemmas.{by_pushes, last_or-push}
 
@@ -63,7 +64,7 @@ last-reverse [] = refl
 last-reverse (x ∷ xs) = ap (last_or None) (reverse_onto xs x []) ∙ last_or-push None (reverse xs) x
 
 -- what is kept of a task tells its flags, its contexts and where its innermost frame begins
-module _ (names : List (List ℕ)) (held : List Hold) (interrupts : Interrupts) (past : List PlainEvent) (task : List ℕ) (is : IsTask names held interrupts past task) where
+module _ (names : List PlainClass) (held : List Hold) (interrupts : Interrupts) (past : List PlainEvent) (task : List ℕ) (is : IsTask names held interrupts past task) where
   pub flag-is : (state : State) → flag_now state interrupts ≡ flag past task state
   flag-is state = ap (λ bs. get_or bs 0 true) (is.levels state) ∙ sym (flag-levels past task state)
 
@@ -72,7 +73,7 @@ module _ (names : List (List ℕ)) (held : List Hold) (interrupts : Interrupts) 
   enabled-is Soft = (λ i. flag-is Hard i && flag-is Soft i)
 
   pub length-is : length held ≡ length (held_by past task)
-  length-is = sym (length-map held (λ (hold : Hold). hold.lock)) ∙ ap length is.locks ∙ length-map (held_by past task) (λ key. key.lock)
+  length-is = sym (length-map held (named_hold names)) ∙ ap length is.holds ∙ length-map (held_by past task) lock_held
 
   pub start-is : start_now interrupts ≡ get_or (starts past task) 0 0
   start-is = ap (λ ss. get_or ss 0 0) is.starts
@@ -87,17 +88,16 @@ module _ (names : List (List ℕ)) (held : List Hold) (interrupts : Interrupts) 
   last-context = ap (last_or None) contexts-are ∙ last-reverse (states_of interrupts)
 
   -- its locks from there on are those of the frame
-  pub inner-is : IsGrouped past task → map (λ hold. hold.lock) (drop (start_now interrupts) held) ≡ map (λ key. key.lock) (held_in past task (frame_of past task))
+  pub inner-is : IsGrouped past task → map (named_hold names) (drop (start_now interrupts) held) ≡ map lock_held (held_in past task (frame_of past task))
   inner-is grouped =
-      sym (drop-map (λ (hold : Hold). hold.lock) (start_now interrupts) held)
-      ∙ (λ i. drop (start-is i) (is.locks i))
-      ∙ drop-map (λ key. key.lock) (get_or (starts past task) 0 0) (held_by past task)
-      ∙ ap (map (λ key. key.lock)) (sym (held_in-innermost past task grouped))
+      sym (drop-map (named_hold names) (start_now interrupts) held)
+      ∙ (λ i. drop (start-is i) (is.holds i))
+      ∙ drop-map lock_held (get_or (starts past task) 0 0) (held_by past task)
+      ∙ ap (map lock_held) (sym (held_in-innermost past task grouped))
 
   -- the names of the classes that it holds locks of
-  pub classes-are : map (λ class. get_or names class []) (map (λ hold. hold.class) held) ≡ map (λ key. key.lock.class) (held_by past task)
+  pub classes-are : map (λ class. get_or names class no_class) (map (λ hold. hold.class) held) ≡ map (λ one. one.class) (held_by past task)
   classes-are =
-      holds-names names held is.classes
-      ∙ sym (map-map (λ (lock : PlainLock). lock.class) (λ (hold : Hold). hold.lock) held)
-      ∙ ap (map (λ lock. lock.class)) is.locks
-      ∙ map-map (λ (lock : PlainLock). lock.class) (λ (key : Key). key.lock) (held_by past task)
+      holds-classes names held
+      ∙ ap (map (λ (one : HeldLock). one.class)) is.holds
+      ∙ map-map (λ (one : HeldLock). one.class) lock_held (held_by past task)

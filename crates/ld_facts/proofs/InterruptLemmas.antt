@@ -3,6 +3,7 @@ use Rattle.std.proofs.Common.{◌≡◌, ◌≢◌, ◌<◌, ◌≤◌, ◌-◌,
 use Rattle.std.proofs.Common.{get_or, refl, ap, sym, subst, arith, if◌then◌else◌, All}
 use Rattle.std.specs.Prelude.{slice_get}
 use Rattle.std.specs.List.{list_any}
+use Rattle.std.specs.Str.{bytes_eq}
 use Rattle.std.proofs.lemmas.List.{length-drop, length-map}
 use Rattle.ld_trace.specs.declared.event.State.{State}
 use Rattle.ld_trace.specs.declared.event.State.TheVariants.{Hard, Soft}
@@ -17,13 +18,13 @@ use Rattle.ld_rules.specs.Dependency.{dependencies_at}
 use Rattle.ld_facts.specs.Facts.{named_use}
 use Rattle.ld_rules.specs.Flags.{is_enabled, same_state}
 use Rattle.ld_rules.specs.Frames.{contexts, frame_of, task_of}
-use Rattle.ld_rules.specs.Held.{held_by, held_in}
+use Rattle.ld_rules.specs.Held.{class_awaited, held_by, held_in}
 use Rattle.ld_held.specs.Inner.Interrupts.{IsEntered, IsLeft, IsSet, enabled_now, fresh, nests_in, start_now, states_of}
 use Rattle.ld_rules.specs.Inner.Levels.{stack, state_of_frame}
 use Rattle.ld_held.specs.Inner.Locks.{Hold, ChangesInterrupts, HeldByTasks}
 use Rattle.ld_rules.specs.Open.{is_some_and}
 use Rattle.ld_rules.specs.Outcome.{class_acquired, event_fault, events, is_bad_enable, is_bad_exit, is_badly_nested, is_held_at_exit, is_masked, is_one_too_many, tasks}
-use Rattle.ld_facts.specs.Inner.Reading.{HasTask, IsAt, IsTask, Start, happens, uses_after}
+use Rattle.ld_facts.specs.Inner.Reading.{HasTask, IsAt, IsTask, Start, happens, lock_held, named_hold, uses_after}
 use Rattle.ld_rules.specs.Inner.Scanned.{same_use_seen, with_new}
 use Rattle.ld_facts.specs.Facts.{IsUse}
 use Rattle.ld_uses.specs.Inner.Uses.{on_facts, with_use}
@@ -34,7 +35,8 @@ use Rattle.ld_facts.proofs.InnerLemmas.{any-context, classes-are, clean-grouped,
 use Rattle.ld_facts.proofs.MovedLemmas.{Changed, own-before, shallow-before, tasks-fit, unacquired}
 use Rattle.ld_facts.proofs.NamedLemmas.{holds-within}
 use Rattle.ld_facts.proofs.ReleaseLemmas.{uses-uncounted}
-use Rattle.ld_rules.proofs.UsageLemmas.{new_keys, on_use, uses_in, uses_from-push, waits_for, with_uses}
+use Rattle.ld_rules.proofs.UsageLemmas.{newly_held, on_use, uses_from-push, with_uses}
+use Rattle.ld_rules.specs.Usage.{uses_in}
 use Rattle.ld_facts.proofs.UseLemmas.{on_facts-named, on_facts-within, uses-named, uses-within}
 
 not_not : (b : Bool) → b ≡ not (not b)
@@ -50,7 +52,7 @@ none_there [] none = refl
 none_there (x ∷ xs) none = absurd (omega (arith, none))
 
 -- the faults of the verbs, by a task that isn't one too many
-module _ (past : List PlainEvent) (name : List ℕ) (state : State) (fits : is_one_too_many MOST_TASKS (tasks past) name ≡ false) where
+module _ (past : List PlainEvent) (name : List ℕ) (state : State) (fits : is_one_too_many bytes_eq MOST_TASKS (tasks past) name ≡ false) where
   enter_fault : event_fault past (Enter name state) ≡ (if is_badly_nested past (Enter name state) then Some BadNest else if is_masked past (Enter name state) then Some Masked else None)
   enter_fault = rw fits refl
 
@@ -77,7 +79,7 @@ module _ {start : Start} (all : List Position) (old : Scan) (is : IsAt start all
   grouped : IsGrouped (events all) name
   grouped = clean-grouped all name is.clean
 
-  fits : is_one_too_many MOST_TASKS (tasks (events all)) name ≡ false
+  fits : is_one_too_many bytes_eq MOST_TASKS (tasks (events all)) name ≡ false
   fits = tasks-fit all old is name id mid has
 
   -- where only the frames and flags of the task change
@@ -111,7 +113,7 @@ module _ {start : Start} (all : List Position) (old : Scan) (is : IsAt start all
         (subst (λ held. IsTask old.classes held (get_or locks.interrupts id fresh) (events all ++ e ∷ []) name) (sym (held_same locks moved)) own))
         (shallow locks moved) shown used
 
-    uncounted-by : waits_for e ≡ None → new_keys (events all) e ≡ [] → IsAt start (all ++ happens line e ∷ []) (record mid { locks = locks })
+    uncounted-by : class_awaited e ≡ None → newly_held (events all) e ≡ [] → IsAt start (all ++ happens line e ∷ []) (record mid { locks = locks })
     uncounted-by waits_none counts_none =
         moved-by mid.uses (ap (map (named_use old.classes)) has.uses ∙ is.uses ∙ sym (uses-uncounted start all e line waits_none counts_none)) (subst (All (IsUse old.classes)) (sym has.uses) is.used)
 
@@ -119,7 +121,7 @@ module _ {start : Start} (all : List Position) (old : Scan) (is : IsAt start all
     abbrev counted : List UsageFact
     counted = fold with_use mid.uses (on_facts (get_or locks.interrupts id fresh) line (map (λ hold. hold.class) (get_or locks.stacks id [])))
 
-    counted-by : waits_for e ≡ None → new_keys (events all) e ≡ held_by (events all) name → IsAt start (all ++ happens line e ∷ [])
+    counted-by : class_awaited e ≡ None → newly_held (events all) e ≡ held_by (events all) name → IsAt start (all ++ happens line e ∷ [])
         (record mid { locks = locks; uses = counted })
     counted-by waits_none counts_held =
         moved-by counted
@@ -143,7 +145,7 @@ module _ {start : Start} (all : List Position) (old : Scan) (is : IsAt start all
         numbers = map (λ hold. hold.class) held_now
 
         within : All (IsUse old.classes) (on_facts interrupts line numbers)
-        within = on_facts-within old.classes interrupts line numbers (holds-within old.classes held_now before.classes)
+        within = on_facts-within old.classes interrupts line numbers (holds-within old.classes held_now before.within)
 
         enabled : (of : State) → enabled_now of interrupts ≡ is_enabled (events all ++ e ∷ []) name of
         enabled = enabled-is old.classes held_now interrupts (events all ++ e ∷ []) name own
@@ -151,7 +153,7 @@ module _ {start : Start} (all : List Position) (old : Scan) (is : IsAt start all
         counts : held_by (events all) name ≡ held_by (events all) name
         counts = refl
 
-        new : (of : State) → map (on_use of) (if is_enabled (events all ++ e ∷ []) (task_of e) of then new_keys (events all) e else []) ≡ map
+        new : (of : State) → map (on_use of) (if is_enabled (events all ++ e ∷ []) (task_of e) of then newly_held (events all) e else []) ≡ map
             (on_use of) (if is_enabled (events all ++ e ∷ []) name of then held_by (events all) name else [])
         new of = (λ i. map (on_use of) (if is_enabled (events all ++ e ∷ []) (own_task i) of then counts_held i else []))
 
@@ -182,8 +184,8 @@ module _ {start : Start} (all : List Position) (old : Scan) (is : IsAt start all
         uncounted-by (Enter name state) line refl locks moved
         (enter_fault (events all) name state fits ∙ (λ i. if (nest-is ∙ ap not nests) i then Some BadNest else if (masked-is ∙ ap not on) i then Some Masked else None)) refl refl
         (record {
-          locks = before.locks ∙ ap (map (λ key. key.lock)) (sym (held_by-other (events all) name (Enter name state) refl refl));
-          classes = before.classes;
+          holds = before.holds ∙ ap (map lock_held) (sym (held_by-other (events all) name (Enter name state) refl refl));
+          within = before.within;
           states = entered.states ∙ ap (λ ss. state ∷ ss) before.states ∙ sym (states-enter (events all) name state);
           starts = entered.starts ∙ (λ i. length-is old.classes held_now frames_now (events all) name before i ∷ before.starts i) ∙ sym (starts-enter (events all) name state);
           levels = λ of.
@@ -200,9 +202,9 @@ module _ {start : Start} (all : List Position) (old : Scan) (is : IsAt start all
 
     length-inner : length (held_in (events all) name (frame_of (events all) name)) ≡ length held_now - start_now frames_now
     length-inner =
-        sym (length-map (held_in (events all) name (frame_of (events all) name)) (λ key. key.lock))
+        sym (length-map (held_in (events all) name (frame_of (events all) name)) lock_held)
         ∙ ap length (sym (inner-is old.classes held_now frames_now (events all) name before grouped))
-        ∙ length-map (drop (start_now frames_now) held_now) (λ (hold : Hold). hold.lock)
+        ∙ length-map (drop (start_now frames_now) held_now) (named_hold old.classes)
         ∙ length-drop (start_now frames_now) held_now
 
     start_least : start_now frames_now ≤ length held_now
@@ -238,8 +240,8 @@ module _ {start : Start} (all : List Position) (old : Scan) (is : IsAt start all
         counted-by (Exit name state) line refl locks moved
         (exit_fault (events all) name state fits ∙ (λ i. if good i then Some BadExit else if empty i then Some HeldAtExit else None)) refl refl
         (record {
-          locks = before.locks ∙ ap (map (λ key. key.lock)) (sym (held_by-other (events all) name (Exit name state) refl refl));
-          classes = before.classes;
+          holds = before.holds ∙ ap (map lock_held) (sym (held_by-other (events all) name (Exit name state) refl refl));
+          within = before.within;
           states = left.states ∙ ap (drop 1) before.states ∙ sym (states-exit (events all) name state);
           starts = left.starts ∙ ap (drop 1) before.starts ∙ sym (starts-exit (events all) name state);
           levels = λ of. left.levels of ∙ ap (drop 1) (before.levels of) ∙ sym (levels-exit_good (events all) name state of good);
@@ -274,8 +276,8 @@ module _ {start : Start} (all : List Position) (old : Scan) (is : IsAt start all
         counted-by (Enable name state) line refl locks moved
         (enable_fault (events all) name state fits ∙ ap (λ (b : Bool). if b then Some BadEnable else None) (bad-enable-is ∙ among)) refl refl
         (record {
-          locks = before.locks ∙ ap (map (λ key. key.lock)) (sym (held_by-other (events all) name (Enable name state) refl refl));
-          classes = before.classes;
+          holds = before.holds ∙ ap (map lock_held) (sym (held_by-other (events all) name (Enable name state) refl refl));
+          within = before.within;
           states = set.states ∙ before.states ∙ quiet (Enable name state) (stack-quiet (events all) name (Enable name state) refl refl);
           starts = set.starts ∙ before.starts ∙ sym (starts-kept (events all) (Enable name state) name (stack-quiet (events all) name (Enable name state) refl refl));
           levels = λ of. set.levels of ∙ ap (λ bs. if same_state of state then true ∷ drop 1 bs else bs) (before.levels of) ∙ sym (levels-enable (events all) name state of);
@@ -287,8 +289,8 @@ module _ {start : Start} (all : List Position) (old : Scan) (is : IsAt start all
     disabled-at line locks moved set =
         uncounted-by (Disable name state) line refl locks moved (disable_fault (events all) name state fits) refl refl
         (record {
-          locks = before.locks ∙ ap (map (λ key. key.lock)) (sym (held_by-other (events all) name (Disable name state) refl refl));
-          classes = before.classes;
+          holds = before.holds ∙ ap (map lock_held) (sym (held_by-other (events all) name (Disable name state) refl refl));
+          within = before.within;
           states = set.states ∙ before.states ∙ quiet (Disable name state) (stack-quiet (events all) name (Disable name state) refl refl);
           starts = set.starts ∙ before.starts ∙ sym (starts-kept (events all) (Disable name state) name (stack-quiet (events all) name (Disable name state) refl refl));
           levels = λ of. set.levels of ∙ ap (λ bs. if same_state of state then false ∷ drop 1 bs else bs) (before.levels of) ∙ sym (levels-disable (events all) name state of);

@@ -6,6 +6,7 @@ use Rattle.std.specs.List.{cons_option, enumerate_from, list_any}
 use Rattle.std.proofs.lemmas.Bool.{true≢false}
 use Rattle.std.proofs.lemmas.List.{append-nil, get_or-map, length-map}
 use Rattle.std.proofs.lemmas.List.Quantifiers.{all_pairs_push}
+use Rattle.ld_class.specs.Names.{PlainClass, no_class}
 use Rattle.ld_trace.specs.declared.event.Event.{Event}
 use Rattle.ld_trace.specs.declared.event.LineFault.{LineFault}
 use Rattle.ld_trace.specs.Lines.{lines, text_of}
@@ -66,7 +67,7 @@ alike_seen : (x y : Seen Dependency) → same_dependency_seen x y ≡ true → (
 alike_seen x y is z = alike_from_decides same_dependency Decides-same_dependency x.what y.what is z.what
 
 -- numbered dependencies that are these by name, each once
-module _ (names : List (List ℕ)) (edges : List EdgeFact) (shown : List (Seen Dependency)) (is : map (named names) edges ≡ each_once same_dependency_seen shown) where
+module _ (names : List PlainClass) (edges : List EdgeFact) (shown : List (Seen Dependency)) (is : map (named names) edges ≡ each_once same_dependency_seen shown) where
   once_named : AllPairs (λ d e. (d.from ≡ e.from) × (d.to ≡ e.to) → ⊥) edges
   once_named i j d before below both =
       let apart : AllPairs (λ a b. same_dependency_seen b a ≡ false) (map (named names) edges) = subst (AllPairs (λ a b. same_dependency_seen b a ≡ false)) (sym is)
@@ -75,11 +76,11 @@ module _ (names : List (List ℕ)) (edges : List EdgeFact) (shown : List (Seen D
       i j (named names d) before (omega (arith, below, length-map edges (named names))) in
       let here : get_or (map (named names) edges) i (named names d) ≡ named names (get_or edges i d) = get_or-map (named names) edges i d (named names d) (omega arith) in
       let there : get_or (map (named names) edges) j (named names d) ≡ named names (get_or edges j d) = get_or-map (named names) edges j d (named names d) below in
-      let alike : (named names (get_or edges j d)).what ≡ (named names (get_or edges i d)).what = (λ k. record { from = get_or names (sym both.0 k) []; to = get_or names (sym both.1 k) [] }) in
+      let alike : (named names (get_or edges j d)).what ≡ (named names (get_or edges i d)).what = (λ k. record { from = get_or names (sym both.0 k) no_class; to = get_or names (sym both.1 k) no_class }) in
       true≢false (sym ((Decides-same_dependency (named names (get_or edges j d)).what (named names (get_or edges i d)).what).1 alike) ∙ (λ k. same_dependency_seen (sym there k) (sym here k)) ∙ differ)
 
 -- numbered usage bits that are these by name, each once
-once_used : (names : List (List ℕ)) (uses : List UsageFact) (shown : List (Seen Use)) → map (named_use names) uses ≡ each_once same_use_seen shown →
+once_used : (names : List PlainClass) (uses : List UsageFact) (shown : List (Seen Use)) → map (named_use names) uses ≡ each_once same_use_seen shown →
     AllPairs (λ u v. (u.class ≡ v.class) × (u.bit ≡ v.bit) → ⊥) uses
 once_used names uses shown is i j d before below both =
     let apart : AllPairs (λ a b. same_use_seen b a ≡ false) (map (named_use names) uses) = subst (AllPairs (λ a b. same_use_seen b a ≡ false)) (sym is)
@@ -88,7 +89,7 @@ once_used names uses shown is i j d before below both =
     false = apart i j (named_use names d) before (omega (arith, below, length-map uses (named_use names))) in
     let here : get_or (map (named_use names) uses) i (named_use names d) ≡ named_use names (get_or uses i d) = get_or-map (named_use names) uses i d (named_use names d) (omega arith) in
     let there : get_or (map (named_use names) uses) j (named_use names d) ≡ named_use names (get_or uses j d) = get_or-map (named_use names) uses j d (named_use names d) below in
-    let alike : (named_use names (get_or uses j d)).what ≡ (named_use names (get_or uses i d)).what = (λ k. record { class = get_or names (sym both.0 k) []; bit = bit_of (sym both.1 k) }) in
+    let alike : (named_use names (get_or uses j d)).what ≡ (named_use names (get_or uses i d)).what = (λ k. record { class = get_or names (sym both.0 k) no_class; bit = bit_of (sym both.1 k) }) in
     true≢false (sym ((Decides-same_use (named_use names (get_or uses j d)).what (named_use names (get_or uses i d)).what).1 alike) ∙ (λ k. same_use_seen (sym there k) (sym here k)) ∙ differ)
 
 -- the same scan and count by other names
@@ -162,7 +163,7 @@ read-known source scan count fits at is =
     record {
       fits = fits;
       outcome = sym is;
-      few = omega (arith, at.few_classes, length-map scan.own (λ n. get_or scan.classes n []), ap length at.own, ap length names);
+      few = omega (arith, at.few_classes, length-map scan.own (λ n. get_or scan.classes n no_class), ap length at.own, ap length names);
       classes = names ∙ (λ i. if_read (sym is i) (classes (events (positions source))));
       within = at.within;
       once = once_named scan.classes scan.locks.edges (seen dependencies_at (positions source)) edges;

@@ -2,7 +2,9 @@
 -- it, and all other tasks stay.
 use Rattle.std.proofs.Common.{◌≡◌, ◌≢◌, ◌<◌, ◌≤◌, ◌++◌, ◌∷◌, [], ◌∙◌, ⊎_elim, eqb, true, false, ℕ, List, None, fold, length, map, ap, sym, subst, get_or, All}
 use Rattle.std.proofs.lemmas.Bool.Decides.{eqb_tells}
-use Rattle.ld_class.specs.Names.{AreDistinct, IsNameAt, place_of, with_name}
+use Rattle.std.proofs.lemmas.Slice.Eq.{bytes_eq-Decides}
+use Rattle.std.specs.Str.{bytes_eq}
+use Rattle.ld_class.specs.Names.{AreDistinct, IsNameAt, IsTaskAt, PlainClass, place_of_task, with_name, with_task}
 use Rattle.ld_trace.specs.Events.{PlainEvent, Position}
 use Rattle.ld_rules.specs.declared.outcome.TheConstants.{MOST_CLASSES, MOST_HELD, MOST_TASKS}
 use Rattle.ld_facts.specs.declared.scan.Scan.{Scan}
@@ -20,15 +22,15 @@ use Rattle.ld_facts.proofs.TaskLemmas.{scan_not_too_many_tasks, task-at, task-ot
 
 pub record Moved (start : Start) (all : List Position) (old : Scan) (e : PlainEvent) (line id : ℕ) (new : Scan) : Type 0 where
   pub fault : event_fault (events all) e ≡ None
-  pub tasks : new.tasks ≡ with_name old.tasks (task_of e)
-  pub place : IsNameAt new.tasks id (task_of e)
-  pub fits : place_of old.tasks (task_of e) ≡ None → length old.tasks < MOST_TASKS
+  pub tasks : new.tasks ≡ with_task old.tasks (task_of e)
+  pub place : IsTaskAt new.tasks id (task_of e)
+  pub fits : place_of_task old.tasks (task_of e) ≡ None → length old.tasks < MOST_TASKS
   pub many : AreMany new
   pub names : new.classes ≡ classes_after start (events all ++ e ∷ [])
   pub distinct : AreDistinct new.classes
   pub own : own_names new ≡ classes (events all ++ e ∷ [])
   pub few_classes : length new.own ≤ MOST_CLASSES
-  pub stays : (number : ℕ) (name : List ℕ) → IsNameAt old.classes number name → IsNameAt new.classes number name
+  pub stays : (number : ℕ) (name : PlainClass) → IsNameAt old.classes number name → IsNameAt new.classes number name
   pub stacks : (k : ℕ) → k ≢ id → get_or new.locks.stacks k [] ≡ get_or old.locks.stacks k []
   pub interrupts : (k : ℕ) → k ≢ id → get_or new.locks.interrupts k fresh ≡ get_or old.locks.interrupts k fresh
   pub task : IsTask new.classes (get_or new.locks.stacks id []) (get_or new.locks.interrupts id fresh) (events all ++ e ∷ []) (task_of e)
@@ -46,11 +48,11 @@ pub moved-at : {start : Start} (all : List Position) (old : Scan) (e : PlainEven
     Moved start all old e line id new → IsAt start (all ++ happens line e ∷ []) new
 moved-at {start} all old e line id new is m = record {
   clean = no_fault all (happens line e) is.clean m.fault;
-  tasks = m.tasks ∙ ap (λ ns. with_name ns (task_of e)) is.tasks ∙ sym (tasks-push (events all) e) ∙ ap tasks (sym now);
+  tasks = m.tasks ∙ ap (λ ns. with_task ns (task_of e)) is.tasks ∙ sym (tasks-push (events all) e) ∙ ap tasks (sym now);
   names = m.names ∙ ap (classes_after start) (sym now);
   distinct = m.distinct;
   own = m.own ∙ ap classes (sym now);
-  few_tasks = subst (λ ns. length ns ≤ MOST_TASKS) (sym m.tasks) (with_name-few MOST_TASKS old.tasks (task_of e) m.fits is.few_tasks);
+  few_tasks = subst (λ ns. length ns ≤ MOST_TASKS) (sym m.tasks) (with_name-few bytes_eq [] bytes_eq-Decides MOST_TASKS old.tasks (task_of e) m.fits is.few_tasks);
   few_classes = m.few_classes;
   many = m.many;
   each = λ k other at. subst (λ past. IsTask new.classes (get_or new.locks.stacks k []) (get_or new.locks.interrupts k fresh) past other) (sym now) (each k other at);
@@ -66,13 +68,13 @@ moved-at {start} all old e line id new is m = record {
     now : events (all ++ happens line e ∷ []) ≡ events all ++ e ∷ []
     now = events-push all (happens line e)
 
-    own : (k : ℕ) (other : List ℕ) → IsNameAt new.tasks k other → k ≡ id → IsTask new.classes (get_or new.locks.stacks k []) (get_or new.locks.interrupts k fresh) (events all ++ e ∷ []) other
+    own : (k : ℕ) (other : List ℕ) → IsTaskAt new.tasks k other → k ≡ id → IsTask new.classes (get_or new.locks.stacks k []) (get_or new.locks.interrupts k fresh) (events all ++ e ∷ []) other
     own k other at same =
         let name : task_of e ≡ other = sym m.place.1 ∙ ap (λ n. get_or new.tasks n []) (sym same) ∙ at.1 in
         subst (λ n. IsTask new.classes (get_or new.locks.stacks n []) (get_or new.locks.interrupts n fresh) (events all ++ e ∷ []) other) (sym same)
         (subst (λ task. IsTask new.classes (get_or new.locks.stacks id []) (get_or new.locks.interrupts id fresh) (events all ++ e ∷ []) task) name m.task)
 
-    stays_other : (k : ℕ) (other : List ℕ) → IsNameAt new.tasks k other → k ≢ id → IsTask new.classes (get_or new.locks.stacks k []) (get_or new.locks.interrupts k fresh) (events all ++ e ∷ []) other
+    stays_other : (k : ℕ) (other : List ℕ) → IsTaskAt new.tasks k other → k ≢ id → IsTask new.classes (get_or new.locks.stacks k []) (get_or new.locks.interrupts k fresh) (events all ++ e ∷ []) other
     stays_other k other at apart =
         let before = task-at all old is (task_of e) new.tasks m.tasks k other at in
         let after = task-unmoved old.classes new.classes (get_or old.locks.stacks k []) (get_or old.locks.interrupts k fresh) (events all) e other
@@ -80,7 +82,7 @@ moved-at {start} all old e line id new is m = record {
         subst (λ held. IsTask new.classes held (get_or new.locks.interrupts k fresh) (events all ++ e ∷ []) other) (sym (m.stacks k apart))
         (subst (λ interrupts. IsTask new.classes (get_or old.locks.stacks k []) interrupts (events all ++ e ∷ []) other) (sym (m.interrupts k apart)) after)
 
-    each : (k : ℕ) (other : List ℕ) → IsNameAt new.tasks k other → IsTask new.classes (get_or new.locks.stacks k []) (get_or new.locks.interrupts k fresh) (events all ++ e ∷ []) other
+    each : (k : ℕ) (other : List ℕ) → IsTaskAt new.tasks k other → IsTask new.classes (get_or new.locks.stacks k []) (get_or new.locks.interrupts k fresh) (events all ++ e ∷ []) other
     each k other at = own_or_other (IsTask new.classes (get_or new.locks.stacks k []) (get_or new.locks.interrupts k fresh) (events all ++ e ∷ []) other) k id (own k other at) (stays_other k other at)
 
 -- what changed after the task of the event had its number
@@ -106,7 +108,7 @@ module _ {start : Start} (all : List Position) (old : Scan) (is : IsAt start all
   shallow-before = subst (λ held. length held ≤ MOST_HELD) (sym (has.stacks id)) (is.shallow id)
 
   -- no task too many
-  pub tasks-fit : is_one_too_many MOST_TASKS (tasks (events all)) name ≡ false
+  pub tasks-fit : is_one_too_many bytes_eq MOST_TASKS (tasks (events all)) name ≡ false
   tasks-fit = scan_not_too_many_tasks all old name is has.fits
 
 -- an event that acquires nothing leaves the classes and the dependencies
@@ -121,7 +123,7 @@ unacquired {start} all old e line id mid new is has changed fault acquires_none 
     moved-at all old e line id new is (record {
       fault = fault;
       tasks = changed.tasks ∙ has.tasks;
-      place = subst (λ ns. IsNameAt ns id (task_of e)) (sym changed.tasks) has.place;
+      place = subst (λ ns. IsTaskAt ns id (task_of e)) (sym changed.tasks) has.place;
       fits = has.fits;
       many = changed.many;
       names = classes-same ∙ is.names ∙ ap (fold with_name start.classes) (sym (classes-other (events all) e acquires_none));

@@ -7,7 +7,7 @@ use Rattle.std.proofs.lemmas.List.{length-set, get_or-set_same, get_or-set_other
 use Rattle.std.proofs.lemmas.List.Elements.{All-append, All-cons, All-drop, All-head, All-tail, All-take}
 use Rattle.std.specs.List.{All, list_all, list_any}
 use Rattle.std.specs.Str.{bytes_eq}
-use Rattle.ld_class.specs.Names.{IsNameAt}
+use Rattle.ld_class.specs.Names.{PlainClass}
 use Rattle.ld_class.proofs.Mapped.{list_any-map}
 use Rattle.ld_trace.specs.declared.event.State.{State}
 use Rattle.ld_trace.specs.declared.event.State.TheVariants.{Hard, Soft}
@@ -21,20 +21,21 @@ use Rattle.ld_rules.specs.Inner.Scanned.{remove_last}
 use Rattle.ld_facts.specs.Facts.{named_use}
 use Rattle.ld_rules.specs.Flags.{is_enabled}
 use Rattle.ld_rules.specs.Frames.{contexts, frame_of, task_of}
-use Rattle.ld_rules.specs.Held.{Key, same_frame, same_key, same_lock, held, held_by, held_in}
+use Rattle.ld_rules.specs.Held.{Acquisition, Key, class_awaited, same_frame, same_lock, held, held_by, held_in}
 use Rattle.ld_held.specs.Inner.Interrupts.{fresh, start_now}
 use Rattle.ld_rules.specs.Inner.Levels.{stack, starts, state_of_frame}
 use Rattle.ld_held.specs.Inner.Locks.{Hold, is_of}
 use Rattle.ld_rules.specs.Outcome.{event_fault, events, is_not_held, is_one_too_many, tasks}
-use Rattle.ld_facts.specs.Inner.Reading.{HasTask, IsAt, IsTask, Start, happens, uses_after}
+use Rattle.ld_facts.specs.Inner.Reading.{HasTask, HeldLock, IsAt, IsTask, Start, happens, lock_held, named_hold, uses_after}
 use Rattle.ld_facts.specs.Facts.{IsUse}
 use Rattle.ld_rules.proofs.RemoveLemmas.{list_any-filter, map-remove_last}
-use Rattle.ld_rules.proofs.HeldLemmas.{Decides-same_frame, Decides-same_key, any_held_by, held_by-releases}
+use Rattle.ld_rules.proofs.HeldLemmas.{Decides-same_frame, Decides-same_key, any_held_by, has_key, held_by-releases}
 use Rattle.ld_rules.proofs.FlagLemmas.{levels-quiet, stack-quiet}
 use Rattle.ld_rules.proofs.GroupLemmas.{IsGrouped, held_in-innermost, outer_elsewhere, remove_last-append, starts-kept}
 use Rattle.ld_facts.proofs.InnerLemmas.{clean-grouped, inner-is, start-is}
 use Rattle.ld_facts.proofs.MovedLemmas.{own-before, shallow-before, tasks-fit, unacquired}
-use Rattle.ld_rules.proofs.UsageLemmas.{list_all-filter, list_all_mono, new_keys, new_uses, on_use, uses_in, uses_from-push, waits_for, with_uses}
+use Rattle.ld_rules.proofs.UsageLemmas.{list_all-filter, list_all_mono, newly_held, new_uses, on_use, uses_from-push, with_uses}
+use Rattle.ld_rules.specs.Usage.{uses_in}
 
 -- two tests that agree at each element of which a third holds
 module _ {X : Type 0} (p q r : X → Bool) (same : (x : X) → r x ≡ true → p x ≡ q x) where
@@ -101,7 +102,7 @@ none_less p q within (x ∷ xs) none =
     by false is rest = rest
 
 -- what is kept of a task, when it releases a lock in its innermost frame
-module _ (names : List (List ℕ)) (stack : List Hold) (interrupts : Interrupts) (past : List PlainEvent) (task : List ℕ)
+module _ (names : List PlainClass) (stack : List Hold) (interrupts : Interrupts) (past : List PlainEvent) (task : List ℕ)
     (is : IsTask names stack interrupts past task) (grouped : IsGrouped past task) (lock : PlainLock) where
   abbrev key : Key
   key = key_released past task lock
@@ -112,42 +113,45 @@ module _ (names : List (List ℕ)) (stack : List Hold) (interrupts : Interrupts)
   abbrev inner : List Hold
   inner = drop (start_now interrupts) stack
 
-  in_frame : (other : Key) → same_key key other ≡ true → same_frame frame other.frame ≡ true
-  in_frame other same = (Decides-same_frame frame other.frame).1 (ap (λ k. k.frame) ((Decides-same_key key other).0 same))
+  abbrev is_lock : HeldLock → Bool
+  is_lock held = same_lock lock held.lock
 
-  told_by_lock : (other : Key) → (same_frame frame other.frame && bytes_eq task other.task) ≡ true → same_key key other ≡ same_lock lock other.lock
+  in_frame : (other : Acquisition) → has_key key other ≡ true → same_frame frame other.key.frame ≡ true
+  in_frame other same = (Decides-same_frame frame other.key.frame).1 (ap (λ k. k.frame) ((Decides-same_key key other.key).0 same))
+
+  told_by_lock : (other : Acquisition) → (same_frame frame other.key.frame && bytes_eq task other.key.task) ≡ true → has_key key other ≡ same_lock lock other.key.lock
   told_by_lock other both =
-      let parts = and_parts (same_frame frame other.frame) (bytes_eq task other.task) both in
-      (λ i. (parts.1 i && parts.0 i) && same_lock lock other.lock)
+      let parts = and_parts (same_frame frame other.key.frame) (bytes_eq task other.key.task) both in
+      (λ i. (parts.1 i && parts.0 i) && same_lock lock other.key.lock)
 
-  all_in_frame : list_all (λ other. same_frame frame other.frame && bytes_eq task other.task) (held_in past task frame) ≡ true
-  all_in_frame = all_both (λ other. same_frame frame other.frame) (λ other. bytes_eq task other.task) (held_by past task) (all_kept (λ other. bytes_eq task other.task) (held past))
+  all_in_frame : list_all (λ other. same_frame frame other.key.frame && bytes_eq task other.key.task) (held_in past task frame) ≡ true
+  all_in_frame = all_both (λ other. same_frame frame other.key.frame) (λ other. bytes_eq task other.key.task) (held_by past task) (all_kept (λ other. bytes_eq task other.key.task) (held past))
 
   -- its locks from there on tell whether it's held
-  pub inner_held : list_any (same_key key) (held past) ≡ list_any (is_of lock) inner
+  pub inner_held : list_any (has_key key) (held past) ≡ list_any (is_of lock) inner
   inner_held =
       sym (any_held_by past key)
-      ∙ sym (list_any-filter (same_key key) (λ other. same_frame frame other.frame) in_frame (held_by past task))
-      ∙ list_any_agree (same_key key) (λ other. same_lock lock other.lock) (λ other. same_frame frame other.frame && bytes_eq task other.task) told_by_lock (held_in past task frame) all_in_frame
-      ∙ sym (list_any-map (λ other. other.lock) (same_lock lock) (held_in past task frame))
-      ∙ ap (list_any (same_lock lock)) (sym (inner-is names stack interrupts past task is grouped))
-      ∙ list_any-map (λ hold. hold.lock) (same_lock lock) inner
+      ∙ sym (list_any-filter (has_key key) (λ other. same_frame frame other.key.frame) in_frame (held_by past task))
+      ∙ list_any_agree (has_key key) (λ other. same_lock lock other.key.lock) (λ other. same_frame frame other.key.frame && bytes_eq task other.key.task) told_by_lock (held_in past task frame) all_in_frame
+      ∙ sym (list_any-map lock_held is_lock (held_in past task frame))
+      ∙ ap (list_any is_lock) (sym (inner-is names stack interrupts past task is grouped))
+      ∙ list_any-map (named_hold names) is_lock inner
 
   -- and without the latest of them they are what it holds after the release
-  pub released_stack : map (λ hold. hold.lock) (take (start_now interrupts) stack ++ remove_last (is_of lock) inner) ≡ map (λ other. other.lock) (held_by (past ++ Release task lock ∷ []) task)
+  pub released_stack : map (named_hold names) (take (start_now interrupts) stack ++ remove_last (is_of lock) inner) ≡ map lock_held (held_by (past ++ Release task lock ∷ []) task)
   released_stack =
-      map-append (λ (hold : Hold). hold.lock) (take (start_now interrupts) stack) (remove_last (is_of lock) inner)
-      ∙ (λ i. sym (take-map (λ (hold : Hold). hold.lock) (start_now interrupts) stack) i ++ map-remove_last (λ (hold : Hold). hold.lock) (same_lock lock) inner i)
-      ∙ (λ i. take (start i) (is.locks i) ++ remove_last (same_lock lock) (inner-is names stack interrupts past task is grouped i))
-      ∙ (λ i. take-map (λ (other : Key). other.lock) at (held_by past task) i ++ sym (map-remove_last (λ (other : Key). other.lock) (same_lock lock) (held_in past task frame)) i)
-      ∙ sym (map-append (λ (other : Key). other.lock) (take at (held_by past task)) (remove_last (λ other. same_lock lock other.lock) (held_in past task frame)))
-      ∙ ap (map (λ other. other.lock)) (
-      (λ i. take at (held_by past task) ++ sym (remove_last_agree_where (same_key key) (λ other. same_lock lock other.lock)
-      (λ other. same_frame frame other.frame && bytes_eq task other.task) told_by_lock (held_in past task frame) all_in_frame) i)
-      ∙ (λ i. take at (held_by past task) ++ remove_last (same_key key) (held_in-innermost past task grouped i))
-      ∙ sym (remove_last-append (same_key key) (take at (held_by past task)) (drop at (held_by past task))
-      (none_less (same_key key) (λ other. same_frame frame other.frame) in_frame (take at (held_by past task)) (outer_elsewhere past task grouped)))
-      ∙ ap (remove_last (same_key key)) (take-append-drop at (held_by past task))
+      map-append (named_hold names) (take (start_now interrupts) stack) (remove_last (is_of lock) inner)
+      ∙ (λ i. sym (take-map (named_hold names) (start_now interrupts) stack) i ++ map-remove_last (named_hold names) is_lock inner i)
+      ∙ (λ i. take (start i) (is.holds i) ++ remove_last is_lock (inner-is names stack interrupts past task is grouped i))
+      ∙ (λ i. take-map lock_held at (held_by past task) i ++ sym (map-remove_last lock_held is_lock (held_in past task frame)) i)
+      ∙ sym (map-append lock_held (take at (held_by past task)) (remove_last (λ other. same_lock lock other.key.lock) (held_in past task frame)))
+      ∙ ap (map lock_held) (
+      (λ i. take at (held_by past task) ++ sym (remove_last_agree_where (has_key key) (λ other. same_lock lock other.key.lock)
+      (λ other. same_frame frame other.key.frame && bytes_eq task other.key.task) told_by_lock (held_in past task frame) all_in_frame) i)
+      ∙ (λ i. take at (held_by past task) ++ remove_last (has_key key) (held_in-innermost past task grouped i))
+      ∙ sym (remove_last-append (has_key key) (take at (held_by past task)) (drop at (held_by past task))
+      (none_less (has_key key) (λ other. same_frame frame other.key.frame) in_frame (take at (held_by past task)) (outer_elsewhere past task grouped)))
+      ∙ ap (remove_last (has_key key)) (take-append-drop at (held_by past task))
       ∙ sym (held_by-releases past task lock)
       )
     where
@@ -158,23 +162,23 @@ module _ (names : List (List ℕ)) (stack : List Hold) (interrupts : Interrupts)
       start = start-is names stack interrupts past task is
 
 -- the fault of a release by a task that isn't one too many
-release_fault : (past : List PlainEvent) (name : List ℕ) (lock : PlainLock) → is_one_too_many MOST_TASKS (tasks past) name ≡ false → event_fault past
+release_fault : (past : List PlainEvent) (name : List ℕ) (lock : PlainLock) → is_one_too_many bytes_eq MOST_TASKS (tasks past) name ≡ false → event_fault past
     (Release name lock) ≡ (if is_not_held past (Release name lock) then Some NotHeld else None)
 release_fault past name lock fits = rw fits refl
 
--- the uses of an event that counts no key
+-- the uses of an event that counts nothing newly
 none_counted : (state : State) (b : Bool) → map (on_use state) (if b then [] else []) ≡ []
 none_counted state true = refl
 none_counted state false = refl
 
-pub uses-uncounted : (start : Start) (all : List Position) (e : PlainEvent) (line : ℕ) → waits_for e ≡ None → new_keys (events all) e ≡ [] → uses_after start
+pub uses-uncounted : (start : Start) (all : List Position) (e : PlainEvent) (line : ℕ) → class_awaited e ≡ None → newly_held (events all) e ≡ [] → uses_after start
     (all ++ happens line e ∷ []) ≡ uses_after start all
 uses-uncounted start all e line waits_none counts_none =
     uses_from-push start.uses all (happens line e)
     ∙ ap (with_uses line (uses_after start all)) ((λ i. uses_in (contexts (events all) (task_of e)) (waits_none i) ++ (none Hard i ++ none Soft i)))
   where
     none : (state : State) → new_uses (events all) e state ≡ []
-    none state = ap (λ keys. map (on_use state) (if is_enabled (events all ++ e ∷ []) (task_of e) state then keys else [])) counts_none ∙ none_counted
+    none state = ap (λ those. map (on_use state) (if is_enabled (events all ++ e ∷ []) (task_of e) state then those else [])) counts_none ∙ none_counted
         state (is_enabled (events all ++ e ∷ []) (task_of e) state)
 
 -- the scan with the task of the release
@@ -214,11 +218,11 @@ module _ {start : Start} (all : List Position) (old : Scan) (is_at : IsAt start 
 
   own : IsTask old.classes left frames_now (events all ++ Release name lock ∷ []) name
   own = record {
-    locks = released_stack old.classes held_now frames_now (events all) name before grouped lock;
-    classes = All-append (λ hold. IsNameAt old.classes hold.class hold.lock.class) (take (start_now frames_now) held_now) (remove_last (is_of lock) (drop (start_now frames_now) held_now))
-        (All-take (λ hold. IsNameAt old.classes hold.class hold.lock.class) (start_now frames_now) held_now before.classes)
-        (All-remove_last (λ hold. IsNameAt old.classes hold.class hold.lock.class) (is_of lock) (drop (start_now frames_now) held_now)
-        (All-drop (λ hold. IsNameAt old.classes hold.class hold.lock.class) (start_now frames_now) held_now before.classes));
+    holds = released_stack old.classes held_now frames_now (events all) name before grouped lock;
+    within = All-append (λ hold. hold.class < length old.classes) (take (start_now frames_now) held_now) (remove_last (is_of lock) (drop (start_now frames_now) held_now))
+        (All-take (λ hold. hold.class < length old.classes) (start_now frames_now) held_now before.within)
+        (All-remove_last (λ hold. hold.class < length old.classes) (is_of lock) (drop (start_now frames_now) held_now)
+        (All-drop (λ hold. hold.class < length old.classes) (start_now frames_now) held_now before.within));
     states = before.states ∙ sym (ap (map state_of_frame) quiet);
     starts = before.starts ∙ sym (starts-kept (events all) (Release name lock) name quiet);
     levels = λ state. before.levels state ∙ sym (levels-quiet (events all) (Release name lock) name state refl);

@@ -7,26 +7,25 @@ use Rattle.std.proofs.lemmas.List.Elements.{All-nil, All-cons, All-head, All-tai
 use Rattle.std.specs.Bool.{Decides}
 use Rattle.std.specs.List.{list_any}
 use Rattle.std.proofs.lemmas.Simd.{map-map}
-use Rattle.ld_class.specs.Names.{AreDistinct, IsNameAt, with_name}
+use Rattle.ld_class.specs.Names.{AreDistinct, IsNameAt, PlainClass, no_class, with_name}
 use Rattle.ld_trace.specs.declared.event.State.{State}
 use Rattle.ld_trace.specs.declared.event.State.TheVariants.{Hard, Soft}
-use Rattle.ld_trace.specs.Events.{PlainLock}
 use Rattle.ld_uses.specs.declared.uses.UsageFact.{UsageFact}
 use Rattle.ld_held.specs.declared.interrupts.Interrupts.{Interrupts}
 use Rattle.ld_rules.specs.Dependency.{Seen}
 use Rattle.ld_facts.specs.Facts.{named_use}
-use Rattle.ld_rules.specs.Held.{Key}
+use Rattle.ld_rules.specs.Held.{Acquisition}
 use Rattle.ld_held.specs.Inner.Interrupts.{enabled_now, states_of}
-use Rattle.ld_rules.specs.Usage.{Bit, Use, bit_of, usage_of}
+use Rattle.ld_rules.specs.Usage.{Bit, Use, bit_of, usage_of, uses_in}
 use Rattle.ld_rules.specs.Usage.Bit.{In, On}
 use Rattle.ld_rules.specs.Inner.Scanned.{same_use_seen, with_new}
 use Rattle.ld_facts.specs.Facts.{IsUse}
 use Rattle.ld_uses.specs.Inner.Uses.{fact, in_facts, on_facts, same_fact, with_use}
 use Rattle.ld_facts.proofs.NamedLemmas.{name-more, number-more}
-use Rattle.ld_rules.proofs.UsageLemmas.{Decides-same_use, at_line, on_use, uses_in}
+use Rattle.ld_rules.proofs.UsageLemmas.{Decides-same_use, at_line, on_use}
 
 -- usage bits of which the names are told apart, and one more
-module _ (names : List (List ℕ)) (distinct : AreDistinct names) where
+module _ (names : List PlainClass) (distinct : AreDistinct names) where
   same_named : (a b : UsageFact) → IsUse names a → IsUse names b → same_use_seen (named_use names a) (named_use names b) ≡ same_fact a b
   same_named a b in_a in_b = same_from_decides (same_use_seen (named_use names a) (named_use names b)) (same_fact a b) by_names by_numbers
     where
@@ -35,9 +34,9 @@ module _ (names : List (List ℕ)) (distinct : AreDistinct names) where
 
       by_numbers : Decides (same_fact a b) ((named_use names a).what ≡ (named_use names b).what)
       by_numbers = Decides-like (same_fact a b)
-          (λ h. λ i. record { class = slice_index_or names (h.0 i) []; bit = bit_of (record { 0 = h.1 i }) })
+          (λ h. λ i. record { class = slice_index_or names (h.0 i) no_class; bit = bit_of (record { 0 = h.1 i }) })
           (λ h. (
-            distinct a.class b.class (slice_index_or names b.class []) (in_a.0, ap (λ u. u.class) h) (in_b.0, refl),
+            distinct a.class b.class (slice_index_or names b.class no_class) (in_a.0, ap (λ u. u.class) h) (in_b.0, refl),
             ap (λ u. u.0) (in_a.1 ∙ ap (λ u. usage_of u.bit) h ∙ sym in_b.1),
           ))
           (Decides-and (a.class == b.class) (a.bit.0 == b.bit.0) (Decides-eqb a.class b.class) (Decides-eqb a.bit.0 b.bit.0))
@@ -61,7 +60,7 @@ module _ (names : List (List ℕ)) (distinct : AreDistinct names) where
       by true = refl
       by false = refl
 
-within-with_use : (names : List (List ℕ)) (facts : List UsageFact) (one : UsageFact) → All (IsUse names) facts → IsUse names one → All (IsUse names) (with_use facts one)
+within-with_use : (names : List PlainClass) (facts : List UsageFact) (one : UsageFact) → All (IsUse names) facts → IsUse names one → All (IsUse names) (with_use facts one)
 within-with_use names facts one within here = All-append (IsUse names) facts (if list_any (same_fact one) facts then [] else one ∷ []) within (by (list_any (same_fact one) facts))
   where
     by : (b : Bool) → All (IsUse names) (if b then [] else one ∷ [])
@@ -69,7 +68,7 @@ within-with_use names facts one within here = All-append (IsUse names) facts (if
     by false = All-cons (IsUse names) one [] here (All-nil (IsUse names))
 
 -- more usage bits, told in turn
-pub uses-named : (names : List (List ℕ)) → AreDistinct names → (facts more : List UsageFact) → All (IsUse names) facts → All (IsUse names) more → map
+pub uses-named : (names : List PlainClass) → AreDistinct names → (facts more : List UsageFact) → All (IsUse names) facts → All (IsUse names) more → map
     (named_use names) (fold with_use facts more) ≡ fold (with_new same_use_seen) (map (named_use names) facts) (map (named_use names) more)
 uses-named names distinct facts [] within inside = refl
 uses-named names distinct facts (x ∷ xs) within inside =
@@ -77,20 +76,20 @@ uses-named names distinct facts (x ∷ xs) within inside =
     uses-named names distinct (with_use facts x) xs (within-with_use names facts x within here) (All-tail (IsUse names) x xs inside)
     ∙ ap (λ zs. fold (with_new same_use_seen) zs (map (named_use names) xs)) (with_use-named names distinct facts x within here)
 
-pub uses-within : (names : List (List ℕ)) (facts more : List UsageFact) → All (IsUse names) facts → All (IsUse names) more → All (IsUse names) (fold with_use facts more)
+pub uses-within : (names : List PlainClass) (facts more : List UsageFact) → All (IsUse names) facts → All (IsUse names) more → All (IsUse names) (fold with_use facts more)
 uses-within names facts [] within inside = within
 uses-within names facts (x ∷ xs) within inside =
     uses-within names (with_use facts x) xs (within-with_use names facts x within (All-head (IsUse names) x xs inside)) (All-tail (IsUse names) x xs inside)
 
 -- names with one more among them: the usage bits stand where they stood
-pub named_use-more : (names : List (List ℕ)) (name : List ℕ) (facts : List UsageFact) → All (IsUse names) facts → map (named_use (with_name names name)) facts ≡ map (named_use names) facts
+pub named_use-more : (names : List PlainClass) (name : PlainClass) (facts : List UsageFact) → All (IsUse names) facts → map (named_use (with_name names name)) facts ≡ map (named_use names) facts
 named_use-more names name [] within = refl
 named_use-more names name (x ∷ xs) within =
     let here = name-more names name x.class (All-head (IsUse names) x xs within).0 in
     let rest = named_use-more names name xs (All-tail (IsUse names) x xs within) in
     (λ i. record { what = record { class = here i; bit = bit_of x.bit }; line = x.line } ∷ rest i)
 
-pub within_use-more : (names : List (List ℕ)) (name : List ℕ) (facts : List UsageFact) → All (IsUse names) facts → All (IsUse (with_name names name)) facts
+pub within_use-more : (names : List PlainClass) (name : PlainClass) (facts : List UsageFact) → All (IsUse names) facts → All (IsUse (with_name names name)) facts
 within_use-more names name facts within = All-weaker (IsUse names) (IsUse (with_name names name)) (λ x here. (number-more names name x.class here.0, here.1)) facts within
 
 -- the bit of a set that was made of it
@@ -100,23 +99,23 @@ bit_of-usage (In Soft) = refl
 bit_of-usage (On Hard) = refl
 bit_of-usage (On Soft) = refl
 
-fact-within : (names : List (List ℕ)) (bit : Bit) (line class : ℕ) → class < length names → IsUse names (fact bit line class)
+fact-within : (names : List PlainClass) (bit : Bit) (line class : ℕ) → class < length names → IsUse names (fact bit line class)
 fact-within names bit line class low = (low, ap usage_of (sym (bit_of-usage bit)))
 
 -- The bits of a class that is waited for.
 
-pub in_facts-named : (names : List (List ℕ)) (interrupts : Interrupts) (line class : ℕ) (lock : PlainLock) → IsNameAt names class lock.class → map
-    (named_use names) (in_facts interrupts line class) ≡ map (at_line line) (uses_in (reverse (states_of interrupts)) (Some lock))
-in_facts-named names interrupts line class lock at = by (reverse (states_of interrupts))
+pub in_facts-named : (names : List PlainClass) (interrupts : Interrupts) (line class : ℕ) (name : PlainClass) → IsNameAt names class name → map
+    (named_use names) (in_facts interrupts line class) ≡ map (at_line line) (uses_in (reverse (states_of interrupts)) (Some name))
+in_facts-named names interrupts line class name at = by (reverse (states_of interrupts))
   where
-    by : (states : List State) → map (named_use names) (map (λ state. fact (In state) line class) states) ≡ map (at_line line) (uses_in states (Some lock))
+    by : (states : List State) → map (named_use names) (map (λ state. fact (In state) line class) states) ≡ map (at_line line) (uses_in states (Some name))
     by [] = refl
     by (state ∷ states) =
         let bit = bit_of-usage (In state) in
         let rest = by states in
         (λ i. record { what = record { class = at.1 i; bit = bit i }; line = line } ∷ rest i)
 
-pub in_facts-within : (names : List (List ℕ)) (interrupts : Interrupts) (line class : ℕ) → class < length names → All (IsUse names) (in_facts interrupts line class)
+pub in_facts-within : (names : List PlainClass) (interrupts : Interrupts) (line class : ℕ) → class < length names → All (IsUse names) (in_facts interrupts line class)
 in_facts-within names interrupts line class low = by (reverse (states_of interrupts))
   where
     by : (states : List State) → All (IsUse names) (map (λ state. fact (In state) line class) states)
@@ -126,32 +125,32 @@ in_facts-within names interrupts line class low = by (reverse (states_of interru
 -- The bits of classes that are held.
 
 -- the use of a class that is held where the state is enabled, with its line
-abbrev seen_on : State → ℕ → List ℕ → Seen Use
+abbrev seen_on : State → ℕ → PlainClass → Seen Use
 seen_on state line name = at_line line (record { class = name; bit = On state })
 
-on_named : (names : List (List ℕ)) (state : State) (line : ℕ) (classes : List ℕ) (keys : List Key) → map (λ c. slice_index_or names c []) classes ≡
-    map (λ key. key.lock.class) keys → map (named_use names) (map (fact (On state) line) classes) ≡ map (at_line line) (map (on_use state) keys)
-on_named names state line classes keys same =
+on_named : (names : List PlainClass) (state : State) (line : ℕ) (classes : List ℕ) (those : List Acquisition) → map (λ c. slice_index_or names c no_class) classes ≡
+    map (λ one. one.class) those → map (named_use names) (map (fact (On state) line) classes) ≡ map (at_line line) (map (on_use state) those)
+on_named names state line classes those same =
     map-map (named_use names) (fact (On state) line) classes
-    ∙ ap (λ bit. map (λ c. at_line line (record { class = slice_index_or names c []; bit = bit })) classes) (bit_of-usage (On state))
-    ∙ sym (map-map (seen_on state line) (λ c. slice_index_or names c []) classes)
+    ∙ ap (λ bit. map (λ c. at_line line (record { class = slice_index_or names c no_class; bit = bit })) classes) (bit_of-usage (On state))
+    ∙ sym (map-map (seen_on state line) (λ c. slice_index_or names c no_class) classes)
     ∙ ap (map (seen_on state line)) same
-    ∙ map-map (seen_on state line) (λ key. key.lock.class) keys
-    ∙ sym (map-map (at_line line) (on_use state) keys)
+    ∙ map-map (seen_on state line) (λ one. one.class) those
+    ∙ sym (map-map (at_line line) (on_use state) those)
 
-pub on_facts-named : (names : List (List ℕ)) (interrupts : Interrupts) (line : ℕ) (classes : List ℕ) (keys : List Key) → map
-    (λ c. slice_index_or names c []) classes ≡ map (λ key. key.lock.class) keys → map (named_use names) (on_facts interrupts line classes) ≡ map
-    (at_line line) (map (on_use Hard) (if enabled_now Hard interrupts then keys else []) ++ map (on_use Soft) (if enabled_now Soft interrupts then keys else []))
-on_facts-named names interrupts line classes keys same =
+pub on_facts-named : (names : List PlainClass) (interrupts : Interrupts) (line : ℕ) (classes : List ℕ) (those : List Acquisition) → map
+    (λ c. slice_index_or names c no_class) classes ≡ map (λ one. one.class) those → map (named_use names) (on_facts interrupts line classes) ≡ map
+    (at_line line) (map (on_use Hard) (if enabled_now Hard interrupts then those else []) ++ map (on_use Soft) (if enabled_now Soft interrupts then those else []))
+on_facts-named names interrupts line classes those same =
     map-append (named_use names) (map (fact (On Hard) line) (if enabled_now Hard interrupts then classes else [])) (map (fact (On Soft) line) (if enabled_now Soft interrupts then classes else []))
     ∙ (λ i. by Hard (enabled_now Hard interrupts) i ++ by Soft (enabled_now Soft interrupts) i)
-    ∙ sym (map-append (at_line line) (map (on_use Hard) (if enabled_now Hard interrupts then keys else [])) (map (on_use Soft) (if enabled_now Soft interrupts then keys else [])))
+    ∙ sym (map-append (at_line line) (map (on_use Hard) (if enabled_now Hard interrupts then those else [])) (map (on_use Soft) (if enabled_now Soft interrupts then those else [])))
   where
-    by : (state : State) (b : Bool) → map (named_use names) (map (fact (On state) line) (if b then classes else [])) ≡ map (at_line line) (map (on_use state) (if b then keys else []))
-    by state true = on_named names state line classes keys same
+    by : (state : State) (b : Bool) → map (named_use names) (map (fact (On state) line) (if b then classes else [])) ≡ map (at_line line) (map (on_use state) (if b then those else []))
+    by state true = on_named names state line classes those same
     by state false = refl
 
-pub on_facts-within : (names : List (List ℕ)) (interrupts : Interrupts) (line : ℕ) (classes : List ℕ) → All (λ c. c < length names) classes → All (IsUse names) (on_facts interrupts line classes)
+pub on_facts-within : (names : List PlainClass) (interrupts : Interrupts) (line : ℕ) (classes : List ℕ) → All (λ c. c < length names) classes → All (IsUse names) (on_facts interrupts line classes)
 on_facts-within names interrupts line classes inside =
     All-append (IsUse names) (map (fact (On Hard) line) (if enabled_now Hard interrupts then classes else [])) (map (fact (On Soft) line) (if enabled_now Soft interrupts then classes else []))
     (by Hard (enabled_now Hard interrupts)) (by Soft (enabled_now Soft interrupts))

@@ -1,6 +1,7 @@
 -- What the facts of a trace are, without where they lie in memory.
-use Rattle.std.specs.Prelude.{◌≡◌, ℕ, ◌<◌, ◌≤◌, List, [], map, length, slice_index_or, All}
+use Rattle.std.specs.Prelude.{◌≡◌, ℕ, ◌<◌, ◌≤◌, List, map, length, slice_index_or, All}
 use Rattle.std.specs.Prelude.{AllPairs}
+use Rattle.ld_class.specs.Names.{PlainClass, no_class}
 use Rattle.ld_trace.specs.Sources.{Fits, PlainSource}
 use Rattle.ld_rules.specs.declared.outcome.Outcome.{Outcome}
 use Rattle.ld_rules.specs.declared.outcome.TheConstants.{MOST_CLASSES}
@@ -14,29 +15,29 @@ use Rattle.ld_rules.specs.Union.{classes_of, dependencies_of, uses_of}
 pub record PlainFacts : Type 0 where
   pub source : PlainSource
   pub outcome : Outcome
-  pub classes : List (List ℕ)
+  pub classes : List PlainClass
   pub edges : List EdgeFact
   pub usage : List UsageFact
 
 -- a dependency by the names of its classes, with its line
-abbrev pub named : List (List ℕ) → EdgeFact → Seen Dependency
+abbrev pub named : List PlainClass → EdgeFact → Seen Dependency
 named classes edge = record {
   what = record {
-    from = slice_index_or classes edge.from [];
-    to = slice_index_or classes edge.to [];
+    from = slice_index_or classes edge.from no_class;
+    to = slice_index_or classes edge.to no_class;
   };
   line = edge.line;
 }
 
 -- a usage bit by the name of its class, with its line
-abbrev pub named_use : List (List ℕ) → UsageFact → Seen Use
+abbrev pub named_use : List PlainClass → UsageFact → Seen Use
 named_use classes fact = record {
-  what = record { class = slice_index_or classes fact.class []; bit = bit_of fact.bit };
+  what = record { class = slice_index_or classes fact.class no_class; bit = bit_of fact.bit };
   line = fact.line;
 }
 
 -- it is one bit of one of these classes
-abbrev pub IsUse : List (List ℕ) → UsageFact → Type 0
+abbrev pub IsUse : List PlainClass → UsageFact → Type 0
 IsUse classes one = (one.class < length classes) × IsBit one.bit
 
 -- The source fits. The outcome, the classes in order of first acquisition, no more than a trace may

@@ -6,6 +6,7 @@ mod known;
 mod reading;
 mod scan;
 mod stop;
+mod taking;
 
 pub use known::Facts;
 pub use ld_held::EdgeFact;

@@ -1,7 +1,7 @@
 //! The scan of a trace: what its events so far leave, one event at a time.
 ghost use Rattle.std.specs.Prelude.{◌≡◌, ◌<◌, ◌≤◌, ◌++◌, ◌∷◌, ℕ, List, [], None, Some, Err, fold};
 ghost use Rattle.std.specs.Prelude.{length, map, slice_index_or, IfOk, OnOk};
-ghost use Rattle.ld_class.specs.Names.{place_of, with_name, IsNameAt};
+ghost use Rattle.ld_class.specs.Names.{place_of, place_of_task, plain_class, with_name, IsNameAt};
 ghost use Rattle.ld_class.specs.declared.names.TheConstants.{MOST_NAMES};
 ghost use Rattle.ld_trace.specs.Events.{Position, plain_event, plain_lock};
 ghost use Rattle.ld_trace.specs.Events.PlainEvent.{Disable, Enable, Enter, Exit, Release};
@@ -14,21 +14,13 @@ ghost use Rattle.ld_rules.specs.declared.fault.TraceFault.{TraceFault};
 ghost use Rattle.ld_rules.specs.declared.outcome.TheConstants.{MOST_CLASSES, MOST_HELD, MOST_TASKS};
 
 use crate::stop::Stop;
-use ld_class::{Classes, RecentNames};
+use crate::taking::Taking;
+use ld_class::{ClassName, Classes, RecentNames};
 use ld_held::{Flag, Locks};
 use ld_rules::{MOST_CLASSES, MOST_HELD, MOST_TASKS, TraceFault};
 use ld_trace::{Event, Lock, State};
 use ld_uses::{OwnClasses, Uses};
 use std::alloc::{AllocError, Global};
-
-/// How a lock is taken.
-#[derive(Clone, Copy)]
-pub enum Taking {
-    /// The task may have waited.
-    Waiting,
-    /// It took the lock only because that was free.
-    Trying,
-}
 
 /// How much a scan had when a trace began.
 #[derive(Clone, Copy)]
@@ -119,6 +111,9 @@ impl<'a> Scan<'a> {
         match event {
             Event::Acquire { task, lock } => self.acquire(task, lock, line, Taking::Waiting),
             Event::Try { task, lock } => self.acquire(task, lock, line, Taking::Trying),
+            Event::Nested { task, lock, sub } => {
+                self.acquire(task, lock, line, Taking::Nesting(sub))
+            }
             Event::Release { task, lock } => self.release(task, lock),
             Event::Enter { task, state } => self.enter(task, state),
             Event::Exit { task, state } => self.exit(task, state, line),
@@ -137,11 +132,9 @@ impl<'a> Scan<'a> {
     ) -> Result<(), Stop>
         requires many { AreMany self.old }
         ensures many { OnOk result (AreMany self.new) }
-        ensures ok { OnOk result ((start : Start) (all : List Position) →
-            IsAt start all self.old →
+        ensures ok { OnOk result ((start : Start) (all : List Position) → IsAt start all self.old →
             IsAt start (all ++
-            happens line (acquisition how task.entry.now (plain_lock lock.entry)) ∷ [])
-            self.new) }
+            happens line (acquisition how task.entry.now (plain_lock lock.entry)) ∷ []) self.new) }
         ensures fault { (fault : TraceFault) → result ≡ Err (Stop.Fault fault) →
             (start : Start) (all : List Position) → IsAt start all self.old →
             event_fault (events all) (acquisition how task.entry.now (plain_lock lock.entry))
@@ -149,13 +142,12 @@ impl<'a> Scan<'a> {
         ensures first { StandsOn self.old self.new }
     {
         let task = self.task(task)?;
-        let class = self.class(lock.class)?;
+        let class = self.class(how.class_of(lock))?;
         if self.locks.held(task).len() >= MOST_HELD {
             return Err(Stop::Fault(TraceFault::TooDeep));
         }
-        match how {
-            Taking::Waiting => self.wait(task, class, line)?,
-            Taking::Trying => {}
+        if how.waits() {
+            self.wait(task, class, line)?;
         }
         self.take(task, class, lock, line)?;
         Ok(())
@@ -314,7 +306,7 @@ impl<'a> Scan<'a> {
         ensures task { IfOk result (λ id. HasTask self.old name.entry.now id self.new) }
         ensures fault { (fault : TraceFault) → result ≡ Err (Stop.Fault fault) →
             (fault ≡ TraceFault.TooManyTasks)
-            × (place_of self.old.tasks name.entry.now ≡ None)
+            × (place_of_task self.old.tasks name.entry.now ≡ None)
             × (MOST_TASKS ≤ length self.old.tasks) }
         ensures first { StandsOn self.old self.new }
     {
@@ -329,22 +321,22 @@ impl<'a> Scan<'a> {
     }
 
     /// The number of the class, which may be new, or new to the trace.
-    fn class(&mut self, name: &'a [u8]) -> Result<u32, Stop>
+    fn class(&mut self, name: ClassName<'a>) -> Result<u32, Stop>
         requires many { AreMany self.old }
         ensures many { OnOk result (AreMany self.new) }
-        ensures place { IfOk result (λ id. IsNameAt self.new.classes id name.entry.now) }
+        ensures place { IfOk result (λ id. IsNameAt self.new.classes id (plain_class name.entry)) }
         ensures classes { OnOk result
-            (self.new.classes ≡ with_name self.old.classes name.entry.now) }
+            (self.new.classes ≡ with_name self.old.classes (plain_class name.entry)) }
         ensures own { OnOk result
-            (own_names self.new ≡ with_name (own_names self.old) name.entry.now) }
-        ensures fits { OnOk result (place_of (own_names self.old) name.entry.now ≡ None →
+            (own_names self.new ≡ with_name (own_names self.old) (plain_class name.entry)) }
+        ensures fits { OnOk result (place_of (own_names self.old) (plain_class name.entry) ≡ None →
             length self.old.own < MOST_CLASSES) }
         ensures others { (self.new.tasks ≡ self.old.tasks)
             × (self.new.locks ≡ self.old.locks)
             × (self.new.uses ≡ self.old.uses) }
         ensures fault { (fault : TraceFault) → result ≡ Err (Stop.Fault fault) →
             (fault ≡ TraceFault.TooManyClasses)
-            × (place_of (own_names self.old) name.entry.now ≡ None)
+            × (place_of (own_names self.old) (plain_class name.entry) ≡ None)
             × (MOST_CLASSES ≤ length self.old.own) }
         ensures first { StandsOn self.old self.new }
     {
@@ -359,23 +351,23 @@ impl<'a> Scan<'a> {
 
     /// The number of a class that is new to the trace; the number that it is known by, if any, is
     /// `known`.
-    fn own_class(&mut self, known: Option<u32>, name: &'a [u8]) -> Result<u32, Stop>
+    fn own_class(&mut self, known: Option<u32>, name: ClassName<'a>) -> Result<u32, Stop>
         requires many { AreMany self.old }
-        requires known { known ≡ place_of self.old.classes name.now }
-        requires new { place_of (own_names self.old) name.now ≡ None }
+        requires known { known ≡ place_of self.old.classes (plain_class name) }
+        requires new { place_of (own_names self.old) (plain_class name) ≡ None }
         ensures many { OnOk result (AreMany self.new) }
-        ensures place { IfOk result (λ id. IsNameAt self.new.classes id name.entry.now) }
+        ensures place { IfOk result (λ id. IsNameAt self.new.classes id (plain_class name.entry)) }
         ensures classes { OnOk result
-            (self.new.classes ≡ with_name self.old.classes name.entry.now) }
+            (self.new.classes ≡ with_name self.old.classes (plain_class name.entry)) }
         ensures own { OnOk result
-            (own_names self.new ≡ with_name (own_names self.old) name.entry.now) }
+            (own_names self.new ≡ with_name (own_names self.old) (plain_class name.entry)) }
         ensures fits { OnOk result (length self.old.own < MOST_CLASSES) }
         ensures others { (self.new.tasks ≡ self.old.tasks)
             × (self.new.locks ≡ self.old.locks)
             × (self.new.uses ≡ self.old.uses) }
         ensures fault { (fault : TraceFault) → result ≡ Err (Stop.Fault fault) →
             (fault ≡ TraceFault.TooManyClasses)
-            × (place_of (own_names self.old) name.entry.now ≡ None)
+            × (place_of (own_names self.old) (plain_class name.entry) ≡ None)
             × (MOST_CLASSES ≤ length self.old.own) }
         ensures first { StandsOn self.old self.new }
     {
@@ -389,12 +381,12 @@ impl<'a> Scan<'a> {
 
     /// The number of the class among all, which may be new; the number that it is known by, if any,
     /// is `known`.
-    fn number(&mut self, known: Option<u32>, name: &'a [u8]) -> Result<u32, AllocError>
-        requires known { known ≡ place_of self.old.classes name.now }
+    fn number(&mut self, known: Option<u32>, name: ClassName<'a>) -> Result<u32, AllocError>
+        requires known { known ≡ place_of self.old.classes (plain_class name) }
         requires room { length self.old.classes < MOST_NAMES }
-        ensures place { IfOk result (λ id. IsNameAt self.new.classes id name.entry.now) }
+        ensures place { IfOk result (λ id. IsNameAt self.new.classes id (plain_class name.entry)) }
         ensures classes { OnOk result
-            (self.new.classes ≡ with_name self.old.classes name.entry.now) }
+            (self.new.classes ≡ with_name self.old.classes (plain_class name.entry)) }
         ensures others { self.new ≡ record self.old { classes = self.new.classes } }
         ensures first { StandsOn self.old self.new }
     {

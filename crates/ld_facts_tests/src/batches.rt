@@ -1,6 +1,6 @@
 //! Batches, compared with what `facts` says of each trace alone.
 use ld_batch::{Batch, WitnessedEdge, WitnessedUse};
-use ld_class::Usage;
+use ld_class::{ClassName, Usage};
 use ld_facts::{Facts, Outcome, TraceFault, Witness, facts};
 use ld_trace::{Source, split};
 use std::alloc::AllocError;
@@ -51,15 +51,15 @@ fn sources_of<'a, R: AllocGlobal + Abort>(rt: &R, bytes: &'a [u8]) -> Vec<Source
 /// A dependency by names.
 #[derive(Clone, Copy, PartialEq, Eq)]
 struct NamedEdge<'a> {
-    from: &'a [u8],
-    to: &'a [u8],
+    from: ClassName<'a>,
+    to: ClassName<'a>,
     witness: Witness,
 }
 
 /// A usage bit by name.
 #[derive(Clone, Copy, PartialEq, Eq)]
 struct NamedUse<'a> {
-    class: &'a [u8],
+    class: ClassName<'a>,
     bit: Usage,
     witness: Witness,
 }
@@ -68,7 +68,7 @@ struct NamedUse<'a> {
 #[derive(Drop)]
 struct Told<'a> {
     outcomes: Vec<Outcome>,
-    classes: Vec<&'a [u8]>,
+    classes: Vec<ClassName<'a>>,
     edges: Vec<NamedEdge<'a>>,
     usage: Vec<NamedUse<'a>>,
 }
@@ -95,7 +95,7 @@ fn told_alone<'a, R: AllocGlobal + Abort>(
     Ok(told)
 }
 
-fn note_classes<'a>(facts: &Facts<'a>, classes: &mut Vec<&'a [u8]>) -> Result<(), AllocError> {
+fn note_classes<'a>(facts: &Facts<'a>, classes: &mut Vec<ClassName<'a>>) -> Result<(), AllocError> {
     for id in 0..facts.classes().len() {
         let name = facts.classes().name(id as u32);
         if !classes.contains(&name) {
@@ -151,12 +151,12 @@ fn note_usage<'a, R: Abort>(
     Ok(())
 }
 
-fn name_of<'a, R: Abort>(rt: &R, facts: &Facts<'a>, class: u32) -> &'a [u8] {
+fn name_of<'a, R: Abort>(rt: &R, facts: &Facts<'a>, class: u32) -> ClassName<'a> {
     assert!(rt; (class as usize) < facts.classes().len());
     facts.classes().name(class)
 }
 
-fn batch_name<'a, R: Abort>(rt: &R, batch: &Batch<'a>, class: u32) -> &'a [u8] {
+fn batch_name<'a, R: Abort>(rt: &R, batch: &Batch<'a>, class: u32) -> ClassName<'a> {
     assert!(rt; (class as usize) < batch.classes().len());
     batch.classes().name(class)
 }
@@ -260,6 +260,7 @@ const TRACES: &[&[u8]] = &[
     b"trace j\r\nenter t soft\r\nacquire t D\r\nacquire t E\r\n",
     b"trace k\nacquire t E@1\nacquire t E@2\nenter t hard\nacquire t D\n",
     b"trace l\nenable t soft\ndisable t soft\nacquire t X\nacquire t A\nenable t soft\n",
+    b"trace n\nnested t A 1\nacquire t A\nnested t B 2\nrelease t A\nnested t A 2\n",
 ];
 
 /// The stream of these traces, with a trace that is refused at this place.
@@ -337,7 +338,10 @@ fn assert_lists<R: Abort>(
 ) {
     assert_eq!(rt; batch.classes().len(), classes.len());
     for (id, name) in classes.iter().enumerate() {
-        assert!(rt; batch_name(rt, batch, id as u32) == *name);
+        assert_eq!(rt;
+            batch_name(rt, batch, id as u32),
+            ClassName { name, sub: 0 }
+        );
     }
     assert_eq!(rt; batch.edges().len(), edges.len());
     assert!(rt; edges.iter().all(|edge| batch.edges().contains(edge)));

@@ -27,16 +27,26 @@ fn assert_outcome<R: AllocGlobal + Abort>(rt: &R, bytes: &[u8], outcome: Outcome
     drop(facts);
 }
 
-fn assert_read<R: AllocGlobal + Abort>(rt: &R, bytes: &[u8], events: u64) {
+pub(crate) fn assert_read<R: AllocGlobal + Abort>(rt: &R, bytes: &[u8], events: u64) {
     assert_outcome(rt, bytes, Outcome::Read { events });
 }
 
-fn assert_refused<R: AllocGlobal + Abort>(rt: &R, bytes: &[u8], line: u64, fault: TraceFault) {
+pub(crate) fn assert_refused<R: AllocGlobal + Abort>(
+    rt: &R,
+    bytes: &[u8],
+    line: u64,
+    fault: TraceFault,
+) {
     assert_outcome(rt, bytes, Outcome::Refused { line, fault });
 }
 
 /// Asserts how many classes and dependencies it has.
-fn assert_counts<R: AllocGlobal + Abort>(rt: &R, bytes: &[u8], classes: usize, edges: usize) {
+pub(crate) fn assert_counts<R: AllocGlobal + Abort>(
+    rt: &R,
+    bytes: &[u8],
+    classes: usize,
+    edges: usize,
+) {
     let facts = told(rt, bytes);
     assert_eq!(rt; facts.classes().len(), classes);
     assert_eq!(rt; facts.edges().len(), edges);
@@ -44,7 +54,7 @@ fn assert_counts<R: AllocGlobal + Abort>(rt: &R, bytes: &[u8], classes: usize, e
 }
 
 /// Asserts that these are its dependencies.
-fn assert_edges<R: AllocGlobal + Abort>(rt: &R, bytes: &[u8], edges: &[EdgeFact]) {
+pub(crate) fn assert_edges<R: AllocGlobal + Abort>(rt: &R, bytes: &[u8], edges: &[EdgeFact]) {
     let facts = told(rt, bytes);
     assert_eq!(rt; facts.edges().len(), edges.len());
     assert!(rt; edges.iter().all(|edge| facts.edges().contains(edge)));
@@ -52,18 +62,18 @@ fn assert_edges<R: AllocGlobal + Abort>(rt: &R, bytes: &[u8], edges: &[EdgeFact]
 }
 
 /// Asserts that these are its usage bits.
-fn assert_usage<R: AllocGlobal + Abort>(rt: &R, bytes: &[u8], usage: &[UsageFact]) {
+pub(crate) fn assert_usage<R: AllocGlobal + Abort>(rt: &R, bytes: &[u8], usage: &[UsageFact]) {
     let facts = told(rt, bytes);
     assert_eq!(rt; facts.usage().len(), usage.len());
     assert!(rt; usage.iter().all(|used| facts.usage().contains(used)));
     drop(facts);
 }
 
-fn edge(from: u32, to: u32, line: u64) -> EdgeFact {
+pub(crate) fn edge(from: u32, to: u32, line: u64) -> EdgeFact {
     EdgeFact { from, to, line }
 }
 
-fn used(class: u32, bit: Usage, line: u64) -> UsageFact {
+pub(crate) fn used(class: u32, bit: Usage, line: u64) -> UsageFact {
     UsageFact { class, bit, line }
 }
 

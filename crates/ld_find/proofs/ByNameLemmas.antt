@@ -1,36 +1,21 @@
 -- The order of names, and the places of the classes in it.
-use Rattle.std.proofs.Common.{◌≡◌, ◌≢◌, ◌<◌, ◌+◌, ◌⊎◌, inl, inr, false, List, ℕ, [], ◌∷◌, ◌++◌, length, map, get_or, All, AllPairs, Bor, Contains}
-use Rattle.std.proofs.Common.{IsPermutation, IsSorted, Ordering, Less, Equal, Greater, is_eq, is_lt, nat_cmp, nat_eq, arith, refl, sym, ap, subst}
-use Rattle.std.proofs.Common.{◌∙◌}
-use Rattle.std.proofs.lemmas.Bool.{cases_order, true≢false}
-use Rattle.std.proofs.lemmas.Bool.Decides.{Decides-eqb}
-use Rattle.std.proofs.lemmas.Cmp.{nat_cmp_total, nat_eq_equiv, nat_list_cmp_total, on_total, then_total, tied_itself}
+use Rattle.std.proofs.Common.{◌≡◌, ◌≢◌, ◌<◌, ◌+◌, ◌∙◌, ◌⊎◌, inl, inr, List, ℕ, [], ◌∷◌, ◌++◌, length, map, get_or, All, AllPairs, Contains, IsPermutation, IsSortedByKey}
+use Rattle.std.proofs.Common.{arith, sym, ap, subst}
+use Rattle.std.proofs.lemmas.Bool.{cases_order}
 use Rattle.std.proofs.lemmas.List.{get_or_default, get_or-map, length-map, map-id}
 use Rattle.std.proofs.lemmas.List.Elements.{All-map}
 use Rattle.std.proofs.lemmas.List.FromFn.{get_or-range_with_len, length-range_with_len, map-range_with_len_more}
-use Rattle.std.proofs.lemmas.List.Sorted.{All-permutation, Contains-permutation, IsPermutation-map, length_permutation, ranks_by, sorted_far}
-use Rattle.std.proofs.lemmas.Map.Keys.{IsDistinct-IsPermutation}
-use Rattle.std.proofs.lemmas.Map.Made.{AllPairs-from_IsDistinct, IsDistinct-from_AllPairs}
-use Rattle.std.proofs.lemmas.Map.Text.{is_eq-slice_cmp}
-use Rattle.std.proofs.lemmas.Slice.Eq.{bytes_eq-Decides}
-use Rattle.std.specs.Cmp.{IsTotalOrder}
-use Rattle.std.specs.Cmp.Lexicographic.{slice_cmp}
+use Rattle.std.proofs.lemmas.List.Sorted.{All-permutation, Contains-permutation, IsPermutation-map, length_permutation}
 use Rattle.std.specs.List.{range_with_len}
-use Rattle.std.specs.Ordering.{ordering_reverse, ordering_then}
-use Rattle.ld_class.specs.Names.{AreDistinct, IsNameAt}
+use Rattle.ld_class.specs.declared.class_name.ClassName.{ClassName}
+use Rattle.ld_class.specs.Names.{AreDistinct, IsNameAt, PlainClass, plain_class}
 use Rattle.ld_graph.specs.Edges.{ComesBefore}
 use Rattle.ld_find.specs.Findings.{IsBefore}
 use Rattle.ld_find.specs.Inner.ByName.{AreByName, class_name}
+use Rattle.ld_find.proofs.NameOrderLemmas.{before_from_less, class_cmp, class_cmp-Decides, class_cmp_total, not_before_both, not_before_itself}
+use Rattle.ld_find.proofs.SortedLemmas.{rising}
 
--- no name comes before itself
-pub not_before_itself : (a : List ℕ) → ¬ IsBefore a a
-not_before_itself a before = true≢false (sym (ap is_lt before) ∙ ap is_lt (tied_itself nat_list_cmp_total a))
-
--- of two names at most one comes before the other
-pub not_before_both : (a b : List ℕ) → IsBefore a b → ¬ IsBefore b a
-not_before_both a b ab ba = not_before_itself a (nat_list_cmp_total.trans a b a ab ba)
-
-module _ (classes : List (List ℕ)) (numbers places : List ℕ) (is : AreByName classes numbers places) where
+module _ (classes : List PlainClass) (numbers places : List ℕ) (is : AreByName classes numbers places) where
   -- a class's place in the order
   abbrev place_in_order : ℕ → ℕ
   place_in_order c = get_or places c 0
@@ -77,23 +62,13 @@ module _ (classes : List (List ℕ)) (numbers places : List ℕ) (is : AreByName
   comes_before_from_before c d at_c at_d before = inl (place_from_before c d at_c at_d before)
 
 -- numbers whose names rise are apart
-pub apart_from_rising : (classes : List (List ℕ)) (numbers : List ℕ)
+pub apart_from_rising : (classes : List PlainClass) (numbers : List ℕ)
     → ((i j : ℕ) → i < j → j < length numbers → IsBefore (class_name classes (get_or numbers i 0)) (class_name classes (get_or numbers j 0)))
     → AllPairs (λ c d. c ≢ d) numbers
 apart_from_rising classes numbers rising i j d lower within same =
     let at_i : i < length numbers = omega (arith, lower, within) in
     let equal : get_or numbers i 0 ≡ get_or numbers j 0 = get_or_default numbers i 0 d at_i ∙ same ∙ get_or_default numbers j d 0 within in
     not_before_itself (class_name classes (get_or numbers j 0)) (subst (λ k. IsBefore (class_name classes k) (class_name classes (get_or numbers j 0))) equal (rising i j lower within))
-
--- what a sort of names with their numbers compares
-abbrev pub named_cmp : Bor (List ℕ) × ℕ → Bor (List ℕ) × ℕ → Ordering
-named_cmp p q = ordering_then (slice_cmp nat_cmp p.0.now q.0.now) (nat_cmp p.1 q.1)
-
-named_cmp_total : IsTotalOrder named_cmp
-named_cmp_total = then_total (on_total (λ p. p.0.now) nat_list_cmp_total) (on_total (λ p. p.1) nat_cmp_total)
-
-nat_eq-flips : (a b : ℕ) → nat_eq a b ≡ nat_eq b a
-nat_eq-flips a b = nat_eq_equiv.symm a b
 
 -- an element of a list that has one
 element : {X : Type 0} (xs : List X) (k : ℕ) → k < length xs → X
@@ -106,13 +81,13 @@ range_with_len-more n =
     sym (map-id (range_with_len 0 (n + 1))) ∙ map-range_with_len_more (λ k. k) 0 n n (omega arith) ∙ ap (λ l. l ++ n ∷ []) (map-id (range_with_len 0 n))
 
 -- names with the numbers from 0 on, and the same in another order
-module _ (classes : List (List ℕ)) (old named : List (Bor (List ℕ) × ℕ)) (old_names : All (λ p. IsNameAt classes p.1 p.0.now) old)
+module _ (classes : List PlainClass) (old named : List (ClassName × ℕ)) (old_names : All (λ p. IsNameAt classes p.1 (plain_class p.0)) old)
     (old_numbers : map (λ p. p.1) old ≡ range_with_len 0 (length classes)) (moved : IsPermutation old named) where
   abbrev numbers_of : List ℕ
   numbers_of = map (λ p. p.1) named
 
-  names : All (λ p. IsNameAt classes p.1 p.0.now) named
-  names = All-permutation (λ p. IsNameAt classes p.1 p.0.now) old named moved old_names
+  names : All (λ p. IsNameAt classes p.1 (plain_class p.0)) named
+  names = All-permutation (λ p. IsNameAt classes p.1 (plain_class p.0)) old named moved old_names
 
   numbers_moved : IsPermutation (range_with_len 0 (length classes)) numbers_of
   numbers_moved = subst (λ l. IsPermutation l numbers_of) old_numbers (IsPermutation-map (λ p. p.1) old named moved)
@@ -121,7 +96,7 @@ module _ (classes : List (List ℕ)) (old named : List (Bor (List ℕ) × ℕ)) 
   numbers-count = length_permutation (range_with_len 0 (length classes)) numbers_of numbers_moved ∙ length-range_with_len 0 (length classes)
 
   -- the number at a place
-  number_at : (i : ℕ) (p : Bor (List ℕ) × ℕ) → i < length named → get_or numbers_of i 0 ≡ (get_or named i p).1
+  number_at : (i : ℕ) (p : ClassName × ℕ) → i < length named → get_or numbers_of i 0 ≡ (get_or named i p).1
   number_at i p within = get_or-map (λ p. p.1) named i p 0 within
 
   pub numbers-within : All (λ c. c < length classes) numbers_of
@@ -133,25 +108,29 @@ module _ (classes : List (List ℕ)) (old named : List (Bor (List ℕ) × ℕ)) 
       Contains-permutation (range_with_len 0 (length classes)) numbers_of c numbers_moved
       (c, subst (λ n. c < n) (sym (length-range_with_len 0 (length classes))) within, get_or-range_with_len 0 (length classes) c c within ∙ zero_before)
 
-  range_apart : AllPairs (λ c d. c ≢ d) (range_with_len 0 (length classes))
-  range_apart i j d lower within same =
-      let at_j : j < length classes = subst (λ n. j < n) (length-range_with_len 0 (length classes)) within in
-      let at_i : i < length classes = omega (arith, lower, at_j) in
-      let equal : 0 + i ≡ 0 + j = sym (get_or-range_with_len 0 (length classes) i d at_i) ∙ same ∙ get_or-range_with_len 0 (length classes) j d at_j in
-      omega (arith, lower, equal)
-
-  numbers-apart : AllPairs (λ c d. c ≢ d) numbers_of
-  numbers-apart =
-      AllPairs-from_IsDistinct Decides-eqb numbers_of
-      (IsDistinct-IsPermutation nat_eq nat_eq-flips (range_with_len 0 (length classes)) numbers_of numbers_moved
-      (IsDistinct-from_AllPairs Decides-eqb (range_with_len 0 (length classes)) range_apart))
+  -- names differ, since each has the number of its place
+  apart : AreDistinct classes → AllPairs (λ p q. plain_class p.0 ≢ plain_class q.0) old
+  apart distinct i j d before within same =
+      let at_i : i < length old = omega (arith, before, within) in
+      let number = distinct (get_or old i d).1 (get_or old j d).1 (plain_class (get_or old j d).0)
+      (subst (IsNameAt classes (get_or old i d).1) same (old_names i d at_i)) (old_names j d within) in
+      omega (arith, before, place i d at_i, place j d within, number)
+    where
+      place : (k : ℕ) (p : ClassName × ℕ) → k < length old → (get_or old k p).1 ≡ k
+      place k p at_k =
+          let count : length old ≡ length classes = sym (length-map old (λ p. p.1)) ∙ ap length old_numbers ∙ length-range_with_len 0 (length classes) in
+          let zero_before : 0 + k ≡ k = omega arith in
+          sym (get_or-map (λ p. p.1) old k p 0 at_k) ∙ ap (λ numbers. get_or numbers k 0) old_numbers
+          ∙ get_or-range_with_len 0 (length classes) k 0 (subst (λ n. k < n) count at_k) ∙ zero_before
 
   -- after a sort the names rise
-  pub numbers-rising : AreDistinct classes → IsSorted named_cmp named → (i j : ℕ) → i < j → j < length numbers_of
+  pub numbers-rising : AreDistinct classes → IsSortedByKey (λ p. plain_class p.0) class_cmp named → (i j : ℕ) → i < j → j < length numbers_of
       → IsBefore (class_name classes (get_or numbers_of i 0)) (class_name classes (get_or numbers_of j 0))
   numbers-rising distinct sorted i j lower within =
       subst (λ a. IsBefore a (class_name classes (get_or numbers_of j 0))) (sym (name_at i at_i))
-      (subst (λ b. IsBefore x.0.now b) (sym (name_at j at_j)) (by (slice_cmp nat_cmp x.0.now y.0.now) refl))
+      (subst (IsBefore (plain_class (get_or named i some).0)) (sym (name_at j at_j))
+      (before_from_less (plain_class (get_or named i some).0) (plain_class (get_or named j some).0)
+      (rising class_cmp class_cmp_total class_cmp-Decides (λ p. plain_class p.0) old named moved (apart distinct) sorted i j some lower at_j)))
     where
       at_j : j < length named
       at_j = subst (λ n. j < n) (length-map named (λ p. p.1)) within
@@ -159,27 +138,8 @@ module _ (classes : List (List ℕ)) (old named : List (Bor (List ℕ) × ℕ)) 
       at_i : i < length named
       at_i = omega (arith, lower, at_j)
 
-      some : Bor (List ℕ) × ℕ
+      some : ClassName × ℕ
       some = element named j at_j
 
-      x : Bor (List ℕ) × ℕ
-      x = get_or named i some
-
-      y : Bor (List ℕ) × ℕ
-      y = get_or named j some
-
-      name_at : (k : ℕ) → k < length named → class_name classes (get_or numbers_of k 0) ≡ (get_or named k some).0.now
+      name_at : (k : ℕ) → k < length named → class_name classes (get_or numbers_of k 0) ≡ plain_class (get_or named k some).0
       name_at k at_k = ap (class_name classes) (number_at k some at_k) ∙ (names k some at_k).1
-
-      not_after : is_lt (named_cmp y x) ≡ false
-      not_after = sorted_far (λ p q. is_lt (named_cmp p q)) (ranks_by named_cmp_total (λ p. p)) named sorted i j some (omega (arith, lower)) at_j
-
-      by : (r : Ordering) → slice_cmp nat_cmp x.0.now y.0.now ≡ r → slice_cmp nat_cmp x.0.now y.0.now ≡ Less
-      by Less e = e
-      by Equal e =
-          let same : x.0.now ≡ y.0.now = (bytes_eq-Decides x.0.now y.0.now).0 (sym (is_eq-slice_cmp x.0.now y.0.now) ∙ ap is_eq e) in
-          let number : x.1 ≡ y.1 = distinct x.1 y.1 y.0.now (subst (λ n. IsNameAt classes x.1 n) same (names i some at_i)) (names j some at_j) in
-          absurd (numbers-apart i j 0 lower within (number_at i some at_i ∙ number ∙ sym (number_at j some at_j)))
-      by Greater e =
-          let back : slice_cmp nat_cmp y.0.now x.0.now ≡ Less = nat_list_cmp_total.antisymm y.0.now x.0.now ∙ ap ordering_reverse e in
-          absurd (true≢false (sym (ap (λ r. is_lt (ordering_then r (nat_cmp y.1 x.1))) back) ∙ not_after))

@@ -1,6 +1,7 @@
 -- Dependencies on cycles, by the numbers of their classes, and the walks that their rows show.
 use Rattle.std.proofs.Common.{◌≡◌, ◌≢◌, ◌⊎◌, inl, inr, ◌<◌, List, ℕ, suc, false, [], ◌∷◌, Option, None, Some, is_some, length, refl, sym, ap, subst, ◌∙◌}
 use Rattle.std.proofs.lemmas.Bool.{true≢false, cases_eq}
+use Rattle.ld_class.specs.Names.{PlainClass}
 use Rattle.ld_graph.specs.Edges.{IsEdge}
 use Rattle.ld_graph.specs.Walks.{DistanceIs, HasWalk, IsShownWalk}
 use Rattle.ld_graph.proofs.WalkLemmas.{HasWalk-Far, IsWalk-Far}
@@ -27,7 +28,7 @@ pub no_walk : {A : Type 0} (step : A → A → Type 0) (a b : A) (distance : Opt
 no_walk step a b None is none = is
 no_walk step a b (Some n) is none = absurd (true≢false none)
 
-module _ (classes : List (List ℕ)) (rows : List Witnessed) (is : AreBetween classes rows)
+module _ (classes : List PlainClass) (rows : List Witnessed) (is : AreBetween classes rows)
     (sources : List PlainSource) (witnessed : AreWitnessed classes rows (dependency_witness sources)) where
   -- no cycle, where there is no edge
   pub no_cycle-edge : (a b : ℕ) → a < length classes → b < length classes → ¬ IsEdge (edges_of rows) a b → ¬ IsCycle sources (class_name classes a) (class_name classes b)
@@ -40,7 +41,7 @@ module _ (classes : List (List ℕ)) (rows : List Witnessed) (is : AreBetween cl
       none (walk_from_leads classes rows is sources witnessed b a (class_name classes b) (class_name classes a) (at_b, refl) (at_a, refl) cycle.1)
 
   -- a class to which no walk leads from itself has no dependency on a cycle
-  pub no_cycle-from : (a : ℕ) (to : List ℕ) → a < length classes → ¬ HasWalk (IsEdge (edges_of rows)) a a → ¬ IsCycle sources (class_name classes a) to
+  pub no_cycle-from : (a : ℕ) (to : PlainClass) → a < length classes → ¬ HasWalk (IsEdge (edges_of rows)) a a → ¬ IsCycle sources (class_name classes a) to
   no_cycle-from a to at_a none cycle =
       let far = IsWalk-Far (Depends sources) to (class_name classes a) cycle.1.0 cycle.1.1 in
       none (walk_from_leads classes rows is sources witnessed a a (class_name classes a) (class_name classes a) (at_a, refl) (at_a, refl)
@@ -67,5 +68,5 @@ module _ (classes : List (List ℕ)) (rows : List Witnessed) (is : AreBetween cl
 
       back : (b ≡ a) ⊎ (b ≢ a) → Leads sources (class_name classes b) (class_name classes a)
       back (inl same) = HasWalk-Far (Depends sources) 0 (class_name classes b) (class_name classes a)
-          (subst {A = List ℕ × List ℕ} (λ p. Depends sources p.0 p.1) (λ i. (class_name classes (sym same i), class_name classes (same i))) depends)
+          (subst {A = PlainClass × PlainClass} (λ p. Depends sources p.0 p.1) (λ i. (class_name classes (sym same i), class_name classes (same i))) depends)
       back (inr differs) = HasWalk-shown (Depends sources) IsBefore (class_name classes b) (class_name classes a) row.via (shown differs)

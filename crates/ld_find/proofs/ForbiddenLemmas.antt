@@ -1,5 +1,6 @@
 -- The rows of forbidden walks.
 use Rattle.std.proofs.Common.{◌≡◌, ◌<◌, List, ℕ, length, is_some, refl, sym, ap, subst, ◌∙◌}
+use Rattle.ld_class.specs.Names.{PlainClass}
 use Rattle.ld_graph.specs.Edges.{IsEdge}
 use Rattle.ld_graph.specs.Walks.{HasWalk}
 use Rattle.ld_trace.specs.declared.event.State.{State}
@@ -19,7 +20,7 @@ use Rattle.ld_find.proofs.NumberLemmas.{walk_from_leads}
 
 module _ (sources : List PlainSource) where
   -- what is noted of a class is so of the name that is noted
-  module _ (class : List ℕ) (bit : Bit) (name marks : List ℕ) (at : Witness) (is : IsNoted sources class bit name marks at) where
+  module _ (class : PlainClass) (bit : Bit) (name : PlainClass) (marks : List ℕ) (at : Witness) (is : IsNoted sources class bit name marks at) where
     noted_at : use_witness sources (record { class = name; bit = bit }) ≡ use_witness sources (record { class = class; bit = bit })
     noted_at = ap (λ n. use_witness sources (record { class = n; bit = bit })) is.same
 
@@ -30,7 +31,7 @@ module _ (sources : List PlainSource) where
     noted_marks = is.shown ∙ ap (shown_marks sources) (sym is.same)
 
   -- a row of two classes that are noted, with a shown walk from one to the other
-  pub forbidden-row : (x y : List ℕ) (row : PlainForbiddenRow) → IsNoted sources x (In row.state) row.from row.from_marks row.safe_at → IsNoted
+  pub forbidden-row : (x y : PlainClass) (row : PlainForbiddenRow) → IsNoted sources x (In row.state) row.from row.from_marks row.safe_at → IsNoted
       sources y (On row.state) row.to row.to_marks row.unsafe_at
       → IsShown sources x y row.via → IsTurnedRowOf sources row.state y x row
   forbidden-row x y row from to shown = (
@@ -57,7 +58,7 @@ module _ (sources : List PlainSource) where
       walk = subst (λ n. IsShown sources n row.to row.via) (sym from.same) (subst (λ n. IsShown sources x n row.via) (sym to.same) shown)
 
 -- no forbidden walk, where there is no walk
-pub no_forbidden-walk : (classes : List (List ℕ)) (rows : List Witnessed) → AreBetween classes rows →
+pub no_forbidden-walk : (classes : List PlainClass) (rows : List Witnessed) → AreBetween classes rows →
     (sources : List PlainSource) → AreWitnessed classes rows (dependency_witness sources)
     → (state : State) (a b : ℕ) → a < length classes → b < length classes → ¬ HasWalk (IsEdge (edges_of rows)) a b → ¬ IsForbidden sources state (class_name classes a) (class_name classes b)
 no_forbidden-walk classes rows is sources witnessed state a b at_a at_b none forbidden =

@@ -3,6 +3,7 @@ use Rattle.std.proofs.Common.{option_map, ◌≡◌, ◌↔◌, ◌⊎◌, inl, 
 use Rattle.std.proofs.Common.{Some, None, is_some, All, Contains, refl, take, drop, get_or, sym, ap, subst}
 use Rattle.std.proofs.lemmas.Bool.{true≢false}
 use Rattle.std.proofs.lemmas.List.Elements.{All-contains, Contains-append_cases, Contains-append_left}
+use Rattle.ld_class.specs.Names.{PlainClass, no_class}
 use Rattle.ld_class.specs.declared.usage.Usage.{Usage}
 use Rattle.ld_graph.specs.declared.Edge.{Edge}
 use Rattle.ld_graph.specs.Edges.{IsEdge, edge}
@@ -130,10 +131,10 @@ nothing_found found cycle conflict forbidden = record {
     bit_of_none c bit has = let past : c < 0 = row_within [] c bit has in omega (arith, past)
 
 -- where nothing of a kind was found, exact alarms say that there is none
-pub of_each_from_exact : (sources : List PlainSource) (classes : List (List ℕ)) (found : Found) → AreExact sources (named_alarms classes found) → IsOfEach sources found
+pub of_each_from_exact : (sources : List PlainSource) (classes : List PlainClass) (found : Found) → AreExact sources (named_alarms classes found) → IsOfEach sources found
 of_each_from_exact sources classes found exact = record {
-  cycle = λ none a b cycle. subst (λ o. IsExact {A = List ℕ × List ℕ} (λ p. IsCycle sources p.0 p.1) (option_map (λ (e : Edge). named_pair classes e.from e.to) o)) none exact.cycle ((a, b), cycle);
-  conflict = λ state none class conflict. subst (λ o. IsExact (IsConflict sources state) (option_map (λ c. get_or classes c []) o)) none (exact.conflict state) (class, conflict);
-  forbidden = λ state none a b walk. subst (λ o. IsExact {A = List ℕ × List ℕ} (λ p. IsForbidden sources state p.0 p.1)
+  cycle = λ none a b cycle. subst (λ o. IsExact {A = PlainClass × PlainClass} (λ p. IsCycle sources p.0 p.1) (option_map (λ (e : Edge). named_pair classes e.from e.to) o)) none exact.cycle ((a, b), cycle);
+  conflict = λ state none class conflict. subst (λ o. IsExact (IsConflict sources state) (option_map (λ c. get_or classes c no_class) o)) none (exact.conflict state) (class, conflict);
+  forbidden = λ state none a b walk. subst (λ o. IsExact {A = PlainClass × PlainClass} (λ p. IsForbidden sources state p.0 p.1)
       (option_map (λ (f : Forbidden). named_pair classes f.from f.to) o)) none (exact.forbidden state) ((a, b), walk);
 }

@@ -1,6 +1,7 @@
 pub mod CycleLemmas
 pub mod ForbiddenLemmas
 pub mod FoundLemmas
+pub mod NameOrderLemmas
 pub mod BitLemmas
 pub mod NumberLemmas
 pub mod ByNameLemmas

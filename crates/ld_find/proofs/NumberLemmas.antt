@@ -1,8 +1,8 @@
 -- What violations by number say of the names.
-use Rattle.std.proofs.Common.{◌≡◌, ◌<◌, true, arith, option_map, IfSome, List, ℕ, zero, suc, Option, Some, None, is_some, Any, [], length, get_or, refl, sym, ap, subst, ◌∙◌}
+use Rattle.std.proofs.Common.{◌≡◌, ◌<◌, true, arith, option_map, IfSome, List, ℕ, zero, suc, Option, Some, None, is_some, Any, length, get_or, refl, sym, ap, subst, ◌∙◌}
 use Rattle.std.proofs.lemmas.Bool.{true≢false}
 use Rattle.ld_class.specs.declared.usage.Usage.{Usage}
-use Rattle.ld_class.specs.Names.{IsNameAt, place_of}
+use Rattle.ld_class.specs.Names.{IsNameAt, PlainClass, no_class, place_of}
 use Rattle.ld_class.proofs.NameLemmas.{place_of-Some}
 use Rattle.ld_graph.specs.declared.Edge.{Edge}
 use Rattle.ld_graph.specs.Edges.{IsEdge, edge}
@@ -28,21 +28,21 @@ use Rattle.ld_find.specs.Violations.{Depends, HasBit, IsConflict, IsCycle, IsFor
 use Rattle.ld_union.proofs.UnionLemmas.{at_row, ends_of_edge, length_rows}
 
 -- a number that a name has
-abbrev pub Numbered : List (List ℕ) → List ℕ → Type 0
+abbrev pub Numbered : List PlainClass → PlainClass → Type 0
 Numbered classes name = (c : ℕ) × IsNameAt classes c name
 
-some_number : (classes : List (List ℕ)) (name : List ℕ) → is_some (place_of classes name) ≡ true → Numbered classes name
+some_number : (classes : List PlainClass) (name : PlainClass) → is_some (place_of classes name) ≡ true → Numbered classes name
 some_number classes name there = by (place_of classes name) refl
   where
     by : (o : Option ℕ) → place_of classes name ≡ o → Numbered classes name
     by None is = absurd (true≢false (sym there ∙ ap is_some is))
     by (Some c) is = (c, place_of-Some classes name c is)
 
-module _ (classes : List (List ℕ)) (rows : List Witnessed) (is : AreBetween classes rows)
+module _ (classes : List PlainClass) (rows : List Witnessed) (is : AreBetween classes rows)
     (sources : List PlainSource) (witnessed : AreWitnessed classes rows (dependency_witness sources)) where
   -- a class's name
-  abbrev name : ℕ → List ℕ
-  name c = get_or classes c []
+  abbrev name : ℕ → PlainClass
+  name c = get_or classes c no_class
 
   -- an edge is a dependency of the names
   pub depends_from_edge : (a b : ℕ) → IsEdge (edges_of rows) a b → Depends sources (name a) (name b)
@@ -53,7 +53,7 @@ module _ (classes : List (List ℕ)) (rows : List Witnessed) (is : AreBetween cl
       ∙ ap is_some (witnessed.each there.0 row within)
 
   -- a dependency is an edge of numbers that the names have
-  pub edge_from_depends : (x y : List ℕ) → Depends sources x y → (a : ℕ) × ((b : ℕ) × (IsNameAt classes a x × IsNameAt classes b y × IsEdge (edges_of rows) a b))
+  pub edge_from_depends : (x y : PlainClass) → Depends sources x y → (a : ℕ) × ((b : ℕ) × (IsNameAt classes a x × IsNameAt classes b y × IsEdge (edges_of rows) a b))
   edge_from_depends x y shown =
       let at : Any (λ r. named_edge classes r.edge ≡ record { from = x; to = y }) rows = witnessed.all (record { from = x; to = y }) shown in
       let a = at.1.edge.from in
@@ -68,7 +68,7 @@ module _ (classes : List (List ℕ)) (rows : List Witnessed) (is : AreBetween cl
       (a, (b, ((ends.0, ap (λ (d : Dependency). d.from) at.4), (ends.1, ap (λ (d : Dependency). d.to) at.4), there)))
 
   -- so it is an edge of any numbers that the names have
-  pub edge_from_named : (a b : ℕ) (x y : List ℕ) → IsNameAt classes a x → IsNameAt classes b y → Depends sources x y → IsEdge (edges_of rows) a b
+  pub edge_from_named : (a b : ℕ) (x y : PlainClass) → IsNameAt classes a x → IsNameAt classes b y → Depends sources x y → IsEdge (edges_of rows) a b
   edge_from_named a b x y at_a at_b shown =
       let found = edge_from_depends x y shown in
       let same_a : found.0 ≡ a = is.distinct found.0 a x found.1.1.0 at_a in
@@ -79,7 +79,7 @@ module _ (classes : List (List ℕ)) (rows : List Witnessed) (is : AreBetween cl
   far_named zero a b h = depends_from_edge a b h
   far_named (suc n) a b h = (name h.0, (depends_from_edge a h.0 h.1.0, far_named n h.0 b h.1.1))
 
-  far_numbered : (n a b : ℕ) (x y : List ℕ) → IsNameAt classes a x → IsNameAt classes b y → Far (Depends sources) n x y → Far (IsEdge (edges_of rows)) n a b
+  far_numbered : (n a b : ℕ) (x y : PlainClass) → IsNameAt classes a x → IsNameAt classes b y → Far (Depends sources) n x y → Far (IsEdge (edges_of rows)) n a b
   far_numbered zero a b x y at_a at_b h = edge_from_named a b x y at_a at_b h
   far_numbered (suc n) a b x y at_a at_b h =
       let found = edge_from_depends x h.0 h.1.0 in
@@ -94,7 +94,7 @@ module _ (classes : List (List ℕ)) (rows : List Witnessed) (is : AreBetween cl
       HasWalk-Far (Depends sources) far.0 (name a) (name b) (far_named far.0 a b far.1.1)
 
   -- and the other way round
-  pub walk_from_leads : (a b : ℕ) (x y : List ℕ) → IsNameAt classes a x → IsNameAt classes b y → Leads sources x y → HasWalk (IsEdge (edges_of rows)) a b
+  pub walk_from_leads : (a b : ℕ) (x y : PlainClass) → IsNameAt classes a x → IsNameAt classes b y → Leads sources x y → HasWalk (IsEdge (edges_of rows)) a b
   walk_from_leads a b x y at_a at_b walk =
       let far = IsWalk-Far (Depends sources) x y walk.0 walk.1 in
       HasWalk-Far (IsEdge (edges_of rows)) far.0 a b (far_numbered far.0 a b x y at_a at_b far.1.1)
@@ -103,7 +103,7 @@ module _ (classes : List (List ℕ)) (rows : List Witnessed) (is : AreBetween cl
   pub cycle_named : (e : Edge) → IsCycleAt (edges_of rows) e → IsCycle sources (name e.from) (name e.to)
   cycle_named e cycle = (depends_from_edge e.from e.to cycle.0, leads_from_walk e.to e.from cycle.1)
 
-  pub cycle_numbered : (x y : List ℕ) → IsCycle sources x y → (e : Edge) × IsCycleAt (edges_of rows) e
+  pub cycle_numbered : (x y : PlainClass) → IsCycle sources x y → (e : Edge) × IsCycleAt (edges_of rows) e
   cycle_numbered x y cycle =
       let found = edge_from_depends x y cycle.0 in
       let a = found.0 in
@@ -114,35 +114,35 @@ module _ (classes : List (List ℕ)) (rows : List Witnessed) (is : AreBetween cl
 pub at_some : {A : Type 0} (P : A → Type 0) (o : Option A) (x : A) → o ≡ Some x → IfSome o P → P x
 at_some P o x is h = subst (λ r. IfSome r P) is h
 
-module _ (classes : List (List ℕ)) (usage : List Usage) (sources : List PlainSource) (used : AreBitsOf classes usage sources) where
+module _ (classes : List PlainClass) (usage : List Usage) (sources : List PlainSource) (used : AreBitsOf classes usage sources) where
   -- a bit by number is one by name
-  bit_named : (c : ℕ) (bit : Bit) → HasBitAt usage c bit → HasBit sources (get_or classes c []) bit
+  bit_named : (c : ℕ) (bit : Bit) → HasBitAt usage c bit → HasBit sources (get_or classes c no_class) bit
   bit_named c bit has =
       let within : c < length usage = bit_within usage c bit has in
       (used.each c bit (omega (arith, within, used.within))).0 has
 
   -- and the other way round
-  bit_numbered : (c : ℕ) (name : List ℕ) (bit : Bit) → IsNameAt classes c name → HasBit sources name bit → HasBitAt usage c bit
+  bit_numbered : (c : ℕ) (name : PlainClass) (bit : Bit) → IsNameAt classes c name → HasBit sources name bit → HasBitAt usage c bit
   bit_numbered c name bit at has = (used.each c bit at.0).1 (subst (λ n. HasBit sources n bit) (sym at.1) has)
 
   -- a number of a name that has a bit
-  number_of_bit : (name : List ℕ) (bit : Bit) → HasBit sources name bit → Numbered classes name
+  number_of_bit : (name : PlainClass) (bit : Bit) → HasBit sources name bit → Numbered classes name
   number_of_bit name bit has = some_number classes name (used.known name bit has)
 
-  conflict_exact : (state : State) (found : Option ℕ) → IsExact (IsConflictAt usage state) found → IsExact (IsConflict sources state) (option_map (λ c. get_or classes c []) found)
+  conflict_exact : (state : State) (found : Option ℕ) → IsExact (IsConflictAt usage state) found → IsExact (IsConflict sources state) (option_map (λ c. get_or classes c no_class) found)
   conflict_exact state None absent = λ any.
       let at = number_of_bit any.0 (In state) any.1.0 in
       absent (at.0, (bit_numbered at.0 any.0 (In state) at.1 any.1.0, bit_numbered at.0 any.0 (On state) at.1 any.1.1))
   conflict_exact state (Some c) is = (bit_named c (In state) is.0, bit_named c (On state) is.1)
 
   module _ (rows : List Witnessed) (is : AreBetween classes rows) (witnessed : AreWitnessed classes rows (dependency_witness sources)) where
-    cycle_exact : (found : Option Edge) → IsExact (IsCycleAt (edges_of rows)) found → IsExact {A = List ℕ × List ℕ} (λ p. IsCycle sources p.0 p.1)
-        (option_map (λ (e : Edge). (get_or classes e.from [], get_or classes e.to [])) found)
+    cycle_exact : (found : Option Edge) → IsExact (IsCycleAt (edges_of rows)) found → IsExact {A = PlainClass × PlainClass} (λ p. IsCycle sources p.0 p.1)
+        (option_map (λ (e : Edge). (get_or classes e.from no_class, get_or classes e.to no_class)) found)
     cycle_exact None absent = λ any. absent (cycle_numbered classes rows is sources witnessed any.0.0 any.0.1 any.1)
     cycle_exact (Some e) cycle = cycle_named classes rows is sources witnessed e cycle
 
     forbidden_exact : (state : State) (found : Option Forbidden) → IsExact (λ (f : Forbidden). IsForbiddenAt (edges_of rows) usage state f.from f.to) found
-        → IsExact {A = List ℕ × List ℕ} (λ p. IsForbidden sources state p.0 p.1) (option_map (λ (f : Forbidden). (get_or classes f.from [], get_or classes f.to [])) found)
+        → IsExact {A = PlainClass × PlainClass} (λ p. IsForbidden sources state p.0 p.1) (option_map (λ (f : Forbidden). (get_or classes f.from no_class, get_or classes f.to no_class)) found)
     forbidden_exact state None absent = λ any.
         let from = number_of_bit any.0.0 (In state) any.1.0 in
         let to = number_of_bit any.0.1 (On state) any.1.1 in

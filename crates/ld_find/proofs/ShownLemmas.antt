@@ -2,6 +2,7 @@
 use Rattle.std.proofs.Common.{◌≡◌, ◌<◌, ◌≤◌, ◌+◌, All, List, ℕ, suc, [], ◌∷◌, length, map, refl, sym, ap, subst, ◌∙◌}
 use Rattle.std.proofs.lemmas.List.{length-map}
 use Rattle.std.proofs.lemmas.List.Elements.{All-cons, All-nil}
+use Rattle.ld_class.specs.Names.{PlainClass}
 use Rattle.ld_graph.specs.Edges.{ComesBefore, IsEdge}
 use Rattle.ld_graph.specs.Walks.{IsDistance, IsNext, IsShownWalk, IsWalk, LeadsTo, ShownFrom}
 use Rattle.ld_trace.specs.Sources.{PlainSource}
@@ -111,7 +112,7 @@ module _ {A B : Type 0} (f : A → B) (Within : A → Type 0) (s : A → A → T
     IsShownWalk-map a b (x ∷ more) at_a at_b h = (ap f h.0, ShownFrom-map a b more at_a at_b h.1)
 
 -- names for numbers
-module _ (classes : List (List ℕ)) (rows : List Witnessed) (is : AreBetween classes rows) where
+module _ (classes : List PlainClass) (rows : List Witnessed) (is : AreBetween classes rows) where
   abbrev IsClass : ℕ → Type 0
   IsClass c = c < length classes
 
@@ -131,7 +132,7 @@ module _ (classes : List (List ℕ)) (rows : List Witnessed) (is : AreBetween cl
     keeps = depends_from_edge classes rows is sources witnessed
 
     -- each class on which a class's name depends has a number
-    comes : (x : ℕ) (q : List ℕ) → IsClass x → Depends sources (class_name classes x) q → (y : ℕ) × (IsEdge (edges_of rows) x y × (class_name classes y ≡ q))
+    comes : (x : ℕ) (q : PlainClass) → IsClass x → Depends sources (class_name classes x) q → (y : ℕ) × (IsEdge (edges_of rows) x y × (class_name classes y ≡ q))
     comes x q at_x depends =
         let found = edge_from_depends classes rows is sources witnessed (class_name classes x) q depends in
         let ends_there = found.1.1 in

@@ -2,22 +2,20 @@
 use Rattle.std.proofs.Common.{◌≡◌, ◌≢◌, inl, inr, ◌<◌, List, ℕ, true, false, [], ◌∷◌, All, AllPairs, Any, Decides, IsPermutation, IsSortedByKey, Less}
 use Rattle.std.proofs.Common.{Equal, Greater, Ordering, is_eq, is_lt, length, map, get_or, refl, sym, ap, subst, ◌∙◌, arith}
 use Rattle.std.proofs.lemmas.Bool.{true≢false}
-use Rattle.std.proofs.lemmas.Cmp.{nat_list_cmp_total, on_total, then_total, tied_itself}
+use Rattle.std.proofs.lemmas.Cmp.{on_total, then_total, tied_itself}
 use Rattle.std.proofs.lemmas.List.{get_or-map, length-map}
 use Rattle.std.proofs.lemmas.List.Sorted.{All-permutation, Contains-permutation, IsPermutation-map, ranks_by, sorted_far}
 use Rattle.std.proofs.lemmas.Map.Keys.{IsDistinct-IsPermutation}
-use Rattle.std.proofs.lemmas.Map.Text.{is_eq-slice_cmp}
-use Rattle.std.proofs.lemmas.Slice.Eq.{bytes_eq-Decides}
 use Rattle.std.proofs.lemmas.Map.Made.{AllPairs-from_IsDistinct, IsDistinct-from_AllPairs}
 use Rattle.std.specs.Cmp.{IsTotalOrder}
-use Rattle.std.specs.Cmp.Lexicographic.{slice_cmp}
-use Rattle.std.specs.Ordering.{eq_by_cmp, nat_cmp, ordering_reverse, ordering_then}
+use Rattle.std.specs.Ordering.{eq_by_cmp, ordering_reverse, ordering_then}
+use Rattle.ld_class.specs.Names.{PlainClass}
 use Rattle.ld_trace.specs.declared.event.State.{State}
 use Rattle.ld_trace.specs.Sources.{PlainSource}
 use Rattle.ld_find.specs.Findings.{IsPairBefore, PlainForbiddenRow, forbidden_key}
 use Rattle.ld_find.specs.Inner.Rows.{AreForbiddenRowsOf, AreTurnedRows, IsRowIn, turned_key}
 use Rattle.ld_find.specs.Violations.{IsForbidden}
-use Rattle.ld_find.proofs.ByNameLemmas.{not_before_itself}
+use Rattle.ld_find.proofs.NameOrderLemmas.{before_from_less, class_cmp, class_cmp_total, not_before_itself, same_from_equal}
 
 AllPairs-map : {X Y : Type 0} (R : Y → Y → Type 0) (f : X → Y) (xs : List X) → AllPairs (λ x y. R (f x) (f y)) xs → AllPairs R (map f xs)
 AllPairs-map R f [] all i j d before within = absurd (omega (arith, within))
@@ -67,42 +65,39 @@ module _ {Key : Type 0} (cmp : Key → Key → Ordering) (total : IsTotalOrder c
         by Greater is = absurd (true≢false (sym (ap is_lt (total.antisymm (key (get_or ys j d)) (key (get_or ys i d)) ∙ ap ordering_reverse is)) ∙ not_after))
 
 -- what a sort by two names compares
-abbrev pub pair_cmp : List ℕ × List ℕ → List ℕ × List ℕ → Ordering
-pair_cmp p q = ordering_then (slice_cmp nat_cmp p.0 q.0) (slice_cmp nat_cmp p.1 q.1)
+abbrev pub pair_cmp : PlainClass × PlainClass → PlainClass × PlainClass → Ordering
+pair_cmp p q = ordering_then (class_cmp p.0 q.0) (class_cmp p.1 q.1)
 
 pair_cmp_total : IsTotalOrder pair_cmp
-pair_cmp_total = then_total (on_total (λ p. p.0) nat_list_cmp_total) (on_total (λ p. p.1) nat_list_cmp_total)
+pair_cmp_total = then_total (on_total (λ p. p.0) class_cmp_total) (on_total (λ p. p.1) class_cmp_total)
 
-same_name : (a b : List ℕ) → slice_cmp nat_cmp a b ≡ Equal → a ≡ b
-same_name a b is = (bytes_eq-Decides a b).0 (sym (is_eq-slice_cmp a b) ∙ ap is_eq is)
-
-same_pair : (p q : List ℕ × List ℕ) → is_eq (pair_cmp p q) ≡ true → p ≡ q
-same_pair p q is = by (slice_cmp nat_cmp p.0 q.0) (slice_cmp nat_cmp p.1 q.1) refl refl is
+same_pair : (p q : PlainClass × PlainClass) → is_eq (pair_cmp p q) ≡ true → p ≡ q
+same_pair p q is = by (class_cmp p.0 q.0) (class_cmp p.1 q.1) refl refl is
   where
-    by : (r s : Ordering) → slice_cmp nat_cmp p.0 q.0 ≡ r → slice_cmp nat_cmp p.1 q.1 ≡ s → is_eq (ordering_then r s) ≡ true → p ≡ q
+    by : (r s : Ordering) → class_cmp p.0 q.0 ≡ r → class_cmp p.1 q.1 ≡ s → is_eq (ordering_then r s) ≡ true → p ≡ q
     by Less s first second h = absurd (true≢false (sym h))
     by Greater s first second h = absurd (true≢false (sym h))
     by Equal Less first second h = absurd (true≢false (sym h))
     by Equal Greater first second h = absurd (true≢false (sym h))
-    by Equal Equal first second h = λ i. (same_name p.0 q.0 first i, same_name p.1 q.1 second i)
+    by Equal Equal first second h = λ i. (same_from_equal p.0 q.0 first i, same_from_equal p.1 q.1 second i)
 
-pair_cmp-Decides : (p q : List ℕ × List ℕ) → Decides (is_eq (pair_cmp p q)) (p ≡ q)
+pair_cmp-Decides : (p q : PlainClass × PlainClass) → Decides (is_eq (pair_cmp p q)) (p ≡ q)
 pair_cmp-Decides p q = (same_pair p q, λ same. subst (λ r. is_eq (pair_cmp p r) ≡ true) same (ap is_eq (tied_itself pair_cmp_total p)))
 
-before_from_less : (p q : List ℕ × List ℕ) → pair_cmp p q ≡ Less → IsPairBefore p q
-before_from_less p q is = by (slice_cmp nat_cmp p.0 q.0) refl is
+pair_before_from_less : (p q : PlainClass × PlainClass) → pair_cmp p q ≡ Less → IsPairBefore p q
+pair_before_from_less p q is = by (class_cmp p.0 q.0) refl is
   where
-    by : (r : Ordering) → slice_cmp nat_cmp p.0 q.0 ≡ r → ordering_then r (slice_cmp nat_cmp p.1 q.1) ≡ Less → IsPairBefore p q
-    by Less first h = inl first
-    by Equal first h = inr (same_name p.0 q.0 first, h)
+    by : (r : Ordering) → class_cmp p.0 q.0 ≡ r → ordering_then r (class_cmp p.1 q.1) ≡ Less → IsPairBefore p q
+    by Less first h = inl (before_from_less p.0 q.0 first)
+    by Equal first h = inr (same_from_equal p.0 q.0 first, before_from_less p.1 q.1 h)
     by Greater first h = absurd (true≢false (sym (ap is_lt h)))
 
-not_pair_before_itself : (p : List ℕ × List ℕ) → ¬ IsPairBefore p p
+not_pair_before_itself : (p : PlainClass × PlainClass) → ¬ IsPairBefore p p
 not_pair_before_itself p (inl first) = not_before_itself p.0 first
 not_pair_before_itself p (inr second) = not_before_itself p.1 second.1
 
 -- the ends of a forbidden walk
-abbrev pub ends_of : PlainForbiddenRow → List ℕ × List ℕ
+abbrev pub ends_of : PlainForbiddenRow → PlainClass × PlainClass
 ends_of row = (row.from, row.to)
 
 -- the rows of a state's forbidden walks, in the order of their second ends, and then sorted
@@ -117,7 +112,7 @@ module _ {X : Type 0} (plain : X → PlainForbiddenRow) (sources : List PlainSou
   apart : AllPairs (λ x y. ends_of (plain x) ≢ ends_of (plain y)) xs
   apart i j d before within same =
       not_pair_before_itself ((plain (get_or xs j d)).to, (plain (get_or xs j d)).from)
-      (subst (λ (p : List ℕ × List ℕ). IsPairBefore (p.1, p.0) ((plain (get_or xs j d)).to, (plain (get_or xs j d)).from)) same
+      (subst (λ (p : PlainClass × PlainClass). IsPairBefore (p.1, p.0) ((plain (get_or xs j d)).to, (plain (get_or xs j d)).from)) same
       (AllPairs-from_map (λ r s. IsPairBefore (turned_key r) (turned_key s)) plain xs turned.ordered i j d before within))
 
   pub rows-sorted : AreForbiddenRowsOf sources (λ k. k.0 ≡ state) (map plain ys)
@@ -132,7 +127,7 @@ module _ {X : Type 0} (plain : X → PlainForbiddenRow) (sources : List PlainSou
         let at_i : i < length (map plain ys) = omega (arith, before, within) in
         inr (
           (each i d at_i).1 ∙ sym (each j d within).1,
-          AllPairs-map (λ r s. IsPairBefore (ends_of r) (ends_of s)) plain ys (λ m n e lower below. before_from_less (ends_of (plain (get_or ys m e)))
+          AllPairs-map (λ r s. IsPairBefore (ends_of r) (ends_of s)) plain ys (λ m n e lower below. pair_before_from_less (ends_of (plain (get_or ys m e)))
               (ends_of (plain (get_or ys n e))) (rising pair_cmp pair_cmp_total pair_cmp-Decides (λ x. ends_of (plain x)) xs ys moved apart sorted m n e lower below)) i j d before within,
         );
   }

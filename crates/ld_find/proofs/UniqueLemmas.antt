@@ -1,13 +1,10 @@
 -- Sources have one list of findings.
 use Rattle.std.proofs.Common.{◌≡◌, ◌≢◌, ◌+◌, ◌∙◌, ◌⊎◌, inl, inr, true, false, Bool, List, ℕ, zero, suc, [], ◌∷◌, AllPairs, Contains, Ordering, Less}
-use Rattle.std.proofs.Common.{Equal, Greater, Some, Option, nat_cmp, is_eq, unwrap_or, arith, refl, sym, ap, subst}
+use Rattle.std.proofs.Common.{Equal, Greater, Some, Option, unwrap_or, arith, refl, sym, ap, subst}
 use Rattle.std.proofs.lemmas.Bool.{true≢false}
-use Rattle.std.proofs.lemmas.Cmp.{nat_list_cmp_total}
-use Rattle.std.proofs.lemmas.Map.Text.{is_eq-slice_cmp}
-use Rattle.std.proofs.lemmas.Slice.Eq.{bytes_eq-Decides}
-use Rattle.std.specs.Cmp.Lexicographic.{slice_cmp}
 use Rattle.std.specs.Ordering.{ordering_reverse}
-use Rattle.std.specs.Str.{bytes_eq}
+use Rattle.ld_class.specs.Names.{PlainClass, same_class}
+use Rattle.ld_class.proofs.NameLemmas.{same_class-Decides}
 use Rattle.ld_trace.specs.declared.event.State.{State}
 use Rattle.ld_trace.specs.Sources.{PlainSource}
 use Rattle.ld_graph.specs.Walks.{IsDistance, IsShownWalk, ShownFrom}
@@ -17,7 +14,7 @@ use Rattle.ld_find.specs.Findings.{AreFindings, AreRows, InTurn, IsBefore, IsCon
 use Rattle.ld_find.specs.Findings.{PlainConflictRow, PlainCycleRow, PlainFindings, PlainForbiddenRow, conflict_key, cycle_key, forbidden_key}
 use Rattle.ld_find.specs.Findings.{shown_marks}
 use Rattle.ld_find.specs.Violations.{Depends, IsConflict, IsCycle, IsForbidden}
-use Rattle.ld_find.proofs.ByNameLemmas.{not_before_both}
+use Rattle.ld_find.proofs.NameOrderLemmas.{before_from_less, class_cmp, class_cmp_total, not_before_both, same_from_equal}
 
 module _ {X : Type 0} (R : X → X → Type 0) (apart : (x y : X) → R x y → ¬ R y x) where
   ordered-tail : (x : X) (xs : List X) → AllPairs R (x ∷ xs) → AllPairs R xs
@@ -80,17 +77,17 @@ in_turn-apart first second one two p q (inr (e, f)) (inr (h, g)) = two p.1 q.1 f
 harder-apart : (s t : State) → IsHarder s t → ¬ IsHarder t s
 harder-apart s t f g = omega (arith, f, g)
 
-pair-apart : (p q : List ℕ × List ℕ) → IsPairBefore p q → ¬ IsPairBefore q p
+pair-apart : (p q : PlainClass × PlainClass) → IsPairBefore p q → ¬ IsPairBefore q p
 pair-apart = in_turn-apart IsBefore IsBefore not_before_both not_before_both
 
 -- of two names one comes before the other, or they are equal
-names-compare : (a b : List ℕ) → (a ≡ b) ⊎ (IsBefore a b ⊎ IsBefore b a)
-names-compare a b = by (slice_cmp nat_cmp a b) refl
+names-compare : (a b : PlainClass) → (a ≡ b) ⊎ (IsBefore a b ⊎ IsBefore b a)
+names-compare a b = by (class_cmp a b) refl
   where
-    by : (r : Ordering) → slice_cmp nat_cmp a b ≡ r → (a ≡ b) ⊎ (IsBefore a b ⊎ IsBefore b a)
-    by Less e = inr (inl e)
-    by Equal e = inl ((bytes_eq-Decides a b).0 (sym (is_eq-slice_cmp a b) ∙ ap is_eq e))
-    by Greater e = inr (inr (nat_list_cmp_total.antisymm b a ∙ ap ordering_reverse e))
+    by : (r : Ordering) → class_cmp a b ≡ r → (a ≡ b) ⊎ (IsBefore a b ⊎ IsBefore b a)
+    by Less e = inr (inl (before_from_less a b e))
+    by Equal e = inl (same_from_equal a b e)
+    by Greater e = inr (inr (before_from_less b a (class_cmp_total.antisymm b a ∙ ap ordering_reverse e)))
 
 -- shown walks, over a relation by which any two that differ are in order
 module _ {A : Type 0} (step before : A → A → Type 0) (compare : (x y : A) → (x ≡ y) ⊎ (before x y ⊎ before y x)) where
@@ -130,13 +127,13 @@ some-same : {A : Type 0} {o : Option A} {a b : A} → o ≡ Some a → o ≡ Som
 some-same {a = a} p q = ap (λ o. unwrap_or o a) (sym p ∙ q)
 
 module _ (sources : List PlainSource) where
-  walk-same : (a b c d : List ℕ) (v w : List (List ℕ)) → a ≡ c → b ≡ d → IsShown sources a b v → IsShown sources c d w → v ≡ w
+  walk-same : (a b c d : PlainClass) (v w : List PlainClass) → a ≡ c → b ≡ d → IsShown sources a b v → IsShown sources c d w → v ≡ w
   walk-same a b c d v w ac bd p q =
       shown-same (Depends sources) IsBefore names-compare a b v w p
       (subst (λ x. IsShown sources x b w) (sym ac) (subst (λ y. IsShown sources c y w) (sym bd) q))
 
   cycle-same : (r s : PlainCycleRow) → IsCycleRow sources r → IsCycleRow sources s → cycle_key r ≡ cycle_key s → r ≡ s
-  cycle-same r s p q key = λ i. record { from = from i; to = to i; at = at i; via = via (bytes_eq r.from r.to) refl i }
+  cycle-same r s p q key = λ i. record { from = from i; to = to i; at = at i; via = via (same_class r.from r.to) refl i }
     where
       from : r.from ≡ s.from
       from = ap (λ k. k.0) key
@@ -147,12 +144,12 @@ module _ (sources : List PlainSource) where
       at : r.at ≡ s.at
       at = some-same p.at (ap (λ k. dependency_witness sources (record { from = k.0; to = k.1 })) key ∙ q.at)
 
-      via : (b : Bool) → bytes_eq r.from r.to ≡ b → r.via ≡ s.via
+      via : (b : Bool) → same_class r.from r.to ≡ b → r.via ≡ s.via
       via true same =
-          let equal = (bytes_eq-Decides r.from r.to).0 same in
+          let equal = (same_class-Decides r.from r.to).0 same in
           p.recursion equal ∙ sym (q.recursion (sym from ∙ equal ∙ to))
       via false apart =
-          let differ : r.from ≢ r.to = λ equal. true≢false (sym ((bytes_eq-Decides r.from r.to).1 equal) ∙ apart) in
+          let differ : r.from ≢ r.to = λ equal. true≢false (sym ((same_class-Decides r.from r.to).1 equal) ∙ apart) in
           walk-same r.to r.from s.to s.from r.via s.via to from (p.shown differ) (q.shown (λ equal. differ (from ∙ equal ∙ sym to)))
 
   conflict-same : (r s : PlainConflictRow) → IsConflictRow sources r → IsConflictRow sources s → conflict_key r ≡ conflict_key s → r ≡ s

@@ -1,5 +1,6 @@
 -- What it means that alarms are exact.
 use Rattle.std.specs.Prelude.{ℕ, List, Option, None, MatchOption, option_map, slice_index_or}
+use Rattle.ld_class.specs.Names.{PlainClass, plain_class}
 use Rattle.ld_trace.specs.declared.event.State.{State}
 use Rattle.ld_trace.specs.declared.event.State.TheVariants.{Hard, Soft}
 use Rattle.ld_trace.specs.Sources.{PlainSource}
@@ -8,9 +9,9 @@ use Rattle.ld_find.specs.Violations.{IsConflict, IsCycle, IsForbidden}
 
 -- the alarms of five kinds, without where names lie in memory
 pub record PlainAlarms : Type 0 where
-  pub cycle : Option (List ℕ × List ℕ)
-  pub conflict : State → Option (List ℕ)
-  pub forbidden : State → Option (List ℕ × List ℕ)
+  pub cycle : Option (PlainClass × PlainClass)
+  pub conflict : State → Option PlainClass
+  pub forbidden : State → Option (PlainClass × PlainClass)
 
 -- where a state's alarms stand among those of both
 abbrev pub state_place : State → ℕ
@@ -19,9 +20,9 @@ state_place Soft = 1
 
 abbrev pub plain_alarms : Alarms → PlainAlarms
 plain_alarms alarms = record {
-  cycle = option_map {U = List ℕ × List ℕ} (λ p. (p.0.now, p.1.now)) alarms.cycle;
-  conflict = λ state. option_map (λ name. name.now) (slice_index_or alarms.conflict (state_place state) None);
-  forbidden = λ state. option_map {U = List ℕ × List ℕ} (λ p. (p.0.now, p.1.now)) (slice_index_or alarms.forbidden (state_place state) None);
+  cycle = option_map {U = PlainClass × PlainClass} (λ p. (plain_class p.0, plain_class p.1)) alarms.cycle;
+  conflict = λ state. option_map plain_class (slice_index_or alarms.conflict (state_place state) None);
+  forbidden = λ state. option_map {U = PlainClass × PlainClass} (λ p. (plain_class p.0, plain_class p.1)) (slice_index_or alarms.forbidden (state_place state) None);
 }
 
 -- An alarm of one kind: it stands exactly where there is a violation of that kind, and names one. Which

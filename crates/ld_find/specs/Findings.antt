@@ -1,9 +1,10 @@
 -- Every violation of some traces: which rows there are, what each says, and in which order they stand.
 use Rattle.std.specs.Prelude.{◌≡◌, ◌≢◌, ◌⊎◌, ◌<◌, ℕ, List, [], All, AllPairs, Any, Some, map}
-use Rattle.std.specs.Borrow.{Bor}
 use Rattle.std.specs.Cmp.Lexicographic.{slice_cmp}
 use Rattle.std.specs.Ordering.{nat_cmp}
 use Rattle.std.specs.declared.cmp.Ordering.TheVariants.{Less}
+use Rattle.ld_class.specs.declared.class_name.ClassName.{ClassName}
+use Rattle.ld_class.specs.Names.{PlainClass, plain_class}
 use Rattle.ld_class.specs.Usage.{marks_of}
 use Rattle.ld_trace.specs.declared.event.State.{State}
 use Rattle.ld_trace.specs.Sources.{PlainSource}
@@ -19,10 +20,15 @@ use Rattle.ld_find.specs.Alarms.{state_place}
 use Rattle.ld_union.specs.Usage.{witnessed_bits}
 use Rattle.ld_find.specs.Violations.{Depends, IsConflict, IsCycle, IsForbidden}
 
--- a name comes before another: by the first byte in which they differ, and where one is the start of
+-- one text comes before another: by the first byte in which they differ, and where one is the start of
 -- the other, the shorter one first
-abbrev pub IsBefore : List ℕ → List ℕ → Type 0
-IsBefore a b = slice_cmp nat_cmp a b ≡ Less
+abbrev pub IsTextBefore : List ℕ → List ℕ → Type 0
+IsTextBefore a b = slice_cmp nat_cmp a b ≡ Less
+
+-- The name of a class comes before another: by their texts, and where these are equal by their
+-- subclasses. So `A` comes first, then `A/1`, `A/7` and `A!`, though `!` is less than `/`.
+abbrev pub IsBefore : PlainClass → PlainClass → Type 0
+IsBefore a b = IsTextBefore a.name b.name ⊎ ((a.name ≡ b.name) × (a.sub < b.sub))
 
 -- hard comes before soft
 abbrev pub IsHarder : State → State → Type 0
@@ -33,29 +39,29 @@ abbrev pub InTurn : {A B : Type 0} → (A → A → Type 0) → (B → B → Typ
 InTurn first second p q = first p.0 q.0 ⊎ ((p.0 ≡ q.0) × second p.1 q.1)
 
 -- two pairs of names
-abbrev pub IsPairBefore : List ℕ × List ℕ → List ℕ × List ℕ → Type 0
+abbrev pub IsPairBefore : PlainClass × PlainClass → PlainClass × PlainClass → Type 0
 IsPairBefore p q = InTurn IsBefore IsBefore p q
 
 -- the shown walk from a to b, which goes on from each class to the least-named of its successors that
 -- are one step nearer to b
-abbrev pub IsShown : List PlainSource → List ℕ → List ℕ → List (List ℕ) → Type 0
+abbrev pub IsShown : List PlainSource → PlainClass → PlainClass → List PlainClass → Type 0
 IsShown sources a b via = IsShownWalk (Depends sources) IsBefore a b via
 
 -- the four usage characters of a class in the union
-abbrev pub shown_marks : List PlainSource → List ℕ → List ℕ
+abbrev pub shown_marks : List PlainSource → PlainClass → List ℕ
 shown_marks sources class = marks_of (witnessed_bits (λ bit. use_witness sources (record { class = class; bit = bit })))
 
 -- a dependency on a cycle, where it was first seen, and a walk back from its second class to its first
 pub record PlainCycleRow : Type 0 where
-  pub from : List ℕ
-  pub to : List ℕ
+  pub from : PlainClass
+  pub to : PlainClass
   pub at : Witness
-  pub via : List (List ℕ)
+  pub via : List PlainClass
 
 -- a conflict, with the usage of its class, and where each of its two bits was first seen
 pub record PlainConflictRow : Type 0 where
   pub state : State
-  pub class : List ℕ
+  pub class : PlainClass
   pub marks : List ℕ
   pub safe_at : Witness
   pub unsafe_at : Witness
@@ -63,13 +69,13 @@ pub record PlainConflictRow : Type 0 where
 -- a forbidden walk, with the usage of its ends, and where their bits were first seen
 pub record PlainForbiddenRow : Type 0 where
   pub state : State
-  pub from : List ℕ
+  pub from : PlainClass
   pub from_marks : List ℕ
   pub safe_at : Witness
-  pub to : List ℕ
+  pub to : PlainClass
   pub to_marks : List ℕ
   pub unsafe_at : Witness
-  pub via : List (List ℕ)
+  pub via : List PlainClass
 
 -- the rows of the three kinds
 pub record PlainFindings : Type 0 where
@@ -78,14 +84,14 @@ pub record PlainFindings : Type 0 where
   pub forbidden : List PlainForbiddenRow
 
 -- names, without where they lie in memory
-abbrev pub plain_names : List (Bor (List ℕ)) → List (List ℕ)
-plain_names names = map (λ name. name.now) names
+abbrev pub plain_names : List ClassName → List PlainClass
+plain_names names = map plain_class names
 
 -- a cycle's row
 abbrev pub plain_cycle_row : CycleRow → PlainCycleRow
 plain_cycle_row row = record {
-  from = row.from.now;
-  to = row.to.now;
+  from = plain_class row.from;
+  to = plain_class row.to;
   at = row.at;
   via = plain_names row.via;
 }
@@ -94,7 +100,7 @@ plain_cycle_row row = record {
 abbrev pub plain_conflict_row : ConflictRow → PlainConflictRow
 plain_conflict_row row = record {
   state = row.state;
-  class = row.class.now;
+  class = plain_class row.class;
   marks = row.marks;
   safe_at = row.safe_at;
   unsafe_at = row.unsafe_at;
@@ -104,10 +110,10 @@ plain_conflict_row row = record {
 abbrev pub plain_forbidden_row : ForbiddenRow → PlainForbiddenRow
 plain_forbidden_row row = record {
   state = row.state;
-  from = row.from.now;
+  from = plain_class row.from;
   from_marks = row.from_marks;
   safe_at = row.safe_at;
-  to = row.to.now;
+  to = plain_class row.to;
   to_marks = row.to_marks;
   unsafe_at = row.unsafe_at;
   via = plain_names row.via;
@@ -152,13 +158,13 @@ pub record AreRows {Row Key : Type 0} (key : Row → Key) (IsRow : Row → Type 
   pub ordered : AllPairs (λ r s. before (key r) (key s)) rows
 
 -- what a row is of, by which the rows are ordered
-abbrev pub cycle_key : PlainCycleRow → List ℕ × List ℕ
+abbrev pub cycle_key : PlainCycleRow → PlainClass × PlainClass
 cycle_key row = (row.from, row.to)
 
-abbrev pub conflict_key : PlainConflictRow → State × List ℕ
+abbrev pub conflict_key : PlainConflictRow → State × PlainClass
 conflict_key row = (row.state, row.class)
 
-abbrev pub forbidden_key : PlainForbiddenRow → State × (List ℕ × List ℕ)
+abbrev pub forbidden_key : PlainForbiddenRow → State × (PlainClass × PlainClass)
 forbidden_key row = (row.state, (row.from, row.to))
 
 -- the cycles' rows, by the names of the dependency

@@ -1,6 +1,7 @@
 //! A violation of each kind, as they are found by the numbers of the classes.
 ghost use Rattle.std.specs.Prelude.{◌≡◌, ◌↔◌, ℕ, ◌<◌, true, length, All, IsTrue, MatchOption};
 ghost use Rattle.std.specs.Prelude.{[], List, IfSome, option_map, slice_index_or};
+ghost use Rattle.ld_class.specs.Names.{PlainClass, no_class, plain_class};
 ghost use Rattle.ld_class.specs.Usage.{has_bit, no_bits};
 ghost use Rattle.ld_facts.specs.Usage.{usage_of};
 ghost use Rattle.ld_facts.specs.Usage.Bit.{In, On};
@@ -12,7 +13,7 @@ ghost use Rattle.ld_union.specs.Inner.Union.{PlainUnion, edges_of};
 ghost use Rattle.ld_union.specs.Usage.{bits_of};
 
 use bitflags::Flags;
-use ld_class::{Classes, Usage};
+use ld_class::{ClassName, Classes, Usage};
 use ld_graph::Edge;
 use ld_trace::State;
 use ld_union::{NewBit, News, PerState, Union, UsageRow};
@@ -23,12 +24,12 @@ use ld_union::{NewBit, News, PerState, Union, UsageRow};
 pub struct Alarms<'a> {
     /// The two classes of a dependency on a cycle. They are equal where a class is acquired under
     /// itself.
-    pub cycle: Option<(&'a [u8], &'a [u8])>,
+    pub cycle: Option<(ClassName<'a>, ClassName<'a>)>,
     /// A class that handlers of the state acquire, and that is held where they can interrupt.
-    pub conflict: [Option<&'a [u8]>; 2],
+    pub conflict: [Option<ClassName<'a>>; 2],
     /// A class that handlers of the state acquire, and one that is held where they can interrupt and
     /// to which a walk leads.
-    pub forbidden: [Option<(&'a [u8], &'a [u8])>; 2],
+    pub forbidden: [Option<(ClassName<'a>, ClassName<'a>)>; 2],
 }
 
 /// The same, by the numbers of the classes.
@@ -166,9 +167,9 @@ fn forbidden_then(
 }
 
 /// The names of the edge's classes, if there is one.
-fn edge_names<'a>(classes: &Classes<'a>, edge: Option<Edge>) -> Option<(&'a [u8], &'a [u8])>
+fn edge_names<'a>(classes: &Classes<'a>, edge: Option<Edge>) -> Option<(ClassName<'a>, ClassName<'a>)>
     requires { IfSome edge (λ e. (e.from < length classes.now) × (e.to < length classes.now)) }
-    ensures { option_map {U = List ℕ × List ℕ} (λ p. (p.0.now, p.1.now)) result
+    ensures { option_map {U = PlainClass × PlainClass} (λ p. (plain_class p.0, plain_class p.1)) result
         ≡ option_map (λ e. named_pair classes.now e.from e.to) edge }
 {
     let edge = edge?;
@@ -176,18 +177,18 @@ fn edge_names<'a>(classes: &Classes<'a>, edge: Option<Edge>) -> Option<(&'a [u8]
 }
 
 /// The name of the class, if there is one.
-fn class_name<'a>(classes: &Classes<'a>, class: Option<u32>) -> Option<&'a [u8]>
+fn class_name<'a>(classes: &Classes<'a>, class: Option<u32>) -> Option<ClassName<'a>>
     requires { IfSome class (λ c. c < length classes.now) }
-    ensures { option_map (λ name. name.now) result
-        ≡ option_map (λ c. slice_index_or classes.now c []) class }
+    ensures { option_map plain_class result
+        ≡ option_map (λ c. slice_index_or classes.now c no_class) class }
 {
     Some(classes.name(class?))
 }
 
 /// The names of the ends of the walk, if there is one.
-fn end_names<'a>(classes: &Classes<'a>, walk: Option<Forbidden>) -> Option<(&'a [u8], &'a [u8])>
+fn end_names<'a>(classes: &Classes<'a>, walk: Option<Forbidden>) -> Option<(ClassName<'a>, ClassName<'a>)>
     requires { IfSome walk (λ w. (w.from < length classes.now) × (w.to < length classes.now)) }
-    ensures { option_map {U = List ℕ × List ℕ} (λ p. (p.0.now, p.1.now)) result
+    ensures { option_map {U = PlainClass × PlainClass} (λ p. (plain_class p.0, plain_class p.1)) result
         ≡ option_map (λ w. named_pair classes.now w.from w.to) walk }
 {
     let walk = walk?;

@@ -2,11 +2,11 @@
 ghost use Rattle.std.specs.Prelude.{◌≡◌, ◌≢◌, ℕ, ◌<◌, length, map, All, AllPairs, Contains};
 ghost use Rattle.std.specs.Prelude.{IfOk};
 ghost use Rattle.std.specs.List.{range_with_len};
-ghost use Rattle.ld_class.specs.Names.{AreDistinct, IsNameAt};
+ghost use Rattle.ld_class.specs.Names.{AreDistinct, IsNameAt, plain_class};
 ghost use Rattle.ld_find.specs.Findings.{IsBefore};
 ghost use Rattle.ld_find.specs.Inner.ByName.{AreByName, class_at, class_name};
 
-use ld_class::Classes;
+use ld_class::{ClassName, Classes};
 use std::alloc::{AllocError, Global};
 
 /// The classes in the order of their names.
@@ -42,7 +42,7 @@ fn numbers_by_name(alloc: Global, classes: &Classes<'_>) -> Result<Vec<u32>, All
         (class_name classes.now (class_at numbers.items j))) }
 {
     let mut named = numbered_names(alloc, classes)?;
-    named.sort_unstable();
+    named.sort_unstable_by_key(|&(class, _)| class);
     numbers_of(alloc, &named)
 }
 
@@ -50,8 +50,8 @@ fn numbers_by_name(alloc: Global, classes: &Classes<'_>) -> Result<Vec<u32>, All
 fn numbered_names<'a>(
     alloc: Global,
     classes: &Classes<'a>,
-) -> Result<Vec<(&'a [u8], u32)>, AllocError>
-    ensures names { IfOk result (λ named. All (λ p. IsNameAt classes.now p.1 p.0.now) named.items) }
+) -> Result<Vec<(ClassName<'a>, u32)>, AllocError>
+    ensures names { IfOk result (λ named. All (λ p. IsNameAt classes.now p.1 (plain_class p.0)) named.items) }
     ensures numbers { IfOk result (λ named.
         map (λ p. p.1) named.items ≡ range_with_len 0 (length classes.now)) }
     ensures distinct { AreDistinct classes.now }
@@ -64,7 +64,7 @@ fn numbered_names<'a>(
 }
 
 /// The numbers alone.
-fn numbers_of(alloc: Global, named: &[(&[u8], u32)]) -> Result<Vec<u32>, AllocError>
+fn numbers_of(alloc: Global, named: &[(ClassName<'_>, u32)]) -> Result<Vec<u32>, AllocError>
     ensures { IfOk result (λ numbers. numbers.items ≡ map (λ p. p.1) named.now) }
 {
     named.iter().map(|&(_, class)| class).collect(alloc)

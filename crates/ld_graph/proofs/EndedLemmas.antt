@@ -101,12 +101,20 @@ few_both xs ys n d e apart a b =
     by q (inl h) = a q h
     by q (inr h) = b q h
 
-module _ (after before : ℕ → ℕ → Type 0) (turned : (x y : ℕ) → after x y ↔ before y x)
+module _ (sides : Sides) (turned : (x y : ℕ) → IsNear sides.after.lists x y
+    ↔ IsNear sides.before.lists y x)
     (ranks : List ℕ) (low : ℕ) (row : List ℕ) (r : IsRow ranks low row)
-    (rises : (x y : ℕ) → after x y → get_or ranks x 0 < get_or ranks y 0)
-    (ends : (x y : ℕ) → after x y → (x < length ranks) × (y < length ranks))
+    (rises : (x y : ℕ) → IsNear sides.after.lists x y → get_or ranks x 0 < get_or ranks y 0)
+    (ends : (x y : ℕ) → IsNear sides.after.lists x y → (x < length ranks) × (y < length ranks))
     (some : 0 < length row) (behind ahead : List ℕ)
-    (back : IsSought before row (length row - 1) behind) (forth : IsSought after row 0 ahead) where
+    (back : IsSought (IsNear sides.before.lists) row (length row - 1) behind)
+    (forth : IsSought (IsNear sides.after.lists) row 0 ahead) where
+  abbrev after : ℕ → ℕ → Type 0
+  after = IsNear sides.after.lists
+
+  abbrev before : ℕ → ℕ → Type 0
+  before = IsNear sides.before.lists
+
   abbrev rank : ℕ → ℕ
   rank x = get_or ranks x 0
 
@@ -136,10 +144,10 @@ module _ (after before : ℕ → ℕ → Type 0) (turned : (x y : ℕ) → after
   turned_reached x y (inr w) = let f = turned_walk x y w in inr (HasWalk-Far after f.0 y x f.1)
 
   -- where the searches have met a walk leads from the first class to the last
-  pub met_walk : (ended : Side) → HasMet ended (length row) behind ahead
+  pub met_reached : (ended : Side) → HasMet ended (length row) behind ahead
       → IsOrReaches after first last_one
-  met_walk Before n = turned_reached last_one first (back.reached 0 n)
-  met_walk After n = forth.reached (length row - 1) n
+  met_reached Before n = turned_reached last_one first (back.reached 0 n)
+  met_reached After n = forth.reached (length row - 1) n
 
   -- the classes of the offsets that were found
   abbrev Found : List ℕ → ℕ → Type 0
@@ -256,35 +264,22 @@ module _ (after before : ℕ → ℕ → Type 0) (turned : (x y : ℕ) → after
             (omega (arith, b)) in
             absurd (true≢false (sym e ∙ ap not (Contains_any ahead (rank y - low) f.1.1)))
 
--- the same by the side that has ended
-module _ (sides : Sides) (turned : (x y : ℕ) → IsNear sides.after.lists x y
-    ↔ IsNear sides.before.lists y x)
-    (ranks : List ℕ) (low : ℕ) (row : List ℕ) (r : IsRow ranks low row)
-    (rises : (x y : ℕ) → IsNear sides.after.lists x y → get_or ranks x 0 < get_or ranks y 0)
-    (ends : (x y : ℕ) → IsNear sides.after.lists x y → (x < length ranks) × (y < length ranks))
-    (some : 0 < length row) (behind ahead : List ℕ)
-    (back : IsSought (IsNear sides.before.lists) row (length row - 1) behind)
-    (forth : IsSought (IsNear sides.after.lists) row 0 ahead) where
   pub apart_few : (ended : Side) → HasEnded ended sides ranks low row behind ahead
       → ¬ HasMet ended (length row) behind ahead
       → IsDistinct nat_eq behind → IsDistinct nat_eq ahead
       → length behind + length ahead ≤ length row
   apart_few Before closed far d e = few_both behind ahead (length row) d e
-      (λ k b a. far (behind_first (IsNear sides.after.lists) (IsNear sides.before.lists) turned ranks
-      low row r rises ends some behind ahead back forth closed k b a)) back.within forth.within
+      (λ k b a. far (behind_first closed k b a)) back.within forth.within
   apart_few After closed far d e = few_both behind ahead (length row) d e
-      (λ k b a. far (ahead_last (IsNear sides.after.lists) (IsNear sides.before.lists) turned ranks
-      low row r rises ends some behind ahead back forth closed k b a)) back.within forth.within
+      (λ k b a. far (ahead_last closed k b a)) back.within forth.within
 
   pub front_closed : (ended : Side) → HasEnded ended sides ranks low row behind ahead
       → (x y : ℕ) → IsNear sides.after.lists x y → IsInside low (length row) (get_or ranks x 0)
       → IsInside low (length row) (get_or ranks y 0)
       → in_front ended behind ahead (get_or ranks y 0 - low) ≡ true
       → in_front ended behind ahead (get_or ranks x 0 - low) ≡ true
-  front_closed Before closed = behind_front (IsNear sides.after.lists) (IsNear sides.before.lists)
-      turned ranks low row r rises ends some behind ahead back forth closed
-  front_closed After closed = ahead_front (IsNear sides.after.lists) (IsNear sides.before.lists)
-      turned ranks low row r rises ends some behind ahead back forth closed
+  front_closed Before closed = behind_front closed
+  front_closed After closed = ahead_front closed
 
   pub front_last : (ended : Side) → ¬ HasMet ended (length row) behind ahead
       → in_front ended behind ahead (length row - 1) ≡ true
@@ -295,8 +290,3 @@ module _ (sides : Sides) (turned : (x y : ℕ) → IsNear sides.after.lists x y
       → in_front ended behind ahead 0 ≡ false
   back_first Before far = any_none behind 0 far
   back_first After far = ap not (Contains_any ahead 0 forth.begun)
-
-  pub met_reached : (ended : Side) → HasMet ended (length row) behind ahead
-      → IsOrReaches (IsNear sides.after.lists) (get_or row 0 0) (get_or row (length row - 1) 0)
-  met_reached ended m = met_walk (IsNear sides.after.lists) (IsNear sides.before.lists) turned ranks
-      low row r rises ends some behind ahead back forth ended m

@@ -1,7 +1,7 @@
 -- *Report text*. Each line ends with LF.
 use Rattle.std.specs.Prelude.{◌≡◌, ℕ, ◌+◌, ◌==◌, List, [], ◌∷◌, ◌++◌, length, flat_map, codes, decimal, if◌then◌else◌}
 use Rattle.std.specs.List.Sorted.{IsPermutation}
-use Rattle.std.specs.Str.{bytes_eq}
+use Rattle.ld_class.specs.Names.{PlainClass, same_class}
 use Rattle.ld_trace.specs.declared.event.State.{State}
 use Rattle.ld_trace.specs.declared.event.State.TheVariants.{Hard, Soft}
 use Rattle.ld_trace.specs.Sources.{PlainSource}
@@ -44,17 +44,21 @@ label_of_number (source ∷ others) number = if source.number == number then sou
 abbrev pub place : List PlainSource → Witness → List ℕ
 place sources at = label_of_number sources at.number ++ codes ":" ++ decimal at.line
 
+-- the name of a class: `A`, and `A/N` of its subclass N
+abbrev pub class_text : PlainClass → List ℕ
+class_text class = class.name ++ (if class.sub == 0 then [] else codes "/" ++ decimal class.sub)
+
 -- names behind others, each with ` -> ` before it
-abbrev pub steps : List (List ℕ) → List ℕ
-steps names = flat_map (λ name. codes " -> " ++ name) names
+abbrev pub steps : List PlainClass → List ℕ
+steps names = flat_map (λ name. codes " -> " ++ class_text name) names
 
 -- the names of a walk: `A -> .. -> B`
-abbrev pub walk : List (List ℕ) → List ℕ
+abbrev pub walk : List PlainClass → List ℕ
 walk [] = []
-walk (first ∷ others) = first ++ steps others
+walk (first ∷ others) = class_text first ++ steps others
 
 -- the walk that ends a line
-abbrev pub via : List (List ℕ) → List ℕ
+abbrev pub via : List PlainClass → List ℕ
 via names = codes " via " ++ walk names ++ codes "\n"
 
 -- `hard` or `soft`
@@ -63,24 +67,24 @@ state_name Hard = codes "hard"
 state_name Soft = codes "soft"
 
 -- a class with its usage characters: `A {?.+.}`
-abbrev pub marked : List ℕ → List ℕ → List ℕ
-marked class marks = class ++ codes " {" ++ marks ++ codes "}"
+abbrev pub marked : PlainClass → List ℕ → List ℕ
+marked class marks = class_text class ++ codes " {" ++ marks ++ codes "}"
 
 -- `recursion A at T:L`
 abbrev pub recursion_line : List PlainSource → PlainCycleRow → List ℕ
 recursion_line sources row =
-    codes "recursion " ++ row.from ++ codes " at " ++ place sources row.at ++ codes "\n"
+    codes "recursion " ++ class_text row.from ++ codes " at " ++ place sources row.at ++ codes "\n"
 
 -- `inversion A -> B at T:L via B -> .. -> A`
 abbrev pub inversion_line : List PlainSource → PlainCycleRow → List ℕ
 inversion_line sources row =
-    codes "inversion " ++ row.from ++ codes " -> " ++ row.to ++ codes " at " ++ place sources row.at
+    codes "inversion " ++ class_text row.from ++ codes " -> " ++ class_text row.to ++ codes " at " ++ place sources row.at
     ++ via row.via
 
 -- a line of group 3: a recursion where the two classes are equal, else an inversion
 abbrev pub cycle_line : List PlainSource → PlainCycleRow → List ℕ
 cycle_line sources row =
-    if bytes_eq row.from row.to then recursion_line sources row else inversion_line sources row
+    if same_class row.from row.to then recursion_line sources row else inversion_line sources row
 
 -- a line of group 4: `conflict hard A {?.+.} in T:L on T:L`
 abbrev pub conflict_line : List PlainSource → PlainConflictRow → List ℕ

@@ -1,15 +1,16 @@
 //! Writes the lines of a report. Each call answers `AllocError` where memory for its text was refused.
 ghost use Rattle.std.specs.Prelude.{◌≡◌, ◌++◌, OnOk, decimal};
+ghost use Rattle.ld_class.specs.Names.{plain_class};
 ghost use Rattle.ld_rules.specs.declared.outcome.Outcome.TheVariants.{Refused};
 ghost use Rattle.ld_book.specs.Findings.{plain_conflict_row, plain_cycle_row, plain_forbidden_row};
 ghost use Rattle.ld_book.specs.Findings.{plain_names};
-ghost use Rattle.ld_report.specs.Report.{conflict_line, cycle_line, forbidden_line};
+ghost use Rattle.ld_report.specs.Report.{class_text, conflict_line, cycle_line, forbidden_line};
 ghost use Rattle.ld_report.specs.Report.{inversion_line, last_line, marked, place};
 ghost use Rattle.ld_report.specs.Report.{recursion_line, refused_line, state_name, steps};
 ghost use Rattle.ld_report.specs.Report.{summary_line, via};
 
 use crate::labels::label;
-use ld_book::{ConflictRow, CycleRow, ForbiddenRow, Totals, Traces};
+use ld_book::{ClassName, ConflictRow, CycleRow, ForbiddenRow, Totals, Traces};
 use ld_facts::{TraceFault, Witness};
 use ld_trace::State;
 use std::alloc::AllocError;
@@ -143,13 +144,29 @@ fn write_number(text: &mut Vec<u8>, words: &str, number: u64) -> Result<(), Allo
     write!(text, "{words}{number}").map_err(|_| AllocError)
 }
 
-/// Writes a name behind these words.
-fn write_name(text: &mut Vec<u8>, words: &str, name: &[u8]) -> Result<(), AllocError>
-    ensures { OnOk result (text.new.items ≡ text.old.items ++ words.now ++ name.now) }
+/// Writes these bytes behind these words.
+fn write_bytes(text: &mut Vec<u8>, words: &str, bytes: &[u8]) -> Result<(), AllocError>
+    ensures { OnOk result (text.new.items ≡ text.old.items ++ words.now ++ bytes.now) }
 {
     text.extend_from_slice(words.as_bytes())?;
-    text.extend_from_slice(name)?;
+    text.extend_from_slice(bytes)?;
     Ok(())
+}
+
+/// Writes the name of a class behind these words: `name`, or `name/N` where it is a subclass.
+fn write_name(
+    text: &mut Vec<u8>,
+    words: &str,
+    class: ClassName<'_>,
+) -> Result<(), AllocError>
+    ensures { OnOk result (text.new.items ≡ text.old.items ++ words.now ++
+        class_text (plain_class class.entry)) }
+{
+    write_bytes(text, words, class.name)?;
+    if class.sub == 0 {
+        return Ok(());
+    }
+    write_number(text, "/", u64::from(class.sub))
 }
 
 /// Writes where something was first seen, behind these words.
@@ -161,7 +178,7 @@ fn write_place(
 ) -> Result<(), AllocError>
     ensures { OnOk result (text.new.items ≡ text.old.items ++ words.now ++ place traces.now at) }
 {
-    write_name(text, words, label(traces, at.number))?;
+    write_bytes(text, words, label(traces, at.number))?;
     write_number(text, ":", at.line)
 }
 
@@ -173,32 +190,32 @@ fn write_state(text: &mut Vec<u8>, words: &str, state: State) -> Result<(), Allo
         State::Hard => "hard",
         State::Soft => "soft",
     };
-    write_name(text, words, name.as_bytes())
+    write_bytes(text, words, name.as_bytes())
 }
 
 /// Writes a class with its usage characters, behind these words.
 fn write_class(
     text: &mut Vec<u8>,
     words: &str,
-    class: &[u8],
+    class: ClassName<'_>,
     marks: &[u8],
 ) -> Result<(), AllocError>
     ensures { OnOk result (text.new.items ≡ text.old.items ++ words.now ++
-        marked class.now marks.now) }
+        marked (plain_class class.entry) marks.now) }
 {
     write_name(text, words, class)?;
-    write_name(text, " {", marks)?;
+    write_bytes(text, " {", marks)?;
     text.push(b'}')?;
     Ok(())
 }
 
 /// Writes the names of a walk, and ends the line.
-fn write_walk(text: &mut Vec<u8>, names: &[&[u8]]) -> Result<(), AllocError>
+fn write_walk(text: &mut Vec<u8>, names: &[ClassName<'_>]) -> Result<(), AllocError>
     ensures { OnOk result (text.new.items ≡ text.old.items ++ via (plain_names names.now)) }
 {
     text.extend_from_slice(b" via ")?;
     if let Some((first, others)) = names.split_first() {
-        text.extend_from_slice(first)?;
+        write_name(text, "", *first)?;
         write_steps(text, others)?;
     }
     text.push(b'\n')?;
@@ -206,12 +223,11 @@ fn write_walk(text: &mut Vec<u8>, names: &[&[u8]]) -> Result<(), AllocError>
 }
 
 /// Writes names, each behind an arrow.
-fn write_steps(text: &mut Vec<u8>, names: &[&[u8]]) -> Result<(), AllocError>
+fn write_steps(text: &mut Vec<u8>, names: &[ClassName<'_>]) -> Result<(), AllocError>
     ensures { OnOk result (text.new.items ≡ text.old.items ++ steps (plain_names names.now)) }
 {
     for name in names {
-        text.extend_from_slice(b" -> ")?;
-        text.extend_from_slice(name)?;
+        write_name(text, " -> ", *name)?;
     }
     Ok(())
 }

@@ -1,5 +1,5 @@
 -- The flag in a frame where nothing was said of it is that at the position just before its enter.
-use Rattle.std.proofs.Common.{◌≡◌, ◌<◌, ◌++◌, ◌∷◌, [], List, ℕ, Bool, false, length, reverse, take, drop, Some, refl, ap, sym, subst, ◌∙◌, arith, if◌then◌else◌}
+use Rattle.std.proofs.Common.{◌≡◌, ◌<◌, ◌++◌, ◌∷◌, [], List, ℕ, false, length, reverse, take, drop, Some, refl, ap, sym, subst, ◌∙◌, arith, if◌then◌else◌}
 use Rattle.std.proofs.lemmas.List.{length_push, take-append-le, take_at}
 use Rattle.std.specs.Option.{unwrap_or}
 use Rattle.ld_trace.specs.declared.event.State.{State}
@@ -9,7 +9,7 @@ use Rattle.ld_rules.specs.Open.{is_some_and}
 use Rattle.ld_rules.specs.Frames.{Frame, frames, state_entered}
 use Rattle.ld_rules.specs.Flags.{same_state, last_said, flag_in, flag}
 use Rattle.ld_rules.specs.Inner.Levels.{stack}
-use Rattle.ld_rules.proofs.FlagLemmas.{Falls, falls_below, falls_rest, stack_follows}
+use Rattle.ld_rules.proofs.FlagLemmas.{stack_follows}
 
 -- each of these frames, innermost first, was opened in the past, and those around it were open just
 -- before its enter

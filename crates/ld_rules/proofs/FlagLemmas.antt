@@ -12,7 +12,7 @@ use Rattle.std.specs.Str.{bytes_eq}
 use Rattle.ld_trace.specs.declared.event.State.{State}
 use Rattle.ld_trace.specs.declared.event.State.TheVariants.{Hard, Soft}
 use Rattle.ld_trace.specs.Events.{PlainEvent}
-use Rattle.ld_trace.specs.Events.PlainEvent.{Acquire, Try, Release, Enter, Exit, Enable, Disable}
+use Rattle.ld_trace.specs.Events.PlainEvent.{Acquire, Try, Nested, Release, Enter, Exit, Enable, Disable}
 use Rattle.ld_rules.specs.Open.{is_some_and}
 use Rattle.ld_rules.specs.Frames.{Frame, frames, frame_of, contexts, task_of, enters, exits, state_entered}
 use Rattle.ld_rules.specs.Held.{Placed, placed, same_frame}
@@ -64,6 +64,7 @@ stack-quiet past task e no_enter no_exit = ap reverse (frames-other past task e 
 pub stack-other : (past : List PlainEvent) (task : List ℕ) (e : PlainEvent) → bytes_eq task (task_of e) ≡ false → stack (past ++ e ∷ []) task ≡ stack past task
 stack-other past task (Acquire t l) other = stack-quiet past task (Acquire t l) refl refl
 stack-other past task (Try t l) other = stack-quiet past task (Try t l) refl refl
+stack-other past task (Nested t l n) other = stack-quiet past task (Nested t l n) refl refl
 stack-other past task (Release t l) other = stack-quiet past task (Release t l) refl refl
 stack-other past task (Enter t s) other = stack-enter past task t s ∙ ap (λ (b : Bool). if b then
     record { place = length past; element = Enter t s; key = t } ∷ stack past task else stack past task) other
@@ -110,6 +111,7 @@ stack_follows task P none later opens closes past = by_pushes (λ xs. P xs (stac
     own : (xs : List PlainEvent) (e : PlainEvent) → task ≡ task_of e → P xs (stack xs task) → P (xs ++ e ∷ []) (stack (xs ++ e ∷ []) task)
     own xs (Acquire t l) is h = kept xs (Acquire t l) (stack-quiet xs task (Acquire t l) refl refl) h
     own xs (Try t l) is h = kept xs (Try t l) (stack-quiet xs task (Try t l) refl refl) h
+    own xs (Nested t l n) is h = kept xs (Nested t l n) (stack-quiet xs task (Nested t l n) refl refl) h
     own xs (Release t l) is h = kept xs (Release t l) (stack-quiet xs task (Release t l) refl refl) h
     own xs (Enter t s) is h = subst (λ u. P (xs ++ Enter u s ∷ []) (stack (xs ++ Enter u s ∷ []) task)) is (subst (P (xs ++ Enter task s ∷ [])) (sym (stack-enter_own xs task s)) (opens xs s h))
     own xs (Exit t s) is h =
@@ -255,6 +257,7 @@ levels-other past e task state other = levels-kept past e task state (stack-othe
     none : (e : PlainEvent) → bytes_eq task (task_of e) ≡ false → says_flag task state e ≡ None
     none (Acquire t l) other = refl
     none (Try t l) other = refl
+    none (Nested t l n) other = refl
     none (Release t l) other = refl
     none (Enter t s) other = refl
     none (Exit t s) other = refl
@@ -265,6 +268,7 @@ levels-other past e task state other = levels-kept past e task state (stack-othe
 quiet_says : (e : PlainEvent) (task : List ℕ) (state : State) → is_interrupt e ≡ false → (enters e ≡ None) × (exits e ≡ None) × (says_flag task state e ≡ None)
 quiet_says (Acquire t l) task state quiet = (refl, refl, refl)
 quiet_says (Try t l) task state quiet = (refl, refl, refl)
+quiet_says (Nested t l n) task state quiet = (refl, refl, refl)
 quiet_says (Release t l) task state quiet = (refl, refl, refl)
 quiet_says (Enter t s) task state quiet = absurd (true≢false quiet)
 quiet_says (Exit t s) task state quiet = absurd (true≢false quiet)
@@ -437,7 +441,7 @@ if_none true x o none = cc
 if_none false x o none = (refl, none)
 
 pub record NoFault (past : List PlainEvent) (e : PlainEvent) : Type 0 where
-  pub tasks_fit : is_one_too_many MOST_TASKS (tasks past) (task_of e) ≡ false
+  pub tasks_fit : is_one_too_many bytes_eq MOST_TASKS (tasks past) (task_of e) ≡ false
   pub classes_fit : has_too_many_classes past e ≡ false
   pub locks_fit : is_too_deep past e ≡ false
   pub is_held : is_not_held past e ≡ false
@@ -451,7 +455,7 @@ pub record NoFault (past : List PlainEvent) (e : PlainEvent) : Type 0 where
 module _ (past : List PlainEvent) (e : PlainEvent) (none : event_fault past e ≡ None) where
   pub no_fault_parts : NoFault past e
   no_fault_parts =
-      let h1 = if_none (is_one_too_many MOST_TASKS (tasks past) (task_of e)) _ _ none in
+      let h1 = if_none (is_one_too_many bytes_eq MOST_TASKS (tasks past) (task_of e)) _ _ none in
       let h2 = if_none (has_too_many_classes past e) _ _ h1.1 in
       let h3 = if_none (is_too_deep past e) _ _ h2.1 in
       let h4 = if_none (is_not_held past e) _ _ h3.1 in

@@ -7,7 +7,7 @@ use Rattle.std.specs.List.{last_or}
 use Rattle.std.specs.Str.{bytes_eq}
 use Rattle.ld_trace.specs.declared.event.State.{State}
 use Rattle.ld_trace.specs.Events.{PlainEvent}
-use Rattle.ld_trace.specs.Events.PlainEvent.{Acquire, Try, Release, Enter, Exit, Enable, Disable}
+use Rattle.ld_trace.specs.Events.PlainEvent.{Acquire, Try, Nested, Release, Enter, Exit, Enable, Disable}
 use Rattle.ld_rules.specs.Open.{openings}
 use Rattle.ld_rules.specs.Frames.{Frame, enters, exits, frames, frame_of, contexts}
 use Rattle.ld_rules.specs.Inner.Scanned.{remove_last}
@@ -18,6 +18,7 @@ frames_apart : (e : PlainEvent) (task : List ℕ) → enters e ≡ Some task →
 frames_apart (Enter t s) task is = refl
 frames_apart (Acquire t l) task is = refl
 frames_apart (Try t l) task is = refl
+frames_apart (Nested t l n) task is = refl
 frames_apart (Release t l) task is = refl
 frames_apart (Exit t s) task is = cc
 frames_apart (Enable t s) task is = refl

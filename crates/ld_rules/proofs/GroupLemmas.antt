@@ -10,14 +10,14 @@ use Rattle.std.specs.List.{list_all, list_any}
 use Rattle.std.specs.Str.{bytes_eq}
 use Rattle.ld_trace.specs.declared.event.State.{State}
 use Rattle.ld_trace.specs.Events.{PlainEvent, PlainLock}
-use Rattle.ld_trace.specs.Events.PlainEvent.{Acquire, Try, Release, Enter, Exit, Enable, Disable}
+use Rattle.ld_trace.specs.Events.PlainEvent.{Acquire, Try, Nested, Release, Enter, Exit, Enable, Disable}
 use Rattle.ld_rules.specs.Frames.{Frame, frame_of, task_of, enters, exits}
-use Rattle.ld_rules.specs.Held.{Key, same_frame, same_key, lock_acquired, held_by, held_in}
+use Rattle.ld_rules.specs.Held.{Acquisition, same_frame, lock_acquired, held_by, held_in}
 use Rattle.ld_rules.specs.Outcome.{is_held_at_exit}
 use Rattle.ld_rules.specs.Inner.Scanned.{remove_last}
 use Rattle.ld_rules.proofs.OpenLemmas.{remove_last-skip}
 use Rattle.ld_rules.proofs.RemoveLemmas.{list_all-remove_last}
-use Rattle.ld_rules.proofs.HeldLemmas.{Decides-same_frame, Decides-same_key, held_by-acquires, held_by-releases, held_by-releases_other, held_by-other}
+use Rattle.ld_rules.proofs.HeldLemmas.{Decides-same_frame, Decides-same_key, acquisition_at, has_key, held_by-acquires, held_by-releases, held_by-releases_other, held_by-other}
 use Rattle.ld_rules.specs.Inner.Levels.{stack, starts, starts_in}
 use Rattle.ld_rules.proofs.FlagLemmas.{stack-enter_own, stack-exit, stack-quiet, stack-other, innermost, frame_of_stack, Falls, falls_rest, stack_falls}
 use Rattle.ld_rules.proofs.UsageLemmas.{list_all_mono}
@@ -48,41 +48,41 @@ starts-exit past task state =
     each [] = refl
     each (f ∷ fs) = refl
 
--- Keys grouped by these frames: behind those of the frames around it, from its start on, those of the
+-- Acquisitions grouped by these frames: behind those of the frames around it, from its start on, those of the
 -- innermost frame.
-abbrev pub Grouped : List Frame → List ℕ → List Key → Type 0
-Grouped [] ss keys = list_all (λ key. same_frame None key.frame) keys ≡ true
-Grouped (f ∷ fs) ss keys = (outer : List Key) × ((own : List Key) ×
-    ((keys ≡ outer ++ own) × (length outer ≡ get_or ss 0 0) × (list_all (λ key. same_frame (Some f.place) key.frame) own ≡ true) × Grouped fs (drop 1 ss) outer))
+abbrev pub Grouped : List Frame → List ℕ → List Acquisition → Type 0
+Grouped [] ss keys = list_all (λ one. same_frame None one.key.frame) keys ≡ true
+Grouped (f ∷ fs) ss keys = (outer : List Acquisition) × ((own : List Acquisition) ×
+    ((keys ≡ outer ++ own) × (length outer ≡ get_or ss 0 0) × (list_all (λ one. same_frame (Some f.place) one.key.frame) own ≡ true) × Grouped fs (drop 1 ss) outer))
 
--- keys grouped by frames are in none of a later place
-grouped_elsewhere : (n m : ℕ) (fs : List Frame) (ss : List ℕ) (keys : List Key) → m ≤ n → Falls m fs → Grouped fs ss keys → list_all (λ key. not (same_frame (Some n) key.frame)) keys ≡ true
+-- acquisitions grouped by frames are in none of a later place
+grouped_elsewhere : (n m : ℕ) (fs : List Frame) (ss : List ℕ) (keys : List Acquisition) → m ≤ n → Falls m fs → Grouped fs ss keys → list_all (λ one. not (same_frame (Some n) one.key.frame)) keys ≡ true
 grouped_elsewhere n m [] ss keys le falls h =
-    list_all_mono (λ key. same_frame None key.frame) (λ key. not (same_frame (Some n) key.frame))
-    (λ key is. ap (λ frame. not (same_frame (Some n) frame)) (sym ((Decides-same_frame None key.frame).0 is))) keys h
+    list_all_mono (λ one. same_frame None one.key.frame) (λ one. not (same_frame (Some n) one.key.frame))
+    (λ one is. ap (λ frame. not (same_frame (Some n) frame)) (sym ((Decides-same_frame None one.key.frame).0 is))) keys h
 grouped_elsewhere n m (f ∷ fs) ss keys le falls h =
-    ap (list_all (λ key. not (same_frame (Some n) key.frame))) h.1.1.0
-    ∙ list_all-append (λ key. not (same_frame (Some n) key.frame)) h.0 h.1.0
-    ∙ and_from (list_all (λ key. not (same_frame (Some n) key.frame)) h.0) (list_all (λ key. not (same_frame (Some n) key.frame)) h.1.0)
+    ap (list_all (λ one. not (same_frame (Some n) one.key.frame))) h.1.1.0
+    ∙ list_all-append (λ one. not (same_frame (Some n) one.key.frame)) h.0 h.1.0
+    ∙ and_from (list_all (λ one. not (same_frame (Some n) one.key.frame)) h.0) (list_all (λ one. not (same_frame (Some n) one.key.frame)) h.1.0)
     (grouped_elsewhere n f.place fs (drop 1 ss) h.0 (omega (arith, falls.0)) falls.1 h.1.1.3)
-    (list_all_mono (λ key. same_frame (Some f.place) key.frame) (λ key. not (same_frame (Some n) key.frame))
-    (λ key is. ap (λ frame. not (same_frame (Some n) frame)) (sym ((Decides-same_frame (Some f.place) key.frame).0 is)) ∙ ap not (ne_eqb n f.place (λ e. omega (arith, falls.0)))) h.1.0 h.1.1.2)
+    (list_all_mono (λ one. same_frame (Some f.place) one.key.frame) (λ one. not (same_frame (Some n) one.key.frame))
+    (λ one is. ap (λ frame. not (same_frame (Some n) frame)) (sym ((Decides-same_frame (Some f.place) one.key.frame).0 is)) ∙ ap not (ne_eqb n f.place (λ e. omega (arith, falls.0)))) h.1.0 h.1.1.2)
 
--- a key acquired in the innermost frame
-grouped_acquires : (fs : List Frame) (ss : List ℕ) (keys : List Key) (key : Key) → key.frame ≡ innermost fs → Grouped fs ss keys → Grouped fs ss (keys ++ key ∷ [])
-grouped_acquires [] ss keys key frame h =
-    list_all-append (λ k. same_frame None k.frame) keys (key ∷ [])
-    ∙ and_from (list_all (λ k. same_frame None k.frame) keys) (same_frame None key.frame && true) h (ap (λ o. same_frame None o && true) frame)
-grouped_acquires (f ∷ fs) ss keys key frame h = (
+-- with one more in the innermost frame
+grouped_acquires : (fs : List Frame) (ss : List ℕ) (keys : List Acquisition) (one : Acquisition) → one.key.frame ≡ innermost fs → Grouped fs ss keys → Grouped fs ss (keys ++ one ∷ [])
+grouped_acquires [] ss keys one frame h =
+    list_all-append (λ k. same_frame None k.key.frame) keys (one ∷ [])
+    ∙ and_from (list_all (λ k. same_frame None k.key.frame) keys) (same_frame None one.key.frame && true) h (ap (λ o. same_frame None o && true) frame)
+grouped_acquires (f ∷ fs) ss keys one frame h = (
   h.0,
   (
-    h.1.0 ++ key ∷ [],
+    h.1.0 ++ one ∷ [],
     (
-      ap (λ ks. ks ++ key ∷ []) h.1.1.0 ∙ append_assoc h.0 h.1.0 (key ∷ []),
+      ap (λ ks. ks ++ one ∷ []) h.1.1.0 ∙ append_assoc h.0 h.1.0 (one ∷ []),
       h.1.1.1,
-      list_all-append (λ k. same_frame (Some f.place) k.frame) h.1.0 (key ∷ [])
-          ∙ and_from (list_all (λ k. same_frame (Some f.place) k.frame) h.1.0) (same_frame (Some f.place) key.frame && true) h.1.1.2
-          (and_from (same_frame (Some f.place) key.frame) true ((Decides-same_frame (Some f.place) key.frame).1 (sym frame)) refl),
+      list_all-append (λ k. same_frame (Some f.place) k.key.frame) h.1.0 (one ∷ [])
+          ∙ and_from (list_all (λ k. same_frame (Some f.place) k.key.frame) h.1.0) (same_frame (Some f.place) one.key.frame && true) h.1.1.2
+          (and_from (same_frame (Some f.place) one.key.frame) true ((Decides-same_frame (Some f.place) one.key.frame).1 (sym frame)) refl),
       h.1.1.3,
     ),
   ),
@@ -107,18 +107,18 @@ remove_last-append p (x ∷ xs) ys none = by (p x) refl (remove_last-append p xs
     by true is rest = absurd (true≢false (ap (λ b. b || list_any p xs) (sym is) ∙ none))
     by false is rest = remove_last-skip p x (xs ++ ys) is ∙ ap (λ zs. x ∷ zs) (rest (ap (λ b. b || list_any p xs) (sym is) ∙ none))
 
--- a key released in the innermost frame
-grouped_releases : (m : ℕ) (fs : List Frame) (ss : List ℕ) (keys : List Key) (p : Key → Bool) → Falls m fs →
-    ((key : Key) → p key ≡ true → innermost fs ≡ key.frame) → Grouped fs ss keys → Grouped fs ss (remove_last p keys)
-grouped_releases m [] ss keys p falls frame h = list_all-remove_last p (λ k. same_frame None k.frame) keys h
+-- with one less in the innermost frame
+grouped_releases : (m : ℕ) (fs : List Frame) (ss : List ℕ) (keys : List Acquisition) (p : Acquisition → Bool) → Falls m fs →
+    ((one : Acquisition) → p one ≡ true → innermost fs ≡ one.key.frame) → Grouped fs ss keys → Grouped fs ss (remove_last p keys)
+grouped_releases m [] ss keys p falls frame h = list_all-remove_last p (λ k. same_frame None k.key.frame) keys h
 grouped_releases m (f ∷ fs) ss keys p falls frame h =
     let none : list_any p h.0 ≡ false =
-    any_none p (λ key. not (same_frame (Some f.place) key.frame)) (λ key is. ap not ((Decides-same_frame (Some f.place) key.frame).1 (frame key is)))
+    any_none p (λ one. not (same_frame (Some f.place) one.key.frame)) (λ one is. ap not ((Decides-same_frame (Some f.place) one.key.frame).1 (frame one is)))
     h.0 (grouped_elsewhere f.place f.place fs (drop 1 ss) h.0 (omega arith) falls.1 h.1.1.3) in (
       h.0,
       (
         remove_last p h.1.0,
-        (ap (remove_last p) h.1.1.0 ∙ remove_last-append p h.0 h.1.0 none, h.1.1.1, list_all-remove_last p (λ k. same_frame (Some f.place) k.frame) h.1.0 h.1.1.2, h.1.1.3),
+        (ap (remove_last p) h.1.1.0 ∙ remove_last-append p h.0 h.1.0 none, h.1.1.1, list_all-remove_last p (λ k. same_frame (Some f.place) k.key.frame) h.1.0 h.1.1.2, h.1.1.3),
       ),
     )
 
@@ -139,13 +139,13 @@ filter_none q (x ∷ xs) all =
     by false fails rest = rest
 
 -- those of the innermost frame
-grouped_own : (m : ℕ) (f : Frame) (fs : List Frame) (ss : List ℕ) (keys : List Key) → Falls m (f ∷ fs) → (h : Grouped (f ∷ fs) ss keys) → filter
-    (λ key. same_frame (Some f.place) key.frame) keys ≡ h.1.0
+grouped_own : (m : ℕ) (f : Frame) (fs : List Frame) (ss : List ℕ) (keys : List Acquisition) → Falls m (f ∷ fs) → (h : Grouped (f ∷ fs) ss keys) → filter
+    (λ one. same_frame (Some f.place) one.key.frame) keys ≡ h.1.0
 grouped_own m f fs ss keys falls h =
-    ap (filter (λ key. same_frame (Some f.place) key.frame)) h.1.1.0
-    ∙ filter-append (λ key. same_frame (Some f.place) key.frame) h.0 h.1.0
-    ∙ (λ i. filter_none (λ key. same_frame (Some f.place) key.frame) h.0 (grouped_elsewhere f.place f.place fs (drop 1 ss) h.0 (omega arith) falls.1
-    h.1.1.3) i ++ filter_all (λ key. same_frame (Some f.place) key.frame) h.1.0 h.1.1.2 i)
+    ap (filter (λ one. same_frame (Some f.place) one.key.frame)) h.1.1.0
+    ∙ filter-append (λ one. same_frame (Some f.place) one.key.frame) h.0 h.1.0
+    ∙ (λ i. filter_none (λ one. same_frame (Some f.place) one.key.frame) h.0 (grouped_elsewhere f.place f.place fs (drop 1 ss) h.0 (omega arith) falls.1
+    h.1.1.3) i ++ filter_all (λ one. same_frame (Some f.place) one.key.frame) h.1.0 h.1.1.2 i)
 
 -- What a task holds is grouped by its open frames.
 abbrev pub IsGrouped : List PlainEvent → List ℕ → Type 0
@@ -158,12 +158,13 @@ held_by-other_task past task e other = by e other
     acquired : (e : PlainEvent) (lock : PlainLock) → lock_acquired e ≡ Some lock → bytes_eq task (task_of e) ≡ false → held_by (past ++ e ∷ []) task ≡ held_by past task
     acquired e lock is other =
         held_by-acquires past task e lock is
-        ∙ ap (λ (b : Bool). held_by past task ++ (if b then record { task = task_of e; frame = frame_of past (task_of e); lock = lock } ∷ [] else [])) other
+        ∙ ap (λ (b : Bool). held_by past task ++ (if b then acquisition_at past e lock ∷ [] else [])) other
         ∙ append-nil (held_by past task)
 
     by : (e : PlainEvent) → bytes_eq task (task_of e) ≡ false → held_by (past ++ e ∷ []) task ≡ held_by past task
     by (Acquire t l) other = acquired (Acquire t l) l refl other
     by (Try t l) other = acquired (Try t l) l refl other
+    by (Nested t l n) other = acquired (Nested t l n) l refl other
     by (Release t l) other = held_by-releases_other past task t l other
     by (Enter t s) other = held_by-other past task (Enter t s) refl refl
     by (Exit t s) other = held_by-other past task (Exit t s) refl refl
@@ -184,16 +185,16 @@ module _ (past : List PlainEvent) where
       moved (task_of e) e (stack-quiet past (task_of e) e no_enter no_exit)
       (subst (Grouped (stack past (task_of e)) (starts past (task_of e)))
       (sym (held_by-acquires past (task_of e) e lock is ∙ ap (λ (b : Bool). held_by past (task_of e) ++
-      (if b then record { task = task_of e; frame = frame_of past (task_of e); lock = lock } ∷ [] else [])) ((bytes_eq-Decides (task_of e) (task_of e)).1 refl)))
+      (if b then acquisition_at past e lock ∷ [] else [])) ((bytes_eq-Decides (task_of e) (task_of e)).1 refl)))
       (grouped_acquires (stack past (task_of e)) (starts past (task_of e)) (held_by past (task_of e))
-      (record { task = task_of e; frame = frame_of past (task_of e); lock = lock }) (frame_of_stack past (task_of e)) h))
+      (acquisition_at past e lock) (frame_of_stack past (task_of e)) h))
 
   released : (task : List ℕ) (lock : PlainLock) → IsGrouped past task → IsGrouped (past ++ Release task lock ∷ []) task
   released task lock h =
       moved task (Release task lock) (stack-quiet past task (Release task lock) refl refl)
       (subst (Grouped (stack past task) (starts past task)) (sym (held_by-releases past task lock))
-      (grouped_releases (length past) (stack past task) (starts past task) (held_by past task) (same_key (record { task = task; frame = frame_of past task; lock = lock })) (stack_falls task past)
-      (λ key is. sym (frame_of_stack past task) ∙ ap (λ k. k.frame) ((Decides-same_key (record { task = task; frame = frame_of past task; lock = lock }) key).0 is)) h))
+      (grouped_releases (length past) (stack past task) (starts past task) (held_by past task) (has_key (record { task = task; frame = frame_of past task; lock = lock })) (stack_falls task past)
+      (λ one is. sym (frame_of_stack past task) ∙ ap (λ key. key.frame) ((Decides-same_key (record { task = task; frame = frame_of past task; lock = lock }) one.key).0 is)) h))
 
   entered : (task : List ℕ) (state : State) → IsGrouped past task → IsGrouped (past ++ Enter task state ∷ []) task
   entered task state h =
@@ -209,16 +210,16 @@ module _ (past : List PlainEvent) where
       (subst (Grouped (drop 1 (stack past task)) (drop 1 (starts past task))) (sym (held_by-other past task (Exit task state) refl refl))
       (each (stack past task) (starts past task) (held_by past task) (frame_of_stack past task) (stack_falls task past) none h)))
     where
-      no_elements : (keys : List Key) → list_any (λ key. true) keys ≡ false → keys ≡ []
+      no_elements : (keys : List Acquisition) → list_any (λ one. true) keys ≡ false → keys ≡ []
       no_elements [] none = refl
       no_elements (k ∷ keys) none = absurd (true≢false none)
 
-      each : (fs : List Frame) (ss : List ℕ) (keys : List Key) → frame_of past task ≡ innermost fs → Falls (length past) fs → list_any (λ key. true)
-          (filter (λ key. same_frame (frame_of past task) key.frame) keys) ≡ false → Grouped fs ss keys → Grouped (drop 1 fs) (drop 1 ss) keys
+      each : (fs : List Frame) (ss : List ℕ) (keys : List Acquisition) → frame_of past task ≡ innermost fs → Falls (length past) fs → list_any (λ one. true)
+          (filter (λ one. same_frame (frame_of past task) one.key.frame) keys) ≡ false → Grouped fs ss keys → Grouped (drop 1 fs) (drop 1 ss) keys
       each [] ss keys frame falls none h = h
       each (f ∷ fs) ss keys frame falls none h =
-          let gone : h.1.0 ≡ [] = sym (grouped_own (length past) f fs ss keys falls h) ∙ ap (λ o. filter (λ key. same_frame o key.frame) keys)
-          (sym frame) ∙ no_elements (filter (λ key. same_frame (frame_of past task) key.frame) keys) none in
+          let gone : h.1.0 ≡ [] = sym (grouped_own (length past) f fs ss keys falls h) ∙ ap (λ o. filter (λ one. same_frame o one.key.frame) keys)
+          (sym frame) ∙ no_elements (filter (λ one. same_frame (frame_of past task) one.key.frame) keys) none in
           subst (Grouped fs (drop 1 ss)) (sym (h.1.1.0 ∙ ap (λ own. h.0 ++ own) gone ∙ append-nil h.0)) h.1.1.3
 
   -- one more event keeps it, unless a lock is held in a frame that closes
@@ -228,6 +229,7 @@ module _ (past : List PlainEvent) where
       own : (e : PlainEvent) → is_held_at_exit past e ≡ false → IsGrouped past (task_of e) → IsGrouped (past ++ e ∷ []) (task_of e)
       own (Acquire t l) good h = acquired (Acquire t l) l refl refl refl h
       own (Try t l) good h = acquired (Try t l) l refl refl refl h
+      own (Nested t l n) good h = acquired (Nested t l n) l refl refl refl h
       own (Release t l) good h = released t l h
       own (Enter t s) good h = entered t s h
       own (Exit t s) good h = exited t s good h
@@ -247,27 +249,27 @@ held_in-innermost past task h = each (stack past task) refl (stack_falls task pa
   where
     each : (fs : List Frame) → stack past task ≡ fs → Falls (length past) fs → Grouped fs (starts_in past task fs) (held_by past task) → held_in past
         task (frame_of past task) ≡ drop (get_or (starts_in past task fs) 0 0) (held_by past task)
-    each [] is falls h = ap (held_in past task) (frame_of_stack past task ∙ ap innermost is) ∙ filter_all (λ key. same_frame None key.frame) (held_by past task) h
+    each [] is falls h = ap (held_in past task) (frame_of_stack past task ∙ ap innermost is) ∙ filter_all (λ one. same_frame None one.key.frame) (held_by past task) h
     each (f ∷ fs) is falls h =
         ap (held_in past task) (frame_of_stack past task ∙ ap innermost is)
         ∙ grouped_own (length past) f fs (starts_in past task (f ∷ fs)) (held_by past task) falls h
         ∙ sym (ap (drop (length (held_by (take f.place past) task))) h.1.1.0 ∙ drop_at h.0 h.1.0 (length (held_by (take f.place past) task)) h.1.1.1)
 
 -- and what it holds below that start it holds in other frames
-pub outer_elsewhere : (past : List PlainEvent) (task : List ℕ) → IsGrouped past task → list_any (λ key. same_frame (frame_of past task) key.frame)
+pub outer_elsewhere : (past : List PlainEvent) (task : List ℕ) → IsGrouped past task → list_any (λ one. same_frame (frame_of past task) one.key.frame)
     (take (get_or (starts past task) 0 0) (held_by past task)) ≡ false
 outer_elsewhere past task h = each (stack past task) refl (stack_falls task past) h
   where
     each : (fs : List Frame) → stack past task ≡ fs → Falls (length past) fs → Grouped fs (starts_in past task fs) (held_by past task) → list_any
-        (λ key. same_frame (frame_of past task) key.frame) (take (get_or (starts_in past task fs) 0 0) (held_by past task)) ≡ false
+        (λ one. same_frame (frame_of past task) one.key.frame) (take (get_or (starts_in past task fs) 0 0) (held_by past task)) ≡ false
     each [] is falls h = refl
     each (f ∷ fs) is falls h =
         let outer : take (length (held_by (take f.place past) task)) (held_by past task) ≡ h.0 = ap (take (length (held_by (take f.place past) task)))
         h.1.1.0 ∙ take_at h.0 h.1.0 (length (held_by (take f.place past) task)) h.1.1.1 in
         let frame : frame_of past task ≡ Some f.place = frame_of_stack past task ∙ ap innermost is in
-        ap (list_any (λ key. same_frame (frame_of past task) key.frame)) outer
-        ∙ any_none (λ key. same_frame (frame_of past task) key.frame) (λ key. not (same_frame (Some f.place) key.frame))
-        (λ key same. ap not (ap (λ o. same_frame o key.frame) (sym frame) ∙ same)) h.0
+        ap (list_any (λ one. same_frame (frame_of past task) one.key.frame)) outer
+        ∙ any_none (λ one. same_frame (frame_of past task) one.key.frame) (λ one. not (same_frame (Some f.place) one.key.frame))
+        (λ one same. ap not (ap (λ o. same_frame o one.key.frame) (sym frame) ∙ same)) h.0
         (grouped_elsewhere f.place f.place fs (starts_in past task fs) h.0 (omega arith) falls.1 h.1.1.3)
 
 -- that start is no further than what it holds

@@ -9,10 +9,10 @@ use Rattle.std.specs.Bool.{Decides}
 use Rattle.std.specs.List.{enumerate_from, list_any}
 use Rattle.std.specs.Str.{bytes_eq}
 use Rattle.ld_trace.specs.Events.{PlainEvent, PlainLock}
-use Rattle.ld_trace.specs.Events.PlainEvent.{Acquire, Try, Release, Enter, Exit, Enable, Disable}
+use Rattle.ld_trace.specs.Events.PlainEvent.{Acquire, Try, Nested, Release, Enter, Exit, Enable, Disable}
 use Rattle.ld_rules.specs.Open.{openings}
 use Rattle.ld_rules.specs.Frames.{enters, exits, task_of, frame_of}
-use Rattle.ld_rules.specs.Held.{Placed, placed, Key, key_with, lock_acquired, lock_released, acquires, releases, same_option, same_frame, same_lock, same_key, held, held_by}
+use Rattle.ld_rules.specs.Held.{Placed, placed, Key, key_with, lock_acquired, lock_released, acquires, releases, same_option, same_frame, same_lock, same_key, Acquisition, acquisition_of, class_with, sub_of, held, held_by}
 use Rattle.ld_rules.specs.Inner.Scanned.{remove_last}
 use Rattle.ld_rules.proofs.OpenLemmas.{HasKeys, openings-opens, openings-closes, openings-neither}
 use Rattle.ld_rules.proofs.RemoveLemmas.{map-remove_last, filter-remove_last, filter-remove_other, list_any-filter}
@@ -45,6 +45,7 @@ Decides-same_key a b = Decides-like (same_key a b) (λ h. λ i. record { task = 
 locks_apart : (e : PlainEvent) (lock : PlainLock) → lock_acquired e ≡ Some lock → lock_released e ≡ None
 locks_apart (Acquire t l) lock is = refl
 locks_apart (Try t l) lock is = refl
+locks_apart (Nested t l n) lock is = refl
 locks_apart (Release t l) lock is = cc
 locks_apart (Enter t s) lock is = refl
 locks_apart (Exit t s) lock is = refl
@@ -54,6 +55,7 @@ locks_apart (Disable t s) lock is = refl
 pub enters_none : (e : PlainEvent) (lock : PlainLock) → lock_acquired e ≡ Some lock → (enters e ≡ None) × (exits e ≡ None)
 enters_none (Acquire t l) lock is = (refl, refl)
 enters_none (Try t l) lock is = (refl, refl)
+enters_none (Nested t l n) lock is = (refl, refl)
 enters_none (Release t l) lock is = (refl, refl)
 enters_none (Enter t s) lock is = cc
 enters_none (Exit t s) lock is = cc
@@ -85,73 +87,86 @@ placed-push past e =
     ∙ map-append (place_in (past ++ e ∷ [])) (enumerate_from 0 past) ((0 + length past, e) ∷ [])
     ∙ (λ i. kept i ++ record { event = e; frame = frame_of (whole i) (task_of e) } ∷ [])
 
+-- what an event that names this lock acquires after these
+abbrev pub acquisition_at : List PlainEvent → PlainEvent → PlainLock → Acquisition
+acquisition_at past e lock = record {
+  key = record { task = task_of e; frame = frame_of past (task_of e); lock = lock };
+  class = class_with lock (sub_of e);
+}
+
 -- an acquisition is open from its position on, and every other stays
-pub held-acquires : (past : List PlainEvent) (e : PlainEvent) (lock : PlainLock) → lock_acquired e ≡ Some lock → held (past ++ e ∷ []) ≡ held past ++
-    record { task = task_of e; frame = frame_of past (task_of e); lock = lock } ∷ []
+pub held-acquires : (past : List PlainEvent) (e : PlainEvent) (lock : PlainLock) → lock_acquired e ≡ Some lock → held (past ++ e ∷ []) ≡ held past ++ acquisition_at past e lock ∷ []
 held-acquires past e lock is =
     let quiet = enters_none e lock is in
     let frame : frame_of (past ++ e ∷ []) (task_of e) ≡ frame_of past (task_of e) = frame_of-other past (task_of e) e quiet.0 quiet.1 in
-    let key : acquires (record { event = e; frame = frame_of (past ++ e ∷ []) (task_of e) }) ≡ Some (record { task = task_of e; frame = frame_of past (task_of e); lock = lock }) =
+    let key : acquires (record { event = e; frame = frame_of (past ++ e ∷ []) (task_of e) }) ≡ Some (acquisition_at past e lock).key =
     (λ i. key_with (record { event = e; frame = frame i }) (is i)) in
-    ap (λ xs. map (λ o. o.key) (openings same_key acquires releases xs)) (placed-push past e)
-    ∙ ap (map (λ o. o.key)) (openings-opens same_key acquires releases lock_keys (placed past)
-    (record { event = e; frame = frame_of (past ++ e ∷ []) (task_of e) }) (record { task = task_of e; frame = frame_of past (task_of e); lock = lock }) key)
-    ∙ map-append (λ o. o.key) (openings same_key acquires releases (placed past))
+    ap (λ xs. map acquisition_of (openings same_key acquires releases xs)) (placed-push past e)
+    ∙ ap (map acquisition_of) (openings-opens same_key acquires releases lock_keys (placed past)
+    (record { event = e; frame = frame_of (past ++ e ∷ []) (task_of e) }) (acquisition_at past e lock).key key)
+    ∙ map-append acquisition_of (openings same_key acquires releases (placed past))
     (record {
       place = length (placed past);
       element = record { event = e; frame = frame_of (past ++ e ∷ []) (task_of e) };
-      key =
-          record { task = task_of e; frame = frame_of past (task_of e); lock = lock };
+      key = (acquisition_at past e lock).key;
     } ∷ [])
+
+-- the test whether an acquisition has this key
+abbrev pub has_key : Key → Acquisition → Bool
+has_key key one = same_key key one.key
 
 -- a release ends the latest open acquisition of its key, and every other stays
 pub held-releases : (past : List PlainEvent) (task : List ℕ) (lock : PlainLock) → held (past ++ Release task lock ∷ []) ≡ remove_last
-    (same_key (record { task = task; frame = frame_of past task; lock = lock })) (held past)
+    (has_key (record { task = task; frame = frame_of past task; lock = lock })) (held past)
 held-releases past task lock =
     let frame : frame_of (past ++ Release task lock ∷ []) task ≡ frame_of past task = frame_of-other past task (Release task lock) refl refl in
     let key : releases (record { event = Release task lock; frame = frame_of (past ++ Release task lock ∷ []) task }) ≡ Some (record { task = task; frame = frame_of past task; lock = lock }) =
     (λ i. key_with (record { event = Release task lock; frame = frame i }) (Some lock)) in
-    ap (λ xs. map (λ o. o.key) (openings same_key acquires releases xs)) (placed-push past (Release task lock))
-    ∙ ap (map (λ o. o.key)) (openings-closes same_key acquires releases lock_keys (placed past)
+    ap (λ xs. map acquisition_of (openings same_key acquires releases xs)) (placed-push past (Release task lock))
+    ∙ ap (map acquisition_of) (openings-closes same_key acquires releases lock_keys (placed past)
     (record { event = Release task lock; frame = frame_of (past ++ Release task lock ∷ []) task }) (record { task = task; frame = frame_of past task; lock = lock }) key)
-    ∙ map-remove_last (λ o. o.key) (same_key (record { task = task; frame = frame_of past task; lock = lock })) (openings same_key acquires releases (placed past))
+    ∙ map-remove_last acquisition_of (has_key (record { task = task; frame = frame_of past task; lock = lock })) (openings same_key acquires releases (placed past))
 
 -- no other event changes what is held
 pub held-other : (past : List PlainEvent) (e : PlainEvent) → lock_acquired e ≡ None → lock_released e ≡ None → held (past ++ e ∷ []) ≡ held past
 held-other past e not_acquired not_released =
-    ap (λ xs. map (λ o. o.key) (openings same_key acquires releases xs)) (placed-push past e)
-    ∙ ap (map (λ o. o.key)) (openings-neither same_key acquires releases lock_keys (placed past) (record { event = e; frame = frame_of (past ++ e ∷ []) (task_of e) })
+    ap (λ xs. map acquisition_of (openings same_key acquires releases xs)) (placed-push past e)
+    ∙ ap (map acquisition_of) (openings-neither same_key acquires releases lock_keys (placed past) (record { event = e; frame = frame_of (past ++ e ∷ []) (task_of e) })
     (ap (key_with (record { event = e; frame = frame_of (past ++ e ∷ []) (task_of e) })) not_acquired)
     (ap (key_with (record { event = e; frame = frame_of (past ++ e ∷ []) (task_of e) })) not_released))
 
 -- the same of the locks of one task
 
-pub held_by-acquires : (past : List PlainEvent) (task : List ℕ) (e : PlainEvent) (lock : PlainLock) → lock_acquired e ≡ Some lock → held_by
-    (past ++ e ∷ []) task ≡ held_by past task ++ (if bytes_eq task (task_of e) then record { task = task_of e; frame = frame_of past (task_of e); lock = lock } ∷ [] else [])
-held_by-acquires past task e lock is =
-    ap (filter (λ key. bytes_eq task key.task)) (held-acquires past e lock is)
-    ∙ filter-append (λ key. bytes_eq task key.task) (held past) (record { task = task_of e; frame = frame_of past (task_of e); lock = lock } ∷ [])
+-- the test whether an acquisition is of this task
+abbrev pub is_of_task : List ℕ → Acquisition → Bool
+is_of_task task one = bytes_eq task one.key.task
 
--- a key that is the same is of the same task
-same_task : (key other : Key) → same_key key other ≡ true → key.task ≡ other.task
-same_task key other is = ap (λ k. k.task) ((Decides-same_key key other).0 is)
+pub held_by-acquires : (past : List PlainEvent) (task : List ℕ) (e : PlainEvent) (lock : PlainLock) → lock_acquired e ≡ Some lock → held_by
+    (past ++ e ∷ []) task ≡ held_by past task ++ (if bytes_eq task (task_of e) then acquisition_at past e lock ∷ [] else [])
+held_by-acquires past task e lock is =
+    ap (filter (is_of_task task)) (held-acquires past e lock is)
+    ∙ filter-append (is_of_task task) (held past) (acquisition_at past e lock ∷ [])
+
+-- an acquisition that has a key is of its task
+same_task : (key : Key) (one : Acquisition) → has_key key one ≡ true → key.task ≡ one.key.task
+same_task key one is = ap (λ k. k.task) ((Decides-same_key key one.key).0 is)
 
 pub held_by-releases : (past : List PlainEvent) (task : List ℕ) (lock : PlainLock) → held_by (past ++ Release task lock ∷ []) task ≡ remove_last
-    (same_key (record { task = task; frame = frame_of past task; lock = lock })) (held_by past task)
+    (has_key (record { task = task; frame = frame_of past task; lock = lock })) (held_by past task)
 held_by-releases past task lock =
-    ap (filter (λ key. bytes_eq task key.task)) (held-releases past task lock)
-    ∙ filter-remove_last (same_key (record { task = task; frame = frame_of past task; lock = lock })) (λ key. bytes_eq task key.task)
-    (λ key is. (bytes_eq-Decides task key.task).1 (same_task (record { task = task; frame = frame_of past task; lock = lock }) key is)) (held past)
+    ap (filter (is_of_task task)) (held-releases past task lock)
+    ∙ filter-remove_last (has_key (record { task = task; frame = frame_of past task; lock = lock })) (is_of_task task)
+    (λ one is. (bytes_eq-Decides task one.key.task).1 (same_task (record { task = task; frame = frame_of past task; lock = lock }) one is)) (held past)
 
 pub held_by-releases_other : (past : List PlainEvent) (task by : List ℕ) (lock : PlainLock) → bytes_eq task by ≡ false → held_by (past ++ Release by lock ∷ []) task ≡ held_by past task
 held_by-releases_other past task by lock other =
-    ap (filter (λ key. bytes_eq task key.task)) (held-releases past by lock)
-    ∙ filter-remove_other (same_key (record { task = by; frame = frame_of past by; lock = lock })) (λ key. bytes_eq task key.task)
-    (λ key is. ap (bytes_eq task) (sym (same_task (record { task = by; frame = frame_of past by; lock = lock }) key is)) ∙ other) (held past)
+    ap (filter (is_of_task task)) (held-releases past by lock)
+    ∙ filter-remove_other (has_key (record { task = by; frame = frame_of past by; lock = lock })) (is_of_task task)
+    (λ one is. ap (bytes_eq task) (sym (same_task (record { task = by; frame = frame_of past by; lock = lock }) one is)) ∙ other) (held past)
 
 pub held_by-other : (past : List PlainEvent) (task : List ℕ) (e : PlainEvent) → lock_acquired e ≡ None → lock_released e ≡ None → held_by (past ++ e ∷ []) task ≡ held_by past task
-held_by-other past task e not_acquired not_released = ap (filter (λ key. bytes_eq task key.task)) (held-other past e not_acquired not_released)
+held_by-other past task e not_acquired not_released = ap (filter (is_of_task task)) (held-other past e not_acquired not_released)
 
 -- a key is held where it is held by its task
-pub any_held_by : (past : List PlainEvent) (key : Key) → list_any (same_key key) (held_by past key.task) ≡ list_any (same_key key) (held past)
-any_held_by past key = list_any-filter (same_key key) (λ other. bytes_eq key.task other.task) (λ other is. (bytes_eq-Decides key.task other.task).1 (same_task key other is)) (held past)
+pub any_held_by : (past : List PlainEvent) (key : Key) → list_any (has_key key) (held_by past key.task) ≡ list_any (has_key key) (held past)
+any_held_by past key = list_any-filter (has_key key) (is_of_task key.task) (λ one is. (bytes_eq-Decides key.task one.key.task).1 (same_task key one is)) (held past)

@@ -1,5 +1,5 @@
 -- What an event adds to the usage.
-use Rattle.std.proofs.Common.{◌≡◌, ◌++◌, ◌∷◌, [], List, ℕ, Bool, true, false, ◌&&◌, ◌||◌, not, cond, map, filter, fold, Option, Some, None, Result}
+use Rattle.std.proofs.Common.{◌≡◌, ◌++◌, ◌∷◌, [], List, ℕ, Bool, true, false, ◌&&◌, ◌||◌, not, cond, map, filter, fold, Some, Result}
 use Rattle.std.proofs.Common.{Ok, Err, refl, ap, sym, ◌∙◌, append_assoc, if◌then◌else◌}
 use Rattle.std.proofs.lemmas.Bool.{true≢false, and_parts, and_from, or_left, or_right}
 use Rattle.std.proofs.lemmas.Bool.Decides.{Decides-and, Decides-like}
@@ -12,25 +12,27 @@ use Rattle.std.proofs.lemmas.Slice.Eq.{bytes_eq-Decides}
 use Rattle.std.specs.Bool.{Decides}
 use Rattle.std.specs.List.{list_all, list_any}
 use Rattle.std.specs.Str.{bytes_eq}
+use Rattle.ld_class.specs.Names.{same_class}
 use Rattle.ld_class.proofs.Mapped.{list_any-map}
+use Rattle.ld_class.proofs.NameLemmas.{same_class-Decides}
 use Rattle.ld_trace.specs.declared.event.LineFault.{LineFault}
 use Rattle.ld_trace.specs.declared.event.State.{State}
 use Rattle.ld_trace.specs.declared.event.State.TheVariants.{Hard, Soft}
 use Rattle.ld_trace.specs.Events.{PlainEvent, PlainLock, Position}
-use Rattle.ld_trace.specs.Events.PlainEvent.{Acquire, Try, Release, Enter, Exit, Enable, Disable}
+use Rattle.ld_trace.specs.Events.PlainEvent.{Acquire, Try, Nested, Release, Enter, Exit, Enable, Disable}
 use Rattle.ld_rules.specs.Frames.{task_of, contexts, frame_of}
 use Rattle.ld_rules.specs.Inner.Levels.{is_interrupt}
-use Rattle.ld_rules.specs.Held.{Key, held, held_by, lock_acquired, same_key}
+use Rattle.ld_rules.specs.Held.{Acquisition, class_awaited, held, held_by, lock_acquired}
 use Rattle.ld_rules.specs.Flags.{same_state, is_enabled}
 use Rattle.ld_rules.specs.Outcome.{events}
 use Rattle.ld_rules.specs.Dependency.{Seen, seen_at, seen}
-use Rattle.ld_rules.specs.Usage.{Bit, same_bit, Use, same_use, in_uses, on_uses, uses_at}
+use Rattle.ld_rules.specs.Usage.{Bit, same_bit, Use, same_use, in_uses, on_uses, uses_at, uses_in}
 use Rattle.ld_rules.specs.Usage.Bit.{In, On}
 use Rattle.ld_rules.specs.Inner.Scanned.{same_use_seen, with_new}
 use Rattle.ld_rules.proofs.RemoveLemmas.{filter-remove_other, list_all-remove_last}
 use Rattle.ld_rules.proofs.PlaceLemmas.{all_known, any_of_added, any_with_all, any_with_new, by_pushes}
 use Rattle.ld_rules.proofs.FrameLemmas.{contexts-other}
-use Rattle.ld_rules.proofs.HeldLemmas.{Decides-same_key, held-acquires, held-releases, held-other, held_by-acquires, held_by-releases, held_by-other}
+use Rattle.ld_rules.proofs.HeldLemmas.{Decides-same_key, acquisition_at, has_key, is_of_task, held-acquires, held-releases, held-other, held_by-acquires, held_by-releases, held_by-other}
 use Rattle.ld_rules.proofs.OutcomeLemmas.{events-push, seen-push}
 use Rattle.ld_rules.proofs.FlagLemmas.{is_enabled-other, is_enabled-quiet, enabled_before_enter, enabled_before_disable}
 
@@ -105,20 +107,11 @@ module _ {X Y : Type 0} (same : Y → Y → Bool) (f : X → Y) (t q : X → Boo
 
 -- The uses of an acquisition.
 
--- the lock that an event waits for
-abbrev pub waits_for : PlainEvent → Option PlainLock
-waits_for (Acquire task lock) = Some lock
-waits_for other = None
-
--- the uses of a lock that is waited for in these contexts
-abbrev pub uses_in : List State → Option PlainLock → List Use
-uses_in cs None = []
-uses_in cs (Some lock) = map (λ state. record { class = lock.class; bit = In state }) cs
-
 -- they are those of the contexts before the event
-pub in_uses-is : (past : List PlainEvent) (e : PlainEvent) → in_uses (past ++ e ∷ []) e ≡ uses_in (contexts past (task_of e)) (waits_for e)
-in_uses-is past (Acquire t l) = ap (map (λ state. record { class = l.class; bit = In state })) (contexts-other past t (Acquire t l) refl refl)
+pub in_uses-is : (past : List PlainEvent) (e : PlainEvent) → in_uses (past ++ e ∷ []) e ≡ uses_in (contexts past (task_of e)) (class_awaited e)
+in_uses-is past (Acquire t l) = ap (λ cs. uses_in cs (class_awaited (Acquire t l))) (contexts-other past t (Acquire t l) refl refl)
 in_uses-is past (Try t l) = refl
+in_uses-is past (Nested t l n) = ap (λ cs. uses_in cs (class_awaited (Nested t l n))) (contexts-other past t (Nested t l n) refl refl)
 in_uses-is past (Release t l) = refl
 in_uses-is past (Enter t s) = refl
 in_uses-is past (Exit t s) = refl
@@ -127,17 +120,17 @@ in_uses-is past (Disable t s) = refl
 
 -- The uses of what is held.
 
--- the use of a key held where the state is enabled
-abbrev pub on_use : State → Key → Use
-on_use state key = record { class = key.lock.class; bit = On state }
+-- the use of what is held where the state is enabled
+abbrev pub on_use : State → Acquisition → Use
+on_use state one = record { class = one.class; bit = On state }
 
 -- those of what one task holds, in all its frames
 abbrev pub own_uses : List PlainEvent → List ℕ → State → List Use
 own_uses now task state = map (on_use state) (if is_enabled now task state then held_by now task else [])
 
--- the keys of the other tasks
-abbrev pub of_others : List ℕ → List Key → List Key
-of_others task keys = filter (λ key. not (bytes_eq task key.task)) keys
+-- those of the other tasks
+abbrev pub of_others : List ℕ → List Acquisition → List Acquisition
+of_others task all = filter (λ one. not (is_of_task task one)) all
 
 -- an event changes nothing of what other tasks hold
 pub held-others : (past : List PlainEvent) (e : PlainEvent) → of_others (task_of e) (held (past ++ e ∷ [])) ≡ of_others (task_of e) (held past)
@@ -146,62 +139,63 @@ held-others past e = by e
     acquired : (e : PlainEvent) (lock : PlainLock) → lock_acquired e ≡ Some lock → of_others (task_of e) (held (past ++ e ∷ [])) ≡ of_others (task_of e) (held past)
     acquired e lock is =
         ap (of_others (task_of e)) (held-acquires past e lock is)
-        ∙ filter-append (λ key. not (bytes_eq (task_of e) key.task)) (held past) (record { task = task_of e; frame = frame_of past (task_of e); lock = lock } ∷ [])
-        ∙ ap (λ b. of_others (task_of e) (held past) ++ cond (not b) (record { task = task_of e; frame = frame_of past (task_of e); lock = lock } ∷
+        ∙ filter-append (λ one. not (bytes_eq (task_of e) one.key.task)) (held past) (acquisition_at past e lock ∷ [])
+        ∙ ap (λ b. of_others (task_of e) (held past) ++ cond (not b) (acquisition_at past e lock ∷
         []) []) ((bytes_eq-Decides (task_of e) (task_of e)).1 refl)
         ∙ append-nil (of_others (task_of e) (held past))
 
     by : (e : PlainEvent) → of_others (task_of e) (held (past ++ e ∷ [])) ≡ of_others (task_of e) (held past)
     by (Acquire t l) = acquired (Acquire t l) l refl
     by (Try t l) = acquired (Try t l) l refl
+    by (Nested t l n) = acquired (Nested t l n) l refl
     by (Release t l) =
         ap (of_others t) (held-releases past t l)
-        ∙ filter-remove_other (same_key (record { task = t; frame = frame_of past t; lock = l })) (λ key. not (bytes_eq t key.task))
-        (λ key is. ap not ((bytes_eq-Decides t key.task).1 (ap (λ k. k.task) ((Decides-same_key (record { task = t; frame = frame_of past t; lock = l }) key).0 is)))) (held past)
+        ∙ filter-remove_other (has_key (record { task = t; frame = frame_of past t; lock = l })) (λ one. not (is_of_task t one))
+        (λ one is. ap not ((bytes_eq-Decides t one.key.task).1 (ap (λ k. k.task) ((Decides-same_key (record { task = t; frame = frame_of past t; lock = l }) one.key).0 is)))) (held past)
     by (Enter t s) = ap (of_others t) (held-other past (Enter t s) refl refl)
     by (Exit t s) = ap (of_others t) (held-other past (Exit t s) refl refl)
     by (Enable t s) = ap (of_others t) (held-other past (Enable t s) refl refl)
     by (Disable t s) = ap (of_others t) (held-other past (Disable t s) refl refl)
 
--- what all uses of what is held pass, said of the keys
-list_all_on : (p : Use → Bool) (now : List PlainEvent) (state : State) → list_all p (on_uses now state) ≡ list_all (λ key. not (is_enabled now key.task state) || p (on_use state key)) (held now)
-list_all_on p now state = list_all-map p (on_use state) (filter (λ key. is_enabled now key.task state) (held now)) ∙ list_all-filter
-    (λ key. p (on_use state key)) (λ key. is_enabled now key.task state) (held now)
+-- what all uses of what is held pass, said of what is held
+list_all_on : (p : Use → Bool) (now : List PlainEvent) (state : State) → list_all p (on_uses now state) ≡ list_all (λ one. not (is_enabled now one.key.task state) || p (on_use state one)) (held now)
+list_all_on p now state = list_all-map p (on_use state) (filter (λ one. is_enabled now one.key.task state) (held now)) ∙ list_all-filter
+    (λ one. p (on_use state one)) (λ one. is_enabled now one.key.task state) (held now)
 
--- What all uses standing before an event pass, those of the other tasks' keys pass after it.
+-- What all uses standing before an event pass, those of what other tasks hold pass after it.
 others_kept : (p : Use → Bool) (past : List PlainEvent) (e : PlainEvent) (state : State) → list_all p (on_uses past state) ≡ true → list_all
-    (λ key. not (is_enabled (past ++ e ∷ []) key.task state) || (bytes_eq (task_of e) key.task || p (on_use state key))) (held (past ++ e ∷ [])) ≡ true
+    (λ one. not (is_enabled (past ++ e ∷ []) one.key.task state) || (bytes_eq (task_of e) one.key.task || p (on_use state one))) (held (past ++ e ∷ [])) ≡ true
 others_kept p past e state all =
-    ap (λ (r : Key → Bool). list_all r (held (past ++ e ∷ []))) (λ i key. same key (bytes_eq (task_of e) key.task) refl i)
-    ∙ sym (list_all-filter (λ key. not (is_enabled past key.task state) || p (on_use state key)) (λ key. not (bytes_eq (task_of e) key.task)) (held (past ++ e ∷ [])))
-    ∙ ap (list_all (λ key. not (is_enabled past key.task state) || p (on_use state key))) (held-others past e)
-    ∙ list_all-part (λ key. not (is_enabled past key.task state) || p (on_use state key)) (λ key. not (bytes_eq (task_of e) key.task)) (held past) (sym (list_all_on p past state) ∙ all)
+    ap (λ (r : Acquisition → Bool). list_all r (held (past ++ e ∷ []))) (λ i one. same one (bytes_eq (task_of e) one.key.task) refl i)
+    ∙ sym (list_all-filter (λ one. not (is_enabled past one.key.task state) || p (on_use state one)) (λ one. not (bytes_eq (task_of e) one.key.task)) (held (past ++ e ∷ [])))
+    ∙ ap (list_all (λ one. not (is_enabled past one.key.task state) || p (on_use state one))) (held-others past e)
+    ∙ list_all-part (λ one. not (is_enabled past one.key.task state) || p (on_use state one)) (λ one. not (bytes_eq (task_of e) one.key.task)) (held past) (sym (list_all_on p past state) ∙ all)
   where
     or_true : (b : Bool) → (b || true) ≡ true
     or_true true = refl
     or_true false = refl
 
-    same : (key : Key) (b : Bool) → bytes_eq (task_of e) key.task ≡ b → (not (is_enabled (past ++ e ∷ []) key.task state) ||
-        (b || p (on_use state key))) ≡ (not (not b) || (not (is_enabled past key.task state) || p (on_use state key)))
-    same key true is = or_true (not (is_enabled (past ++ e ∷ []) key.task state))
-    same key false is =
-        let other : bytes_eq key.task (task_of e) ≡ false = swapped key is in
-        ap (λ b. not b || p (on_use state key)) (is_enabled-other past e key.task state other)
+    same : (one : Acquisition) (b : Bool) → bytes_eq (task_of e) one.key.task ≡ b → (not (is_enabled (past ++ e ∷ []) one.key.task state) ||
+        (b || p (on_use state one))) ≡ (not (not b) || (not (is_enabled past one.key.task state) || p (on_use state one)))
+    same one true is = or_true (not (is_enabled (past ++ e ∷ []) one.key.task state))
+    same one false is =
+        let other : bytes_eq one.key.task (task_of e) ≡ false = swapped one is in
+        ap (λ b. not b || p (on_use state one)) (is_enabled-other past e one.key.task state other)
       where
-        swapped : (key : Key) → bytes_eq (task_of e) key.task ≡ false → bytes_eq key.task (task_of e) ≡ false
-        swapped key is = by (bytes_eq key.task (task_of e)) refl
+        swapped : (one : Acquisition) → bytes_eq (task_of e) one.key.task ≡ false → bytes_eq one.key.task (task_of e) ≡ false
+        swapped one is = by (bytes_eq one.key.task (task_of e)) refl
           where
-            by : (b : Bool) → bytes_eq key.task (task_of e) ≡ b → b ≡ false
-            by true eq = absurd (true≢false (sym ((bytes_eq-Decides (task_of e) key.task).1 (sym ((bytes_eq-Decides key.task (task_of e)).0 eq))) ∙ is))
+            by : (b : Bool) → bytes_eq one.key.task (task_of e) ≡ b → b ≡ false
+            by true eq = absurd (true≢false (sym ((bytes_eq-Decides (task_of e) one.key.task).1 (sym ((bytes_eq-Decides one.key.task (task_of e)).0 eq))) ∙ is))
             by false eq = refl
 
--- the keys of one task that count under the state
-own_keys : (now : List PlainEvent) (task : List ℕ) (state : State) → filter (λ key. bytes_eq task key.task && is_enabled now key.task state)
+-- what of one task counts under the state
+own_held : (now : List PlainEvent) (task : List ℕ) (state : State) → filter (λ one. bytes_eq task one.key.task && is_enabled now one.key.task state)
     (held now) ≡ (if is_enabled now task state then held_by now task else [])
-own_keys now task state = filter_where (λ key. bytes_eq task key.task) (λ key. is_enabled now key.task state) (is_enabled now task state)
-    (λ key is. ap (λ t. is_enabled now t state) (sym ((bytes_eq-Decides task key.task).0 is))) (held now) ∙ by (is_enabled now task state)
+own_held now task state = filter_where (λ one. bytes_eq task one.key.task) (λ one. is_enabled now one.key.task state) (is_enabled now task state)
+    (λ one is. ap (λ t. is_enabled now t state) (sym ((bytes_eq-Decides task one.key.task).0 is))) (held now) ∙ by (is_enabled now task state)
   where
-    by : (b : Bool) → filter (λ key. bytes_eq task key.task) (if b then held now else []) ≡ (if b then held_by now task else [])
+    by : (b : Bool) → filter (λ one. bytes_eq task one.key.task) (if b then held now else []) ≡ (if b then held_by now task else [])
     by true = refl
     by false = refl
 
@@ -209,10 +203,10 @@ own_keys now task state = filter_where (λ key. bytes_eq task key.task) (λ key.
 pub own_uses-stand : (p : Use → Bool) (now : List PlainEvent) (task : List ℕ) (state : State) → list_all p (on_uses now state) ≡ true → list_all p (own_uses now task state) ≡ true
 own_uses-stand p now task state all =
     list_all-map p (on_use state) (if is_enabled now task state then held_by now task else [])
-    ∙ ap (list_all (λ key. p (on_use state key))) (sym (own_keys now task state))
-    ∙ list_all-filter (λ key. p (on_use state key)) (λ key. bytes_eq task key.task && is_enabled now key.task state) (held now)
-    ∙ list_all_mono (λ key. not (is_enabled now key.task state) || p (on_use state key)) (λ key. not (bytes_eq task key.task && is_enabled now key.task state) || p (on_use state key))
-    (λ key h. weaker (bytes_eq task key.task) (is_enabled now key.task state) (p (on_use state key)) h) (held now) (sym (list_all_on p now state) ∙ all)
+    ∙ ap (list_all (λ one. p (on_use state one))) (sym (own_held now task state))
+    ∙ list_all-filter (λ one. p (on_use state one)) (λ one. bytes_eq task one.key.task && is_enabled now one.key.task state) (held now)
+    ∙ list_all_mono (λ one. not (is_enabled now one.key.task state) || p (on_use state one)) (λ one. not (bytes_eq task one.key.task && is_enabled now one.key.task state) || p (on_use state one))
+    (λ one h. weaker (bytes_eq task one.key.task) (is_enabled now one.key.task state) (p (on_use state one)) h) (held now) (sym (list_all_on p now state) ∙ all)
   where
     weaker : (t q r : Bool) → (not q || r) ≡ true → (not (t && q) || r) ≡ true
     weaker true q r h = h
@@ -234,7 +228,7 @@ Decides-same_bit (On a) (On b) = (λ h. ap On ((Decides-same_state a b).0 h), λ
 
 pub Decides-same_use : (a b : Use) → Decides (same_use a b) (a ≡ b)
 Decides-same_use a b = Decides-like (same_use a b) (λ h. λ i. record { class = h.0 i; bit = h.1 i }) (λ h. (ap (λ u. u.class) h, ap (λ u. u.bit) h))
-    (Decides-and (bytes_eq a.class b.class) (same_bit a.bit b.bit) (bytes_eq-Decides a.class b.class) (Decides-same_bit a.bit b.bit))
+    (Decides-and (same_class a.class b.class) (same_bit a.bit b.bit) (same_class-Decides a.class b.class) (Decides-same_bit a.bit b.bit))
 
 -- The uses of a trace, each once with its least line.
 
@@ -264,15 +258,15 @@ known_more line known us vs all = list_all_mono (is_known known) (is_known (with
 pub with_on_uses : (past : List PlainEvent) (e : PlainEvent) (state : State) (line : ℕ) (known : List (Seen Use)) → list_all (is_known known)
     (on_uses past state) ≡ true → with_uses line known (on_uses (past ++ e ∷ []) state) ≡ with_uses line known (own_uses (past ++ e ∷ []) (task_of e) state)
 with_on_uses past e state line known all =
-    ap (fold (with_new same_use_seen) known) (map-map (at_line line) (on_use state) (filter (λ key. is_enabled (past ++ e ∷ []) key.task state) (held (past ++ e ∷ []))))
-    ∙ fold_known same_use_seen (λ key. at_line line (on_use state key)) (λ key. bytes_eq (task_of e) key.task)
-    (λ key. is_enabled (past ++ e ∷ []) key.task state) (held (past ++ e ∷ [])) known (others_kept (is_known known) past e state all)
-    ∙ ap (λ keys. fold (with_new same_use_seen) known (map (λ key. at_line line (on_use state key)) keys)) (own_keys (past ++ e ∷ []) (task_of e) state)
+    ap (fold (with_new same_use_seen) known) (map-map (at_line line) (on_use state) (filter (λ one. is_enabled (past ++ e ∷ []) one.key.task state) (held (past ++ e ∷ []))))
+    ∙ fold_known same_use_seen (λ one. at_line line (on_use state one)) (λ one. bytes_eq (task_of e) one.key.task)
+    (λ one. is_enabled (past ++ e ∷ []) one.key.task state) (held (past ++ e ∷ [])) known (others_kept (is_known known) past e state all)
+    ∙ ap (λ those. fold (with_new same_use_seen) known (map (λ one. at_line line (on_use state one)) those)) (own_held (past ++ e ∷ []) (task_of e) state)
     ∙ sym (ap (fold (with_new same_use_seen) known) (map-map (at_line line) (on_use state) (if is_enabled (past ++ e ∷ []) (task_of e) state then held_by (past ++ e ∷ []) (task_of e) else [])))
 
 -- The uses that stand at an event, where those of what is held may be left to `added`.
 abbrev pub uses_with : List PlainEvent → PlainEvent → (State → List Use) → List Use
-uses_with past e added = uses_in (contexts past (task_of e)) (waits_for e) ++ (added Hard ++ added Soft)
+uses_with past e added = uses_in (contexts past (task_of e)) (class_awaited e) ++ (added Hard ++ added Soft)
 
 with_uses_by : (past : List PlainEvent) (e : PlainEvent) (line : ℕ) (added : State → List Use) →
     ((state : State) (known : List (Seen Use)) → list_all (is_known known) (on_uses past state) ≡ true → with_uses line known
@@ -289,19 +283,20 @@ with_uses_by past e line added law known all =
     ∙ sym (with_uses-append line known ins (added Hard ++ added Soft))
   where
     ins : List Use
-    ins = uses_in (contexts past (task_of e)) (waits_for e)
+    ins = uses_in (contexts past (task_of e)) (class_awaited e)
 
--- The keys that an event may newly count under a state: the one that it acquires, and at an `enable` or
+-- What an event may newly count under a state: the acquisition that it is, and at an `enable` or
 -- an `exit` all that its task holds.
-abbrev pub new_keys : List PlainEvent → PlainEvent → List Key
-new_keys past (Acquire task lock) = record { task = task; frame = frame_of past task; lock = lock } ∷ []
-new_keys past (Try task lock) = record { task = task; frame = frame_of past task; lock = lock } ∷ []
-new_keys past (Enable task state) = held_by past task
-new_keys past (Exit task state) = held_by past task
-new_keys past other = []
+abbrev pub newly_held : List PlainEvent → PlainEvent → List Acquisition
+newly_held past (Acquire task lock) = acquisition_at past (Acquire task lock) lock ∷ []
+newly_held past (Try task lock) = acquisition_at past (Try task lock) lock ∷ []
+newly_held past (Nested task lock sub) = acquisition_at past (Nested task lock sub) lock ∷ []
+newly_held past (Enable task state) = held_by past task
+newly_held past (Exit task state) = held_by past task
+newly_held past other = []
 
 abbrev pub new_uses : List PlainEvent → PlainEvent → State → List Use
-new_uses past e state = map (on_use state) (if is_enabled (past ++ e ∷ []) (task_of e) state then new_keys past e else [])
+new_uses past e state = map (on_use state) (if is_enabled (past ++ e ∷ []) (task_of e) state then newly_held past e else [])
 
 -- known uses add nothing
 pub with_known : (line : ℕ) (known : List (Seen Use)) (us : List Use) → list_all (is_known known) us ≡ true → with_uses line known us ≡ known
@@ -309,15 +304,15 @@ with_known line known us all = all_known same_use_seen known (map (at_line line)
 
 module _ (past : List PlainEvent) (state : State) (line : ℕ) (known : List (Seen Use)) (all : list_all (is_known known) (on_uses past state) ≡ true) where
   -- all that the task held, where it counted already, is known
-  held_known : (task : List ℕ) → is_enabled past task state ≡ true → list_all (λ key. is_known known (on_use state key)) (held_by past task) ≡ true
+  held_known : (task : List ℕ) → is_enabled past task state ≡ true → list_all (λ one. is_known known (on_use state one)) (held_by past task) ≡ true
   held_known task on =
-      ap (λ (b : Bool). list_all (λ key. is_known known (on_use state key)) (if b then held_by past task else [])) (sym on)
+      ap (λ (b : Bool). list_all (λ one. is_known known (on_use state one)) (if b then held_by past task else [])) (sym on)
       ∙ sym (list_all-map (is_known known) (on_use state) (if is_enabled past task state then held_by past task else []))
       ∙ own_uses-stand (is_known known) past task state all
 
   -- so nothing of it is added
-  nothing_new : (keys : List Key) → list_all (λ key. is_known known (on_use state key)) keys ≡ true → with_uses line known (map (on_use state) keys) ≡ known
-  nothing_new keys there = with_known line known (map (on_use state) keys) (list_all-map (is_known known) (on_use state) keys ∙ there)
+  nothing_new : (those : List Acquisition) → list_all (λ one. is_known known (on_use state one)) those ≡ true → with_uses line known (map (on_use state) those) ≡ known
+  nothing_new those there = with_known line known (map (on_use state) those) (list_all-map (is_known known) (on_use state) those ∙ there)
 
   if_nothing : (b : Bool) → known ≡ with_uses line known (map (on_use state) (if b then [] else []))
   if_nothing true = refl
@@ -325,27 +320,27 @@ module _ (past : List PlainEvent) (state : State) (line : ℕ) (known : List (Se
 
   new-acquires : (e : PlainEvent) (lock : PlainLock) → lock_acquired e ≡ Some lock → is_interrupt e ≡ false → with_uses line known
       (own_uses (past ++ e ∷ []) (task_of e) state) ≡ with_uses line known (map (on_use state)
-      (if is_enabled (past ++ e ∷ []) (task_of e) state then record { task = task_of e; frame = frame_of past (task_of e); lock = lock } ∷ [] else []))
+      (if is_enabled (past ++ e ∷ []) (task_of e) state then acquisition_at past e lock ∷ [] else []))
   new-acquires e lock is quiet = by (is_enabled (past ++ e ∷ []) (task_of e) state) refl
     where
-      keys : held_by (past ++ e ∷ []) (task_of e) ≡ held_by past (task_of e) ++ record { task = task_of e; frame = frame_of past (task_of e); lock = lock } ∷ []
-      keys = held_by-acquires past (task_of e) e lock is ∙ ap (λ (b : Bool). held_by past (task_of e) ++
-          (if b then record { task = task_of e; frame = frame_of past (task_of e); lock = lock } ∷ [] else [])) ((bytes_eq-Decides (task_of e) (task_of e)).1 refl)
+      those : held_by (past ++ e ∷ []) (task_of e) ≡ held_by past (task_of e) ++ acquisition_at past e lock ∷ []
+      those = held_by-acquires past (task_of e) e lock is ∙ ap (λ (b : Bool). held_by past (task_of e) ++
+          (if b then acquisition_at past e lock ∷ [] else [])) ((bytes_eq-Decides (task_of e) (task_of e)).1 refl)
 
       by : (b : Bool) → is_enabled (past ++ e ∷ []) (task_of e) state ≡ b → with_uses line known
           (map (on_use state) (if b then held_by (past ++ e ∷ []) (task_of e) else [])) ≡ with_uses line known
-          (map (on_use state) (if b then record { task = task_of e; frame = frame_of past (task_of e); lock = lock } ∷ [] else []))
+          (map (on_use state) (if b then acquisition_at past e lock ∷ [] else []))
       by true on =
-          ap (λ ks. with_uses line known (map (on_use state) ks)) keys
-          ∙ ap (with_uses line known) (map-append (on_use state) (held_by past (task_of e)) (record { task = task_of e; frame = frame_of past (task_of e); lock = lock } ∷ []))
-          ∙ with_uses-append line known (map (on_use state) (held_by past (task_of e))) (on_use state (record { task = task_of e; frame = frame_of past (task_of e); lock = lock }) ∷ [])
-          ∙ ap (λ ks. with_uses line ks (on_use state (record { task = task_of e; frame = frame_of past (task_of e); lock = lock }) ∷ []))
+          ap (λ ks. with_uses line known (map (on_use state) ks)) those
+          ∙ ap (with_uses line known) (map-append (on_use state) (held_by past (task_of e)) (acquisition_at past e lock ∷ []))
+          ∙ with_uses-append line known (map (on_use state) (held_by past (task_of e))) (on_use state (acquisition_at past e lock) ∷ [])
+          ∙ ap (λ ks. with_uses line ks (on_use state (acquisition_at past e lock) ∷ []))
           (nothing_new (held_by past (task_of e)) (held_known (task_of e) (sym (is_enabled-quiet past e (task_of e) state quiet) ∙ on)))
       by false on = refl
 
-  -- where no key is new and what is enabled was, nothing is added
+  -- where nothing is newly held and what is enabled was, nothing is added
   new-none : (e : PlainEvent) → (is_enabled (past ++ e ∷ []) (task_of e) state ≡ true → is_enabled past (task_of e) state ≡ true) →
-      (list_all (λ key. is_known known (on_use state key)) (held_by past (task_of e)) ≡ true → list_all (λ key. is_known known (on_use state key))
+      (list_all (λ one. is_known known (on_use state one)) (held_by past (task_of e)) ≡ true → list_all (λ one. is_known known (on_use state one))
       (held_by (past ++ e ∷ []) (task_of e)) ≡ true) → with_uses line known (own_uses (past ++ e ∷ []) (task_of e) state) ≡ with_uses line known
       (map (on_use state) (if is_enabled (past ++ e ∷ []) (task_of e) state then [] else []))
   new-none e was less = by (is_enabled (past ++ e ∷ []) (task_of e) state) refl ∙ if_nothing (is_enabled (past ++ e ∷ []) (task_of e) state)
@@ -354,20 +349,21 @@ module _ (past : List PlainEvent) (state : State) (line : ℕ) (known : List (Se
       by true on = nothing_new (held_by (past ++ e ∷ []) (task_of e)) (less (held_known (task_of e) (was on)))
       by false on = refl
 
-  -- Of what its own task holds an event adds no other uses than those of its new keys.
-  pub with_new_keys : (e : PlainEvent) → with_uses line known (own_uses (past ++ e ∷ []) (task_of e) state) ≡ with_uses line known (new_uses past e state)
-  with_new_keys (Acquire t l) = new-acquires (Acquire t l) l refl refl
-  with_new_keys (Try t l) = new-acquires (Try t l) l refl refl
-  with_new_keys (Release t l) =
+  -- Of what its own task holds an event adds no other uses than those that it may newly count.
+  pub with_newly_held : (e : PlainEvent) → with_uses line known (own_uses (past ++ e ∷ []) (task_of e) state) ≡ with_uses line known (new_uses past e state)
+  with_newly_held (Acquire t l) = new-acquires (Acquire t l) l refl refl
+  with_newly_held (Try t l) = new-acquires (Try t l) l refl refl
+  with_newly_held (Nested t l n) = new-acquires (Nested t l n) l refl refl
+  with_newly_held (Release t l) =
       new-none (Release t l) (λ on. sym (is_enabled-quiet past (Release t l) t state refl) ∙ on)
-      (λ there. ap (list_all (λ key. is_known known (on_use state key))) (held_by-releases past t l) ∙ list_all-remove_last
-      (same_key (record { task = t; frame = frame_of past t; lock = l })) (λ key. is_known known (on_use state key)) (held_by past t) there)
-  with_new_keys (Enter t s) = new-none (Enter t s) (enabled_before_enter past t s state)
-      (λ there. ap (list_all (λ key. is_known known (on_use state key))) (held_by-other past t (Enter t s) refl refl) ∙ there)
-  with_new_keys (Exit t s) = ap (λ ks. with_uses line known (map (on_use state) (if is_enabled (past ++ Exit t s ∷ []) t state then ks else []))) (held_by-other past t (Exit t s) refl refl)
-  with_new_keys (Enable t s) = ap (λ ks. with_uses line known (map (on_use state) (if is_enabled (past ++ Enable t s ∷ []) t state then ks else []))) (held_by-other past t (Enable t s) refl refl)
-  with_new_keys (Disable t s) = new-none (Disable t s) (enabled_before_disable past t s state)
-      (λ there. ap (list_all (λ key. is_known known (on_use state key))) (held_by-other past t (Disable t s) refl refl) ∙ there)
+      (λ there. ap (list_all (λ one. is_known known (on_use state one))) (held_by-releases past t l) ∙ list_all-remove_last
+      (has_key (record { task = t; frame = frame_of past t; lock = l })) (λ one. is_known known (on_use state one)) (held_by past t) there)
+  with_newly_held (Enter t s) = new-none (Enter t s) (enabled_before_enter past t s state)
+      (λ there. ap (list_all (λ one. is_known known (on_use state one))) (held_by-other past t (Enter t s) refl refl) ∙ there)
+  with_newly_held (Exit t s) = ap (λ ks. with_uses line known (map (on_use state) (if is_enabled (past ++ Exit t s ∷ []) t state then ks else []))) (held_by-other past t (Exit t s) refl refl)
+  with_newly_held (Enable t s) = ap (λ ks. with_uses line known (map (on_use state) (if is_enabled (past ++ Enable t s ∷ []) t state then ks else []))) (held_by-other past t (Enable t s) refl refl)
+  with_newly_held (Disable t s) = new-none (Disable t s) (enabled_before_disable past t s state)
+      (λ there. ap (list_all (λ one. is_known known (on_use state one))) (held_by-other past t (Disable t s) refl refl) ∙ there)
 
 -- The uses that an event may newly show.
 abbrev pub new_uses_at : List PlainEvent → PlainEvent → List Use
@@ -376,7 +372,7 @@ new_uses_at past e = uses_with past e (new_uses past e)
 pub with_new_uses_at : (past : List PlainEvent) (e : PlainEvent) (line : ℕ) (known : List (Seen Use)) →
     ((state : State) → list_all (is_known known) (on_uses past state) ≡ true) → with_uses line known (uses_at past e) ≡ with_uses line known (new_uses_at past e)
 with_new_uses_at past e line known all = with_uses_by past e line (new_uses past e)
-    (λ state more there. with_on_uses past e state line more there ∙ with_new_keys past state line more there e) known all
+    (λ state more there. with_on_uses past e state line more there ∙ with_newly_held past state line more there e) known all
 
 -- what stands in the middle of a list stands in it
 all_within : {Y : Type 0} (same : Y → Y → Bool) → ((y : Y) → same y y ≡ true) → (front ys back : List Y) → list_all (λ y. list_any (same y) (front ++ (ys ++ back))) ys ≡ true

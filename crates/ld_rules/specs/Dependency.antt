@@ -1,31 +1,33 @@
 -- *Dependency*.
 use Rattle.std.specs.Prelude.{ℕ, Bool, ◌&&◌, List, [], map, min, take, filter, flat_map, Option}
-use Rattle.std.specs.Prelude.{Result, Ok, Err}
+use Rattle.std.specs.Prelude.{Some, None, Result, Ok, Err}
 use Rattle.std.specs.List.{enumerate_from, reduce}
-use Rattle.std.specs.Str.{bytes_eq}
+use Rattle.ld_class.specs.Names.{PlainClass, same_class}
 use Rattle.ld_trace.specs.declared.event.LineFault.{LineFault}
 use Rattle.ld_trace.specs.Events.{PlainEvent, Position}
-use Rattle.ld_trace.specs.Events.PlainEvent.{Acquire}
-use Rattle.ld_rules.specs.Frames.{frame_of}
-use Rattle.ld_rules.specs.Held.{held_in}
+use Rattle.ld_rules.specs.Frames.{frame_of, task_of}
+use Rattle.ld_rules.specs.Held.{class_awaited, held_in}
 use Rattle.ld_rules.specs.Outcome.{events}
 
 -- (a, b): the class of a lock that was held, and that of the lock acquired under it
 pub record Dependency : Type 0 where
-  pub from : List ℕ
-  pub to : List ℕ
+  pub from : PlainClass
+  pub to : PlainClass
 
 abbrev pub same_dependency : Dependency → Dependency → Bool
-same_dependency a b = bytes_eq a.from b.from && bytes_eq a.to b.to
+same_dependency a b = same_class a.from b.from && same_class a.to b.to
+
+-- those of a task that waits for this class, if it waits
+abbrev pub dependencies_to : List PlainEvent → List ℕ → Option PlainClass → List Dependency
+dependencies_to past task None = []
+dependencies_to past task (Some class) =
+    map (λ one. record { from = one.class; to = class }) (held_in past task (frame_of past task))
 
 -- The dependencies that stand at an event after these. (a, b) stands at p if p is a waiting
 -- acquisition of class b by t and some acquisition of class a by t, of the same frame, is open just
 -- before p.
 abbrev pub dependencies_at : List PlainEvent → PlainEvent → List Dependency
-dependencies_at past (Acquire task lock) =
-    map (λ key. record { from = key.lock.class; to = lock.class })
-    (held_in past task (frame_of past task))
-dependencies_at past other = []
+dependencies_at past event = dependencies_to past (task_of event) (class_awaited event)
 
 -- something that stands at a line
 pub record Seen (A : Type 0) : Type 0 where

@@ -5,13 +5,15 @@ use Rattle.std.specs.List.{last_or}
 use Rattle.std.specs.Str.{bytes_eq}
 use Rattle.ld_trace.specs.declared.event.State.{State}
 use Rattle.ld_trace.specs.Events.{PlainEvent}
-use Rattle.ld_trace.specs.Events.PlainEvent.{Acquire, Try, Release, Enter, Exit, Enable, Disable}
+use Rattle.ld_trace.specs.Events.PlainEvent.{Acquire, Try, Nested, Release}
+use Rattle.ld_trace.specs.Events.PlainEvent.{Enter, Exit, Enable, Disable}
 use Rattle.ld_rules.specs.Open.{Opening, openings}
 
 -- the task that an event is of
 abbrev pub task_of : PlainEvent → List ℕ
 task_of (Acquire task lock) = task
 task_of (Try task lock) = task
+task_of (Nested task lock sub) = task
 task_of (Release task lock) = task
 task_of (Enter task state) = task
 task_of (Exit task state) = task

@@ -3,9 +3,10 @@ use Rattle.std.specs.Prelude.{ℕ, ◌+◌, Bool, true, false, ◌&&◌, ◌==�
 use Rattle.std.specs.Prelude.{Option, Some, None}
 use Rattle.std.specs.List.{enumerate_from}
 use Rattle.std.specs.Str.{bytes_eq}
+use Rattle.ld_class.specs.Names.{PlainClass}
 use Rattle.ld_trace.specs.Events.{PlainEvent, PlainLock}
-use Rattle.ld_trace.specs.Events.PlainEvent.{Acquire, Try, Release}
-use Rattle.ld_rules.specs.Open.{openings}
+use Rattle.ld_trace.specs.Events.PlainEvent.{Acquire, Try, Nested, Release}
+use Rattle.ld_rules.specs.Open.{Opening, openings}
 use Rattle.ld_rules.specs.Frames.{task_of, frame_of}
 
 -- an event, and the frame of its task there
@@ -19,21 +20,38 @@ placed past =
     map (λ p. record { event = p.1; frame = frame_of (take (p.0 + 1) past) (task_of p.1) })
     (enumerate_from 0 past)
 
--- the key of an acquisition or release: its task, that task's frame there, and its lock
+-- the key of an acquisition or release: its task, that task's frame there, and its lock, whatever
+-- the subclass
 pub record Key : Type 0 where
   pub task : List ℕ
   pub frame : Option ℕ
   pub lock : PlainLock
 
--- an acquisition is an `acquire` or a `try`
+-- an acquisition is an `acquire`, a `try` or a `nested`
 abbrev pub lock_acquired : PlainEvent → Option PlainLock
 lock_acquired (Acquire task lock) = Some lock
 lock_acquired (Try task lock) = Some lock
+lock_acquired (Nested task lock sub) = Some lock
 lock_acquired other = None
 
 abbrev pub lock_released : PlainEvent → Option PlainLock
 lock_released (Release task lock) = Some lock
 lock_released other = None
+
+-- the class of a lock: its class part, of this subclass
+abbrev pub class_with : PlainLock → ℕ → PlainClass
+class_with lock sub = record { name = lock.class; sub = sub }
+
+-- the subclass that an event names: N of a `nested`, and 0, which is none, of any other
+abbrev pub sub_of : PlainEvent → ℕ
+sub_of (Nested task lock sub) = sub
+sub_of other = 0
+
+-- a waiting acquisition is an `acquire` or a `nested`: the class that it waits for
+abbrev pub class_awaited : PlainEvent → Option PlainClass
+class_awaited (Acquire task lock) = Some (class_with lock 0)
+class_awaited (Nested task lock sub) = Some (class_with lock sub)
+class_awaited other = None
 
 -- the key of an event that names this lock
 abbrev pub key_with : Placed → Option PlainLock → Option Key
@@ -63,16 +81,23 @@ same_lock a b = bytes_eq a.class b.class && same_option bytes_eq a.instance b.in
 abbrev pub same_key : Key → Key → Bool
 same_key a b = bytes_eq a.task b.task && same_frame a.frame b.frame && same_lock a.lock b.lock
 
--- The keys of the open acquisitions, in order of position. An acquisition at i is open at p if for
--- each q in (i, p] the releases of its key in (i, q] are no more than the acquisitions of its key
--- there.
-abbrev pub held : List PlainEvent → List Key
-held past = map (λ o. o.key) (openings same_key acquires releases (placed past))
+-- an acquisition that is open: its key, and the class that it acquired
+pub record Acquisition : Type 0 where
+  pub key : Key
+  pub class : PlainClass
+
+abbrev pub acquisition_of : Opening Placed Key → Acquisition
+acquisition_of o = record { key = o.key; class = class_with o.key.lock (sub_of o.element.event) }
+
+-- The open acquisitions, in order of position. An acquisition at i is open at p if for each q in
+-- (i, p] the releases of its key in (i, q] are no more than the acquisitions of its key there.
+abbrev pub held : List PlainEvent → List Acquisition
+held past = map acquisition_of (openings same_key acquires releases (placed past))
 
 -- those of one task, over all its frames
-abbrev pub held_by : List PlainEvent → List ℕ → List Key
-held_by past task = filter (λ key. bytes_eq task key.task) (held past)
+abbrev pub held_by : List PlainEvent → List ℕ → List Acquisition
+held_by past task = filter (λ one. bytes_eq task one.key.task) (held past)
 
 -- those of one task in one frame of it
-abbrev pub held_in : List PlainEvent → List ℕ → Option ℕ → List Key
-held_in past task frame = filter (λ key. same_frame frame key.frame) (held_by past task)
+abbrev pub held_in : List PlainEvent → List ℕ → Option ℕ → List Acquisition
+held_in past task frame = filter (λ one. same_frame frame one.key.frame) (held_by past task)

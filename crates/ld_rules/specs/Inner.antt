@@ -1,3 +1,3 @@
--- What only invariants, private functions and proofs cite: a reader of the promises needs none of it.
+-- What proofs cite, and what a scan keeps is compared with: a reader of the promises needs none of it.
 pub mod Levels
 pub mod Scanned

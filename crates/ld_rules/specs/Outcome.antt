@@ -4,6 +4,7 @@ use Rattle.std.specs.Prelude.{filter_map, slice_get, Option, Some, None, option_
 use Rattle.std.specs.Prelude.{Err, if◌then◌else◌, codes}
 use Rattle.std.specs.List.{enumerate_from, list_any, last_or}
 use Rattle.std.specs.Str.{bytes_eq}
+use Rattle.ld_class.specs.Names.{PlainClass, same_class}
 use Rattle.ld_trace.specs.declared.event.State.TheVariants.{Hard, Soft}
 use Rattle.ld_trace.specs.declared.event.LineFault.{LineFault}
 use Rattle.ld_trace.specs.declared.event.LineFault.TheVariants as line_faults
@@ -21,7 +22,7 @@ use Rattle.ld_rules.specs.declared.outcome.Outcome.TheVariants.{Read, Refused}
 use Rattle.ld_rules.specs.declared.outcome.TheConstants.{MOST_TASKS, MOST_CLASSES, MOST_HELD}
 use Rattle.ld_rules.specs.Open.{is_some_and}
 use Rattle.ld_rules.specs.Frames.{task_of, frame_of, contexts}
-use Rattle.ld_rules.specs.Held.{lock_acquired, held, held_by, held_in, same_key}
+use Rattle.ld_rules.specs.Held.{Key, class_with, lock_acquired, held, held_by, held_in, same_key, sub_of}
 use Rattle.ld_rules.specs.Flags.{same_state, is_enabled}
 
 -- the elements without those that are the same as an earlier one
@@ -31,26 +32,26 @@ each_once same xs =
     (enumerate_from 0 xs)
 
 -- the class that an event acquires
-abbrev pub class_acquired : PlainEvent → Option (List ℕ)
-class_acquired event = option_map (λ lock. lock.class) (lock_acquired event)
+abbrev pub class_acquired : PlainEvent → Option PlainClass
+class_acquired event = option_map (λ lock. class_with lock (sub_of event)) (lock_acquired event)
 
 -- the tasks of a trace, in order of first event
 abbrev pub tasks : List PlainEvent → List (List ℕ)
 tasks past = each_once bytes_eq (map task_of past)
 
 -- the classes of a trace, in order of first acquisition
-abbrev pub classes : List PlainEvent → List (List ℕ)
-classes past = each_once bytes_eq (filter_map class_acquired past)
+abbrev pub classes : List PlainEvent → List PlainClass
+classes past = each_once same_class (filter_map class_acquired past)
 
 -- the name is none of these, of which there are as many as there may be
-abbrev pub is_one_too_many : ℕ → List (List ℕ) → List ℕ → Bool
-is_one_too_many most names name = length names == most && not (list_any (bytes_eq name) names)
+abbrev pub is_one_too_many : {A : Type 0} → (A → A → Bool) → ℕ → List A → A → Bool
+is_one_too_many same most names name = length names == most && not (list_any (same name) names)
 
 -- the conditions of the faults that an event has by what came before it, each by its fault's name
 
 abbrev pub has_too_many_classes : List PlainEvent → PlainEvent → Bool
 has_too_many_classes past event =
-    is_some_and (is_one_too_many MOST_CLASSES (classes past)) (class_acquired event)
+    is_some_and (is_one_too_many same_class MOST_CLASSES (classes past)) (class_acquired event)
 
 abbrev pub is_too_deep : List PlainEvent → PlainEvent → Bool
 is_too_deep past event =
@@ -58,8 +59,8 @@ is_too_deep past event =
 
 abbrev pub is_not_held : List PlainEvent → PlainEvent → Bool
 is_not_held past (Release task lock) =
-    not (list_any (same_key (record { task = task; frame = frame_of past task; lock = lock }))
-    (held past))
+    let key : Key = record { task = task; frame = frame_of past task; lock = lock } in
+    not (list_any (λ one. same_key key one.key) (held past))
 is_not_held past other = false
 
 abbrev pub is_badly_nested : List PlainEvent → PlainEvent → Bool
@@ -78,7 +79,7 @@ is_bad_exit past other = false
 
 abbrev pub is_held_at_exit : List PlainEvent → PlainEvent → Bool
 is_held_at_exit past (Exit task state) =
-    list_any (λ key. true) (held_in past task (frame_of past task))
+    list_any (λ one. true) (held_in past task (frame_of past task))
 is_held_at_exit past other = false
 
 abbrev pub is_bad_enable : List PlainEvent → PlainEvent → Bool
@@ -88,7 +89,7 @@ is_bad_enable past other = false
 -- the fault of an event after these, by the first condition that holds
 abbrev pub event_fault : List PlainEvent → PlainEvent → Option TraceFault
 event_fault past event =
-    if is_one_too_many MOST_TASKS (tasks past) (task_of event) then Some TooManyTasks
+    if is_one_too_many bytes_eq MOST_TASKS (tasks past) (task_of event) then Some TooManyTasks
     else if has_too_many_classes past event then Some TooManyClasses
     else if is_too_deep past event then Some TooDeep
     else if is_not_held past event then Some NotHeld

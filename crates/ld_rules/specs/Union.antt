@@ -1,8 +1,8 @@
 -- *Union*: what the sources that are read show together, and where it was first seen.
-use Rattle.std.specs.Prelude.{ℕ, Bool, ◌&&◌, ◌||◌, ◌==◌, nat_lt, List, [], map, flat_map}
+use Rattle.std.specs.Prelude.{Bool, ◌&&◌, ◌||◌, ◌==◌, nat_lt, List, [], map, flat_map}
 use Rattle.std.specs.Prelude.{filter_map, Option, option_map, if◌then◌else◌}
 use Rattle.std.specs.List.{reduce}
-use Rattle.std.specs.Str.{bytes_eq}
+use Rattle.ld_class.specs.Names.{PlainClass, same_class}
 use Rattle.ld_trace.specs.Sources.{PlainSource}
 use Rattle.ld_trace.specs.Events.{positions}
 use Rattle.ld_rules.specs.declared.outcome.Outcome.{Outcome}
@@ -19,7 +19,7 @@ if_read (Read count) shown = shown
 if_read (Refused line fault) shown = []
 
 -- the classes of a source, in order of first acquisition
-abbrev pub classes_of : PlainSource → List (List ℕ)
+abbrev pub classes_of : PlainSource → List PlainClass
 classes_of source = if_read (outcome source) (classes (events (positions source)))
 
 -- the dependencies of a source, with the lines at which they stand, in order of line
@@ -52,8 +52,8 @@ first_witness same shown sources what =
     sources)
 
 -- the classes of the union, each once
-abbrev pub union_classes : List PlainSource → List (List ℕ)
-union_classes sources = each_once bytes_eq (flat_map classes_of sources)
+abbrev pub union_classes : List PlainSource → List PlainClass
+union_classes sources = each_once same_class (flat_map classes_of sources)
 
 -- the dependencies of the union, each once
 abbrev pub union_dependencies : List PlainSource → List Dependency

@@ -8,19 +8,19 @@ use ld_trace::LineFault;
 /// them in this order.
 #[derive(Clone, Copy, Debug, PartialEq, Eq)]
 pub enum TraceFault {
-    /// The first field is none of the seven verbs.
+    /// The first field is none of the eight verbs.
     BadVerb,
-    /// The fields aren't three.
+    /// The fields aren't as many as the verb has.
     BadCount,
-    /// The task or the lock isn't spelled as one.
+    /// The task or the lock isn't spelled as one, or a subclass isn't `1` to `7`.
     BadName,
     /// The state is neither `hard` nor `soft`.
     BadState,
     /// The event's task is new, and the trace has 1,024 tasks.
     TooManyTasks,
-    /// An `acquire` or `try` of a new class, in a trace that has 8,191 classes.
+    /// An `acquire`, `try` or `nested` of a new class, in a trace that has 8,191 classes.
     TooManyClasses,
-    /// An `acquire` or `try` by a task that holds 48 locks over all its frames.
+    /// An `acquire`, `try` or `nested` by a task that holds 48 locks over all its frames.
     TooDeep,
     /// A `release` of a lock that the task doesn't hold in its innermost frame.
     NotHeld,

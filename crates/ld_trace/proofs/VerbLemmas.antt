@@ -3,7 +3,7 @@ use Rattle.std.proofs.Common.{ℕ, ◌≡◌, ◌≢◌, Bool, true, false, List
 use Rattle.std.specs.Str.{bytes_eq}
 use Rattle.std.proofs.lemmas.Slice.Eq.{bytes_eq-Decides}
 use Rattle.ld_trace.specs.declared.event.Verb.{Verb}
-use Rattle.ld_trace.specs.declared.event.Verb.TheVariants.{OfLock, OfState}
+use Rattle.ld_trace.specs.declared.event.Verb.TheVariants.{OfLock, OfState, Nested}
 use Rattle.ld_trace.specs.declared.event.LockVerb.TheVariants as lock_verbs
 use Rattle.ld_trace.specs.declared.event.StateVerb.TheVariants as state_verbs
 use Rattle.ld_trace.specs.declared.event.LineFault.TheVariants.{BadVerb}
@@ -20,6 +20,7 @@ said-verb (OfState state_verbs.Enter) found = refl
 said-verb (OfState state_verbs.Exit) found = refl
 said-verb (OfState state_verbs.Enable) found = refl
 said-verb (OfState state_verbs.Disable) found = refl
+said-verb Nested found = refl
 
 differs : (field text : List ℕ) → field ≢ text → bytes_eq field text ≡ false
 differs field text apart = by (bytes_eq field text) refl
@@ -34,6 +35,7 @@ said-no_verb field found event apart =
     rw (
       event,
       differs field (codes "acquire") (apart (OfLock lock_verbs.Acquire)),
+      differs field (codes "nested") (apart Nested),
       differs field (codes "try") (apart (OfLock lock_verbs.Try)),
       differs field (codes "release") (apart (OfLock lock_verbs.Release)),
       differs field (codes "enter") (apart (OfState state_verbs.Enter)),

@@ -1,5 +1,5 @@
 -- The event that a line names, or its fault.
-use Rattle.std.specs.Prelude.{ℕ, Bool, ◌&&◌, ◌==◌, List, [], ◌∷◌, Option, Some, None, Result, Ok, Err, if◌then◌else◌, codes}
+use Rattle.std.specs.Prelude.{ℕ, ◌-◌, Bool, ◌&&◌, ◌==◌, nat_le, List, [], ◌∷◌, Option, Some, None, Result, Ok, Err, if◌then◌else◌, codes}
 use Rattle.std.specs.List.{filter_map, enumerate_from, before_first, after_first}
 use Rattle.std.specs.Option.{option_map}
 use Rattle.std.specs.Str.{bytes_eq}
@@ -18,9 +18,10 @@ pub record PlainLock : Type 0 where
   pub class : List ℕ
   pub instance : Option (List ℕ)
 
--- an event: verb, task, and lock or state
+-- an event: verb, task, and lock or state; a nested one says its subclass too
 pub data PlainEvent : Type 0 where
   Acquire : (task : List ℕ) (lock : PlainLock) → PlainEvent
+  Nested : (task : List ℕ) (lock : PlainLock) (sub : ℕ) → PlainEvent
   Try : (task : List ℕ) (lock : PlainLock) → PlainEvent
   Release : (task : List ℕ) (lock : PlainLock) → PlainEvent
   Enter : (task : List ℕ) (state : State) → PlainEvent
@@ -33,6 +34,7 @@ plain_lock lock = record { class = lock.class.now; instance = option_map (λ nam
 
 abbrev pub plain_event : Event → PlainEvent
 plain_event (events.Acquire task lock) = Acquire task.now (plain_lock lock)
+plain_event (events.Nested task lock sub) = Nested task.now (plain_lock lock) sub
 plain_event (events.Try task lock) = Try task.now (plain_lock lock)
 plain_event (events.Release task lock) = Release task.now (plain_lock lock)
 plain_event (events.Enter task state) = Enter task.now state
@@ -52,6 +54,12 @@ lock_of field =
     if is_name field then Some (record { class = field; instance = None })
     else if is_name class && is_name instance then Some (record { class = class; instance = Some instance })
     else None
+
+-- an N is one byte from `1` to `7`
+abbrev pub sub_of : List ℕ → Option ℕ
+sub_of [] = None
+sub_of (b ∷ []) = if nat_le 49 b && nat_le b 55 then Some (b - 48) else None
+sub_of (b ∷ second ∷ others) = None
 
 -- a STATE is `hard` or `soft`
 abbrev pub state_of : List ℕ → Option State
@@ -81,6 +89,19 @@ said_of_lock make (task ∷ []) = Err BadCount
 said_of_lock make (task ∷ lock ∷ []) = if is_word task then said_with (make task) BadName (lock_of lock) else Err BadName
 said_of_lock make (task ∷ lock ∷ fourth ∷ others) = Err BadCount
 
+-- the nested acquisition by a task, where its lock and its N mean something
+abbrev pub said_nested : List ℕ → Option PlainLock → Option ℕ → Said
+said_nested task None sub = Err BadName
+said_nested task (Some lock) sub = said_with (Nested task lock) BadName sub
+
+-- what follows the verb that takes a TASK, a LOCK and an N
+abbrev pub said_of_nested : List (List ℕ) → Said
+said_of_nested [] = Err BadCount
+said_of_nested (task ∷ []) = Err BadCount
+said_of_nested (task ∷ lock ∷ []) = Err BadCount
+said_of_nested (task ∷ lock ∷ sub ∷ []) = if is_word task then said_nested task (lock_of lock) (sub_of sub) else Err BadName
+said_of_nested (task ∷ lock ∷ sub ∷ fifth ∷ others) = Err BadCount
+
 -- what follows a verb that takes a TASK and a STATE
 abbrev pub said_of_state : (List ℕ → State → PlainEvent) → List (List ℕ) → Said
 said_of_state make [] = Err BadCount
@@ -94,6 +115,7 @@ said_by_fields [] = Ok None
 said_by_fields (verb ∷ others) =
     if begins_comment verb then Ok None
     else if bytes_eq verb (codes "acquire") then said_of_lock Acquire others
+    else if bytes_eq verb (codes "nested") then said_of_nested others
     else if bytes_eq verb (codes "try") then said_of_lock Try others
     else if bytes_eq verb (codes "release") then said_of_lock Release others
     else if bytes_eq verb (codes "enter") then said_of_state Enter others

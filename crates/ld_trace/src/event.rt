@@ -2,9 +2,9 @@
 ghost use Rattle.std.specs.Prelude.{◌≡◌, ◌≢◌, ◌<◌, ℕ, List, IfSome, IfNone, length};
 ghost use Rattle.std.specs.List.{position};
 ghost use Rattle.std.specs.Option.{option_map};
-ghost use Rattle.ld_trace.specs.Events.{PlainEvent, PlainLock, answer_seen, is_sign, lock_of, plain_lock, said_by, said_of_lock, said_of_state, state_of};
+ghost use Rattle.ld_trace.specs.Events.{PlainEvent, PlainLock, answer_seen, is_sign, lock_of, plain_lock, said_by, said_of_lock, said_of_nested, said_of_state, state_of, sub_of};
 ghost use Rattle.ld_trace.specs.Lines.{fields};
-ghost use Rattle.ld_trace.specs.Inner.Reading.{both_now, two_fields_of, said_with_lock, said_with_state};
+ghost use Rattle.ld_trace.specs.Inner.Reading.{all_now, both_now, three_fields_of, two_fields_of, said_with_lock, said_with_state};
 
 use crate::line::{begins_comment, is_name, is_word, next_field};
 
@@ -26,19 +26,46 @@ pub enum State {
 #[derive(Clone, Copy, Debug, PartialEq, Eq)]
 pub enum Event<'a> {
     /// It acquires the lock, and may wait for it.
-    Acquire { task: &'a [u8], lock: Lock<'a> },
+    Acquire {
+        task: &'a [u8],
+        lock: Lock<'a>,
+    },
+    /// It acquires the lock as one of this subclass of its class, from 1 to 7, and may wait for it.
+    Nested {
+        task: &'a [u8],
+        lock: Lock<'a>,
+        sub: u8,
+    },
     /// It acquires the lock by a trylock that succeeded, so it didn't wait.
-    Try { task: &'a [u8], lock: Lock<'a> },
+    Try {
+        task: &'a [u8],
+        lock: Lock<'a>,
+    },
     /// It releases the lock.
-    Release { task: &'a [u8], lock: Lock<'a> },
+    Release {
+        task: &'a [u8],
+        lock: Lock<'a>,
+    },
     /// An interrupt handler begins over it.
-    Enter { task: &'a [u8], state: State },
+    Enter {
+        task: &'a [u8],
+        state: State,
+    },
     /// That handler ends.
-    Exit { task: &'a [u8], state: State },
+    Exit {
+        task: &'a [u8],
+        state: State,
+    },
     /// Its flag for the state goes on.
-    Enable { task: &'a [u8], state: State },
+    Enable {
+        task: &'a [u8],
+        state: State,
+    },
     /// Its flag for the state goes off.
-    Disable { task: &'a [u8], state: State },
+    Disable {
+        task: &'a [u8],
+        state: State,
+    },
 }
 
 /// What is wrong with a line by itself. Where several apply, it is the first in this order.
@@ -46,9 +73,9 @@ pub enum Event<'a> {
 pub enum LineFault {
     /// The first field is no verb.
     BadVerb,
-    /// The fields aren't three.
+    /// The fields aren't as many as the verb has.
     BadCount,
-    /// The task or the lock isn't spelled as one.
+    /// The task, the lock or the subclass isn't spelled as one.
     BadName,
     /// The state is neither `hard` nor `soft`.
     BadState,
@@ -76,6 +103,8 @@ pub fn read_event(line: &[u8]) -> Result<Option<Event<'_>>, LineFault>
 enum Verb {
     OfLock(LockVerb),
     OfState(StateVerb),
+    /// A task, a lock and a subclass follow it.
+    Nested,
 }
 
 /// A verb that takes a task and a lock.
@@ -106,6 +135,7 @@ impl Verb {
             Some(verb) => Some(Verb::OfLock(verb)),
             None => match StateVerb::of(field) {
                 Some(verb) => Some(Verb::OfState(verb)),
+                None if field == b"nested".as_slice() => Some(Verb::Nested),
                 None => None,
             },
         }
@@ -118,6 +148,7 @@ impl Verb {
         match self {
             Verb::OfLock(verb) => verb.read(rest),
             Verb::OfState(verb) => verb.read(rest),
+            Verb::Nested => read_nested(rest),
         }
     }
 }
@@ -217,6 +248,22 @@ fn task_and_state(rest: &[u8]) -> Result<(&[u8], State), LineFault>
     }
 }
 
+/// The nested acquisition that stands after its verb.
+fn read_nested(rest: &[u8]) -> Result<Option<Event<'_>>, LineFault>
+    ensures { answer_seen result ≡ said_of_nested (fields rest.now) }
+{
+    let Some((task, lock, sub)) = three_fields(rest) else {
+        return Err(LineFault::BadCount);
+    };
+    let lock = read_lock(lock).ok_or(LineFault::BadName)?;
+    let sub = read_sub(sub).ok_or(LineFault::BadName)?;
+    if is_word(task) {
+        Ok(Some(Event::Nested { task, lock, sub }))
+    } else {
+        Err(LineFault::BadName)
+    }
+}
+
 /// The fields, where they are two.
 fn two_fields(rest: &[u8]) -> Option<(&[u8], &[u8])>
     ensures { option_map both_now result ≡ two_fields_of (fields rest.now) }
@@ -227,6 +274,15 @@ fn two_fields(rest: &[u8]) -> Option<(&[u8], &[u8])>
         None => Some((first, second)),
         Some(_) => None,
     }
+}
+
+/// The fields, where they are three.
+fn three_fields(rest: &[u8]) -> Option<(&[u8], &[u8], &[u8])>
+    ensures { option_map all_now result ≡ three_fields_of (fields rest.now) }
+{
+    let (first, others) = next_field(rest)?;
+    let (second, third) = two_fields(others)?;
+    Some((first, second, third))
 }
 
 /// The lock that a field names: `CLASS` or `CLASS@INSTANCE`.
@@ -258,6 +314,16 @@ fn sign_at(field: &[u8]) -> Option<usize>
     ensures within { IfSome result (λ place. place < length field.now) }
 {
     field.iter().position(|byte| *byte == b'@')
+}
+
+/// The subclass that a field names: one byte from `1` to `7`.
+fn read_sub(field: &[u8]) -> Option<u8>
+    ensures { result ≡ sub_of field.now }
+{
+    match field {
+        [digit @ b'1'..=b'7'] => Some(*digit - b'0'),
+        _ => None,
+    }
 }
 
 /// The state that a field names.

@@ -5,6 +5,7 @@ use Rattle.std.proofs.lemmas.Bool.{true≢false}
 use Rattle.std.proofs.lemmas.List.{length-take, take-take}
 use Rattle.std.proofs.lemmas.List.Elements.{Contains-append_left, Contains-push, Contains-push_cases}
 use Rattle.std.proofs.Math.Seq.{take-length}
+use Rattle.ld_class.specs.Names.{PlainClass}
 use Rattle.ld_class.specs.declared.usage.Usage.{Usage}
 use Rattle.ld_class.specs.Usage.{has_bit, no_bits}
 use Rattle.ld_graph.specs.declared.Edge.{Edge}
@@ -162,7 +163,7 @@ pub reach-kept : (classes : ℕ) (edges : List Edge) (usage : List Usage) (state
 reach-kept classes edges usage state old new is count exact = record { count = count; seeds = is.seeds; seeded = is.seeded; exact = exact is.seeds is.exact }
 
 -- a union whose graph and reaches got other spares
-pub union-kept : (classes : List (List ℕ)) (graph : PlainGraph) (rows : List Witnessed) (usage : List UsageRow)
+pub union-kept : (classes : List PlainClass) (graph : PlainGraph) (rows : List Witnessed) (usage : List UsageRow)
     (closing : Option Edge) (reach more : PerState PlainReach) (spare_classes spare_edges : ℕ)
     → IsUnion classes graph rows usage closing reach → HaveClasses graph.classes more → StayExact (edges_of rows) (edges_of rows) reach more
     → IsUnion classes (with_spares graph spare_classes spare_edges) rows usage closing more

@@ -4,12 +4,11 @@ use Rattle.std.proofs.Common.{flat_map, map, option_map, take, get_or, refl, sym
 use Rattle.std.proofs.lemmas.Bool.{false_from_ne_true}
 use Rattle.std.proofs.lemmas.List.{map-append, take_all, take_more}
 use Rattle.std.proofs.lemmas.List.Folds.{find-append}
-use Rattle.std.proofs.lemmas.Slice.Eq.{bytes_eq-Decides}
 use Rattle.std.specs.List.{find}
 use Rattle.std.specs.Option.{option_or}
-use Rattle.std.specs.Str.{bytes_eq}
-use Rattle.ld_class.specs.Names.{AreDistinct}
-use Rattle.ld_class.proofs.NameLemmas.{AreDistinct-from_IsDistinct}
+use Rattle.ld_class.specs.Names.{AreDistinct, no_class, same_class}
+use Rattle.ld_class.proofs.AnyNames.{apart-from_IsDistinct}
+use Rattle.ld_class.proofs.NameLemmas.{same_class-Decides}
 use Rattle.ld_rules.specs.declared.outcome.Witness.{Witness}
 use Rattle.ld_facts.specs.Union.{classes_of, union_classes}
 use Rattle.ld_facts.specs.Usage.{Use, same_use, usage_of}
@@ -39,7 +38,7 @@ joined before (Some m) last false new = sym (earlier_of-none (earlier_of before 
 -- the classes of a batch are distinct
 batch_distinct : (batch : PlainBatch) → IsBatch batch → AreDistinct batch.classes
 batch_distinct batch is =
-    subst AreDistinct (sym is.classes) (AreDistinct-from_IsDistinct (union_classes batch.sources) (IsDistinct-each_once bytes_eq bytes_eq-Decides (flat_map classes_of batch.sources)))
+    subst AreDistinct (sym is.classes) (apart-from_IsDistinct same_class no_class same_class-Decides (union_classes batch.sources) (IsDistinct-each_once same_class same_class-Decides (flat_map classes_of batch.sources)))
 
 -- Rows, no two of which are of the same thing.
 module _ {R A : Type 0} (same : A → A → Bool) (equal : (a b : A) → same a b ≡ true → a ≡ b) (name : R → Met A) (rows : List R) where

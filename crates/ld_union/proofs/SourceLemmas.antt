@@ -4,7 +4,7 @@ use Rattle.std.proofs.lemmas.List.{append-nil}
 use Rattle.std.proofs.lemmas.List.Elements.{filter_map-append}
 use Rattle.std.proofs.lemmas.List.Sums.{fold-append}
 use Rattle.std.specs.List.{cons_option}
-use Rattle.std.specs.Str.{bytes_eq}
+use Rattle.ld_class.specs.Names.{same_class}
 use Rattle.ld_trace.specs.Sources.{PlainSource}
 use Rattle.ld_rules.specs.declared.outcome.Witness.{Witness}
 use Rattle.ld_facts.specs.Dependency.{Dependency, Seen, least_line, same_dependency}
@@ -72,7 +72,7 @@ adds-batch old new batch exact numbered classes longer witnessed used = record {
         classes
         ∙ (λ i. with_names (is.classes i) (exact.classes i))
         ∙ with_names-both_once (flat_map classes_of sources) (flat_map classes_of batch.sources)
-        ∙ ap (each_once bytes_eq) (sym (flat_map-append classes_of sources batch.sources));
+        ∙ ap (each_once same_class) (sym (flat_map-append classes_of sources batch.sources));
     witnesses = subst (AreWitnessed new.classes new.dependencies) (λ i what. sym (witness-append same_dependency dependencies_of sources batch.sources what) i)
         (witnessed (dependency_witness sources) is.witnesses);
     used = subst (AreUsed new.classes new.usage) (λ i what. sym (witness-append same_use uses_of sources batch.sources what) i) (used (use_witness sources) is.used);

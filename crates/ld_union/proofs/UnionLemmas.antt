@@ -2,14 +2,12 @@
 use Rattle.std.proofs.Common.{◌≡◌, ◌≢◌, ◌⊎◌, inl, inr, ◌<◌, ◌++◌, ◌∷◌, [], ◌&&◌, List, ℕ, Bool, true, false, Option, Some, None, is_some, length}
 use Rattle.std.proofs.Common.{set, get_or, refl, sym, ap, subst, ◌∙◌, if◌then◌else◌, arith, All, AllPairs, Any}
 use Rattle.std.proofs.lemmas.Bool.{true≢false, and_parts, cases_eq, cases_order, false_from_ne_true}
-use Rattle.std.proofs.lemmas.Slice.Eq.{bytes_eq-Decides}
 use Rattle.std.proofs.lemmas.List.{get_or-map, get_or-take, get_or-set_same, get_or-set_other, get_or_append_left, get_or_default, length-map, length-set, length_push, map-set, map-append, set-get_or}
 use Rattle.std.proofs.lemmas.List.Elements.{All-push}
 use Rattle.std.proofs.lemmas.List.Quantifiers.{Any-push, all_pairs_push, any-set}
 use Rattle.std.proofs.lemmas.Option.{get_or_from_slice_get, slice_get_within}
-use Rattle.std.specs.Str.{bytes_eq}
-use Rattle.ld_class.specs.Names.{AreDistinct, IsNameAt, place_of}
-use Rattle.ld_class.proofs.NameLemmas.{place_of-None}
+use Rattle.ld_class.specs.Names.{AreDistinct, IsNameAt, PlainClass, no_class, place_of, same_class}
+use Rattle.ld_class.proofs.NameLemmas.{place_of-None, same_class-Decides}
 use Rattle.ld_graph.specs.declared.Edge.{Edge}
 use Rattle.ld_graph.specs.Edges.{IsEdge, IsEdgeNumber, edge}
 use Rattle.ld_rules.specs.declared.outcome.Witness.{Witness}
@@ -22,15 +20,15 @@ use Rattle.ld_union.specs.Inner.Union.{AreBetween, AreWitnessed, earlier_of, edg
 -- equal dependencies have equal names
 pub same_dependency-true : (a b : Dependency) → same_dependency a b ≡ true → a ≡ b
 same_dependency-true a b same =
-    let parts = and_parts (bytes_eq a.from b.from) (bytes_eq a.to b.to) same in
-    let from = (bytes_eq-Decides a.from b.from).0 parts.0 in
-    let to = (bytes_eq-Decides a.to b.to).0 parts.1 in
+    let parts = and_parts (same_class a.from b.from) (same_class a.to b.to) same in
+    let from = (same_class-Decides a.from b.from).0 parts.0 in
+    let to = (same_class-Decides a.to b.to).0 parts.1 in
     λ i. record { from = from i; to = to i }
 
 pub same_dependency-refl : (a : Dependency) → same_dependency a a ≡ true
 same_dependency-refl a =
-    let from = (bytes_eq-Decides a.from a.from).1 refl in
-    let to = (bytes_eq-Decides a.to a.to).1 refl in
+    let from = (same_class-Decides a.from a.from).1 refl in
+    let to = (same_class-Decides a.to a.to).1 refl in
     λ i. from i && to i
 
 pub earlier_of-none : (a : Option Witness) → a ≡ earlier_of a None
@@ -78,7 +76,7 @@ edges-set rows n e within at r same =
     ∙ ap (set (edges_of rows) n) (same ∙ sym (at r) ∙ sym (get_or-map (λ x. x.edge) rows n r r.edge within))
     ∙ set-get_or (edges_of rows) n r.edge
 
-module _ (classes : List (List ℕ)) (rows : List Witnessed) (is : AreBetween classes rows) where
+module _ (classes : List PlainClass) (rows : List Witnessed) (is : AreBetween classes rows) where
   -- an edge lies between two classes
   pub ends_of_edge : (a b : ℕ) → IsEdge (edges_of rows) a b → (a < length classes) × (b < length classes)
   ends_of_edge a b there = subst (λ (e : Edge). (e.from < length classes) × (e.to < length classes)) there.2 (is.ends there.0 (edge a b) there.1)
@@ -92,8 +90,8 @@ module _ (classes : List (List ℕ)) (rows : List Witnessed) (is : AreBetween cl
   edge_from_named : (e f : Edge) → (e.from < length classes) × (e.to < length classes) → (f.from < length classes) × (f.to < length classes)
       → named_edge classes e ≡ named_edge classes f → e ≡ f
   edge_from_named e f at_e at_f same =
-      let from = is.distinct e.from f.from (get_or classes f.from []) (at_e.0, ap (λ (d : Dependency). d.from) same) (at_f.0, refl) in
-      let to = is.distinct e.to f.to (get_or classes f.to []) (at_e.1, ap (λ (d : Dependency). d.to) same) (at_f.1, refl) in
+      let from = is.distinct e.from f.from (get_or classes f.from no_class) (at_e.0, ap (λ (d : Dependency). d.from) same) (at_f.0, refl) in
+      let to = is.distinct e.to f.to (get_or classes f.to no_class) (at_e.1, ap (λ (d : Dependency). d.to) same) (at_f.1, refl) in
       λ i. edge (from i) (to i)
 
   -- two rows stand for two dependencies
@@ -251,7 +249,7 @@ module _ (classes : List (List ℕ)) (rows : List Witnessed) (is : AreBetween cl
                 by_place (inr other) = (found.0, found.1, subst (λ m. found.0 < m) (sym (length-set rows n r)) found.2, get_or-set_other rows n found.0 r found.1 other ∙ found.3, found.4)
 
 -- more classes change nothing of the dependencies that are kept
-pub witnessed-longer : (classes more : List (List ℕ)) (rows : List Witnessed) (count : ℕ) → AreBetween classes rows → IsLonger classes more count
+pub witnessed-longer : (classes more : List PlainClass) (rows : List Witnessed) (count : ℕ) → AreBetween classes rows → IsLonger classes more count
     → (first : Dependency → Option Witness) → AreWitnessed classes rows first → AreWitnessed more rows first
 witnessed-longer classes more rows count is longer first witnessed = record {
   each = λ k d within. ap first (same k d within) ∙ witnessed.each k d within;
@@ -260,15 +258,15 @@ witnessed-longer classes more rows count is longer first witnessed = record {
       (at.0, at.1, at.2, at.3, ap (λ (x : Witnessed). named_edge more x.edge) (sym at.3) ∙ same at.0 at.1 at.2 ∙ ap (λ (x : Witnessed). named_edge classes x.edge) at.3 ∙ at.4);
 }
   where
-    name : (i : ℕ) → i < length classes → get_or more i [] ≡ get_or classes i []
-    name i within = sym (get_or-take (length classes) more i [] within) ∙ ap (λ names. get_or names i []) longer.front
+    name : (i : ℕ) → i < length classes → get_or more i no_class ≡ get_or classes i no_class
+    name i within = sym (get_or-take (length classes) more i no_class within) ∙ ap (λ names. get_or names i no_class) longer.front
 
     same : (k : ℕ) (d : Witnessed) → k < length rows → named_edge more (get_or rows k d).edge ≡ named_edge classes (get_or rows k d).edge
     same k d within =
         let ends = ends_of_row classes rows is k d within in
         λ i. record { from = name (get_or rows k d).edge.from ends.0 i; to = name (get_or rows k d).edge.to ends.1 i }
 
-pub numbered-longer : (classes more : List (List ℕ)) (rows : List Witnessed) (count : ℕ) → AreDistinct more → AreBetween classes rows → IsLonger classes more count → AreBetween more rows
+pub numbered-longer : (classes more : List PlainClass) (rows : List Witnessed) (count : ℕ) → AreDistinct more → AreBetween classes rows → IsLonger classes more count → AreBetween more rows
 numbered-longer classes more rows count distinct is longer = record {
   distinct = distinct;
   ends = λ k d within. let ends = is.ends k d within in (omega (arith, ends.0, longer.least), omega (arith, ends.1, longer.least));

@@ -4,14 +4,12 @@ use Rattle.std.proofs.Common.{is_some, length, map, fold, set, take, replicate, 
 use Rattle.std.proofs.lemmas.Bool.{true≢false, and_parts, cases_eq, cases_order, false_from_ne_true}
 use Rattle.std.proofs.lemmas.List.{get_or-map, get_or-take, get_or-set_same, get_or-set_other, get_or_append_left, get_or-append_right}
 use Rattle.std.proofs.lemmas.List.{get_or-replicate, length-map, length-replicate, length-set, same_lists, take_all}
-use Rattle.std.proofs.lemmas.Slice.Eq.{bytes_eq-Decides}
 use Rattle.std.specs.Int.{trailing_zeros}
 use Rattle.std.specs.List.{position_or_len}
-use Rattle.std.specs.Str.{bytes_eq}
 use Rattle.ld_class.specs.declared.usage.Usage.{Usage}
-use Rattle.ld_class.specs.Names.{AreDistinct, IsNameAt, place_of}
+use Rattle.ld_class.specs.Names.{AreDistinct, IsNameAt, PlainClass, no_class, place_of, same_class}
 use Rattle.ld_class.specs.Usage.{either, has_bit, in_hard, in_soft, no_bits, on_hard, on_soft}
-use Rattle.ld_class.proofs.NameLemmas.{place_of-at, place_of-Some}
+use Rattle.ld_class.proofs.NameLemmas.{place_of-at, place_of-Some, same_class-Decides}
 use Rattle.ld_trace.specs.declared.event.State.TheVariants.{Hard, Soft}
 use Rattle.ld_rules.specs.declared.outcome.Witness.{Witness}
 use Rattle.ld_facts.specs.Usage.{Bit, Use, same_bit, same_use, usage_of}
@@ -135,13 +133,13 @@ module _ (first : Bit → Option Witness) (witness : Witness) where
       (λ i. record { bits = either (is i).bits (usage_of bit); first = set (is i).first (at i) ((least ∙ (λ j. earlier_of (get_or (is j).first (at j) None) (Some witness))) i) })
       ∙ (λ i. record { bits = bits_then bit i; first = witnesses_then bit i })
 
-module _ (classes : List (List ℕ)) (rows : List UsageRow) (first : Use → Option Witness) (used : AreUsed classes rows first) where
+module _ (classes : List PlainClass) (rows : List UsageRow) (first : Use → Option Witness) (used : AreUsed classes rows first) where
   pub length_used : length rows ≡ length classes
   length_used = ap length used.each ∙ length-map classes (λ class. row_of (of_class first class))
 
   -- the row of a class by its number
-  pub row_at : (c : ℕ) (d : UsageRow) → c < length classes → get_or rows c d ≡ row_of (of_class first (get_or classes c []))
-  row_at c d within = ap (λ all. get_or all c d) used.each ∙ get_or-map (λ class. row_of (of_class first class)) classes c [] d within
+  pub row_at : (c : ℕ) (d : UsageRow) → c < length classes → get_or rows c d ≡ row_of (of_class first (get_or classes c no_class))
+  row_at c d within = ap (λ all. get_or all c d) used.each ∙ get_or-map (λ class. row_of (of_class first class)) classes c no_class d within
 
   -- a class with a bit that was seen has a number
   pub number_of : (what : Use) → is_some (first what) ≡ true → (c : ℕ) × IsNameAt classes c what.class
@@ -153,22 +151,22 @@ module _ (classes : List (List ℕ)) (rows : List UsageRow) (first : Use → Opt
 
   module _ (distinct : AreDistinct classes) (c : ℕ) (within : c < length classes) (bit : Bit) (witness : Witness) where
     abbrev pub this_use : Use
-    this_use = record { class = get_or classes c []; bit = bit }
+    this_use = record { class = get_or classes c no_class; bit = bit }
 
     -- the class's own row
     own_row : row_of (with_bit (of_class first this_use.class) bit witness) ≡ row_of (of_class (with_first_use first this_use witness) this_use.class)
     own_row =
-        let same : true ≡ bytes_eq this_use.class this_use.class = sym ((bytes_eq-Decides this_use.class this_use.class).1 refl) in
+        let same : true ≡ same_class this_use.class this_use.class = sym ((same_class-Decides this_use.class this_use.class).1 refl) in
         λ i. row_of (λ b. earlier_of (of_class first this_use.class b) (if same i && same_bit b bit then Some witness else None))
 
     -- other classes keep theirs
-    other_row : (k : ℕ) → k < length classes → k ≢ c → row_of (of_class first (get_or classes k [])) ≡ row_of (of_class (with_first_use first this_use witness) (get_or classes k []))
+    other_row : (k : ℕ) → k < length classes → k ≢ c → row_of (of_class first (get_or classes k no_class)) ≡ row_of (of_class (with_first_use first this_use witness) (get_or classes k no_class))
     other_row k k_within differs =
-        let apart : bytes_eq (get_or classes k []) this_use.class ≡ false = false_from_ne_true _
-        (λ same. differs (distinct k c this_use.class (k_within, (bytes_eq-Decides (get_or classes k []) this_use.class).0 same) (within, refl))) in
-        let tests : false ≡ bytes_eq (get_or classes k []) this_use.class = sym apart in
-        (λ i. row_of (λ b. earlier_of-none (of_class first (get_or classes k []) b) i))
-        ∙ (λ i. row_of (λ b. earlier_of (of_class first (get_or classes k []) b) (if tests i && same_bit b bit then Some witness else None)))
+        let apart : same_class (get_or classes k no_class) this_use.class ≡ false = false_from_ne_true _
+        (λ same. differs (distinct k c this_use.class (k_within, (same_class-Decides (get_or classes k no_class) this_use.class).0 same) (within, refl))) in
+        let tests : false ≡ same_class (get_or classes k no_class) this_use.class = sym apart in
+        (λ i. row_of (λ b. earlier_of-none (of_class first (get_or classes k no_class) b) i))
+        ∙ (λ i. row_of (λ b. earlier_of (of_class first (get_or classes k no_class) b) (if tests i && same_bit b bit then Some witness else None)))
 
     pub used-seen : (row : UsageRow) → row ≡ row_of (with_bit (of_class first this_use.class) bit witness) → AreUsed classes (set rows c row) (with_first_use first this_use witness)
     used-seen row is = record {
@@ -176,33 +174,33 @@ module _ (classes : List (List ℕ)) (rows : List UsageRow) (first : Use → Opt
       known = λ what h. known what (seen_cases (first what) witness (same_use what this_use) h);
     }
       where
-        row_then_of : List ℕ → UsageRow
+        row_then_of : PlainClass → UsageRow
         row_then_of class = row_of (of_class (with_first_use first this_use witness) class)
 
         lengths : length (set rows c row) ≡ length (map row_then_of classes)
         lengths = length-set rows c row ∙ length_used ∙ sym (length-map classes row_then_of)
 
         at : (k : ℕ) (d : UsageRow) → k < length (set rows c row) → get_or (set rows c row) k d ≡ get_or (map row_then_of classes) k d
-        at k d k_in = by (cases_eq k c) ∙ sym (get_or-map row_then_of classes k [] d k_within)
+        at k d k_in = by (cases_eq k c) ∙ sym (get_or-map row_then_of classes k no_class d k_within)
           where
             k_within : k < length classes
             k_within = omega (arith, k_in, length-set rows c row, length_used)
 
-            by : (k ≡ c) ⊎ (k ≢ c) → get_or (set rows c row) k d ≡ row_then_of (get_or classes k [])
+            by : (k ≡ c) ⊎ (k ≢ c) → get_or (set rows c row) k d ≡ row_then_of (get_or classes k no_class)
             by (inl same) = ap (λ m. get_or (set rows c row) m d) same ∙ get_or-set_same rows c row d (omega (arith, within, length_used)) ∙ is ∙
-                own_row ∙ ap (λ m. row_then_of (get_or classes m [])) (sym same)
+                own_row ∙ ap (λ m. row_then_of (get_or classes m no_class)) (sym same)
             by (inr differs) = get_or-set_other rows c k row d differs ∙ row_at k d k_within ∙ other_row k k_within differs
 
         known : (what : Use) → (same_use what this_use ≡ true) ⊎ (is_some (first what) ≡ true) → is_some (place_of classes what.class) ≡ true
         known what (inl same) =
-            let equal = (bytes_eq-Decides what.class this_use.class).0 (and_parts (bytes_eq what.class this_use.class) (same_bit what.bit bit) same).0 in
+            let equal = (same_class-Decides what.class this_use.class).0 (and_parts (same_class what.class this_use.class) (same_bit what.bit bit) same).0 in
             ap is_some (place_of-at classes what.class c distinct (within, sym equal))
         known what (inr before) = used.known what before
 
   -- more classes, none of whose bits was seen
-  module _ (more : List (List ℕ)) (count : ℕ) (distinct : AreDistinct more) (longer : IsLonger classes more count) where
-    pub same_name : (k : ℕ) → k < length classes → get_or classes k [] ≡ get_or more k []
-    same_name k within = ap (λ names. get_or names k []) (sym longer.front) ∙ get_or-take (length classes) more k [] within
+  module _ (more : List PlainClass) (count : ℕ) (distinct : AreDistinct more) (longer : IsLonger classes more count) where
+    pub same_name : (k : ℕ) → k < length classes → get_or classes k no_class ≡ get_or more k no_class
+    same_name k within = ap (λ names. get_or names k no_class) (sym longer.front) ∙ get_or-take (length classes) more k no_class within
 
     -- a class with a bit that was seen keeps its number
     pub number_in_more : (what : Use) → is_some (first what) ≡ true → (c : ℕ) × ((c < length classes) × IsNameAt more c what.class)
@@ -211,14 +209,14 @@ module _ (classes : List (List ℕ)) (rows : List UsageRow) (first : Use → Opt
         (at.0, (at.1.0, (omega (arith, at.1.0, longer.least), sym (same_name at.0 at.1.0) ∙ at.1.1)))
 
     -- so no bit of a new one was seen
-    unseen : (k : ℕ) (bit : Bit) → length classes ≤ k → k < length more → None ≡ of_class first (get_or more k []) bit
-    unseen k bit past within = by (of_class first (get_or more k []) bit) refl
+    unseen : (k : ℕ) (bit : Bit) → length classes ≤ k → k < length more → None ≡ of_class first (get_or more k no_class) bit
+    unseen k bit past within = by (of_class first (get_or more k no_class) bit) refl
       where
-        by : (o : Option Witness) → of_class first (get_or more k []) bit ≡ o → None ≡ of_class first (get_or more k []) bit
+        by : (o : Option Witness) → of_class first (get_or more k no_class) bit ≡ o → None ≡ of_class first (get_or more k no_class) bit
         by None is = sym is
         by (Some w) is =
-            let at = number_in_more (record { class = get_or more k []; bit = bit }) (ap is_some is) in
-            let same : at.0 ≡ k = distinct at.0 k (get_or more k []) at.1.1 (within, refl) in
+            let at = number_in_more (record { class = get_or more k no_class; bit = bit }) (ap is_some is) in
+            let same : at.0 ≡ k = distinct at.0 k (get_or more k no_class) at.1.1 (within, refl) in
             absurd (omega (arith, at.1.0, past, same))
 
     pub used-longer : AreUsed more (take (length more) rows ++ replicate (length more - length rows) (row_of (λ bit. None))) first
@@ -230,28 +228,28 @@ module _ (classes : List (List ℕ)) (rows : List UsageRow) (first : Use → Opt
         new : List UsageRow
         new = replicate (length more - length rows) (row_of (λ bit. None))
 
-        row_of_class : List ℕ → UsageRow
+        row_of_class : PlainClass → UsageRow
         row_of_class class = row_of (of_class first class)
 
         lengths : length (rows ++ new) ≡ length (map row_of_class more)
         lengths = omega (arith, length-append rows new, length-replicate (length more - length rows) (row_of (λ bit. None)), length-map more row_of_class, length_used, longer.least)
 
-        old_at : (k : ℕ) (d : UsageRow) → k < length classes → get_or (rows ++ new) k d ≡ row_of_class (get_or more k [])
+        old_at : (k : ℕ) (d : UsageRow) → k < length classes → get_or (rows ++ new) k d ≡ row_of_class (get_or more k no_class)
         old_at k d within = get_or_append_left rows new d k (omega (arith, within, length_used)) ∙ row_at k d within ∙ ap row_of_class (same_name k within)
 
-        new_at : (k : ℕ) (d : UsageRow) → length classes ≤ k → k < length more → get_or (rows ++ new) k d ≡ row_of_class (get_or more k [])
+        new_at : (k : ℕ) (d : UsageRow) → length classes ≤ k → k < length more → get_or (rows ++ new) k d ≡ row_of_class (get_or more k no_class)
         new_at k d past within =
             get_or-append_right rows new (length classes) k d length_used past
             ∙ get_or-replicate (length more - length rows) (k - length classes) (row_of (λ bit. None)) d (omega (arith, past, within, length_used))
             ∙ (λ i. row_of (λ bit. unseen k bit past within i))
 
         at : (k : ℕ) (d : UsageRow) → k < length (rows ++ new) → get_or (rows ++ new) k d ≡ get_or (map row_of_class more) k d
-        at k d k_in = by (cases_order k (length classes)) ∙ sym (get_or-map row_of_class more k [] d within)
+        at k d k_in = by (cases_order k (length classes)) ∙ sym (get_or-map row_of_class more k no_class d within)
           where
             within : k < length more
             within = omega (arith, k_in, lengths, length-map more row_of_class)
 
-            by : (k ≡ length classes) ⊎ ((k < length classes) ⊎ (length classes < k)) → get_or (rows ++ new) k d ≡ row_of_class (get_or more k [])
+            by : (k ≡ length classes) ⊎ ((k < length classes) ⊎ (length classes < k)) → get_or (rows ++ new) k d ≡ row_of_class (get_or more k no_class)
             by (inl same) = new_at k d (omega (arith, same)) within
             by (inr (inl before)) = old_at k d before
             by (inr (inr after)) = new_at k d (omega (arith, after)) within

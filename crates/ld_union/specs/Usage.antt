@@ -1,8 +1,8 @@
 -- What a row of usage says of a class.
-use Rattle.std.specs.Prelude.{List, [], ◌∷◌, ℕ, map, filter, fold, Option, Some, None, if◌then◌else◌}
+use Rattle.std.specs.Prelude.{List, [], ◌∷◌, map, filter, fold, Option, Some, None, if◌then◌else◌}
 use Rattle.std.specs.Option.{is_some}
 use Rattle.ld_class.specs.declared.usage.Usage.{Usage}
-use Rattle.ld_class.specs.Names.{place_of}
+use Rattle.ld_class.specs.Names.{PlainClass, place_of}
 use Rattle.ld_class.specs.Usage.{either, no_bits}
 use Rattle.ld_trace.specs.declared.event.State.TheVariants.{Hard, Soft}
 use Rattle.ld_trace.specs.Sources.{PlainSource}
@@ -25,7 +25,7 @@ abbrev pub row_of : (Bit → Option Witness) → UsageRow
 row_of first = record { bits = witnessed_bits first; first = map first bits }
 
 -- the row of a class of these sources, and nothing where it is no class of theirs
-abbrev pub usage_row : List PlainSource → List ℕ → Option UsageRow
+abbrev pub usage_row : List PlainSource → PlainClass → Option UsageRow
 usage_row sources class =
     if is_some (place_of (union_classes sources) class)
     then Some (row_of (λ bit. use_witness sources (record { class = class; bit = bit })))

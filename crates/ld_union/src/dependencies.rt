@@ -2,6 +2,7 @@
 //! they lead.
 ghost use Rattle.std.specs.Prelude.{◌≡◌, ℕ, ◌+◌, ◌<◌, ◌≤◌, List, Option, OnErr, OnOk, [], All};
 ghost use Rattle.std.specs.Prelude.{length, take, vec_len, vec_capacity};
+ghost use Rattle.ld_class.specs.Names.{PlainClass};
 ghost use Rattle.ld_graph.specs.declared.graph.TheConstants.{MOST_GRAPH_CLASSES};
 ghost use Rattle.ld_trace.specs.declared.event.State.{State};
 ghost use Rattle.ld_graph.specs.Edges.{IsEdge};
@@ -140,9 +141,9 @@ impl Dependencies {
             self.old.reach self.new.reach }
         ensures closing { IsCycleEdge (edges_of self.old.rows.items) self.old.closing
             → IsCycleEdge (edges_of self.new.rows.items) self.new.closing }
-        ensures numbered { (classes : List (List ℕ)) → length classes ≡ self.old.graph.classes
+        ensures numbered { (classes : List PlainClass) → length classes ≡ self.old.graph.classes
             → AreBetween classes self.old.rows.items → AreBetween classes self.new.rows.items }
-        ensures witnesses { (classes : List (List ℕ)) → length classes ≡ self.old.graph.classes
+        ensures witnesses { (classes : List PlainClass) → length classes ≡ self.old.graph.classes
             → AreBetween classes self.old.rows.items
             → ArePlaces classes batch.now.classes places.now
             → (first : Dependency → Option Witness)
@@ -180,9 +181,9 @@ impl Dependencies {
             self.old.reach self.new.reach }
         ensures closing { IsCycleEdge (edges_of self.old.rows.items) self.old.closing
             → IsCycleEdge (edges_of self.new.rows.items) self.new.closing }
-        ensures numbered { (classes : List (List ℕ)) → length classes ≡ self.old.graph.classes
+        ensures numbered { (classes : List PlainClass) → length classes ≡ self.old.graph.classes
             → AreBetween classes self.old.rows.items → AreBetween classes self.new.rows.items }
-        ensures noted { (classes : List (List ℕ)) → length classes ≡ self.old.graph.classes
+        ensures noted { (classes : List PlainClass) → length classes ≡ self.old.graph.classes
             → AreBetween classes self.old.rows.items
             → (first : Dependency → Option Witness)
             → AreWitnessed classes self.old.rows.items first

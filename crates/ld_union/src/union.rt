@@ -2,6 +2,7 @@
 ghost use Rattle.std.specs.Prelude.{◌≡◌, ◌↔◌, ℕ, ◌+◌, ◌<◌, ◌≤◌, [], ◌∷◌, Option};
 ghost use Rattle.std.specs.Prelude.{length, All, Contains, MatchOption, OnErr, OnOk};
 ghost use Rattle.ld_class.specs.declared.names.TheConstants.{MOST_NAMES};
+ghost use Rattle.ld_class.specs.Names.{plain_class};
 ghost use Rattle.ld_facts.specs.Dependency.{Dependency};
 ghost use Rattle.ld_facts.specs.Usage.{Use};
 ghost use Rattle.ld_union.specs.Inner.News.{Tells};
@@ -15,7 +16,7 @@ use crate::dependencies::{Dependencies, Witnessed};
 use crate::news::News;
 use crate::usage::{UsageRow, add_usage};
 use ld_batch::{Batch, intern_all};
-use ld_class::Classes;
+use ld_class::{ClassName, Classes};
 use ld_facts::Witness;
 use ld_graph::{Edge, Graph};
 use ld_trace::State;
@@ -175,10 +176,10 @@ impl<'a> Union<'a> {
     }
 
     /// Where the dependency was first seen, or `None` where the traces don't show it. Takes no memory.
-    pub fn witness(&self, from: &[u8], to: &[u8]) -> Option<Witness>
+    pub fn witness(&self, from: ClassName<'_>, to: ClassName<'_>) -> Option<Witness>
         ensures { (first : Dependency → Option Witness)
             → AreWitnessed self.now.classes self.now.dependencies first
-            → result ≡ first (record { from = from.now; to = to.now }) }
+            → result ≡ first (record { from = plain_class from.entry; to = plain_class to.entry }) }
     {
         let from = self.classes.find(from)?;
         let to = self.classes.find(to)?;
@@ -187,12 +188,12 @@ impl<'a> Union<'a> {
     }
 
     /// The usage of a class, or `None` where the traces don't show the class. Takes no memory.
-    pub fn usage_row(&self, name: &[u8]) -> Option<UsageRow>
+    pub fn usage_row(&self, class: ClassName<'_>) -> Option<UsageRow>
         ensures { (first : Use → Option Witness)
             → AreUsed self.now.classes self.now.usage first
-            → result ≡ known_row self.now.classes first name.now }
+            → result ≡ known_row self.now.classes first (plain_class class.entry) }
     {
-        let class = self.classes.find(name)?;
-        Some(self.usage[class as usize])
+        let number = self.classes.find(class)?;
+        Some(self.usage[number as usize])
     }
 }

@@ -3,7 +3,7 @@ ghost use Rattle.std.specs.Prelude.{◌≡◌, ℕ, ◌+◌, ◌<◌, ◌≤◌,
 ghost use Rattle.std.specs.Prelude.{length, slice_index_or, vec_len, vec_capacity};
 ghost use Rattle.std.specs.Bool.{OnFalse, OnTrue};
 ghost use Rattle.std.specs.List.{position_or_len};
-ghost use Rattle.ld_class.specs.Names.{AreDistinct};
+ghost use Rattle.ld_class.specs.Names.{AreDistinct, PlainClass, no_class};
 ghost use Rattle.ld_class.specs.Usage.{either, has_bit};
 ghost use Rattle.ld_facts.specs.Union.{use_witness};
 ghost use Rattle.ld_facts.specs.Usage.{Bit, IsBit, Use, bit_of, same_bit};
@@ -89,7 +89,7 @@ pub(crate) fn add_usage(
     requires none { bits.old.items ≡ [] }
     requires room { vec_len bits.old + length batch.now.usage ≤ vec_capacity bits.old }
     ensures len { length rows.new ≡ length rows.old }
-    ensures used { (classes : List (List ℕ)) → AreDistinct classes
+    ensures used { (classes : List PlainClass) → AreDistinct classes
         → ArePlaces classes batch.now.classes places.now
         → (first : Use → Option Witness) → AreUsed classes rows.old first
         → AreUsed classes rows.new (with_first first (use_witness batch.now.sources)) }
@@ -113,10 +113,10 @@ fn note_use(rows: &mut [UsageRow], shown: NewBit, witness: Witness, bits: &mut V
     ensures len { length rows.new ≡ length rows.old }
     ensures room { (n : ℕ) → vec_len bits.old + (n + 1) ≤ vec_capacity bits.old
         → vec_len bits.new + n ≤ vec_capacity bits.new }
-    ensures used { (classes : List (List ℕ)) → AreDistinct classes
+    ensures used { (classes : List PlainClass) → AreDistinct classes
         → (first : Use → Option Witness) → AreUsed classes rows.old first
         → AreUsed classes rows.new (with_first_use first
-        (record { class = slice_index_or classes shown.class []; bit = bit_of shown.bit }) witness) }
+        (record { class = slice_index_or classes shown.class no_class; bit = bit_of shown.bit }) witness) }
     ensures told { (before : List Usage) → TellsBits before (bits_of rows.old) bits.old.items
         → TellsBits before (bits_of rows.new) bits.new.items }
 {

@@ -7,7 +7,8 @@ use Rattle.std.specs.List.{Contains}
 use Rattle.ld_trace.specs.Sources.{AreNumbered, PlainSource, plain}
 use Rattle.ld_rules.specs.declared.outcome.Listed.{Listed}
 use Rattle.ld_batch.specs.Batch.{sources_of}
-use Rattle.ld_work.specs.Work.{AreRising, IsLeast, IsMissing, IsStray, IsUneven}
+use Rattle.ld_batch.specs.Batch.{AreRising}
+use Rattle.ld_work.specs.Inner.Uneven.{IsLeast, IsMissing, IsStray, IsUneven}
 
 -- the source that is listed at a place
 pub listed_at : (listed : List Listed) (k : ℕ) (trace : Listed) (d : PlainSource) → k < length listed → trace ≡ get_or listed k trace → get_or (sources_of listed) k d ≡ plain trace.source

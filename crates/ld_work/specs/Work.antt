@@ -1,31 +1,9 @@
--- What it means that a book lists each source, and which number tells that it doesn't.
-use Rattle.std.specs.Prelude.{◌<◌, ◌≤◌, ◌⊎◌, ℕ, List, length, map, slice_index_or}
-use Rattle.std.specs.List.{Contains}
+-- What it means that a book lists each source.
+use Rattle.std.specs.Prelude.{List}
 use Rattle.std.specs.List.Sorted.{IsPermutation}
 use Rattle.ld_trace.specs.Sources.{PlainSource}
-pub use Rattle.ld_batch.specs.Batch.{AreRising}
 
 -- Each source is listed exactly once, as it stands, and nothing else is listed: the list is that of
 -- the sources, in some order.
 abbrev pub ListsEachOnce : List PlainSource → List PlainSource → Type 0
 ListsEachOnce sources listed = IsPermutation sources listed
-
--- The source of this number isn't listed as it stands. (A book lists no number twice.)
-abbrev pub IsMissing : List PlainSource → List PlainSource → ℕ → Type 0
-IsMissing sources listed number =
-    (number < length sources) × ((d : PlainSource) → Contains listed (slice_index_or sources number d) → ⊥)
-
--- the number is listed, and no source has it
-abbrev pub IsStray : List PlainSource → List PlainSource → ℕ → Type 0
-IsStray sources listed number = (length sources ≤ number) × Contains (map (λ source. source.number) listed) number
-
--- the least number of which this is true
-pub record IsLeast (P : ℕ → Type 0) (number : ℕ) : Type 0 where
-  pub is : P number
-  pub least : (other : ℕ) → P other → number ≤ other
-
--- the least number whose source is missing; where none is missing, the least stray one
-abbrev pub IsUneven : List PlainSource → List PlainSource → ℕ → Type 0
-IsUneven sources listed number =
-    IsLeast (IsMissing sources listed) number
-    ⊎ (((other : ℕ) → IsMissing sources listed other → ⊥) × IsLeast (IsStray sources listed) number)

@@ -3,7 +3,8 @@ ghost use Rattle.std.specs.Prelude.{◌≡◌, ◌≤◌, ◌<◌, ℕ, [], None
 ghost use Rattle.std.specs.List.{last_or};
 ghost use Rattle.ld_trace.specs.Sources.{AreNumbered, Fits, plain};
 ghost use Rattle.ld_tickets.specs.Draw.{IsSeatOf};
-ghost use Rattle.ld_work.specs.Work.{IsUneven, ListsEachOnce};
+ghost use Rattle.ld_work.specs.Inner.Uneven.{IsUneven};
+ghost use Rattle.ld_work.specs.Work.{ListsEachOnce};
 
 use crate::even::uneven;
 use crate::gate::Gate;

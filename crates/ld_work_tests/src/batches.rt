@@ -3,7 +3,7 @@ ghost use Rattle.std.specs.Prelude.{◌≡◌, ◌∷◌, []};
 ghost use Rattle.ld_trace.specs.Sources.{plain};
 
 use crate::desks::{tally, totals, totals_of};
-use crate::tests::{sources_of, witness};
+use crate::tests::{class, sources_of, witness};
 use ld_book::{Batch, BatchRefusal};
 use ld_trace::Source;
 use ld_work::{Desk, Feeder, Gate, NoGate, work};
@@ -149,7 +149,7 @@ fn workers_read_more_than_a_batch(rt: HostRuntime) -> Result<(), Fail> {
     for workers in [1, 2, 16] {
         let book = work(&rt, rt.alloc(), &sources, workers, &NoGate).expect(&rt, "a book");
         assert_eq!(rt; book.totals(), totals(20, 40, 2, 1));
-        assert_eq!(rt; book.edge(b"A", b"B"), witness(0, 3));
+        assert_eq!(rt; book.edge(class(b"A"), class(b"B")), witness(0, 3));
         drop(book);
     }
     Ok(())

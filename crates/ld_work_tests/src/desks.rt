@@ -1,7 +1,7 @@
 //! Desks in the hands of callers with threads of their own.
 ghost use Rattle.std.specs.Prelude.{◌≡◌};
 
-use crate::tests::{INVERSION, feed_one, long_trace, sources_of, witness};
+use crate::tests::{INVERSION, class, feed_one, long_trace, sources_of, witness};
 use ld_book::{Refusal, Totals};
 use ld_facts::{Facts, Outcome, facts};
 use ld_trace::Source;
@@ -181,7 +181,7 @@ where
     let all = desk.gather(feeders).ok().expect(rt, "all feeders");
     assert_eq!(rt; all.tally, tally(64, 128));
     assert_eq!(rt; all.book.totals(), totals(64, 128, 2, 1));
-    assert_eq!(rt; all.book.edge(b"A", b"B"), witness(0, 3));
+    assert_eq!(rt; all.book.edge(class(b"A"), class(b"B")), witness(0, 3));
     drop(all);
 }
 

@@ -2,7 +2,7 @@
 ghost use Rattle.std.specs.Prelude.{◌≡◌, ◌≤◌, All, IfOk, length, map};
 ghost use Rattle.ld_trace.specs.Sources.{AreNumbered, Fits, plain};
 
-use ld_book::Book;
+use ld_book::{Book, ClassName};
 use ld_facts::{Witness, facts};
 use ld_trace::{MOST_TRACES, Source, split};
 use ld_work::{Back, Desk, Feeder, Gate, MOST_FEEDERS, NoGate, Tally, WorkFault, work};
@@ -39,6 +39,11 @@ pub fn witness(number: u64, line: u64) -> Option<Witness> {
     Some(Witness { number, line })
 }
 
+/// The class of this name, without a subclass.
+pub fn class(name: &[u8]) -> ClassName<'_> {
+    ClassName { name, sub: 0 }
+}
+
 /// Asserts that the book has the totals and the witnesses of `INVERSION`.
 fn expect_inversion<R: Abort>(rt: &R, book: &Book<'_>) {
     let totals = book.totals();
@@ -47,8 +52,8 @@ fn expect_inversion<R: Abort>(rt: &R, book: &Book<'_>) {
     assert_eq!(rt; totals.events, 8);
     assert_eq!(rt; totals.classes, 2);
     assert_eq!(rt; totals.dependencies, 2);
-    assert_eq!(rt; book.edge(b"A", b"B"), witness(0, 3));
-    assert_eq!(rt; book.edge(b"B", b"A"), witness(1, 8));
+    assert_eq!(rt; book.edge(class(b"A"), class(b"B")), witness(0, 3));
+    assert_eq!(rt; book.edge(class(b"B"), class(b"A")), witness(1, 8));
 }
 
 /// Asserts that the book has the totals and the witnesses of `THREE_TRACES`.
@@ -59,9 +64,9 @@ fn expect_three_traces<R: Abort>(rt: &R, book: &Book<'_>) {
     assert_eq!(rt; totals.events, 6);
     assert_eq!(rt; totals.classes, 3);
     assert_eq!(rt; totals.dependencies, 3);
-    assert_eq!(rt; book.edge(b"A", b"B"), witness(0, 3));
-    assert_eq!(rt; book.edge(b"B", b"C"), witness(1, 6));
-    assert_eq!(rt; book.edge(b"C", b"A"), witness(2, 9));
+    assert_eq!(rt; book.edge(class(b"A"), class(b"B")), witness(0, 3));
+    assert_eq!(rt; book.edge(class(b"B"), class(b"C")), witness(1, 6));
+    assert_eq!(rt; book.edge(class(b"C"), class(b"A")), witness(2, 9));
 }
 
 /// Adds a trace, and looks at what the book has then.

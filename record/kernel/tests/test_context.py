@@ -168,6 +168,13 @@ class Limits(unittest.TestCase):
         self.assertEqual(lines[-5:], ['acquire t-1025 c@3000', 'disable t-1 hard', 'disable t-1 soft',
                                       'try t-1 a@1000', 'release t-1 a@1000'])
 
+    def test_a_nested_lock_goes_over_as_one(self):
+        lines = stream(acquire('a', A, key=0x500), acquire('a', B, key=0x501, subclass=1, columns='d....'),
+                       *[acquire('c', C, task='t-%d' % pid) for pid in range(2, 1026)],
+                       release(B, columns='d....'))
+        self.assertEqual(lines[-5:], ['acquire t-1025 c@3000', 'disable t-1 hard', 'try t-1 a@1000',
+                                      'nested t-1 a@2000 1', 'release t-1 a@2000'])
+
     def test_a_trace_has_8191_classes_at_most(self):
         lines = stream(acquire('a', A),
                        *[text for key in range(8190)
@@ -176,6 +183,14 @@ class Limits(unittest.TestCase):
         begin = lines.index('trace kernel.2')
         self.assertEqual(len({text.split(' ')[2] for text in lines[:begin]}), 8191)
         self.assertEqual(lines[begin + 1:], ['try t-1 a@1000', 'acquire t-1 last@3000'])
+
+    def test_a_subclass_counts_among_the_classes(self):
+        lines = stream(*[text for key in range(0x100000, 0x110000, 16)
+                         for subclass in (0, 1)
+                         for text in (acquire('k%x' % key, A, key=key + subclass, subclass=subclass), release(A))])
+        begin = lines.index('trace kernel.2')
+        self.assertEqual(begin, 2 * 8191)
+        self.assertEqual(lines[begin + 1:], ['nested t-1 k10fff0@1000 1', 'release t-1 k10fff0@1000'])
 
     def test_what_goes_over_counts_among_the_classes(self):
         # A task with two classes comes back to a trace that has room for one of them.

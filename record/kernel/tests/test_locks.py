@@ -69,7 +69,7 @@ class Releases(unittest.TestCase):
     def test_closes_the_latest_acquisition_of_the_address(self):
         self.assertEqual(
             stream(acquire('a', A, key=0x500), acquire('a', A, key=0x501, subclass=1), release(A), release(A)),
-            ['acquire t-1 a@1000', 'acquire t-1 a!1@1000', 'release t-1 a!1@1000', 'release t-1 a@1000'])
+            ['acquire t-1 a@1000', 'nested t-1 a@1000 1', 'release t-1 a@1000', 'release t-1 a@1000'])
 
     def test_closes_a_reader_where_that_came_last(self):
         self.assertEqual(stream(acquire('a', A), acquire('a', A, read=2), release(A), acquire('b', B)),
@@ -118,19 +118,6 @@ class Names(unittest.TestCase):
             stream(acquire('a', A, key=0x500), acquire('a', B, key=0x600), acquire('a', C, key=0x500)),
             ['acquire t-1 a@1000', 'acquire t-1 a#2@2000', 'acquire t-1 a@3000'])
 
-    def test_subclasses(self):
-        # The key of a subclass is the key of the class and the number of the subclass.
-        self.assertEqual(
-            stream(acquire('a', A, key=0x500), acquire('a', B, key=0x601, subclass=1),
-                   acquire('a', C, key=0x501, subclass=1), acquire('a', N, key=0x600)),
-            ['acquire t-1 a@1000', 'acquire t-1 a#2!1@2000', 'acquire t-1 a!1@3000', 'acquire t-1 a#2@4000'])
-
-    def test_subclass_of_a_static_lock_that_has_no_key_yet(self):
-        self.assertEqual(
-            stream(acquire('a', A, key=0, subclass=1), release(A), acquire('a', A, key=A + 1, subclass=1), release(A),
-                   acquire('a', A, key=A))[::2],
-            ['acquire t-1 a!1@1000', 'acquire t-1 a!1@1000', 'acquire t-1 a@1000'])
-
     def test_name_with_special_bytes_is_no_numbered_name(self):
         self.assertEqual(stream(acquire('a', A, key=0x500), acquire('a', B, key=0x600), acquire('a#2', C, key=0x700)),
                          ['acquire t-1 a@1000', 'acquire t-1 a#2@2000', 'acquire t-1 a%232@3000'])
@@ -150,15 +137,21 @@ all lock classes:
             result = run(acquire('a', A, key=0x500) + acquire('b', B, key=0x601, subclass=1)
                          + acquire('c', C, key=0x700) + acquire('d', N, key=0x800)
                          + acquire('plain', 0x5000, key=0x900), '--lockdep', name)
-        self.assertEqual([text.split(' ')[2] for text in result.stream[1:]],
-                         ['&a->lock#4@1000', '&type->s_umount_key#2!1@2000', 'two%20words@3000', 'plain@4000',
-                          'plain#2@5000'])
+        self.assertEqual(
+            result.stream[1:],
+            ['acquire t-1 &a->lock#4@1000', 'nested t-1 &type->s_umount_key#2@2000 1', 'acquire t-1 two%20words@3000',
+             'acquire t-1 plain@4000', 'acquire t-1 plain#2@5000'])
         self.assertIn('1 classes are not in the file of --lockdep', result.errors)
 
     def test_lockdep_never_gives_two_keys_one_name(self):
         with file_with('0500 FD:    1 BD:    1 ....: a\n0600 FD:    1 BD:    1 ....: a\n') as name:
             lines = stream(acquire('a', A, key=0x500), acquire('a', B, key=0x600), words=('--lockdep', name))
         self.assertEqual(lines, ['acquire t-1 a@1000', 'acquire t-1 a#2@2000'])
+
+    def test_a_name_by_lockdep_that_ends_as_a_subclass_does(self):
+        with file_with('0500 FD:    1 BD:    1 ....: a/1\n0600 FD:    1 BD:    1 ....: a/8\n') as name:
+            lines = stream(acquire('a/1', A, key=0x500), acquire('a/8', B, key=0x600), words=('--lockdep', name))
+        self.assertEqual(lines, ['acquire t-1 a%2F1@1000', 'acquire t-1 a%2F8@2000'])
 
     def test_tasks(self):
         self.assertEqual(
@@ -176,6 +169,48 @@ all lock classes:
 
     def test_addresses_are_written_short(self):
         self.assertEqual(stream(acquire('a', 0xffff888012345678)), ['acquire t-1 a@ffff888012345678'])
+
+
+class Subclasses(unittest.TestCase):
+    """The key of a subclass is the key of the class and the number of the subclass."""
+
+    def test_are_nested(self):
+        for number in range(1, 8):
+            with self.subTest(number=number):
+                self.assertEqual(stream(acquire('a', A, key=0x500 + number, subclass=number), release(A)),
+                                 ['nested t-1 a@1000 %d' % number, 'release t-1 a@1000'])
+
+    def test_have_the_name_of_their_class(self):
+        self.assertEqual(
+            stream(acquire('a', A, key=0x500), acquire('a', B, key=0x601, subclass=1),
+                   acquire('a', C, key=0x501, subclass=1), acquire('a', N, key=0x600)),
+            ['acquire t-1 a@1000', 'nested t-1 a#2@2000 1', 'nested t-1 a@3000 1', 'acquire t-1 a#2@4000'])
+        self.assertEqual(stream(acquire('n' * 64, A, key=0x501, subclass=1)), ['nested t-1 %s@1000 1' % ('n' * 64)])
+
+    def test_of_a_static_lock_that_has_no_key_yet(self):
+        self.assertEqual(
+            stream(acquire('a', A, key=0, subclass=1), release(A), acquire('a', A, key=A + 1, subclass=1), release(A),
+                   acquire('a', A, key=A))[::2],
+            ['nested t-1 a@1000 1', 'nested t-1 a@1000 1', 'acquire t-1 a@1000'])
+
+    def test_readers_and_unchecked_ones_are_left_out(self):
+        self.assertEqual(
+            stream(acquire('a', A, key=0x501, subclass=1, read=1), acquire('a', B, key=0x501, subclass=1, check=0),
+                   acquire('b', C)), ['acquire t-1 b@3000'])
+
+    def test_no_verb_says_a_trylock_of_one(self):
+        result = run(acquire('a', A, key=0x501, subclass=1, trylock=1) + release(A)
+                     + acquire('a', B, key=0x501, subclass=1))
+        self.assertEqual(result.stream[1:], ['try t-1 a!1@1000', 'release t-1 a!1@1000', 'nested t-1 a@2000 1'])
+        self.assertIn('1 trylocks of a subclass: a class NAME!N of its own', result.errors)
+
+    def test_under_a_lock_that_orders_them(self):
+        self.assertEqual(
+            stream(acquire('n', N), acquire('a', A, key=0x501, subclass=1, nest=N),
+                   acquire('a', B, key=0x501, subclass=1, nest=N))[1:], ['nested t-1 a@1000 1', 'try t-1 a!1@2000'])
+
+    def test_lockdep_has_none_above_7(self):
+        self.assertEqual(stream(acquire('a', A, key=0x508, subclass=8)), ['acquire t-1 a!8@1000'])
 
 
 class SplitRecursion(unittest.TestCase):

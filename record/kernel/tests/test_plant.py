@@ -78,9 +78,10 @@ class Compare(unittest.TestCase):
 
 
 def classes(stream):
-    """The classes that a stream acquires."""
+    """The classes that a stream acquires, those of a `nested` with its number."""
     events = [line.split(' ') for line in stream]
-    return {event[2].split('@')[0] for event in events if event[0] in ('acquire', 'try')}
+    return {'/'.join([event[2].split('@')[0], *event[3:]]) for event in events
+            if event[0] in ('acquire', 'nested', 'try')}
 
 
 if __name__ == '__main__':

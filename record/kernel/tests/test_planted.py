@@ -2,8 +2,9 @@
 
 plant-all is the boot of a kernel 6.1 (user mode, one processor) in which a module planted an
 inversion of plant_a and plant_b, a hard and a soft conflict of plant_h and plant_s, an order from
-plant_w (taken by a hard handler) to plant_x, and a recursion of &o->lock; plant-clean is one in which
-it did the like without a fault. The numbers of lines below are those of the text, as read in it.
+plant_w (taken by a hard handler) to plant_x, and a recursion of &o->lock, after two such locks that
+were nested as lockdep wants it; plant-clean is one in which it did the like without a fault. The
+numbers of lines below are those of the text, as read in it.
 """
 import lzma
 import os
@@ -52,6 +53,18 @@ class Planted(unittest.TestCase):
         # Each witness as a line of the recording, by the map.
         there = [re.sub(r'all:(\d+)', lambda witness: 'all:' + lines[int(witness[1]) - 1], row) for row in rows]
         self.assertEqual(there[1:], [*ROWS_OF_ALL, 'violations 7'])
+
+    def test_the_nested_lock_is_one_of_the_subclass(self):
+        with file_with('') as name:
+            converted = run(recording('plant-all'), '--map', name)
+            with open(name) as file:
+                there = dict(zip(file.read().split(), converted.stream))
+        self.assertEqual([there['6221'], there['6222']],
+                         ['acquire insmod-29 &o->lock@d380ce20', 'nested insmod-29 &o->lock@d380cd80 1'])
+        # All events of subclasses in this recording are exclusive acquisitions of subclass 1.
+        nested = [line for line in converted.stream if line.startswith('nested ')]
+        self.assertEqual(len(nested), recording('plant-all').count(b' s=1 t=0 r=0 c=1 n=0000000000000000 '))
+        self.assertEqual({line[-2:] for line in nested}, {' 1'})
 
     def test_a_run_without_a_fault_is_clean(self):
         converted = run(recording('plant-clean'))

@@ -1,21 +1,22 @@
 -- What the scan of a trace keeps, against what it had when the trace began and the positions so far. The
 -- calls of a scan and `read_into` cite this, and no clause of `Facts`.
-use Rattle.std.specs.Prelude.{◌≡◌, ◌<◌, ◌≤◌, ◌+◌, ℕ, None, Ok, List, [], ◌∷◌, ◌++◌}
+use Rattle.std.specs.Prelude.{◌≡◌, ◌<◌, ◌≤◌, ◌+◌, ℕ, Bool, true, false, None, Ok, List, [], ◌∷◌, ◌++◌}
 use Rattle.std.specs.Prelude.{All, drop, fold, map, length, slice_index_or, slice_set, take}
 use Rattle.std.specs.List.{filter_map, enumerate_from}
-use Rattle.ld_class.specs.Names.{AreDistinct, IsNameAt, place_of, with_name}
+use Rattle.ld_class.specs.Names.{AreDistinct, IsTaskAt, PlainClass, no_class, place_of_task}
+use Rattle.ld_class.specs.Names.{with_name, with_task}
 use Rattle.ld_class.specs.declared.names.TheConstants.{MOST_NAMES}
 use Rattle.ld_trace.specs.declared.event.State.{State}
 use Rattle.ld_trace.specs.Lines.{lines, text_of}
 use Rattle.ld_trace.specs.Sources.{PlainSource}
 use Rattle.ld_trace.specs.Events.{PlainEvent, PlainLock, Position, position_of, positions, said_by}
-use Rattle.ld_trace.specs.Events.PlainEvent.{Acquire, Try}
+use Rattle.ld_trace.specs.Events.PlainEvent.{Acquire, Try, Nested}
 use Rattle.ld_held.specs.declared.edges.EdgeFact.{EdgeFact}
 use Rattle.ld_rules.specs.declared.outcome.TheConstants.{MOST_CLASSES, MOST_HELD, MOST_TASKS}
 use Rattle.ld_held.specs.declared.interrupts.Interrupts.{Interrupts}
 use Rattle.ld_facts.specs.declared.scan.Scan.{Scan}
-use Rattle.ld_facts.specs.declared.scan.Taking.{Taking}
-use Rattle.ld_facts.specs.declared.scan.Taking.TheVariants.{Trying, Waiting}
+use Rattle.ld_facts.specs.declared.taking.Taking.{Taking}
+use Rattle.ld_facts.specs.declared.taking.Taking.TheVariants.{Nesting, Trying, Waiting}
 use Rattle.ld_facts.specs.Facts.{named, named_use}
 use Rattle.ld_held.specs.Inner.Edges.{edge_to, with_edge_fact}
 use Rattle.ld_held.specs.Inner.Interrupts.{fresh, levels_of, start_now, starts_of, states_of}
@@ -23,7 +24,7 @@ use Rattle.ld_rules.specs.Inner.Levels.{levels, starts, states}
 use Rattle.ld_facts.specs.Facts.{IsUse}
 use Rattle.ld_uses.specs.Inner.Uses.{in_facts, on_facts, with_use}
 use Rattle.ld_rules.specs.Usage.{uses_at}
-use Rattle.ld_rules.specs.Held.{held_by}
+use Rattle.ld_rules.specs.Held.{Acquisition, class_with, held_by}
 use Rattle.ld_held.specs.Inner.Locks.{Hold}
 use Rattle.ld_rules.specs.Outcome.{classes, events, faulty_lines, tasks}
 use Rattle.ld_rules.specs.Dependency.{Dependency, Seen, dependencies_at, seen}
@@ -33,7 +34,7 @@ use Rattle.ld_rules.specs.Inner.Scanned.{same_dependency_seen, same_use_seen, wi
 -- what a scan had when its trace began: classes, and by their names dependencies and usage bits, each
 -- with the line at which it was told
 pub record Start : Type 0 where
-  pub classes : List (List ℕ)
+  pub classes : List PlainClass
   pub edges : List (Seen Dependency)
   pub uses : List (Seen Use)
 
@@ -42,7 +43,7 @@ no_start = record { classes = []; edges = []; uses = [] }
 
 -- what is there after these positions: what they show is added, where it isn't there yet
 
-abbrev pub classes_after : Start → List PlainEvent → List (List ℕ)
+abbrev pub classes_after : Start → List PlainEvent → List PlainClass
 classes_after start past = fold with_name start.classes (classes past)
 
 abbrev pub edges_after : Start → List Position → List (Seen Dependency)
@@ -52,22 +53,37 @@ abbrev pub uses_after : Start → List Position → List (Seen Use)
 uses_after start all = fold (with_new same_use_seen) start.uses (seen uses_at all)
 
 -- the names of the classes with these numbers
-abbrev pub names_at : List (List ℕ) → List ℕ → List (List ℕ)
-names_at names numbers = map (λ n. slice_index_or names n []) numbers
+abbrev pub names_at : List PlainClass → List ℕ → List PlainClass
+names_at names numbers = map (λ n. slice_index_or names n no_class) numbers
 
 -- the trace's own classes
-abbrev pub own_names : Scan → List (List ℕ)
+abbrev pub own_names : Scan → List PlainClass
 own_names scan = names_at scan.classes scan.own
 
 -- the numbers of a dependency's classes are numbers of classes
-abbrev pub IsWithin : List (List ℕ) → EdgeFact → Type 0
+abbrev pub IsWithin : List PlainClass → EdgeFact → Type 0
 IsWithin classes edge = (edge.from < length classes) × (edge.to < length classes)
 
+-- a lock that is held, and the class by which it was acquired
+pub record HeldLock : Type 0 where
+  pub lock : PlainLock
+  pub class : PlainClass
+
+-- what the scan keeps of one, read by the names of the classes
+abbrev pub named_hold : List PlainClass → Hold → HeldLock
+named_hold names hold = record {
+  lock = hold.lock;
+  class = slice_index_or names hold.class no_class;
+}
+
+abbrev pub lock_held : Acquisition → HeldLock
+lock_held one = record { lock = one.key.lock; class = one.class }
+
 -- what the scan keeps of a task: what it holds, and its frames and flags
-pub record IsTask (names : List (List ℕ)) (stack : List Hold) (interrupts : Interrupts)
+pub record IsTask (names : List PlainClass) (stack : List Hold) (interrupts : Interrupts)
     (past : List PlainEvent) (task : List ℕ) : Type 0 where
-  pub locks : map (λ hold. hold.lock) stack ≡ map (λ key. key.lock) (held_by past task)
-  pub classes : All (λ hold. IsNameAt names hold.class hold.lock.class) stack
+  pub holds : map (named_hold names) stack ≡ map lock_held (held_by past task)
+  pub within : All (λ hold. hold.class < length names) stack
   pub states : states_of interrupts ≡ states past task
   pub starts : starts_of interrupts ≡ starts past task
   pub levels : (state : State) → levels_of state interrupts ≡ levels past task state
@@ -91,7 +107,7 @@ pub record IsAt (start : Start) (all : List Position) (scan : Scan) : Type 0 whe
   pub few_tasks : length scan.tasks ≤ MOST_TASKS
   pub few_classes : length scan.own ≤ MOST_CLASSES
   pub many : AreMany scan
-  pub each : (id : ℕ) (name : List ℕ) → IsNameAt scan.tasks id name
+  pub each : (id : ℕ) (name : List ℕ) → IsTaskAt scan.tasks id name
       → IsTask scan.classes (slice_index_or scan.locks.stacks id [])
       (slice_index_or scan.locks.interrupts id fresh) (events all) name
   pub shallow : (id : ℕ) → length (slice_index_or scan.locks.stacks id []) ≤ MOST_HELD
@@ -144,9 +160,9 @@ undone scan classes uses = record {
 
 -- the task has this number now, and all else is as before
 pub record HasTask (old : Scan) (name : List ℕ) (id : ℕ) (new : Scan) : Type 0 where
-  pub tasks : new.tasks ≡ with_name old.tasks name
-  pub place : IsNameAt new.tasks id name
-  pub fits : place_of old.tasks name ≡ None → length old.tasks < MOST_TASKS
+  pub tasks : new.tasks ≡ with_task old.tasks name
+  pub place : IsTaskAt new.tasks id name
+  pub fits : place_of_task old.tasks name ≡ None → length old.tasks < MOST_TASKS
   pub many : AreMany new
   pub classes : new.classes ≡ old.classes
   pub own : new.own ≡ old.own
@@ -164,6 +180,19 @@ happens line event = record { line = line; says = Ok event }
 abbrev pub acquisition : Taking → List ℕ → PlainLock → PlainEvent
 acquisition Waiting task lock = Acquire task lock
 acquisition Trying task lock = Try task lock
+acquisition (Nesting sub) task lock = Nested task lock sub
+
+-- whether the task may have waited for it
+abbrev pub waits : Taking → Bool
+waits Waiting = true
+waits Trying = false
+waits (Nesting sub) = true
+
+-- the class that it acquires
+abbrev pub class_taken : Taking → PlainLock → PlainClass
+class_taken Waiting lock = class_with lock 0
+class_taken Trying lock = class_with lock 0
+class_taken (Nesting sub) lock = class_with lock sub
 
 -- the scan when the task waits at this line for a lock of the class with this number: the
 -- dependencies are told, and the class is used in the task's contexts

@@ -1,8 +1,8 @@
 -- Violations by the numbers of the classes, and what the numbers stand for. No contract of a `Book`
 -- cites this file.
-use Rattle.std.specs.Prelude.{◌≡◌, ◌↔◌, ℕ, ◌<◌, ◌≤◌, List, [], length, slice_index_or, None, IfSome, IsSome, option_map}
+use Rattle.std.specs.Prelude.{◌≡◌, ◌↔◌, ℕ, ◌<◌, ◌≤◌, List, length, slice_index_or, None, IfSome, IsSome, option_map}
 use Rattle.ld_class.specs.declared.usage.Usage.{Usage}
-use Rattle.ld_class.specs.Names.{place_of}
+use Rattle.ld_class.specs.Names.{PlainClass, no_class, place_of}
 use Rattle.ld_graph.specs.declared.Edge.{Edge}
 use Rattle.ld_graph.specs.Edges.{IsEdge}
 use Rattle.ld_graph.specs.Walks.{HasWalk}
@@ -39,10 +39,10 @@ abbrev pub IsTold : PlainUnion → PlainNews → Type 0
 IsTold union news = (old : PlainUnion) × Tells old union news
 
 -- each class has the bits that its name has in the union of these sources
-pub record AreBitsOf (classes : List (List ℕ)) (usage : List Usage) (sources : List PlainSource) : Type 0 where
+pub record AreBitsOf (classes : List PlainClass) (usage : List Usage) (sources : List PlainSource) : Type 0 where
   pub within : length usage ≤ length classes
-  pub each : (class : ℕ) (bit : Bit) → class < length classes → (HasBitAt usage class bit) ↔ (HasBit sources (slice_index_or classes class []) bit)
-  pub known : (name : List ℕ) (bit : Bit) → HasBit sources name bit → IsSome (place_of classes name)
+  pub each : (class : ℕ) (bit : Bit) → class < length classes → (HasBitAt usage class bit) ↔ (HasBit sources (slice_index_or classes class no_class) bit)
+  pub known : (name : PlainClass) (bit : Bit) → HasBit sources name bit → IsSome (place_of classes name)
 
 -- what was found is exact, by number
 pub record AreFound (edges : List Edge) (usage : List Usage) (found : Found) : Type 0 where
@@ -63,13 +63,13 @@ pub record AreWithin (count : ℕ) (found : Found) : Type 0 where
   pub forbidden : (state : State) → IfSome (of_state found.forbidden state) (λ f. (f.from < count) × (f.to < count))
 
 -- the names of two numbers
-abbrev pub named_pair : List (List ℕ) → ℕ → ℕ → List ℕ × List ℕ
-named_pair classes a b = (slice_index_or classes a [], slice_index_or classes b [])
+abbrev pub named_pair : List PlainClass → ℕ → ℕ → PlainClass × PlainClass
+named_pair classes a b = (slice_index_or classes a no_class, slice_index_or classes b no_class)
 
 -- the alarms with the names of the numbers that were found
-abbrev pub named_alarms : List (List ℕ) → Found → PlainAlarms
+abbrev pub named_alarms : List PlainClass → Found → PlainAlarms
 named_alarms classes found = record {
   cycle = option_map (λ e. named_pair classes e.from e.to) found.cycle;
-  conflict = λ state. option_map (λ c. slice_index_or classes c []) (of_state found.conflict state);
+  conflict = λ state. option_map (λ c. slice_index_or classes c no_class) (of_state found.conflict state);
   forbidden = λ state. option_map (λ f. named_pair classes f.from f.to) (of_state found.forbidden state);
 }

@@ -11,6 +11,7 @@ ghost use Rattle.ld_find.specs.Violations.{IsConflict};
 use crate::alarms::{in_bit, on_bit};
 use crate::by_name::ByName;
 use crate::findings::used::noted;
+use ld_class::ClassName;
 use ld_facts::Witness;
 use ld_trace::State;
 use ld_union::Union;
@@ -22,7 +23,7 @@ pub struct ConflictRow<'a> {
     /// The state whose two usage bits the class has.
     pub state: State,
     /// The name of the class.
-    pub class: &'a [u8],
+    pub class: ClassName<'a>,
     /// The usage characters of the class.
     pub marks: [u8; 4],
     /// Where its IN bit was first seen: a handler acquired it, and not by a trylock.

@@ -12,6 +12,7 @@ use crate::alarms::Found;
 use crate::by_name::ByName;
 use crate::findings::walks::{Target, walk_names};
 use crate::rows::Rows;
+use ld_class::ClassName;
 use ld_facts::Witness;
 use ld_union::Union;
 use std::alloc::{AllocError, Global};
@@ -20,14 +21,14 @@ use std::alloc::{AllocError, Global};
 #[derive(Drop)]
 pub struct CycleRow<'a> {
     /// The class of the lock that was held.
-    pub from: &'a [u8],
+    pub from: ClassName<'a>,
     /// The class of the lock that was acquired under it.
-    pub to: &'a [u8],
+    pub to: ClassName<'a>,
     /// Where the dependency was first seen.
     pub at: Witness,
     /// The shown walk back from `to` to `from`, or nothing where they are equal. A shown walk is a
     /// shortest one, which goes on from each class to the least-named that is one step nearer.
-    pub via: Rows<&'a [u8]>,
+    pub via: Rows<ClassName<'a>>,
 }
 
 /// The dependencies that are on cycles, by the names of their classes, where one was found.

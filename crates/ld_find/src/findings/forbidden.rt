@@ -1,5 +1,6 @@
 //! The forbidden walks.
 ghost use Rattle.std.specs.Prelude.{◌≡◌, ◌<◌, IfOk, List, MatchOption, length, map};
+ghost use Rattle.ld_class.specs.Names.{plain_class};
 ghost use Rattle.ld_trace.specs.Sources.{PlainSource};
 ghost use Rattle.ld_facts.specs.Union.{dependency_witness, use_witness};
 ghost use Rattle.ld_facts.specs.Usage.Bit.{On};
@@ -15,6 +16,7 @@ use crate::by_name::ByName;
 use crate::findings::used::{UsedClass, noted};
 use crate::findings::walks::{Target, walk_names};
 use crate::rows::Rows;
+use ld_class::ClassName;
 use ld_facts::Witness;
 use ld_trace::State;
 use ld_union::Union;
@@ -27,19 +29,19 @@ pub struct ForbiddenRow<'a> {
     /// The state that the usage bits are of.
     pub state: State,
     /// The class with the IN bit, where the walk begins.
-    pub from: &'a [u8],
+    pub from: ClassName<'a>,
     /// The usage characters of `from`.
     pub from_marks: [u8; 4],
     /// Where the IN bit of `from` was first seen: a handler acquired it, and not by a trylock.
     pub safe_at: Witness,
     /// The class with the ON bit, where the walk ends.
-    pub to: &'a [u8],
+    pub to: ClassName<'a>,
     /// The usage characters of `to`.
     pub to_marks: [u8; 4],
     /// Where the ON bit of `to` was first seen: it was held while a handler could interrupt.
     pub unsafe_at: Witness,
     /// The shown walk from `from` to `to`.
-    pub via: Rows<&'a [u8]>,
+    pub via: Rows<ClassName<'a>>,
 }
 
 /// The forbidden walks, by state, then by the names of their ends.
@@ -148,7 +150,7 @@ fn forbidden_row<'a>(
     requires held { (sources : List PlainSource)
         → Shows sources union.now
         → IsNoted sources (class_name union.now.classes target.now.class) (On state)
-        held.name.now held.marks held.at }
+        (plain_class held.name) held.marks held.at }
     requires from { from < length union.now.classes }
     ensures { IfOk result (λ row. (sources : List PlainSource)
         → Shows sources union.now

@@ -1,5 +1,6 @@
 //! What rows say of the usage of a class.
 ghost use Rattle.std.specs.Prelude.{◌≡◌, ◌<◌, List, MatchOption, length};
+ghost use Rattle.ld_class.specs.Names.{plain_class};
 ghost use Rattle.ld_trace.specs.Sources.{PlainSource};
 ghost use Rattle.ld_facts.specs.Union.{use_witness};
 ghost use Rattle.ld_facts.specs.Usage.{Bit, IsBit, bit_of};
@@ -8,14 +9,14 @@ ghost use Rattle.ld_find.specs.Inner.Rows.{IsNoted};
 ghost use Rattle.ld_union.specs.Inner.Union.{Shows};
 ghost use Rattle.ld_find.specs.Violations.{HasBit};
 
-use ld_class::Usage;
+use ld_class::{ClassName, Usage};
 use ld_facts::Witness;
 use ld_union::Union;
 
 /// What the rows say of a class that has a bit.
 #[derive(Clone, Copy)]
 pub(crate) struct UsedClass<'a> {
-    pub(crate) name: &'a [u8],
+    pub(crate) name: ClassName<'a>,
     /// The usage characters of the class.
     pub(crate) marks: [u8; 4],
     /// Where the bit was first seen.
@@ -30,7 +31,7 @@ pub(crate) fn noted<'a>(union: &Union<'a>, class: u32, bit: Usage) -> Option<Use
         → Shows sources union.now
         → MatchOption result (¬ HasBit sources (class_name union.now.classes class) (bit_of bit))
         (λ n. IsNoted sources (class_name union.now.classes class) (bit_of bit)
-        n.name.now n.marks n.at) }
+        (plain_class n.name) n.marks n.at) }
 {
     let usage = &union.usage()[class as usize];
     Some(UsedClass {

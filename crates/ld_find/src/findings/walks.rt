@@ -11,7 +11,7 @@ ghost use Rattle.ld_union.specs.Inner.Union.{Shows, edges_of};
 
 use crate::by_name::ByName;
 use crate::rows::Rows;
-use ld_class::Classes;
+use ld_class::{ClassName, Classes};
 use ld_union::Union;
 use std::alloc::{AllocError, Global};
 
@@ -42,7 +42,7 @@ pub(crate) fn walk_names<'a>(
     order: &ByName,
     target: &Target,
     from: u32,
-) -> Result<Option<Rows<&'a [u8]>>, AllocError>
+) -> Result<Option<Rows<ClassName<'a>>>, AllocError>
     requires order { AreByName union.now.classes order.now.numbers.items order.now.places.items }
     requires class { target.now.class < length union.now.classes }
     requires distances { AreDistances union.now target.now.class target.now.distances.items }
@@ -73,7 +73,7 @@ fn names_of<'a>(
     alloc: Global,
     classes: &Classes<'a>,
     numbers: &[u32],
-) -> Result<Vec<&'a [u8]>, AllocError>
+) -> Result<Vec<ClassName<'a>>, AllocError>
     requires { All (λ c. c < length classes.now) numbers.now }
     ensures { IfOk result (λ names. plain_names names.items
         ≡ map (class_name classes.now) numbers.now) }

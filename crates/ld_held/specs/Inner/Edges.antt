@@ -1,5 +1,5 @@
 -- Dependencies between numbered classes. The calls of ld_held cite it, and nothing that
--- a caller of ld_facts sees.
+-- a caller of ld_batch sees.
 use Rattle.std.specs.Prelude.{ℕ, Bool, ◌&&◌, ◌==◌, List, [], ◌∷◌, ◌++◌, if◌then◌else◌}
 use Rattle.std.specs.List.{list_any}
 use Rattle.ld_held.specs.declared.edges.EdgeFact.{EdgeFact}

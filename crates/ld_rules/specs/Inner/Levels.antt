@@ -1,6 +1,6 @@
 -- The open frames of a task as a stack, and what stands in each: its state, its flags, and how many
--- locks the task held before it. The innermost frame comes first. No public contract cites this
--- file.
+-- locks the task held before it. The innermost frame comes first. Of public contracts those
+-- of a scan alone cite this file.
 use Rattle.std.specs.Prelude.{ℕ, Bool, true, false, List, [], ◌∷◌, length, map, reverse, take}
 use Rattle.std.specs.Option.{unwrap_or}
 use Rattle.ld_trace.specs.declared.event.State.{State}

@@ -1,5 +1,5 @@
--- What a scan does to its lists, by what stands at the positions that it has read. No public contract
--- cites this file.
+-- What a scan does to its lists, by what stands at the positions that it has read. Of public contracts
+-- those of a scan alone cite this file.
 use Rattle.std.specs.Prelude.{Bool, List, [], ◌∷◌, ◌++◌, cond, if◌then◌else◌}
 use Rattle.std.specs.List.{list_any}
 use Rattle.ld_rules.specs.Dependency.{Dependency, Seen, same_dependency}

@@ -6,12 +6,12 @@ use Rattle.ld_trace.specs.declared.event.Lock.{Lock}
 use Rattle.ld_trace.specs.declared.event.State.{State}
 use Rattle.ld_trace.specs.declared.event.LineFault.{LineFault}
 use Rattle.ld_trace.specs.declared.event.Verb.{Verb}
-use Rattle.ld_trace.specs.declared.event.Verb.TheVariants.{OfLock, OfState}
+use Rattle.ld_trace.specs.declared.event.Verb.TheVariants.{OfLock, OfState, Nested}
 use Rattle.ld_trace.specs.declared.event.LockVerb.{LockVerb}
 use Rattle.ld_trace.specs.declared.event.LockVerb.TheVariants as lock_verbs
 use Rattle.ld_trace.specs.declared.event.StateVerb.{StateVerb}
 use Rattle.ld_trace.specs.declared.event.StateVerb.TheVariants as state_verbs
-use Rattle.ld_trace.specs.Events.{PlainEvent, Acquire, Try, Release, Enter, Exit, Enable, Disable, PlainLock, Said, plain_lock, said_of_lock, said_of_state}
+use Rattle.ld_trace.specs.Events.{PlainEvent, Acquire, Try, Release, Enter, Exit, Enable, Disable, PlainLock, Said, plain_lock, said_of_lock, said_of_nested, said_of_state}
 
 -- the fields, where they are two
 abbrev pub two_fields_of : List (List ℕ) → Option (List ℕ × List ℕ)
@@ -22,6 +22,17 @@ two_fields_of (first ∷ second ∷ third ∷ others) = None
 
 abbrev pub both_now : Bor (List ℕ) × Bor (List ℕ) → List ℕ × List ℕ
 both_now pair = (pair.0.now, pair.1.now)
+
+-- the fields, where they are three
+abbrev pub three_fields_of : List (List ℕ) → Option (List ℕ × List ℕ × List ℕ)
+three_fields_of [] = None
+three_fields_of (first ∷ []) = None
+three_fields_of (first ∷ second ∷ []) = None
+three_fields_of (first ∷ second ∷ third ∷ []) = Some (first, second, third)
+three_fields_of (first ∷ second ∷ third ∷ fourth ∷ others) = None
+
+abbrev pub all_now : Bor (List ℕ) × Bor (List ℕ) × Bor (List ℕ) → List ℕ × List ℕ × List ℕ
+all_now fields = (fields.0.now, fields.1.now, fields.2.now)
 
 -- what a line says whose task and lock, or task and state, are read
 abbrev pub said_with_lock : (List ℕ → PlainLock → PlainEvent) → Result (Bor (List ℕ) × Lock) LineFault → Said
@@ -47,6 +58,7 @@ spelling_of_state_verb state_verbs.Disable = codes "disable"
 abbrev pub spelling : Verb → List ℕ
 spelling (OfLock verb) = spelling_of_lock_verb verb
 spelling (OfState verb) = spelling_of_state_verb verb
+spelling Nested = codes "nested"
 
 -- what a line with a verb says, by the fields after it
 abbrev pub said_after_lock_verb : LockVerb → List (List ℕ) → Said
@@ -63,3 +75,4 @@ said_after_state_verb state_verbs.Disable found = said_of_state Disable found
 abbrev pub said_after : Verb → List (List ℕ) → Said
 said_after (OfLock verb) found = said_after_lock_verb verb found
 said_after (OfState verb) found = said_after_state_verb verb found
+said_after Nested found = said_of_nested found

@@ -1,8 +1,8 @@
 -- What is kept of some traces, with numbers for their classes. No contract of a `Book` cites this file.
-use Rattle.std.specs.Prelude.{◌≡◌, ◌≢◌, ℕ, ◌<◌, ◌≤◌, ◌++◌, List, length, map, slice_index_or, [], All, AllPairs, Any, Option, Some, None, IsSome, option_map, MatchOption, if◌then◌else◌}
+use Rattle.std.specs.Prelude.{◌≡◌, ◌≢◌, ℕ, ◌<◌, ◌≤◌, ◌++◌, List, length, map, slice_index_or, All, AllPairs, Any, Option, Some, None, IsSome, option_map, MatchOption, if◌then◌else◌}
 use Rattle.std.specs.Option.{is_some}
 use Rattle.ld_class.specs.declared.names.TheConstants.{MOST_NAMES}
-use Rattle.ld_class.specs.Names.{AreDistinct, place_of}
+use Rattle.ld_class.specs.Names.{AreDistinct, PlainClass, no_class, place_of}
 use Rattle.ld_batch.specs.Inner.Names.{IsLonger}
 use Rattle.ld_trace.specs.declared.event.State.{State}
 use Rattle.ld_trace.specs.Sources.{PlainSource}
@@ -22,8 +22,8 @@ use Rattle.ld_union.specs.Inner.States.{of_state}
 use Rattle.ld_union.specs.Usage.{bits_of, row_of}
 
 -- the dependency that an edge stands for
-abbrev pub named_edge : List (List ℕ) → Edge → Dependency
-named_edge classes edge = record { from = slice_index_or classes edge.from []; to = slice_index_or classes edge.to [] }
+abbrev pub named_edge : List PlainClass → Edge → Dependency
+named_edge classes edge = record { from = slice_index_or classes edge.from no_class; to = slice_index_or classes edge.to no_class }
 
 -- the earlier of two witnesses, each of which may be absent
 abbrev pub earlier_of : Option Witness → Option Witness → Option Witness
@@ -36,7 +36,7 @@ abbrev pub seen_in : ℕ → Option ℕ → Option Witness
 seen_in number line = option_map (λ l. record { number = number; line = l }) line
 
 -- The rows are the dependencies that have a first witness, each with that witness.
-pub record AreWitnessed (classes : List (List ℕ)) (rows : List Witnessed) (first : Dependency → Option Witness) : Type 0 where
+pub record AreWitnessed (classes : List PlainClass) (rows : List Witnessed) (first : Dependency → Option Witness) : Type 0 where
   pub each : All (λ r. first (named_edge classes r.edge) ≡ Some r.first) rows
   pub all : (what : Dependency) → IsSome (first what) → Any (λ r. named_edge classes r.edge ≡ what) rows
 
@@ -45,7 +45,7 @@ abbrev pub edges_of : List Witnessed → List Edge
 edges_of rows = map (λ r. r.edge) rows
 
 -- Numbers stand for the classes, and each row is an edge between two of them, of which there is no other.
-pub record AreBetween (classes : List (List ℕ)) (rows : List Witnessed) : Type 0 where
+pub record AreBetween (classes : List PlainClass) (rows : List Witnessed) : Type 0 where
   pub distinct : AreDistinct classes
   pub ends : All (λ e. (e.from < length classes) × (e.to < length classes)) (edges_of rows)
   pub once : AllPairs (λ e f. e ≢ f) (edges_of rows)
@@ -63,16 +63,16 @@ abbrev pub with_first_use : (Use → Option Witness) → Use → Witness → Use
 with_first_use first seen witness what = earlier_of (first what) (if same_use what seen then Some witness else None)
 
 -- the first witness of each bit of this class
-abbrev pub of_class : (Use → Option Witness) → List ℕ → Bit → Option Witness
+abbrev pub of_class : (Use → Option Witness) → PlainClass → Bit → Option Witness
 of_class first class bit = first (record { class = class; bit = bit })
 
 -- Each class has a row, which has the first witness of each of its bits, and other classes have none.
-pub record AreUsed (classes : List (List ℕ)) (rows : List UsageRow) (first : Use → Option Witness) : Type 0 where
+pub record AreUsed (classes : List PlainClass) (rows : List UsageRow) (first : Use → Option Witness) : Type 0 where
   pub each : rows ≡ map (λ class. row_of (of_class first class)) classes
   pub known : (what : Use) → IsSome (first what) → IsSome (place_of classes what.class)
 
 -- the row of a class that is one of these
-abbrev pub known_row : List (List ℕ) → (Use → Option Witness) → List ℕ → Option UsageRow
+abbrev pub known_row : List PlainClass → (Use → Option Witness) → PlainClass → Option UsageRow
 known_row classes first class = if is_some (place_of classes class) then Some (row_of (of_class first class)) else None
 
 -- the first witnesses of a class's bits, once this one was seen there
@@ -83,7 +83,7 @@ with_bit first bit witness b = earlier_of (first b) (if same_bit b bit then Some
 -- of their numbers, for each class its usage, and for each state the classes to which a walk leads from one
 -- that handlers of the state acquire, in the order in which they were reached.
 pub record PlainUnion : Type 0 where
-  pub classes : List (List ℕ)
+  pub classes : List PlainClass
   pub dependencies : List Witnessed
   pub usage : List UsageRow
   pub reached : PerState (List ℕ)
@@ -98,7 +98,7 @@ IsCycleEdge edges closing = MatchOption closing (¬ ((e : Edge) × IsCycleAt edg
 
 -- What a union keeps true of its fields: the graph has the classes and the edges, each class has a row of
 -- usage, and for each state it is known what is reached.
-pub record IsUnion (classes : List (List ℕ)) (graph : graphs.PlainGraph) (dependencies : List Witnessed) (usage : List UsageRow) (closed_by : Option Edge) (reach : PerState PlainReach) : Type 0 where
+pub record IsUnion (classes : List PlainClass) (graph : graphs.PlainGraph) (dependencies : List Witnessed) (usage : List UsageRow) (closed_by : Option Edge) (reach : PerState PlainReach) : Type 0 where
   pub numbered : AreBetween classes dependencies
   pub few : length classes ≤ MOST_NAMES
   pub count : graph.classes ≡ length classes

@@ -1,5 +1,5 @@
 -- Class numbers, each once, and by each number its place among them. The calls of ld_uses cite it,
--- and nothing that a caller of ld_facts sees.
+-- and nothing that a caller of ld_batch sees.
 use Rattle.std.specs.Prelude.{◌≡◌, ◌<◌, ◌≤◌, ◌^◌, ℕ, List, length, slice_index_or}
 
 -- each class stands at its place in the order; the places of others say nothing

@@ -328,3 +328,5 @@ fn assert_accepted<R: Threads + Wait + Abort + Sync>(
     assert_report(rt, alloc, stream.as_bytes(), text.as_bytes(), 0);
     Ok(())
 }
+
+mod nested;

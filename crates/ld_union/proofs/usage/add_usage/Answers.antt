@@ -1,4 +1,5 @@
 use Rattle.std.proofs.Common.{rules, ◌≡◌, ◌+◌, ◌-◌, ◌<◌, ◌≤◌, ◌∙◌, List, [], ap, arith, get_or, length, subst, sym}
+use Rattle.ld_class.specs.Names.{no_class}
 use Rattle.ld_class.specs.Usage.{no_bits}
 use Rattle.ld_batch.specs.declared.uses.WitnessedUse.{WitnessedUse}
 use Rattle.ld_batch.specs.Batch.{named_use}
@@ -37,9 +38,9 @@ loop-seen-preserved c =
       room = c.note_use.ensures.room (length batch.usage - (i + 1)) (omega (arith, c.loop-seen.invariant.room, here));
       told = c.note_use.ensures.told (bits_of c.args.rows.now) c.loop-seen.invariant.told;
       used = λ classes distinct are first used.
-          let seen : Use = record { class = get_or classes class []; bit = bit_of told.bit } in
+          let seen : Use = record { class = get_or classes class no_class; bit = bit_of told.bit } in
           let same : seen ≡ (named_use batch.classes (get_or batch.usage i no_use)).what = λ j. record {
-            class = ((are.each told.class within).1 ∙ ap (λ (used : WitnessedUse). get_or batch.classes used.class []) same_told) j;
+            class = ((are.each told.class within).1 ∙ ap (λ (used : WitnessedUse). get_or batch.classes used.class no_class) same_told) j;
             bit = bit_of (same_told j).bit;
           } in
           subst (AreUsed classes c.note_use.new.rows)

@@ -1,5 +1,5 @@
 use Rattle.std.proofs.Common.{◌≡◌, ◌-◌, ◌≤◌, ◌+◌, List, ℕ, Option, length, map, take, vec_len, vec_capacity}
-use Rattle.ld_class.specs.Names.{AreDistinct}
+use Rattle.ld_class.specs.Names.{AreDistinct, PlainClass}
 use Rattle.ld_rules.specs.declared.outcome.Witness.{Witness}
 use Rattle.ld_facts.specs.Usage.{Use, same_use}
 use Rattle.ld_batch.specs.Batch.{named_use, witness_of}
@@ -14,6 +14,6 @@ invariant-loop-seen l = record {
   len : length l.rows ≡ length l.fn.rows;
   room : vec_len l.bits + (length l.batch.usage - l.seen-index) ≤ vec_capacity l.bits;
   told : TellsBits (bits_of l.fn.rows) (bits_of l.rows) l.bits.items;
-  used : (classes : List (List ℕ)) → AreDistinct classes → ArePlaces classes l.batch.classes l.places → (first : Use → Option Witness) → AreUsed classes l.fn.rows first
+  used : (classes : List PlainClass) → AreDistinct classes → ArePlaces classes l.batch.classes l.places → (first : Use → Option Witness) → AreUsed classes l.fn.rows first
       → AreUsed classes l.rows (with_first first (witness_of same_use (map (named_use l.batch.classes) (take l.seen-index l.batch.usage))));
 }

@@ -1,5 +1,6 @@
 use Rattle.std.proofs.Common.{◌<◌, [], get_or, refl, subst}
 use Rattle.std.proofs.lemmas.Bool.{OnFalse_at, OnTrue_at}
+use Rattle.ld_class.specs.Names.{no_class}
 use Rattle.ld_facts.specs.Usage.{bit_of}
 use Rattle.ld_union.specs.Inner.Union.{of_class}
 use Rattle.ld_union.proofs.NewsLemmas.{tells-known, tells-new}
@@ -12,7 +13,7 @@ returns-in-Ok-clause-used c classes distinct first used =
     let shown = c.args.shown in
     let within : shown.class < _ = subst (λ n. shown.class < n) (length_used classes rows first used) c.requires.class in
     used-seen classes rows first used distinct shown.class within (bit_of shown.bit) c.args.witness c.note.new.self
-    (c.note.ensures.noted (of_class first (get_or classes shown.class [])) (row_at classes rows first used shown.class _ within))
+    (c.note.ensures.noted (of_class first (get_or classes shown.class no_class)) (row_at classes rows first used shown.class _ within))
 
 pub returns-else-note-clause-used : goal.returns-else-note-clause-used
 returns-else-note-clause-used c classes distinct first used =
@@ -20,7 +21,7 @@ returns-else-note-clause-used c classes distinct first used =
     let shown = c.args.shown in
     let within : shown.class < _ = subst (λ n. shown.class < n) (length_used classes rows first used) c.requires.class in
     used-seen classes rows first used distinct shown.class within (bit_of shown.bit) c.args.witness c.note.new.self
-    (c.note.ensures.noted (of_class first (get_or classes shown.class [])) (row_at classes rows first used shown.class _ within))
+    (c.note.ensures.noted (of_class first (get_or classes shown.class no_class)) (row_at classes rows first used shown.class _ within))
 
 pub returns-in-Ok-clause-told : goal.returns-in-Ok-clause-told
 returns-in-Ok-clause-told c before tells =

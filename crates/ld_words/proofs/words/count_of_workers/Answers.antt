@@ -4,7 +4,7 @@ use Rattle.std.specs.Range.{range_inclusive_end, range_inclusive_start}
 use Rattle.clap.specs.Words.{NarrowsTo, Rule, rule_of}
 use Rattle.clap.specs.declared.builder.value_parser.ValueParser.{ValueParser}
 use Rattle.clap.specs.declared.builder.value_parser.ValueParser.TheVariants as value_parsers
-use Rattle.ld_words.specs.Words.{workers_argument}
+use Rattle.ld_words.specs.Inner.Words.{workers_argument}
 use Rattle.ld_words.proofs.words.count_of_workers.Goals as goal
 
 pub returns-clause-rule : goal.returns-clause-rule

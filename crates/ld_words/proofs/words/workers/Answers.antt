@@ -3,7 +3,7 @@ use Rattle.std.proofs.Common.{rules, arith, ap, ap₂, refl, true, codes, length
 use Rattle.clap.specs.Words.{Text, found_of, is_simple, matches_of, one_of, one_text, takes}
 use Rattle.clap.proofs.OnLiterals.{clap_on_literals}
 use Rattle.clap.proofs.WalkLemmas.{one_text-rows}
-use Rattle.ld_words.specs.Words.{told_by_words}
+use Rattle.ld_words.specs.Inner.Words.{told_by_words}
 use Rattle.ld_words.proofs.words.workers.Goals as goal
 
 is_default : (name : Text) → one_of (codes "workers") (matches_of told_by_words (name ∷ [])) ≡ Some (codes "4")

@@ -13,6 +13,10 @@ pub returns-in-Try-clause-fault : goal.returns-in-Try-clause-fault
 returns-in-Try-clause-fault c fault is start all is_at =
     ap (λ e. event_fault (events all) (plain_event e)) c.in-Try.is ∙ c.acquire-in-Try.ensures.fault fault is start all is_at
 
+pub returns-in-Nested-clause-fault : goal.returns-in-Nested-clause-fault
+returns-in-Nested-clause-fault c fault is start all is_at =
+    ap (λ e. event_fault (events all) (plain_event e)) c.in-Nested.is ∙ c.acquire-in-Nested.ensures.fault fault is start all is_at
+
 pub returns-in-Release-clause-ok : goal.returns-in-Release-clause-ok
 returns-in-Release-clause-ok c = on_ok_weaker c.release.result
     (λ h start all is_at. subst (λ e. IsAt start (all ++ happens c.args.line (plain_event e) ∷ []) c.release.new.self) (sym c.in-Release.is) (h start all c.args.line is_at))

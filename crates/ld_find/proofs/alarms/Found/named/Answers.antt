@@ -1,4 +1,5 @@
-use Rattle.std.proofs.Common.{◌≡◌, ◌∷◌, [], List, ℕ, None, get_or, option_map}
+use Rattle.std.proofs.Common.{◌≡◌, ◌∷◌, [], None, get_or, option_map}
+use Rattle.ld_class.specs.Names.{PlainClass, no_class, plain_class}
 use Rattle.ld_trace.specs.declared.event.State.{State}
 use Rattle.ld_trace.specs.declared.event.State.TheVariants.{Hard, Soft}
 use Rattle.ld_find.specs.Alarms.{state_place}
@@ -25,12 +26,12 @@ returns c = λ i. record {
   forbidden = λ state. forbidden state i;
 }
   where
-    conflict : (state : State) → option_map (λ name. name.now) (get_or (c.class_name.result ∷ c.class_name-2.result ∷ []) (state_place state) None)
-        ≡ option_map (λ class. get_or c.args.classes.now class []) (of_state c.args.self.now.conflict state)
+    conflict : (state : State) → option_map plain_class (get_or (c.class_name.result ∷ c.class_name-2.result ∷ []) (state_place state) None)
+        ≡ option_map (λ class. get_or c.args.classes.now class no_class) (of_state c.args.self.now.conflict state)
     conflict Hard = c.class_name.ensures
     conflict Soft = c.class_name-2.ensures
 
-    forbidden : (state : State) → option_map {U = List ℕ × List ℕ} (λ p. (p.0.now, p.1.now)) (get_or (c.end_names.result ∷ c.end_names-2.result ∷ []) (state_place state) None)
+    forbidden : (state : State) → option_map {U = PlainClass × PlainClass} (λ p. (plain_class p.0, plain_class p.1)) (get_or (c.end_names.result ∷ c.end_names-2.result ∷ []) (state_place state) None)
         ≡ option_map (λ w. named_pair c.args.classes.now w.from w.to) (of_state c.args.self.now.forbidden state)
     forbidden Hard = c.end_names.ensures
     forbidden Soft = c.end_names-2.ensures

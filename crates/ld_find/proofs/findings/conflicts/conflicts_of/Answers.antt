@@ -1,5 +1,6 @@
 use Rattle.std.proofs.Common.{◌≡◌, ◌<◌, ◌≤◌, ◌+◌, ℕ, ◌∙◌, ◌∷◌, ◌++◌, [], List, Vec, length, get_or, map, subst, sym, ap}
 use Rattle.std.proofs.lemmas.List.{append-nil, map-append}
+use Rattle.ld_class.specs.Names.{PlainClass}
 use Rattle.ld_trace.specs.declared.event.State.{State}
 use Rattle.ld_facts.specs.Union.{use_witness}
 use Rattle.ld_facts.specs.Usage.Bit.{In}
@@ -21,7 +22,7 @@ loop-class-preserved c sources shows =
     let name : class_name classes (get_or c.deref-class-items.result.now i 0) ≡ name_at classes numbers i = ap (λ ns. class_name classes (get_or ns i 0)) c.deref-class-items.ensures.value in
     let within : i < length numbers = subst (λ ns. i < length ns) c.deref-class-items.ensures.value c.loop-class-test.true in
     let before = map plain_conflict_row c.loop-class.rows.items in
-    let owed = λ (p : State × List ℕ). IsConflict sources p.0 p.1 in
+    let owed = λ (p : State × PlainClass). IsConflict sources p.0 p.1 in
     elim c.match-conflict_row.branch [
       | in-Some+in_ok-push w ↦
           let row = plain_conflict_row w.in-Some.row in

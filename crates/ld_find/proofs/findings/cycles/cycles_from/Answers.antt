@@ -1,6 +1,7 @@
 use Rattle.std.proofs.Common.{◌≡◌, ◌<◌, ◌≤◌, ◌+◌, ℕ, ◌∙◌, ◌∷◌, ◌++◌, [], List, None, Vec, false, get_or, is_some, length, map, subst, sym, ap}
 use Rattle.std.proofs.lemmas.List.{append-nil, get_or_default, map-append}
 use Rattle.std.proofs.lemmas.Option.{MatchOption-at_none, MatchOption-at_some}
+use Rattle.ld_class.specs.Names.{PlainClass}
 use Rattle.ld_graph.specs.Edges.{IsEdge}
 use Rattle.ld_graph.specs.Walks.{HasWalk}
 use Rattle.ld_find.specs.Findings.{IsBefore, IsCycleRow, IsPairBefore, cycle_key, plain_cycle_row}
@@ -42,7 +43,7 @@ loop-to-preserved c sources shows =
     let name : class_name classes to ≡ name_at classes numbers i = ap (λ ns. class_name classes (get_or ns i 0)) c.deref-to-items.ensures.value in
     let within : i < length numbers = subst (λ ns. i < length ns) c.deref-to-items.ensures.value c.loop-to-test.true in
     let before = map plain_cycle_row c.loop-to.rows.items in
-    let owed = λ (p : List ℕ × List ℕ). IsCycle sources p.0 p.1 in
+    let owed = λ (p : PlainClass × PlainClass). IsCycle sources p.0 p.1 in
     elim c.match-branch-3.branch [
       | in-Some+in_ok-push w ↦
           let row = plain_cycle_row w.in-Some.row in

@@ -1,5 +1,6 @@
 use Rattle.std.proofs.Common.{subst}
 use Rattle.std.proofs.lemmas.Option.{MatchOption-at_none, MatchOption-at_some}
+use Rattle.ld_class.specs.Names.{plain_class}
 use Rattle.ld_facts.specs.Usage.Bit.{In}
 use Rattle.ld_find.specs.Inner.ByName.{class_name}
 use Rattle.ld_find.specs.Inner.Rows.{IsNoted}
@@ -31,6 +32,6 @@ returns c sources shows =
       unsafe_at = held.at;
       via = c.in-Some-2.via;
     }))
-    (subst (λ bit. IsNoted sources a bit acquired.name.now acquired.marks acquired.at) (bit_of-usage_of (In c.args.state) c.in_bit.result c.in_bit.ensures) (c.in-Some.ensures sources shows))
+    (subst (λ bit. IsNoted sources a bit (plain_class acquired.name) acquired.marks acquired.at) (bit_of-usage_of (In c.args.state) c.in_bit.result c.in_bit.ensures) (c.in-Some.ensures sources shows))
     (c.requires.held sources shows)
     (MatchOption-at_some _ _ c.in-Some-2.via c.in-Some-2.is c.in_ok-via.ensures sources shows)

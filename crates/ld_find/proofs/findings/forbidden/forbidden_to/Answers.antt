@@ -1,6 +1,7 @@
 use Rattle.std.proofs.Common.{◌≡◌, ◌<◌, ◌≤◌, ◌+◌, ℕ, ◌∙◌, ◌∷◌, ◌++◌, [], List, Vec, get_or, length, map, subst, sym, ap}
 use Rattle.std.proofs.lemmas.List.{append-nil, map-append}
 use Rattle.std.proofs.lemmas.Option.{MatchOption-at_none, MatchOption-at_some}
+use Rattle.ld_class.specs.Names.{PlainClass, plain_class}
 use Rattle.ld_facts.specs.Union.{use_witness}
 use Rattle.ld_facts.specs.Usage.Bit.{In, On}
 use Rattle.ld_find.specs.Findings.{IsBefore, IsPairBefore, plain_forbidden_row}
@@ -18,8 +19,8 @@ pub forbidden_row-requires-clause-held : goal.forbidden_row-requires-clause-held
 forbidden_row-requires-clause-held c sources shows =
     let classes = c.args.union.now.classes in
     let held = c.in-Some.held in
-    subst (λ class. IsNoted sources (class_name classes class) (On c.args.state) held.name.now held.marks held.at) (sym c.in_ok-target.ensures.class)
-    (subst (λ bit. IsNoted sources (class_name classes c.args.to) bit held.name.now held.marks held.at)
+    subst (λ class. IsNoted sources (class_name classes class) (On c.args.state) (plain_class held.name) held.marks held.at) (sym c.in_ok-target.ensures.class)
+    (subst (λ bit. IsNoted sources (class_name classes c.args.to) bit (plain_class held.name) held.marks held.at)
     (bit_of-usage_of (On c.args.state) c.on_bit.result c.on_bit.ensures) (c.in-Some.ensures sources shows))
 
 pub loop-from-preserved : goal.loop-from-preserved
@@ -35,7 +36,7 @@ loop-from-preserved c sources shows =
     let name : class_name classes from ≡ name_at classes numbers i = ap (λ ns. class_name classes (get_or ns i 0)) c.deref-from-items.ensures.value in
     let within : i < length numbers = subst (λ ns. i < length ns) c.deref-from-items.ensures.value c.loop-from-test.true in
     let before = map plain_forbidden_row c.loop-from.rows.items in
-    let owed = λ (p : List ℕ × List ℕ). IsForbidden sources state p.1 p.0 in
+    let owed = λ (p : PlainClass × PlainClass). IsForbidden sources state p.1 p.0 in
     elim c.match-branch-3.branch [
       | in-Some-2+in_ok-push w ↦
           let row = plain_forbidden_row w.in-Some-2.row in

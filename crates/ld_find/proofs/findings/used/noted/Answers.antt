@@ -1,4 +1,5 @@
 use Rattle.std.proofs.Common.{rules, ◌≡◌, ◌∙◌, MatchOption, None, ap, get_or, subst, sym}
+use Rattle.ld_class.specs.Names.{plain_class}
 use Rattle.ld_class.specs.Usage.{marks_of}
 use Rattle.ld_facts.specs.Union.{use_witness}
 use Rattle.ld_facts.specs.Usage.{bit_of}
@@ -20,7 +21,7 @@ returns-in_err-witness c sources shows =
     let usage : (d : UsageRow) → get_or c.usage.result.now c.args.class d ≡ row_of first = λ d.
     ap (λ rows. get_or rows c.args.class d) c.usage.ensures.same ∙ row_at union.classes union.usage (use_witness sources) shows.used c.args.class d c.requires.class in
     let none : c.from_residual.result ≡ None = search rules in
-    subst (λ row. MatchOption row (¬ HasBit sources class (bit_of c.args.bit)) (λ n. IsNoted sources class (bit_of c.args.bit) n.name.now n.marks n.at)) (sym none)
+    subst (λ row. MatchOption row (¬ HasBit sources class (bit_of c.args.bit)) (λ n. IsNoted sources class (bit_of c.args.bit) (plain_class n.name) n.marks n.at)) (sym none)
     (no_witness (first (bit_of c.args.bit)) (c.in_err-witness.ensures first (usage _)))
 
 pub returns : goal.returns

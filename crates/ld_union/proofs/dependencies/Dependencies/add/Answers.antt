@@ -1,6 +1,7 @@
 use Rattle.std.proofs.Common.{rules, ◌≡◌, ◌+◌, ◌-◌, ◌<◌, ◌≤◌, ◌∙◌, List, [], ap, arith, get_or, length, subst, sym, take}
 use Rattle.std.proofs.lemmas.List.{length-take}
 use Rattle.std.proofs.Math.Seq.{take-length}
+use Rattle.ld_class.specs.Names.{no_class}
 use Rattle.ld_batch.specs.declared.edges.WitnessedEdge.{WitnessedEdge}
 use Rattle.ld_batch.specs.Batch.{named}
 use Rattle.ld_facts.specs.Dependency.{Dependency, same_dependency}
@@ -59,8 +60,8 @@ loop-seen-preserved c =
       witnesses = λ classes same numbered are first witnessed.
           let seen : Dependency = named_edge classes (record { from = get_or places told.from 0; to = get_or places told.to 0 }) in
           let same_seen : seen ≡ (named batch.classes (get_or batch.edges i no_edge)).what = λ j. record {
-            from = ((are.each told.from within.0).1 ∙ ap (λ (edge : WitnessedEdge). get_or batch.classes edge.from []) same_told) j;
-            to = ((are.each told.to within.1).1 ∙ ap (λ (edge : WitnessedEdge). get_or batch.classes edge.to []) same_told) j;
+            from = ((are.each told.from within.0).1 ∙ ap (λ (edge : WitnessedEdge). get_or batch.classes edge.from no_class) same_told) j;
+            to = ((are.each told.to within.1).1 ∙ ap (λ (edge : WitnessedEdge). get_or batch.classes edge.to no_class) same_told) j;
           } in
           subst (AreWitnessed classes c.note.new.self.rows.items)
           (λ j what. one_noted same_dependency same_dependency-true (named batch.classes) batch.edges

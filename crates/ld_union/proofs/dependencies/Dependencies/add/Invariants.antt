@@ -1,4 +1,5 @@
 use Rattle.std.proofs.Common.{◌≡◌, ◌+◌, ◌-◌, ◌≤◌, List, ℕ, Option, length, map, take, vec_len, vec_capacity}
+use Rattle.ld_class.specs.Names.{PlainClass}
 use Rattle.ld_rules.specs.declared.outcome.Witness.{Witness}
 use Rattle.ld_facts.specs.Dependency.{Dependency, same_dependency}
 use Rattle.ld_batch.specs.Batch.{named, witness_of}
@@ -18,8 +19,8 @@ invariant-loop-seen l = record {
   reached : AreInFront l.fn.self.reach l.self.reach;
   exact : StayExact (edges_of l.fn.self.rows.items) (edges_of l.self.rows.items) l.fn.self.reach l.self.reach;
   closing : IsCycleEdge (edges_of l.fn.self.rows.items) l.fn.self.closing → IsCycleEdge (edges_of l.self.rows.items) l.self.closing;
-  numbered : (classes : List (List ℕ)) → length classes ≡ l.fn.self.graph.classes → AreBetween classes l.fn.self.rows.items → AreBetween classes l.self.rows.items;
-  witnesses : (classes : List (List ℕ)) → length classes ≡ l.fn.self.graph.classes → AreBetween classes l.fn.self.rows.items → ArePlaces classes l.batch.classes l.places
+  numbered : (classes : List PlainClass) → length classes ≡ l.fn.self.graph.classes → AreBetween classes l.fn.self.rows.items → AreBetween classes l.self.rows.items;
+  witnesses : (classes : List PlainClass) → length classes ≡ l.fn.self.graph.classes → AreBetween classes l.fn.self.rows.items → ArePlaces classes l.batch.classes l.places
       → (first : Dependency → Option Witness) → AreWitnessed classes l.fn.self.rows.items first
       → AreWitnessed classes l.self.rows.items (with_first first (witness_of same_dependency (map (named l.batch.classes) (take l.seen-index l.batch.edges))));
 }

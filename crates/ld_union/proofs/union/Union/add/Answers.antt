@@ -1,6 +1,7 @@
 use Rattle.std.proofs.Common.{rules, All, Contains, ◌<◌, ◌≡◌, ◌-◌, ◌++◌, ◌∷◌, ◌∙◌, [], None, List, ℕ, ap, arith, length, replicate, subst, sym, take}
 use Rattle.std.proofs.lemmas.List.{take_all, with_items_is}
 use Rattle.std.specs.Vec.{with_items}
+use Rattle.ld_class.specs.Names.{PlainClass}
 use Rattle.ld_graph.specs.Edges.{IsEdge}
 use Rattle.ld_reach.specs.Reach.{IsReach, PlainReach}
 use Rattle.ld_trace.specs.declared.event.State.{State}
@@ -30,7 +31,7 @@ module _ (c : goal.After-seed_all) where
   abbrev old_usage : List UsageRow
   old_usage = c.self.inside.usage.items
 
-  abbrev classes : List (List ℕ)
+  abbrev classes : List PlainClass
   classes = c.intern_all.new.names
 
   abbrev count : ℕ
