@@ -109,6 +109,7 @@ fn cycle_row<'a>(
     let Some(number) = union.graph().edge(target.class, to) else {
         return Ok(None);
     };
+    let at = union.dependencies()[number as usize].first;
     let via = if to == target.class {
         // A class that is acquired under itself shows no walk.
         Rows::from(Vec::new(alloc))
@@ -121,7 +122,7 @@ fn cycle_row<'a>(
     Ok(Some(CycleRow {
         from: union.classes().name(target.class),
         to: union.classes().name(to),
-        at: union.dependencies()[number as usize].first,
+        at,
         via,
     }))
 }

@@ -1,6 +1,6 @@
 use Rattle.std.proofs.Common.{◌≡◌, ◌≢◌, ◌<◌, ◌∙◌, [], None, Some, get_or, is_some, false, length, refl, subst, sym, ap}
 use Rattle.std.proofs.lemmas.List.{get_or_default}
-use Rattle.std.proofs.lemmas.Option.{MatchOption-at_some}
+use Rattle.std.proofs.lemmas.Option.{MatchOption-at_none, MatchOption-at_some}
 use Rattle.ld_graph.specs.Edges.{IsEdge, IsEdgeNumber, edge}
 use Rattle.ld_facts.specs.Union.{dependency_witness}
 use Rattle.ld_facts.specs.Dependency.{Dependency}
@@ -31,6 +31,12 @@ returns-in_default c sources shows =
     let union = c.args.union.now in
     no_cycle-edge union.classes union.dependencies shows.numbered sources shows.witnesses c.args.target.now.class c.args.to c.requires.class c.requires.to
     (subst (λ edges. ¬ IsEdge edges c.args.target.now.class c.args.to) c.graph.ensures.edges c.in_default.ensures)
+
+pub returns-in_default-2 : goal.returns-in_default-2
+returns-in_default-2 c sources shows =
+    let union = c.args.union.now in
+    no_cycle-walk union.classes union.dependencies shows.numbered sources shows.witnesses c.args.target.now.class c.args.to c.requires.class c.requires.to
+    (MatchOption-at_none _ _ c.in_default-2.is c.in_ok-via.ensures)
 
 pub returns : goal.returns
 returns c sources shows =
