@@ -1,20 +1,30 @@
 //! Names and their numbers.
 
-use ld_class::{Classes, MOST_NAMES};
+use ld_class::{ClassName, Classes, MOST_NAMES, RecentNames};
+
+/// The class of this name, and not one of its subclasses.
+fn class(name: &[u8]) -> ClassName<'_> {
+    ClassName { name, sub: 0 }
+}
 
 #[test]
 fn numbers_names_in_order_of_first_insertion(rt: HostRuntime) {
+    let nested = ClassName {
+        name: b"B",
+        sub: 1,
+    };
     let mut classes = Classes::new(rt.alloc());
-    assert_eq!(rt; classes.intern(b"B"), Ok(0));
-    assert_eq!(rt; classes.intern(b"A"), Ok(1));
-    assert_eq!(rt; classes.intern(b"B"), Ok(0));
-    assert_eq!(rt; classes.len(), 2);
-    assert_eq!(rt; classes.name(1), b"A".as_slice());
-    assert_eq!(rt; classes.find(b"A"), Some(1));
-    assert_eq!(rt; classes.find(b"C"), None);
+    assert_eq!(rt; classes.intern(class(b"B")), Ok(0));
+    assert_eq!(rt; classes.intern(class(b"A")), Ok(1));
+    assert_eq!(rt; classes.intern(class(b"B")), Ok(0));
+    assert_eq!(rt; classes.intern(nested), Ok(2));
+    assert_eq!(rt; classes.len(), 3);
+    assert_eq!(rt; classes.name(2), nested);
+    assert_eq!(rt; classes.find(class(b"A")), Some(1));
+    assert_eq!(rt; classes.find(class(b"C")), None);
     classes.cut(1);
-    assert_eq!(rt; classes.find(b"A"), None);
-    assert_eq!(rt; classes.intern(b"C"), Ok(1));
+    assert_eq!(rt; classes.find(class(b"A")), None);
+    assert_eq!(rt; classes.intern(class(b"C")), Ok(1));
     drop(classes);
 }
 
@@ -26,14 +36,14 @@ fn a_refused_growth_changes_nothing(rt: HostRuntime) {
     let text = [b'x'; 200];
     let mut classes = Classes::new(rt.alloc());
     for id in 0..200u32 {
-        let name = &text[..=id as usize];
+        let name = class(&text[..=id as usize]);
         assert!(rt; classes.len() < MOST_NAMES);
         let mut answer = classes.intern(name);
         if answer.is_err() {
             assert_eq!(rt; classes.find(name), None);
             assert_eq!(rt; classes.len(), id as usize);
             for known in 0..id {
-                let known_name = &text[..=known as usize];
+                let known_name = class(&text[..=known as usize]);
                 assert_eq!(rt; classes.find(known_name), Some(known));
                 assert_eq!(rt; classes.name(known), known_name);
             }
@@ -43,4 +53,27 @@ fn a_refused_growth_changes_nothing(rt: HostRuntime) {
     }
     assert_eq!(rt; classes.len(), 200);
     drop(classes);
+}
+
+// The same of names of tasks.
+#[test]
+fn a_refused_growth_loses_no_task(rt: HostRuntime) {
+    let text = [b'x'; 200];
+    let mut tasks = RecentNames::new(rt.alloc());
+    for id in 0..200u32 {
+        let name = &text[..=id as usize];
+        assert!(rt; tasks.len() < MOST_NAMES);
+        let mut answer = tasks.intern(name);
+        if answer.is_err() {
+            assert_eq!(rt; tasks.find(name), None);
+            assert_eq!(rt; tasks.len(), id as usize);
+            for known in 0..id {
+                assert_eq!(rt; tasks.find(&text[..=known as usize]), Some(known));
+            }
+            answer = tasks.intern(name);
+        }
+        assert_eq!(rt; answer, Ok(id));
+    }
+    assert_eq!(rt; tasks.len(), 200);
+    drop(tasks);
 }
