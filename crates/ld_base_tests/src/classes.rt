@@ -9,10 +9,7 @@ fn class(name: &[u8]) -> ClassName<'_> {
 
 #[test]
 fn numbers_names_in_order_of_first_insertion(rt: HostRuntime) {
-    let nested = ClassName {
-        name: b"B",
-        sub: 1,
-    };
+    let nested = ClassName { name: b"B", sub: 1 };
     let mut classes = Classes::new(rt.alloc());
     assert_eq!(rt; classes.intern(class(b"B")), Ok(0));
     assert_eq!(rt; classes.intern(class(b"A")), Ok(1));

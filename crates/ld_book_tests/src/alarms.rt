@@ -26,14 +26,9 @@ const FORBIDDEN_THROUGH: &[u8] = b"trace g\nenter t hard\nacquire t H\nrelease t
 const APART: &[u8] = b"trace a\ndisable t hard\nacquire t H\nacquire t U\n\
     trace b\nacquire t U\ntrace c\nenter t hard\nacquire t H\n";
 
-const H: ClassName<'static> = ClassName {
-    name: b"H",
-    sub: 0,
-};
-const U: ClassName<'static> = ClassName {
-    name: b"U",
-    sub: 0,
-};
+const H: ClassName<'static> = ClassName { name: b"H", sub: 0 };
+
+const U: ClassName<'static> = ClassName { name: b"U", sub: 0 };
 
 /// The alarms of the book of a stream, whose traces are added in this order.
 fn alarms_of<'a, R: Abort>(rt: &R, alloc: Global, bytes: &'a [u8], order: &[usize]) -> Alarms<'a> {
@@ -82,11 +77,7 @@ fn a_dependency_on_a_cycle_is_an_alarm(rt: HostRuntime) {
     let nested = b"trace n\nnested t A@1 1\nnested t A@2 1\n";
     let cycles: [(&[u8], &[usize], &[(ClassName<'_>, ClassName<'_>)]); 4] = [
         (INVERSION, &[0, 1], &[(A, B), (B, A)]),
-        (
-            THREE_TRACES,
-            &[0, 1, 2],
-            &[(A, B), (B, C), (C, A)],
-        ),
+        (THREE_TRACES, &[0, 1, 2], &[(A, B), (B, C), (C, A)]),
         (recursion, &[0], &[(A, A)]),
         (nested, &[0], &[(A_1, A_1)]),
     ];

@@ -7,24 +7,14 @@ use ld_trace::{Source, split};
 use std::alloc::{AllocError, Global};
 use std::process::Abort;
 
-pub(crate) const A: ClassName<'static> = ClassName {
-    name: b"A",
-    sub: 0,
-};
-pub(crate) const B: ClassName<'static> = ClassName {
-    name: b"B",
-    sub: 0,
-};
-pub(crate) const C: ClassName<'static> = ClassName {
-    name: b"C",
-    sub: 0,
-};
+pub(crate) const A: ClassName<'static> = ClassName { name: b"A", sub: 0 };
+
+pub(crate) const B: ClassName<'static> = ClassName { name: b"B", sub: 0 };
+
+pub(crate) const C: ClassName<'static> = ClassName { name: b"C", sub: 0 };
 
 /// The subclass 1 of A.
-pub(crate) const A_1: ClassName<'static> = ClassName {
-    name: b"A",
-    sub: 1,
-};
+pub(crate) const A_1: ClassName<'static> = ClassName { name: b"A", sub: 1 };
 
 /// The alarms of a book without a violation.
 pub(crate) const NONE: Alarms<'static> = Alarms {

@@ -38,10 +38,7 @@ fn a_new_book_lists_nothing(rt: HostRuntime) {
 #[test]
 fn the_least_witness_stands_in_either_order(rt: HostRuntime) {
     let bytes = b"trace d\nacquire t A\nacquire t B\ntrace d\nacquire t A\nacquire t B\n";
-    let edges = [
-        (A, B, witness(0, 3)),
-        (B, A, None),
-    ];
+    let edges = [(A, B, witness(0, 3)), (B, A, None)];
     let wanted = totals(2, 0, 4, 2, 1);
     expect(&rt, rt.alloc(), bytes, &[0, 1], wanted, &edges);
     expect(&rt, rt.alloc(), bytes, &[1, 0], wanted, &edges);
@@ -71,10 +68,7 @@ fn a_number_that_is_listed_comes_back(rt: HostRuntime) {
 #[test]
 fn a_trylock_is_no_target(rt: HostRuntime) {
     let bytes = b"trace p\nacquire t A\ntry t B\ntrace q\nacquire t B\nacquire t A\n";
-    let edges = [
-        (B, A, witness(1, 6)),
-        (A, B, None),
-    ];
+    let edges = [(B, A, witness(1, 6)), (A, B, None)];
     expect(
         &rt,
         rt.alloc(),

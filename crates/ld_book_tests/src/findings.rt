@@ -24,27 +24,9 @@ fn expect_cycle<R: Abort>(
 fn expect_three_cycles<R: Abort>(rt: &R, findings: &Findings<'_>) {
     let cycles = findings.cycles.items();
     assert_eq!(rt; cycles.len(), 3);
-    expect_cycle(
-        rt,
-        &cycles[0],
-        (A, B),
-        witness(0, 3),
-        &[B, C, A],
-    );
-    expect_cycle(
-        rt,
-        &cycles[1],
-        (B, C),
-        witness(1, 6),
-        &[C, A, B],
-    );
-    expect_cycle(
-        rt,
-        &cycles[2],
-        (C, A),
-        witness(2, 9),
-        &[A, B, C],
-    );
+    expect_cycle(rt, &cycles[0], (A, B), witness(0, 3), &[B, C, A]);
+    expect_cycle(rt, &cycles[1], (B, C), witness(1, 6), &[C, A, B]);
+    expect_cycle(rt, &cycles[2], (C, A), witness(2, 9), &[A, B, C]);
     assert!(rt; findings.conflicts.items().is_empty());
     assert!(rt; findings.forbidden.items().is_empty());
 }
@@ -105,7 +87,8 @@ fn orders_classes_by_the_bytes_of_their_names(rt: HostRuntime) {
 
 #[test]
 fn orders_a_subclass_behind_its_class(rt: HostRuntime) {
-    let bytes = b"trace a\nacquire t A!@1\nacquire t A!@2\ntrace b\nnested t A@1 7\nnested t A@2 7\n\
+    let bytes =
+        b"trace a\nacquire t A!@1\nacquire t A!@2\ntrace b\nnested t A@1 7\nnested t A@2 7\n\
         trace c\nacquire t A0@1\nacquire t A0@2\ntrace d\nnested t A@1 1\nnested t A@2 1\n\
         trace e\nacquire t A@1\nacquire t A@2\n";
     let book = book_of(&rt, rt.alloc(), bytes, &[0, 1, 2, 3, 4]);

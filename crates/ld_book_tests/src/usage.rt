@@ -35,10 +35,7 @@ fn expect_usage<'a, R: Abort>(
 fn interrupts_enabled_while_held_are_usage(rt: HostRuntime) {
     let bytes = b"trace e\ndisable t hard\nacquire t A\nenable t hard\nrelease t A\n";
     let first = [None, witness(0, 4), None, witness(0, 4)];
-    let usage = [
-        (A, Some((*b"+.+.", first))),
-        (B, None),
-    ];
+    let usage = [(A, Some((*b"+.+.", first))), (B, None)];
     expect_usage(&rt, rt.alloc(), bytes, &[0], &usage);
 }
 
@@ -61,10 +58,7 @@ fn the_least_witness_of_a_bit_stands_in_either_order(rt: HostRuntime) {
         release t B\nexit t hard\n";
     let held = [None, witness(0, 2), None, witness(0, 2)];
     let handled = [witness(1, 6), None, None, None];
-    let usage = [
-        (A, Some((*b"+.+.", held))),
-        (B, Some((*b"-...", handled))),
-    ];
+    let usage = [(A, Some((*b"+.+.", held))), (B, Some((*b"-...", handled)))];
     expect_usage(&rt, rt.alloc(), bytes, &[0, 1], &usage);
     expect_usage(&rt, rt.alloc(), bytes, &[1, 0], &usage);
 }

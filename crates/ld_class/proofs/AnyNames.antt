@@ -167,8 +167,11 @@ module _ {A : Type 0} (same : A → A → Bool) (none : A)
             split (inr high) =
                 let last : i ≡ length names =
                 omega (arith, at.0, length-append names (name ∷ [])) in
-                inr (last, sym at.1 ∙ ap (λ k. slice_index_or (names ++ name ∷ []) k none) last
-                ∙ get_or-append_seam names name [] none)
+                inr (
+                  last,
+                  sym at.1 ∙ ap (λ k. slice_index_or (names ++ name ∷ []) k none) last
+                      ∙ get_or-append_seam names name [] none,
+                )
 
         apart : first_place same names name ≡ None → (i j : ℕ) (other : A)
             → IsAt none names i other ⊎ ((i ≡ length names) × (other ≡ name))

@@ -167,7 +167,10 @@ fn forbidden_then(
 }
 
 /// The names of the edge's classes, if there is one.
-fn edge_names<'a>(classes: &Classes<'a>, edge: Option<Edge>) -> Option<(ClassName<'a>, ClassName<'a>)>
+fn edge_names<'a>(
+    classes: &Classes<'a>,
+    edge: Option<Edge>,
+) -> Option<(ClassName<'a>, ClassName<'a>)>
     requires { IfSome edge (λ e. (e.from < length classes.now) × (e.to < length classes.now)) }
     ensures { option_map {U = PlainClass × PlainClass} (λ p. (plain_class p.0, plain_class p.1)) result
         ≡ option_map (λ e. named_pair classes.now e.from e.to) edge }
@@ -186,7 +189,10 @@ fn class_name<'a>(classes: &Classes<'a>, class: Option<u32>) -> Option<ClassName
 }
 
 /// The names of the ends of the walk, if there is one.
-fn end_names<'a>(classes: &Classes<'a>, walk: Option<Forbidden>) -> Option<(ClassName<'a>, ClassName<'a>)>
+fn end_names<'a>(
+    classes: &Classes<'a>,
+    walk: Option<Forbidden>,
+) -> Option<(ClassName<'a>, ClassName<'a>)>
     requires { IfSome walk (λ w. (w.from < length classes.now) × (w.to < length classes.now)) }
     ensures { option_map {U = PlainClass × PlainClass} (λ p. (plain_class p.0, plain_class p.1)) result
         ≡ option_map (λ w. named_pair classes.now w.from w.to) walk }

@@ -154,11 +154,7 @@ fn write_bytes(text: &mut Vec<u8>, words: &str, bytes: &[u8]) -> Result<(), Allo
 }
 
 /// Writes the name of a class behind these words: `name`, or `name/N` where it is a subclass.
-fn write_name(
-    text: &mut Vec<u8>,
-    words: &str,
-    class: ClassName<'_>,
-) -> Result<(), AllocError>
+fn write_name(text: &mut Vec<u8>, words: &str, class: ClassName<'_>) -> Result<(), AllocError>
     ensures { OnOk result (text.new.items ≡ text.old.items ++ words.now ++
         class_text (plain_class class.entry)) }
 {
