@@ -63,10 +63,10 @@ fn a_refused_growth_loses_no_task(rt: HostRuntime) {
         let mut answer = tasks.intern(name);
         if answer.is_err() {
             assert_eq!(rt; tasks.find(name), None);
-            assert_eq!(rt; tasks.len(), id as usize);
             for known in 0..id {
                 assert_eq!(rt; tasks.find(&text[..=known as usize]), Some(known));
             }
+            assert_eq!(rt; tasks.len(), id as usize);
             answer = tasks.intern(name);
         }
         assert_eq!(rt; answer, Ok(id));
