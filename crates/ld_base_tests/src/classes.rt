@@ -9,20 +9,39 @@ fn class(name: &[u8]) -> ClassName<'_> {
 
 #[test]
 fn numbers_names_in_order_of_first_insertion(rt: HostRuntime) {
-    let nested = ClassName { name: b"B", sub: 1 };
     let mut classes = Classes::new(rt.alloc());
     assert_eq!(rt; classes.intern(class(b"B")), Ok(0));
     assert_eq!(rt; classes.intern(class(b"A")), Ok(1));
     assert_eq!(rt; classes.intern(class(b"B")), Ok(0));
-    assert_eq!(rt; classes.intern(nested), Ok(2));
-    assert_eq!(rt; classes.len(), 3);
-    assert_eq!(rt; classes.name(2), nested);
+    assert_eq!(rt; classes.len(), 2);
+    assert_eq!(rt; classes.name(1), class(b"A"));
     assert_eq!(rt; classes.find(class(b"A")), Some(1));
     assert_eq!(rt; classes.find(class(b"C")), None);
     classes.cut(1);
     assert_eq!(rt; classes.find(class(b"A")), None);
     assert_eq!(rt; classes.intern(class(b"C")), Ok(1));
     drop(classes);
+}
+
+#[test]
+fn a_subclass_has_a_number_of_its_own(rt: HostRuntime) {
+    let nested = ClassName { name: b"B", sub: 1 };
+    let mut classes = Classes::new(rt.alloc());
+    assert_eq!(rt; classes.intern(class(b"B")), Ok(0));
+    assert_eq!(rt; classes.find(nested), None);
+    assert_eq!(rt; classes.intern(nested), Ok(1));
+    assert_eq!(rt; classes.name(1), nested);
+    assert_eq!(rt; classes.find(class(b"B")), Some(0));
+    assert_eq!(rt; classes.find(nested), Some(1));
+    drop(classes);
+}
+
+#[test]
+fn a_class_is_before_its_subclasses_and_these_before_longer_names(rt: HostRuntime) {
+    assert!(rt; class(b"A") < ClassName { name: b"A", sub: 1 });
+    assert!(rt; ClassName { name: b"A", sub: 1 } < ClassName { name: b"A", sub: 7 });
+    assert!(rt; ClassName { name: b"A", sub: 7 } < class(b"A!"));
+    assert!(rt; class(b"A!") < class(b"B"));
 }
 
 // Under `rt try --test --fail-alloc N`, for N from 1 to 24, one allocation of one growth is

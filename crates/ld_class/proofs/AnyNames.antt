@@ -43,14 +43,14 @@ module _ {A : Type 0} (same : A → A → Bool) (none : A)
     past e = ap (λ c. cond c (Some search_end) None) e
 
     -- the place that is found has the name
-    pub place_of-Some : (id : ℕ) → first_place same names name ≡ Some id → IsAt none names id name
-    place_of-Some id h =
+    pub first_place-Some : (id : ℕ) → first_place same names name ≡ Some id → IsAt none names id name
+    first_place-Some id h =
         let at = position-Some (same name) names id none h in
         (at.0, sym ((decides name (slice_index_or names id none)).0 at.1))
 
     -- where none is found, no place has the name
-    pub place_of-None : (id : ℕ) → first_place same names name ≡ None → ¬ IsAt none names id name
-    place_of-None id h at = by (ltb search_end (length names)) refl
+    pub first_place-None : (id : ℕ) → first_place same names name ≡ None → ¬ IsAt none names id name
+    first_place-None id h at = by (ltb search_end (length names)) refl
       where
         by : (b : Bool) → ltb search_end (length names) ≡ b → ⊥
         by true e =
@@ -63,29 +63,29 @@ module _ {A : Type 0} (same : A → A → Bool) (none : A)
             true≢false (sym equal ∙ other)
 
     -- in distinct names the place that has the name is found
-    pub place_of-at : (id : ℕ) → AreApart none names → IsAt none names id name
+    pub first_place-at : (id : ℕ) → AreApart none names → IsAt none names id name
         → first_place same names name ≡ Some id
-    place_of-at id distinct at = by (first_place same names name) refl
+    first_place-at id distinct at = by (first_place same names name) refl
       where
         by : (r : Option ℕ) → first_place same names name ≡ r → first_place same names name ≡ Some id
-        by None h = absurd (place_of-None id h at)
-        by (Some j) h = h ∙ ap Some (distinct j id name (place_of-Some j h) at)
+        by None h = absurd (first_place-None id h at)
+        by (Some j) h = h ∙ ap Some (distinct j id name (first_place-Some j h) at)
 
     -- so an answer that is the place says exactly where the name stands
-    pub place_of-exact : (r : Option ℕ) → AreApart none names → r ≡ first_place same names name
+    pub first_place-exact : (r : Option ℕ) → AreApart none names → r ≡ first_place same names name
         → (id : ℕ) → (r ≡ Some id) ↔ IsAt none names id name
-    place_of-exact r distinct is id =
-        (λ h. place_of-Some id (sym is ∙ h), λ at. is ∙ place_of-at id distinct at)
+    first_place-exact r distinct is id =
+        (λ h. first_place-Some id (sym is ∙ h), λ at. is ∙ first_place-at id distinct at)
 
     -- a name that is there leaves the list as it is
-    pub with_name-known : (id : ℕ) → first_place same names name ≡ Some id
+    pub with_one-known : (id : ℕ) → first_place same names name ≡ Some id
         → with_one same names name ≡ names
-    with_name-known id h = ap (λ r. if is_some r then names else names ++ name ∷ []) h
+    with_one-known id h = ap (λ r. if is_some r then names else names ++ name ∷ []) h
 
     -- one that is not there stands at the end
-    pub with_name-new : first_place same names name ≡ None
+    pub with_one-new : first_place same names name ≡ None
         → with_one same names name ≡ names ++ name ∷ []
-    with_name-new h = ap (λ r. if is_some r then names else names ++ name ∷ []) h
+    with_one-new h = ap (λ r. if is_some r then names else names ++ name ∷ []) h
 
     -- the search ends at the place, and past the names where there is none
     pub search_end-known : (id : ℕ) → first_place same names name ≡ Some id → search_end ≡ id
@@ -124,11 +124,11 @@ module _ {A : Type 0} (same : A → A → Bool) (none : A)
         differs : (id : ℕ) → id < length names → same name (slice_index_or names id none) ≡ false
         differs id lt =
             let equal = (decides name (slice_index_or names id none)).0 in
-            false_from_ne_true _ (λ is. place_of-None id h (lt, sym (equal is)))
+            false_from_ne_true _ (λ is. first_place-None id h (lt, sym (equal is)))
 
     -- a set's keys after an insert are the names with the new one among them
-    pub insert_key-with_name : insert_key same names name ≡ with_one same names name
-    insert_key-with_name = by (first_place same names name) refl
+    pub insert_key-with_one : insert_key same names name ≡ with_one same names name
+    insert_key-with_one = by (first_place same names name) refl
       where
         chosen : (b : Bool) → list_any (same name) names ≡ b
             → insert_key same names name ≡ (if b then names else names ++ name ∷ [])
@@ -136,25 +136,25 @@ module _ {A : Type 0} (same : A → A → Bool) (none : A)
 
         by : (r : Option ℕ) → first_place same names name ≡ r
             → insert_key same names name ≡ with_one same names name
-        by None h = chosen false (list_any-new h) ∙ sym (with_name-new h)
-        by (Some id) h = chosen true (list_any-known id h) ∙ sym (with_name-known id h)
+        by None h = chosen false (list_any-new h) ∙ sym (with_one-new h)
+        by (Some id) h = chosen true (list_any-known id h) ∙ sym (with_one-known id h)
 
     -- where the search ended, the name stands once it is among the names
-    pub with_name-at : IsAt none (with_one same names name) search_end name
-    with_name-at = by (first_place same names name) refl
+    pub with_one-at : IsAt none (with_one same names name) search_end name
+    with_one-at = by (first_place same names name) refl
       where
         by : (r : Option ℕ) → first_place same names name ≡ r
             → IsAt none (with_one same names name) search_end name
         by None h =
             let longer : length names < length (names ++ name ∷ []) =
             omega (arith, length-append names (name ∷ [])) in
-            rw (with_name-new h, search_end-new h) (longer, get_or-append_seam names name [] none)
+            rw (with_one-new h, search_end-new h) (longer, get_or-append_seam names name [] none)
         by (Some id) h =
-            rw (with_name-known id h, search_end-known id h) (place_of-Some id h)
+            rw (with_one-known id h, search_end-known id h) (first_place-Some id h)
 
     -- distinct names stay distinct with one more
-    pub apart-with_name : AreApart none names → AreApart none (with_one same names name)
-    apart-with_name distinct = by (first_place same names name) refl
+    pub apart-with_one : AreApart none names → AreApart none (with_one same names name)
+    apart-with_one distinct = by (first_place same names name) refl
       where
         placed : (i : ℕ) (other : A) → IsAt none (names ++ name ∷ []) i other
             → IsAt none names i other ⊎ ((i ≡ length names) × (other ≡ name))
@@ -177,13 +177,13 @@ module _ {A : Type 0} (same : A → A → Bool) (none : A)
             → IsAt none names i other ⊎ ((i ≡ length names) × (other ≡ name))
             → IsAt none names j other ⊎ ((j ≡ length names) × (other ≡ name)) → i ≡ j
         apart new i j other (inl a) (inl b) = distinct i j other a b
-        apart new i j other (inl a) (inr b) = absurd (place_of-None i new (a.0, a.1 ∙ b.1))
-        apart new i j other (inr a) (inl b) = absurd (place_of-None j new (b.0, b.1 ∙ a.1))
+        apart new i j other (inl a) (inr b) = absurd (first_place-None i new (a.0, a.1 ∙ b.1))
+        apart new i j other (inr a) (inl b) = absurd (first_place-None j new (b.0, b.1 ∙ a.1))
         apart new i j other (inr a) (inr b) = a.0 ∙ sym b.0
 
         by : (r : Option ℕ) → first_place same names name ≡ r
             → AreApart none (with_one same names name)
         by None new =
-            subst (AreApart none) (sym (with_name-new new)) (λ i j other at_i at_j.
+            subst (AreApart none) (sym (with_one-new new)) (λ i j other at_i at_j.
             apart new i j other (placed i other at_i) (placed j other at_j))
-        by (Some id) known = subst (AreApart none) (sym (with_name-known id known)) distinct
+        by (Some id) known = subst (AreApart none) (sym (with_one-known id known)) distinct

@@ -26,24 +26,24 @@ same_class-Decides a b =
 -- what holds of names of any type, of classes
 module _ (names : List PlainClass) (name : PlainClass) where
   pub place_of-Some : (id : ℕ) → place_of names name ≡ Some id → IsNameAt names id name
-  place_of-Some = any.place_of-Some same_class no_class same_class-Decides names name
+  place_of-Some = any.first_place-Some same_class no_class same_class-Decides names name
 
   pub place_of-None : (id : ℕ) → place_of names name ≡ None → ¬ IsNameAt names id name
-  place_of-None = any.place_of-None same_class no_class same_class-Decides names name
+  place_of-None = any.first_place-None same_class no_class same_class-Decides names name
 
   pub place_of-at : (id : ℕ) → AreDistinct names → IsNameAt names id name
       → place_of names name ≡ Some id
-  place_of-at = any.place_of-at same_class no_class same_class-Decides names name
+  place_of-at = any.first_place-at same_class no_class same_class-Decides names name
 
   pub place_of-exact : (r : Option ℕ) → AreDistinct names → r ≡ place_of names name → (id : ℕ)
       → (r ≡ Some id) ↔ IsNameAt names id name
-  place_of-exact = any.place_of-exact same_class no_class same_class-Decides names name
+  place_of-exact = any.first_place-exact same_class no_class same_class-Decides names name
 
   pub with_name-known : (id : ℕ) → place_of names name ≡ Some id → with_name names name ≡ names
-  with_name-known = any.with_name-known same_class no_class same_class-Decides names name
+  with_name-known = any.with_one-known same_class no_class same_class-Decides names name
 
   pub with_name-new : place_of names name ≡ None → with_name names name ≡ names ++ name ∷ []
-  with_name-new = any.with_name-new same_class no_class same_class-Decides names name
+  with_name-new = any.with_one-new same_class no_class same_class-Decides names name
 
   pub list_any-known : (id : ℕ) → place_of names name ≡ Some id
       → list_any (same_class name) names ≡ true

@@ -5,7 +5,7 @@ use Rattle.std.specs.List.{IsDistinct, list_any, position, position_or_len}
 use Rattle.ld_class.specs.declared.class_name.ClassName.{ClassName}
 use Rattle.ld_class.specs.Names.{AreDistinct, PlainClass, no_class, place_of, plain_class}
 use Rattle.ld_class.specs.Names.{same_class, with_name}
-use Rattle.ld_class.proofs.AnyNames.{apart-from_IsDistinct, insert_key-with_name}
+use Rattle.ld_class.proofs.AnyNames.{apart-from_IsDistinct, insert_key-with_one}
 use Rattle.ld_class.proofs.Mapped.{IsDistinct-map, insert_key-map, list_any-map, position-map}
 use Rattle.ld_class.proofs.Mapped.{position_or_len-map}
 use Rattle.ld_class.proofs.NameLemmas.{same_class-Decides}
@@ -28,7 +28,7 @@ module _ (keys : List ClassName) where
       ≡ with_name (shown keys) (plain_class key)
   insert_key-shown key =
       insert_key-map plain_class same_class keys key
-      ∙ insert_key-with_name same_class no_class same_class-Decides (shown keys) (plain_class key)
+      ∙ insert_key-with_one same_class no_class same_class-Decides (shown keys) (plain_class key)
 
   module _ (name : PlainClass) where
     -- a search among the keys finds the place

@@ -12,7 +12,7 @@ use Rattle.ld_rules.specs.declared.fault.TraceFault.TheVariants.{TooManyClasses,
 use Rattle.ld_rules.specs.declared.outcome.TheConstants.{MOST_CLASSES, MOST_HELD, MOST_TASKS}
 use Rattle.ld_facts.specs.declared.scan.Scan.{Scan}
 use Rattle.ld_rules.specs.Frames.{task_of}
-use Rattle.ld_rules.specs.Held.{class_awaited, class_with, held_by, lock_acquired, sub_of}
+use Rattle.ld_rules.specs.Held.{class_awaited, class_with, held_by, lock_acquired, sub_taken}
 use Rattle.ld_rules.specs.Inner.Levels.{is_interrupt}
 use Rattle.ld_rules.specs.Outcome.{class_acquired, classes, event_fault, events, is_bad_enable, is_bad_exit, is_badly_nested}
 use Rattle.ld_rules.specs.Outcome.{is_held_at_exit, is_masked, is_not_held, is_one_too_many, tasks}
@@ -35,7 +35,7 @@ module _ (name : List ℕ) (lock : PlainLock) where
   class-acquired Trying = refl
   class-acquired Waiting = refl
 
-  pub class-named : (how : Taking) → class_with lock (sub_of (acquisition how name lock)) ≡ class_taken how lock
+  pub class-named : (how : Taking) → class_with lock (sub_taken (acquisition how name lock)) ≡ class_taken how lock
   class-named (Nesting sub) = refl
   class-named Trying = refl
   class-named Waiting = refl

@@ -9,7 +9,7 @@ use Rattle.std.proofs.lemmas.List.Elements.{All-nil, All-cons, All-head, All-tai
 use Rattle.std.proofs.lemmas.Simd.{map-map}
 use Rattle.std.specs.List.{list_any, filter_map}
 use Rattle.ld_class.specs.Names.{AreDistinct, IsNameAt, PlainClass, no_class, place_of, same_class, with_name}
-use Rattle.ld_class.proofs.AnyNames.{apart-with_name}
+use Rattle.ld_class.proofs.AnyNames.{apart-with_one}
 use Rattle.ld_class.proofs.NameLemmas.{same_class-Decides}
 use Rattle.ld_trace.specs.Events.{PlainEvent}
 use Rattle.ld_held.specs.declared.edges.EdgeFact.{EdgeFact}
@@ -118,7 +118,7 @@ within-more names name edges within = All-weaker (IsWithin names) (IsWithin (wit
 
 -- distinct names stay distinct with one more
 pub distinct-more : (names : List PlainClass) (name : PlainClass) → AreDistinct names → AreDistinct (with_name names name)
-distinct-more = apart-with_name same_class no_class same_class-Decides
+distinct-more = apart-with_one same_class no_class same_class-Decides
 
 pub distinct-each_once : (names : List PlainClass) → AreDistinct (each_once same_class names)
 distinct-each_once names = by_pushes (λ ns. AreDistinct (each_once same_class ns)) none (λ ns n h. subst AreDistinct (sym (names-more ns n)) (distinct-more (each_once same_class ns) n h)) names

@@ -12,7 +12,7 @@ use Rattle.std.specs.List.{list_any}
 use Rattle.std.specs.Str.{bytes_eq}
 use Rattle.std.specs.Bool.{Decides}
 use Rattle.ld_class.specs.Names.{AreDistinctTasks, IsNameAt, IsTaskAt, PlainClass, first_place, place_of_task, with_one, with_task}
-use Rattle.ld_class.proofs.AnyNames.{apart-with_name, list_any-known, list_any-new, with_name-known, with_name-new}
+use Rattle.ld_class.proofs.AnyNames.{apart-with_one, list_any-known, list_any-new, with_one-known, with_one-new}
 use Rattle.ld_trace.specs.Events.{PlainEvent, PlainLock, Position}
 use Rattle.ld_trace.specs.Events.PlainEvent.{Acquire, Try, Nested}
 use Rattle.ld_trace.specs.declared.event.State.{State}
@@ -54,12 +54,12 @@ module _ {A : Type 0} (same : A → A → Bool) (none : A) (decides : (a b : A) 
       by (Some id) known = is_one_too_many-known id known
 
   -- the names with it are no more than there may be
-  pub with_name-few : (first_place same names name ≡ None → length names < most) → length names ≤ most → length (with_one same names name) ≤ most
-  with_name-few fits few = by (first_place same names name) refl
+  pub with_one-few : (first_place same names name ≡ None → length names < most) → length names ≤ most → length (with_one same names name) ≤ most
+  with_one-few fits few = by (first_place same names name) refl
     where
       by : (r : Option ℕ) → first_place same names name ≡ r → length (with_one same names name) ≤ most
-      by None new = let low = fits new in omega (arith, ap length (with_name-new same none decides names name new), length-append names (name ∷ []))
-      by (Some id) known = omega (arith, ap length (with_name-known same none decides names name id known))
+      by None new = let low = fits new in omega (arith, ap length (with_one-new same none decides names name new), length-append names (name ∷ []))
+      by (Some id) known = omega (arith, ap length (with_one-known same none decides names name id known))
 
 -- the fault of an event of one task too many
 pub too_many_tasks : (past : List PlainEvent) (e : PlainEvent) → is_one_too_many bytes_eq MOST_TASKS (tasks past) (task_of e) ≡ true → event_fault past e ≡ Some TooManyTasks
@@ -68,7 +68,7 @@ too_many_tasks past e is = rw is refl
 -- the tasks of a trace are distinct
 pub tasks-AreDistinct : (past : List PlainEvent) → AreDistinctTasks (tasks past)
 tasks-AreDistinct past = by_pushes (λ xs. AreDistinctTasks (tasks xs)) (λ i j name at_i at_j. absurd (omega (arith, at_i.0)))
-    (λ xs e rest. subst AreDistinctTasks (sym (tasks-push xs e)) (apart-with_name bytes_eq [] bytes_eq-Decides (tasks xs) (task_of e) rest)) past
+    (λ xs e rest. subst AreDistinctTasks (sym (tasks-push xs e)) (apart-with_one bytes_eq [] bytes_eq-Decides (tasks xs) (task_of e) rest)) past
 
 -- a task without an event holds nothing, has no frame, and its flags are on
 pub record IsUnheard (past : List PlainEvent) (name : List ℕ) : Type 0 where
@@ -117,8 +117,8 @@ module _ {start : Start} (all : List Position) (scan : Scan) (is_at : IsAt start
   task-at id other at = by (place_of_task scan.tasks name) refl
     where
       by : (r : Option ℕ) → place_of_task scan.tasks name ≡ r → IsTask scan.classes (get_or scan.locks.stacks id []) (get_or scan.locks.interrupts id fresh) (events all) other
-      by (Some k) known = is_at.each id other (subst (λ ns. IsTaskAt ns id other) (is ∙ with_name-known bytes_eq [] bytes_eq-Decides scan.tasks name k known) at)
-      by None new = split (subst (λ ns. IsTaskAt ns id other) (is ∙ with_name-new bytes_eq [] bytes_eq-Decides scan.tasks name new) at) (cases_lt id (length scan.tasks))
+      by (Some k) known = is_at.each id other (subst (λ ns. IsTaskAt ns id other) (is ∙ with_one-known bytes_eq [] bytes_eq-Decides scan.tasks name k known) at)
+      by None new = split (subst (λ ns. IsTaskAt ns id other) (is ∙ with_one-new bytes_eq [] bytes_eq-Decides scan.tasks name new) at) (cases_lt id (length scan.tasks))
         where
           split : IsTaskAt (scan.tasks ++ name ∷ []) id other → (id < length scan.tasks) ⊎ (length scan.tasks ≤ id) → IsTask scan.classes
               (get_or scan.locks.stacks id []) (get_or scan.locks.interrupts id fresh) (events all) other
@@ -140,7 +140,7 @@ module _ {start : Start} (all : List Position) (scan : Scan) (is_at : IsAt start
 
   -- the names are distinct
   pub task-distinct : AreDistinctTasks names
-  task-distinct = subst AreDistinctTasks (sym (is ∙ ap (λ ns. with_task ns name) is_at.tasks)) (apart-with_name bytes_eq [] bytes_eq-Decides (tasks (events all)) name (tasks-AreDistinct (events all)))
+  task-distinct = subst AreDistinctTasks (sym (is ∙ ap (λ ns. with_task ns name) is_at.tasks)) (apart-with_one bytes_eq [] bytes_eq-Decides (tasks (events all)) name (tasks-AreDistinct (events all)))
 
   -- so another number is that of another name
   pub task-other : (id k : ℕ) (other : List ℕ) → IsTaskAt names id name → IsTaskAt names k other → k ≢ id → bytes_eq other name ≡ false

@@ -24,9 +24,8 @@ impl Taking {
         ensures { result ≡ waits self }
     {
         match self {
-            Taking::Waiting => true,
+            Taking::Waiting | Taking::Nesting(_) => true,
             Taking::Trying => false,
-            Taking::Nesting(_) => true,
         }
     }
 
@@ -35,8 +34,7 @@ impl Taking {
         ensures { plain_class result ≡ class_taken self (plain_lock lock.entry) }
     {
         let sub = match self {
-            Taking::Waiting => 0,
-            Taking::Trying => 0,
+            Taking::Waiting | Taking::Trying => 0,
             Taking::Nesting(sub) => sub,
         };
         ClassName {

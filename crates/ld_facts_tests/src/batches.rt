@@ -284,7 +284,7 @@ fn assert_unions<'a, R: AllocGlobal + Abort>(
     batch: &mut Batch<'a>,
     sources: &[Source<'a>],
 ) -> Result<(), AllocError> {
-    for size in [1, 2, 3, 8, 13] {
+    for size in [1, 2, 3, 8, 14] {
         for some in sources.chunks(size) {
             batch.clear();
             fill(rt, batch, some);

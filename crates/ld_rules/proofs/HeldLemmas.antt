@@ -12,7 +12,7 @@ use Rattle.ld_trace.specs.Events.{PlainEvent, PlainLock}
 use Rattle.ld_trace.specs.Events.PlainEvent.{Acquire, Try, Nested, Release, Enter, Exit, Enable, Disable}
 use Rattle.ld_rules.specs.Open.{openings}
 use Rattle.ld_rules.specs.Frames.{enters, exits, task_of, frame_of}
-use Rattle.ld_rules.specs.Held.{Placed, placed, Key, key_with, lock_acquired, lock_released, acquires, releases, same_option, same_frame, same_lock, same_key, Acquisition, acquisition_of, class_with, sub_of, held, held_by}
+use Rattle.ld_rules.specs.Held.{Placed, placed, Key, key_with, lock_acquired, lock_released, acquires, releases, same_option, same_frame, same_lock, same_key, Acquisition, acquisition_of, class_with, sub_taken, held, held_by}
 use Rattle.ld_rules.specs.Inner.Scanned.{remove_last}
 use Rattle.ld_rules.proofs.OpenLemmas.{HasKeys, openings-opens, openings-closes, openings-neither}
 use Rattle.ld_rules.proofs.RemoveLemmas.{map-remove_last, filter-remove_last, filter-remove_other, list_any-filter}
@@ -91,7 +91,7 @@ placed-push past e =
 abbrev pub acquisition_at : List PlainEvent → PlainEvent → PlainLock → Acquisition
 acquisition_at past e lock = record {
   key = record { task = task_of e; frame = frame_of past (task_of e); lock = lock };
-  class = class_with lock (sub_of e);
+  class = class_with lock (sub_taken e);
 }
 
 -- an acquisition is open from its position on, and every other stays

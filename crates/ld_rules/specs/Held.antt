@@ -43,9 +43,9 @@ abbrev pub class_with : PlainLock → ℕ → PlainClass
 class_with lock sub = record { name = lock.class; sub = sub }
 
 -- the subclass that an event names: N of a `nested`, and 0, which is none, of any other
-abbrev pub sub_of : PlainEvent → ℕ
-sub_of (Nested task lock sub) = sub
-sub_of other = 0
+abbrev pub sub_taken : PlainEvent → ℕ
+sub_taken (Nested task lock sub) = sub
+sub_taken other = 0
 
 -- a waiting acquisition is an `acquire` or a `nested`: the class that it waits for
 abbrev pub class_awaited : PlainEvent → Option PlainClass
@@ -87,7 +87,7 @@ pub record Acquisition : Type 0 where
   pub class : PlainClass
 
 abbrev pub acquisition_of : Opening Placed Key → Acquisition
-acquisition_of o = record { key = o.key; class = class_with o.key.lock (sub_of o.element.event) }
+acquisition_of o = record { key = o.key; class = class_with o.key.lock (sub_taken o.element.event) }
 
 -- The open acquisitions, in order of position. An acquisition at i is open at p if for each q in
 -- (i, p] the releases of its key in (i, q] are no more than the acquisitions of its key there.

@@ -11,18 +11,22 @@ use crate::line::{begins_comment, is_name, is_word, next_field};
 /// A lock: an instance of a class, or the one that has no instance's name.
 #[derive(Clone, Copy, Debug, PartialEq, Eq)]
 pub struct Lock<'a> {
+    /// What stands before its `@`, or all of it where there is none.
     pub class: &'a [u8],
+    /// What stands behind its `@`.
     pub instance: Option<&'a [u8]>,
 }
 
 /// What an interrupt handler is: of a hardware interrupt, or of a softirq.
 #[derive(Clone, Copy, Debug, PartialEq, Eq)]
 pub enum State {
+    /// The handler of a hardware interrupt.
     Hard,
+    /// The handler of a softirq.
     Soft,
 }
 
-/// What a task did.
+/// What a task did: the one named by its bytes in `task`.
 #[derive(Clone, Copy, Debug, PartialEq, Eq)]
 pub enum Event<'a> {
     /// It acquires the lock, and may wait for it.

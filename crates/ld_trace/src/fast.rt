@@ -1,4 +1,4 @@
-//! Events of locks in their plainest form, read by one pass over the line.
+//! An `acquire`, `try` or `release` in its plainest form, read by one pass over the line.
 ghost use Rattle.std.specs.Prelude.{◌≡◌, ◌≤◌, ◌++◌, ◌∷◌, true, not, length, map, Ok, Some, IfSome};
 ghost use Rattle.std.specs.Char.{is_ascii_graphic};
 ghost use Rattle.std.specs.List.{prefix_len};

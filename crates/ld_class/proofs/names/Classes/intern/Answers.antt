@@ -3,7 +3,7 @@ use Rattle.std.specs.List.{list_any, position_or_len}
 use Rattle.std.proofs.lemmas.Bool.{true≢false}
 use Rattle.std.proofs.lemmas.Grind.{common_steps}
 use Rattle.ld_class.specs.Names.{no_class, plain_class, same_class, with_name}
-use Rattle.ld_class.proofs.AnyNames.{search_end, search_end-known, search_end-new, with_name-at}
+use Rattle.ld_class.proofs.AnyNames.{search_end, search_end-known, search_end-new, with_one-at}
 use Rattle.ld_class.proofs.NameLemmas.{list_any-known, same_class-Decides}
 use Rattle.ld_class.proofs.Shown.{shown, AreDistinct-shown, insert_key-shown, list_any-shown}
 use Rattle.ld_class.proofs.Shown.{position_or_len-shown}
@@ -40,7 +40,7 @@ returns-clause-names c =
 pub returns-clause-place : goal.returns-clause-place
 returns-clause-place c =
     rw (returns-clause-names c, ends_at c)
-    (with_name-at same_class no_class same_class-Decides c.args.self.now (plain_class c.args.name))
+    (with_one-at same_class no_class same_class-Decides c.args.self.now (plain_class c.args.name))
 
 pub returns-clause-known : goal.returns-clause-known
 returns-clause-known c id known =

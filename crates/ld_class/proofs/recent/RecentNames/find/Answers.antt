@@ -1,7 +1,7 @@
 use Rattle.std.proofs.Common.{◌∙◌, [], sym}
 use Rattle.std.proofs.lemmas.Slice.Eq.{bytes_eq-Decides}
 use Rattle.std.specs.Str.{bytes_eq}
-use Rattle.ld_class.proofs.AnyNames.{place_of-Some}
+use Rattle.ld_class.proofs.AnyNames.{first_place-Some}
 use Rattle.ld_class.proofs.NameLemmas.{place_of-task}
 use Rattle.ld_class.proofs.recent.RecentNames.find.Goals as goal
 
@@ -12,7 +12,7 @@ returns-then-is_at-clause-place c =
 
 pub returns-then-is_at-clause-here : goal.returns-then-is_at-clause-here
 returns-then-is_at-clause-here c =
-    place_of-Some bytes_eq [] bytes_eq-Decides c.args.self.now c.args.name.now c.self.inside.last
+    first_place-Some bytes_eq [] bytes_eq-Decides c.args.self.now c.args.name.now c.self.inside.last
     (sym (returns-then-is_at-clause-place c))
 
 pub returns-in_err-place-clause-place : goal.returns-in_err-place-clause-place
@@ -27,5 +27,5 @@ returns-clause-place c =
 
 pub returns-clause-here : goal.returns-clause-here
 returns-clause-here c =
-    place_of-Some bytes_eq [] bytes_eq-Decides c.args.self.now c.args.name.now c.in_ok-place.place
+    first_place-Some bytes_eq [] bytes_eq-Decides c.args.self.now c.args.name.now c.in_ok-place.place
     (sym (returns-clause-place c))
