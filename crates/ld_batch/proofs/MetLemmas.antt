@@ -15,7 +15,7 @@ use Rattle.ld_rules.specs.Inner.Scanned.{with_new}
 use Rattle.ld_rules.specs.declared.outcome.Witness.{Witness}
 use Rattle.ld_rules.proofs.LeastLemmas.{Ascend, first_line, least_is_first}
 use Rattle.ld_batch.specs.Batch.{Met, witness_of}
-use Rattle.ld_batch.specs.Inner.Rows.{seen_of}
+use Rattle.ld_batch.specs.Inner.Rows.{seen_in, seen_of}
 
 -- no element passes where none is found
 none_passes : {X : Type 0} (p : X → Bool) (xs : List X) → find p xs ≡ None → list_any p xs ≡ false
@@ -50,10 +50,6 @@ map_or f (Some x) b = refl
 -- a thing that stands in a line of the trace of this number
 abbrev pub met : {A : Type 0} → ℕ → Seen A → Met A
 met number seen = record { what = seen.what; witness = record { number = number; line = seen.line } }
-
--- where something was seen in the trace of this number, if it was seen in a line
-abbrev pub seen_in : ℕ → Option ℕ → Option Witness
-seen_in number line = option_map (λ l. record { number = number; line = l }) line
 
 -- of the same thing, wherever it was seen
 abbrev pub same_met : {A : Type 0} → (A → A → Bool) → Met A → Met A → Bool

@@ -16,26 +16,21 @@ use Rattle.ld_rules.specs.Inner.Scanned.{with_new}
 use Rattle.ld_rules.specs.Union.{classes_of, earlier, first_of, first_witness, is_before}
 use Rattle.ld_rules.proofs.LeastLemmas.{Ascend}
 use Rattle.ld_batch.specs.Batch.{Met, witness_of}
-use Rattle.ld_batch.specs.Inner.Rows.{AreMet, seen_of}
-use Rattle.ld_batch.proofs.MetLemmas.{come_added, joined, met, met_seen, once_all, same_seen, same_met, seen_added, seen_in}
+use Rattle.ld_batch.specs.Inner.Rows.{AreMet, earlier_of, seen_in, seen_of}
+use Rattle.ld_batch.proofs.MetLemmas.{come_added, joined, met, met_seen, once_all, same_seen, same_met, seen_added}
 
 -- the classes that some sources and one more show
 pub shown-push : (sources : List PlainSource) (source : PlainSource) → flat_map classes_of (sources ++ source ∷ []) ≡ flat_map classes_of sources ++ classes_of source
 shown-push [] source = append-nil (classes_of source)
 shown-push (first ∷ sources) source = ap (λ xs. classes_of first ++ xs) (shown-push sources source) ∙ sym (append_assoc (classes_of first) (flat_map classes_of sources) (classes_of source))
 
--- the earlier of two witnesses, each of which may be absent
-abbrev earlier_of : Option Witness → Option Witness → Option Witness
-earlier_of None b = b
-earlier_of (Some a) None = Some a
-earlier_of (Some a) (Some b) = Some (earlier a b)
-
-earlier_of-none : (a : Option Witness) → a ≡ earlier_of a None
+-- an absent witness is no earlier one
+pub earlier_of-none : (a : Option Witness) → a ≡ earlier_of a None
 earlier_of-none None = refl
 earlier_of-none (Some a) = refl
 
 -- the least of some witnesses and one more
-first_of-push : (witnesses : List Witness) (last : Witness) → first_of (witnesses ++ last ∷ []) ≡ earlier_of (first_of witnesses) (Some last)
+pub first_of-push : (witnesses : List Witness) (last : Witness) → first_of (witnesses ++ last ∷ []) ≡ earlier_of (first_of witnesses) (Some last)
 first_of-push [] last = refl
 first_of-push (first ∷ witnesses) last = ap Some (fold-append earlier first witnesses (last ∷ []))
 
@@ -67,11 +62,11 @@ module _ (number : ℕ) where
 
 module _ {A : Type 0} (same : A → A → Bool) (shown : PlainSource → List (Seen A)) where
   -- where each source shows it
-  abbrev shown_in : A → PlainSource → Option Witness
+  abbrev pub shown_in : A → PlainSource → Option Witness
   shown_in what source = seen_in source.number (least_line same (shown source) what)
 
   -- the first witness over some sources and one more
-  witness-push : (sources : List PlainSource) (source : PlainSource) (what : A)
+  pub witness-push : (sources : List PlainSource) (source : PlainSource) (what : A)
       → first_witness same shown (sources ++ source ∷ []) what ≡ earlier_of (first_witness same shown sources what) (shown_in what source)
   witness-push sources source what =
       ap first_of (filter_map-append (shown_in what) sources (source ∷ [])) ∙ by (filter_map (shown_in what) sources) (shown_in what source)

@@ -82,7 +82,7 @@ impl<'a> Batch<'a> {
         ensures { IfOk result (λ batch. batch.sources ≡ facts.now.source ∷ []) }
     {
         let mut batch = Batch::new(alloc);
-        match batch.push(alloc, facts.source()) {
+        match batch.push(facts.source()) {
             Ok(()) => Ok(batch),
             Err(refusal) => {
                 drop(batch);
@@ -97,7 +97,7 @@ impl<'a> Batch<'a> {
     /// # Errors
     ///
     /// `AllocError` where a growth of memory was refused. Nothing has changed then but spare memory.
-    pub fn push(&mut self, _alloc: Global, source: Source<'a>) -> Result<(), AllocError>
+    pub fn push(&mut self, source: Source<'a>) -> Result<(), AllocError>
         requires fits { Fits (plain source) }
         requires above { IfSome (last_or None self.old.sources)
             (λ last. last.number < source.number) }

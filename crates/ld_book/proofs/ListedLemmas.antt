@@ -1,5 +1,5 @@
 -- The numbers of the traces that a book lists.
-use Rattle.std.proofs.Common.{◌≡◌, ◌≢◌, ◌<◌, ◌∙◌, ℕ, List, map, AllPairs, arith, nat_eq, sym, ap, subst}
+use Rattle.std.proofs.Common.{◌≡◌, ◌≢◌, ◌<◌, ◌∙◌, [], ℕ, List, length, map, AllPairs, arith, nat_eq, sym, ap, subst}
 use Rattle.std.proofs.lemmas.Bool.Decides.{Decides-eqb}
 use Rattle.std.proofs.lemmas.List.{get_or-map, length-map}
 use Rattle.std.proofs.lemmas.Map.Made.{AllPairs-from_IsDistinct}
@@ -8,6 +8,13 @@ use Rattle.std.specs.List.{IsDistinct}
 use Rattle.ld_trace.specs.Sources.{PlainSource, plain}
 use Rattle.ld_rules.specs.declared.outcome.Listed.{Listed}
 use Rattle.ld_batch.specs.Batch.{sources_of}
+
+abbrev pub no_source : PlainSource
+no_source = record { number = 0; label = []; first_line = 0; bytes = [] }
+
+-- each trace has its source
+pub source_within : (traces : List Listed) (i : ℕ) → i < length traces → i < length (sources_of traces)
+source_within traces i here = subst (λ n. i < n) (sym (length-map traces (λ t. plain t.source))) here
 
 -- what has numbers that are apart, is apart by its number
 pub apart_by : {A : Type 0} (number : A → ℕ) (xs : List A) → AllPairs (λ m n. m ≢ n) (map number xs) → AllPairs (λ a b. number a ≢ number b) xs

@@ -17,13 +17,11 @@ use Rattle.ld_facts.specs.Dependency as dependencies
 use Rattle.ld_facts.specs.Dependency.{Dependency, least_line, same_dependency}
 use Rattle.ld_facts.specs.Union.{dependencies_of, dependency_witness, first_of, union_dependencies}
 use Rattle.ld_rules.proofs.PlaceLemmas.{alike_from_decides, any_each_once}
+use Rattle.ld_rules.proofs.StepLemmas.{Decides-same_dependency}
 use Rattle.ld_union.specs.declared.dependencies.Witnessed.{Witnessed}
 use Rattle.ld_union.specs.Inner.Union.{AreBetween, AreWitnessed, named_edge, seen_in}
 use Rattle.ld_union.proofs.EachOnceLemmas.{IsDistinct-each_once, IsEquivalence-from_decides}
 use Rattle.ld_union.proofs.UnionLemmas.{apart_rows, same_dependency-refl, same_dependency-true}
-
-same_dependency-decides : (a b : Dependency) → Decides (same_dependency a b) (a ≡ b)
-same_dependency-decides a b = (same_dependency-true a b, λ is. subst (λ c. same_dependency a c ≡ true) is (same_dependency-refl a))
 
 -- a dependency stands in a source where it has a line
 seen_any : (number : ℕ) (shown : List (dependencies.Seen Dependency)) (what : Dependency) → list_any (same_dependency what)
@@ -78,14 +76,14 @@ pub length-edges : (classes : List PlainClass) (rows : List Witnessed) (sources 
     → length rows ≡ length (union_dependencies sources)
 length-edges classes rows sources is witnessed =
     sym (length-map rows (λ r. named_edge classes r.edge))
-    ∙ length-from_same_keys (IsEquivalence-from_decides same_dependency same_dependency-decides) (map (λ r. named_edge classes r.edge) rows) (union_dependencies sources)
+    ∙ length-from_same_keys (IsEquivalence-from_decides same_dependency Decides-same_dependency) (map (λ r. named_edge classes r.edge) rows) (union_dependencies sources)
     (IsDistinct-from_apart same_dependency (map (λ r. named_edge classes r.edge) rows) apart)
-    (IsDistinct-each_once same_dependency same_dependency-decides shown)
+    (IsDistinct-each_once same_dependency Decides-same_dependency shown)
     (λ what.
     list_any-map (λ (r : Witnessed). named_edge classes r.edge) (same_dependency what) rows
     ∙ rows_any classes rows (dependency_witness sources) witnessed what
     ∙ sym (union_any sources what)
-    ∙ sym (any_each_once same_dependency (alike_from_decides same_dependency same_dependency-decides) what shown))
+    ∙ sym (any_each_once same_dependency (alike_from_decides same_dependency Decides-same_dependency) what shown))
   where
     shown : List Dependency
     shown = flat_map (λ source. map (λ s. s.what) (dependencies_of source)) sources

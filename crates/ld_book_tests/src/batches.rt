@@ -10,35 +10,30 @@ use std::process::Abort;
 const SAME_LABEL: &[u8] = b"trace d\nacquire t A\nacquire t B\ntrace d\nacquire t A\nacquire t B\n";
 
 /// Reads one more trace, whose number is above that of the last one.
-fn push<'a, R: Abort>(
-    rt: &R,
-    alloc: Global,
-    batch: &mut Batch<'a>,
-    source: Source<'a>,
-) -> Result<(), AllocError> {
+fn push<'a, R: Abort>(rt: &R, batch: &mut Batch<'a>, source: Source<'a>) -> Result<(), AllocError> {
     assert!(rt; source.fits());
     match batch.listed().last() {
         Some(last) => {
             let number = last.source.number;
             assert!(rt; number < source.number);
-            batch.push(alloc, source)
+            batch.push(source)
         }
-        None => batch.push(alloc, source),
+        None => batch.push(source),
     }
 }
 
 /// A batch of these traces, whose numbers rise. What was refused memory is tried once more.
 fn batch_of<'a, R: Abort>(rt: &R, alloc: Global, sources: &[Source<'a>]) -> Batch<'a> {
     let mut batch = Batch::new(alloc);
-    fill(rt, alloc, &mut batch, sources);
+    fill(rt, &mut batch, sources);
     batch
 }
 
 /// Pushes these traces, whose numbers rise. What was refused memory is tried once more.
-fn fill<'a, R: Abort>(rt: &R, alloc: Global, batch: &mut Batch<'a>, sources: &[Source<'a>]) {
+fn fill<'a, R: Abort>(rt: &R, batch: &mut Batch<'a>, sources: &[Source<'a>]) {
     for source in sources {
-        if push(rt, alloc, batch, *source).is_err() {
-            push(rt, alloc, batch, *source).expect(rt, "memory for a trace");
+        if push(rt, batch, *source).is_err() {
+            push(rt, batch, *source).expect(rt, "memory for a trace");
         }
     }
 }
@@ -133,10 +128,10 @@ fn a_batch_that_was_taken_is_filled_again(rt: HostRuntime) {
     assert_eq!(rt; book.totals(), totals(2, 0, 4, 3, 2));
     assert!(rt; batch.listed().is_empty() && batch.edges().is_empty() && batch.usage().is_empty());
     assert_eq!(rt; batch.classes().len(), 0);
-    fill(&rt, rt.alloc(), &mut batch, &sources[2..]);
+    fill(&rt, &mut batch, &sources[2..]);
     take(&rt, &mut book, &mut batch);
     assert_eq!(rt; book.totals(), totals(3, 0, 6, 3, 3));
-    fill(&rt, rt.alloc(), &mut batch, &sources[1..]);
+    fill(&rt, &mut batch, &sources[1..]);
     assert!(rt; book.take(&mut batch) == Err(TakeRefusal::Twice));
     assert_eq!(rt; batch.listed().len(), 2);
     assert_eq!(rt; book.totals(), totals(3, 0, 6, 3, 3));

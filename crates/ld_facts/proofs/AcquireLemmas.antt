@@ -40,9 +40,10 @@ use Rattle.ld_rules.proofs.HeldLemmas.{acquisition_at, enters_none, held_by-acqu
 use Rattle.ld_facts.proofs.AcquireFaults.{acquired, calm, class-acquired, class-awaited, class-named, counts-itself, fault-none, none-awaited, task-acquired}
 use Rattle.ld_facts.proofs.InnerLemmas.{clean-grouped, contexts-are, enabled-is, inner-is, length-is}
 use Rattle.ld_facts.proofs.MovedLemmas.{moved-at}
-use Rattle.ld_facts.proofs.NamedLemmas.{IsNameAt-more, distinct-more, holds-classes, holds-stay, holds-stay_within, holds-within, named-more, tell-named, within-more, within-tell}
+use Rattle.ld_class.proofs.AnyNames.{apart-with_one}
+use Rattle.ld_facts.proofs.NamedLemmas.{IsNameAt-more, holds-classes, holds-stay, holds-stay_within, holds-within, named-more, tell-named, within-more, within-tell}
 use Rattle.ld_rules.proofs.StepLemmas.{added_names-more, classes-acquires, dependencies-push}
-use Rattle.ld_facts.proofs.TaskLemmas.{task-at, with_name-few}
+use Rattle.ld_facts.proofs.TaskLemmas.{task-at, with_one-few}
 use Rattle.ld_rules.proofs.UsageLemmas.{at_line, new_uses, new_uses_at, on_use, uses_from-push, with_uses, with_uses-append}
 use Rattle.ld_facts.proofs.UseLemmas.{in_facts-named, in_facts-within, named_use-more, on_facts-named, on_facts-within, uses-named, uses-within, within_use-more}
 
@@ -162,13 +163,13 @@ module _ {start : Start} (all : List Position) (old : Scan) (is : IsAt start all
     arith,
     length-map new.own (λ n. slice_index_or new.classes n no_class),
     ap length enters.own,
-    with_name-few same_class no_class same_class-Decides MOST_CLASSES (own_names old) class
+    with_one-few same_class no_class same_class-Decides MOST_CLASSES (own_names old) class
         (λ fresh. let low = enters.few_classes fresh in omega (arith, low, length-map old.own (λ n. slice_index_or old.classes n no_class)))
         (omega (arith, is.few_classes, length-map old.own (λ n. slice_index_or old.classes n no_class))),
   )
 
   distinct : AreDistinct new.classes
-  distinct = subst AreDistinct (sym enters.classes) (distinct-more old.classes class is.distinct)
+  distinct = subst AreDistinct (sym enters.classes) (apart-with_one same_class no_class same_class-Decides old.classes class is.distinct)
 
   -- The dependencies.
 

@@ -18,7 +18,7 @@ use Rattle.ld_rules.specs.Inner.Scanned.{same_dependency_seen, with_new}
 use Rattle.ld_facts.specs.Facts.{IsUse}
 use Rattle.ld_rules.proofs.OutcomeLemmas.{events-push, no_fault}
 use Rattle.ld_rules.proofs.StepLemmas.{classes-other, dependencies-push, tasks-push}
-use Rattle.ld_facts.proofs.TaskLemmas.{scan_not_too_many_tasks, task-at, task-other, task-unmoved, with_name-few}
+use Rattle.ld_facts.proofs.TaskLemmas.{scan_not_too_many_tasks, task-at, task-other, task-unmoved, with_one-few}
 
 pub record Moved (start : Start) (all : List Position) (old : Scan) (e : PlainEvent) (line id : ℕ) (new : Scan) : Type 0 where
   pub fault : event_fault (events all) e ≡ None
@@ -52,7 +52,7 @@ moved-at {start} all old e line id new is m = record {
   names = m.names ∙ ap (classes_after start) (sym now);
   distinct = m.distinct;
   own = m.own ∙ ap classes (sym now);
-  few_tasks = subst (λ ns. length ns ≤ MOST_TASKS) (sym m.tasks) (with_name-few bytes_eq [] bytes_eq-Decides MOST_TASKS old.tasks (task_of e) m.fits is.few_tasks);
+  few_tasks = subst (λ ns. length ns ≤ MOST_TASKS) (sym m.tasks) (with_one-few bytes_eq [] bytes_eq-Decides MOST_TASKS old.tasks (task_of e) m.fits is.few_tasks);
   few_classes = m.few_classes;
   many = m.many;
   each = λ k other at. subst (λ past. IsTask new.classes (get_or new.locks.stacks k []) (get_or new.locks.interrupts k fresh) past other) (sym now) (each k other at);

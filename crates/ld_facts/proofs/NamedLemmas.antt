@@ -116,12 +116,8 @@ named-more names name (x ∷ xs) within =
 pub within-more : (names : List PlainClass) (name : PlainClass) (edges : List EdgeFact) → All (IsWithin names) edges → All (IsWithin (with_name names name)) edges
 within-more names name edges within = All-weaker (IsWithin names) (IsWithin (with_name names name)) (λ x here. (number-more names name x.from here.0, number-more names name x.to here.1)) edges within
 
--- distinct names stay distinct with one more
-pub distinct-more : (names : List PlainClass) (name : PlainClass) → AreDistinct names → AreDistinct (with_name names name)
-distinct-more = apart-with_one same_class no_class same_class-Decides
-
 pub distinct-each_once : (names : List PlainClass) → AreDistinct (each_once same_class names)
-distinct-each_once names = by_pushes (λ ns. AreDistinct (each_once same_class ns)) none (λ ns n h. subst AreDistinct (sym (names-more ns n)) (distinct-more (each_once same_class ns) n h)) names
+distinct-each_once names = by_pushes (λ ns. AreDistinct (each_once same_class ns)) none (λ ns n h. subst AreDistinct (sym (names-more ns n)) (apart-with_one same_class no_class same_class-Decides (each_once same_class ns) n h)) names
   where
     none : AreDistinct []
     none i j other at_i at_j = absurd (omega (arith, at_i.0))

@@ -22,7 +22,7 @@ use Rattle.ld_rules.specs.Inner.Scanned.{same_use_seen, with_new}
 use Rattle.ld_facts.specs.Facts.{IsUse}
 use Rattle.ld_uses.specs.Inner.Uses.{fact, in_facts, on_facts, same_fact, with_use}
 use Rattle.ld_facts.proofs.NamedLemmas.{name-more, number-more}
-use Rattle.ld_rules.proofs.UsageLemmas.{Decides-same_use, at_line, on_use}
+use Rattle.ld_rules.proofs.UsageLemmas.{Decides-same_use, at_line, bit_of-usage, on_use}
 
 -- usage bits of which the names are told apart, and one more
 module _ (names : List PlainClass) (distinct : AreDistinct names) where
@@ -91,13 +91,6 @@ named_use-more names name (x ∷ xs) within =
 
 pub within_use-more : (names : List PlainClass) (name : PlainClass) (facts : List UsageFact) → All (IsUse names) facts → All (IsUse (with_name names name)) facts
 within_use-more names name facts within = All-weaker (IsUse names) (IsUse (with_name names name)) (λ x here. (number-more names name x.class here.0, here.1)) facts within
-
--- the bit of a set that was made of it
-bit_of-usage : (bit : Bit) → bit_of (usage_of bit) ≡ bit
-bit_of-usage (In Hard) = refl
-bit_of-usage (In Soft) = refl
-bit_of-usage (On Hard) = refl
-bit_of-usage (On Soft) = refl
 
 fact-within : (names : List PlainClass) (bit : Bit) (line class : ℕ) → class < length names → IsUse names (fact bit line class)
 fact-within names bit line class low = (low, ap usage_of (sym (bit_of-usage bit)))

@@ -8,19 +8,15 @@ use std::process::Abort;
 use std::test::Fail;
 
 /// Pushes a trace whose number is above the last one's.
-fn push<'a, R: AllocGlobal + Abort>(
-    rt: &R,
-    batch: &mut Batch<'a>,
-    source: Source<'a>,
-) -> Result<(), AllocError> {
+fn push<'a, R: Abort>(rt: &R, batch: &mut Batch<'a>, source: Source<'a>) -> Result<(), AllocError> {
     assert!(rt; source.fits());
     match batch.listed().last() {
         Some(last) => {
             let number = last.source.number;
             assert!(rt; number < source.number);
-            batch.push(rt.alloc(), source)
+            batch.push(source)
         }
-        None => batch.push(rt.alloc(), source),
+        None => batch.push(source),
     }
 }
 
@@ -32,7 +28,7 @@ fn batch_of<'a, R: AllocGlobal + Abort>(rt: &R, sources: &[Source<'a>]) -> Batch
 }
 
 /// Pushes these traces. What was refused memory is tried once more.
-fn fill<'a, R: AllocGlobal + Abort>(rt: &R, batch: &mut Batch<'a>, sources: &[Source<'a>]) {
+fn fill<'a, R: Abort>(rt: &R, batch: &mut Batch<'a>, sources: &[Source<'a>]) {
     for source in sources {
         if push(rt, batch, *source).is_err() {
             push(rt, batch, *source).expect(rt, "memory");

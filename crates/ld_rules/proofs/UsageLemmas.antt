@@ -13,6 +13,7 @@ use Rattle.std.specs.Bool.{Decides}
 use Rattle.std.specs.List.{list_all, list_any}
 use Rattle.std.specs.Str.{bytes_eq}
 use Rattle.ld_class.specs.Names.{same_class}
+use Rattle.ld_class.specs.Usage.{has_bit, no_bits}
 use Rattle.ld_class.proofs.Mapped.{list_any-map}
 use Rattle.ld_class.proofs.NameLemmas.{same_class-Decides}
 use Rattle.ld_trace.specs.declared.event.LineFault.{LineFault}
@@ -26,7 +27,7 @@ use Rattle.ld_rules.specs.Held.{Acquisition, class_awaited, held, held_by, lock_
 use Rattle.ld_rules.specs.Flags.{same_state, is_enabled}
 use Rattle.ld_rules.specs.Outcome.{events}
 use Rattle.ld_rules.specs.Dependency.{Seen, seen_at, seen}
-use Rattle.ld_rules.specs.Usage.{Bit, same_bit, Use, same_use, in_uses, on_uses, uses_at, uses_in}
+use Rattle.ld_rules.specs.Usage.{Bit, bit_of, same_bit, usage_of, Use, same_use, in_uses, on_uses, uses_at, uses_in}
 use Rattle.ld_rules.specs.Usage.Bit.{In, On}
 use Rattle.ld_rules.specs.Inner.Scanned.{same_use_seen, with_new}
 use Rattle.ld_rules.proofs.RemoveLemmas.{filter-remove_other, list_all-remove_last}
@@ -219,6 +220,20 @@ Decides-same_state Hard Hard = (λ h. refl, λ h. refl)
 Decides-same_state Hard Soft = (λ h. absurd (true≢false (sym h)), λ h. cc)
 Decides-same_state Soft Hard = (λ h. absurd (true≢false (sym h)), λ h. cc)
 Decides-same_state Soft Soft = (λ h. refl, λ h. refl)
+
+-- a set without bits has none
+pub no_bit : (bit : Bit) → has_bit no_bits (usage_of bit) ≡ false
+no_bit (In Hard) = refl
+no_bit (In Soft) = refl
+no_bit (On Hard) = refl
+no_bit (On Soft) = refl
+
+-- the bit of a set that was made of it
+pub bit_of-usage : (bit : Bit) → bit_of (usage_of bit) ≡ bit
+bit_of-usage (In Hard) = refl
+bit_of-usage (In Soft) = refl
+bit_of-usage (On Hard) = refl
+bit_of-usage (On Soft) = refl
 
 pub Decides-same_bit : (a b : Bit) → Decides (same_bit a b) (a ≡ b)
 Decides-same_bit (In a) (In b) = (λ h. ap In ((Decides-same_state a b).0 h), λ h. let e : a ≡ b = cc in (Decides-same_state a b).1 e)

@@ -11,18 +11,12 @@ use Rattle.ld_class.proofs.UsageLemmas.{has_bit-either}
 use Rattle.ld_trace.specs.declared.event.State.TheVariants.{Hard, Soft}
 use Rattle.ld_facts.specs.Usage.{Bit, IsBit, bit_of, usage_of}
 use Rattle.ld_facts.specs.Usage.Bit.{In, On}
+use Rattle.ld_rules.proofs.UsageLemmas.{no_bit}
 use Rattle.ld_union.specs.declared.news.NewBit.{NewBit}
 use Rattle.ld_union.specs.declared.usage.UsageRow.{UsageRow}
 use Rattle.ld_union.specs.Inner.Bits.{HasBitAt, new_bit}
 use Rattle.ld_union.specs.Inner.News.{IsNew, TellsBits}
 use Rattle.ld_union.specs.Usage.{bits_of, row_of}
-
--- a class without bits of its own has none
-no_bit : (bit : Bit) → has_bit no_bits (usage_of bit) ≡ false
-no_bit (In Hard) = refl
-no_bit (In Soft) = refl
-no_bit (On Hard) = refl
-no_bit (On Soft) = refl
 
 pub bit_within : (usage : List Usage) (c : ℕ) (bit : Bit) → HasBitAt usage c bit → c < length usage
 bit_within usage c bit has = by (cases_lt c (length usage))

@@ -16,7 +16,7 @@ use Rattle.ld_rules.proofs.UsageLemmas.{Decides-same_use}
 use Rattle.ld_batch.specs.Batch.{IsBatch, Met, PlainBatch, named, named_use, witness_of}
 use Rattle.ld_union.specs.Inner.Union.{earlier_of}
 use Rattle.ld_union.proofs.EachOnceLemmas.{IsDistinct-each_once}
-use Rattle.ld_union.proofs.UnionLemmas.{earlier_of-none}
+use Rattle.ld_batch.proofs.SourceLemmas.{earlier_of-none}
 
 -- none passes, where none of the first ones does
 none_found : {X Y : Type 0} (p : Y → Bool) (f : X → Y) (i : ℕ) (xs : List X) (d : X) → ((k : ℕ) → k < i → k < length xs → p (f (get_or xs k d)) ≡ false) → find p (map f (take i xs)) ≡ None

@@ -15,32 +15,12 @@ use Rattle.ld_rules.proofs.PlaceLemmas.{by_pushes, flat_map-append}
 use Rattle.ld_batch.specs.Batch.{IsBatch, PlainBatch}
 use Rattle.ld_batch.specs.Inner.Names.{IsLonger, with_names}
 use Rattle.ld_batch.proofs.NameLemmas.{with_names-both_once}
-use Rattle.ld_union.specs.Inner.Union.{Adds, AreBetween, AreUsed, AreWitnessed, PlainUnion, earlier_of, seen_in, with_first}
+use Rattle.ld_batch.proofs.SourceLemmas.{earlier_of-none, shown_in, witness-push}
+use Rattle.ld_union.specs.Inner.Union.{Adds, AreBetween, AreUsed, AreWitnessed, PlainUnion, earlier_of, with_first}
 use Rattle.ld_union.proofs.EarlierLemmas.{earlier_of-assoc}
-use Rattle.ld_union.proofs.UnionLemmas.{earlier_of-none}
-
--- the least of some witnesses and one more
-first_of-push : (witnesses : List Witness) (last : Witness) → first_of (witnesses ++ last ∷ []) ≡ earlier_of (first_of witnesses) (Some last)
-first_of-push [] last = refl
-first_of-push (first ∷ witnesses) last = ap Some (fold-append earlier first witnesses (last ∷ []))
 
 module _ {A : Type 0} (same : A → A → Bool) (shown : PlainSource → List (Seen A)) where
-  -- where a source shows it
-  abbrev shown_in : A → PlainSource → Option Witness
-  shown_in what source = seen_in source.number (least_line same (shown source) what)
-
-  -- the first witness over some sources and one more
-  witness-push : (sources : List PlainSource) (source : PlainSource) (what : A)
-      → first_witness same shown (sources ++ source ∷ []) what ≡ earlier_of (first_witness same shown sources what) (shown_in what source)
-  witness-push sources source what =
-      ap first_of (filter_map-append (shown_in what) sources (source ∷ []))
-      ∙ by (filter_map (shown_in what) sources) (shown_in what source)
-    where
-      by : (before : List Witness) (more : Option Witness) → first_of (before ++ cons_option more []) ≡ earlier_of (first_of before) more
-      by before None = ap first_of (append-nil before) ∙ earlier_of-none (first_of before)
-      by before (Some w) = first_of-push before w
-
-  -- and over those of two lists
+  -- the first witness over the sources of two lists
   witness-append : (sources more : List PlainSource) (what : A)
       → first_witness same shown (sources ++ more) what ≡ earlier_of (first_witness same shown sources what) (first_witness same shown more what)
   witness-append sources more what =
@@ -53,10 +33,10 @@ module _ {A : Type 0} (same : A → A → Bool) (shown : PlainSource → List (S
           → first_witness same shown (sources ++ (all ++ source ∷ [])) what ≡ earlier_of (first_witness same shown sources what) (first_witness same shown (all ++ source ∷ []) what)
       step all source before =
           ap (λ these. first_witness same shown these what) (sym (append_assoc sources all (source ∷ [])))
-          ∙ witness-push (sources ++ all) source what
-          ∙ ap (λ first. earlier_of first (shown_in what source)) before
-          ∙ earlier_of-assoc (first_witness same shown sources what) (first_witness same shown all what) (shown_in what source)
-          ∙ ap (earlier_of (first_witness same shown sources what)) (sym (witness-push all source what))
+          ∙ witness-push same shown (sources ++ all) source what
+          ∙ ap (λ first. earlier_of first (shown_in same shown what source)) before
+          ∙ earlier_of-assoc (first_witness same shown sources what) (first_witness same shown all what) (shown_in same shown what source)
+          ∙ ap (earlier_of (first_witness same shown sources what)) (sym (witness-push same shown all source what))
 
 -- a union to which what a batch shows was added
 pub adds-batch : (old new : PlainUnion) (batch : PlainBatch) → IsBatch batch → AreBetween new.classes new.dependencies

@@ -15,6 +15,7 @@ use Rattle.ld_facts.specs.Dependency.{Dependency, same_dependency}
 use Rattle.ld_facts.specs.Union.{earlier}
 use Rattle.ld_union.specs.declared.dependencies.Witnessed.{Witnessed}
 use Rattle.ld_batch.specs.Inner.Names.{IsLonger}
+use Rattle.ld_batch.proofs.SourceLemmas.{earlier_of-none}
 use Rattle.ld_union.specs.Inner.Union.{AreBetween, AreWitnessed, earlier_of, edges_of, named_edge}
 
 -- equal dependencies have equal names
@@ -30,10 +31,6 @@ same_dependency-refl a =
     let from = (same_class-Decides a.from a.from).1 refl in
     let to = (same_class-Decides a.to a.to).1 refl in
     λ i. from i && to i
-
-pub earlier_of-none : (a : Option Witness) → a ≡ earlier_of a None
-earlier_of-none None = refl
-earlier_of-none (Some a) = refl
 
 -- what was seen before is still seen
 pub earlier_of-some : (before more : Option Witness) → is_some before ≡ true → is_some (earlier_of before more) ≡ true

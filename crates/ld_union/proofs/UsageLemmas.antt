@@ -18,7 +18,8 @@ use Rattle.ld_union.specs.declared.usage.UsageRow.{UsageRow}
 use Rattle.ld_batch.specs.Inner.Names.{IsLonger}
 use Rattle.ld_union.specs.Inner.Union.{AreUsed, earlier_of, of_class, with_bit, with_first_use}
 use Rattle.ld_union.specs.Usage.{bits, row_of, witnessed_bits}
-use Rattle.ld_union.proofs.UnionLemmas.{earlier_of-none, seen_cases}
+use Rattle.ld_batch.proofs.SourceLemmas.{earlier_of-none}
+use Rattle.ld_union.proofs.UnionLemmas.{seen_cases}
 
 -- the one 1 of a bit's number stands at the bit's place
 pub place_of-bit : (bit : Bit) → trailing_zeros w8 (usage_of bit).0 ≡ position_or_len (same_bit bit) bits

@@ -12,6 +12,7 @@ use Rattle.ld_class.specs.Usage.{has_bit, no_bits}
 use Rattle.ld_trace.specs.declared.event.State.TheVariants.{Hard, Soft}
 use Rattle.ld_rules.specs.Usage.{Bit, IsBit, bit_of, usage_of}
 use Rattle.ld_rules.specs.Usage.Bit.{In, On}
+use Rattle.ld_rules.proofs.UsageLemmas.{no_bit}
 use Rattle.ld_uses.specs.declared.uses.UsageFact.{UsageFact}
 use Rattle.ld_uses.specs.Inner.Uses.{AreNoted, fact, same_fact}
 
@@ -44,12 +45,6 @@ meet (On Soft) (In Hard) = inr (record { none = refl; kept = refl; differ = refl
 meet (On Soft) (In Soft) = inr (record { none = refl; kept = refl; differ = refl })
 meet (On Soft) (On Hard) = inr (record { none = refl; kept = refl; differ = refl })
 meet (On Soft) (On Soft) = inl (record { same = refl; gone = refl; some = refl })
-
-no_bit : (bit : Bit) → has_bit no_bits (usage_of bit) ≡ false
-no_bit (In Hard) = refl
-no_bit (In Soft) = refl
-no_bit (On Hard) = refl
-no_bit (On Soft) = refl
 
 or_false : (b : Bool) → (b || false) ≡ b
 or_false true = refl

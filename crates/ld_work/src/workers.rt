@@ -258,7 +258,7 @@ fn run_one<'a, T: Ledger, E: Ledger, G: Gate, R: Wait>(
     while let Some(number) = tickets.draw(&mut seat) {
         gate.pass(worker as u64, number);
         let source = sources[number as usize];
-        refused = read(rt, alloc, desk, source, &mut batch, &mut feeder).is_err();
+        refused = read(rt, desk, source, &mut batch, &mut feeder).is_err();
         if refused {
             break;
         }
@@ -273,7 +273,6 @@ fn run_one<'a, T: Ledger, E: Ledger, G: Gate, R: Wait>(
 /// Reads a trace into the batch, and hands on a batch of `MOST_IN_BATCH` traces.
 fn read<'a, T: Ledger, E: Ledger, R: Wait>(
     rt: &R,
-    alloc: Global,
     desk: &Desk<'a, T, E>,
     source: Source<'a>,
     batch: &mut Batch<'a>,
@@ -285,7 +284,7 @@ fn read<'a, T: Ledger, E: Ledger, R: Wait>(
         (IfSome (last_or None batch.new.sources) (λ last. last.number ≡ source.entry.number)) }
 {
     // Read before the lock is taken, so that the workers read at the same time.
-    batch.push(alloc, source)?;
+    batch.push(source)?;
     if batch.listed().len() < MOST_IN_BATCH {
         return Ok(());
     }
@@ -303,11 +302,14 @@ fn submit<'a, T: Ledger, E: Ledger, R: Wait>(
     ensures { batch.new.sources ≡ [] }
 {
     let answer = desk.look(rt).take(feeder, batch);
+    let Err(refusal) = answer else {
+        return Ok(());
+    };
     // What wasn't taken is given up: a worker goes on with its next draw, or ends.
     batch.clear();
-    match answer {
-        Err(TakeRefusal::Memory) => Err(AllocError),
-        Ok(()) | Err(TakeRefusal::Twice) => Ok(()),
+    match refusal {
+        TakeRefusal::Memory => Err(AllocError),
+        TakeRefusal::Twice => Ok(()),
     }
 }
 

@@ -25,8 +25,8 @@ fn batch_of_one<'a, R: Abort>(rt: &R, alloc: Global, source: Source<'a>) -> Batc
 {
     let mut batch = Batch::new(alloc);
     assert!(rt; source.fits());
-    if batch.push(alloc, source).is_err() {
-        batch.push(alloc, source).expect(rt, "memory for a trace");
+    if batch.push(source).is_err() {
+        batch.push(source).expect(rt, "memory for a trace");
     }
     batch
 }
@@ -41,8 +41,8 @@ fn batch_of_two<'a, R: Abort>(
     let mut batch = batch_of_one(rt, alloc, first);
     assert!(rt; second.fits());
     assert!(rt; first.number < second.number);
-    if batch.push(alloc, second).is_err() {
-        batch.push(alloc, second).expect(rt, "memory for a trace");
+    if batch.push(second).is_err() {
+        batch.push(second).expect(rt, "memory for a trace");
     }
     batch
 }

@@ -1,8 +1,10 @@
 -- The rows of a batch, by the numbers of its classes. No contract of a `Batch` cites this file.
-use Rattle.std.specs.Prelude.{◌≡◌, ◌≢◌, ℕ, List, AllPairs, map}
+use Rattle.std.specs.Prelude.{◌≡◌, ◌≢◌, ℕ, List, Option, None, Some, AllPairs, map, option_map}
 use Rattle.ld_held.specs.declared.edges.EdgeFact.{EdgeFact}
 use Rattle.ld_uses.specs.declared.uses.UsageFact.{UsageFact}
+use Rattle.ld_rules.specs.declared.outcome.Witness.{Witness}
 use Rattle.ld_rules.specs.Dependency.{Seen}
+use Rattle.ld_rules.specs.Union.{earlier}
 use Rattle.ld_batch.specs.declared.edges.WitnessedEdge.{WitnessedEdge}
 use Rattle.ld_batch.specs.declared.uses.WitnessedUse.{WitnessedUse}
 use Rattle.ld_batch.specs.Batch.{Met}
@@ -22,6 +24,16 @@ use_of number fact = record {
   bit = fact.bit;
   witness = record { number = number; line = fact.line };
 }
+
+-- the earlier of two witnesses, each of which may be absent
+abbrev pub earlier_of : Option Witness → Option Witness → Option Witness
+earlier_of None b = b
+earlier_of (Some a) None = Some a
+earlier_of (Some a) (Some b) = Some (earlier a b)
+
+-- where something was seen in the trace of this number, if it was seen in a line
+abbrev pub seen_in : ℕ → Option ℕ → Option Witness
+seen_in number line = option_map (λ l. record { number = number; line = l }) line
 
 -- what was met, as it was seen in its trace
 abbrev pub seen_of : {A : Type 0} → Met A → Seen A

@@ -4,6 +4,7 @@ use Rattle.std.specs.Option.{is_some}
 use Rattle.ld_class.specs.declared.names.TheConstants.{MOST_NAMES}
 use Rattle.ld_class.specs.Names.{AreDistinct, PlainClass, no_class, place_of}
 use Rattle.ld_batch.specs.Inner.Names.{IsLonger}
+pub use Rattle.ld_batch.specs.Inner.Rows.{earlier_of, seen_in}
 use Rattle.ld_trace.specs.declared.event.State.{State}
 use Rattle.ld_trace.specs.Sources.{PlainSource}
 use Rattle.ld_graph.specs.declared.Edge.{Edge}
@@ -12,7 +13,7 @@ use Rattle.ld_graph.specs.Walks.{HasWalk}
 use Rattle.ld_reach.specs.Reach.{PlainReach}
 use Rattle.ld_rules.specs.declared.outcome.Witness.{Witness}
 use Rattle.ld_facts.specs.Dependency.{Dependency, same_dependency}
-use Rattle.ld_facts.specs.Union.{dependency_witness, earlier, union_classes, use_witness}
+use Rattle.ld_facts.specs.Union.{dependency_witness, union_classes, use_witness}
 use Rattle.ld_facts.specs.Usage.{Bit, Use, same_bit, same_use}
 use Rattle.ld_union.specs.declared.dependencies.Witnessed.{Witnessed}
 use Rattle.ld_union.specs.declared.states.PerState.{PerState}
@@ -24,16 +25,6 @@ use Rattle.ld_union.specs.Usage.{bits_of, row_of}
 -- the dependency that an edge stands for
 abbrev pub named_edge : List PlainClass → Edge → Dependency
 named_edge classes edge = record { from = slice_index_or classes edge.from no_class; to = slice_index_or classes edge.to no_class }
-
--- the earlier of two witnesses, each of which may be absent
-abbrev pub earlier_of : Option Witness → Option Witness → Option Witness
-earlier_of None b = b
-earlier_of (Some a) None = Some a
-earlier_of (Some a) (Some b) = Some (earlier a b)
-
--- where something was seen in the trace of this number, if it was seen in a line
-abbrev pub seen_in : ℕ → Option ℕ → Option Witness
-seen_in number line = option_map (λ l. record { number = number; line = l }) line
 
 -- The rows are the dependencies that have a first witness, each with that witness.
 pub record AreWitnessed (classes : List PlainClass) (rows : List Witnessed) (first : Dependency → Option Witness) : Type 0 where
