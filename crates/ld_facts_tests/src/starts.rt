@@ -73,11 +73,21 @@ fn a_start_is_the_first_event(rt: HostRuntime) {
 fn faults_of_a_line_come_before_a_late_start(rt: HostRuntime) {
     assert_refused(&rt, b"begin t on\n", 2, TraceFault::BadCount);
     assert_refused(&rt, b"begin t yes on\n", 2, TraceFault::BadState);
-    assert_refused(&rt, b"begin t@ on\n", 2, TraceFault::BadCount);
     let bytes = b"acquire t A\nbegin t on\n";
     assert_refused(&rt, bytes, 3, TraceFault::BadCount);
     let bytes = b"acquire t A\nbegin t on yes\n";
     assert_refused(&rt, bytes, 3, TraceFault::BadState);
+}
+
+#[test]
+fn a_start_is_of_a_task_whose_name_is_none_too_long(rt: HostRuntime) -> Result<(), Fail> {
+    let mut text = String::from_str(rt.alloc(), "begin ")?;
+    for _ in 0..65 {
+        text.push_str("a")?;
+    }
+    text.push_str(" yes on\n")?;
+    assert_refused(&rt, text.as_bytes(), 2, TraceFault::BadName);
+    Ok(())
 }
 
 #[test]
