@@ -21,6 +21,12 @@ fn names(line: &[u8], event: Event<'_>) -> bool {
     read_event(line) == Ok(Some(event))
 }
 
+/// Whether it says that the task `t` starts with these flags.
+fn starts(line: &[u8], hard: bool, soft: bool) -> bool {
+    let task = b"t".as_slice();
+    names(line, Event::Begin { task, hard, soft })
+}
+
 /// This line with so many bytes `a` after it.
 fn with_letters(alloc: Global, line: &[u8], count: usize, end: &[u8]) -> Result<Vec<u8>, Fail> {
     let mut all = line.to_vec(alloc)?;
@@ -84,12 +90,20 @@ fn events_with_a_state_are_read(rt: HostRuntime) {
 }
 
 #[test]
+fn flags_of_a_start_are_read(rt: HostRuntime) {
+    assert!(rt; starts(b"begin t on on", true, true));
+    assert!(rt; starts(b"begin t on off", true, false));
+    assert!(rt; starts(b" begin\tt  off on ", false, true));
+    assert!(rt; starts(b"begin t off off", false, false));
+}
+
+#[test]
 fn the_first_fault_of_a_line_is_told(rt: HostRuntime) -> Result<(), Fail> {
     assert!(rt; refuses(b"lock t A", LineFault::BadVerb));
     assert!(rt; refuses(b"Acquire t A", LineFault::BadVerb));
     assert!(rt; refuses(b"trace a", LineFault::BadVerb));
     assert!(rt; refuses(b"Nested t A 1", LineFault::BadVerb));
-    assert!(rt; refuses(b"begin t on on", LineFault::BadVerb));
+    assert!(rt; refuses(b"Begin t on on", LineFault::BadVerb));
     assert!(rt; refuses(b"acquire t", LineFault::BadCount));
     assert!(rt; refuses(b"acquire t A B", LineFault::BadCount));
     assert!(rt; refuses(b"acquire t A@", LineFault::BadName));
@@ -107,9 +121,16 @@ fn the_first_fault_of_a_line_is_told(rt: HostRuntime) -> Result<(), Fail> {
     assert!(rt; refuses(b"enable t hard soft", LineFault::BadCount));
     assert!(rt; refuses(b"enter t nmi", LineFault::BadState));
     assert!(rt; refuses(b"disable t Hard", LineFault::BadState));
+    assert!(rt; refuses(b"begin t on", LineFault::BadCount));
+    assert!(rt; refuses(b"begin t on on on", LineFault::BadCount));
+    assert!(rt; refuses(b"begin t yes on", LineFault::BadState));
+    assert!(rt; refuses(b"begin t on yes", LineFault::BadState));
+    assert!(rt; refuses(b"begin t On on", LineFault::BadState));
     let task = with_letters(rt.alloc(), b"enter ", 65, b" nmi")?;
     assert!(rt; refuses(task.as_slice(), LineFault::BadName));
     let task = with_letters(rt.alloc(), b"nested ", 65, b" A 1")?;
+    assert!(rt; refuses(task.as_slice(), LineFault::BadName));
+    let task = with_letters(rt.alloc(), b"begin ", 65, b" yes on")?;
     assert!(rt; refuses(task.as_slice(), LineFault::BadName));
     Ok(())
 }
