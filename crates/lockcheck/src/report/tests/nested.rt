@@ -134,10 +134,10 @@ fn refuses_a_trace_at_a_nested_acquisition(rt: HostRuntime) -> Result<(), Fail> 
 #[test]
 fn refuses_a_trace_with_too_many_nested_acquisitions(rt: HostRuntime) -> Result<(), Fail> {
     let mut held = String::new(rt.alloc());
-    for class in 1..=49u32 {
+    for class in 1..=97u32 {
         writeln!(held, "nested t c{class} 1")?;
     }
-    assert_refused(&rt, rt.alloc(), held.as_str(), 50, "TooDeep")?;
+    assert_refused(&rt, rt.alloc(), held.as_str(), 98, "TooDeep")?;
 
     let mut classes = String::new(rt.alloc());
     for class in 1..=1023u32 {
