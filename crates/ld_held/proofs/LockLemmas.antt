@@ -499,6 +499,17 @@ pub holds_shown : {begun : List EdgeFact} (stacks : List PlainStack) (edges : Li
     (get_or stacks task empty_stack).held ≡ get_or known.stacks task []
 holds_shown {begun} stacks edges known task is = sym (holds_at stacks task) ∙ ap (λ (k : HeldByTasks). get_or k.stacks task []) is
 
+-- the locks before and after one of them, as callers see them
+pub cut_shown : {begun : List EdgeFact} (stacks : List PlainStack) (edges : List EdgeFact) (known : HeldByTasks) (task : ℕ) → held_by_tasks stacks edges begun ≡ known → (place : ℕ)
+    → map hold_of (take place (get_or stacks task empty_stack).held) ++ map hold_of (drop (suc place) (get_or stacks task empty_stack).held)
+    ≡ take place (get_or known.stacks task []) ++ drop (place + 1) (get_or known.stacks task [])
+cut_shown stacks edges known task is place =
+    let held = (get_or stacks task empty_stack).held in
+    let next : suc place ≡ place + 1 = omega arith in
+    (λ i. sym (take-map hold_of place held) i ++ sym (drop-map hold_of (suc place) held) i)
+    ∙ ap (λ hs. take place hs ++ drop (suc place) hs) (holds_shown stacks edges known task is)
+    ∙ ap (λ n. take place (get_or known.stacks task []) ++ drop n (get_or known.stacks task [])) next
+
 -- the locks that a task holds, as callers see them
 pub held_shown : {begun : List EdgeFact} (stacks : List PlainStack) (edges : List EdgeFact) (known : HeldByTasks) (task : ℕ) → held_by_tasks stacks edges begun ≡ known → (held : List Held) →
     map plain_held held ≡ (get_or stacks task empty_stack).held → holds_of held ≡ get_or known.stacks task []

@@ -218,12 +218,31 @@ impl<'a> Locks<'a> {
         if place + 1 == held.len() {
             self.stacks.truncate(task, place);
         } else {
-            // The later locks get the chains that they have without this one.
-            let later = copied(&held[place + 1..]);
-            self.stacks.truncate(task, place);
-            self.hold_all(task, later.as_slice())?;
+            self.take_out(task, place)?;
         }
         Ok(true)
+    }
+
+    /// Takes a lock of the innermost frame out from under later ones, which get the chains that they
+    /// have without it.
+    // The copy is cleared before it is filled. In a function of its own that costs only releases that
+    // need it.
+    #[inline(never)]
+    fn take_out(&mut self, task: u32, place: usize) -> Result<(), AllocError>
+        requires task { task < length self.old.stacks }
+        requires inner { start_now (slice_index_or self.old.interrupts task fresh) ≤ place }
+        requires held { place < length (slice_index_or self.old.stacks task []) }
+        ensures begun { self.new.begun ≡ self.old.begun }
+        ensures stacks { OnOk result (self.new ≡ record self.old {
+          stacks = slice_set self.old.stacks task
+              (take place (slice_index_or self.old.stacks task [])
+              ++ drop (place + 1) (slice_index_or self.old.stacks task []));
+        }) }
+    {
+        let later = copied(&self.stacks.held(task)[place + 1..]);
+        self.stacks.truncate(task, place);
+        self.hold_all(task, later.as_slice())?;
+        Ok(())
     }
 
     /// A frame of the state opens over what the task holds.

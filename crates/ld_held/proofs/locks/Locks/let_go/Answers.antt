@@ -1,17 +1,15 @@
-use Rattle.std.proofs.Common.{◌≡◌, ℕ, ◌<◌, ◌≤◌, ◌+◌, ◌-◌, ◌++◌, suc, true, false, List, [], map, length, take, drop, get_or, remove, set, refl, sym, ap, subst, ◌∙◌, arith}
-use Rattle.std.proofs.lemmas.List.{append-nil, drop-map, drop_all, get_or-set_same, length-drop, length-map, length-take-le, take_rest}
+use Rattle.std.proofs.Common.{◌≡◌, ℕ, ◌<◌, ◌≤◌, ◌+◌, ◌-◌, ◌++◌, suc, true, false, List, [], map, length, take, drop, get_or, remove, set, sym, ap, subst, ◌∙◌, arith}
+use Rattle.std.proofs.lemmas.List.{append-nil, drop_all, length-drop, length-map}
 use Rattle.std.specs.List.{list_any}
-use Rattle.std.proofs.lemmas.Simd.{map-map}
 use Rattle.ld_trace.specs.Events.{PlainLock, plain_lock}
 use Rattle.ld_held.specs.declared.edges.EdgeFact.{EdgeFact}
 use Rattle.ld_held.specs.declared.held.Held.{Held}
 use Rattle.ld_held.specs.Inner.Interrupts.{fresh, start_now}
-use Rattle.ld_held.specs.Inner.Locks.{AreTied, HeldByTasks, hold_of, holds_of, is_of, held_by_tasks}
+use Rattle.ld_held.specs.Inner.Locks.{AreTied, HeldByTasks, hold_of, is_of, held_by_tasks}
 use Rattle.ld_held.specs.Inner.Stacks.{PlainStack, empty_stack, holds, inner, plain_held}
 use Rattle.ld_rules.specs.Inner.Scanned.{remove_last}
-use Rattle.ld_rules.specs.declared.outcome.TheConstants.{MOST_HELD}
 use Rattle.ld_held.proofs.StackLemmas.{part_is}
-use Rattle.ld_held.proofs.LockLemmas.{any_shown, none_gone, removed_some, hold_gone, held_again, holds_at, holds_shown, interrupts_shown, shown_held, tied_cut, within_shown}
+use Rattle.ld_held.proofs.LockLemmas.{any_shown, cut_shown, none_gone, removed_some, hold_gone, holds_shown, interrupts_shown, shown_held, tied_cut, within_shown}
 use Rattle.ld_held.proofs.locks.Locks.let_go.Goals as goal
 
 -- what the search says of the innermost frame, as the fields show it
@@ -65,27 +63,6 @@ module _ {begun : List EdgeFact} (stacks : List PlainStack) (edges : List EdgeFa
         let nothing : map hold_of (drop (suc (start + place)) stack.held) ≡ [] = ap (map hold_of) (drop_all (suc (start + place)) stack.held (omega arith)) in
         sym (append-nil (map hold_of (take (start + place) stack.held))) ∙ ap (λ hs. map hold_of (take (start + place) stack.held) ++ hs) (sym nothing) ∙ gone
 
-    -- the later ones
-    later_are : (later : List Held) → later ≡ take (length held - ((start + place) + 1)) (drop ((start + place) + 1) held) → holds_of later ≡ map hold_of (drop (suc (start + place)) stack.held)
-    later_are later are =
-        let next : (start + place) + 1 ≡ suc (start + place) = omega arith in
-        ap holds_of (are ∙ take_rest held ((start + place) + 1) ∙ ap (λ n. drop n held) next)
-        ∙ sym (map-map hold_of plain_held (drop (suc (start + place)) held))
-        ∙ ap (map hold_of) (sym (drop-map plain_held (suc (start + place)) held) ∙ ap (drop (suc (start + place))) same)
-
-    -- and there is room for them
-    room : (after : List PlainStack) (later : List Held) (most : ℕ) → after ≡ set stacks task
-        (record stack { held = take (start + place) stack.held }) → later ≡ take (length held - ((start + place) + 1))
-        (drop ((start + place) + 1) held) → task < length stacks → length held ≤ most → length (get_or (map (λ (s : PlainStack). map hold_of s.held) after) task []) + length later ≤ most
-    room after later most put are task_within depth =
-        let front : length (get_or (map (λ (s : PlainStack). map hold_of s.held) after) task []) ≡ length (take (start + place) stack.held) =
-        ap length (holds_at after task ∙ ap (λ ss. map hold_of (get_or ss task empty_stack).held) put ∙ ap (λ (s : PlainStack). map hold_of s.held)
-        (get_or-set_same stacks task (record stack { held = take (start + place) stack.held }) empty_stack task_within))
-        ∙ length-map (take (start + place) stack.held) hold_of in
-        let back : length later ≡ length (drop ((start + place) + 1) held) = ap length (are ∙ take_rest held ((start + place) + 1)) in
-        let many : length held ≡ length stack.held = sym (length-map held plain_held) ∙ ap length same in
-        omega (arith, high, length-take-le (start + place) stack.held (omega (arith, high)), length-drop ((start + place) + 1) held)
-
 pub returns-in_default-clause-held : goal.returns-in_default-clause-held
 returns-in_default-clause-held c =
     sym (none_held c.self.inside.stacks c.self.inside.edges c.args.self.now c.args.task (plain_lock c.args.lock) c.held-held.result.now
@@ -111,34 +88,8 @@ invariant_of-self c = record {
   mark = c.self.invariant.mark;
 }
 
-pub invariant_of-self-else-place-held : goal.invariant_of-self-else-place-held
-invariant_of-self-else-place-held c = record {
-  tied =
-      let high : (c.start-start.result + c.in-Some.place) < length (get_or c.self.inside.stacks c.args.task empty_stack).held = high
-      c.self.inside.stacks c.self.inside.edges c.args.self.now c.args.task (plain_lock c.args.lock) c.held-held.result.now c.start-start.result
-      c.self.view_is c.held-held.ensures.held (c.start-start.ensures ∙ ap start_now c.interrupts.ensures) c.in-Some.place c.in-Some.ensures.place c.in-Some.ensures.last in
-      subst (λ ss. AreTied ss c.self.inside.chains c.self.inside.told c.self.inside.edges) (sym c.truncate-else-place-held.ensures)
-      (tied_cut c.self.inside.stacks c.self.inside.chains c.self.inside.told c.self.inside.edges c.self.invariant.tied c.args.task
-      (c.start-start.result + c.in-Some.place) (within_shown c.self.inside.stacks c.self.inside.edges c.args.self.now c.args.task c.self.view_is c.requires)
-      (low c.self.inside.stacks c.self.inside.edges c.args.self.now c.args.task (plain_lock c.args.lock) c.held-held.result.now c.start-start.result
-      c.self.view_is c.held-held.ensures.held (c.start-start.ensures ∙ ap start_now c.interrupts.ensures) c.in-Some.place c.in-Some.ensures.place c.in-Some.ensures.last) (omega (arith, high)));
-  mark = c.self.invariant.mark;
-}
-
-pub hold_all-requires-clause-room : goal.hold_all-requires-clause-room
-hold_all-requires-clause-room c =
-    room c.self.inside.stacks c.self.inside.edges c.args.self.now c.args.task (plain_lock c.args.lock) c.held-held.result.now c.start-start.result
-    c.self.view_is c.held-held.ensures.held (c.start-start.ensures ∙ ap start_now c.interrupts.ensures) c.in-Some.place c.in-Some.ensures.place c.in-Some.ensures.last
-    c.truncate-else-place-held.new.self c.as_slice.result.now MOST_HELD c.truncate-else-place-held.ensures (c.as_slice.ensures.value ∙ c.copied-later.ensures)
-    (within_shown c.self.inside.stacks c.self.inside.edges c.args.self.now c.args.task c.self.view_is c.requires) c.held-held.ensures.depth
-
 pub returns-then-place-held-clause-held : goal.returns-then-place-held-clause-held
 returns-then-place-held-clause-held c =
-    was_held c.self.inside.stacks c.self.inside.edges c.args.self.now c.args.task (plain_lock c.args.lock) c.held-held.result.now c.start-start.result
-    c.self.view_is c.held-held.ensures.held (c.start-start.ensures ∙ ap start_now c.interrupts.ensures) c.in-Some.place c.in-Some.ensures.place c.in-Some.ensures.last
-
-pub returns-in_ok-hold_all-clause-held : goal.returns-in_ok-hold_all-clause-held
-returns-in_ok-hold_all-clause-held c =
     was_held c.self.inside.stacks c.self.inside.edges c.args.self.now c.args.task (plain_lock c.args.lock) c.held-held.result.now c.start-start.result
     c.self.view_is c.held-held.ensures.held (c.start-start.ensures ∙ ap start_now c.interrupts.ensures) c.in-Some.place c.in-Some.ensures.place c.in-Some.ensures.last
 
@@ -151,19 +102,30 @@ returns-then-place-held-clause-stacks c =
     c.start-start.result c.self.view_is c.held-held.ensures.held (c.start-start.ensures ∙ ap start_now c.interrupts.ensures) c.in-Some.place
     c.in-Some.ensures.place c.in-Some.ensures.last c.if-place-held.true)
 
-pub returns-in_ok-hold_all-clause-stacks : goal.returns-in_ok-hold_all-clause-stacks
-returns-in_ok-hold_all-clause-stacks c =
-    let front = map hold_of (take (c.start-start.result + c.in-Some.place) (get_or c.self.inside.stacks c.args.task empty_stack).held) in
-    held_again c.args.self.now
-    (held_by_tasks c.truncate-else-place-held.new.self c.self.inside.edges (take c.self.inside.begun.edges c.self.inside.edges)) c.hold_all.new.self c.args.task front (holds_of c.as_slice.result.now)
-    (ap (λ (ss : List PlainStack). held_by_tasks ss c.self.inside.edges (take c.self.inside.begun.edges c.self.inside.edges)) c.truncate-else-place-held.ensures
-    ∙ shown_held c.self.inside.stacks c.self.inside.edges c.args.self.now c.args.task c.self.view_is
-    (take (c.start-start.result + c.in-Some.place) (get_or c.self.inside.stacks c.args.task empty_stack).held) front refl)
-    c.in_ok-hold_all.ensures.held c.requires
+pub take_out-requires-clause-inner : goal.take_out-requires-clause-inner
+take_out-requires-clause-inner c =
+    subst (λ interrupts. start_now interrupts ≤ c.start-start.result + c.in-Some.place)
+    (interrupts_shown c.self.inside.stacks c.self.inside.edges c.args.self.now c.args.task c.self.view_is)
+    (low c.self.inside.stacks c.self.inside.edges c.args.self.now c.args.task (plain_lock c.args.lock) c.held-held.result.now c.start-start.result
+    c.self.view_is c.held-held.ensures.held (c.start-start.ensures ∙ ap start_now c.interrupts.ensures) c.in-Some.place c.in-Some.ensures.place c.in-Some.ensures.last)
+
+pub take_out-requires-clause-held : goal.take_out-requires-clause-held
+take_out-requires-clause-held c =
+    subst (λ n. c.start-start.result + c.in-Some.place < n)
+    (sym (length-map (get_or c.self.inside.stacks c.args.task empty_stack).held hold_of)
+    ∙ ap length (holds_shown c.self.inside.stacks c.self.inside.edges c.args.self.now c.args.task c.self.view_is))
+    (high c.self.inside.stacks c.self.inside.edges c.args.self.now c.args.task (plain_lock c.args.lock) c.held-held.result.now c.start-start.result
+    c.self.view_is c.held-held.ensures.held (c.start-start.ensures ∙ ap start_now c.interrupts.ensures) c.in-Some.place c.in-Some.ensures.place c.in-Some.ensures.last)
+
+pub returns-in_ok-take_out-clause-held : goal.returns-in_ok-take_out-clause-held
+returns-in_ok-take_out-clause-held c =
+    was_held c.self.inside.stacks c.self.inside.edges c.args.self.now c.args.task (plain_lock c.args.lock) c.held-held.result.now c.start-start.result
+    c.self.view_is c.held-held.ensures.held (c.start-start.ensures ∙ ap start_now c.interrupts.ensures) c.in-Some.place c.in-Some.ensures.place c.in-Some.ensures.last
+
+pub returns-in_ok-take_out-clause-stacks : goal.returns-in_ok-take_out-clause-stacks
+returns-in_ok-take_out-clause-stacks c =
+    c.in_ok-take_out.ensures.stacks
     ∙ ap (λ hs. record c.args.self.now { stacks = set c.args.self.now.stacks c.args.task hs })
-    (ap (λ hs. front ++ hs) (later_are c.self.inside.stacks c.self.inside.edges c.args.self.now c.args.task (plain_lock c.args.lock)
-    c.held-held.result.now c.start-start.result c.self.view_is c.held-held.ensures.held
-    (c.start-start.ensures ∙ ap start_now c.interrupts.ensures) c.in-Some.place c.in-Some.ensures.place c.in-Some.ensures.last
-    c.as_slice.result.now (c.as_slice.ensures.value ∙ c.copied-later.ensures))
+    (sym (cut_shown c.self.inside.stacks c.self.inside.edges c.args.self.now c.args.task c.self.view_is (c.start-start.result + c.in-Some.place))
     ∙ gone c.self.inside.stacks c.self.inside.edges c.args.self.now c.args.task (plain_lock c.args.lock) c.held-held.result.now c.start-start.result
     c.self.view_is c.held-held.ensures.held (c.start-start.ensures ∙ ap start_now c.interrupts.ensures) c.in-Some.place c.in-Some.ensures.place c.in-Some.ensures.last)
