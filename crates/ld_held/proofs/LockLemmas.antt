@@ -7,7 +7,7 @@ use Rattle.std.proofs.Math.ListN.{get_or-map}
 use Rattle.std.proofs.Math.Seq.{take-add}
 use Rattle.std.proofs.lemmas.List.{append-nil, map-append, length-map, length-set, length_push, get_or_push, get_or_append_left, drop-append-le}
 use Rattle.std.proofs.lemmas.List.{take-append-le, take-append-drop, take_all, length-append, length-take-le, append_assoc, length-drop, drop-drop}
-use Rattle.std.proofs.lemmas.List.{drop-map, drop-take, map_more, drop_all, get_or-take, take-take, take-map, set-get_or, set-set, map-set}
+use Rattle.std.proofs.lemmas.List.{drop-map, drop-take, drop_all, get_or-take, take-take, take-map, set-get_or, set-set, map-set}
 use Rattle.std.proofs.lemmas.List.{get_or-set_same, get_or-set_other}
 use Rattle.std.proofs.lemmas.List.Folds.{list_any-append, Any-from_list_any}
 use Rattle.std.proofs.lemmas.List.Elements.{All-push, All-weaker}
@@ -533,52 +533,17 @@ pub chained_left : (chains : List (List ℕ)) (stack : List PlainHeld) (before o
 chained_left chains stack before old new empty at is are =
     subst (AreChainedIn chains stack) (ap (λ (i : Interrupts). drop 1 (starts_of i)) (sym at) ∙ sym is.starts) (AreChainedIn-exit chains stack (starts_of before) empty are)
 
--- several more locks
-
--- a stack that is put, and then gains locks
-pub held_again : (old now new : HeldByTasks) (task : ℕ) (stack more : List Hold) → now ≡ record old { stacks = set old.stacks task stack } → new ≡
-    record now { stacks = set now.stacks task (get_or now.stacks task [] ++ more) } → task < length old.stacks → new ≡ record old { stacks = set old.stacks task (stack ++ more) }
-held_again old now new task stack more so_far is within =
-    is ∙ ap (λ (k : HeldByTasks). record k { stacks = set k.stacks task (get_or k.stacks task [] ++ more) }) so_far
+-- a stack that is put, and then changed
+pub put_again : (old now new : HeldByTasks) (task : ℕ) (stack : List Hold) (change : List Hold → List Hold) → now ≡ record old { stacks = set old.stacks task stack } → new ≡
+    record now { stacks = set now.stacks task (change (get_or now.stacks task [])) } → task < length old.stacks → new ≡ record old { stacks = set old.stacks task (change stack) }
+put_again old now new task stack change so_far is within =
+    is ∙ ap (λ (k : HeldByTasks). record k { stacks = set k.stacks task (change (get_or k.stacks task [])) }) so_far
     ∙ (λ i. record old { stacks = same i })
   where
-    same : set (set old.stacks task stack) task (get_or (set old.stacks task stack) task [] ++ more) ≡ set old.stacks task (stack ++ more)
+    same : set (set old.stacks task stack) task (change (get_or (set old.stacks task stack) task [])) ≡ set old.stacks task (change stack)
     same =
-        set-set old.stacks task stack (get_or (set old.stacks task stack) task [] ++ more)
-        ∙ ap (λ hs. set old.stacks task (hs ++ more)) (get_or-set_same old.stacks task stack [] within)
-
--- after the i-th of them
-pub held_more : (old now new : HeldByTasks) (task i : ℕ) (locks : List Held) (d : Held) → now ≡ record old
-    { stacks = set old.stacks task (get_or old.stacks task [] ++ holds_of (take i locks)) } → new ≡ record now
-    { stacks = set now.stacks task (get_or now.stacks task [] ++ hold_of (plain_held (get_or locks i d)) ∷ []) } → task < length old.stacks → i <
-    length locks → new ≡ record old { stacks = set old.stacks task (get_or old.stacks task [] ++ holds_of (take (i + 1) locks)) }
-held_more old now new task i locks d so_far is within inside =
-    let same : (get_or old.stacks task [] ++ holds_of (take i locks)) ++ hold_of (plain_held (get_or locks i d)) ∷ [] ≡ get_or old.stacks task [] ++ holds_of (take (i + 1) locks) =
-    append_assoc (get_or old.stacks task []) (holds_of (take i locks)) (hold_of (plain_held (get_or locks i d)) ∷ [])
-    ∙ ap (λ hs. get_or old.stacks task [] ++ hs) (sym (map_more (λ (h : Held). hold_of (plain_held h)) locks i d inside)) in
-    held_again old now new task (get_or old.stacks task [] ++ holds_of (take i locks)) (hold_of (plain_held (get_or locks i d)) ∷ []) so_far is within
-    ∙ ap (λ hs. record old { stacks = set old.stacks task hs }) same
-
--- before the first of them
-pub held_none : (known : HeldByTasks) (task : ℕ) → known ≡ record known { stacks = set known.stacks task (get_or known.stacks task [] ++ []) }
-held_none known task =
-    let same : set known.stacks task (get_or known.stacks task [] ++ []) ≡ known.stacks = ap (set known.stacks task) (append-nil (get_or known.stacks task [])) ∙ set-get_or known.stacks task [] in
-    (λ i. record known { stacks = sym same i })
-
-module _ (old now : HeldByTasks) (task i : ℕ) (locks : List Held) (so_far : now ≡ record old
-    { stacks = set old.stacks task (get_or old.stacks task [] ++ holds_of (take i locks)) }) (within : task < length old.stacks) where
-  pub within_more : task < length now.stacks
-  within_more = subst (λ n. task < n) (sym (ap (λ (k : HeldByTasks). length k.stacks) so_far ∙ length-set old.stacks task (get_or old.stacks task [] ++ holds_of (take i locks)))) within
-
-  -- there is room for the i-th of them
-  pub room_left : (most : ℕ) → i < length locks → length (get_or old.stacks task []) + length locks ≤ most → length (get_or now.stacks task []) < most
-  room_left most inside room =
-      let part : length (holds_of (take i locks)) ≡ i = length-map (take i locks) (λ (h : Held). hold_of (plain_held h)) ∙ length-take-le i locks (omega arith) in
-      let many : length (get_or now.stacks task []) ≡ length (get_or old.stacks task []) + length (holds_of (take i locks)) =
-      ap (λ (k : HeldByTasks). length (get_or k.stacks task [])) so_far
-      ∙ ap length (get_or-set_same old.stacks task (get_or old.stacks task [] ++ holds_of (take i locks)) [] within)
-      ∙ length-append (get_or old.stacks task []) (holds_of (take i locks)) in
-      omega arith
+        set-set old.stacks task stack (change (get_or (set old.stacks task stack) task []))
+        ∙ ap (λ hs. set old.stacks task (change hs)) (get_or-set_same old.stacks task stack [] within)
 
 -- a release
 

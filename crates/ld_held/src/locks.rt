@@ -18,7 +18,6 @@ use crate::chains::{Chains, Link, Told};
 use crate::edges::{EdgeFact, Edges};
 use crate::held::{Held, Stacks, latest};
 use crate::interrupts::{Flag, Interrupts};
-use arrayvec::ArrayVec;
 use ld_rules::MOST_HELD;
 use ld_trace::{Lock, State};
 use std::alloc::{AllocError, Global};
@@ -180,23 +179,6 @@ impl<'a> Locks<'a> {
         Ok(())
     }
 
-    /// The task acquired these locks, in this order.
-    fn hold_all(&mut self, task: u32, locks: &[Held<'a>]) -> Result<(), AllocError>
-        requires task { task < length self.old.stacks }
-        requires room { length (slice_index_or self.old.stacks task []) + length locks.now
-            ≤ MOST_HELD }
-        ensures begun { self.new.begun ≡ self.old.begun }
-        ensures held { OnOk result (self.new ≡ record self.old {
-          stacks = slice_set self.old.stacks task
-              (slice_index_or self.old.stacks task [] ++ holds_of locks.now);
-        }) }
-    {
-        for held in locks {
-            self.hold(task, held.lock, held.class)?;
-        }
-        Ok(())
-    }
-
     /// The task released the lock: its latest acquisition in the innermost frame ends. Tells
     /// whether there was one.
     pub fn let_go(&mut self, task: u32, lock: Lock<'a>) -> Result<bool, AllocError>
@@ -214,20 +196,12 @@ impl<'a> Locks<'a> {
         let Some(place) = latest(&held[start..], lock) else {
             return Ok(false);
         };
-        let place = start + place;
-        if place + 1 == held.len() {
-            self.stacks.truncate(task, place);
-        } else {
-            self.take_out(task, place)?;
-        }
+        self.take_out(task, start + place)?;
         Ok(true)
     }
 
     /// Takes a lock of the innermost frame out from under later ones, which get the chains that they
-    /// have without it.
-    // The copy is cleared before it is filled. In a function of its own that costs only releases that
-    // need it.
-    #[inline(never)]
+    /// have without it: each is let go, from the top down, and held again on the way back.
     fn take_out(&mut self, task: u32, place: usize) -> Result<(), AllocError>
         requires task { task < length self.old.stacks }
         requires inner { start_now (slice_index_or self.old.interrupts task fresh) ≤ place }
@@ -239,10 +213,15 @@ impl<'a> Locks<'a> {
               ++ drop (place + 1) (slice_index_or self.old.stacks task []));
         }) }
     {
-        let later = copied(&self.stacks.held(task)[place + 1..]);
-        self.stacks.truncate(task, place);
-        self.hold_all(task, later.as_slice())?;
-        Ok(())
+        let held = self.stacks.held(task);
+        let top = held.len() - 1;
+        let last = held[top];
+        self.stacks.truncate(task, top);
+        if place == top {
+            return Ok(());
+        }
+        self.take_out(task, place)?;
+        self.hold(task, last.lock, last.class)
     }
 
     /// A frame of the state opens over what the task holds.
@@ -301,18 +280,6 @@ impl<'a> Locks<'a> {
     {
         self.edges
     }
-}
-
-/// These locks, apart from the stack that they are in.
-fn copied<'a>(locks: &[Held<'a>]) -> ArrayVec<Held<'a>, MOST_HELD>
-    requires { length locks.now ≤ MOST_HELD }
-    ensures { result.items ≡ locks.now }
-{
-    let mut copy = ArrayVec::new();
-    if copy.try_extend_from_slice(locks).is_err() {
-        unreachable!();
-    }
-    copy
 }
 
 /// The chain of the classes of a stack; `None` where it is empty.

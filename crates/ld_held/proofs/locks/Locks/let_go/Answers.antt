@@ -1,15 +1,15 @@
 use Rattle.std.proofs.Common.{◌≡◌, ℕ, ◌<◌, ◌≤◌, ◌+◌, ◌-◌, ◌++◌, suc, true, false, List, [], map, length, take, drop, get_or, remove, set, sym, ap, subst, ◌∙◌, arith}
-use Rattle.std.proofs.lemmas.List.{append-nil, drop_all, length-drop, length-map}
+use Rattle.std.proofs.lemmas.List.{length-drop, length-map}
 use Rattle.std.specs.List.{list_any}
 use Rattle.ld_trace.specs.Events.{PlainLock, plain_lock}
 use Rattle.ld_held.specs.declared.edges.EdgeFact.{EdgeFact}
 use Rattle.ld_held.specs.declared.held.Held.{Held}
 use Rattle.ld_held.specs.Inner.Interrupts.{fresh, start_now}
-use Rattle.ld_held.specs.Inner.Locks.{AreTied, HeldByTasks, hold_of, is_of, held_by_tasks}
+use Rattle.ld_held.specs.Inner.Locks.{HeldByTasks, hold_of, is_of, held_by_tasks}
 use Rattle.ld_held.specs.Inner.Stacks.{PlainStack, empty_stack, holds, inner, plain_held}
 use Rattle.ld_rules.specs.Inner.Scanned.{remove_last}
 use Rattle.ld_held.proofs.StackLemmas.{part_is}
-use Rattle.ld_held.proofs.LockLemmas.{any_shown, cut_shown, none_gone, removed_some, hold_gone, holds_shown, interrupts_shown, shown_held, tied_cut, within_shown}
+use Rattle.ld_held.proofs.LockLemmas.{any_shown, cut_shown, none_gone, removed_some, hold_gone, holds_shown, interrupts_shown}
 use Rattle.ld_held.proofs.locks.Locks.let_go.Goals as goal
 
 -- what the search says of the innermost frame, as the fields show it
@@ -55,14 +55,6 @@ module _ {begun : List EdgeFact} (stacks : List PlainStack) (edges : List EdgeFa
         ∙ (λ i. take (start_now (interrupts_shown stacks edges known task is i)) (holds_shown stacks edges known task is i) ++ remove_last
         (is_of lock) (drop (start_now (interrupts_shown stacks edges known task is i)) (holds_shown stacks edges known task is i)))
 
-    -- it is the top
-    top_gone : (start + place) + 1 ≡ length held → map hold_of (take (start + place) stack.held) ≡ take from (get_or known.stacks task []) ++
-        remove_last (is_of lock) (drop from (get_or known.stacks task []))
-    top_gone last =
-        let many : length held ≡ length stack.held = sym (length-map held plain_held) ∙ ap length same in
-        let nothing : map hold_of (drop (suc (start + place)) stack.held) ≡ [] = ap (map hold_of) (drop_all (suc (start + place)) stack.held (omega arith)) in
-        sym (append-nil (map hold_of (take (start + place) stack.held))) ∙ ap (λ hs. map hold_of (take (start + place) stack.held) ++ hs) (sym nothing) ∙ gone
-
 pub returns-in_default-clause-held : goal.returns-in_default-clause-held
 returns-in_default-clause-held c =
     sym (none_held c.self.inside.stacks c.self.inside.edges c.args.self.now c.args.task (plain_lock c.args.lock) c.held-held.result.now
@@ -73,34 +65,6 @@ returns-in_default-clause-stacks c =
     none_gone c.args.self.now c.args.task (start_now (get_or c.args.self.now.interrupts c.args.task fresh)) (plain_lock c.args.lock)
     (none_held c.self.inside.stacks c.self.inside.edges c.args.self.now c.args.task (plain_lock c.args.lock) c.held-held.result.now
     c.start-start.result c.self.view_is c.held-held.ensures.held (c.start-start.ensures ∙ ap start_now c.interrupts.ensures) c.in_default.ensures.none)
-
-pub invariant_of-self : goal.invariant_of-self
-invariant_of-self c = record {
-  tied =
-      let high : (c.start-start.result + c.in-Some.place) < length (get_or c.self.inside.stacks c.args.task empty_stack).held = high
-      c.self.inside.stacks c.self.inside.edges c.args.self.now c.args.task (plain_lock c.args.lock) c.held-held.result.now c.start-start.result
-      c.self.view_is c.held-held.ensures.held (c.start-start.ensures ∙ ap start_now c.interrupts.ensures) c.in-Some.place c.in-Some.ensures.place c.in-Some.ensures.last in
-      subst (λ ss. AreTied ss c.self.inside.chains c.self.inside.told c.self.inside.edges) (sym c.truncate.ensures)
-      (tied_cut c.self.inside.stacks c.self.inside.chains c.self.inside.told c.self.inside.edges c.self.invariant.tied c.args.task
-      (c.start-start.result + c.in-Some.place) (within_shown c.self.inside.stacks c.self.inside.edges c.args.self.now c.args.task c.self.view_is c.requires)
-      (low c.self.inside.stacks c.self.inside.edges c.args.self.now c.args.task (plain_lock c.args.lock) c.held-held.result.now c.start-start.result
-      c.self.view_is c.held-held.ensures.held (c.start-start.ensures ∙ ap start_now c.interrupts.ensures) c.in-Some.place c.in-Some.ensures.place c.in-Some.ensures.last) (omega (arith, high)));
-  mark = c.self.invariant.mark;
-}
-
-pub returns-then-place-held-clause-held : goal.returns-then-place-held-clause-held
-returns-then-place-held-clause-held c =
-    was_held c.self.inside.stacks c.self.inside.edges c.args.self.now c.args.task (plain_lock c.args.lock) c.held-held.result.now c.start-start.result
-    c.self.view_is c.held-held.ensures.held (c.start-start.ensures ∙ ap start_now c.interrupts.ensures) c.in-Some.place c.in-Some.ensures.place c.in-Some.ensures.last
-
-pub returns-then-place-held-clause-stacks : goal.returns-then-place-held-clause-stacks
-returns-then-place-held-clause-stacks c =
-    ap (λ (ss : List PlainStack). held_by_tasks ss c.self.inside.edges (take c.self.inside.begun.edges c.self.inside.edges)) c.truncate.ensures
-    ∙ shown_held c.self.inside.stacks c.self.inside.edges c.args.self.now c.args.task c.self.view_is
-    (take (c.start-start.result + c.in-Some.place) (get_or c.self.inside.stacks c.args.task empty_stack).held) _
-    (top_gone c.self.inside.stacks c.self.inside.edges c.args.self.now c.args.task (plain_lock c.args.lock) c.held-held.result.now
-    c.start-start.result c.self.view_is c.held-held.ensures.held (c.start-start.ensures ∙ ap start_now c.interrupts.ensures) c.in-Some.place
-    c.in-Some.ensures.place c.in-Some.ensures.last c.if-place-held.true)
 
 pub take_out-requires-clause-inner : goal.take_out-requires-clause-inner
 take_out-requires-clause-inner c =
@@ -117,13 +81,13 @@ take_out-requires-clause-held c =
     (high c.self.inside.stacks c.self.inside.edges c.args.self.now c.args.task (plain_lock c.args.lock) c.held-held.result.now c.start-start.result
     c.self.view_is c.held-held.ensures.held (c.start-start.ensures ∙ ap start_now c.interrupts.ensures) c.in-Some.place c.in-Some.ensures.place c.in-Some.ensures.last)
 
-pub returns-in_ok-take_out-clause-held : goal.returns-in_ok-take_out-clause-held
-returns-in_ok-take_out-clause-held c =
+pub returns-clause-held : goal.returns-clause-held
+returns-clause-held c =
     was_held c.self.inside.stacks c.self.inside.edges c.args.self.now c.args.task (plain_lock c.args.lock) c.held-held.result.now c.start-start.result
     c.self.view_is c.held-held.ensures.held (c.start-start.ensures ∙ ap start_now c.interrupts.ensures) c.in-Some.place c.in-Some.ensures.place c.in-Some.ensures.last
 
-pub returns-in_ok-take_out-clause-stacks : goal.returns-in_ok-take_out-clause-stacks
-returns-in_ok-take_out-clause-stacks c =
+pub returns-clause-stacks : goal.returns-clause-stacks
+returns-clause-stacks c =
     c.in_ok-take_out.ensures.stacks
     ∙ ap (λ hs. record c.args.self.now { stacks = set c.args.self.now.stacks c.args.task hs })
     (sym (cut_shown c.self.inside.stacks c.self.inside.edges c.args.self.now c.args.task c.self.view_is (c.start-start.result + c.in-Some.place))
