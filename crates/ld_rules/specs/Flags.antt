@@ -7,7 +7,7 @@ use Rattle.std.specs.Str.{bytes_eq}
 use Rattle.ld_trace.specs.declared.event.State.{State}
 use Rattle.ld_trace.specs.declared.event.State.TheVariants.{Hard, Soft}
 use Rattle.ld_trace.specs.Events.{PlainEvent}
-use Rattle.ld_trace.specs.Events.PlainEvent.{Enable, Disable}
+use Rattle.ld_trace.specs.Events.PlainEvent.{Enable, Disable, Begin}
 use Rattle.ld_rules.specs.Open.{is_some_and}
 use Rattle.ld_rules.specs.Frames.{Frame, frames, state_entered}
 use Rattle.ld_rules.specs.Held.{Placed, placed, same_frame}
@@ -36,17 +36,27 @@ abbrev pub last_said : List PlainEvent → List ℕ → State → Option ℕ →
 last_said past task state frame =
     last_or None (filter_map (says_flag_in task state frame) (placed past))
 
--- The flag of a task whose open enters are these, innermost first. Where nothing was said in its
--- frame, it is on outside frames, off in a frame of the state itself, and else as just before the
--- enter of that frame: the frames around it are those that were open then (`flag-before` in
--- proofs/BeforeLemmas.antt).
+-- what a `begin` says of the flag of this task for this state
+abbrev pub says_begun : List ℕ → State → PlainEvent → Option Bool
+says_begun task Hard (Begin by hard soft) = if bytes_eq task by then Some hard else None
+says_begun task Soft (Begin by hard soft) = if bytes_eq task by then Some soft else None
+says_begun task state other = None
+
+-- what the last `begin` of the task says of the flag, else on
+abbrev pub flag_begun : List PlainEvent → List ℕ → State → Bool
+flag_begun past task state = unwrap_or (last_or None (filter_map (says_begun task state) past)) true
+
+-- The flag of a task whose open enters are these, innermost first. Where no `enable` or `disable`
+-- said it in its frame, it is outside frames what the last `begin` of the task says, else on; off in
+-- a frame of the state itself; and else as just before the enter of that frame: the frames around it
+-- are those that were open then (`flag-before` in proofs/BeforeLemmas.antt).
 --
 -- For example, after `disable t soft`, `enter t hard`: the frames are the one that the hard enter at
 -- place 1 opened. The hard flag is off in it, since it is a hard frame. Nothing was said in it of soft,
 -- so soft is as just before place 1: off, as the `disable` outside frames says. After `exit t hard`
 -- there is no frame, and hard is on again.
 abbrev pub flag_in : List ℕ → State → List PlainEvent → List Frame → Bool
-flag_in task state past [] = unwrap_or (last_said past task state None) true
+flag_in task state past [] = unwrap_or (last_said past task state None) (flag_begun past task state)
 flag_in task state past (inner ∷ outer) =
     let before = flag_in task state (take inner.place past) outer in
     unwrap_or (last_said past task state (Some inner.place))

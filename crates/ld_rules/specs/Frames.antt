@@ -6,7 +6,7 @@ use Rattle.std.specs.Str.{bytes_eq}
 use Rattle.ld_trace.specs.declared.event.State.{State}
 use Rattle.ld_trace.specs.Events.{PlainEvent}
 use Rattle.ld_trace.specs.Events.PlainEvent.{Acquire, Try, Nested, Release}
-use Rattle.ld_trace.specs.Events.PlainEvent.{Enter, Exit, Enable, Disable}
+use Rattle.ld_trace.specs.Events.PlainEvent.{Enter, Exit, Enable, Disable, Begin}
 use Rattle.ld_rules.specs.Open.{Opening, openings}
 
 -- the task that an event is of
@@ -19,6 +19,7 @@ task_of (Enter task state) = task
 task_of (Exit task state) = task
 task_of (Enable task state) = task
 task_of (Disable task state) = task
+task_of (Begin task hard soft) = task
 
 -- the task that enters, and the one that exits
 abbrev pub enters : PlainEvent → Option (List ℕ)

@@ -10,13 +10,13 @@ use Rattle.ld_trace.specs.declared.event.LineFault.{LineFault}
 use Rattle.ld_trace.specs.declared.event.LineFault.TheVariants as line_faults
 use Rattle.ld_trace.specs.Sources.{PlainSource}
 use Rattle.ld_trace.specs.Events.{PlainEvent, Position, positions}
-use Rattle.ld_trace.specs.Events.PlainEvent.{Release, Enter, Exit, Enable}
+use Rattle.ld_trace.specs.Events.PlainEvent.{Release, Enter, Exit, Enable, Begin}
 use Rattle.ld_rules.specs.declared.fault.TraceFault.{TraceFault}
 use Rattle.ld_rules.specs.declared.fault.TraceFault.TheVariants.{BadVerb, BadCount, BadName}
 use Rattle.ld_rules.specs.declared.fault.TraceFault.TheVariants.{BadState, TooManyTasks}
 use Rattle.ld_rules.specs.declared.fault.TraceFault.TheVariants.{TooManyClasses, TooDeep, NotHeld}
 use Rattle.ld_rules.specs.declared.fault.TraceFault.TheVariants.{BadNest, Masked, BadExit}
-use Rattle.ld_rules.specs.declared.fault.TraceFault.TheVariants.{HeldAtExit, BadEnable}
+use Rattle.ld_rules.specs.declared.fault.TraceFault.TheVariants.{HeldAtExit, BadEnable, LateBegin}
 use Rattle.ld_rules.specs.declared.outcome.Outcome.{Outcome}
 use Rattle.ld_rules.specs.declared.outcome.Outcome.TheVariants.{Read, Refused}
 use Rattle.ld_rules.specs.declared.outcome.TheConstants.{MOST_TASKS, MOST_CLASSES, MOST_HELD}
@@ -86,6 +86,11 @@ abbrev pub is_bad_enable : List PlainEvent → PlainEvent → Bool
 is_bad_enable past (Enable task state) = list_any (same_state state) (contexts past task)
 is_bad_enable past other = false
 
+-- a `begin` of a task that has an earlier event
+abbrev pub is_late_begin : List PlainEvent → PlainEvent → Bool
+is_late_begin past (Begin task hard soft) = list_any (bytes_eq task) (map task_of past)
+is_late_begin past other = false
+
 -- the fault of an event after these, by the first condition that holds
 abbrev pub event_fault : List PlainEvent → PlainEvent → Option TraceFault
 event_fault past event =
@@ -98,6 +103,7 @@ event_fault past event =
     else if is_bad_exit past event then Some BadExit
     else if is_held_at_exit past event then Some HeldAtExit
     else if is_bad_enable past event then Some BadEnable
+    else if is_late_begin past event then Some LateBegin
     else None
 
 -- a line's own fault, as a fault of the trace
@@ -157,3 +163,4 @@ name_of Masked = codes "Masked"
 name_of BadExit = codes "BadExit"
 name_of HeldAtExit = codes "HeldAtExit"
 name_of BadEnable = codes "BadEnable"
+name_of LateBegin = codes "LateBegin"

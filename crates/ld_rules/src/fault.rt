@@ -8,19 +8,19 @@ use ld_trace::LineFault;
 /// them in this order.
 #[derive(Clone, Copy, Debug, PartialEq, Eq)]
 pub enum TraceFault {
-    /// The first field is none of the eight verbs.
+    /// The first field is none of the nine verbs.
     BadVerb,
     /// The fields aren't as many as the verb has.
     BadCount,
     /// The task or the lock isn't spelled as one, or a subclass isn't `1` to `7`.
     BadName,
-    /// The state is neither `hard` nor `soft`.
+    /// The state is neither `hard` nor `soft`, or a word of a `begin` is neither `on` nor `off`.
     BadState,
     /// The event's task is new, and the trace has 1,024 tasks.
     TooManyTasks,
     /// An `acquire`, `try` or `nested` of a new class, in a trace that has 8,191 classes.
     TooManyClasses,
-    /// An `acquire`, `try` or `nested` by a task that holds 48 locks over all its frames.
+    /// An `acquire`, `try` or `nested` by a task that holds 96 locks over all its frames.
     TooDeep,
     /// A `release` of a lock that the task doesn't hold in its innermost frame.
     NotHeld,
@@ -34,6 +34,8 @@ pub enum TraceFault {
     HeldAtExit,
     /// An `enable` of a state that is among the task's contexts.
     BadEnable,
+    /// A `begin` of a task that has an earlier event.
+    LateBegin,
 }
 
 impl TraceFault {
@@ -55,6 +57,7 @@ impl TraceFault {
             TraceFault::BadExit => "BadExit",
             TraceFault::HeldAtExit => "HeldAtExit",
             TraceFault::BadEnable => "BadEnable",
+            TraceFault::LateBegin => "LateBegin",
         }
     }
 }

@@ -18,10 +18,10 @@ pub const MOST_CLASSES: usize = 8_191;
 const _: () = prove!(MOST_CLASSES == (1 << 13) - 1);
 
 /// How many locks a task holds at most, over all its frames.
-pub const MOST_HELD: usize = 48;
+pub const MOST_HELD: usize = 96;
 
 // Clauses cite the constant, so they would hold with any other number.
-const _: () = prove!(MOST_HELD == 3 * 16);
+const _: () = prove!(MOST_HELD == 3 * 32);
 
 /// What became of a trace.
 #[derive(Clone, Copy, Debug, PartialEq, Eq)]

@@ -1,5 +1,5 @@
 -- The event that a line names, or its fault.
-use Rattle.std.specs.Prelude.{ℕ, ◌-◌, Bool, ◌&&◌, ◌==◌, nat_le, List, [], ◌∷◌, Option, Some, None, Result, Ok, Err, if◌then◌else◌, codes}
+use Rattle.std.specs.Prelude.{ℕ, ◌-◌, Bool, true, false, ◌&&◌, ◌==◌, nat_le, List, [], ◌∷◌, Option, Some, None, Result, Ok, Err, if◌then◌else◌, codes}
 use Rattle.std.specs.List.{filter_map, enumerate_from, before_first, after_first}
 use Rattle.std.specs.Option.{option_map}
 use Rattle.std.specs.Str.{bytes_eq}
@@ -18,7 +18,8 @@ pub record PlainLock : Type 0 where
   pub class : List ℕ
   pub instance : Option (List ℕ)
 
--- an event: verb, task, and lock or state; a nested one says its subclass too
+-- an event: verb, task, and lock or state; a nested one says its subclass too, and a begin says
+-- the hard and the soft flag, where true is on
 pub data PlainEvent : Type 0 where
   Acquire : (task : List ℕ) (lock : PlainLock) → PlainEvent
   Nested : (task : List ℕ) (lock : PlainLock) (sub : ℕ) → PlainEvent
@@ -28,6 +29,7 @@ pub data PlainEvent : Type 0 where
   Exit : (task : List ℕ) (state : State) → PlainEvent
   Enable : (task : List ℕ) (state : State) → PlainEvent
   Disable : (task : List ℕ) (state : State) → PlainEvent
+  Begin : (task : List ℕ) (hard soft : Bool) → PlainEvent
 
 abbrev pub plain_lock : Lock → PlainLock
 plain_lock lock = record { class = lock.class.now; instance = option_map (λ name. name.now) lock.instance }
@@ -41,6 +43,7 @@ plain_event (events.Enter task state) = Enter task.now state
 plain_event (events.Exit task state) = Exit task.now state
 plain_event (events.Enable task state) = Enable task.now state
 plain_event (events.Disable task state) = Disable task.now state
+plain_event (events.Begin task hard soft) = Begin task.now hard soft
 
 -- the sign between class and instance, `@`
 abbrev pub is_sign : ℕ → Bool
@@ -66,6 +69,13 @@ abbrev pub state_of : List ℕ → Option State
 state_of field =
     if bytes_eq field (codes "hard") then Some Hard
     else if bytes_eq field (codes "soft") then Some Soft
+    else None
+
+-- a HARD or a SOFT is `on`, which is true, or `off`
+abbrev pub setting_of : List ℕ → Option Bool
+setting_of field =
+    if bytes_eq field (codes "on") then Some true
+    else if bytes_eq field (codes "off") then Some false
     else None
 
 -- what a line says: nothing, an event or a fault
@@ -109,6 +119,19 @@ said_of_state make (task ∷ []) = Err BadCount
 said_of_state make (task ∷ state ∷ []) = if is_word task then said_with (make task) BadState (state_of state) else Err BadName
 said_of_state make (task ∷ state ∷ fourth ∷ others) = Err BadCount
 
+-- the begin of a task, where its HARD and its SOFT mean something
+abbrev pub said_begun : List ℕ → Option Bool → Option Bool → Said
+said_begun task None soft = Err BadState
+said_begun task (Some hard) soft = said_with (Begin task hard) BadState soft
+
+-- what follows the verb that takes a TASK, a HARD and a SOFT
+abbrev pub said_of_begin : List (List ℕ) → Said
+said_of_begin [] = Err BadCount
+said_of_begin (task ∷ []) = Err BadCount
+said_of_begin (task ∷ hard ∷ []) = Err BadCount
+said_of_begin (task ∷ hard ∷ soft ∷ []) = if is_word task then said_begun task (setting_of hard) (setting_of soft) else Err BadName
+said_of_begin (task ∷ hard ∷ soft ∷ fifth ∷ others) = Err BadCount
+
 -- what a line with these fields says: its fault is the first that applies, from the verb on
 abbrev pub said_by_fields : List (List ℕ) → Said
 said_by_fields [] = Ok None
@@ -122,6 +145,7 @@ said_by_fields (verb ∷ others) =
     else if bytes_eq verb (codes "exit") then said_of_state Exit others
     else if bytes_eq verb (codes "enable") then said_of_state Enable others
     else if bytes_eq verb (codes "disable") then said_of_state Disable others
+    else if bytes_eq verb (codes "begin") then said_of_begin others
     else Err BadVerb
 
 -- what a line without its end says

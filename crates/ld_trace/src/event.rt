@@ -66,6 +66,12 @@ pub enum Event<'a> {
         task: &'a [u8],
         state: State,
     },
+    /// It was here before the trace began, with these flags outside handlers: true is on.
+    Begin {
+        task: &'a [u8],
+        hard: bool,
+        soft: bool,
+    },
 }
 
 /// What is wrong with a line by itself. Where several apply, it is the first in this order.
@@ -77,7 +83,7 @@ pub enum LineFault {
     BadCount,
     /// The task, the lock or the subclass isn't spelled as one.
     BadName,
-    /// The state is neither `hard` nor `soft`.
+    /// The state is neither `hard` nor `soft`, or a flag is neither `on` nor `off`.
     BadState,
 }
 
@@ -105,6 +111,8 @@ enum Verb {
     OfState(StateVerb),
     /// A task, a lock and a subclass follow it.
     Nested,
+    /// A task and its two flags follow it.
+    Begin,
 }
 
 /// A verb that takes a task and a lock.

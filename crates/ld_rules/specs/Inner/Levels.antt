@@ -6,17 +6,18 @@ use Rattle.std.specs.Option.{unwrap_or}
 use Rattle.ld_trace.specs.declared.event.State.{State}
 use Rattle.ld_trace.specs.declared.event.State.TheVariants.{Hard}
 use Rattle.ld_trace.specs.Events.{PlainEvent}
-use Rattle.ld_trace.specs.Events.PlainEvent.{Enter, Exit, Enable, Disable}
+use Rattle.ld_trace.specs.Events.PlainEvent.{Enter, Exit, Enable, Disable, Begin}
 use Rattle.ld_rules.specs.Frames.{Frame, frames, state_entered}
 use Rattle.ld_rules.specs.Held.{held_by}
 use Rattle.ld_rules.specs.Flags.{flag_in}
 
--- the verbs of interrupts: `enter`, `exit`, `enable` and `disable`
+-- the verbs of interrupts: `enter`, `exit`, `enable`, `disable` and `begin`
 abbrev pub is_interrupt : PlainEvent → Bool
 is_interrupt (Enter task state) = true
 is_interrupt (Exit task state) = true
 is_interrupt (Enable task state) = true
 is_interrupt (Disable task state) = true
+is_interrupt (Begin task hard soft) = true
 is_interrupt other = false
 
 -- the open frames of a task

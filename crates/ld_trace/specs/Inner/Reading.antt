@@ -6,12 +6,12 @@ use Rattle.ld_trace.specs.declared.event.Lock.{Lock}
 use Rattle.ld_trace.specs.declared.event.State.{State}
 use Rattle.ld_trace.specs.declared.event.LineFault.{LineFault}
 use Rattle.ld_trace.specs.declared.event.Verb.{Verb}
-use Rattle.ld_trace.specs.declared.event.Verb.TheVariants.{OfLock, OfState, Nested}
+use Rattle.ld_trace.specs.declared.event.Verb.TheVariants.{OfLock, OfState, Nested, Begin}
 use Rattle.ld_trace.specs.declared.event.LockVerb.{LockVerb}
 use Rattle.ld_trace.specs.declared.event.LockVerb.TheVariants as lock_verbs
 use Rattle.ld_trace.specs.declared.event.StateVerb.{StateVerb}
 use Rattle.ld_trace.specs.declared.event.StateVerb.TheVariants as state_verbs
-use Rattle.ld_trace.specs.Events.{PlainEvent, Acquire, Try, Release, Enter, Exit, Enable, Disable, PlainLock, Said, plain_lock, said_of_lock, said_of_nested, said_of_state}
+use Rattle.ld_trace.specs.Events.{PlainEvent, Acquire, Try, Release, Enter, Exit, Enable, Disable, PlainLock, Said, plain_lock, said_of_begin, said_of_lock, said_of_nested, said_of_state}
 
 -- the fields, where they are two
 abbrev pub two_fields_of : List (List ℕ) → Option (List ℕ × List ℕ)
@@ -59,6 +59,7 @@ abbrev pub spelling : Verb → List ℕ
 spelling (OfLock verb) = spelling_of_lock_verb verb
 spelling (OfState verb) = spelling_of_state_verb verb
 spelling Nested = codes "nested"
+spelling Begin = codes "begin"
 
 -- what a line with a verb says, by the fields after it
 abbrev pub said_after_lock_verb : LockVerb → List (List ℕ) → Said
@@ -76,3 +77,4 @@ abbrev pub said_after : Verb → List (List ℕ) → Said
 said_after (OfLock verb) found = said_after_lock_verb verb found
 said_after (OfState verb) found = said_after_state_verb verb found
 said_after Nested found = said_of_nested found
+said_after Begin found = said_of_begin found
