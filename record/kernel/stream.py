@@ -1,15 +1,17 @@
 """The stream of traces: tasks with their handlers, flags and held locks, and the lines about them.
 
 Whatever this writes is a trace without fault by the trace format: what an `enter` needs is enabled
-before it, a release stands in the handler that acquired, a handler ends with nothing held, and a new
-trace begins before a limit would be passed.
+before it, a release stands in the handler that acquired, a handler ends with nothing held, a task
+says at its first line in a trace which flags it had, and a new trace begins before a limit would be
+passed.
 """
 from text import Damaged
 
 MOST_TASKS = 1024    # of one trace
 MOST_CLASSES = 8191  # of one trace
-MOST_HELD = 48       # of one task
+MOST_HELD = 96       # of one task
 MOST_TRACES = 65535  # of one stream
+WORDS = {True: 'on', False: 'off'}
 
 
 class Frame:
@@ -35,11 +37,12 @@ class Held:
 
 class Task:
     """One task as the trace has it so far."""
-    __slots__ = ('name', 'trace', 'context', 'kinds', 'frames', 'held', 'kept')
+    __slots__ = ('name', 'trace', 'starts', 'context', 'kinds', 'frames', 'held', 'kept')
 
     def __init__(self, name):
         self.name = name
         self.trace = 0       # the number of the trace that it was last in
+        self.starts = False  # that trace has no line of it yet
         self.forget()
 
     def forget(self):
@@ -145,6 +148,9 @@ class Stream:
 
     def settle(self, task, context):
         """Makes the task's handlers and flags what an event's columns say."""
+        if task.starts and not context.kinds:
+            self.start(task, context.hard, context.soft)
+        task.starts = False
         if task.kinds != context.kinds:
             while task.kinds != context.kinds[:len(task.kinds)]:
                 self.leave(task)
@@ -157,6 +163,12 @@ class Stream:
         if frame.soft != context.soft and frame.kind is None:
             self.flag(task, 'soft', context.soft)
         task.context = context
+
+    def start(self, task, hard, soft):
+        """The first line of a task in a trace, where its flags outside handlers aren't both on."""
+        if not (hard and soft):
+            task.frames[0].hard, task.frames[0].soft = hard, soft
+            self.lines.append(f'begin {task.name} {WORDS[hard]} {WORDS[soft]}\n')
 
     def flag(self, task, state, value):
         """Writes that a flag of the task changes, where it does."""
@@ -215,9 +227,11 @@ class Stream:
         """
         frames = task.frames
         task.frames, task.kinds = [Frame(None, True, True)], ()
+        task.starts = not task.kept
         if not task.kept:
             task.context = None  # nothing is held: the next event's columns say the rest
             return
+        self.start(task, frames[0].hard, frames[0].soft)
         for depth, frame in enumerate(frames, 1):
             if depth > 1:
                 self.enter(task, frame.kind)

@@ -71,23 +71,50 @@ class Handlers(unittest.TestCase):
 class Flags(unittest.TestCase):
 
     def test_are_written_before_the_event(self):
-        self.assertEqual(stream(acquire('a', A, columns='d....'))[0], 'disable t-1 hard')
-        self.assertEqual(stream(acquire('a', A, columns='b....'))[0], 'disable t-1 soft')
-        self.assertEqual(stream(acquire('a', A, columns='D....'))[:2], ['disable t-1 hard', 'disable t-1 soft'])
+        self.assertEqual(stream(acquire('a', A), acquire('b', B, columns='d....'))[1:],
+                         ['disable t-1 hard', 'acquire t-1 b@2000'])
+        self.assertEqual(stream(acquire('a', A), acquire('b', B, columns='b....'))[1:],
+                         ['disable t-1 soft', 'acquire t-1 b@2000'])
+        self.assertEqual(stream(acquire('a', A), acquire('b', B, columns='D....'))[1:],
+                         ['disable t-1 hard', 'disable t-1 soft', 'acquire t-1 b@2000'])
+
+    def test_a_task_starts_with_those_that_it_has(self):
+        for columns, words in (('d....', 'off on'), ('b....', 'on off'), ('D....', 'off off')):
+            with self.subTest(columns=columns):
+                self.assertEqual(stream(acquire('a', A, columns=columns)),
+                                 ['begin t-1 ' + words, 'acquire t-1 a@1000'])
+        self.assertEqual(stream(acquire('a', A, columns='.....')), ['acquire t-1 a@1000'])
+
+    def test_each_task_starts_by_itself(self):
+        self.assertEqual(
+            stream(acquire('a', A), acquire('b', B, task='u-2', columns='d....')),
+            ['acquire t-1 a@1000', 'begin u-2 off on', 'acquire u-2 b@2000'])
+
+    def test_in_a_handler_a_task_starts_with_both_on(self):
+        # What the flags outside are doesn't show, but that they let the handler begin.
+        self.assertEqual(stream(acquire('a', A, columns='D.h..')), ['enter t-1 hard', 'acquire t-1 a@1000'])
+        self.assertEqual(stream(acquire('a', A, columns='d.s..')),
+                         ['enter t-1 soft', 'disable t-1 hard', 'acquire t-1 a@1000'])
+
+    def test_a_task_starts_once_in_a_trace(self):
+        self.assertEqual(
+            stream(acquire('a', A, columns='d....'), release(A, columns='d....'), acquire('a', A, columns='b....')),
+            ['begin t-1 off on', 'acquire t-1 a@1000', 'release t-1 a@1000', 'enable t-1 hard', 'disable t-1 soft',
+             'acquire t-1 a@1000'])
 
     def test_only_where_they_differ(self):
         self.assertEqual(
             stream(acquire('a', A, columns='d....'), acquire('b', B, columns='d....'),
                    release(B, columns='b....'), release(A)),
-            ['disable t-1 hard', 'acquire t-1 a@1000', 'acquire t-1 b@2000', 'enable t-1 hard', 'disable t-1 soft',
+            ['begin t-1 off on', 'acquire t-1 a@1000', 'acquire t-1 b@2000', 'enable t-1 hard', 'disable t-1 soft',
              'release t-1 b@2000', 'enable t-1 soft', 'release t-1 a@1000'])
 
     def test_what_an_enter_needs_is_enabled_first(self):
         self.assertEqual(
-            stream(acquire('a', A, columns='D....'), release(A, columns='D....'), acquire('b', B, columns='d.h..'))[4:],
+            stream(acquire('a', A, columns='D....'), release(A, columns='D....'), acquire('b', B, columns='d.h..'))[3:],
             ['enable t-1 hard', 'enter t-1 hard', 'acquire t-1 b@2000'])
         self.assertEqual(
-            stream(acquire('a', A, columns='D....'), release(A, columns='D....'), acquire('b', B, columns='..s..'))[4:],
+            stream(acquire('a', A, columns='D....'), release(A, columns='D....'), acquire('b', B, columns='..s..'))[3:],
             ['enable t-1 hard', 'enable t-1 soft', 'enter t-1 soft', 'acquire t-1 b@2000'])
         self.assertEqual(
             stream(acquire('a', A, columns='d.s..'), release(A, columns='d.s..'), acquire('b', B, columns='d.H..'))[4:],
@@ -124,7 +151,7 @@ class IrqEvents(unittest.TestCase):
         self.assertEqual(
             stream(acquire('a', A, columns='d....'), irq('irq_enable', columns='d....'),
                    irq('irq_disable', columns='d....'), release(A, columns='d....')),
-            ['disable t-1 hard', 'acquire t-1 a@1000', 'enable t-1 hard', 'disable t-1 hard', 'release t-1 a@1000'])
+            ['begin t-1 off on', 'acquire t-1 a@1000', 'enable t-1 hard', 'disable t-1 hard', 'release t-1 a@1000'])
 
     def test_write_nothing_where_no_lock_is_held(self):
         self.assertEqual(
@@ -165,14 +192,27 @@ class Limits(unittest.TestCase):
         lines = stream(acquire('a', A, columns='D....'),
                        *[acquire('c', C, task='t-%d' % pid) for pid in range(2, 1026)],
                        release(A, columns='D....'))
-        self.assertEqual(lines[-5:], ['acquire t-1025 c@3000', 'disable t-1 hard', 'disable t-1 soft',
-                                      'try t-1 a@1000', 'release t-1 a@1000'])
+        self.assertEqual(lines[-4:], ['acquire t-1025 c@3000', 'begin t-1 off off', 'try t-1 a@1000',
+                                      'release t-1 a@1000'])
+
+    def test_flags_outside_go_over_before_a_handler(self):
+        lines = stream(acquire('a', A, columns='b....'), acquire('b', B, columns='d.h..'),
+                       *[acquire('c', C, task='t-%d' % pid) for pid in range(2, 1026)],
+                       release(B, columns='d.h..'))
+        self.assertEqual(lines[-5:], ['begin t-1 on off', 'try t-1 a@1000', 'enter t-1 hard', 'try t-1 b@2000',
+                                      'release t-1 b@2000'])
+
+    def test_a_task_that_holds_nothing_starts_anew(self):
+        lines = stream(acquire('a', A, columns='D....'), release(A, columns='D....'),
+                       *[acquire('c', C, task='t-%d' % pid) for pid in range(2, 1026)],
+                       acquire('a', A, columns='d....'))
+        self.assertEqual(lines[-3:], ['acquire t-1025 c@3000', 'begin t-1 off on', 'acquire t-1 a@1000'])
 
     def test_a_nested_lock_goes_over_as_one(self):
         lines = stream(acquire('a', A, key=0x500), acquire('a', B, key=0x501, subclass=1, columns='d....'),
                        *[acquire('c', C, task='t-%d' % pid) for pid in range(2, 1026)],
                        release(B, columns='d....'))
-        self.assertEqual(lines[-5:], ['acquire t-1025 c@3000', 'disable t-1 hard', 'try t-1 a@1000',
+        self.assertEqual(lines[-5:], ['acquire t-1025 c@3000', 'begin t-1 off on', 'try t-1 a@1000',
                                       'nested t-1 a@2000 1', 'release t-1 a@2000'])
 
     def test_a_trace_has_8191_classes_at_most(self):
@@ -200,12 +240,12 @@ class Limits(unittest.TestCase):
         self.assertEqual([text for text in lines if text.startswith('trace')], ['trace kernel.2', 'trace kernel.3'])
         self.assertEqual(lines[-4:], ['trace kernel.3', 'try t-1 a@1000', 'try t-1 b@2000', 'release t-1 a@1000'])
 
-    def test_a_task_holds_48_locks_at_most(self):
-        result = run(''.join(acquire('a', 0x1000 + 16 * number) for number in range(50))
-                     + release(0x1000 + 16 * 49) + release(0x1000) + acquire('b', B))
-        self.assertEqual(len(result.stream), 1 + 48 + 2)
+    def test_a_task_holds_96_locks_at_most(self):
+        result = run(''.join(acquire('a', 0x1000 + 16 * number) for number in range(98))
+                     + release(0x1000 + 16 * 97) + release(0x1000) + acquire('b', B))
+        self.assertEqual(len(result.stream), 1 + 96 + 2)
         self.assertEqual(result.stream[-2:], ['release t-1 a@1000', 'acquire t-1 b@2000'])
-        self.assertIn('2 acquisitions by tasks that held 48 locks already were left out', result.errors)
+        self.assertIn('2 acquisitions by tasks that held 96 locks already were left out', result.errors)
 
 
 class Losses(unittest.TestCase):
@@ -249,7 +289,7 @@ class Map(unittest.TestCase):
                 numbers = [int(number) for number in file]
         self.assertEqual(
             list(zip(numbers, result.stream)),
-            [(1, 'trace kernel'), (1, 'disable t-1 hard'), (1, 'acquire t-1 a@1000'), (2, 'enable t-1 hard'),
+            [(1, 'trace kernel'), (1, 'begin t-1 off on'), (1, 'acquire t-1 a@1000'), (2, 'enable t-1 hard'),
              (5, 'release t-1 a@1000'), (6, 'trace kernel.2'), (7, 'acquire t-1 b@2000')])
 
 

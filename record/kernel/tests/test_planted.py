@@ -89,7 +89,7 @@ class Limits(unittest.TestCase):
         text = acquire('a', 0x1000, columns='d.s..') + ''.join(
             acquire('k%d' % number, 0x2000, key=0x100000 + number, task='t-%d' % (number % 1500 + 2), columns=columns)
             for number, columns in zip(range(9000), ('.....', 'D....', '..s..', 'd.h..', 'd.H..') * 1800))
-        text += ''.join(acquire('deep', 0x3000 + 16 * number, task='u-9999') for number in range(60))
+        text += ''.join(acquire('deep', 0x3000 + 16 * number, task='u-9999') for number in range(120))
         text += release(0x1000, columns='d.s..')
         status, rows = report(run(text).stream)
         self.assertIn(' refused 0 ', rows[0])

@@ -48,7 +48,8 @@ static void say_ends(const struct recording *all, size_t count)
 static void say_limits(int64_t bytes)
 {
     if (totals.too_deep)
-        say("%" PRIu64 " locks were left out: their task held 48 already", totals.too_deep);
+        say("%" PRIu64 " locks were left out: their task held %d already", totals.too_deep,
+            MOST_HELD);
     if (totals.not_taken_up)
         say("%" PRIu64 " held locks were left out where a new trace began", totals.not_taken_up);
     if (totals.damaged)

@@ -1,13 +1,13 @@
 /*
- * More tasks, classes and held locks than a trace may have, and a name that is too long. The 49th lock
+ * More tasks, classes and held locks than a trace may have, and a name that is too long. The 97th lock
  * that is held is left out, and so is its release. With the 1,025th task and the 8,192nd class a new
  * trace begins, which takes up the lock that is held by then.
  *
  * Report:
- * traces 3 refused 0 events 18802 classes 8302 dependencies 9429
+ * traces 3 refused 0 events 18898 classes 8302 dependencies 12861
  * clean
  *
- * Says: 1 locks were left out: their task held 48 already
+ * Says: 1 locks were left out: their task held 96 already
  * Class: limits:a_function_with_a_name_that_is_longer_than_a_cla~
  */
 #include "planted.h"
@@ -17,12 +17,12 @@
 static pthread_mutex_t many[CLASSES];
 static pthread_mutex_t held = PTHREAD_MUTEX_INITIALIZER;
 
-/* 96 events, 1,128 dependencies */
-static void hold_49(void)
+/* 192 events, 4,560 dependencies */
+static void hold_97(void)
 {
-    for (int lock = 0; lock < 49; lock++)
+    for (int lock = 0; lock < 97; lock++)
         must(pthread_mutex_lock(&many[lock]) == 0);
-    for (int lock = 0; lock < 49; lock++)
+    for (int lock = 0; lock < 97; lock++)
         must(pthread_mutex_unlock(&many[lock]) == 0);
 }
 
@@ -44,7 +44,7 @@ static void a_function_with_a_name_that_is_longer_than_a_class_may_be_called(voi
 
 int main(void)
 {
-    hold_49();
+    hold_97();
     must(pthread_mutex_lock(&held) == 0);
     for (int thread = 0; thread < 1050; thread++)
         run_thread(take_one);
