@@ -84,12 +84,22 @@ fn events_with_a_state_are_read(rt: HostRuntime) {
 }
 
 #[test]
+fn flags_of_a_start_are_read(rt: HostRuntime) {
+    let task = b"t".as_slice();
+    let (on, off) = (true, false);
+    assert!(rt; names(b"begin t on on", Event::Begin { task, hard: on, soft: on }));
+    assert!(rt; names(b"begin t on off", Event::Begin { task, hard: on, soft: off }));
+    assert!(rt; names(b" begin\tt  off on ", Event::Begin { task, hard: off, soft: on }));
+    assert!(rt; names(b"begin t off off", Event::Begin { task, hard: off, soft: off }));
+}
+
+#[test]
 fn the_first_fault_of_a_line_is_told(rt: HostRuntime) -> Result<(), Fail> {
     assert!(rt; refuses(b"lock t A", LineFault::BadVerb));
     assert!(rt; refuses(b"Acquire t A", LineFault::BadVerb));
     assert!(rt; refuses(b"trace a", LineFault::BadVerb));
     assert!(rt; refuses(b"Nested t A 1", LineFault::BadVerb));
-    assert!(rt; refuses(b"begin t on on", LineFault::BadVerb));
+    assert!(rt; refuses(b"Begin t on on", LineFault::BadVerb));
     assert!(rt; refuses(b"acquire t", LineFault::BadCount));
     assert!(rt; refuses(b"acquire t A B", LineFault::BadCount));
     assert!(rt; refuses(b"acquire t A@", LineFault::BadName));
@@ -107,9 +117,16 @@ fn the_first_fault_of_a_line_is_told(rt: HostRuntime) -> Result<(), Fail> {
     assert!(rt; refuses(b"enable t hard soft", LineFault::BadCount));
     assert!(rt; refuses(b"enter t nmi", LineFault::BadState));
     assert!(rt; refuses(b"disable t Hard", LineFault::BadState));
+    assert!(rt; refuses(b"begin t on", LineFault::BadCount));
+    assert!(rt; refuses(b"begin t on on on", LineFault::BadCount));
+    assert!(rt; refuses(b"begin t yes on", LineFault::BadState));
+    assert!(rt; refuses(b"begin t on yes", LineFault::BadState));
+    assert!(rt; refuses(b"begin t On on", LineFault::BadState));
     let task = with_letters(rt.alloc(), b"enter ", 65, b" nmi")?;
     assert!(rt; refuses(task.as_slice(), LineFault::BadName));
     let task = with_letters(rt.alloc(), b"nested ", 65, b" A 1")?;
+    assert!(rt; refuses(task.as_slice(), LineFault::BadName));
+    let task = with_letters(rt.alloc(), b"begin ", 65, b" yes on")?;
     assert!(rt; refuses(task.as_slice(), LineFault::BadName));
     Ok(())
 }

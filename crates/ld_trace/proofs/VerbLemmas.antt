@@ -3,7 +3,7 @@ use Rattle.std.proofs.Common.{ℕ, ◌≡◌, ◌≢◌, Bool, true, false, List
 use Rattle.std.specs.Str.{bytes_eq}
 use Rattle.std.proofs.lemmas.Slice.Eq.{bytes_eq-Decides}
 use Rattle.ld_trace.specs.declared.event.Verb.{Verb}
-use Rattle.ld_trace.specs.declared.event.Verb.TheVariants.{OfLock, OfState, Nested}
+use Rattle.ld_trace.specs.declared.event.Verb.TheVariants.{OfLock, OfState, Nested, Begin}
 use Rattle.ld_trace.specs.declared.event.LockVerb.TheVariants as lock_verbs
 use Rattle.ld_trace.specs.declared.event.StateVerb.TheVariants as state_verbs
 use Rattle.ld_trace.specs.declared.event.LineFault.TheVariants.{BadVerb}
@@ -21,6 +21,7 @@ said-verb (OfState state_verbs.Exit) found = refl
 said-verb (OfState state_verbs.Enable) found = refl
 said-verb (OfState state_verbs.Disable) found = refl
 said-verb Nested found = refl
+said-verb Begin found = refl
 
 differs : (field text : List ℕ) → field ≢ text → bytes_eq field text ≡ false
 differs field text apart = by (bytes_eq field text) refl
@@ -41,8 +42,8 @@ said-no_verb field found event apart =
       differs field (codes "enter") (apart (OfState state_verbs.Enter)),
       differs field (codes "exit") (apart (OfState state_verbs.Exit)),
       differs field (codes "enable") (apart (OfState state_verbs.Enable)),
-      differs
-          field (codes "disable") (apart (OfState state_verbs.Disable)),
+      differs field (codes "disable") (apart (OfState state_verbs.Disable)),
+      differs field (codes "begin") (apart Begin),
     ) refl
 
 -- what a line with a verb says

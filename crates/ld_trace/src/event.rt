@@ -2,7 +2,7 @@
 ghost use Rattle.std.specs.Prelude.{◌≡◌, ◌≢◌, ◌<◌, ℕ, List, IfSome, IfNone, length};
 ghost use Rattle.std.specs.List.{position};
 ghost use Rattle.std.specs.Option.{option_map};
-ghost use Rattle.ld_trace.specs.Events.{PlainEvent, PlainLock, answer_seen, is_sign, lock_of, plain_lock, said_by, said_of_lock, said_of_nested, said_of_state, state_of, sub_of};
+ghost use Rattle.ld_trace.specs.Events.{PlainEvent, PlainLock, answer_seen, is_sign, lock_of, plain_lock, said_by, said_of_begin, said_of_lock, said_of_nested, said_of_state, setting_of, state_of, sub_of};
 ghost use Rattle.ld_trace.specs.Lines.{fields};
 ghost use Rattle.ld_trace.specs.Inner.Reading.{all_now, both_now, three_fields_of, two_fields_of, said_with_lock, said_with_state};
 
@@ -66,7 +66,7 @@ pub enum Event<'a> {
         task: &'a [u8],
         state: State,
     },
-    /// It was here before the trace began, with these flags outside handlers: true is on.
+    /// It starts with these flags outside handlers: true is on.
     Begin {
         task: &'a [u8],
         hard: bool,
@@ -144,6 +144,7 @@ impl Verb {
             None => match StateVerb::of(field) {
                 Some(verb) => Some(Verb::OfState(verb)),
                 None if field == b"nested".as_slice() => Some(Verb::Nested),
+                None if field == b"begin".as_slice() => Some(Verb::Begin),
                 None => None,
             },
         }
@@ -157,6 +158,7 @@ impl Verb {
             Verb::OfLock(verb) => verb.read(rest),
             Verb::OfState(verb) => verb.read(rest),
             Verb::Nested => read_nested(rest),
+            Verb::Begin => read_begin(rest),
         }
     }
 }
@@ -272,6 +274,20 @@ fn read_nested(rest: &[u8]) -> Result<Option<Event<'_>>, LineFault>
     }
 }
 
+/// The flags of a task that stand after the verb that says them.
+fn read_begin(rest: &[u8]) -> Result<Option<Event<'_>>, LineFault>
+    ensures { answer_seen result ≡ said_of_begin (fields rest.now) }
+{
+    let Some((task, hard, soft)) = three_fields(rest) else {
+        return Err(LineFault::BadCount);
+    };
+    match (read_setting(hard), read_setting(soft)) {
+        _ if !is_word(task) => Err(LineFault::BadName),
+        (Some(hard), Some(soft)) => Ok(Some(Event::Begin { task, hard, soft })),
+        _ => Err(LineFault::BadState),
+    }
+}
+
 /// The fields, where they are two.
 fn two_fields(rest: &[u8]) -> Option<(&[u8], &[u8])>
     ensures { option_map both_now result ≡ two_fields_of (fields rest.now) }
@@ -342,6 +358,19 @@ fn read_state(field: &[u8]) -> Option<State>
         Some(State::Hard)
     } else if field == b"soft".as_slice() {
         Some(State::Soft)
+    } else {
+        None
+    }
+}
+
+/// What a field sets a flag to: `on`, which is true, or `off`.
+fn read_setting(field: &[u8]) -> Option<bool>
+    ensures { result ≡ setting_of field.now }
+{
+    if field == b"on".as_slice() {
+        Some(true)
+    } else if field == b"off".as_slice() {
+        Some(false)
     } else {
         None
     }
