@@ -12,15 +12,16 @@ use Rattle.std.specs.Str.{bytes_eq}
 use Rattle.ld_trace.specs.declared.event.State.{State}
 use Rattle.ld_trace.specs.declared.event.State.TheVariants.{Hard, Soft}
 use Rattle.ld_trace.specs.Events.{PlainEvent}
-use Rattle.ld_trace.specs.Events.PlainEvent.{Acquire, Try, Nested, Release, Enter, Exit, Enable, Disable}
+use Rattle.ld_trace.specs.Events.PlainEvent.{Acquire, Try, Nested, Release, Enter, Exit, Enable, Disable, Begin}
 use Rattle.ld_rules.specs.Open.{is_some_and}
 use Rattle.ld_rules.specs.Frames.{Frame, frames, frame_of, contexts, task_of, enters, exits, state_entered}
 use Rattle.ld_rules.specs.Held.{Placed, placed, same_frame}
-use Rattle.ld_rules.specs.Flags.{same_state, says_flag, says_flag_in, last_said, flag_in, flag, is_enabled}
+use Rattle.ld_rules.specs.Flags.{same_state, says_flag, says_begun, flag_begun, flag_for, says_flag_in, last_said, flag_in, flag, is_enabled}
 use Rattle.ld_rules.specs.Inner.Levels.{is_interrupt, levels, levels_in, stack, state_of_frame, states}
 use Rattle.ld_rules.specs.declared.outcome.TheConstants.{MOST_TASKS}
-use Rattle.ld_rules.specs.Outcome.{tasks, is_one_too_many, has_too_many_classes, is_too_deep, is_not_held, is_badly_nested, is_masked, is_bad_exit, is_held_at_exit, is_bad_enable, event_fault}
+use Rattle.ld_rules.specs.Outcome.{tasks, is_one_too_many, has_too_many_classes, is_too_deep, is_not_held, is_badly_nested, is_masked, is_bad_exit, is_held_at_exit, is_bad_enable, is_late_begin, event_fault}
 use Rattle.ld_rules.proofs.PlaceLemmas.{by_pushes, last_or-push}
+use Rattle.ld_rules.proofs.BegunLemmas.{flag_begun-none, flag_begun-some, says_begun-other}
 use Rattle.ld_rules.proofs.FrameLemmas.{frames-enter, frames-exit, frames-exit_other, frames-exit_none, frames-other}
 use Rattle.ld_rules.proofs.HeldLemmas.{placed-push}
 
@@ -71,6 +72,7 @@ stack-other past task (Enter t s) other = stack-enter past task t s ∙ ap (λ (
 stack-other past task (Exit t s) other = ap reverse (frames-exit_other past task t s other)
 stack-other past task (Enable t s) other = stack-quiet past task (Enable t s) refl refl
 stack-other past task (Disable t s) other = stack-quiet past task (Disable t s) refl refl
+stack-other past task (Begin t h s) other = stack-quiet past task (Begin t h s) refl refl
 
 -- the place of the first of these
 abbrev pub innermost : List Frame → Option ℕ
@@ -119,6 +121,7 @@ stack_follows task P none later opens closes past = by_pushes (λ xs. P xs (stac
         (subst (P (xs ++ Exit task s ∷ [])) (sym (stack-exit xs task s)) (later xs (Exit task s) (drop 1 (stack xs task)) (closes xs (stack xs task) h)))
     own xs (Enable t s) is h = kept xs (Enable t s) (stack-quiet xs task (Enable t s) refl refl) h
     own xs (Disable t s) is h = kept xs (Disable t s) (stack-quiet xs task (Disable t s) refl refl) h
+    own xs (Begin t hard soft) is h = kept xs (Begin t hard soft) (stack-quiet xs task (Begin t hard soft) refl refl) h
 
     step : (xs : List PlainEvent) (e : PlainEvent) → P xs (stack xs task) → P (xs ++ e ∷ []) (stack (xs ++ e ∷ []) task)
     step xs e h = by (bytes_eq task (task_of e)) refl
@@ -199,10 +202,11 @@ pub flag-levels : (past : List PlainEvent) (task : List ℕ) (state : State) →
 flag-levels past task state = sym (ap (λ bs. get_or bs 0 true) (levels-head past task state))
 
 -- what an event doesn't say in these frames, or outside frames, it doesn't change there
-module _ (past : List PlainEvent) (e : PlainEvent) (task : List ℕ) (state : State) (outside : last_said (past ++ e ∷ []) task state None ≡ last_said past task state None) where
+module _ (past : List PlainEvent) (e : PlainEvent) (task : List ℕ) (state : State) (outside : last_said (past ++ e ∷ []) task state None ≡ last_said past task state None)
+    (unbegun : says_begun task state e ≡ None) where
   flag_in-kept : (n : ℕ) (fs : List Frame) → ((k : ℕ) → k < n → last_said (past ++ e ∷ []) task state (Some k) ≡ last_said past task state (Some k)) →
       n ≤ length past → Falls n fs → flag_in task state (past ++ e ∷ []) fs ≡ flag_in task state past fs
-  flag_in-kept n [] inside le falls = ap (λ o. unwrap_or o true) outside
+  flag_in-kept n [] inside le falls = (λ i. unwrap_or (outside i) (flag_begun-none past e task state unbegun i))
   flag_in-kept n (f ∷ fs) inside le falls =
       let cut : take f.place (past ++ e ∷ []) ≡ take f.place past = take-append-le f.place past (e ∷ []) (omega (arith, falls.0)) in
       (λ i. unwrap_or (inside f.place falls.0 i) (if is_some_and (same_state state) (state_entered f.element) then false else flag_in task state (cut i) fs))
@@ -216,21 +220,21 @@ module _ (past : List PlainEvent) (e : PlainEvent) (task : List ℕ) (state : St
       (λ i. here i ∷ rest i)
 
 -- an event that says nothing of the flag
-levels_in-quiet : (past : List PlainEvent) (e : PlainEvent) (task : List ℕ) (state : State) (fs : List Frame) → says_flag task state e ≡ None → Falls
-    (length past) fs → levels_in task state (past ++ e ∷ []) fs ≡ levels_in task state past fs
-levels_in-quiet past e task state fs none falls =
-    levels_in-kept past e task state (last_said-none past e task state None (says_nothing past e task state None none)) (length past) fs
+levels_in-quiet : (past : List PlainEvent) (e : PlainEvent) (task : List ℕ) (state : State) (fs : List Frame) → says_flag task state e ≡ None → says_begun
+    task state e ≡ None → Falls (length past) fs → levels_in task state (past ++ e ∷ []) fs ≡ levels_in task state past fs
+levels_in-quiet past e task state fs none unbegun falls =
+    levels_in-kept past e task state (last_said-none past e task state None (says_nothing past e task state None none)) unbegun (length past) fs
     (λ k low. last_said-none past e task state (Some k) (says_nothing past e task state (Some k) none)) (omega arith) falls
 
 -- an event that says nothing of the flag and leaves the frames leaves the levels
 levels-kept : (past : List PlainEvent) (e : PlainEvent) (task : List ℕ) (state : State) → stack (past ++ e ∷ []) task ≡ stack past task → says_flag
-    task state e ≡ None → levels (past ++ e ∷ []) task state ≡ levels past task state
-levels-kept past e task state same none = ap (levels_in task state (past ++ e ∷ [])) same ∙ levels_in-quiet past e task state (stack past task) none (stack_falls task past)
+    task state e ≡ None → says_begun task state e ≡ None → levels (past ++ e ∷ []) task state ≡ levels past task state
+levels-kept past e task state same none unbegun = ap (levels_in task state (past ++ e ∷ [])) same ∙ levels_in-quiet past e task state (stack past task) none unbegun (stack_falls task past)
 
 -- an event that says it, and leaves the frames, sets the first level
 levels-said : (past : List PlainEvent) (e : PlainEvent) (state : State) (b : Bool) → stack (past ++ e ∷ []) (task_of e) ≡ stack past (task_of e) →
-    says_flag (task_of e) state e ≡ Some b → levels (past ++ e ∷ []) (task_of e) state ≡ b ∷ drop 1 (levels past (task_of e) state)
-levels-said past e state b same says = ap (levels_in (task_of e) state (past ++ e ∷ [])) same ∙ each (stack past (task_of e))
+    says_flag (task_of e) state e ≡ Some b → says_begun (task_of e) state e ≡ None → levels (past ++ e ∷ []) (task_of e) state ≡ b ∷ drop 1 (levels past (task_of e) state)
+levels-said past e state b same says unbegun = ap (levels_in (task_of e) state (past ++ e ∷ [])) same ∙ each (stack past (task_of e))
     (frame_of_stack (past ++ e ∷ []) (task_of e) ∙ ap innermost same) (stack_falls (task_of e) past)
   where
     here : (frame : Option ℕ) → same_frame frame (frame_of (past ++ e ∷ []) (task_of e)) ≡ true → last_said (past ++ e ∷ []) (task_of e) state frame ≡ Some b
@@ -241,42 +245,50 @@ levels-said past e state b same says = ap (levels_in (task_of e) state (past ++ 
 
     each : (fs : List Frame) → frame_of (past ++ e ∷ []) (task_of e) ≡ innermost fs → Falls (length past) fs → levels_in (task_of e) state
         (past ++ e ∷ []) fs ≡ b ∷ drop 1 (levels_in (task_of e) state past fs)
-    each [] frame falls = ap (λ o. unwrap_or o true ∷ []) (here None (ap (same_frame None) frame))
+    each [] frame falls = ap (λ o. unwrap_or o (flag_begun (past ++ e ∷ []) (task_of e) state) ∷ []) (here None (ap (same_frame None) frame))
     each (f ∷ fs) frame falls =
         let own = here (Some f.place) (ap (same_frame (Some f.place)) frame ∙ eq-eqb f.place f.place refl) in
-        let rest = levels_in-kept past e (task_of e) state (elsewhere None (ap (same_frame None) frame)) f.place fs
+        let rest = levels_in-kept past e (task_of e) state (elsewhere None (ap (same_frame None) frame)) unbegun f.place fs
         (λ k low. elsewhere (Some k) (ap (same_frame (Some k)) frame ∙ ne_eqb k f.place (λ eq. omega arith))) (omega (arith, falls.0)) falls.1 in
         (λ i. unwrap_or (own i) (if is_some_and (same_state state) (state_entered f.element) then false else flag_in (task_of e) state (take f.place (past ++ e ∷ [])) fs) ∷ rest i)
+
+-- an event of another task says nothing of the flags
+says_flag-other : (e : PlainEvent) (task : List ℕ) (state : State) → bytes_eq task (task_of e) ≡ false → says_flag task state e ≡ None
+says_flag-other (Acquire t l) task state other = refl
+says_flag-other (Try t l) task state other = refl
+says_flag-other (Nested t l n) task state other = refl
+says_flag-other (Release t l) task state other = refl
+says_flag-other (Enter t s) task state other = refl
+says_flag-other (Exit t s) task state other = refl
+says_flag-other (Enable t s) task state other = ap (λ (b : Bool). if b && same_state state s then Some true else None) other
+says_flag-other (Disable t s) task state other = ap (λ (b : Bool). if b && same_state state s then Some false else None) other
+says_flag-other (Begin t hard soft) task state other = refl
+
+pub last_said-other : (past : List PlainEvent) (e : PlainEvent) (task : List ℕ) (state : State) (frame : Option ℕ) → bytes_eq task (task_of e) ≡ false
+    → last_said (past ++ e ∷ []) task state frame ≡ last_said past task state frame
+last_said-other past e task state frame other = last_said-none past e task state frame (says_nothing past e task state frame (says_flag-other e task state other))
 
 -- The levels after one more event.
 
 -- an event of another task leaves them
 pub levels-other : (past : List PlainEvent) (e : PlainEvent) (task : List ℕ) (state : State) → bytes_eq task (task_of e) ≡ false → levels (past ++ e ∷ []) task state ≡ levels past task state
-levels-other past e task state other = levels-kept past e task state (stack-other past task e other) (none e other)
-  where
-    none : (e : PlainEvent) → bytes_eq task (task_of e) ≡ false → says_flag task state e ≡ None
-    none (Acquire t l) other = refl
-    none (Try t l) other = refl
-    none (Nested t l n) other = refl
-    none (Release t l) other = refl
-    none (Enter t s) other = refl
-    none (Exit t s) other = refl
-    none (Enable t s) other = ap (λ (b : Bool). if b && same_state state s then Some true else None) other
-    none (Disable t s) other = ap (λ (b : Bool). if b && same_state state s then Some false else None) other
+levels-other past e task state other = levels-kept past e task state (stack-other past task e other) (says_flag-other e task state other) (says_begun-other e task state other)
 
 -- so does one that is no interrupt's
-quiet_says : (e : PlainEvent) (task : List ℕ) (state : State) → is_interrupt e ≡ false → (enters e ≡ None) × (exits e ≡ None) × (says_flag task state e ≡ None)
-quiet_says (Acquire t l) task state quiet = (refl, refl, refl)
-quiet_says (Try t l) task state quiet = (refl, refl, refl)
-quiet_says (Nested t l n) task state quiet = (refl, refl, refl)
-quiet_says (Release t l) task state quiet = (refl, refl, refl)
+quiet_says : (e : PlainEvent) (task : List ℕ) (state : State) → is_interrupt e ≡ false → (enters e ≡ None) × (exits e ≡ None) ×
+    (says_flag task state e ≡ None) × (says_begun task state e ≡ None)
+quiet_says (Acquire t l) task state quiet = (refl, refl, refl, refl)
+quiet_says (Try t l) task state quiet = (refl, refl, refl, refl)
+quiet_says (Nested t l n) task state quiet = (refl, refl, refl, refl)
+quiet_says (Release t l) task state quiet = (refl, refl, refl, refl)
 quiet_says (Enter t s) task state quiet = absurd (true≢false quiet)
 quiet_says (Exit t s) task state quiet = absurd (true≢false quiet)
 quiet_says (Enable t s) task state quiet = absurd (true≢false quiet)
 quiet_says (Disable t s) task state quiet = absurd (true≢false quiet)
+quiet_says (Begin t hard soft) task state quiet = absurd (true≢false quiet)
 
 pub levels-quiet : (past : List PlainEvent) (e : PlainEvent) (task : List ℕ) (state : State) → is_interrupt e ≡ false → levels (past ++ e ∷ []) task state ≡ levels past task state
-levels-quiet past e task state quiet = let says = quiet_says e task state quiet in levels-kept past e task state (stack-quiet past task e says.0 says.1) says.2
+levels-quiet past e task state quiet = let says = quiet_says e task state quiet in levels-kept past e task state (stack-quiet past task e says.0 says.1) says.2 says.3
 
 -- `enable` and `disable` set the flag of the innermost frame for their state, and no other
 pub levels-enable : (past : List PlainEvent) (task : List ℕ) (changed state : State) → levels (past ++ Enable task changed ∷ []) task state ≡
@@ -287,8 +299,8 @@ levels-enable past task changed state = by (same_state state changed) refl
     says b is = (λ i. if (bytes_eq-Decides task task).1 refl i && is i then Some true else None)
 
     by : (b : Bool) → same_state state changed ≡ b → levels (past ++ Enable task changed ∷ []) task state ≡ (if b then true ∷ drop 1 (levels past task state) else levels past task state)
-    by true is = levels-said past (Enable task changed) state true (stack-quiet past task (Enable task changed) refl refl) (says true is)
-    by false is = levels-kept past (Enable task changed) task state (stack-quiet past task (Enable task changed) refl refl) (says false is)
+    by true is = levels-said past (Enable task changed) state true (stack-quiet past task (Enable task changed) refl refl) (says true is) refl
+    by false is = levels-kept past (Enable task changed) task state (stack-quiet past task (Enable task changed) refl refl) (says false is) refl
 
 pub levels-disable : (past : List PlainEvent) (task : List ℕ) (changed state : State) → levels (past ++ Disable task changed ∷ []) task state ≡
     (if same_state state changed then false ∷ drop 1 (levels past task state) else levels past task state)
@@ -298,8 +310,21 @@ levels-disable past task changed state = by (same_state state changed) refl
     says b is = (λ i. if (bytes_eq-Decides task task).1 refl i && is i then Some false else None)
 
     by : (b : Bool) → same_state state changed ≡ b → levels (past ++ Disable task changed ∷ []) task state ≡ (if b then false ∷ drop 1 (levels past task state) else levels past task state)
-    by true is = levels-said past (Disable task changed) state false (stack-quiet past task (Disable task changed) refl refl) (says true is)
-    by false is = levels-kept past (Disable task changed) task state (stack-quiet past task (Disable task changed) refl refl) (says false is)
+    by true is = levels-said past (Disable task changed) state false (stack-quiet past task (Disable task changed) refl refl) (says true is) refl
+    by false is = levels-kept past (Disable task changed) task state (stack-quiet past task (Disable task changed) refl refl) (says false is) refl
+
+-- A `begin` of a task that has no frame, and of whose flag nothing was said, says the flag.
+pub levels-begin : (past : List PlainEvent) (task : List ℕ) (hard soft : Bool) (state : State) → stack past task ≡ [] → last_said past task state None ≡ None
+    → levels (past ++ Begin task hard soft ∷ []) task state ≡ flag_for state hard soft ∷ []
+levels-begin past task hard soft state none unsaid =
+    ap (levels_in task state (past ++ Begin task hard soft ∷ [])) (stack-quiet past task (Begin task hard soft) refl refl ∙ none)
+    ∙ (λ i. unwrap_or (still i) (flag_begun-some past (Begin task hard soft) task state (flag_for state hard soft) says i) ∷ [])
+  where
+    still : last_said (past ++ Begin task hard soft ∷ []) task state None ≡ None
+    still = last_said-none past (Begin task hard soft) task state None (says_nothing past (Begin task hard soft) task state None refl) ∙ unsaid
+
+    says : says_begun task state (Begin task hard soft) ≡ Some (flag_for state hard soft)
+    says = ap (λ (b : Bool). if b then Some (flag_for state hard soft) else None) ((bytes_eq-Decides task task).1 refl)
 
 -- A frame begins with the flag of its own state off and the other as before; the flags around it stay.
 pub levels-enter : (past : List PlainEvent) (task : List ℕ) (entered state : State) → levels (past ++ Enter task entered ∷ []) task state ≡
@@ -317,7 +342,7 @@ levels-enter past task entered state =
     before = take_at past (Enter task entered ∷ []) (length past) refl
 
     rest : levels_in task state (past ++ Enter task entered ∷ []) (stack past task) ≡ levels past task state
-    rest = levels_in-quiet past (Enter task entered) task state (stack past task) refl (stack_falls task past)
+    rest = levels_in-quiet past (Enter task entered) task state (stack past task) refl refl (stack_falls task past)
 
 -- Where a frame is open, an exit gives back the flags around it.
 pub levels-exit : (past : List PlainEvent) (task : List ℕ) (left state : State) (inner : Frame) (outer : List Frame) → stack past task ≡ inner ∷ outer
@@ -325,7 +350,7 @@ pub levels-exit : (past : List PlainEvent) (task : List ℕ) (left state : State
 levels-exit past task left state inner outer is =
     let falls : Falls (length past) (inner ∷ outer) = subst (Falls (length past)) is (stack_falls task past) in
     ap (levels_in task state (past ++ Exit task left ∷ [])) (stack-exit past task left ∙ ap (drop 1) is)
-    ∙ levels_in-quiet past (Exit task left) task state outer refl (falls_below inner.place (length past) outer (omega (arith, falls.0)) falls.1)
+    ∙ levels_in-quiet past (Exit task left) task state outer refl refl (falls_below inner.place (length past) outer (omega (arith, falls.0)) falls.1)
     ∙ sym (ap (λ fs. drop 1 (levels_in task state past fs)) is)
 
 -- The contexts.
@@ -450,6 +475,7 @@ pub record NoFault (past : List PlainEvent) (e : PlainEvent) : Type 0 where
   pub exits_own : is_bad_exit past e ≡ false
   pub holds_none : is_held_at_exit past e ≡ false
   pub enables_other : is_bad_enable past e ≡ false
+  pub begins_first : is_late_begin past e ≡ false
 
 -- the conditions of an event without fault, one by one
 module _ (past : List PlainEvent) (e : PlainEvent) (none : event_fault past e ≡ None) where
@@ -464,4 +490,5 @@ module _ (past : List PlainEvent) (e : PlainEvent) (none : event_fault past e �
       let h7 = if_none (is_bad_exit past e) _ _ h6.1 in
       let h8 = if_none (is_held_at_exit past e) _ _ h7.1 in
       let h9 = if_none (is_bad_enable past e) _ _ h8.1 in
-      record { tasks_fit = h1.0; classes_fit = h2.0; locks_fit = h3.0; is_held = h4.0; nests = h5.0; unmasked = h6.0; exits_own = h7.0; holds_none = h8.0; enables_other = h9.0 }
+      let h10 = if_none (is_late_begin past e) _ _ h9.1 in
+      record { tasks_fit = h1.0; classes_fit = h2.0; locks_fit = h3.0; is_held = h4.0; nests = h5.0; unmasked = h6.0; exits_own = h7.0; holds_none = h8.0; enables_other = h9.0; begins_first = h10.0 }

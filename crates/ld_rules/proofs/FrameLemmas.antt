@@ -7,7 +7,7 @@ use Rattle.std.specs.List.{last_or}
 use Rattle.std.specs.Str.{bytes_eq}
 use Rattle.ld_trace.specs.declared.event.State.{State}
 use Rattle.ld_trace.specs.Events.{PlainEvent}
-use Rattle.ld_trace.specs.Events.PlainEvent.{Acquire, Try, Nested, Release, Enter, Exit, Enable, Disable}
+use Rattle.ld_trace.specs.Events.PlainEvent.{Acquire, Try, Nested, Release, Enter, Exit, Enable, Disable, Begin}
 use Rattle.ld_rules.specs.Open.{openings}
 use Rattle.ld_rules.specs.Frames.{Frame, enters, exits, frames, frame_of, contexts}
 use Rattle.ld_rules.specs.Inner.Scanned.{remove_last}
@@ -23,6 +23,7 @@ frames_apart (Release t l) task is = refl
 frames_apart (Exit t s) task is = cc
 frames_apart (Enable t s) task is = refl
 frames_apart (Disable t s) task is = refl
+frames_apart (Begin t h s) task is = refl
 
 pub frame_keys : HasKeys bytes_eq enters exits
 frame_keys = record { decides = bytes_eq-Decides; apart = frames_apart }

@@ -10,7 +10,7 @@ use Rattle.std.specs.List.{list_all, list_any}
 use Rattle.std.specs.Str.{bytes_eq}
 use Rattle.ld_trace.specs.declared.event.State.{State}
 use Rattle.ld_trace.specs.Events.{PlainEvent, PlainLock}
-use Rattle.ld_trace.specs.Events.PlainEvent.{Acquire, Try, Nested, Release, Enter, Exit, Enable, Disable}
+use Rattle.ld_trace.specs.Events.PlainEvent.{Acquire, Try, Nested, Release, Enter, Exit, Enable, Disable, Begin}
 use Rattle.ld_rules.specs.Frames.{Frame, frame_of, task_of, enters, exits}
 use Rattle.ld_rules.specs.Held.{Acquisition, same_frame, lock_acquired, held_by, held_in}
 use Rattle.ld_rules.specs.Outcome.{is_held_at_exit}
@@ -170,6 +170,7 @@ held_by-other_task past task e other = by e other
     by (Exit t s) other = held_by-other past task (Exit t s) refl refl
     by (Enable t s) other = held_by-other past task (Enable t s) refl refl
     by (Disable t s) other = held_by-other past task (Disable t s) refl refl
+    by (Begin t h s) other = held_by-other past task (Begin t h s) refl refl
 
 module _ (past : List PlainEvent) where
   moved : (task : List ℕ) (e : PlainEvent) → stack (past ++ e ∷ []) task ≡ stack past task → Grouped (stack past task) (starts past task)
@@ -235,6 +236,7 @@ module _ (past : List PlainEvent) where
       own (Exit t s) good h = exited t s good h
       own (Enable t s) good h = unmoved t (Enable t s) (stack-quiet past t (Enable t s) refl refl) (held_by-other past t (Enable t s) refl refl) h
       own (Disable t s) good h = unmoved t (Disable t s) (stack-quiet past t (Disable t s) refl refl) (held_by-other past t (Disable t s) refl refl) h
+      own (Begin t hard soft) good h = unmoved t (Begin t hard soft) (stack-quiet past t (Begin t hard soft) refl refl) (held_by-other past t (Begin t hard soft) refl refl) h
 
       by : (b : Bool) → bytes_eq task (task_of e) ≡ b → IsGrouped (past ++ e ∷ []) task
       by true is = let one = (bytes_eq-Decides task (task_of e)).0 is in subst (IsGrouped (past ++ e ∷ [])) (sym one) (own e good (subst (IsGrouped past) one h))

@@ -9,7 +9,7 @@ use Rattle.std.specs.Bool.{Decides}
 use Rattle.std.specs.List.{enumerate_from, list_any}
 use Rattle.std.specs.Str.{bytes_eq}
 use Rattle.ld_trace.specs.Events.{PlainEvent, PlainLock}
-use Rattle.ld_trace.specs.Events.PlainEvent.{Acquire, Try, Nested, Release, Enter, Exit, Enable, Disable}
+use Rattle.ld_trace.specs.Events.PlainEvent.{Acquire, Try, Nested, Release, Enter, Exit, Enable, Disable, Begin}
 use Rattle.ld_rules.specs.Open.{openings}
 use Rattle.ld_rules.specs.Frames.{enters, exits, task_of, frame_of}
 use Rattle.ld_rules.specs.Held.{Placed, placed, Key, key_with, lock_acquired, lock_released, acquires, releases, same_option, same_frame, same_lock, same_key, Acquisition, acquisition_of, class_with, sub_of, held, held_by}
@@ -51,6 +51,7 @@ locks_apart (Enter t s) lock is = refl
 locks_apart (Exit t s) lock is = refl
 locks_apart (Enable t s) lock is = refl
 locks_apart (Disable t s) lock is = refl
+locks_apart (Begin t h s) lock is = refl
 
 pub enters_none : (e : PlainEvent) (lock : PlainLock) → lock_acquired e ≡ Some lock → (enters e ≡ None) × (exits e ≡ None)
 enters_none (Acquire t l) lock is = (refl, refl)
@@ -61,6 +62,7 @@ enters_none (Enter t s) lock is = cc
 enters_none (Exit t s) lock is = cc
 enters_none (Enable t s) lock is = (refl, refl)
 enters_none (Disable t s) lock is = (refl, refl)
+enters_none (Begin t h s) lock is = (refl, refl)
 
 lock_keys : HasKeys same_key acquires releases
 lock_keys = record { decides = Decides-same_key; apart = apart }

@@ -3,6 +3,7 @@ pub mod RemoveLemmas
 pub mod PlaceLemmas
 pub mod FrameLemmas
 pub mod HeldLemmas
+pub mod BegunLemmas
 pub mod FlagLemmas
 pub mod OutcomeLemmas
 pub mod StepLemmas

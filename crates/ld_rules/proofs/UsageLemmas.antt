@@ -19,7 +19,7 @@ use Rattle.ld_trace.specs.declared.event.LineFault.{LineFault}
 use Rattle.ld_trace.specs.declared.event.State.{State}
 use Rattle.ld_trace.specs.declared.event.State.TheVariants.{Hard, Soft}
 use Rattle.ld_trace.specs.Events.{PlainEvent, PlainLock, Position}
-use Rattle.ld_trace.specs.Events.PlainEvent.{Acquire, Try, Nested, Release, Enter, Exit, Enable, Disable}
+use Rattle.ld_trace.specs.Events.PlainEvent.{Acquire, Try, Nested, Release, Enter, Exit, Enable, Disable, Begin}
 use Rattle.ld_rules.specs.Frames.{task_of, contexts, frame_of}
 use Rattle.ld_rules.specs.Inner.Levels.{is_interrupt}
 use Rattle.ld_rules.specs.Held.{Acquisition, class_awaited, held, held_by, lock_acquired}
@@ -117,6 +117,7 @@ in_uses-is past (Enter t s) = refl
 in_uses-is past (Exit t s) = refl
 in_uses-is past (Enable t s) = refl
 in_uses-is past (Disable t s) = refl
+in_uses-is past (Begin t h s) = refl
 
 -- The uses of what is held.
 
@@ -156,6 +157,7 @@ held-others past e = by e
     by (Exit t s) = ap (of_others t) (held-other past (Exit t s) refl refl)
     by (Enable t s) = ap (of_others t) (held-other past (Enable t s) refl refl)
     by (Disable t s) = ap (of_others t) (held-other past (Disable t s) refl refl)
+    by (Begin t h s) = ap (of_others t) (held-other past (Begin t h s) refl refl)
 
 -- what all uses of what is held pass, said of what is held
 list_all_on : (p : Use → Bool) (now : List PlainEvent) (state : State) → list_all p (on_uses now state) ≡ list_all (λ one. not (is_enabled now one.key.task state) || p (on_use state one)) (held now)
@@ -285,14 +287,15 @@ with_uses_by past e line added law known all =
     ins : List Use
     ins = uses_in (contexts past (task_of e)) (class_awaited e)
 
--- What an event may newly count under a state: the acquisition that it is, and at an `enable` or
--- an `exit` all that its task holds.
+-- What an event may newly count under a state: the acquisition that it is, and at an `enable`, an
+-- `exit` or a `begin` all that its task holds.
 abbrev pub newly_held : List PlainEvent → PlainEvent → List Acquisition
 newly_held past (Acquire task lock) = acquisition_at past (Acquire task lock) lock ∷ []
 newly_held past (Try task lock) = acquisition_at past (Try task lock) lock ∷ []
 newly_held past (Nested task lock sub) = acquisition_at past (Nested task lock sub) lock ∷ []
 newly_held past (Enable task state) = held_by past task
 newly_held past (Exit task state) = held_by past task
+newly_held past (Begin task hard soft) = held_by past task
 newly_held past other = []
 
 abbrev pub new_uses : List PlainEvent → PlainEvent → State → List Use
@@ -362,6 +365,7 @@ module _ (past : List PlainEvent) (state : State) (line : ℕ) (known : List (Se
       (λ there. ap (list_all (λ one. is_known known (on_use state one))) (held_by-other past t (Enter t s) refl refl) ∙ there)
   with_newly_held (Exit t s) = ap (λ ks. with_uses line known (map (on_use state) (if is_enabled (past ++ Exit t s ∷ []) t state then ks else []))) (held_by-other past t (Exit t s) refl refl)
   with_newly_held (Enable t s) = ap (λ ks. with_uses line known (map (on_use state) (if is_enabled (past ++ Enable t s ∷ []) t state then ks else []))) (held_by-other past t (Enable t s) refl refl)
+  with_newly_held (Begin t h s) = ap (λ ks. with_uses line known (map (on_use state) (if is_enabled (past ++ Begin t h s ∷ []) t state then ks else []))) (held_by-other past t (Begin t h s) refl refl)
   with_newly_held (Disable t s) = new-none (Disable t s) (enabled_before_disable past t s state)
       (λ there. ap (list_all (λ one. is_known known (on_use state one))) (held_by-other past t (Disable t s) refl refl) ∙ there)
 

@@ -36,10 +36,15 @@ abbrev pub last_said : List PlainEvent → List ℕ → State → Option ℕ →
 last_said past task state frame =
     last_or None (filter_map (says_flag_in task state frame) (placed past))
 
+-- of a hard and a soft flag the one for this state
+abbrev pub flag_for : State → Bool → Bool → Bool
+flag_for Hard hard soft = hard
+flag_for Soft hard soft = soft
+
 -- what a `begin` says of the flag of this task for this state
 abbrev pub says_begun : List ℕ → State → PlainEvent → Option Bool
-says_begun task Hard (Begin by hard soft) = if bytes_eq task by then Some hard else None
-says_begun task Soft (Begin by hard soft) = if bytes_eq task by then Some soft else None
+says_begun task state (Begin by hard soft) =
+    if bytes_eq task by then Some (flag_for state hard soft) else None
 says_begun task state other = None
 
 -- what the last `begin` of the task says of the flag, else on
