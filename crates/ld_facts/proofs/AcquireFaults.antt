@@ -15,7 +15,7 @@ use Rattle.ld_rules.specs.Frames.{task_of}
 use Rattle.ld_rules.specs.Held.{class_awaited, class_with, held_by, lock_acquired, sub_of}
 use Rattle.ld_rules.specs.Inner.Levels.{is_interrupt}
 use Rattle.ld_rules.specs.Outcome.{class_acquired, classes, event_fault, events, is_bad_enable, is_bad_exit, is_badly_nested}
-use Rattle.ld_rules.specs.Outcome.{is_held_at_exit, is_masked, is_not_held, is_one_too_many, tasks}
+use Rattle.ld_rules.specs.Outcome.{is_held_at_exit, is_late_begin, is_masked, is_not_held, is_one_too_many, tasks}
 use Rattle.ld_facts.specs.declared.taking.Taking.{Taking}
 use Rattle.ld_facts.specs.declared.taking.Taking.TheVariants.{Nesting, Trying, Waiting}
 use Rattle.ld_facts.specs.Inner.Reading.{IsAt, Start, acquisition, class_taken, own_names, waits}
@@ -76,11 +76,12 @@ record NoLater (past : List PlainEvent) (event : PlainEvent) : Type 0 where
   exits : is_bad_exit past event ≡ false
   holds_none : is_held_at_exit past event ≡ false
   enables : is_bad_enable past event ≡ false
+  begins : is_late_begin past event ≡ false
 
 no-later : (past : List PlainEvent) (name : List ℕ) (lock : PlainLock) (how : Taking) → NoLater past (acquisition how name lock)
-no-later past name lock (Nesting sub) = record { is_held = refl; nests = refl; unmasked = refl; exits = refl; holds_none = refl; enables = refl }
-no-later past name lock Trying = record { is_held = refl; nests = refl; unmasked = refl; exits = refl; holds_none = refl; enables = refl }
-no-later past name lock Waiting = record { is_held = refl; nests = refl; unmasked = refl; exits = refl; holds_none = refl; enables = refl }
+no-later past name lock (Nesting sub) = record { is_held = refl; nests = refl; unmasked = refl; exits = refl; holds_none = refl; enables = refl; begins = refl }
+no-later past name lock Trying = record { is_held = refl; nests = refl; unmasked = refl; exits = refl; holds_none = refl; enables = refl; begins = refl }
+no-later past name lock Waiting = record { is_held = refl; nests = refl; unmasked = refl; exits = refl; holds_none = refl; enables = refl; begins = refl }
 
 -- the faults of an acquisition, in their order
 module _ {start : Start} (all : List Position) (old : Scan) (is : IsAt start all old)
@@ -129,4 +130,5 @@ module _ {start : Start} (all : List Position) (old : Scan) (is : IsAt start all
           later.exits,
           later.holds_none,
           later.enables,
+          later.begins,
         ) refl

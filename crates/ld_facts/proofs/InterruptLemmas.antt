@@ -1,40 +1,44 @@
 -- The interrupt verbs, seen through what the scan keeps of their task.
 use Rattle.std.proofs.Common.{◌≡◌, ◌≢◌, ◌<◌, ◌≤◌, ◌-◌, ◌++◌, ◌∷◌, [], ◌∙◌, Bool, true, false, not, ℕ, List, None, Some, fold, length, map, drop}
-use Rattle.std.proofs.Common.{get_or, refl, ap, sym, subst, arith, if◌then◌else◌, All}
+use Rattle.std.proofs.Common.{get_or, refl, ap, sym, subst, arith, if◌then◌else◌, All, Option, is_some}
+use Rattle.std.proofs.lemmas.Bool.{true≢false}
 use Rattle.std.specs.Prelude.{slice_get}
 use Rattle.std.specs.List.{list_any}
 use Rattle.std.specs.Str.{bytes_eq}
 use Rattle.std.proofs.lemmas.List.{length-drop, length-map}
+use Rattle.std.proofs.lemmas.Slice.Eq.{bytes_eq-Decides}
+use Rattle.ld_class.specs.Names.{place_of_task}
 use Rattle.ld_trace.specs.declared.event.State.{State}
 use Rattle.ld_trace.specs.declared.event.State.TheVariants.{Hard, Soft}
 use Rattle.ld_trace.specs.Events.{PlainEvent, Position}
-use Rattle.ld_trace.specs.Events.PlainEvent.{Enter, Exit, Enable, Disable}
-use Rattle.ld_rules.specs.declared.fault.TraceFault.TheVariants.{BadEnable, BadExit, BadNest, HeldAtExit, Masked}
+use Rattle.ld_trace.specs.Events.PlainEvent.{Enter, Exit, Enable, Disable, Begin}
+use Rattle.ld_rules.specs.declared.fault.TraceFault.TheVariants.{BadEnable, BadExit, BadNest, HeldAtExit, LateBegin, Masked}
 use Rattle.ld_held.specs.declared.interrupts.Interrupts.{Interrupts}
 use Rattle.ld_rules.specs.declared.outcome.TheConstants.{MOST_HELD, MOST_TASKS}
 use Rattle.ld_facts.specs.declared.scan.Scan.{Scan}
 use Rattle.ld_uses.specs.declared.uses.UsageFact.{UsageFact}
 use Rattle.ld_rules.specs.Dependency.{dependencies_at}
 use Rattle.ld_facts.specs.Facts.{named_use}
-use Rattle.ld_rules.specs.Flags.{is_enabled, same_state}
+use Rattle.ld_rules.specs.Flags.{flag_for, is_enabled, same_state}
 use Rattle.ld_rules.specs.Frames.{contexts, frame_of, task_of}
 use Rattle.ld_rules.specs.Held.{class_awaited, held_by, held_in}
-use Rattle.ld_held.specs.Inner.Interrupts.{IsEntered, IsLeft, IsSet, enabled_now, fresh, nests_in, start_now, states_of}
+use Rattle.ld_held.specs.Inner.Interrupts.{IsEntered, IsLeft, IsSet, enabled_now, fresh, levels_of, nests_in, start_now, states_of}
 use Rattle.ld_rules.specs.Inner.Levels.{stack, state_of_frame}
 use Rattle.ld_held.specs.Inner.Locks.{Hold, ChangesInterrupts, HeldByTasks}
 use Rattle.ld_rules.specs.Open.{is_some_and}
-use Rattle.ld_rules.specs.Outcome.{class_acquired, event_fault, events, is_bad_enable, is_bad_exit, is_badly_nested, is_held_at_exit, is_masked, is_one_too_many, tasks}
+use Rattle.ld_rules.specs.Outcome.{class_acquired, event_fault, events, is_bad_enable, is_bad_exit, is_badly_nested, is_held_at_exit, is_late_begin, is_masked, is_one_too_many, tasks}
 use Rattle.ld_facts.specs.Inner.Reading.{HasTask, IsAt, IsTask, Start, happens, lock_held, named_hold, uses_after}
 use Rattle.ld_rules.specs.Inner.Scanned.{same_use_seen, with_new}
 use Rattle.ld_facts.specs.Facts.{IsUse}
 use Rattle.ld_uses.specs.Inner.Uses.{on_facts, with_use}
-use Rattle.ld_rules.proofs.FlagLemmas.{levels-disable, levels-enable, levels-enter, levels-exit_good, stack-quiet, states-enter, states-exit}
+use Rattle.ld_rules.proofs.FlagLemmas.{levels-begin, levels-disable, levels-enable, levels-enter, levels-exit_good, stack-quiet, states-enter, states-exit}
 use Rattle.ld_rules.proofs.GroupLemmas.{IsGrouped, start-within, starts-enter, starts-exit, starts-kept}
 use Rattle.ld_rules.proofs.HeldLemmas.{held_by-other}
 use Rattle.ld_facts.proofs.InnerLemmas.{any-context, classes-are, clean-grouped, enabled-is, flag-is, inner-is, last-context, length-is, start-is}
 use Rattle.ld_facts.proofs.MovedLemmas.{Changed, own-before, shallow-before, tasks-fit, unacquired}
 use Rattle.ld_facts.proofs.NamedLemmas.{holds-within}
 use Rattle.ld_facts.proofs.ReleaseLemmas.{uses-uncounted}
+use Rattle.ld_facts.proofs.TaskLemmas.{IsUnheard, heard_of, is_one_too_many-known, unheard, unheard_of}
 use Rattle.ld_rules.proofs.UsageLemmas.{newly_held, on_use, uses_from-push, with_uses}
 use Rattle.ld_rules.specs.Usage.{uses_in}
 use Rattle.ld_facts.proofs.UseLemmas.{on_facts-named, on_facts-within, uses-named, uses-within}
@@ -51,6 +55,10 @@ none_there : {X : Type 0} (xs : List X) → length xs ≡ 0 → list_any (λ x. 
 none_there [] none = refl
 none_there (x ∷ xs) none = absurd (omega (arith, none))
 
+is_none : (place : Option ℕ) → is_some place ≡ false → place ≡ None
+is_none None none = refl
+is_none (Some id) none = absurd (true≢false none)
+
 -- the faults of the verbs, by a task that isn't one too many
 module _ (past : List PlainEvent) (name : List ℕ) (state : State) (fits : is_one_too_many bytes_eq MOST_TASKS (tasks past) name ≡ false) where
   enter_fault : event_fault past (Enter name state) ≡ (if is_badly_nested past (Enter name state) then Some BadNest else if is_masked past (Enter name state) then Some Masked else None)
@@ -64,6 +72,11 @@ module _ (past : List PlainEvent) (name : List ℕ) (state : State) (fits : is_o
 
   disable_fault : event_fault past (Disable name state) ≡ None
   disable_fault = rw fits refl
+
+-- the fault of a `begin`, by a task that isn't one too many
+begin_fault : (past : List PlainEvent) (name : List ℕ) (hard soft : Bool) → is_one_too_many bytes_eq MOST_TASKS (tasks past) name ≡ false → event_fault past
+    (Begin name hard soft) ≡ (if is_late_begin past (Begin name hard soft) then Some LateBegin else None)
+begin_fault past name hard soft fits = rw fits refl
 
 -- the scan with the task of the event
 module _ {start : Start} (all : List Position) (old : Scan) (is : IsAt start all old) (name : List ℕ) (id : ℕ) (mid : Scan) (has : HasTask old name id mid) where
@@ -296,3 +309,57 @@ module _ {start : Start} (all : List Position) (old : Scan) (is : IsAt start all
           levels = λ of. set.levels of ∙ ap (λ bs. if same_state of state then false ∷ drop 1 bs else bs) (before.levels of) ∙ sym (levels-disable (events all) name state of);
         })
         refl refl
+
+  -- `begin`
+
+  module _ (new : is_some (place_of_task old.tasks name) ≡ false) (hard soft : Bool) where
+    unplaced : place_of_task (tasks (events all)) name ≡ None
+    unplaced = ap (λ ns. place_of_task ns name) (sym is.tasks) ∙ is_none (place_of_task old.tasks name) new
+
+    none : IsUnheard (events all) name
+    none = unheard (events all) name unplaced
+
+    first_event : event_fault (events all) (Begin name hard soft) ≡ None
+    first_event = begin_fault (events all) name hard soft fits ∙ ap (λ (b : Bool). if b then Some LateBegin else None) (unheard_of (events all) name unplaced)
+
+    pub begun_task-at : (line : ℕ) (mids locks : HeldByTasks) → ChangesInterrupts mid.locks mids id → IsSet Hard hard frames_now (get_or mids.interrupts id fresh)
+        → ChangesInterrupts mids locks id → IsSet Soft soft (get_or mids.interrupts id fresh) (get_or locks.interrupts id fresh) → IsAt start
+        (all ++ happens line (Begin name hard soft) ∷ []) (record mid { locks = locks })
+    begun_task-at line mids locks moved first again second =
+        uncounted-by (Begin name hard soft) line refl locks both first_event refl refl
+        (record {
+          holds = before.holds ∙ ap (map lock_held) (sym (held_by-other (events all) name (Begin name hard soft) refl refl));
+          within = before.within;
+          states = second.states ∙ first.states ∙ before.states ∙ sym (ap (map state_of_frame) same);
+          starts = second.starts ∙ first.starts ∙ before.starts ∙ sym (starts-kept (events all) (Begin name hard soft) name same);
+          levels = λ of. said of ∙ sym (levels-begin (events all) name hard soft of none.frames (none.said of));
+        })
+        refl none.holds
+      where
+        both : ChangesInterrupts mid.locks locks id
+        both = record {
+          stacks = again.stacks ∙ moved.stacks;
+          edges = again.edges ∙ moved.edges;
+          begun = again.begun ∙ moved.begun;
+          many = again.many ∙ moved.many;
+          others = λ k apart. again.others k apart ∙ moved.others k apart;
+        }
+
+        same : stack (events all ++ Begin name hard soft ∷ []) name ≡ stack (events all) name
+        same = stack-quiet (events all) name (Begin name hard soft) refl refl
+
+        said : (of : State) → levels_of of (get_or locks.interrupts id fresh) ≡ flag_for of hard soft ∷ []
+        said Hard = second.levels Hard ∙ first.levels Hard ∙ ap (λ bs. hard ∷ drop 1 bs) (before.levels Hard ∙ none.flags Hard)
+        said Soft = second.levels Soft ∙ ap (λ bs. soft ∷ drop 1 bs) (first.levels Soft ∙ before.levels Soft ∙ none.flags Soft)
+
+-- a task that has an event begins late
+pub begun_late : {start : Start} (all : List Position) (old : Scan) (name : List ℕ) (hard soft : Bool) → IsAt start all old → is_some (place_of_task old.tasks name) ≡ true →
+    event_fault (events all) (Begin name hard soft) ≡ Some LateBegin
+begun_late all old name hard soft is_at known = by (place_of_task old.tasks name) refl known
+  where
+    by : (place : Option ℕ) → place_of_task old.tasks name ≡ place → is_some place ≡ true → event_fault (events all) (Begin name hard soft) ≡ Some LateBegin
+    by None is some = absurd (true≢false (sym some))
+    by (Some id) is some =
+        let here : place_of_task (tasks (events all)) name ≡ Some id = ap (λ ns. place_of_task ns name) (sym is_at.tasks) ∙ is in
+        begin_fault (events all) name hard soft (is_one_too_many-known bytes_eq [] bytes_eq-Decides MOST_TASKS (tasks (events all)) name id here)
+        ∙ ap (λ (b : Bool). if b then Some LateBegin else None) (heard_of (events all) name id here)

@@ -21,6 +21,7 @@ use Rattle.ld_rules.specs.declared.fault.TraceFault.TheVariants.{TooManyTasks}
 use Rattle.ld_rules.specs.declared.outcome.TheConstants.{MOST_TASKS}
 use Rattle.ld_facts.specs.declared.scan.Scan.{Scan}
 use Rattle.ld_held.specs.declared.interrupts.Interrupts.{Interrupts}
+use Rattle.ld_rules.specs.Flags.{last_said}
 use Rattle.ld_rules.specs.Frames.{task_of}
 use Rattle.ld_rules.specs.Held.{held_by}
 use Rattle.ld_held.specs.Inner.Interrupts.{fresh, levels_of, starts_of, states_of}
@@ -32,7 +33,7 @@ use Rattle.ld_facts.specs.declared.taking.Taking.TheVariants.{Nesting, Trying, W
 use Rattle.ld_facts.specs.Inner.Reading.{IsAt, IsTask, Start, acquisition, lock_held, named_hold}
 use Rattle.ld_facts.proofs.NamedLemmas.{holds-stay, holds-stay_within}
 use Rattle.ld_rules.proofs.PlaceLemmas.{alike_from_decides, any_each_once, by_pushes}
-use Rattle.ld_rules.proofs.FlagLemmas.{levels-other, stack-other, states-other}
+use Rattle.ld_rules.proofs.FlagLemmas.{last_said-other, levels-other, stack-other, states-other}
 use Rattle.ld_rules.proofs.GroupLemmas.{held_by-other_task, starts-kept}
 use Rattle.ld_rules.proofs.StepLemmas.{tasks-push}
 
@@ -70,16 +71,28 @@ pub tasks-AreDistinct : (past : List PlainEvent) → AreDistinctTasks (tasks pas
 tasks-AreDistinct past = by_pushes (λ xs. AreDistinctTasks (tasks xs)) (λ i j name at_i at_j. absurd (omega (arith, at_i.0)))
     (λ xs e rest. subst AreDistinctTasks (sym (tasks-push xs e)) (apart-with_name bytes_eq [] bytes_eq-Decides (tasks xs) (task_of e) rest)) past
 
--- a task without an event holds nothing, has no frame, and its flags are on
+-- a name has an event where it is among the tasks
+pub heard_of : (past : List PlainEvent) (name : List ℕ) (id : ℕ) → place_of_task (tasks past) name ≡ Some id → list_any (bytes_eq name) (map task_of past) ≡ true
+heard_of past name id known =
+    sym (any_each_once bytes_eq (alike_from_decides bytes_eq bytes_eq-Decides) name (map task_of past))
+    ∙ list_any-known bytes_eq [] bytes_eq-Decides (tasks past) name id known
+
+pub unheard_of : (past : List PlainEvent) (name : List ℕ) → place_of_task (tasks past) name ≡ None → list_any (bytes_eq name) (map task_of past) ≡ false
+unheard_of past name new =
+    sym (any_each_once bytes_eq (alike_from_decides bytes_eq bytes_eq-Decides) name (map task_of past))
+    ∙ list_any-new bytes_eq [] bytes_eq-Decides (tasks past) name new
+
+-- a task without an event holds nothing, has no frame, and its flags are on, of which nothing was said
 pub record IsUnheard (past : List PlainEvent) (name : List ℕ) : Type 0 where
   pub holds : held_by past name ≡ []
   pub frames : stack past name ≡ []
   pub flags : (state : State) → levels past name state ≡ true ∷ []
+  pub said : (state : State) → last_said past name state None ≡ None
 
 pub unheard : (past : List PlainEvent) (name : List ℕ) → place_of_task (tasks past) name ≡ None → IsUnheard past name
 unheard past name new =
-    by_pushes (λ xs. list_any (bytes_eq name) (map task_of xs) ≡ false → IsUnheard xs name) (λ _. record { holds = refl; frames = refl; flags = λ state. refl }) step past
-    (sym (any_each_once bytes_eq (alike_from_decides bytes_eq bytes_eq-Decides) name (map task_of past)) ∙ list_any-new bytes_eq [] bytes_eq-Decides (tasks past) name new)
+    by_pushes (λ xs. list_any (bytes_eq name) (map task_of xs) ≡ false → IsUnheard xs name) (λ _. record { holds = refl; frames = refl; flags = λ state. refl; said = λ state. refl }) step past
+    (unheard_of past name new)
   where
     step : (xs : List PlainEvent) (e : PlainEvent) → (list_any (bytes_eq name) (map task_of xs) ≡ false → IsUnheard xs name) → list_any
         (bytes_eq name) (map task_of (xs ++ e ∷ [])) ≡ false → IsUnheard (xs ++ e ∷ []) name
@@ -92,6 +105,7 @@ unheard past name new =
           holds = held_by-other_task xs name e other ∙ before.holds;
           frames = stack-other xs name e other ∙ before.frames;
           flags = λ state. levels-other xs e name state other ∙ before.flags state;
+          said = λ state. last_said-other xs e name state None other ∙ before.said state;
         }
 
 -- an event of another task leaves what the scan keeps of this one, also among more classes

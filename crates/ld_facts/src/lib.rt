@@ -2,15 +2,17 @@
 //! met interrupt handlers.
 #![tactic(auto)]
 
+mod bounds;
 mod known;
 mod reading;
 mod scan;
 mod stop;
 mod taking;
 
+pub use bounds::Mark;
 pub use known::Facts;
 pub use ld_held::EdgeFact;
 pub use ld_rules::{Listed, MOST_CLASSES, MOST_HELD, MOST_TASKS, Outcome, TraceFault, Witness};
 pub use ld_uses::UsageFact;
 pub use reading::{facts, read_into};
-pub use scan::{Mark, Scan};
+pub use scan::Scan;

@@ -4,11 +4,11 @@ ghost use Rattle.std.specs.Prelude.{length, map, slice_index_or, IfOk, OnOk};
 ghost use Rattle.ld_class.specs.Names.{place_of, place_of_task, plain_class, with_name, IsNameAt};
 ghost use Rattle.ld_class.specs.declared.names.TheConstants.{MOST_NAMES};
 ghost use Rattle.ld_trace.specs.Events.{Position, plain_event, plain_lock};
-ghost use Rattle.ld_trace.specs.Events.PlainEvent.{Disable, Enable, Enter, Exit, Release};
+ghost use Rattle.ld_trace.specs.Events.PlainEvent.{Begin, Disable, Enable, Enter, Exit, Release};
 ghost use Rattle.ld_held.specs.Inner.Interrupts.{fresh};
 ghost use Rattle.ld_rules.specs.Outcome.{event_fault, events};
 ghost use Rattle.ld_facts.specs.Inner.Reading.{AreMany, HasTask, IsAt, Start, acquisition, happens};
-ghost use Rattle.ld_facts.specs.Inner.Reading.{StandsOn, begun, empty_scan, own_names, taken, undone, waited};
+ghost use Rattle.ld_facts.specs.Inner.Reading.{StandsOn, empty_scan, own_names, taken, waited};
 ghost use Rattle.ld_uses.specs.Inner.Uses.{on_facts, with_use};
 ghost use Rattle.ld_rules.specs.declared.fault.TraceFault.{TraceFault};
 ghost use Rattle.ld_rules.specs.declared.outcome.TheConstants.{MOST_CLASSES, MOST_HELD, MOST_TASKS};
@@ -21,13 +21,6 @@ use ld_rules::{MOST_CLASSES, MOST_HELD, MOST_TASKS, TraceFault};
 use ld_trace::{Event, Lock, State};
 use ld_uses::{OwnClasses, Uses};
 use std::alloc::{AllocError, Global};
-
-/// How much a scan had when a trace began.
-#[derive(Clone, Copy)]
-pub struct Mark {
-    classes: usize,
-    uses: usize,
-}
 
 /// What the events of a trace so far leave, on top of what was there before them.
 #[derive(Drop)]
@@ -59,43 +52,6 @@ impl<'a> Scan<'a> {
         }
     }
 
-    /// Another trace begins, on top of what is there. The memory stays.
-    pub fn begin(&mut self) -> Mark
-        ensures begun { self.new ≡ begun self.old }
-        ensures mark { (result.classes ≡ length self.old.classes)
-            × (result.uses ≡ length self.old.uses) }
-    {
-        self.tasks.clear();
-        self.own.begin();
-        self.locks.begin();
-        Mark {
-            classes: self.classes.len(),
-            uses: self.uses.as_slice().len(),
-        }
-    }
-
-    /// Takes all away. The memory stays.
-    pub fn clear(&mut self)
-        ensures { self.new ≡ empty_scan }
-    {
-        self.tasks.clear();
-        self.classes.cut(0);
-        self.own.begin();
-        self.locks.clear();
-        self.uses.cut(0);
-    }
-
-    /// Takes back what the trace added that began at this mark.
-    pub fn undo(&mut self, mark: Mark)
-        ensures { self.new ≡ undone self.old mark.classes mark.uses }
-    {
-        self.tasks.clear();
-        self.classes.cut(mark.classes);
-        self.own.begin();
-        self.locks.undo();
-        self.uses.cut(mark.uses);
-    }
-
     /// One more event, at this line.
     pub fn step(&mut self, event: Event<'a>, line: u64) -> Result<(), Stop>
         requires many { AreMany self.old }
@@ -119,6 +75,7 @@ impl<'a> Scan<'a> {
             Event::Exit { task, state } => self.exit(task, state, line),
             Event::Enable { task, state } => self.enable(task, state, line),
             Event::Disable { task, state } => self.disable(task, state),
+            Event::Begin { task, hard, soft } => self.begin_task(task, hard, soft),
         }
     }
 
@@ -283,6 +240,27 @@ impl<'a> Scan<'a> {
     {
         let task = self.task(task)?;
         self.locks.set(task, state, Flag::Off);
+        Ok(())
+    }
+
+    /// The task's first event says its flags outside frames.
+    fn begin_task(&mut self, task: &'a [u8], hard: bool, soft: bool) -> Result<(), Stop>
+        requires many { AreMany self.old }
+        ensures many { OnOk result (AreMany self.new) }
+        ensures ok { OnOk result ((start : Start) (all : List Position) (line : ℕ) →
+            IsAt start all self.old →
+            IsAt start (all ++ happens line (Begin task.entry.now hard soft) ∷ []) self.new) }
+        ensures fault { (fault : TraceFault) → result ≡ Err (Stop.Fault fault) →
+            (start : Start) (all : List Position) → IsAt start all self.old →
+            event_fault (events all) (Begin task.entry.now hard soft) ≡ Some fault }
+        ensures first { StandsOn self.old self.new }
+    {
+        if self.tasks.find(task).is_some() {
+            return Err(Stop::Fault(TraceFault::LateBegin));
+        }
+        let task = self.task(task)?;
+        self.locks.set(task, State::Hard, Flag::of(hard));
+        self.locks.set(task, State::Soft, Flag::of(soft));
         Ok(())
     }
 

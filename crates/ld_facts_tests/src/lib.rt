@@ -7,4 +7,6 @@ mod batches;
 #[cfg(test)]
 mod nested;
 #[cfg(test)]
+mod starts;
+#[cfg(test)]
 mod tests;

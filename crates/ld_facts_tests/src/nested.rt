@@ -110,12 +110,12 @@ fn subclasses_are_as_many_classes_as_there_are(rt: HostRuntime) -> Result<(), Fa
 #[test]
 fn nested_acquisitions_are_as_deep_as_others(rt: HostRuntime) -> Result<(), Fail> {
     let mut text = String::new(rt.alloc());
-    for _ in 0..24 {
+    for _ in 0..48 {
         text.push_str("acquire t A\nnested t A 1\n")?;
     }
-    assert_read(&rt, text.as_bytes(), 48);
+    assert_read(&rt, text.as_bytes(), 96);
     assert_counts(&rt, text.as_bytes(), 2, 4);
     text.push_str("nested t A 2\n")?;
-    assert_refused(&rt, text.as_bytes(), 50, TraceFault::TooDeep);
+    assert_refused(&rt, text.as_bytes(), 98, TraceFault::TooDeep);
     Ok(())
 }

@@ -273,15 +273,15 @@ fn a_trace_has_8191_classes_at_most(rt: HostRuntime) -> Result<(), Fail> {
 }
 
 #[test]
-fn a_task_holds_48_locks_at_most(rt: HostRuntime) -> Result<(), Fail> {
+fn a_task_holds_96_locks_at_most(rt: HostRuntime) -> Result<(), Fail> {
     let mut text = String::new(rt.alloc());
-    for number in 1..=48 {
+    for number in 1..=96 {
         text.push_str(format!(in rt.alloc(); "acquire t c{number}\n")?.as_str())?;
     }
-    assert_read(&rt, text.as_bytes(), 48);
-    assert_counts(&rt, text.as_bytes(), 48, 1128);
-    text.push_str("acquire t c49\n")?;
-    assert_refused(&rt, text.as_bytes(), 50, TraceFault::TooDeep);
+    assert_read(&rt, text.as_bytes(), 96);
+    assert_counts(&rt, text.as_bytes(), 96, 4560);
+    text.push_str("acquire t c97\n")?;
+    assert_refused(&rt, text.as_bytes(), 98, TraceFault::TooDeep);
     Ok(())
 }
 

@@ -17,6 +17,13 @@ pub enum Flag {
 }
 
 impl Flag {
+    /// On where this is true.
+    pub fn of(on: bool) -> Flag
+        ensures { is_on result ≡ on }
+    {
+        if on { Flag::On } else { Flag::Off }
+    }
+
     fn is_on(self) -> bool
         ensures { result ≡ is_on self }
     {

@@ -114,17 +114,30 @@ violations 1
 #[test]
 fn a_refused_trace_gives_a_line_and_nothing_else(rt: HostRuntime) -> Result<(), Fail> {
     let mut stream = String::from_str(rt.alloc(), "trace deep\n")?;
-    for class in 1..=48u32 {
+    for class in 1..=49u32 {
+        writeln!(stream, "acquire t c{class}")?;
+    }
+    let mut read = stream.clone()?;
+    read.push_str("trace ok\nacquire t A\n")?;
+    assert_report(
+        &rt,
+        rt.alloc(),
+        read.as_bytes(),
+        b"traces 2 refused 0 events 50 classes 50 dependencies 1176\nclean\n",
+        0,
+    );
+
+    for class in 50..=96u32 {
         writeln!(stream, "acquire t c{class}")?;
     }
     let mut deep = stream.clone()?;
-    deep.push_str("acquire t c49\ntrace ok\nacquire t A\n")?;
+    deep.push_str("acquire t c97\ntrace ok\nacquire t A\n")?;
     assert_report(
         &rt,
         rt.alloc(),
         deep.as_bytes(),
         b"traces 2 refused 1 events 1 classes 1 dependencies 0
-refused deep line 50 TooDeep
+refused deep line 98 TooDeep
 clean
 ",
         3,
@@ -135,7 +148,7 @@ clean
         &rt,
         rt.alloc(),
         stream.as_bytes(),
-        b"traces 2 refused 0 events 49 classes 49 dependencies 1128\nclean\n",
+        b"traces 2 refused 0 events 97 classes 97 dependencies 4560\nclean\n",
         0,
     );
     Ok(())
@@ -159,6 +172,8 @@ fn refuses_a_trace_at_its_first_fault(rt: HostRuntime) -> Result<(), Fail> {
         ("acquire t A\nenter t soft\nrelease t A\n", 4, "NotHeld"),
         ("acquire t A\nrelease u A\n", 3, "NotHeld"),
         ("acquire t A\nacquire t B\nlock t C\n", 4, "BadVerb"),
+        ("begin t on\n", 2, "BadCount"),
+        ("begin t yes on\n", 2, "BadState"),
     ] {
         assert_refused(&rt, rt.alloc(), body, line, fault)?;
     }
@@ -179,6 +194,9 @@ fn refuses_a_trace_with_a_fault_of_its_frames(rt: HostRuntime) -> Result<(), Fai
         ("enter t hard\nacquire t A\nexit t hard\n", 4, "HeldAtExit"),
         ("enter t soft\nenable t soft\n", 3, "BadEnable"),
         ("enter t hard\nenable t hard\n", 3, "BadEnable"),
+        ("begin t off on\nenter t hard\n", 3, "Masked"),
+        ("acquire t A\nbegin t on on\n", 3, "LateBegin"),
+        ("begin t on on\nbegin t on on\n", 3, "LateBegin"),
     ] {
         assert_refused(&rt, rt.alloc(), body, line, fault)?;
     }
@@ -224,10 +242,10 @@ fn refuses_a_trace_with_too_many_classes_or_locks(rt: HostRuntime) -> Result<(),
     assert_refused(&rt, rt.alloc(), classes.as_str(), 16384, "TooManyClasses")?;
 
     let mut held = String::new(rt.alloc());
-    for class in 1..=49u32 {
+    for class in 1..=97u32 {
         writeln!(held, "acquire t c{class}")?;
     }
-    assert_refused(&rt, rt.alloc(), held.as_str(), 50, "TooDeep")
+    assert_refused(&rt, rt.alloc(), held.as_str(), 98, "TooDeep")
 }
 
 #[test]
@@ -268,6 +286,14 @@ fn accepts_what_has_no_fault(rt: HostRuntime) -> Result<(), Fail> {
         (
             "acquire t A@1\ntry t A@2\n",
             "events 2 classes 1 dependencies 0",
+        ),
+        (
+            "begin t off off\nenable t hard\nacquire t A\n",
+            "events 3 classes 1 dependencies 0",
+        ),
+        (
+            "acquire u A\nbegin t off off\nacquire t A\n",
+            "events 3 classes 1 dependencies 0",
         ),
     ] {
         assert_accepted(&rt, rt.alloc(), body, counts)?;

@@ -51,3 +51,12 @@ returns-in-Disable-clause-ok c = on_ok_weaker c.disable.result
 pub returns-in-Disable-clause-fault : goal.returns-in-Disable-clause-fault
 returns-in-Disable-clause-fault c fault is start all is_at =
     ap (λ e. event_fault (events all) (plain_event e)) c.in-Disable.is ∙ c.disable.ensures.fault fault is start all is_at
+
+pub returns-in-Begin-clause-ok : goal.returns-in-Begin-clause-ok
+returns-in-Begin-clause-ok c = on_ok_weaker c.begin_task.result
+    (λ h start all is_at. subst (λ e. IsAt start (all ++ happens c.args.line (plain_event e) ∷ []) c.begin_task.new.self) (sym c.in-Begin.is) (h start all c.args.line is_at))
+    c.begin_task.ensures.ok
+
+pub returns-in-Begin-clause-fault : goal.returns-in-Begin-clause-fault
+returns-in-Begin-clause-fault c fault is start all is_at =
+    ap (λ e. event_fault (events all) (plain_event e)) c.in-Begin.is ∙ c.begin_task.ensures.fault fault is start all is_at
