@@ -21,6 +21,12 @@ fn names(line: &[u8], event: Event<'_>) -> bool {
     read_event(line) == Ok(Some(event))
 }
 
+/// Whether it says that the task `t` starts with these flags.
+fn starts(line: &[u8], hard: bool, soft: bool) -> bool {
+    let task = b"t".as_slice();
+    names(line, Event::Begin { task, hard, soft })
+}
+
 /// This line with so many bytes `a` after it.
 fn with_letters(alloc: Global, line: &[u8], count: usize, end: &[u8]) -> Result<Vec<u8>, Fail> {
     let mut all = line.to_vec(alloc)?;
@@ -85,12 +91,10 @@ fn events_with_a_state_are_read(rt: HostRuntime) {
 
 #[test]
 fn flags_of_a_start_are_read(rt: HostRuntime) {
-    let task = b"t".as_slice();
-    let (on, off) = (true, false);
-    assert!(rt; names(b"begin t on on", Event::Begin { task, hard: on, soft: on }));
-    assert!(rt; names(b"begin t on off", Event::Begin { task, hard: on, soft: off }));
-    assert!(rt; names(b" begin\tt  off on ", Event::Begin { task, hard: off, soft: on }));
-    assert!(rt; names(b"begin t off off", Event::Begin { task, hard: off, soft: off }));
+    assert!(rt; starts(b"begin t on on", true, true));
+    assert!(rt; starts(b"begin t on off", true, false));
+    assert!(rt; starts(b" begin\tt  off on ", false, true));
+    assert!(rt; starts(b"begin t off off", false, false));
 }
 
 #[test]
