@@ -3,12 +3,13 @@ use Rattle.std.proofs.Common.{◌≡◌, ◌⊎◌, inl, inr, ◌<◌, ◌≤◌
 use Rattle.std.proofs.Common.{ap, ◌∙◌, sym, subst, arith, refl, length, get_or, if◌then◌else◌, IfSome}
 use Rattle.std.proofs.lemmas.Bool.{eqb-true, and_parts, cases_lt}
 use Rattle.std.proofs.lemmas.List.{get_or_push, get_or_append_left, length_push}
-use Rattle.std.proofs.lemmas.List.Sums.{fold_push}
-use Rattle.std.proofs.lemmas.Option.{get_or_from_slice_get}
+use Rattle.std.proofs.lemmas.List.Quantifiers.{position-Some}
 use Rattle.std.specs.Option.{option_eq}
-use Rattle.std.specs.List.{list_any, slice_get}
+use Rattle.std.proofs.lemmas.List.Folds.{list_any_at}
+use Rattle.std.proofs.lemmas.List.Sums.{fold_push, position_or_len_is}
+use Rattle.std.specs.List.{list_any, position, position_or_len}
 use Rattle.ld_held.specs.declared.chains.Link.{Link}
-use Rattle.ld_held.specs.Inner.Chains.{chain_before, chains_of, IsTree, same_link, with_link}
+use Rattle.ld_held.specs.Inner.Chains.{chain_before, chains_of, IsTree, same_link}
 use Rattle.ld_rules.proofs.PlaceLemmas.{by_pushes}
 
 same_before : (a b : Option ℕ) → option_eq nat_eq a b ≡ true → a ≡ b
@@ -97,29 +98,33 @@ chain_at links = by_pushes (λ xs. IsTree xs → (n : ℕ) (d : Link) → n < le
             ∙ ap (λ c. c ++ x.class ∷ []) (sym same)
             ∙ ap (λ (l : Link). chain_before (chains_of (xs ++ x ∷ [])) l.before ++ l.class ∷ []) (sym here)
 
--- the links with one that may be there already
-pub IsTree-with_link : (links : List Link) (link : Link) → IsTree links → IfSome link.before (λ m. m < length links) → IsTree (with_link links link)
-IsTree-with_link links link tree within = by (list_any (same_link link) links)
-  where
-    by : (b : Bool) → IsTree (if b then links else links ++ link ∷ [])
-    by true = tree
-    by false = IsTree-push links link tree within
+-- a chain that is found by its link
+module _ (links : List Link) (link : Link) (tree : IsTree links) where
+  pub found_within : (r : Option ℕ) → r ≡ position (same_link link) links → IfSome r (λ n. n < length (chains_of links))
+  found_within None is = tt
+  found_within (Some n) is = omega (arith, (position-Some (same_link link) links n link (sym is)).0, length-chains_of links)
 
--- what is there already, or is added, stands at the place that is found
-before-with_link : (links : List Link) (link : Link) → IfSome link.before (λ m. m < length (chains_of links)) → chain_before
-    (chains_of (with_link links link)) link.before ≡ chain_before (chains_of links) link.before
-before-with_link links link within = by (list_any (same_link link) links)
-  where
-    by : (b : Bool) → chain_before (chains_of (if b then links else links ++ link ∷ [])) link.before ≡ chain_before (chains_of links) link.before
-    by true = refl
-    by false = ap (λ cs. chain_before cs link.before) (chains-push links link) ∙ before-push (chains_of links) (chain_before (chains_of links) link.before ++ link.class ∷ []) link.before within
+  pub found_chain : (r : Option ℕ) → r ≡ position (same_link link) links → IfSome r (λ n. get_or (chains_of links) n []
+      ≡ chain_before (chains_of links) link.before ++ link.class ∷ [])
+  found_chain None is = tt
+  found_chain (Some n) is =
+      let at = position-Some (same_link link) links n link (sym is) in
+      chain_at links tree n link at.0
+      ∙ ap (λ (l : Link). chain_before (chains_of links) l.before ++ l.class ∷ []) (sym (same_link-≡ link (get_or links n link) at.1))
 
-pub chain_found : (links : List Link) (link found : Link) (n : ℕ) → IsTree links → IfSome link.before (λ m. m < length (chains_of links)) → slice_get
-    (with_link links link) n ≡ Some found → same_link link found ≡ true → n < length (with_link links link) → get_or
-    (chains_of (with_link links link)) n [] ≡ chain_before (chains_of links) link.before ++ link.class ∷ []
-chain_found links link found n tree within is same inside =
-    let number : IfSome link.before (λ m. m < length links) = subst (λ k. IfSome link.before (λ m. m < k)) (length-chains_of links) within in
-    let here : get_or (with_link links link) n link ≡ link = get_or_from_slice_get (with_link links link) n found link is ∙ sym (same_link-≡ link found same) in
-    chain_at (with_link links link) (IsTree-with_link links link tree number) n link inside
-    ∙ ap (λ (l : Link). chain_before (chains_of (with_link links link)) l.before ++ l.class ∷ []) here
-    ∙ ap (λ c. c ++ link.class ∷ []) (before-with_link links link within)
+-- one more chain is that before it with its class
+pub chain_last : (links : List Link) (link : Link) → get_or (chains_of (links ++ link ∷ [])) (length links) [] ≡ chain_before (chains_of links) link.before ++ link.class ∷ []
+chain_last links link = ap (λ cs. get_or cs (length links) []) (chains-push links link)
+    ∙ get_or_push (chains_of links) (chain_before (chains_of links) link.before ++ link.class ∷ []) [] (length links) (length-chains_of links)
+
+-- a chain that isn't there yet is put last
+module _ (links : List Link) (link : Link) (none : list_any (same_link link) links ≡ false) where
+  pub new_place : position_or_len (same_link link) links ≡ length links
+  new_place = position_or_len_is (same_link link) links (length links) link (omega arith) (λ k within. by k within (same_link link (get_or links k link)) refl) (λ past. absurd (omega (arith, past)))
+    where
+      by : (k : ℕ) → k < length links → (b : Bool) → same_link link (get_or links k link) ≡ b → b ≡ false
+      by k within true same = absurd (true≢false (sym (list_any_at (same_link link) links k link within same) ∙ none))
+      by k within false _ = refl
+
+  pub new_keys : (after : List Link) → after ≡ (if list_any (same_link link) links then links else links ++ link ∷ []) → after ≡ links ++ link ∷ []
+  new_keys after is = is ∙ ap (λ (b : Bool). if b then links else links ++ link ∷ []) none

@@ -4,3 +4,4 @@ pub mod EdgeLemmas
 pub mod LockLemmas
 pub mod FirstLemmas
 pub mod BegunLemmas
+pub mod NumberedLemmas

@@ -1,11 +1,11 @@
 -- Stacks, chains and what was told.
 use Rattle.std.proofs.Common.{◌≡◌, ◌<◌, ◌≤◌, ◌+◌, ◌-◌, ◌||◌, ◌++◌, ◌∷◌, [], List, ℕ, zero, suc, Bool, true, false, map, length, take, drop, remove}
 use Rattle.std.proofs.Common.{get_or, set, fold, Option, Some, None, IfSome, Result, Ok, Err, OnOk, OnErr, refl, ap, sym, subst, ◌∙◌, ◌⊎◌, inl, inr}
-use Rattle.std.proofs.Common.{arith, if◌then◌else◌, eqb}
-use Rattle.std.proofs.lemmas.Bool.{and_parts, and_from, or_left, or_right, eq-eqb, cases_lt, cases_eq}
+use Rattle.std.proofs.Common.{arith, if◌then◌else◌, eqb, nat_eq}
+use Rattle.std.proofs.lemmas.Bool.{and_parts, and_from, or_left, or_right, eq-eqb, eqb-true, cases_lt, cases_eq}
 use Rattle.std.proofs.Math.ListN.{get_or-map}
 use Rattle.std.proofs.Math.Seq.{take-add}
-use Rattle.std.proofs.lemmas.List.{append-nil, map-append, length-map, length-set, length_push, get_or_push, get_or_append_left, drop-append-le}
+use Rattle.std.proofs.lemmas.List.{append-nil, map-append, length-map, length-set, length_push, get_or_push, get_or_append_left, same_from_push, drop-append-le}
 use Rattle.std.proofs.lemmas.List.{take-append-le, take-append-drop, take_all, length-append, length-take-le, append_assoc, length-drop, drop-drop}
 use Rattle.std.proofs.lemmas.List.{drop-map, drop-take, drop_all, get_or-take, take-take, take-map, set-get_or, set-set, map-set}
 use Rattle.std.proofs.lemmas.List.{get_or-set_same, get_or-set_other}
@@ -14,9 +14,8 @@ use Rattle.std.proofs.lemmas.List.Elements.{All-push, All-weaker}
 use Rattle.std.proofs.lemmas.Simd.{map-map}
 use Rattle.std.specs.List.{All, last_or, list_all, list_any}
 use Rattle.ld_class.proofs.Mapped.{list_any-map}
-use Rattle.ld_held.specs.declared.chains.Link.{Link}
 use Rattle.ld_held.specs.declared.edges.EdgeFact.{EdgeFact}
-use Rattle.ld_held.specs.Inner.Chains.{chain_before, same_link, with_link}
+use Rattle.ld_held.specs.Inner.Chains.{chain_before}
 use Rattle.ld_held.specs.Inner.Edges.{same_pair, edge_to, with_edge_fact}
 use Rattle.ld_held.specs.declared.held.Held.{Held}
 use Rattle.ld_trace.specs.Events.{PlainLock}
@@ -30,7 +29,6 @@ use Rattle.ld_held.specs.Inner.Locks.{chain_of, IsChain, AreChainedBelow, AreCha
 use Rattle.ld_rules.proofs.OpenLemmas.{remove_last-none}
 use Rattle.ld_rules.proofs.RemoveLemmas.{map-remove_last}
 use Rattle.ld_rules.proofs.PlaceLemmas.{by_pushes, last_or-push}
-use Rattle.ld_held.proofs.ChainLemmas.{same_link-≡}
 use Rattle.ld_rules.proofs.UsageLemmas.{list_all_mono}
 
 -- what is there stays as more are added
@@ -82,19 +80,10 @@ IsChain-kept a b n chain h is = (let x = h.more in let y = is.0 in omega arith, 
 pub AreChainedBelow-kept : (a b : List (List ℕ)) (stack : List PlainHeld) (n : ℕ) → IsExtended a b → AreChainedBelow a stack n → AreChainedBelow b stack n
 AreChainedBelow-kept a b stack n h are i d below within = IsChain-kept a b (get_or stack i d).chain (take (i + 1) (classes_held stack)) h (are i d below within)
 
-before_kept : (a b : List (List ℕ)) (before : Option ℕ) → IsExtended a b → IfSome before (λ n. n < length a) → chain_before b before ≡ chain_before a before
-before_kept a b None h within = refl
-before_kept a b (Some n) h within = h.kept n within
-
-within_kept : (a b : List (List ℕ)) (before : Option ℕ) → IsExtended a b → IfSome before (λ n. n < length a) → IfSome before (λ n. n < length b)
-within_kept a b None h within = within
-within_kept a b (Some n) h within = let x = h.more in omega arith
-
-pub HasItsEdges-kept : (a b : List (List ℕ)) (edges : List EdgeFact) (link : Link) → IsExtended a b → HasItsEdges a edges link → HasItsEdges b edges link
-HasItsEdges-kept a b edges link h is = record {
-  known = within_kept a b link.before h is.known;
-  told = ap
-      (list_all (λ from. list_any (same_pair (edge_to link.class 0 from)) edges)) (before_kept a b link.before h is.known) ∙ is.told;
+pub HasItsEdges-kept : (a b : List (List ℕ)) (edges : List EdgeFact) (number : ℕ) → IsExtended a b → HasItsEdges a edges number → HasItsEdges b edges number
+HasItsEdges-kept a b edges number h is = record {
+  known = let x = h.more in let y = is.known in omega arith;
+  told = λ froms class last. is.told froms class (sym (h.kept number is.known) ∙ last);
 }
 
 -- the chain of a stack
@@ -240,18 +229,6 @@ get_or_push_same [] d (suc i) = refl
 get_or_push_same (x ∷ xs) d zero = refl
 get_or_push_same (x ∷ xs) d (suc i) = get_or_push_same xs d i
 
-link_told : (P : Link → Type 0) (links : List Link) (link : Link) → All P links → list_any (same_link link) links ≡ true → P link
-link_told P links link all there =
-    let found = Any-from_list_any (same_link link) links there in
-    subst P (sym (same_link-≡ link found.1 found.4)) (subst P found.3 (all found.0 found.1 found.2))
-
-All-with_link : (P : Link → Type 0) (links : List Link) (link : Link) → All P links → P link → All P (with_link links link)
-All-with_link P links link all here = by (list_any (same_link link) links)
-  where
-    by : (b : Bool) → All P (if b then links else links ++ link ∷ [])
-    by true = all
-    by false = All-push P links link all here
-
 -- what callers see of a task
 
 pub holds_at : (stacks : List PlainStack) (task : ℕ) → get_or (map (λ (s : PlainStack). map hold_of s.held) stacks) task [] ≡ map hold_of (get_or stacks task empty_stack).held
@@ -267,7 +244,7 @@ inner_at stacks task =
     (λ i. drop (start_now (interrupts_at stacks task i)) (holds_at stacks task i))
     ∙ drop-map hold_of (start_now (get_or stacks task empty_stack).interrupts) (get_or stacks task empty_stack).held
 
-module _ (stacks : List PlainStack) (chains : List (List ℕ)) (told : List Link) (edges : List EdgeFact) (tied : AreTied stacks chains told edges) where
+module _ (stacks : List PlainStack) (chains : List (List ℕ)) (told : List ℕ) (edges : List EdgeFact) (tied : AreTied stacks chains told edges) where
   -- one more task
   pub tied_grown : {E : Type 0} (r : Result (Unit {0}) E) (new : List PlainStack) → OnOk r (new ≡ stacks ++ empty_stack ∷ []) → OnErr r (new ≡ stacks) → AreTied new chains told edges
   tied_grown (Ok u) new grown _ = record {
@@ -281,12 +258,12 @@ module _ (stacks : List PlainStack) (chains : List (List ℕ)) (told : List Link
   pub tied_more : (new : List EdgeFact) → ((test : EdgeFact → Bool) → list_any test edges ≡ true → list_any test new ≡ true) → AreTied stacks chains told new
   tied_more new kept = record {
     chained = tied.chained;
-    complete = All-weaker (λ link. HasItsEdges chains edges link) (λ link. HasItsEdges chains new link)
-        (λ link is. record {
+    complete = All-weaker (λ number. HasItsEdges chains edges number) (λ number. HasItsEdges chains new number)
+        (λ number is. record {
           known = is.known;
-          told = list_all_mono (λ from. list_any (same_pair (edge_to link.class 0 from)) edges)
-              (λ from. list_any (same_pair (edge_to link.class 0 from)) new) (λ from there. kept (same_pair (edge_to link.class 0 from)) there)
-              (chain_before chains link.before) is.told;
+          told = λ froms class last. list_all_mono (λ from. list_any (same_pair (edge_to class 0 from)) edges)
+              (λ from. list_any (same_pair (edge_to class 0 from)) new) (λ from there. kept (same_pair (edge_to class 0 from)) there)
+              froms (is.told froms class last);
         }) told tied.complete;
   }
 
@@ -299,11 +276,11 @@ module _ (stacks : List PlainStack) (chains : List (List ℕ)) (told : List Link
   numbered task = chain_of_is chains (inner (get_or stacks task empty_stack)) (AreChainedIn-inner chains (get_or stacks task empty_stack).held
       (starts_of (get_or stacks task empty_stack).interrupts) (tied.chained task))
 
-  -- a waiting acquisition that was told tells nothing new
-  pub known_told : {begun : List EdgeFact} (known : HeldByTasks) → held_by_tasks stacks edges begun ≡ known → (task class line : ℕ) (before : Option ℕ) → before ≡ chain_of
-      (inner (get_or stacks task empty_stack)) → list_any (same_link (record { before = before; class = class })) told ≡ true → known ≡ record known
+  -- a chain that was told tells nothing new
+  pub known_told : {begun : List EdgeFact} (known : HeldByTasks) → held_by_tasks stacks edges begun ≡ known → (task class line number : ℕ) →
+      get_or chains number [] ≡ classes_held (inner (get_or stacks task empty_stack)) ++ class ∷ [] → list_any (nat_eq number) told ≡ true → known ≡ record known
       { edges = fold with_edge_fact known.edges (map (edge_to class line) (map (λ (h : Hold). h.class) (drop (start_now (get_or known.interrupts task fresh)) (get_or known.stacks task [])))) }
-  known_told {begun} known is task class line before at there =
+  known_told {begun} known is task class line number at there =
       subst (λ (k : HeldByTasks). k ≡ record k {
         edges = fold with_edge_fact k.edges
             (map (edge_to class line) (map (λ (h : Hold). h.class) (drop (start_now (get_or k.interrupts task fresh)) (get_or k.stacks task []))));
@@ -314,42 +291,43 @@ module _ (stacks : List PlainStack) (chains : List (List ℕ)) (told : List Link
           (get_or (held_by_tasks stacks edges begun).stacks task [])) ≡ classes_held (inner (get_or stacks task empty_stack))
       froms = ap (map (λ (h : Hold). h.class)) (inner_at stacks task) ∙ map-map (λ (h : Hold). h.class) hold_of (inner (get_or stacks task empty_stack))
 
-      is_told : HasItsEdges chains edges (record { before = before; class = class })
-      is_told = link_told (λ link. HasItsEdges chains edges link) told (record { before = before; class = class }) tied.complete there
+      is_told : HasItsEdges chains edges number
+      is_told =
+          let found = Any-from_list_any (nat_eq number) told there in
+          subst (HasItsEdges chains edges) (sym (eqb-true number found.1 found.4)) (subst (HasItsEdges chains edges) found.3 (tied.complete found.0 found.1 found.2))
 
       all : fold with_edge_fact edges (map (edge_to class line) (map (λ (h : Hold). h.class)
           (drop (start_now (get_or (held_by_tasks stacks edges begun).interrupts task fresh)) (get_or (held_by_tasks stacks edges begun).stacks task [])))) ≡ edges
-      all = ap (λ fs. fold with_edge_fact edges (map (edge_to class line) fs)) (froms ∙ sym (numbered task).chain ∙ ap (chain_before chains) (sym at)) ∙
-          none_new class line edges (chain_before chains before) is_told.told
+      all = ap (λ fs. fold with_edge_fact edges (map (edge_to class line) fs)) froms ∙
+          none_new class line edges (classes_held (inner (get_or stacks task empty_stack))) (is_told.told (classes_held (inner (get_or stacks task empty_stack))) class at)
 
   -- one that was told just now
-  pub tied_told : {E : Type 0} (r : Result (Unit {0}) E) (task class line : ℕ) (before : Option ℕ) (new : List EdgeFact) (links : List Link) →
-      before ≡ chain_of (inner (get_or stacks task empty_stack)) → new ≡ fold with_edge_fact edges
-      (map (edge_to class line) (classes_held (inner (get_or stacks task empty_stack)))) → OnOk r
-      (links ≡ with_link told (record { before = before; class = class })) → OnErr r (links ≡ told) → AreTied stacks chains links new
-  tied_told r task class line before new links at is = by r
+  pub told_now : (froms : List ℕ) (class line number : ℕ) (new : List EdgeFact) → number < length chains → get_or chains number [] ≡ froms ++ class ∷ [] →
+      new ≡ fold with_edge_fact edges (map (edge_to class line) froms) → HasItsEdges chains new number
+  told_now froms class line number new within at is = record {
+    known = within;
+    told = λ others last same.
+        let parts = same_from_push froms others class last (sym at ∙ same) in
+        ap (λ fs. list_all (λ from. list_any (same_pair (edge_to last 0 from)) new) fs) (sym parts.0)
+        ∙ ap (λ c. list_all (λ from. list_any (same_pair (edge_to c 0 from)) new) froms) (sym parts.1)
+        ∙ ap (λ es. list_all (λ from. list_any (same_pair (edge_to class 0 from)) es) froms) is
+        ∙ all_told class line edges froms;
+  }
+
+  pub tied_told : {E : Type 0} (r : Result (Unit {0}) E) (number : ℕ) (numbers : List ℕ) → HasItsEdges chains edges number →
+      OnOk r (numbers ≡ told ++ number ∷ []) → OnErr r (numbers ≡ told) → AreTied stacks chains numbers edges
+  tied_told r number numbers here = by r
     where
-      more : AreTied stacks chains told new
-      more = tied_more new (λ test there. ap (list_any test) is ∙ told_keeps test edges (map (edge_to class line) (classes_held (inner (get_or stacks task empty_stack)))) there)
-
-      here : HasItsEdges chains new (record { before = before; class = class })
-      here = record {
-        known = subst (λ o. IfSome o (λ n. n < length chains)) (sym at) (numbered task).known;
-        told = ap (λ fs. list_all (λ from. list_any (same_pair (edge_to class 0 from)) new) fs) (ap (chain_before chains) at ∙ (numbered task).chain)
-            ∙ ap (λ es. list_all (λ from. list_any (same_pair (edge_to class 0 from)) es) (classes_held (inner (get_or stacks task empty_stack)))) is
-            ∙ all_told class line edges (classes_held (inner (get_or stacks task empty_stack)));
-      }
-
-      by : {E : Type 0} (r : Result (Unit {0}) E) → OnOk r (links ≡ with_link told (record { before = before; class = class })) → OnErr r (links ≡ told) → AreTied stacks chains links new
-      by (Ok u) noted _ = subst (λ ls. AreTied stacks chains ls new) (sym noted)
-          (record { chained = tied.chained; complete = All-with_link (λ link. HasItsEdges chains new link) told (record { before = before; class = class }) more.complete here })
-      by (Err e) _ refused = subst (λ ls. AreTied stacks chains ls new) (sym refused) more
+      by : {E : Type 0} (r : Result (Unit {0}) E) → OnOk r (numbers ≡ told ++ number ∷ []) → OnErr r (numbers ≡ told) → AreTied stacks chains numbers edges
+      by (Ok u) noted _ = subst (λ ns. AreTied stacks chains ns edges) (sym noted)
+          (record { chained = tied.chained; complete = All-push (λ n. HasItsEdges chains edges n) told number tied.complete here })
+      by (Err e) _ refused = subst (λ ns. AreTied stacks chains ns edges) (sym refused) tied
 
   -- more chains
   pub tied_extended : (more : List (List ℕ)) → IsExtended chains more → AreTied stacks more told edges
   tied_extended more extended = record {
     chained = λ k. AreChainedIn-kept chains more (get_or stacks k empty_stack).held (starts_of (get_or stacks k empty_stack).interrupts) extended (tied.chained k);
-    complete = All-weaker (λ link. HasItsEdges chains edges link) (λ link. HasItsEdges more edges link) (λ link is. HasItsEdges-kept chains more edges link extended is) told tied.complete;
+    complete = All-weaker (λ number. HasItsEdges chains edges number) (λ number. HasItsEdges more edges number) (λ number is. HasItsEdges-kept chains more edges number extended is) told tied.complete;
   }
 
   -- another stack of a task
@@ -372,15 +350,14 @@ module _ (stacks : List PlainStack) (chains : List (List ℕ)) (told : List Link
       (AreChainedIn-front chains (get_or stacks task empty_stack).held place (starts_of (get_or stacks task empty_stack).interrupts) low high (tied.chained task))
 
 -- the task holds one more lock, whose chain is that of the innermost frame with its class
-pub tied_push : (stacks : List PlainStack) (chains : List (List ℕ)) (told : List Link) (edges : List EdgeFact) → AreTied stacks chains told edges →
-    (task : ℕ) (held : PlainHeld) (before : Option ℕ) → task < length stacks → (more : List (List ℕ)) → IsExtended chains more → before ≡ chain_of
-    (inner (get_or stacks task empty_stack)) → held.chain < length more → get_or more held.chain [] ≡ chain_before chains before ++ held.class ∷ [] →
+pub tied_push : (stacks : List PlainStack) (chains : List (List ℕ)) (told : List ℕ) (edges : List EdgeFact) → AreTied stacks chains told edges →
+    (task : ℕ) (held : PlainHeld) → task < length stacks → (more : List (List ℕ)) → IsExtended chains more → held.chain < length more →
+    get_or more held.chain [] ≡ classes_held (inner (get_or stacks task empty_stack)) ++ held.class ∷ [] →
     AreTied (set stacks task (record (get_or stacks task empty_stack) { held = (get_or stacks task empty_stack).held ++ held ∷ [] })) more told edges
-tied_push stacks chains told edges tied task held before within more extended at known is =
+tied_push stacks chains told edges tied task held within more extended known is =
     let tied_more : AreTied stacks more told edges = tied_extended stacks chains told edges tied more extended in
     tied_set stacks more told edges tied_more task (record (get_or stacks task empty_stack) { held = (get_or stacks task empty_stack).held ++ held ∷ [] }) within
-    (AreChainedIn-push more (get_or stacks task empty_stack).held held (starts_of (get_or stacks task empty_stack).interrupts) (tied_more.chained task)
-    (known, is ∙ ap (λ c. c ++ held.class ∷ []) (ap (chain_before chains) at ∙ (numbered stacks chains told edges tied task).chain)))
+    (AreChainedIn-push more (get_or stacks task empty_stack).held held (starts_of (get_or stacks task empty_stack).interrupts) (tied_more.chained task) (known, is))
 
 -- a waiting acquisition that tells its dependencies, as callers see it
 pub told_shown : {E : Type 0} {begun after : List EdgeFact} (r : Result (Unit {0}) E) (stacks : List PlainStack) (edges : List EdgeFact) (known : HeldByTasks) (task class line : ℕ)
@@ -476,7 +453,7 @@ shown_moved {begun} stacks edges known task is interrupts =
 module _ (stacks : List PlainStack) (task : ℕ) (interrupts : Interrupts) (after : List PlainStack)
     (is : after ≡ set stacks task (record (get_or stacks task empty_stack) { interrupts = interrupts })) where
   -- what the fields say of them
-  pub tied_moved : (chains : List (List ℕ)) (told : List Link) (edges : List EdgeFact) → AreTied stacks chains told edges → task < length stacks →
+  pub tied_moved : (chains : List (List ℕ)) (told : List ℕ) (edges : List EdgeFact) → AreTied stacks chains told edges → task < length stacks →
       AreChainedIn chains (get_or stacks task empty_stack).held (starts_of interrupts) → AreTied after chains told edges
   tied_moved chains told edges tied within are =
       subst (λ ss. AreTied ss chains told edges) (sym is)
@@ -591,3 +568,14 @@ hold_gone lock stack start place is =
     ∙ map-append hold_of (take start stack) (remove (drop start stack) place)
     ∙ (λ i. sym (take-map hold_of start stack) i ++ map hold_of (is i))
     ∙ ap (λ hs. take start (map hold_of stack) ++ hs) (map-remove_last hold_of (is_of lock) (drop start stack) ∙ ap (remove_last (is_of lock)) (sym (drop-map hold_of start stack)))
+
+-- the innermost frame's locks as they lie in memory: their classes, and the number of their chain
+pub classes_shown : (stack : PlainStack) (held : List Held) → map plain_held held ≡ inner stack → map (λ (h : Held). h.class) held ≡ classes_held (inner stack)
+classes_shown stack held same = sym (map-map (λ (h : PlainHeld). h.class) plain_held held) ∙ ap classes_held same
+
+pub numbered_as : (chains : List (List ℕ)) (stack : PlainStack) (held : List Held) → map plain_held held ≡ inner stack → IsNumbered chains (inner stack) →
+    IfSome (chain_of (map plain_held held)) (λ n. n < length chains) × (chain_before chains (chain_of (map plain_held held)) ≡ map (λ (h : Held). h.class) held)
+numbered_as chains stack held same is = (
+  subst (λ hs. IfSome (chain_of hs) (λ n. n < length chains)) (sym same) is.known,
+  ap (λ hs. chain_before chains (chain_of hs)) same ∙ is.chain ∙ sym (classes_shown stack held same),
+)

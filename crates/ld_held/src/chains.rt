@@ -1,8 +1,8 @@
 //! Chains of classes: the lists of the classes that a task holds in a frame, in order of acquisition.
-ghost use Rattle.std.specs.Prelude.{◌≡◌, ◌<◌, ◌≤◌, ℕ, [], ◌∷◌, ◌++◌, length, slice_index_or, take, IfOk};
-ghost use Rattle.std.specs.Prelude.{IfSome, OnErr, OnOk};
+ghost use Rattle.std.specs.Prelude.{◌≡◌, ◌<◌, ℕ, [], ◌∷◌, ◌++◌, false, length, slice_index_or, IfNone};
+ghost use Rattle.std.specs.Prelude.{IfOk, IfSome, None, OnErr, OnOk, option_map};
 ghost use Rattle.std.specs.List.{list_any};
-ghost use Rattle.ld_held.specs.Inner.Chains.{chain_before, same_link, with_link};
+ghost use Rattle.ld_held.specs.Inner.Chains.{KeptChains, chain_before, chains_of, same_link};
 
 use indexmap::IndexSet;
 use std::alloc::{AllocError, Global};
@@ -16,105 +16,107 @@ pub struct Link {
     pub class: u32,
 }
 
+/// How many numbers of pairs are kept with the chains at most, but for those of one chain.
+const MOST_KEPT: usize = 1 << 19;
+
 /// The chains that were met, each once. They are the nodes of a tree, and are numbered from 0.
 #[derive(Drop)]
 pub struct Chains {
     links: IndexSet<Link>,
+    /// By the number of a chain, the numbers of the pairs from each class before its last one to that.
+    /// `None` where there was no room for them.
+    numbers: Vec<Option<Vec<usize>>>,
+    /// How many numbers are kept.
+    kept: usize,
 }
 
 impl Model for Chains {
-    ghost use Rattle.std.specs.Prelude.{ℕ, List};
-    ghost use Rattle.ld_held.specs.Inner.Chains.{chains_of, IsTree};
+    ghost use Rattle.std.specs.Prelude.{map, option_map};
+    ghost use Rattle.ld_held.specs.Inner.Chains.{AreKept, KeptChains};
 
-    ghost Value = { List (List ℕ) };
+    ghost Value = { KeptChains };
 
-    ghost view = { λ c. chains_of c.links.keys };
+    ghost view = { λ c. record {
+      links = c.links.keys;
+      numbers = map (option_map (λ numbers. numbers.items)) c.numbers.items;
+    } };
 
-    ghost invariant = { λ c. IsTree c.links.keys };
+    ghost invariant = { λ c. AreKept (record {
+      links = c.links.keys;
+      numbers = map (option_map (λ numbers. numbers.items)) c.numbers.items;
+    }) };
 }
 
 impl Chains {
     pub fn new(alloc: Global) -> Chains
-        ensures { result ≡ [] }
+        ensures { result ≡ record { links = []; numbers = [] } }
     {
         Chains {
             links: IndexSet::new(alloc),
+            numbers: Vec::new(alloc),
+            kept: 0,
         }
     }
 
     /// Takes all chains away. The memory stays.
     pub fn clear(&mut self)
-        ensures { self.new ≡ [] }
+        ensures { self.new ≡ record { links = []; numbers = [] } }
     {
         self.links.truncate(0);
+        self.numbers.clear();
+        self.kept = 0;
     }
 
-    /// The number of the chain with one more class.
-    pub fn extend(&mut self, before: Option<usize>, class: u32) -> Result<usize, AllocError>
-        requires { IfSome before (λ n. n < length self.old) }
-        ensures chain { IfOk result (λ n.
-            slice_index_or self.new n [] ≡ chain_before self.old before ++ class ∷ []) }
-        ensures number { IfOk result (λ n. n < length self.new) }
-        ensures more { length self.old ≤ length self.new }
-        ensures kept { (n : ℕ) → n < length self.old
-            → slice_index_or self.new n [] ≡ slice_index_or self.old n [] }
+    /// Whether there is room to keep more numbers of pairs.
+    pub fn has_room(&self) -> bool {
+        self.kept < MOST_KEPT
+    }
+
+    /// The number of a chain, or `None` where it wasn't met.
+    pub fn find(&self, link: Link) -> Option<usize>
+        requires { IfSome link.before (λ n. n < length (chains_of self.now.links)) }
+        ensures many { length self.now.numbers ≡ length self.now.links }
+        ensures none { IfNone result (list_any (same_link link) self.now.links ≡ false) }
+        ensures within { IfSome result (λ n. n < length (chains_of self.now.links)) }
+        ensures chain { IfSome result (λ n. slice_index_or (chains_of self.now.links) n []
+            ≡ chain_before (chains_of self.now.links) link.before ++ link.class ∷ []) }
     {
-        let (number, _) = self.links.insert_full(Link { before, class })?;
-        Ok(number)
-    }
-}
-
-/// Which waiting acquisitions had their dependencies told: after each chain, the class acquired.
-#[derive(Drop)]
-pub struct Told {
-    links: IndexSet<Link>,
-}
-
-impl Model for Told {
-    ghost use Rattle.std.specs.Prelude.{List};
-    ghost use Rattle.ld_held.specs.declared.chains.Link.{Link};
-
-    ghost Value = { List Link };
-
-    ghost view = { λ t. t.links.keys };
-}
-
-impl Told {
-    pub fn new(alloc: Global) -> Told
-        ensures { result ≡ [] }
-    {
-        Told {
-            links: IndexSet::new(alloc),
-        }
+        self.links.get_index_of(&link)
     }
 
-    /// Whether the dependencies of this acquisition are told.
-    pub fn has(&self, link: Link) -> bool
-        ensures { result ≡ list_any (same_link link) self.now }
-    {
-        self.links.contains(&link)
-    }
-
-    /// Notes that the dependencies of this acquisition are told.
-    pub fn note(&mut self, link: Link) -> Result<(), AllocError>
-        ensures noted { OnOk result (self.new ≡ with_link self.old link) }
+    /// Adds a chain that wasn't met, with the numbers of its pairs, and answers its number.
+    pub fn add(&mut self, link: Link, numbers: Option<Vec<usize>>) -> Result<usize, AllocError>
+        requires before { IfSome link.before (λ n. n < length (chains_of self.old.links)) }
+        requires new { list_any (same_link link) self.old.links ≡ false }
+        ensures number { IfOk result (λ n. n ≡ length self.old.links) }
+        ensures links { OnOk result (self.new.links ≡ self.old.links ++ link ∷ []) }
+        ensures numbers { OnOk result (self.new.numbers
+            ≡ self.old.numbers ++ option_map (λ kept. kept.items) numbers ∷ []) }
         ensures refused { OnErr result (self.new ≡ self.old) }
     {
-        self.links.insert(link)?;
-        Ok(())
+        let count = match &numbers {
+            Some(numbers) => numbers.len(),
+            None => 0,
+        };
+        self.numbers.reserve(1)?;
+        let (number, _) = self.links.insert_full(link)?;
+        self.kept = self.kept.saturating_add(count);
+        if self.numbers.push(numbers).is_err() {
+            unreachable!();
+        }
+        Ok(number)
     }
 
-    /// How many there are.
-    pub fn len(&self) -> usize
-        ensures { result ≡ length self.now }
+    /// The numbers of the pairs from each class before the last one of this chain to that, where they
+    /// are kept.
+    pub fn numbers(&self, number: usize) -> Option<&[usize]>
+        requires { number < length (chains_of self.now.links) }
+        ensures { option_map (λ numbers. numbers.now) result
+            ≡ slice_index_or self.now.numbers number None }
     {
-        self.links.len()
-    }
-
-    /// Keeps the first `count` of them.
-    pub fn cut(&mut self, count: usize)
-        ensures { self.new ≡ take count self.old }
-    {
-        self.links.truncate(count);
+        match &self.numbers[number] {
+            Some(numbers) => Some(numbers.as_slice()),
+            None => None,
+        }
     }
 }

@@ -1,10 +1,13 @@
-//! The dependencies of a trace between numbered classes.
-ghost use Rattle.std.specs.Prelude.{◌≡◌, Bool, true, [], fold, length, map, take, OnErr, OnOk};
+//! The dependencies between numbered classes.
+ghost use Rattle.std.specs.Prelude.{◌≡◌, ◌<◌, Bool, true, [], All, fold, length, map, take, IfOk};
+ghost use Rattle.std.specs.Prelude.{IfSome, OnErr, OnOk};
 ghost use Rattle.std.specs.List.{list_any};
-ghost use Rattle.ld_held.specs.Inner.Edges.{edge_to, with_edge_fact};
+ghost use Rattle.ld_held.specs.Inner.Edges.{AreMore, AreNumbers, edge_at, edge_to, pair_at};
+ghost use Rattle.ld_held.specs.Inner.Edges.{with_edge_fact};
 
 use crate::held::Held;
 use indexmap::IndexSet;
+use ld_numbers::Numbers;
 use std::alloc::{AllocError, Global};
 use std::marker::Model;
 
@@ -21,95 +24,179 @@ pub struct EdgeFact {
 
 /// Two classes.
 #[derive(Clone, Copy, PartialEq, Eq, Hash)]
-struct Pair {
-    from: u32,
-    to: u32,
+pub struct Pair {
+    pub from: u32,
+    pub to: u32,
 }
 
 /// Dependencies, each pair of classes once, with the line that was told first.
+///
+/// Pairs have numbers, which they keep when the dependencies are taken away, so that one that is met
+/// again isn't looked up.
 ///
 /// A call answers `AllocError` where a growth of memory was refused.
 #[derive(Drop)]
 pub struct Edges {
     edges: Vec<EdgeFact>,
     pairs: IndexSet<Pair>,
+    /// The numbers of the pairs of the dependencies, in their order.
+    theirs: Numbers,
 }
 
 impl Model for Edges {
-    ghost use Rattle.std.specs.Prelude.{◌≡◌, List, map};
-    ghost use Rattle.ld_held.specs.declared.edges.EdgeFact.{EdgeFact};
+    ghost use Rattle.ld_held.specs.Inner.Edges.{AreTheirs, KeptEdges};
 
-    ghost Value = { List EdgeFact };
+    ghost Value = { KeptEdges };
 
-    ghost use Rattle.ld_held.specs.Inner.Edges.{pair_of};
+    ghost view = { λ e. record { edges = e.edges.items; pairs = e.pairs.keys } };
 
-    ghost view = { λ e. e.edges.items };
-
-    ghost invariant = { λ e. map pair_of e.edges.items ≡ e.pairs.keys };
+    ghost invariant = { λ e. AreTheirs e.edges.items e.pairs.keys e.theirs };
 }
 
 impl Edges {
     /// No dependencies. Takes no memory.
     pub fn new(alloc: Global) -> Edges
-        ensures { result ≡ [] }
+        ensures { result ≡ record { edges = []; pairs = [] } }
     {
         Edges {
             edges: Vec::new(alloc),
             pairs: IndexSet::new(alloc),
+            theirs: Numbers::new(alloc),
         }
     }
 
     /// The dependencies, in the order in which they came.
     pub fn as_slice(&self) -> &[EdgeFact]
-        ensures { result.now ≡ self.now }
+        ensures { result.now ≡ self.now.edges }
     {
         self.edges.as_slice()
     }
 
-    /// Adds a dependency, where its pair isn't there yet.
-    pub fn add(&mut self, edge: EdgeFact) -> Result<(), AllocError>
-        ensures added { OnOk result (self.new ≡ with_edge_fact self.old edge) }
-        ensures refused { OnErr result (self.new ≡ self.old) }
+    /// The dependencies, in the order in which they came.
+    pub fn into_vec(self) -> Vec<EdgeFact>
+        ensures { result.items ≡ self.edges }
     {
-        let pair = Pair {
-            from: edge.from,
-            to: edge.to,
-        };
-        self.edges.reserve(1)?;
-        let (_, is_new) = self.pairs.insert_full(pair)?;
-        if !is_new {
+        self.edges
+    }
+
+    /// The number of a pair.
+    fn number(&mut self, pair: Pair) -> Result<usize, AllocError>
+        ensures edges { self.new.edges ≡ self.old.edges }
+        ensures more { AreMore self.old.pairs self.new.pairs }
+        ensures within { IfOk result (λ number. number < length self.new.pairs) }
+        ensures number { IfOk result (λ number. pair_at self.new.pairs number ≡ pair) }
+    {
+        let (number, _) = self.pairs.insert_full(pair)?;
+        Ok(number)
+    }
+
+    /// The numbers of the pairs from the classes of these locks to the class.
+    pub fn numbers(
+        &mut self,
+        alloc: Global,
+        stack: &[Held<'_>],
+        class: u32,
+    ) -> Result<Vec<usize>, AllocError>
+        ensures edges { self.new.edges ≡ self.old.edges }
+        ensures more { AreMore self.old.pairs self.new.pairs }
+        ensures numbers { IfOk result (λ numbers. AreNumbers self.new.pairs class
+            (map (λ held. held.class) stack.now) numbers.items) }
+    {
+        let mut numbers = Vec::new(alloc);
+        for held in stack {
+            let pair = Pair {
+                from: held.class,
+                to: class,
+            };
+            let number = self.number(pair)?;
+            numbers.push(number)?;
+        }
+        Ok(numbers)
+    }
+
+    /// Adds the dependency of the pair of this number, where it isn't there yet.
+    fn add(&mut self, number: usize, line: u64) -> Result<(), AllocError>
+        requires { number < length self.old.pairs }
+        ensures pairs { self.new.pairs ≡ self.old.pairs }
+        ensures added { OnOk result (self.new.edges
+            ≡ with_edge_fact self.old.edges (edge_at line (pair_at self.old.pairs number))) }
+        ensures refused { OnErr result (self.new.edges ≡ self.old.edges) }
+    {
+        if self.theirs.has(number) {
             return Ok(());
         }
+        let pair = self.pairs.as_slice()[number];
+        let edge = EdgeFact {
+            from: pair.from,
+            to: pair.to,
+            line,
+        };
+        self.edges.reserve(1)?;
+        self.theirs.add(number)?;
         if self.edges.push(edge).is_err() {
             unreachable!();
         }
         Ok(())
     }
 
-    /// Keeps the first `count` of the dependencies.
-    pub fn cut(&mut self, count: usize)
-        ensures { self.new ≡ take count self.old }
-    {
-        self.edges.truncate(count);
-        self.pairs.truncate(count);
-    }
-
-    /// Adds the dependencies from the classes of these locks to the class.
-    pub fn tell(&mut self, stack: &[Held<'_>], class: u32, line: u64) -> Result<(), AllocError>
+    /// Adds the dependencies of the pairs of these numbers.
+    fn tell(&mut self, numbers: &[usize], line: u64) -> Result<(), AllocError>
+        requires { All (λ number. number < length self.old.pairs) numbers.now }
+        ensures pairs { self.new.pairs ≡ self.old.pairs }
         ensures kept { (test : EdgeFact → Bool)
-            → list_any test self.old ≡ true → list_any test self.new ≡ true }
-        ensures first { take (length self.old) self.new ≡ self.old }
-        ensures told { OnOk result (self.new ≡ fold with_edge_fact self.old
-            (map (edge_to class line) (map (λ held. held.class) stack.now))) }
+            → list_any test self.old.edges ≡ true → list_any test self.new.edges ≡ true }
+        ensures first { take (length self.old.edges) self.new.edges ≡ self.old.edges }
+        ensures told { OnOk result (self.new.edges ≡ fold with_edge_fact self.old.edges
+            (map (edge_at line) (map (pair_at self.old.pairs) numbers.now))) }
     {
-        for held in stack {
-            let edge = EdgeFact {
-                from: held.class,
-                to: class,
-                line,
-            };
-            self.add(edge)?;
+        for number in numbers {
+            self.add(*number, line)?;
         }
         Ok(())
+    }
+
+    /// Adds the dependencies from the classes of these locks to the class, by the numbers of their pairs
+    /// where these are known.
+    pub fn tell_to(
+        &mut self,
+        alloc: Global,
+        known: Option<&[usize]>,
+        stack: &[Held<'_>],
+        class: u32,
+        line: u64,
+    ) -> Result<(), AllocError>
+        requires { IfSome known (λ numbers. AreNumbers self.old.pairs class
+            (map (λ held. held.class) stack.now) numbers.now) }
+        ensures more { AreMore self.old.pairs self.new.pairs }
+        ensures kept { (test : EdgeFact → Bool)
+            → list_any test self.old.edges ≡ true → list_any test self.new.edges ≡ true }
+        ensures first { take (length self.old.edges) self.new.edges ≡ self.old.edges }
+        ensures told { OnOk result (self.new.edges ≡ fold with_edge_fact self.old.edges
+            (map (edge_to class line) (map (λ held. held.class) stack.now))) }
+    {
+        match known {
+            Some(numbers) => self.tell(numbers, line),
+            None => {
+                let numbers = self.numbers(alloc, stack, class)?;
+                self.tell(&numbers, line)
+            }
+        }
+    }
+
+    /// Keeps the first `count` of the dependencies.
+    pub fn cut(&mut self, count: usize)
+        ensures { self.new ≡ record self.old { edges = take count self.old.edges } }
+    {
+        self.edges.truncate(count);
+        self.theirs.cut(count);
+    }
+
+    /// Takes all dependencies away, and the numbers of pairs. The memory stays.
+    pub fn clear(&mut self)
+        ensures { self.new ≡ record { edges = []; pairs = [] } }
+    {
+        self.edges.clear();
+        self.theirs.clear();
+        self.pairs.truncate(0);
     }
 }

@@ -3,21 +3,24 @@
 //! Locks of outer frames stay held, but an acquisition and a release see those of the innermost
 //! frame alone.
 ghost use Rattle.std.specs.Prelude.{◌≡◌, ◌<◌, ◌≤◌, ◌+◌, true, [], ◌∷◌, ◌++◌, drop, fold, length};
-ghost use Rattle.std.specs.Prelude.{map, take, slice_index_or, slice_set, IfOk, OnOk};
+ghost use Rattle.std.specs.Prelude.{map, take, slice_index_or, slice_set, IfOk, IfSome, OnOk};
 ghost use Rattle.std.specs.List.{list_any};
 ghost use Rattle.ld_trace.specs.Events.{plain_lock};
-ghost use Rattle.ld_held.specs.Inner.Edges.{edge_to, with_edge_fact};
+ghost use Rattle.ld_held.specs.Inner.Edges.{AreMore, AreNumbers, edge_to, with_edge_fact};
 ghost use Rattle.ld_held.specs.Inner.Interrupts.{IsEntered, IsLeft, IsSet, fresh, nests_in, start_now};
 ghost use Rattle.ld_held.specs.Inner.Interrupts.{is_on, states_of};
-ghost use Rattle.ld_held.specs.Inner.Locks.{ChangesInterrupts, chain_of, holds_of, inner_of, is_of, outer_of};
+ghost use Rattle.ld_held.specs.Inner.Chains.{chain_before, chains_of};
+ghost use Rattle.ld_held.specs.Inner.Locks.{ChangesInterrupts, HasItsNumbers, IsExtended, chain_of};
+ghost use Rattle.ld_held.specs.Inner.Locks.{holds_of, inner_of, is_of, outer_of};
 ghost use Rattle.ld_held.specs.Inner.Stacks.{plain_held};
 ghost use Rattle.ld_rules.specs.Inner.Scanned.{remove_last};
 ghost use Rattle.ld_rules.specs.declared.outcome.TheConstants.{MOST_HELD};
 
-use crate::chains::{Chains, Link, Told};
+use crate::chains::{Chains, Link};
 use crate::edges::{EdgeFact, Edges};
 use crate::held::{Held, Stacks, latest};
 use crate::interrupts::{Flag, Interrupts};
+use ld_numbers::Numbers;
 use ld_rules::MOST_HELD;
 use ld_trace::{Lock, State};
 use std::alloc::{AllocError, Global};
@@ -28,14 +31,16 @@ use std::marker::Model;
 struct Begun {
     /// How many dependencies.
     edges: usize,
-    /// How many waiting acquisitions had theirs told.
+    /// How many chains had the dependencies of their last class told.
     told: usize,
 }
 
 /// What each task of a trace holds and where it is, by the task's number, and the dependencies so
 /// far, also of the traces before it.
 ///
-/// Beside them stands a cache: a waiting acquisition whose chain was met before tells nothing anew.
+/// Beside them stands a cache: a waiting acquisition by which a chain comes that was told before tells
+/// nothing anew, and one that was met before knows the numbers of its dependencies. Chains and numbers
+/// stay when the dependencies are taken away.
 ///
 /// A call answers `AllocError` where a growth of memory was refused. It may have done a part of its
 /// work then, so the owner takes the trace back, or gives the whole up.
@@ -43,9 +48,11 @@ struct Begun {
 pub struct Locks<'a> {
     stacks: Stacks<'a>,
     chains: Chains,
-    told: Told,
+    /// The numbers of the chains that had the dependencies of their last class told.
+    told: Numbers,
     edges: Edges,
     begun: Begun,
+    alloc: Global,
 }
 
 impl<'a> Model for Locks<'a> {
@@ -56,7 +63,8 @@ impl<'a> Model for Locks<'a> {
 
     ghost use Rattle.ld_held.specs.Inner.Locks.{IsKept, held_by_tasks};
 
-    ghost view = { λ l. held_by_tasks l.stacks l.edges (take l.begun.edges l.edges) };
+    ghost view = { λ l. held_by_tasks l.stacks l.edges.edges
+        (take l.begun.edges l.edges.edges) };
 
     ghost invariant = { λ l. IsKept l.stacks l.chains l.told l.edges l.begun };
 }
@@ -69,9 +77,10 @@ impl<'a> Locks<'a> {
         Locks {
             stacks: Stacks::new(alloc),
             chains: Chains::new(alloc),
-            told: Told::new(alloc),
+            told: Numbers::new(alloc),
             edges: Edges::new(alloc),
             begun: Begun { edges: 0, told: 0 },
+            alloc,
         }
     }
 
@@ -105,14 +114,17 @@ impl<'a> Locks<'a> {
         self.told.cut(self.begun.told);
     }
 
-    /// Takes all away. The memory stays.
+    /// Takes all away. The memory stays; and so do the chains that were met, while they are few.
     pub fn clear(&mut self)
         ensures { self.new ≡ record { stacks = []; interrupts = []; edges = []; begun = [] } }
     {
         self.stacks.begin();
-        self.chains.clear();
-        self.told.cut(0);
+        self.told.clear();
         self.edges.cut(0);
+        if !self.chains.has_room() {
+            self.chains.clear();
+            self.edges.clear();
+        }
         self.begun = Begun { edges: 0, told: 0 };
     }
 
@@ -154,13 +166,13 @@ impl<'a> Locks<'a> {
         }) }
     {
         let stack = self.stacks.innermost(task);
-        let before = last_chain(stack);
-        let link = Link { before, class };
-        if self.told.has(link) {
+        let chain = extended(&mut self.chains, &mut self.edges, self.alloc, stack, class)?;
+        if self.told.has(chain) {
             return Ok(());
         }
-        self.edges.tell(stack, class, line)?;
-        self.told.note(link)
+        let known = self.chains.numbers(chain);
+        self.edges.tell_to(self.alloc, known, stack, class, line)?;
+        self.told.add(chain)
     }
 
     /// The task acquired the lock.
@@ -173,8 +185,8 @@ impl<'a> Locks<'a> {
               ++ record { lock = plain_lock lock.entry; class = class } ∷ []);
         }) }
     {
-        let before = last_chain(self.stacks.innermost(task));
-        let chain = self.chains.extend(before, class)?;
+        let stack = self.stacks.innermost(task);
+        let chain = extended(&mut self.chains, &mut self.edges, self.alloc, stack, class)?;
         self.stacks.push(task, Held { lock, class, chain });
         Ok(())
     }
@@ -275,11 +287,60 @@ impl<'a> Locks<'a> {
     }
 
     /// The dependencies.
-    pub fn into_edges(self) -> Edges
-        ensures { result ≡ self.entry.edges }
+    pub fn into_edges(self) -> Vec<EdgeFact>
+        ensures { result.items ≡ self.entry.edges }
     {
-        self.edges
+        self.edges.into_vec()
     }
+}
+
+/// The number of the chain of a stack's classes and one more, which may be new.
+fn extended(
+    chains: &mut Chains,
+    edges: &mut Edges,
+    alloc: Global,
+    stack: &[Held<'_>],
+    class: u32,
+) -> Result<usize, AllocError>
+    requires before { IfSome (chain_of (map plain_held stack.now))
+        (λ n. n < length (chains_of chains.old.links)) }
+    requires classes { chain_before (chains_of chains.old.links) (chain_of (map plain_held stack.now))
+        ≡ map (λ held. held.class) stack.now }
+    requires numbered { HasItsNumbers (chains_of chains.old.links) chains.old.numbers edges.old.pairs }
+    ensures numbered { HasItsNumbers (chains_of chains.new.links) chains.new.numbers edges.new.pairs }
+    ensures edges { edges.new.edges ≡ edges.old.edges }
+    ensures more { IsExtended (chains_of chains.old.links) (chains_of chains.new.links) }
+    ensures within { IfOk result (λ n. n < length (chains_of chains.new.links)) }
+    ensures chain { IfOk result (λ n. slice_index_or (chains_of chains.new.links) n []
+        ≡ map (λ held. held.class) stack.now ++ class ∷ []) }
+{
+    let before = last_chain(stack);
+    let link = Link { before, class };
+    if let Some(chain) = chains.find(link) {
+        return Ok(chain);
+    }
+    let numbers = kept(chains, edges, alloc, stack, class)?;
+    chains.add(link, numbers)
+}
+
+/// The numbers of the pairs from the classes of a stack to one more, where there is room to keep them.
+fn kept(
+    chains: &Chains,
+    edges: &mut Edges,
+    alloc: Global,
+    stack: &[Held<'_>],
+    class: u32,
+) -> Result<Option<Vec<usize>>, AllocError>
+    ensures edges { edges.new.edges ≡ edges.old.edges }
+    ensures more { AreMore edges.old.pairs edges.new.pairs }
+    ensures numbers { IfOk result (λ kept. IfSome kept (λ numbers. AreNumbers edges.new.pairs class
+        (map (λ held. held.class) stack.now) numbers.items)) }
+{
+    if !chains.has_room() {
+        return Ok(None);
+    }
+    let numbers = edges.numbers(alloc, stack, class)?;
+    Ok(Some(numbers))
 }
 
 /// The chain of the classes of a stack; `None` where it is empty.

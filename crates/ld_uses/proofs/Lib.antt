@@ -1,2 +1,1 @@
 pub mod UseLemmas
-pub mod OwnLemmas

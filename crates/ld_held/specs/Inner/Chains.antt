@@ -1,7 +1,6 @@
 -- Chains of classes as the nodes of a tree. No public contract cites this file.
-use Rattle.std.specs.Prelude.{◌<◌, ℕ, Bool, ◌&&◌, ◌==◌, nat_eq, List, [], ◌∷◌, ◌++◌, Option, Some}
-use Rattle.std.specs.Prelude.{None, length, slice_index_or, fold, IfSome, if◌then◌else◌}
-use Rattle.std.specs.List.{list_any}
+use Rattle.std.specs.Prelude.{◌≡◌, ◌<◌, ℕ, Bool, ◌&&◌, ◌==◌, nat_eq, List, [], ◌∷◌, ◌++◌, Option, Some}
+use Rattle.std.specs.Prelude.{None, length, slice_index_or, fold, IfSome}
 use Rattle.std.specs.Option.{option_eq}
 use Rattle.ld_held.specs.declared.chains.Link.{Link}
 
@@ -25,6 +24,12 @@ IsTree links =
 abbrev pub same_link : Link → Link → Bool
 same_link a b = option_eq nat_eq a.before b.before && a.class == b.class
 
--- the links with this one, where it isn't there yet
-abbrev pub with_link : List Link → Link → List Link
-with_link links link = if list_any (same_link link) links then links else links ++ link ∷ []
+-- the chains, and of those of which they are kept the numbers of the pairs of their last class
+pub record KeptChains : Type 0 where
+  pub links : List Link
+  pub numbers : List (Option (List ℕ))
+
+-- each chain stands after the one before it, and has its place among the numbers
+pub record AreKept (chains : KeptChains) : Type 0 where
+  pub tree : IsTree chains.links
+  pub many : length chains.numbers ≡ length chains.links

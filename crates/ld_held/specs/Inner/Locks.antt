@@ -1,13 +1,13 @@
 -- What tasks hold and which dependencies were told, and what ties the cache of chains to them.
 -- The calls of ld_held cite this, and nothing that a caller of ld_batch sees.
-use Rattle.std.specs.Prelude.{◌≡◌, ◌<◌, ◌≤◌, ◌+◌, ℕ, Bool, true, List, [], ◌∷◌, map, length, take}
+use Rattle.std.specs.Prelude.{◌≡◌, ◌<◌, ◌≤◌, ◌+◌, ℕ, Bool, true, List, [], ◌∷◌, ◌++◌, map, length, take}
 use Rattle.std.specs.Prelude.{drop, slice_index_or, Option, None, IfSome}
 use Rattle.std.specs.List.{last_or, list_all, list_any, All}
 use Rattle.ld_trace.specs.Events.{PlainLock}
-use Rattle.ld_held.specs.declared.chains.Link.{Link}
 use Rattle.ld_held.specs.declared.edges.EdgeFact.{EdgeFact}
-use Rattle.ld_held.specs.Inner.Chains.{chain_before}
-use Rattle.ld_held.specs.Inner.Edges.{same_pair, edge_to}
+use Rattle.ld_held.specs.declared.edges.Pair.{Pair}
+use Rattle.ld_held.specs.Inner.Chains.{KeptChains, chains_of}
+use Rattle.ld_held.specs.Inner.Edges.{AreNumbers, KeptEdges, edge_to, same_pair}
 use Rattle.ld_rules.specs.Held.{same_lock}
 use Rattle.ld_held.specs.Inner.Interrupts.{fresh, start_now, starts_of}
 use Rattle.ld_held.specs.Inner.Stacks.{PlainHeld, PlainStack, empty_stack, plain_held}
@@ -92,34 +92,42 @@ pub record IsExtended (old new : List (List ℕ)) : Type 0 where
   pub more : length old ≤ length new
   pub kept : (n : ℕ) → n < length old → slice_index_or new n [] ≡ slice_index_or old n []
 
--- the dependencies of a waiting acquisition are there
-pub record HasItsEdges (chains : List (List ℕ)) (edges : List EdgeFact) (link : Link) : Type 0 where
-  pub known : IfSome link.before (λ n. n < length chains)
-  pub told :
-      list_all (λ from. list_any (same_pair (edge_to link.class 0 from)) edges)
-      (chain_before chains link.before)
-      ≡ true
+-- the dependencies of the last class of this chain are there, from each class before it
+pub record HasItsEdges (chains : List (List ℕ)) (edges : List EdgeFact) (number : ℕ) : Type 0 where
+  pub known : number < length chains
+  pub told : (froms : List ℕ) (class : ℕ)
+      → slice_index_or chains number [] ≡ froms ++ class ∷ []
+      → list_all (λ from. list_any (same_pair (edge_to class 0 from)) edges) froms ≡ true
+
+-- where the numbers of a chain's pairs are kept, they are those of the pairs of its last class
+pub record HasItsNumbers (chains : List (List ℕ)) (numbers : List (Option (List ℕ)))
+    (pairs : List Pair) : Type 0 where
+  pub each : (n : ℕ) (froms : List ℕ) (class : ℕ) → n < length chains
+      → slice_index_or chains n [] ≡ froms ++ class ∷ []
+      → IfSome (slice_index_or numbers n None) (AreNumbers pairs class froms)
 
 -- what ties stacks, chains and what was told
-pub record AreTied (stacks : List PlainStack) (chains : List (List ℕ)) (told : List Link)
+pub record AreTied (stacks : List PlainStack) (chains : List (List ℕ)) (told : List ℕ)
     (edges : List EdgeFact) : Type 0 where
   pub chained : (task : ℕ)
       → AreChainedIn chains (slice_index_or stacks task empty_stack).held
       (starts_of (slice_index_or stacks task empty_stack).interrupts)
-  pub complete : All (λ link. HasItsEdges chains edges link) told
+  pub complete : All (λ number. HasItsEdges chains edges number) told
 
--- of what was there when the trace began, the dependencies of each acquisition are there too
-pub record IsBegun (begun : Begun) (chains : List (List ℕ)) (told : List Link)
+-- of what was there when the trace began, the dependencies of each chain that was told are there too
+pub record IsBegun (begun : Begun) (chains : List (List ℕ)) (told : List ℕ)
     (edges : List EdgeFact) : Type 0 where
   pub edges_within : begun.edges ≤ length edges
   pub told_within : begun.told ≤ length told
-  pub complete : All (λ link. HasItsEdges chains (take begun.edges edges) link) (take begun.told told)
+  pub complete :
+      All (λ number. HasItsEdges chains (take begun.edges edges) number) (take begun.told told)
 
 -- what ties all that is kept
-pub record IsKept (stacks : List PlainStack) (chains : List (List ℕ)) (told : List Link)
-    (edges : List EdgeFact) (begun : Begun) : Type 0 where
-  pub tied : AreTied stacks chains told edges
-  pub mark : IsBegun begun chains told edges
+pub record IsKept (stacks : List PlainStack) (chains : KeptChains) (told : List ℕ)
+    (edges : KeptEdges) (begun : Begun) : Type 0 where
+  pub tied : AreTied stacks (chains_of chains.links) told edges.edges
+  pub mark : IsBegun begun (chains_of chains.links) told edges.edges
+  pub numbered : HasItsNumbers (chains_of chains.links) chains.numbers edges.pairs
 
 -- it is of this lock
 abbrev pub is_of : PlainLock → Hold → Bool

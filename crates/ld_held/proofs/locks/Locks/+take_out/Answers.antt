@@ -7,6 +7,7 @@ use Rattle.ld_held.specs.Inner.Interrupts.{fresh, start_now}
 use Rattle.ld_held.specs.Inner.Locks.{AreTied, HeldByTasks, Hold, hold_of, holds_of, held_by_tasks}
 use Rattle.ld_held.specs.Inner.Stacks.{PlainStack, empty_stack, plain_held}
 use Rattle.ld_rules.specs.declared.outcome.TheConstants.{MOST_HELD}
+use Rattle.ld_held.specs.Inner.Chains.{chains_of}
 use Rattle.ld_held.proofs.LockLemmas.{held_shown, interrupts_shown, put_again, shown_held, tied_cut, within_shown}
 use Rattle.ld_held.proofs.locks.Locks.+take_out.Goals as goal
 
@@ -111,34 +112,36 @@ module _ {begun : List EdgeFact} (stacks : List PlainStack) (edges : List EdgeFa
 
 pub invariant_of-self : goal.invariant_of-self
 invariant_of-self t c = record {
-  tied = tied c.self.inside.stacks c.self.inside.edges c.args.self.now c.args.task c.held-held.result.now c.self.view_is c.held-held.ensures.held
-      c.args.place c.requires.inner c.requires.held c.requires.task c.truncate.new.self c.truncate.ensures c.self.inside.chains c.self.inside.told c.self.invariant.tied;
+  tied = tied c.self.inside.stacks c.self.inside.edges.edges c.args.self.now c.args.task c.held-held.result.now c.self.view_is c.held-held.ensures.held
+      c.args.place c.requires.inner c.requires.held c.requires.task c.truncate.new.self c.truncate.ensures (chains_of c.self.inside.chains.links) c.self.inside.told c.self.invariant.tied;
   mark = c.self.invariant.mark;
+  numbered = c.self.invariant.numbered;
 }
 
 pub returns-then-place-top-clause-stacks : goal.returns-then-place-top-clause-stacks
 returns-then-place-top-clause-stacks t c =
-    was_last c.self.inside.stacks c.self.inside.edges c.args.self.now c.args.task c.held-held.result.now c.self.view_is c.held-held.ensures.held
+    was_last c.self.inside.stacks c.self.inside.edges.edges c.args.self.now c.args.task c.held-held.result.now c.self.view_is c.held-held.ensures.held
     c.args.place c.requires.inner c.requires.held c.requires.task c.truncate.new.self c.truncate.ensures c.if-place-top.true
 
 pub invariant_of-self-2 : goal.invariant_of-self-2
 invariant_of-self-2 t c = record {
-  tied = tied c.self.inside.stacks c.self.inside.edges c.args.self.now c.args.task c.held-held.result.now c.self.view_is c.held-held.ensures.held
-      c.args.place c.requires.inner c.requires.held c.requires.task c.truncate.new.self c.truncate.ensures c.self.inside.chains c.self.inside.told c.self.invariant.tied;
+  tied = tied c.self.inside.stacks c.self.inside.edges.edges c.args.self.now c.args.task c.held-held.result.now c.self.view_is c.held-held.ensures.held
+      c.args.place c.requires.inner c.requires.held c.requires.task c.truncate.new.self c.truncate.ensures (chains_of c.self.inside.chains.links) c.self.inside.told c.self.invariant.tied;
   mark = c.self.invariant.mark;
+  numbered = c.self.invariant.numbered;
 }
 
 pub take_out-requires : goal.take_out-requires
 take_out-requires t c = (
-  (let shrinks = fewer c.self.inside.stacks c.self.inside.edges c.args.self.now c.args.task c.held-held.result.now c.self.view_is c.held-held.ensures.held
+  (let shrinks = fewer c.self.inside.stacks c.self.inside.edges.edges c.args.self.now c.args.task c.held-held.result.now c.self.view_is c.held-held.ensures.held
       c.args.place c.requires.inner c.requires.held c.requires.task c.truncate.new.self c.truncate.ensures in omega (arith, shrinks, c.decreases)),
   (
-    stays_within c.self.inside.stacks c.self.inside.edges c.args.self.now c.args.task c.held-held.result.now c.self.view_is c.held-held.ensures.held
+    stays_within c.self.inside.stacks c.self.inside.edges.edges c.args.self.now c.args.task c.held-held.result.now c.self.view_is c.held-held.ensures.held
         c.args.place c.requires.inner c.requires.held c.requires.task c.truncate.new.self c.truncate.ensures,
     (
-      inner_stays c.self.inside.stacks c.self.inside.edges c.args.self.now c.args.task c.held-held.result.now c.self.view_is c.held-held.ensures.held
+      inner_stays c.self.inside.stacks c.self.inside.edges.edges c.args.self.now c.args.task c.held-held.result.now c.self.view_is c.held-held.ensures.held
           c.args.place c.requires.inner c.requires.held c.requires.task c.truncate.new.self c.truncate.ensures,
-      stays_below c.self.inside.stacks c.self.inside.edges c.args.self.now c.args.task c.held-held.result.now c.self.view_is c.held-held.ensures.held
+      stays_below c.self.inside.stacks c.self.inside.edges.edges c.args.self.now c.args.task c.held-held.result.now c.self.view_is c.held-held.ensures.held
           c.args.place c.requires.inner c.requires.held c.requires.task c.truncate.new.self c.truncate.ensures c.if-place-top.false,
     ),
   ),
@@ -146,12 +149,12 @@ take_out-requires t c = (
 
 pub hold-requires-clause-room : goal.hold-requires-clause-room
 hold-requires-clause-room t c =
-    room c.self.inside.stacks c.self.inside.edges c.args.self.now c.args.task c.held-held.result.now c.self.view_is c.held-held.ensures.held
+    room c.self.inside.stacks c.self.inside.edges.edges c.args.self.now c.args.task c.held-held.result.now c.self.view_is c.held-held.ensures.held
     c.args.place c.requires.inner c.requires.held c.requires.task c.truncate.new.self c.truncate.ensures c.take_out.new.self c.in_ok-take_out.ensures.stacks
     MOST_HELD c.held-held.ensures.depth c.if-place-top.false
 
 pub returns-clause-stacks : goal.returns-clause-stacks
 returns-clause-stacks t c =
-    again c.self.inside.stacks c.self.inside.edges c.args.self.now c.args.task c.held-held.result.now c.self.view_is c.held-held.ensures.held
+    again c.self.inside.stacks c.self.inside.edges.edges c.args.self.now c.args.task c.held-held.result.now c.self.view_is c.held-held.ensures.held
     c.args.place c.requires.inner c.requires.held c.requires.task c.truncate.new.self c.truncate.ensures c.take_out.new.self c.in_ok-take_out.ensures.stacks
     c.hold.result _ c.hold.new.self c.if-place-top.false c.hold.ensures.held

@@ -1,6 +1,7 @@
 use Rattle.std.proofs.Common.{◌≡◌, ap, subst, sym, ◌∙◌, length, take, arith}
 use Rattle.std.proofs.lemmas.List.{take_all}
 use Rattle.ld_held.specs.Inner.Locks.{AreTied, HeldByTasks}
+use Rattle.ld_held.specs.Inner.Chains.{chains_of}
 use Rattle.ld_held.proofs.BegunLemmas.{begun_now, none_shown, tied_none}
 use Rattle.ld_held.proofs.locks.Locks.begin.Goals as goal
 
@@ -8,15 +9,16 @@ pub invariant_of-self : goal.invariant_of-self
 invariant_of-self c =
     record {
       tied =
-          subst (λ ss. AreTied ss c.self.inside.chains c.self.inside.told c.self.inside.edges) (sym c.begin.ensures)
-          (tied_none c.self.inside.chains c.self.inside.told c.self.inside.edges c.self.invariant.tied.complete);
-      mark = begun_now c.self.inside.chains c.self.inside.told c.self.inside.edges c.self.invariant.tied.complete
-          (record { edges = length c.as_slice.result.now; told = c.len.result }) (ap length c.as_slice.ensures) c.len.ensures;
+          subst (λ ss. AreTied ss (chains_of c.self.inside.chains.links) c.self.inside.told c.self.inside.edges.edges) (sym c.begin.ensures)
+          (tied_none (chains_of c.self.inside.chains.links) c.self.inside.told c.self.inside.edges.edges c.self.invariant.tied.complete);
+      mark = begun_now (chains_of c.self.inside.chains.links) c.self.inside.told c.self.inside.edges.edges c.self.invariant.tied.complete
+          (record { edges = length c.as_slice.result.now; told = c.len.result }) (ap length c.as_slice.ensures) c.len.ensures.len;
+      numbered = c.self.invariant.numbered;
     }
 
 pub returns : goal.returns
 returns c =
-    let many : length c.as_slice.result.now ≡ length c.self.inside.edges = ap length c.as_slice.ensures in
+    let many : length c.as_slice.result.now ≡ length c.self.inside.edges.edges = ap length c.as_slice.ensures in
     let edges = ap (λ (k : HeldByTasks). k.edges) c.self.view_is in
-    none_shown c.begin.new.self c.self.inside.edges (take (length c.as_slice.result.now) c.self.inside.edges) c.args.self.now.edges c.args.self.now.edges c.begin.ensures edges
-    (take_all (length c.as_slice.result.now) c.self.inside.edges (omega arith) ∙ edges)
+    none_shown c.begin.new.self c.self.inside.edges.edges (take (length c.as_slice.result.now) c.self.inside.edges.edges) c.args.self.now.edges c.args.self.now.edges c.begin.ensures edges
+    (take_all (length c.as_slice.result.now) c.self.inside.edges.edges (omega arith) ∙ edges)

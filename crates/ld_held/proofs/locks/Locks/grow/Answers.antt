@@ -1,10 +1,12 @@
+use Rattle.ld_held.specs.Inner.Chains.{chains_of}
 use Rattle.ld_held.proofs.LockLemmas.{tied_grown}
 use Rattle.ld_held.proofs.locks.Locks.grow.Goals as goal
 
 pub invariant_of-self : goal.invariant_of-self
 invariant_of-self c = record {
   tied =
-      tied_grown c.self.inside.stacks c.self.inside.chains c.self.inside.told c.self.inside.edges c.self.invariant.tied c.grow.result
+      tied_grown c.self.inside.stacks (chains_of c.self.inside.chains.links) c.self.inside.told c.self.inside.edges.edges c.self.invariant.tied c.grow.result
       c.grow.new.self c.grow.ensures.grown c.grow.ensures.refused;
   mark = c.self.invariant.mark;
+  numbered = c.self.invariant.numbered;
 }

@@ -1,53 +1,109 @@
-use Rattle.std.proofs.Common.{◌≡◌, ℕ, List, get_or, sym, ap, ◌∙◌, map, fold}
-use Rattle.std.proofs.lemmas.Simd.{map-map}
-use Rattle.ld_held.specs.Inner.Edges.{edge_to, with_edge_fact}
+use Rattle.std.proofs.Common.{◌≡◌, ◌<◌, ◌∷◌, [], ◌++◌, Bool, List, ℕ, true, fold, get_or, length, map, sym, ap, subst, ◌∙◌, take}
+use Rattle.std.specs.List.{list_any}
 use Rattle.ld_held.specs.declared.edges.EdgeFact.{EdgeFact}
 use Rattle.ld_held.specs.declared.held.Held.{Held}
-use Rattle.ld_held.specs.Inner.Stacks.{PlainHeld, PlainStack, empty_stack, inner, plain_held}
-use Rattle.ld_held.specs.Inner.Locks.{chain_of, classes_held}
-use Rattle.ld_held.proofs.BegunLemmas.{begun_more, begun_noted, begun_same}
-use Rattle.ld_held.proofs.LockLemmas.{known_told, tied_more, tied_told, told_shown, start_within}
+use Rattle.ld_held.specs.declared.locks.Begun.{Begun}
+use Rattle.ld_held.specs.Inner.Stacks.{PlainStack, empty_stack, inner, plain_held}
+use Rattle.ld_held.specs.Inner.Chains.{KeptChains, chains_of}
+use Rattle.ld_held.specs.Inner.Edges.{KeptEdges, edge_to, with_edge_fact}
+use Rattle.ld_held.specs.Inner.Locks.{AreTied, IsBegun, IsExtended, IsKept, classes_held, held_by_tasks}
+use Rattle.ld_held.proofs.BegunLemmas.{begun_extended, begun_more, begun_same, begun_told}
+use Rattle.ld_held.proofs.LockLemmas.{classes_shown, known_told, numbered, numbered_as, start_within, tied_extended, tied_more, tied_told, told_now, told_shown}
+use Rattle.ld_held.proofs.NumberedLemmas.{known_numbers, numbered_more}
 use Rattle.ld_held.proofs.locks.Locks.tell.Goals as goal
 
 pub innermost-stack-requires-clause-start : goal.innermost-stack-requires-clause-start
-innermost-stack-requires-clause-start c = start_within c.self.inside.stacks c.self.inside.chains c.self.inside.told c.self.inside.edges c.self.invariant.tied c.args.task
+innermost-stack-requires-clause-start c = start_within c.self.inside.stacks (chains_of c.self.inside.chains.links) c.self.inside.told c.self.inside.edges.edges c.self.invariant.tied c.args.task
+
+pub extended-requires-clause-before : goal.extended-requires-clause-before
+extended-requires-clause-before c =
+    (numbered_as (chains_of c.self.inside.chains.links) (get_or c.self.inside.stacks c.args.task empty_stack) c.innermost-stack.result.now c.innermost-stack.ensures.held
+    (numbered c.self.inside.stacks (chains_of c.self.inside.chains.links) c.self.inside.told c.self.inside.edges.edges c.self.invariant.tied c.args.task)).0
+
+pub extended-requires-clause-classes : goal.extended-requires-clause-classes
+extended-requires-clause-classes c =
+    (numbered_as (chains_of c.self.inside.chains.links) (get_or c.self.inside.stacks c.args.task empty_stack) c.innermost-stack.result.now c.innermost-stack.ensures.held
+    (numbered c.self.inside.stacks (chains_of c.self.inside.chains.links) c.self.inside.told c.self.inside.edges.edges c.self.invariant.tied c.args.task)).1
+
+-- once the chain has its number
+module _ (stacks : List PlainStack) (before after : KeptChains) (told : List ℕ) (old now : KeptEdges) (begun : Begun) (kept : IsKept stacks before told old begun)
+    (more : IsExtended (chains_of before.links) (chains_of after.links)) (same : now.edges ≡ old.edges) where
+  tied_here : AreTied stacks (chains_of after.links) told now.edges
+  tied_here = subst (λ es. AreTied stacks (chains_of after.links) told es) (sym same)
+      (tied_extended stacks (chains_of before.links) told old.edges kept.tied (chains_of after.links) more)
+
+  mark_here : IsBegun begun (chains_of after.links) told now.edges
+  mark_here = subst (λ es. IsBegun begun (chains_of after.links) told es) (sym same)
+      (begun_extended begun (chains_of before.links) told old.edges kept.mark (chains_of after.links) more)
+
+  -- once more is told
+  module _ (new : List EdgeFact) (keeps : (test : EdgeFact → Bool) → list_any test now.edges ≡ true → list_any test new ≡ true) (first : take (length now.edges) new ≡ now.edges) where
+    tied_then : AreTied stacks (chains_of after.links) told new
+    tied_then = tied_more stacks (chains_of after.links) told now.edges tied_here new keeps
+
+    mark_then : IsBegun begun (chains_of after.links) told new
+    mark_then = begun_more begun (chains_of after.links) told now.edges mark_here new first
+
+    same_then : take begun.edges new ≡ take begun.edges old.edges
+    same_then = begun_same begun (chains_of after.links) told now.edges mark_here new first ∙ ap (take begun.edges) same
 
 pub returns-then-has-clause-told : goal.returns-then-has-clause-told
 returns-then-has-clause-told c =
-    known_told c.self.inside.stacks c.self.inside.chains c.self.inside.told c.self.inside.edges c.self.invariant.tied c.args.self.now c.self.view_is
-    c.args.task c.args.class c.args.line c.last_chain-before.result
-    (c.last_chain-before.ensures ∙ ap chain_of c.innermost-stack.ensures.held) (sym c.has.ensures ∙ c.if-has.true)
+    let chains = chains_of c.extended.new.chains.links in
+    let stack = get_or c.self.inside.stacks c.args.task empty_stack in
+    ap (λ es. held_by_tasks c.self.inside.stacks es (take c.self.inside.begun.edges es)) c.extended.ensures.edges
+    ∙ c.self.view_is
+    ∙ known_told c.self.inside.stacks chains c.self.inside.told c.self.inside.edges.edges
+    (tied_extended c.self.inside.stacks (chains_of c.self.inside.chains.links) c.self.inside.told c.self.inside.edges.edges c.self.invariant.tied chains c.extended.ensures.more)
+    c.args.self.now c.self.view_is c.args.task c.args.class c.args.line c.in_ok-chain.chain
+    (c.in_ok-chain.ensures.chain ∙ ap (λ cs. cs ++ c.args.class ∷ []) (classes_shown stack c.innermost-stack.result.now c.innermost-stack.ensures.held))
+    (sym c.has.ensures ∙ c.if-has.true)
 
-pub invariant_of-self : goal.invariant_of-self
-invariant_of-self c = record {
+pub tell_to-requires : goal.tell_to-requires
+tell_to-requires c =
+    let froms = map (λ (h : Held). h.class) c.innermost-stack.result.now in
+    known_numbers c.extended.new.edges.pairs c.args.class froms (get_or c.extended.new.chains.numbers c.in_ok-chain.chain _)
+    (c.extended.ensures.numbered.each c.in_ok-chain.chain froms c.args.class c.in_ok-chain.ensures.within c.in_ok-chain.ensures.chain)
+    c.numbers-known.result c.numbers-known.ensures
+
+pub invariant_of-self-in_err-tell_to : goal.invariant_of-self-in_err-tell_to
+invariant_of-self-in_err-tell_to c = record {
   tied =
-      tied_more c.self.inside.stacks c.self.inside.chains c.self.inside.told c.self.inside.edges c.self.invariant.tied c.tell.new.self c.tell.ensures.kept;
-  mark = begun_more c.self.inside.begun c.self.inside.chains c.self.inside.told c.self.inside.edges c.self.invariant.mark c.tell.new.self c.tell.ensures.first;
+      tied_then c.self.inside.stacks c.self.inside.chains c.extended.new.chains c.self.inside.told c.self.inside.edges c.extended.new.edges c.self.inside.begun c.self.invariant
+      c.extended.ensures.more c.extended.ensures.edges c.tell_to.new.self.edges c.tell_to.ensures.kept c.tell_to.ensures.first;
+  mark =
+      mark_then c.self.inside.stacks c.self.inside.chains c.extended.new.chains c.self.inside.told c.self.inside.edges c.extended.new.edges c.self.inside.begun c.self.invariant
+      c.extended.ensures.more c.extended.ensures.edges c.tell_to.new.self.edges c.tell_to.ensures.kept c.tell_to.ensures.first;
+  numbered = numbered_more (chains_of c.extended.new.chains.links) c.extended.new.chains.numbers c.extended.new.edges.pairs c.tell_to.new.self.pairs c.tell_to.ensures.more
+      c.extended.ensures.numbered;
 }
-
--- what is told, as the fields show it
-told_of : (class line : ℕ) (edges new : List EdgeFact) (stack : PlainStack) (held : List Held) → new ≡ fold with_edge_fact edges
-    (map (edge_to class line) (map (λ h. h.class) held)) → map plain_held held ≡ inner stack → new ≡ fold with_edge_fact edges (map (edge_to class line) (classes_held (inner stack)))
-told_of class line edges new stack held is same = is ∙ ap (λ fs. fold with_edge_fact edges (map (edge_to class line) fs))
-    (sym (map-map (λ (h : PlainHeld). h.class) plain_held held) ∙ ap classes_held same)
 
 pub invariant_of-self-2 : goal.invariant_of-self-2
-invariant_of-self-2 c = record {
-  tied =
-      tied_told c.self.inside.stacks c.self.inside.chains c.self.inside.told c.self.inside.edges c.self.invariant.tied c.note.result c.args.task c.args.class
-      c.args.line c.last_chain-before.result c.tell.new.self c.note.new.self
-      (c.last_chain-before.ensures ∙ ap chain_of c.innermost-stack.ensures.held)
-      (told_of c.args.class c.args.line c.self.inside.edges c.tell.new.self (get_or c.self.inside.stacks c.args.task empty_stack)
-      c.innermost-stack.result.now c.in_ok-tell.ensures.told c.innermost-stack.ensures.held)
-      c.note.ensures.noted c.note.ensures.refused;
-  mark = begun_noted c.self.inside.begun c.self.inside.chains c.self.inside.told c.tell.new.self
-      (begun_more c.self.inside.begun c.self.inside.chains c.self.inside.told c.self.inside.edges c.self.invariant.mark c.tell.new.self c.tell.ensures.first)
-      c.note.result (record { before = c.last_chain-before.result; class = c.args.class }) c.note.new.self c.note.ensures.noted c.note.ensures.refused;
-}
+invariant_of-self-2 c =
+    let chains = chains_of c.extended.new.chains.links in
+    let new = c.tell_to.new.self.edges in
+    let tied = tied_then c.self.inside.stacks c.self.inside.chains c.extended.new.chains c.self.inside.told c.self.inside.edges c.extended.new.edges c.self.inside.begun
+        c.self.invariant c.extended.ensures.more c.extended.ensures.edges new c.tell_to.ensures.kept c.tell_to.ensures.first in
+    let mark = mark_then c.self.inside.stacks c.self.inside.chains c.extended.new.chains c.self.inside.told c.self.inside.edges c.extended.new.edges c.self.inside.begun
+        c.self.invariant c.extended.ensures.more c.extended.ensures.edges new c.tell_to.ensures.kept c.tell_to.ensures.first in
+    let here = tied_here c.self.inside.stacks c.self.inside.chains c.extended.new.chains c.self.inside.told c.self.inside.edges c.extended.new.edges c.self.inside.begun
+        c.self.invariant c.extended.ensures.more c.extended.ensures.edges in
+    record {
+      tied =
+          tied_told c.self.inside.stacks chains c.self.inside.told new tied c.add.result c.in_ok-chain.chain c.add.new.self
+          (told_now c.self.inside.stacks chains c.self.inside.told c.extended.new.edges.edges here (map (λ (h : Held). h.class) c.innermost-stack.result.now)
+          c.args.class c.args.line c.in_ok-chain.chain new c.in_ok-chain.ensures.within c.in_ok-chain.ensures.chain c.in_ok-tell_to.ensures.told)
+          c.add.ensures.added c.add.ensures.refused;
+      mark = begun_told c.self.inside.begun chains c.self.inside.told new mark c.add.result c.in_ok-chain.chain c.add.new.self c.add.ensures.added c.add.ensures.refused;
+      numbered = numbered_more chains c.extended.new.chains.numbers c.extended.new.edges.pairs c.tell_to.new.self.pairs c.tell_to.ensures.more c.extended.ensures.numbered;
+    }
 
 pub returns-clause-told : goal.returns-clause-told
 returns-clause-told c =
-    told_shown c.note.result c.self.inside.stacks c.self.inside.edges c.args.self.now c.args.task c.args.class c.args.line c.tell.new.self c.self.view_is
-    (told_of c.args.class c.args.line c.self.inside.edges c.tell.new.self (get_or c.self.inside.stacks c.args.task empty_stack)
-    c.innermost-stack.result.now c.in_ok-tell.ensures.told c.innermost-stack.ensures.held)
-    (begun_same c.self.inside.begun c.self.inside.chains c.self.inside.told c.self.inside.edges c.self.invariant.mark c.tell.new.self c.tell.ensures.first)
+    let stack = get_or c.self.inside.stacks c.args.task empty_stack in
+    told_shown c.add.result c.self.inside.stacks c.self.inside.edges.edges c.args.self.now c.args.task c.args.class c.args.line c.tell_to.new.self.edges c.self.view_is
+    (c.in_ok-tell_to.ensures.told
+    ∙ (λ i. fold with_edge_fact (c.extended.ensures.edges i)
+    (map (edge_to c.args.class c.args.line) (classes_shown stack c.innermost-stack.result.now c.innermost-stack.ensures.held i))))
+    (same_then c.self.inside.stacks c.self.inside.chains c.extended.new.chains c.self.inside.told c.self.inside.edges c.extended.new.edges c.self.inside.begun c.self.invariant
+    c.extended.ensures.more c.extended.ensures.edges c.tell_to.new.self.edges c.tell_to.ensures.kept c.tell_to.ensures.first)

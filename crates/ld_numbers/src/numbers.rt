@@ -1,0 +1,116 @@
+//! Distinct numbers, in the order in which they came.
+ghost use Rattle.std.specs.Prelude.{◌≡◌, ◌≢◌, ◌<◌, ◌≤◌, ℕ, [], ◌∷◌, ◌++◌, false, length, nat_eq, take};
+ghost use Rattle.std.specs.Prelude.{slice_index_or, IfNone, IfSome, OnErr, OnOk};
+ghost use Rattle.std.specs.List.{list_any, AllPairs};
+
+use std::alloc::{AllocError, Global};
+use std::marker::Model;
+
+/// Numbers, each once, in the order in which they came. To take them away costs nothing, however many
+/// there were.
+///
+/// It takes memory for all numbers up to the greatest one that was added, so they should be places in
+/// some list.
+///
+/// A call answers `AllocError` where a growth of memory was refused.
+#[derive(Drop)]
+pub struct Numbers {
+    order: Vec<usize>,
+    /// By a number its place in the order. That of a number which isn't in the order is anything: another
+    /// stands there, or none.
+    place: Vec<usize>,
+}
+
+impl Model for Numbers {
+    ghost use Rattle.std.specs.Prelude.{List, ℕ};
+    ghost use Rattle.ld_numbers.specs.Numbers.{AreAtPlaces};
+
+    ghost Value = { List ℕ };
+
+    ghost view = { λ n. n.order.items };
+
+    ghost invariant = { λ n. AreAtPlaces n.order.items n.place.items };
+}
+
+impl Numbers {
+    /// No number. Takes no memory.
+    pub fn new(alloc: Global) -> Numbers
+        ensures { result ≡ [] }
+    {
+        Numbers {
+            order: Vec::new(alloc),
+            place: Vec::new(alloc),
+        }
+    }
+
+    /// Takes all numbers away. The memory stays.
+    pub fn clear(&mut self)
+        ensures { self.new ≡ [] }
+    {
+        self.order.clear();
+    }
+
+    /// How many there are.
+    pub fn len(&self) -> usize
+        ensures len { result ≡ length self.now }
+        ensures distinct { AllPairs (λ a b. a ≢ b) self.now }
+    {
+        self.order.len()
+    }
+
+    /// The numbers, in the order in which they came.
+    pub fn as_slice(&self) -> &[usize]
+        ensures { result.now ≡ self.now }
+    {
+        self.order.as_slice()
+    }
+
+    /// Whether the number is there.
+    pub fn has(&self, number: usize) -> bool
+        ensures { result ≡ list_any (nat_eq number) self.now }
+    {
+        if self.place.len() <= number {
+            return false;
+        }
+        let place = self.place[number];
+        place < self.order.len() && self.order[place] == number
+    }
+
+    /// Adds a number that isn't there.
+    pub fn add(&mut self, number: usize) -> Result<(), AllocError>
+        requires { list_any (nat_eq number) self.old ≡ false }
+        ensures added { OnOk result (self.new ≡ self.old ++ number ∷ []) }
+        ensures refused { OnErr result (self.new ≡ self.old) }
+    {
+        extend_to(&mut self.place, number)?;
+        self.order.reserve(1)?;
+        self.place[number] = self.order.len();
+        if self.order.push(number).is_err() {
+            unreachable!();
+        }
+        Ok(())
+    }
+
+    /// Keeps the first `count` of the numbers.
+    pub fn cut(&mut self, count: usize)
+        ensures { self.new ≡ take count self.old }
+    {
+        self.order.truncate(count);
+    }
+}
+
+/// Gives the number a place, where it has none yet.
+fn extend_to(place: &mut Vec<usize>, number: usize) -> Result<(), AllocError>
+    ensures more { length place.old.items ≤ length place.new.items }
+    ensures kept { (k : ℕ)
+        → slice_index_or place.new.items k 0 ≡ slice_index_or place.old.items k 0 }
+    ensures reached { OnOk result (number < length place.new.items) }
+{
+    if number < place.len() {
+        return Ok(());
+    }
+    if number == usize::MAX {
+        return Err(AllocError);
+    }
+    place.resize(number + 1, 0)
+}
