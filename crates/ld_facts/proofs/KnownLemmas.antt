@@ -23,7 +23,7 @@ use Rattle.ld_facts.specs.Facts.{IsKnown, named, named_use}
 use Rattle.ld_rules.specs.Usage.{Use, bit_of, same_use, uses_at}
 use Rattle.ld_rules.specs.Inner.Scanned.{same_dependency_seen, same_use_seen}
 use Rattle.ld_uses.specs.declared.uses.UsageFact.{UsageFact}
-use Rattle.ld_facts.specs.Inner.Reading.{IsAt, IsReadTo, Start, empty_scan, happens, no_start, positions_from}
+use Rattle.ld_facts.specs.Inner.Reading.{IsAt, IsReadTo, Start, fresh_scan, happens, no_start, positions_from}
 use Rattle.ld_rules.proofs.OutcomeLemmas.{first_fault}
 use Rattle.ld_rules.proofs.PlaceLemmas.{alike_from_decides, by_pushes, each_once-append, each_once-more}
 use Rattle.ld_rules.proofs.StepLemmas.{Decides-same_dependency, added_names-once}
@@ -186,7 +186,7 @@ pub read-none : (source : PlainSource) (scan : Scan) → IsReadTo source source.
 read-none source scan = record { before = []; whole = refl; scanned = λ start is. is; counted = refl }
 
 -- a new scan
-pub none-at : (scan : Scan) → scan ≡ empty_scan → IsAt no_start [] scan
+pub none-at : (scan : Scan) → scan ≡ fresh_scan [] → IsAt no_start [] scan
 none-at scan new = subst (λ s. IsAt no_start [] s) (sym new) (record {
   clean = refl;
   tasks = refl;

@@ -14,6 +14,7 @@ pub stands-same : (scan : Scan) → StandsOn scan scan
 stands-same scan = record {
   classes = take_all (length scan.classes) scan.classes (omega arith);
   begun = refl;
+  before = refl;
   uses = take_all (length scan.uses) scan.uses (omega arith);
 }
 
@@ -21,5 +22,6 @@ pub stands-further : (old middle new : Scan) → StandsOn old middle → StandsO
 stands-further old middle new first further = record {
   classes = take-first old.classes middle.classes new.classes first.classes further.classes;
   begun = further.begun ∙ first.begun;
+  before = further.before ∙ first.before;
   uses = take-first old.uses middle.uses new.uses first.uses further.uses;
 }

@@ -1,8 +1,9 @@
 -- A trace that begins on top of what a scan has.
-use Rattle.std.proofs.Common.{◌≡◌, ◌+◌, ◌≤◌, [], All, length, refl, arith}
+use Rattle.std.proofs.Common.{◌≡◌, ◌+◌, ◌≤◌, [], All, length, take, refl, ap, ◌∙◌, arith}
 use Rattle.ld_class.specs.Names.{AreDistinct}
 use Rattle.ld_class.specs.declared.names.TheConstants.{MOST_NAMES}
 use Rattle.ld_rules.specs.declared.outcome.TheConstants.{MOST_CLASSES}
+use Rattle.ld_facts.specs.declared.scan.Before.{Before}
 use Rattle.ld_facts.specs.declared.scan.Scan.{Scan}
 use Rattle.ld_facts.specs.Facts.{IsUse}
 use Rattle.ld_facts.specs.Inner.Reading.{IsAt, IsWithin, StandsOn, begun, start_of, undone}
@@ -28,11 +29,12 @@ begun-at scan distinct within used room = record {
 }
 
 -- what stands on it is it again, once it is taken back
-pub undone-is : (old new : Scan) → StandsOn (begun old) new → undone new (length old.classes) (length old.uses) ≡ begun old
+pub undone-is : (old new : Scan) → StandsOn (begun old) new → undone new ≡ begun old
 undone-is old new on = λ i. record {
   tasks = [];
-  classes = on.classes i;
+  classes = (ap (λ (before : Before). take before.classes new.classes) on.before ∙ on.classes) i;
   own = [];
   locks = record { stacks = []; interrupts = []; edges = on.begun i; begun = on.begun i };
-  uses = on.uses i;
+  uses = (ap (λ (before : Before). take before.uses new.uses) on.before ∙ on.uses) i;
+  before = on.before i;
 }

@@ -1,51 +1,59 @@
 //! Where the traces of a scan begin and end.
-ghost use Rattle.std.specs.Prelude.{◌≡◌, length};
-ghost use Rattle.ld_facts.specs.Inner.Reading.{begun, empty_scan, undone};
+ghost use Rattle.std.specs.Prelude.{◌≡◌, ◌≤◌, length};
+ghost use Rattle.ld_class.specs.Names.{AreDistinct};
+ghost use Rattle.ld_facts.specs.Inner.Reading.{begun, fresh_scan, undone};
+ghost use Rattle.ld_facts.specs.declared.bounds.TheConstants.{MOST_KNOWN};
 
-use crate::scan::Scan;
+use crate::scan::{Before, Scan};
 
-/// How much a scan had when a trace began.
-#[derive(Clone, Copy)]
-pub struct Mark {
-    classes: usize,
-    uses: usize,
-}
+/// How many names of classes a scan knows at most when it begins anew.
+pub const MOST_KNOWN: usize = 1 << 16;
+
+// Clauses cite the constant, so they would hold with any other number that fits.
+const _: () = prove!(MOST_KNOWN == 65_536);
 
 impl<'a> Scan<'a> {
     /// Another trace begins, on top of what is there. The memory stays.
-    pub fn begin(&mut self) -> Mark
-        ensures begun { self.new ≡ begun self.old }
-        ensures mark { (result.classes ≡ length self.old.classes)
-            × (result.uses ≡ length self.old.uses) }
+    pub fn begin(&mut self)
+        ensures { self.new ≡ begun self.old }
     {
         self.tasks.clear();
-        self.own.begin();
+        self.own.clear();
         self.locks.begin();
-        Mark {
+        self.before = Before {
             classes: self.classes.len(),
             uses: self.uses.as_slice().len(),
-        }
+        };
     }
 
-    /// Takes all away. The memory stays.
+    /// Takes all away but the names of classes, while they are few, which keep their numbers. The
+    /// memory stays.
     pub fn clear(&mut self)
-        ensures { self.new ≡ empty_scan }
+        ensures fresh { self.new ≡ fresh_scan self.new.classes }
+        ensures distinct { AreDistinct self.new.classes }
+        ensures few { length self.new.classes ≤ MOST_KNOWN }
     {
         self.tasks.clear();
-        self.classes.cut(0);
-        self.own.begin();
+        if self.classes.len() > MOST_KNOWN {
+            self.classes.cut(0);
+        }
+        self.own.clear();
         self.locks.clear();
         self.uses.cut(0);
+        self.before = Before {
+            classes: self.classes.len(),
+            uses: 0,
+        };
     }
 
-    /// Takes back what the trace added that began at this mark.
-    pub fn undo(&mut self, mark: Mark)
-        ensures { self.new ≡ undone self.old mark.classes mark.uses }
+    /// Takes back what the trace added that began last.
+    pub fn undo(&mut self)
+        ensures { self.new ≡ undone self.old }
     {
         self.tasks.clear();
-        self.classes.cut(mark.classes);
-        self.own.begin();
+        self.classes.cut(self.before.classes);
+        self.own.clear();
         self.locks.undo();
-        self.uses.cut(mark.uses);
+        self.uses.cut(self.before.uses);
     }
 }

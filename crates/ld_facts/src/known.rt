@@ -4,7 +4,7 @@ ghost use Rattle.ld_trace.specs.Sources.{plain};
 ghost use Rattle.ld_facts.specs.Facts.{IsKnown};
 
 use ld_class::Classes;
-use ld_held::{EdgeFact, Edges};
+use ld_held::EdgeFact;
 use ld_rules::Outcome;
 use ld_trace::Source;
 use ld_uses::{UsageFact, Uses};
@@ -16,7 +16,7 @@ pub struct Facts<'a> {
     pub(crate) source: Source<'a>,
     pub(crate) outcome: Outcome,
     pub(crate) classes: Classes<'a>,
-    pub(crate) edges: Edges,
+    pub(crate) edges: Vec<EdgeFact>,
     pub(crate) usage: Uses,
 }
 
@@ -30,7 +30,7 @@ impl<'a> Model for Facts<'a> {
       source = plain f.source;
       outcome = f.outcome;
       classes = f.classes;
-      edges = f.edges;
+      edges = f.edges.items;
       usage = f.usage;
     } };
 
@@ -38,7 +38,7 @@ impl<'a> Model for Facts<'a> {
       source = plain f.source;
       outcome = f.outcome;
       classes = f.classes;
-      edges = f.edges;
+      edges = f.edges.items;
       usage = f.usage;
     }) };
 }
@@ -71,7 +71,7 @@ impl<'a> Facts<'a> {
     pub fn edges(&self) -> &[EdgeFact]
         ensures { result.now ≡ self.now.edges }
     {
-        self.edges.as_slice()
+        &self.edges
     }
 
     /// Its usage bits, each of each class once with its least line; none where it is refused. In no

@@ -9,7 +9,7 @@ mod scan;
 mod stop;
 mod taking;
 
-pub use bounds::Mark;
+pub use bounds::MOST_KNOWN;
 pub use known::Facts;
 pub use ld_held::EdgeFact;
 pub use ld_rules::{Listed, MOST_CLASSES, MOST_HELD, MOST_TASKS, Outcome, TraceFault, Witness};

@@ -11,7 +11,6 @@ use crate::known::Facts;
 use crate::scan::Scan;
 use crate::stop::Stop;
 use ld_class::Classes;
-use ld_held::Edges;
 use ld_rules::{Outcome, TraceFault};
 use ld_trace::{Event, LineFault, Source, next_event, next_line, read_event, text};
 use ld_uses::Uses;
@@ -108,7 +107,7 @@ fn refused<'a>(
         source,
         outcome: Outcome::Refused { line, fault },
         classes: Classes::new(alloc),
-        edges: Edges::new(alloc),
+        edges: Vec::new(alloc),
         usage: Uses::new(alloc),
     }
 }

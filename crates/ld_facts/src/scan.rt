@@ -8,7 +8,7 @@ ghost use Rattle.ld_trace.specs.Events.PlainEvent.{Begin, Disable, Enable, Enter
 ghost use Rattle.ld_held.specs.Inner.Interrupts.{fresh};
 ghost use Rattle.ld_rules.specs.Outcome.{event_fault, events};
 ghost use Rattle.ld_facts.specs.Inner.Reading.{AreMany, HasTask, IsAt, Start, acquisition, happens};
-ghost use Rattle.ld_facts.specs.Inner.Reading.{StandsOn, empty_scan, own_names, taken, waited};
+ghost use Rattle.ld_facts.specs.Inner.Reading.{StandsOn, fresh_scan, own_names, taken, waited};
 ghost use Rattle.ld_uses.specs.Inner.Uses.{on_facts, with_use};
 ghost use Rattle.ld_rules.specs.declared.fault.TraceFault.{TraceFault};
 ghost use Rattle.ld_rules.specs.declared.outcome.TheConstants.{MOST_CLASSES, MOST_HELD, MOST_TASKS};
@@ -17,10 +17,18 @@ use crate::stop::Stop;
 use crate::taking::Taking;
 use ld_class::{ClassName, Classes, RecentNames};
 use ld_held::{Flag, Locks};
+use ld_numbers::Numbers;
 use ld_rules::{MOST_CLASSES, MOST_HELD, MOST_TASKS, TraceFault};
 use ld_trace::{Event, Lock, State};
-use ld_uses::{OwnClasses, Uses};
+use ld_uses::Uses;
 use std::alloc::{AllocError, Global};
+
+/// How much there was before the trace.
+#[derive(Clone, Copy)]
+pub struct Before {
+    pub(crate) classes: usize,
+    pub(crate) uses: usize,
+}
 
 /// What the events of a trace so far leave, on top of what was there before them.
 #[derive(Drop)]
@@ -31,24 +39,29 @@ pub struct Scan<'a> {
     /// first acquisition.
     pub classes: Classes<'a>,
     /// The classes of the trace, by their numbers, in order of first acquisition.
-    pub own: OwnClasses,
+    pub own: Numbers,
     /// What the tasks hold, by their numbers, their frames and flags, and the dependencies.
     pub locks: Locks<'a>,
     /// The usage bits of the classes, by their numbers.
     pub uses: Uses,
+    pub(crate) before: Before,
 }
 
 impl<'a> Scan<'a> {
     /// Before the first event.
     pub fn new(alloc: Global) -> Scan<'a>
-        ensures { result ≡ empty_scan }
+        ensures { result ≡ fresh_scan [] }
     {
         Scan {
             tasks: RecentNames::new(alloc),
             classes: Classes::new(alloc),
-            own: OwnClasses::new(alloc),
+            own: Numbers::new(alloc),
             locks: Locks::new(alloc),
             uses: Uses::new(alloc),
+            before: Before {
+                classes: 0,
+                uses: 0,
+            },
         }
     }
 
@@ -320,7 +333,7 @@ impl<'a> Scan<'a> {
     {
         let known = self.classes.find(name);
         if let Some(class) = known {
-            if self.own.has(class) {
+            if self.own.has(class as usize) {
                 return Ok(class);
             }
         }
@@ -353,7 +366,7 @@ impl<'a> Scan<'a> {
             return Err(Stop::Fault(TraceFault::TooManyClasses));
         }
         let class = self.number(known, name)?;
-        self.own.add(class)?;
+        self.own.add(class as usize)?;
         Ok(class)
     }
 

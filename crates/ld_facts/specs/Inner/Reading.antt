@@ -116,14 +116,15 @@ pub record IsAt (start : Start) (all : List Position) (scan : Scan) : Type 0 whe
   pub uses : map (named_use scan.classes) scan.uses ≡ uses_after start all
   pub used : All (IsUse scan.classes) scan.uses
 
--- a scan before the first trace
-abbrev pub empty_scan : Scan
-empty_scan = record {
+-- a scan before the first trace, which knows these names already
+abbrev pub fresh_scan : List PlainClass → Scan
+fresh_scan names = record {
   tasks = [];
-  classes = [];
+  classes = names;
   own = [];
   locks = record { stacks = []; interrupts = []; edges = []; begun = [] };
   uses = [];
+  before = record { classes = length names; uses = 0 };
 }
 
 -- what a scan has, as the start of another trace
@@ -140,22 +141,24 @@ begun scan = record scan {
   tasks = [];
   own = [];
   locks = record { stacks = []; interrupts = []; edges = scan.locks.edges; begun = scan.locks.edges };
+  before = record { classes = length scan.classes; uses = length scan.uses };
 }
 
 -- what the old scan had stands first in the new one, which is still that of the same trace
 pub record StandsOn (old new : Scan) : Type 0 where
   pub classes : take (length old.classes) new.classes ≡ old.classes
   pub begun : new.locks.begun ≡ old.locks.begun
+  pub before : new.before ≡ old.before
   pub uses : take (length old.uses) new.uses ≡ old.uses
 
--- the scan without what its trace added, where it had so many classes and usage bits when that began
-abbrev pub undone : Scan → ℕ → ℕ → Scan
-undone scan classes uses = record {
+-- the scan without what its trace added
+abbrev pub undone : Scan → Scan
+undone scan = record scan {
   tasks = [];
-  classes = take classes scan.classes;
+  classes = take scan.before.classes scan.classes;
   own = [];
   locks = record { stacks = []; interrupts = []; edges = scan.locks.begun; begun = scan.locks.begun };
-  uses = take uses scan.uses;
+  uses = take scan.before.uses scan.uses;
 }
 
 -- the task has this number now, and all else is as before
