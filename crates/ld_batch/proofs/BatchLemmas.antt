@@ -2,11 +2,11 @@
 use Rattle.std.proofs.Common.{◌≡◌, ◌≢◌, ◌+◌, ◌<◌, ◌≤◌, ◌++◌, ◌∷◌, [], ◌⊎◌, inl, inr, All, Bool, List, ℕ, zero, suc, None, IfSome}
 use Rattle.std.proofs.Common.{drop, length, map, fold, flat_map, get_or, refl, ap, sym, subst, ◌∙◌, arith, length-append}
 use Rattle.std.proofs.lemmas.Bool.{cases_order}
-use Rattle.std.proofs.lemmas.List.{get_or_push, length-map, length_push, map-append}
-use Rattle.std.proofs.lemmas.List.Elements.{All-append, All-drop, All-map, All-nil, All-push}
+use Rattle.std.proofs.lemmas.List.{drop_all, get_or_push, length-map, length_push, map-append}
+use Rattle.std.proofs.lemmas.List.Elements.{All-append, All-drop, All-nil, All-push, All-weaker}
 use Rattle.std.proofs.lemmas.List.Quantifiers.{all_pairs_push}
 use Rattle.std.specs.List.{last_or}
-use Rattle.ld_class.specs.Names.{PlainClass, no_class, same_class}
+use Rattle.ld_class.specs.Names.{AreDistinct, PlainClass, no_class, same_class}
 use Rattle.ld_trace.specs.Events.{PlainEvent, positions}
 use Rattle.ld_trace.specs.Sources.{Fits, PlainSource, plain}
 use Rattle.ld_trace.proofs.PositionLemmas.{positions-ascend}
@@ -18,7 +18,7 @@ use Rattle.ld_rules.specs.Dependency.{dependencies_at, same_dependency, seen}
 use Rattle.ld_rules.specs.Inner.Scanned.{same_dependency_seen, same_use_seen, with_new}
 use Rattle.ld_rules.specs.Outcome.{classes, each_once, events, outcome}
 use Rattle.ld_rules.specs.Union.{classes_of, dependencies_of, if_read, uses_of}
-use Rattle.ld_rules.specs.Usage.{bit_of, same_use, uses_at}
+use Rattle.ld_rules.specs.Usage.{IsBit, bit_of, same_use, uses_at}
 use Rattle.ld_rules.proofs.LeastLemmas.{Ascend, seen-Ascend}
 use Rattle.ld_rules.proofs.PlaceLemmas.{by_pushes, last_or-push}
 use Rattle.ld_rules.proofs.StepLemmas.{Decides-same_dependency}
@@ -26,15 +26,16 @@ use Rattle.ld_rules.proofs.UsageLemmas.{Decides-same_use}
 use Rattle.ld_facts.specs.declared.scan.Scan.{Scan}
 use Rattle.ld_facts.specs.Facts as facts
 use Rattle.ld_facts.specs.Inner.Reading as reading
-use Rattle.ld_facts.specs.Inner.Reading.{IsAt, empty_scan, start_of, undone}
-use Rattle.ld_facts.proofs.KnownLemmas.{none-at}
+use Rattle.ld_facts.specs.Inner.Reading.{IsAt, fresh_scan, start_of, undone}
 use Rattle.ld_facts.proofs.StartLemmas.{begun-at}
 use Rattle.ld_batch.specs.Batch.{AreOutcomes, AreRising, IsBatch, IsUse, IsWithin, PlainBatch, named, named_use, sources_of, witness_of}
-use Rattle.ld_batch.specs.Inner.Kept.{Fields, IsKept, IsRead, IsReady}
+use Rattle.ld_batch.specs.Inner.Kept.{AreNames, Fields, HasOwn, IsKept, IsRead, IsReady}
 use Rattle.ld_batch.specs.Inner.Names.{IsLonger, with_names}
-use Rattle.ld_batch.specs.Inner.Rows.{AreMet, edge_of, seen_of, use_of}
+use Rattle.ld_batch.specs.Inner.Rows.{AreMet, IsOwnEdge, IsOwnUse, edge_of, seen_of, use_of}
 use Rattle.ld_batch.proofs.MetLemmas.{then_added}
 use Rattle.ld_batch.proofs.NameLemmas.{longer_all, with_names-each_once}
+use Rattle.ld_batch.proofs.NamedLemmas.{named_rows, named_use_rows, rows_within, use_rows_within}
+use Rattle.ld_batch.proofs.ShownLemmas.{own_edges, own_uses}
 use Rattle.ld_batch.proofs.SourceLemmas.{are-met, pairs-of, shown-push, witness-new}
 use Rattle.ld_batch.proofs.TraceLemmas.{edges-longer, uses-longer, used-longer, within-longer}
 
@@ -117,15 +118,15 @@ room-left old new source shows room =
 -- the rows of a batch are as many as its scan has
 pub many-edges : (fields : Fields) → IsKept fields → length fields.edges ≡ length fields.scan.locks.edges
 many-edges fields kept =
-    let names = fields.scan.classes in
+    let names = fields.classes in
     let met = map (named names) fields.edges in
-    omega (arith, length-map fields.edges (named names), length-map met seen_of, ap length kept.edges.same, length-map fields.scan.locks.edges (facts.named names))
+    omega (arith, length-map fields.edges (named names), length-map met seen_of, ap length kept.edges.same, length-map fields.scan.locks.edges (facts.named fields.scan.classes))
 
 pub many-uses : (fields : Fields) → IsKept fields → length fields.usage ≡ length fields.scan.uses
 many-uses fields kept =
-    let names = fields.scan.classes in
+    let names = fields.classes in
     let met = map (named_use names) fields.usage in
-    omega (arith, length-map fields.usage (named_use names), length-map met seen_of, ap length kept.usage.same, length-map fields.scan.uses (facts.named_use names))
+    omega (arith, length-map fields.usage (named_use names), length-map met seen_of, ap length kept.usage.same, length-map fields.scan.uses (facts.named_use fields.scan.classes))
 
 -- the fields before and after, and the trace that was added
 pub record IsPushed (old new : Fields) (last : Listed) : Type 0 where
@@ -134,8 +135,12 @@ pub record IsPushed (old new : Fields) (last : Listed) : Type 0 where
   pub above : IfSome (last_or None (sources_of old.listed)) (λ l. l.number < last.source.number)
   pub listed : new.listed ≡ old.listed ++ last ∷ []
   pub shows : IsRead old.scan (plain last.source) new.scan
-  pub edges : new.edges ≡ old.edges ++ map (edge_of last.source.number) (drop (length old.edges) new.scan.locks.edges)
-  pub usage : new.usage ≡ old.usage ++ map (use_of last.source.number) (drop (length old.usage) new.scan.uses)
+  pub classes : new.classes ≡ with_names old.classes (classes_of (plain last.source))
+  pub names : AreNames new.scan.classes new.numbers new.classes
+  pub edges : new.edges ≡ old.edges ++ map (edge_of new.numbers last.source.number) (drop (length old.edges) new.scan.locks.edges)
+  pub usage : new.usage ≡ old.usage ++ map (use_of new.numbers last.source.number) (drop (length old.usage) new.scan.uses)
+  pub own_edges : All (IsOwnEdge new.numbers) (drop (length old.edges) new.scan.locks.edges)
+  pub own_uses : All (IsOwnUse new.numbers) (drop (length old.usage) new.scan.uses)
   pub ready : IsReady new.scan
   pub begun : IsAt (start_of new.scan) [] new.scan
 
@@ -144,8 +149,9 @@ pub begins : (old new : Scan) (source : PlainSource) → IsReady new → IsRead 
 begins old new source is shows room = subst (IsAt (start_of new) []) (sym is) (begun-at new shows.distinct shows.within shows.used (omega (arith, room)))
 
 -- a batch without a trace
-pub kept-none : (scan : Scan) → scan ≡ empty_scan → IsKept (record { listed = []; scan = scan; edges = []; usage = [] })
-kept-none scan new = subst (λ s. IsKept (record { listed = []; scan = s; edges = []; usage = [] })) (sym new) (record {
+pub kept-none : (scan : Scan) → scan ≡ fresh_scan scan.classes → AreDistinct scan.classes → length scan.classes ≤ 65536 →
+    IsKept (record { listed = []; scan = scan; classes = []; numbers = []; edges = []; usage = [] })
+kept-none scan new distinct few = subst (λ s. IsKept (record { listed = []; scan = s; classes = []; numbers = []; edges = []; usage = [] })) (sym new) (record {
   exact = record {
     fit = All-nil Fits;
     rise = λ i j d before within. absurd (omega (arith, within));
@@ -159,8 +165,10 @@ kept-none scan new = subst (λ s. IsKept (record { listed = []; scan = s; edges 
   };
   outcomes = All-nil (λ (l : Listed). l.outcome ≡ outcome (plain l.source));
   few = omega arith;
+  known = omega (arith, few);
+  names = record { within = All-nil (λ n. n < length scan.classes); same = refl };
   ready = refl;
-  begun = none-at empty_scan refl;
+  begun = begun-at (fresh_scan scan.classes) distinct (All-nil (reading.IsWithin scan.classes)) (All-nil (facts.IsUse scan.classes)) (omega (arith, few));
   edges = record { same = refl; apart = λ i j d before within. absurd (omega (arith, within)) };
   usage = record { same = refl; apart = λ i j d before within. absurd (omega (arith, within)) };
 })
@@ -194,6 +202,28 @@ shows-none old new source line fault is same at =
       used = at.used;
     })
 
+-- and of which classes that is
+pub own-read : (old new : Scan) (source : PlainSource) (count : ℕ) → outcome source ≡ Read count → IsAt (start_of old) (positions source) new → HasOwn old source new
+own-read old new source count is at = record {
+  names = record { within = at.many.2; same = at.own ∙ (λ i. if_read (sym is i) (classes (events (positions source)))) };
+  edges = subst (λ n. All (IsOwnEdge new.own) (drop n new.locks.edges)) (length-map old.locks.edges (facts.named old.classes)) (own_edges (start_of old) (positions source) new at);
+  uses = subst (λ n. All (IsOwnUse new.own) (drop n new.uses)) (length-map old.uses (facts.named_use old.classes)) (own_uses (start_of old) (positions source) new at);
+}
+
+-- those of a refused source are none
+pub own-none : (old new : Scan) (source : PlainSource) (line : ℕ) (fault : TraceFault) → outcome source ≡ Refused line fault → new ≡ old → IsReady old → HasOwn old source new
+own-none old new source line fault is same ready = subst (HasOwn old source) (sym same) (record {
+  names = subst (λ own. AreNames old.classes own (classes_of source)) (sym none) (record {
+    within = All-nil (λ n. n < length old.classes);
+    same = (λ i. if_read (sym is i) (classes (events (positions source))));
+  });
+  edges = subst (All (IsOwnEdge old.own)) (sym (drop_all (length old.locks.edges) old.locks.edges (omega arith))) (All-nil (IsOwnEdge old.own));
+  uses = subst (All (IsOwnUse old.own)) (sym (drop_all (length old.uses) old.uses (omega arith))) (All-nil (IsOwnUse old.own));
+})
+  where
+    none : old.own ≡ []
+    none = ap (λ (scan : Scan). scan.own) ready
+
 -- what a source shows stands there in order of line
 shown-Ascend : {A : Type 0} (at : List PlainEvent → PlainEvent → List A) (source : PlainSource) → Ascend (if_read (outcome source) (seen at (positions source)))
 shown-Ascend {A} at source = by (outcome source)
@@ -210,7 +240,10 @@ module _ (old new : Fields) (last : Listed) (kept : IsKept old) (adds : IsPushed
   sources = sources_of old.listed
 
   abbrev names : List PlainClass
-  names = new.scan.classes
+  names = new.classes
+
+  abbrev known : List PlainClass
+  known = new.scan.classes
 
   low : All (λ s. s.number < source.number) sources
   low = above_all sources source.number kept.exact.rise adds.above
@@ -218,14 +251,17 @@ module _ (old new : Fields) (last : Listed) (kept : IsKept old) (adds : IsPushed
   all_sources : sources_of new.listed ≡ sources ++ source ∷ []
   all_sources = ap sources_of adds.listed ∙ map-append (λ l. plain l.source) old.listed (last ∷ [])
 
-  longer : IsLonger old.scan.classes names (length (classes_of source))
-  longer = subst (λ all. IsLonger old.scan.classes all (length (classes_of source))) (sym adds.shows.names) (longer_all old.scan.classes (classes_of source))
+  longer : IsLonger old.classes names (length (classes_of source))
+  longer = subst (λ all. IsLonger old.classes all (length (classes_of source))) (sym adds.classes) (longer_all old.classes (classes_of source))
 
-  same_edges : map (named names) old.edges ≡ map (named old.scan.classes) old.edges
-  same_edges = edges-longer old.scan.classes names (length (classes_of source)) longer old.edges kept.exact.within
+  longer_known : IsLonger old.scan.classes known (length (classes_of source))
+  longer_known = subst (λ all. IsLonger old.scan.classes all (length (classes_of source))) (sym adds.shows.names) (longer_all old.scan.classes (classes_of source))
 
-  same_uses : map (named_use names) old.usage ≡ map (named_use old.scan.classes) old.usage
-  same_uses = uses-longer old.scan.classes names (length (classes_of source)) longer old.usage kept.exact.used_within
+  same_edges : map (named names) old.edges ≡ map (named old.classes) old.edges
+  same_edges = edges-longer old.classes names (length (classes_of source)) longer old.edges kept.exact.within
+
+  same_uses : map (named_use names) old.usage ≡ map (named_use old.classes) old.usage
+  same_uses = uses-longer old.classes names (length (classes_of source)) longer old.usage kept.exact.used_within
 
   met_edges : AreMet (start_of old.scan).edges (map (named names) old.edges)
   met_edges = subst (AreMet (start_of old.scan).edges) (sym same_edges) kept.edges
@@ -238,17 +274,17 @@ module _ (old new : Fields) (last : Listed) (kept : IsKept old) (adds : IsPushed
   joined = record {
     sources = sources ++ source ∷ [];
     classes = names;
-    edges = old.edges ++ map (edge_of source.number) (drop (length old.edges) new.scan.locks.edges);
-    usage = old.usage ++ map (use_of source.number) (drop (length old.usage) new.scan.uses);
+    edges = old.edges ++ map (edge_of new.numbers source.number) (drop (length old.edges) new.scan.locks.edges);
+    usage = old.usage ++ map (use_of new.numbers source.number) (drop (length old.usage) new.scan.uses);
   }
 
   all_edges : AreMet (start_of new.scan).edges (map (named names) joined.edges)
-  all_edges = are-met same_dependency Decides-same_dependency dependencies_of sources source (named names) (facts.named names) (edge_of source.number) (λ e. refl) old.edges new.scan.locks.edges
-      (start_of old.scan).edges met_edges adds.shows.edges
+  all_edges = are-met same_dependency Decides-same_dependency dependencies_of sources source (named names) (facts.named known) (edge_of new.numbers source.number) old.edges new.scan.locks.edges
+      (named_rows known new.numbers names adds.names source.number (drop (length old.edges) new.scan.locks.edges) adds.own_edges) (start_of old.scan).edges met_edges adds.shows.edges
 
   all_uses : AreMet (start_of new.scan).uses (map (named_use names) joined.usage)
-  all_uses = are-met same_use Decides-same_use uses_of sources source (named_use names) (facts.named_use names) (use_of source.number) (λ u. refl) old.usage new.scan.uses
-      (start_of old.scan).uses met_uses adds.shows.uses
+  all_uses = are-met same_use Decides-same_use uses_of sources source (named_use names) (facts.named_use known) (use_of new.numbers source.number) old.usage new.scan.uses
+      (named_use_rows known new.numbers names adds.names source.number (drop (length old.usage) new.scan.uses) adds.own_uses) (start_of old.scan).uses met_uses adds.shows.uses
 
   exact : IsBatch joined
   exact =
@@ -258,27 +294,28 @@ module _ (old new : Fields) (last : Listed) (kept : IsKept old) (adds : IsPushed
         fit = All-push Fits sources source was.fit adds.fits;
         rise = all_pairs_push (λ a b. a.number < b.number) sources source was.rise low;
         classes =
-            adds.shows.names
+            adds.classes
             ∙ ap (λ all. with_names all (classes_of source)) was.classes
             ∙ with_names-each_once (flat_map classes_of sources) (classes_of source)
             ∙ ap (each_once same_class) (sym (shown-push sources source));
-        within = All-append (IsWithin names) old.edges (map (edge_of source.number) (drop (length old.edges) new.scan.locks.edges))
-            (within-longer old.scan.classes names count longer old.edges was.within)
-            (All-map (IsWithin names) (edge_of source.number) (drop (length old.edges) new.scan.locks.edges)
-            (All-drop (reading.IsWithin names) (length old.edges) new.scan.locks.edges adds.shows.within));
+        within = All-append (IsWithin names) old.edges (map (edge_of new.numbers source.number) (drop (length old.edges) new.scan.locks.edges))
+            (within-longer old.classes names count longer old.edges was.within)
+            (rows_within known new.numbers names adds.names source.number (drop (length old.edges) new.scan.locks.edges) adds.own_edges);
         once = λ i j d before within both. pairs-of (λ m n. m.what ≢ n.what) (named names) joined.edges all_edges.apart i j d before within
             (λ k. record { from = get_or names (both.0 k) no_class; to = get_or names (both.1 k) no_class });
-        edges = witness-new same_dependency Decides-same_dependency dependencies_of sources source (named names) (facts.named names) (edge_of source.number) (λ e. refl) old.edges
-            new.scan.locks.edges (start_of old.scan).edges met_edges adds.shows.edges
+        edges = witness-new same_dependency Decides-same_dependency dependencies_of sources source (named names) (facts.named known) (edge_of new.numbers source.number) old.edges
+            new.scan.locks.edges (named_rows known new.numbers names adds.names source.number (drop (length old.edges) new.scan.locks.edges) adds.own_edges)
+            (start_of old.scan).edges met_edges adds.shows.edges
             (λ what. ap (λ all. witness_of same_dependency all what) same_edges ∙ was.edges what) (shown-Ascend dependencies_at source) low;
-        used_within = All-append (IsUse names) old.usage (map (use_of source.number) (drop (length old.usage) new.scan.uses))
-            (used-longer old.scan.classes names count longer old.usage was.used_within)
-            (All-map (IsUse names) (use_of source.number) (drop (length old.usage) new.scan.uses)
-            (All-drop (facts.IsUse names) (length old.usage) new.scan.uses adds.shows.used));
+        used_within = All-append (IsUse names) old.usage (map (use_of new.numbers source.number) (drop (length old.usage) new.scan.uses))
+            (used-longer old.classes names count longer old.usage was.used_within)
+            (use_rows_within known new.numbers names adds.names source.number (drop (length old.usage) new.scan.uses) adds.own_uses
+            (All-weaker (facts.IsUse known) (λ f. IsBit f.bit) (λ f is. is.1) (drop (length old.usage) new.scan.uses) (All-drop (facts.IsUse known) (length old.usage) new.scan.uses adds.shows.used)));
         used_once = λ i j d before within both. pairs-of (λ m n. m.what ≢ n.what) (named_use names) joined.usage all_uses.apart i j d before within
             (λ k. record { class = get_or names (both.0 k) no_class; bit = bit_of (both.1 k) });
-        usage = witness-new same_use Decides-same_use uses_of sources source (named_use names) (facts.named_use names) (use_of source.number) (λ u. refl) old.usage
-            new.scan.uses (start_of old.scan).uses met_uses adds.shows.uses
+        usage = witness-new same_use Decides-same_use uses_of sources source (named_use names) (facts.named_use known) (use_of new.numbers source.number) old.usage
+            new.scan.uses (named_use_rows known new.numbers names adds.names source.number (drop (length old.usage) new.scan.uses) adds.own_uses)
+            (start_of old.scan).uses met_uses adds.shows.uses
             (λ what. ap (λ all. witness_of same_use all what) same_uses ∙ was.usage what) (shown-Ascend uses_at source) low;
       }
 
@@ -287,6 +324,8 @@ module _ (old new : Fields) (last : Listed) (kept : IsKept old) (adds : IsPushed
     exact = subst IsBatch (λ i. record { sources = sym all_sources i; classes = names; edges = sym adds.edges i; usage = sym adds.usage i }) exact;
     outcomes = subst AreOutcomes (sym adds.listed) (All-push (λ (l : Listed). l.outcome ≡ outcome (plain l.source)) old.listed last kept.outcomes adds.outcome);
     few = let more : length (classes_of source) ≤ 8191 = adds.shows.few in omega (arith, kept.few, longer.most, more, ap length adds.listed, length_push old.listed last);
+    known = let more : length (classes_of source) ≤ 8191 = adds.shows.few in omega (arith, kept.known, longer_known.most, more, ap length adds.listed, length_push old.listed last);
+    names = adds.names;
     ready = adds.ready;
     begun = adds.begun;
     edges = subst (λ rows. AreMet (start_of new.scan).edges (map (named names) rows)) (sym adds.edges) all_edges;

@@ -3,3 +3,5 @@ pub mod MetLemmas
 pub mod NameLemmas
 pub mod SourceLemmas
 pub mod TraceLemmas
+pub mod ShownLemmas
+pub mod NamedLemmas

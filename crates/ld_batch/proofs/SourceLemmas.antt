@@ -94,7 +94,8 @@ module _ {A : Type 0} (same : A → A → Bool) (shown : PlainSource → List (S
 -- Rows with the first witnesses over some sources, to which are added those that a scan of one more
 -- adds to what was seen.
 module _ {A R F : Type 0} (same : A → A → Bool) (decides : (a b : A) → Decides (same a b) (a ≡ b)) (shown : PlainSource → List (Seen A)) (sources : List PlainSource) (source : PlainSource)
-    (name : R → Met A) (seen : F → Seen A) (row : F → R) (rows_of : (f : F) → name (row f) ≡ met source.number (seen f)) (old : List R) (facts : List F)
+    (name : R → Met A) (seen : F → Seen A) (row : F → R) (old : List R) (facts : List F)
+    (rows_of : map (λ f. name (row f)) (drop (length old) facts) ≡ map (λ f. met source.number (seen f)) (drop (length old) facts))
     (start : List (Seen A)) (are : AreMet start (map name old)) (added : map seen facts ≡ fold (with_new (same_seen same)) start (shown source)) where
   abbrev more : List F
   more = drop (length old) facts
@@ -106,7 +107,7 @@ module _ {A R F : Type 0} (same : A → A → Bool) (decides : (a b : A) → Dec
   met-new =
       let number = source.number in
       map-append name old (map row more)
-      ∙ ap (λ ms. map name old ++ ms) (map-map name row more ∙ ap (λ f. map f more) (λ i f. rows_of f i) ∙ sym (map-map (met number) seen more))
+      ∙ ap (λ ms. map name old ++ ms) (map-map name row more ∙ rows_of ∙ sym (map-map (met number) seen more))
       ∙ ap (λ ss. map name old ++ map (met number) ss) (sym (drop-map seen (length old) facts) ∙ ap (drop (length old)) added)
       ∙ (λ i. map name old ++ map (met number) (drop (sym (length-map old name) i) (fold (with_new (same_seen same)) (sym are.same i) (shown source))))
       ∙ sym (come_added same number (map name old) (shown source))

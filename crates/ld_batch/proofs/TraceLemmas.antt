@@ -10,7 +10,7 @@ use Rattle.ld_batch.specs.Batch.{IsUse, IsWithin, named, named_use}
 use Rattle.ld_batch.specs.Inner.Names.{IsLonger}
 
 -- two maps that agree on each element
-same_maps : {X Y : Type 0} (f g : X → Y) (P : X → Type 0) → ((x : X) → P x → f x ≡ g x) → (xs : List X) → All P xs → map f xs ≡ map g xs
+pub same_maps : {X Y : Type 0} (f g : X → Y) (P : X → Type 0) → ((x : X) → P x → f x ≡ g x) → (xs : List X) → All P xs → map f xs ≡ map g xs
 same_maps f g P agree [] all = refl
 same_maps f g P agree (x ∷ xs) all =
     let here = agree x (All-head P x xs all) in
@@ -19,7 +19,7 @@ same_maps f g P agree (x ∷ xs) all =
 
 -- more names, among which those that were there keep their places
 module _ (names more : List PlainClass) (count : ℕ) (longer : IsLonger names more count) where
-  same_name : (k : ℕ) → k < length names → get_or more k no_class ≡ get_or names k no_class
+  pub same_name : (k : ℕ) → k < length names → get_or more k no_class ≡ get_or names k no_class
   same_name k within = sym (get_or-take (length names) more k no_class within) ∙ ap (λ all. get_or all k no_class) longer.front
 
   pub edges-longer : (rows : List WitnessedEdge) → All (IsWithin names) rows → map (named more) rows ≡ map (named names) rows

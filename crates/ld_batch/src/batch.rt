@@ -7,6 +7,7 @@ ghost use Rattle.ld_batch.specs.Batch.{AreOutcomes, IsBatch, empty_batch, source
 
 use crate::edges::WitnessedEdge;
 use crate::reading::read;
+use crate::shown::Shown;
 use crate::uses::WitnessedUse;
 use ld_class::Classes;
 use ld_facts::{Facts, Listed, Scan};
@@ -21,12 +22,10 @@ use std::marker::Model;
 #[derive(Drop)]
 pub struct Batch<'a> {
     listed: Vec<Listed<'a>>,
-    /// It scans each trace on top of what the ones before it show, and is ready for the next one.
+    /// It scans each trace on top of what the ones before it show, and is ready for the next one. It
+    /// knows more classes than those of the batch, which were met before the batch was emptied.
     scan: Scan<'a>,
-    /// The dependencies of the scan, with the numbers of the traces that told them first.
-    edges: Vec<WitnessedEdge>,
-    /// The same of its usage bits.
-    usage: Vec<WitnessedUse>,
+    shown: Shown<'a>,
 }
 
 impl<'a> Model for Batch<'a> {
@@ -38,15 +37,19 @@ impl<'a> Model for Batch<'a> {
     ghost view = { λ b. batch_of (record {
       listed = b.listed.items;
       scan = b.scan;
-      edges = b.edges.items;
-      usage = b.usage.items;
+      classes = b.shown.classes;
+      numbers = b.shown.numbers;
+      edges = b.shown.edges.items;
+      usage = b.shown.usage.items;
     }) };
 
     ghost invariant = { λ b. IsKept (record {
       listed = b.listed.items;
       scan = b.scan;
-      edges = b.edges.items;
-      usage = b.usage.items;
+      classes = b.shown.classes;
+      numbers = b.shown.numbers;
+      edges = b.shown.edges.items;
+      usage = b.shown.usage.items;
     }) };
 }
 
@@ -58,19 +61,18 @@ impl<'a> Batch<'a> {
         Batch {
             listed: Vec::new(alloc),
             scan: Scan::new(alloc),
-            edges: Vec::new(alloc),
-            usage: Vec::new(alloc),
+            shown: Shown::new(alloc),
         }
     }
 
-    /// Lists no trace from here on, as a new batch does. The memory stays for further traces.
+    /// Lists no trace from here on, as a new batch does. The memory stays for further traces, and what was
+    /// learned of their classes and dependencies.
     pub fn clear(&mut self)
         ensures { self.new ≡ empty_batch }
     {
         self.listed.clear();
         self.scan.clear();
-        self.edges.clear();
-        self.usage.clear();
+        self.shown.clear();
     }
 
     /// A batch of the one trace that these facts are of.
@@ -105,7 +107,7 @@ impl<'a> Batch<'a> {
         ensures refused { OnErr result (self.new ≡ self.old) }
     {
         self.listed.reserve(1)?;
-        let outcome = read(&mut self.scan, &mut self.edges, &mut self.usage, source)?;
+        let outcome = read(&mut self.scan, &mut self.shown, source)?;
         // From here on nothing is refused.
         let Ok(()) = self.listed.push(Listed { source, outcome }) else {
             unreachable!()
@@ -127,7 +129,7 @@ impl<'a> Batch<'a> {
     pub fn classes(&self) -> &Classes<'a>
         ensures { result.now ≡ self.now.classes }
     {
-        &self.scan.classes
+        &self.shown.classes
     }
 
     /// The dependencies, each once with its first witness, in no promised order. Takes no memory.
@@ -135,7 +137,7 @@ impl<'a> Batch<'a> {
         ensures same { result.now ≡ self.now.edges }
         ensures exact { IsBatch self.now }
     {
-        &self.edges
+        &self.shown.edges
     }
 
     /// The usage bits, each of each class once with its first witness, in no promised order. Takes no
@@ -144,6 +146,6 @@ impl<'a> Batch<'a> {
         ensures same { result.now ≡ self.now.usage }
         ensures exact { IsBatch self.now }
     {
-        &self.usage
+        &self.shown.usage
     }
 }

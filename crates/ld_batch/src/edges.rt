@@ -1,8 +1,10 @@
 //! The dependencies of a batch, by the numbers of its classes.
-ghost use Rattle.std.specs.Prelude.{◌≡◌, ◌+◌, ◌++◌, ◌≤◌, length, map, vec_len, vec_capacity};
-ghost use Rattle.ld_batch.specs.Inner.Rows.{edge_of};
+ghost use Rattle.std.specs.Prelude.{◌≡◌, ◌+◌, ◌++◌, ◌≤◌, All, length, map, vec_len, vec_capacity};
+ghost use Rattle.ld_class.specs.declared.names.TheConstants.{MOST_NAMES};
+ghost use Rattle.ld_batch.specs.Inner.Rows.{IsOwnEdge, edge_of};
 
 use ld_facts::{EdgeFact, Witness};
+use ld_numbers::Numbers;
 
 /// A dependency, and where it was first seen.
 #[derive(Clone, Copy, Debug, PartialEq, Eq)]
@@ -15,16 +17,26 @@ pub struct WitnessedEdge {
     pub witness: Witness,
 }
 
-/// Adds the dependencies that the trace of this number told first.
-pub(crate) fn add_edges(rows: &mut Vec<WitnessedEdge>, facts: &[EdgeFact], number: u64)
-    requires { vec_len rows.old + length facts.now ≤ vec_capacity rows.old }
-    ensures { rows.new.items ≡ rows.old.items ++ map (edge_of number) facts.now }
+/// Adds the dependencies that the trace of this number told first, by the places that their classes have
+/// among the numbers.
+pub(crate) fn add_edges(
+    rows: &mut Vec<WitnessedEdge>,
+    facts: &[EdgeFact],
+    number: u64,
+    numbers: &Numbers,
+)
+    requires room { vec_len rows.old + length facts.now ≤ vec_capacity rows.old }
+    requires few { length numbers.now ≤ MOST_NAMES }
+    requires own { All (IsOwnEdge numbers.now) facts.now }
+    ensures { rows.new.items ≡ rows.old.items ++ map (edge_of numbers.now number) facts.now }
 {
     for fact in facts {
         let line = fact.line;
+        let from = numbers.place(fact.from as usize);
+        let to = numbers.place(fact.to as usize);
         let edge = WitnessedEdge {
-            from: fact.from,
-            to: fact.to,
+            from: from as u32,
+            to: to as u32,
             witness: Witness { number, line },
         };
         let Ok(()) = rows.push(edge) else {

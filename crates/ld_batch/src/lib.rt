@@ -5,6 +5,7 @@ mod batch;
 mod edges;
 mod names;
 mod reading;
+mod shown;
 mod uses;
 
 pub use batch::Batch;

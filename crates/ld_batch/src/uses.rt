@@ -1,9 +1,11 @@
 //! The usage bits of a batch, by the numbers of its classes.
-ghost use Rattle.std.specs.Prelude.{◌≡◌, ◌+◌, ◌++◌, ◌≤◌, length, map, vec_len, vec_capacity};
-ghost use Rattle.ld_batch.specs.Inner.Rows.{use_of};
+ghost use Rattle.std.specs.Prelude.{◌≡◌, ◌+◌, ◌++◌, ◌≤◌, All, length, map, vec_len, vec_capacity};
+ghost use Rattle.ld_class.specs.declared.names.TheConstants.{MOST_NAMES};
+ghost use Rattle.ld_batch.specs.Inner.Rows.{IsOwnUse, use_of};
 
 use ld_class::Usage;
 use ld_facts::{UsageFact, Witness};
+use ld_numbers::Numbers;
 
 /// A usage bit of a class, and where it was first seen.
 #[derive(Clone, Copy, Debug, PartialEq, Eq)]
@@ -16,15 +18,24 @@ pub struct WitnessedUse {
     pub witness: Witness,
 }
 
-/// Adds the usage bits that the trace of this number told first.
-pub(crate) fn add_uses(rows: &mut Vec<WitnessedUse>, facts: &[UsageFact], number: u64)
-    requires { vec_len rows.old + length facts.now ≤ vec_capacity rows.old }
-    ensures { rows.new.items ≡ rows.old.items ++ map (use_of number) facts.now }
+/// Adds the usage bits that the trace of this number told first, by the places that their classes have
+/// among the numbers.
+pub(crate) fn add_uses(
+    rows: &mut Vec<WitnessedUse>,
+    facts: &[UsageFact],
+    number: u64,
+    numbers: &Numbers,
+)
+    requires room { vec_len rows.old + length facts.now ≤ vec_capacity rows.old }
+    requires few { length numbers.now ≤ MOST_NAMES }
+    requires own { All (IsOwnUse numbers.now) facts.now }
+    ensures { rows.new.items ≡ rows.old.items ++ map (use_of numbers.now number) facts.now }
 {
     for fact in facts {
         let line = fact.line;
+        let class = numbers.place(fact.class as usize);
         let used = WitnessedUse {
-            class: fact.class,
+            class: class as u32,
             bit: fact.bit,
             witness: Witness { number, line },
         };

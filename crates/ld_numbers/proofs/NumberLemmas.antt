@@ -5,7 +5,8 @@ use Rattle.std.proofs.lemmas.Bool.{eqb-true, eq-eqb, ltb-true, cases_lt}
 use Rattle.std.proofs.lemmas.Grind.{get_or_default_zero}
 use Rattle.std.proofs.lemmas.List.{get_or_push, get_or_append_left, get_or-set_same, get_or-set_other, length_push, length-set}
 use Rattle.std.proofs.lemmas.List.Folds.{Any-from_list_any, list_any_at}
-use Rattle.std.specs.List.{list_any}
+use Rattle.std.proofs.lemmas.List.Sums.{position_or_len_is}
+use Rattle.std.specs.List.{list_any, position_or_len}
 use Rattle.ld_numbers.specs.Numbers.{AreAtPlaces}
 
 -- a number stands at its place
@@ -106,3 +107,23 @@ module _ (order place : List ℕ) (are : AreAtPlaces order place) where
             ap (λ n. get_or (set place number (length order)) n 0) (get_or_push order number 0 i (last i past inside))
             ∙ get_or-set_same place number (length order) 0 known
             ∙ last i past inside
+
+  -- a number that is there stands first at its place
+  pub place_within : (number : ℕ) → list_any (nat_eq number) order ≡ true → number < length place
+  place_within number there = (found number there).within
+
+  pub place_below : (number : ℕ) → list_any (nat_eq number) order ≡ true → get_or place number 0 < length order
+  place_below number there = (found number there).below
+
+  pub place_is : (number : ℕ) → list_any (nat_eq number) order ≡ true → get_or place number 0 ≡ position_or_len (nat_eq number) order
+  place_is number there =
+      let at = found number there in
+      sym (position_or_len_is (nat_eq number) order (get_or place number 0) 0 (omega (arith, at.below))
+      (λ k before. by k before (nat_eq number (get_or order k 0)) refl) (λ _. eq-eqb number (get_or order (get_or place number 0) 0) (sym at.here)))
+    where
+      by : (k : ℕ) → k < get_or place number 0 → (b : Bool) → nat_eq number (get_or order k 0) ≡ b → b ≡ false
+      by k before true same =
+          let at = found number there in
+          let stands : get_or place (get_or order k 0) 0 ≡ k = are.placed k (omega (arith, before, at.below)) in
+          absurd (omega (arith, before, stands, ap (λ n. get_or place n 0) (eqb-true number (get_or order k 0) same)))
+      by k before false _ = refl

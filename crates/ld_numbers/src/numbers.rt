@@ -1,7 +1,7 @@
 //! Distinct numbers, in the order in which they came.
 ghost use Rattle.std.specs.Prelude.{◌≡◌, ◌≢◌, ◌<◌, ◌≤◌, ℕ, [], ◌∷◌, ◌++◌, false, length, nat_eq, take};
-ghost use Rattle.std.specs.Prelude.{slice_index_or, IfNone, IfSome, OnErr, OnOk};
-ghost use Rattle.std.specs.List.{list_any, AllPairs};
+ghost use Rattle.std.specs.Prelude.{true, slice_index_or, OnErr, OnOk};
+ghost use Rattle.std.specs.List.{list_any, position_or_len, AllPairs};
 
 use std::alloc::{AllocError, Global};
 use std::marker::Model;
@@ -74,6 +74,15 @@ impl Numbers {
         }
         let place = self.place[number];
         place < self.order.len() && self.order[place] == number
+    }
+
+    /// The place of a member.
+    pub fn place(&self, member: usize) -> usize
+        requires { list_any (nat_eq member) self.now ≡ true }
+        ensures place { result ≡ position_or_len (nat_eq member) self.now }
+        ensures within { result < length self.now }
+    {
+        self.place[member]
     }
 
     /// Adds a number that isn't there.

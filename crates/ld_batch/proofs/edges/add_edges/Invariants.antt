@@ -4,6 +4,6 @@ use Rattle.ld_batch.proofs.edges.add_edges.Given as goal
 
 abbrev pub invariant-loop-fact : goal.invariant-loop-fact
 invariant-loop-fact l = record {
-  rows : l.rows.items ≡ l.fn.rows.items ++ map (edge_of l.number) (take l.fact-index l.facts);
+  rows : l.rows.items ≡ l.fn.rows.items ++ map (edge_of l.numbers l.number) (take l.fact-index l.facts);
   spare : vec_len l.rows + (length l.facts - l.fact-index) ≤ vec_capacity l.rows;
 }

@@ -1,4 +1,4 @@
-use Rattle.std.proofs.Common.{◌≡◌, ◌*◌, ◌<◌, ◌≤◌, ◌++◌, ◌∷◌, [], ◌∙◌, List, ℕ, None, IfSome, ap, arith, length, subst, sym}
+use Rattle.std.proofs.Common.{◌≡◌, ◌*◌, ◌+◌, ◌<◌, ◌≤◌, ◌++◌, ◌∷◌, [], ◌∙◌, List, ℕ, None, IfSome, ap, arith, length, subst, sym}
 use Rattle.std.proofs.lemmas.List.{length-map}
 use Rattle.std.specs.List.{last_or}
 use Rattle.ld_trace.specs.Sources.{PlainSource, plain}
@@ -21,7 +21,19 @@ read-requires-clause-room c =
     let few = few_below sources number rise low in
     let listed = length-map c.self.inside.listed.items (λ (l : Listed). plain l.source) in
     let traces : number < 65535 = c.requires.fits.number in
-    let classes : length c.self.inside.scan.classes ≤ length c.self.inside.listed.items * 8191 = c.self.invariant.few in
+    let classes : length c.self.inside.scan.classes ≤ 65536 + length c.self.inside.listed.items * 8191 = c.self.invariant.known in
+    omega (arith, few, listed, traces, classes)
+
+pub read-requires-clause-few : goal.read-requires-clause-few
+read-requires-clause-few c =
+    let sources = sources_of c.self.inside.listed.items in
+    let number = c.args.source.number in
+    let rise = c.self.invariant.exact.rise in
+    let low = above_all sources number rise (above sources number c.args.self.now (ap (λ b. b.sources) c.self.view_is) c.requires.above) in
+    let few = few_below sources number rise low in
+    let listed = length-map c.self.inside.listed.items (λ (l : Listed). plain l.source) in
+    let traces : number < 65535 = c.requires.fits.number in
+    let classes : length c.self.inside.shown.classes ≤ length c.self.inside.listed.items * 8191 = c.self.invariant.few in
     omega (arith, few, listed, traces, classes)
 
 pub read-requires-clause-edges : goal.read-requires-clause-edges
@@ -39,8 +51,12 @@ invariant_of-self-2 c =
       above = above (sources_of c.self.inside.listed.items) c.args.source.number c.args.self.now (ap (λ b. b.sources) c.self.view_is) c.requires.above;
       listed = c.in-Ok.ensures.items ∙ ap (λ all. all ++ last ∷ []) c.reserve.ensures.items;
       shows = c.in_ok-outcome.ensures.shows;
+      classes = c.in_ok-outcome.ensures.classes;
+      names = c.in_ok-outcome.ensures.names;
       edges = c.in_ok-outcome.ensures.edges;
       usage = c.in_ok-outcome.ensures.usage;
+      own_edges = c.in_ok-outcome.ensures.own_edges;
+      own_uses = c.in_ok-outcome.ensures.own_uses;
       ready = c.in_ok-outcome.ensures.ready;
       begun = c.in_ok-outcome.ensures.begun;
     })
