@@ -8,7 +8,7 @@ mod held;
 mod interrupts;
 mod locks;
 
-pub use edges::{EdgeFact, Edges};
+pub use edges::EdgeFact;
 pub use held::Held;
 pub use interrupts::{Flag, Interrupts};
 pub use locks::Locks;

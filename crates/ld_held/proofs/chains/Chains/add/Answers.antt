@@ -30,7 +30,7 @@ invariant_of-self-2 c =
         ap length c.reserve.ensures.items,
         ap length keys,
         length_push c.self.inside.links.keys c.args.link,
-        c.self.invariant.many
+        c.self.invariant.many,
       );
     }
 

@@ -14,7 +14,7 @@ within_of links numbers known number is many within = omega (
   many,
   ap (λ (k : KeptChains). length (chains_of k.links)) is,
   length-chains_of links,
-  length-map numbers (option_map (λ (v : Vec ℕ Global). v.items))
+  length-map numbers (option_map (λ (v : Vec ℕ Global). v.items)),
 )
 
 pub index-requires : goal.index-requires

@@ -83,11 +83,11 @@ invariant_of-self-2 c =
     let chains = chains_of c.extended.new.chains.links in
     let new = c.tell_to.new.self.edges in
     let tied = tied_then c.self.inside.stacks c.self.inside.chains c.extended.new.chains c.self.inside.told c.self.inside.edges c.extended.new.edges c.self.inside.begun
-        c.self.invariant c.extended.ensures.more c.extended.ensures.edges new c.tell_to.ensures.kept c.tell_to.ensures.first in
+    c.self.invariant c.extended.ensures.more c.extended.ensures.edges new c.tell_to.ensures.kept c.tell_to.ensures.first in
     let mark = mark_then c.self.inside.stacks c.self.inside.chains c.extended.new.chains c.self.inside.told c.self.inside.edges c.extended.new.edges c.self.inside.begun
-        c.self.invariant c.extended.ensures.more c.extended.ensures.edges new c.tell_to.ensures.kept c.tell_to.ensures.first in
+    c.self.invariant c.extended.ensures.more c.extended.ensures.edges new c.tell_to.ensures.kept c.tell_to.ensures.first in
     let here = tied_here c.self.inside.stacks c.self.inside.chains c.extended.new.chains c.self.inside.told c.self.inside.edges c.extended.new.edges c.self.inside.begun
-        c.self.invariant c.extended.ensures.more c.extended.ensures.edges in
+    c.self.invariant c.extended.ensures.more c.extended.ensures.edges in
     record {
       tied =
           tied_told c.self.inside.stacks chains c.self.inside.told new tied c.add.result c.in_ok-chain.chain c.add.new.self
