@@ -112,6 +112,14 @@ module _ (links : List Link) (link : Link) (tree : IsTree links) where
       chain_at links tree n link at.0
       ∙ ap (λ (l : Link). chain_before (chains_of links) l.before ++ l.class ∷ []) (sym (same_link-≡ link (get_or links n link) at.1))
 
+  -- or by its place
+  module _ (n : ℕ) (at : (n < length links) × (get_or links n link ≡ link)) where
+    pub place_within : n < length (chains_of links)
+    place_within = omega (arith, at.0, length-chains_of links)
+
+    pub place_chain : get_or (chains_of links) n [] ≡ chain_before (chains_of links) link.before ++ link.class ∷ []
+    place_chain = chain_at links tree n link at.0 ∙ ap (λ (l : Link). chain_before (chains_of links) l.before ++ l.class ∷ []) at.1
+
 -- one more chain is that before it with its class
 pub chain_last : (links : List Link) (link : Link) → get_or (chains_of (links ++ link ∷ [])) (length links) [] ≡ chain_before (chains_of links) link.before ++ link.class ∷ []
 chain_last links link = ap (λ cs. get_or cs (length links) []) (chains-push links link)

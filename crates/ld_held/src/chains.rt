@@ -1,6 +1,7 @@
 //! Chains of classes: the lists of the classes that a task holds in a frame, in order of acquisition.
 ghost use Rattle.std.specs.Prelude.{◌≡◌, ◌<◌, ℕ, [], ◌∷◌, ◌++◌, false, length, slice_index_or, IfNone};
 ghost use Rattle.std.specs.Prelude.{IfOk, IfSome, None, OnErr, OnOk, option_map};
+ghost use Rattle.std.specs.Bool.{OnTrue};
 ghost use Rattle.std.specs.List.{list_any};
 ghost use Rattle.ld_held.specs.Inner.Chains.{KeptChains, chain_before, chains_of, same_link};
 
@@ -28,6 +29,8 @@ pub struct Chains {
     numbers: Vec<Option<Vec<usize>>>,
     /// How many numbers are kept.
     kept: usize,
+    /// The chain that was answered last. It may be past the end, and says nothing then.
+    last: usize,
 }
 
 impl Model for Chains {
@@ -55,6 +58,7 @@ impl Chains {
             links: IndexSet::new(alloc),
             numbers: Vec::new(alloc),
             kept: 0,
+            last: 0,
         }
     }
 
@@ -72,16 +76,23 @@ impl Chains {
         self.kept < MOST_KEPT
     }
 
-    /// The number of a chain, or `None` where it wasn't met.
-    pub fn find(&self, link: Link) -> Option<usize>
-        requires { IfSome link.before (λ n. n < length (chains_of self.now.links)) }
-        ensures many { length self.now.numbers ≡ length self.now.links }
-        ensures none { IfNone result (list_any (same_link link) self.now.links ≡ false) }
-        ensures within { IfSome result (λ n. n < length (chains_of self.now.links)) }
-        ensures chain { IfSome result (λ n. slice_index_or (chains_of self.now.links) n []
-            ≡ chain_before (chains_of self.now.links) link.before ++ link.class ∷ []) }
+    /// The number of a chain, or `None` where it wasn't met. One that is asked for twice on end is looked
+    /// up once.
+    pub fn find(&mut self, link: Link) -> Option<usize>
+        requires { IfSome link.before (λ n. n < length (chains_of self.old.links)) }
+        ensures same { self.new ≡ self.old }
+        ensures many { length self.old.numbers ≡ length self.old.links }
+        ensures none { IfNone result (list_any (same_link link) self.old.links ≡ false) }
+        ensures within { IfSome result (λ n. n < length (chains_of self.old.links)) }
+        ensures chain { IfSome result (λ n. slice_index_or (chains_of self.old.links) n []
+            ≡ chain_before (chains_of self.old.links) link.before ++ link.class ∷ []) }
     {
-        self.links.get_index_of(&link)
+        if is_at(&self.links, self.last, link) {
+            return Some(self.last);
+        }
+        let number = self.links.get_index_of(&link)?;
+        self.last = number;
+        Some(number)
     }
 
     /// Adds a chain that wasn't met, with the numbers of its pairs, and answers its number.
@@ -101,6 +112,7 @@ impl Chains {
         self.numbers.reserve(1)?;
         let (number, _) = self.links.insert_full(link)?;
         self.kept = self.kept.saturating_add(count);
+        self.last = number;
         if self.numbers.push(numbers).is_err() {
             unreachable!();
         }
@@ -119,4 +131,12 @@ impl Chains {
             None => None,
         }
     }
+}
+
+/// Whether the chain stands at the place.
+fn is_at(links: &IndexSet<Link>, place: usize, link: Link) -> bool
+    ensures { OnTrue result ((place < length links.now.keys)
+        × (slice_index_or links.now.keys place link ≡ link)) }
+{
+    place < links.len() && links.as_slice()[place] == link
 }

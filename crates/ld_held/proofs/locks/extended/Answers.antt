@@ -1,34 +1,62 @@
-use Rattle.std.proofs.Common.{◌≡◌, List, ℕ, Vec, Global, map, option_map, sym, ap, subst, ◌∙◌, ◌∷◌, [], ◌++◌, get_or}
+use Rattle.std.proofs.Common.{◌≡◌, List, ℕ, Vec, Global, map, option_map, sym, ap, subst, ◌∙◌, ◌∷◌, [], ◌++◌, get_or, length}
 use Rattle.ld_held.specs.declared.chains.Link.{Link}
+use Rattle.ld_held.specs.declared.edges.Pair.{Pair}
 use Rattle.ld_held.specs.declared.held.Held.{Held}
-use Rattle.ld_held.specs.Inner.Chains.{chain_before, chains_of}
+use Rattle.ld_held.specs.Inner.Chains.{KeptChains, chain_before, chains_of}
+use Rattle.ld_held.specs.Inner.Edges.{AreMore}
+use Rattle.ld_held.specs.Inner.Locks.{HasItsNumbers, IsExtended}
 use Rattle.ld_held.proofs.NumberedLemmas.{chain_then, extended_then, numbered_more, numbered_then, plain_numbers, within_then}
 use Rattle.ld_held.proofs.locks.extended.Goals as goal
 
+-- what was asked of the chains holds of them once the chain was looked for
+module _ (old now : KeptChains) (same : now ≡ old) where
+  numbered_now : (pairs more : List Pair) → AreMore pairs more → HasItsNumbers (chains_of old.links) old.numbers pairs → HasItsNumbers (chains_of now.links) now.numbers more
+  numbered_now pairs more are numbered = subst (λ (k : KeptChains). HasItsNumbers (chains_of k.links) k.numbers more) (sym same)
+      (numbered_more (chains_of old.links) old.numbers pairs more are numbered)
+
+  before_now : (before : _) (froms : List ℕ) → chain_before (chains_of old.links) before ≡ froms → chain_before (chains_of now.links) before ≡ froms
+  before_now before froms is = ap (λ (k : KeptChains). chain_before (chains_of k.links) before) same ∙ is
+
+  many_now : length old.numbers ≡ length old.links → length now.numbers ≡ length now.links
+  many_now = subst (λ (k : KeptChains). length k.numbers ≡ length k.links) (sym same)
+
 pub returns-in_err-numbers-clause-numbered : goal.returns-in_err-numbers-clause-numbered
 returns-in_err-numbers-clause-numbered c =
-    numbered_more (chains_of c.args.chains.now.links) c.args.chains.now.numbers c.args.edges.now.pairs c.kept.new.edges.pairs c.kept.ensures.more c.requires.numbered
+    numbered_now c.args.chains.now c.find.new.self c.find.ensures.same c.args.edges.now.pairs c.kept.new.edges.pairs c.kept.ensures.more c.requires.numbered
 
 pub returns-clause-numbered : goal.returns-clause-numbered
 returns-clause-numbered c =
     let froms = map (λ (h : Held). h.class) c.args.stack.now in
-    let before : chain_before (chains_of c.args.chains.now.links) c.last_chain-before.result ≡ froms = ap (chain_before (chains_of c.args.chains.now.links)) c.last_chain-before.ensures ∙ c.requires.classes in
-    numbered_then c.args.chains.now c.add.new.self (record { before = c.last_chain-before.result; class = c.args.class }) froms before
-    (option_map (λ (v : Vec ℕ Global). v.items) c.in_ok-numbers.numbers) c.add.result c.kept.new.edges.pairs c.find.ensures.many
-    (numbered_more (chains_of c.args.chains.now.links) c.args.chains.now.numbers c.args.edges.now.pairs c.kept.new.edges.pairs c.kept.ensures.more c.requires.numbered)
+    numbered_then c.find.new.self c.add.new.self (record { before = c.last_chain-before.result; class = c.args.class }) froms
+    (before_now c.args.chains.now c.find.new.self c.find.ensures.same c.last_chain-before.result froms
+    (ap (chain_before (chains_of c.args.chains.now.links)) c.last_chain-before.ensures ∙ c.requires.classes))
+    (option_map (λ (v : Vec ℕ Global). v.items) c.in_ok-numbers.numbers) c.add.result c.kept.new.edges.pairs
+    (many_now c.args.chains.now c.find.new.self c.find.ensures.same c.find.ensures.many)
+    (numbered_now c.args.chains.now c.find.new.self c.find.ensures.same c.args.edges.now.pairs c.kept.new.edges.pairs c.kept.ensures.more c.requires.numbered)
     (plain_numbers c.kept.new.edges.pairs c.args.class froms c.in_ok-numbers.numbers c.in_ok-numbers.ensures.numbers)
     c.add.ensures.links c.add.ensures.numbers c.add.ensures.refused
+
+pub returns-clause-more : goal.returns-clause-more
+returns-clause-more c =
+    let froms = map (λ (h : Held). h.class) c.args.stack.now in
+    subst (λ (k : KeptChains). IsExtended (chains_of k.links) (chains_of c.add.new.self.links)) c.find.ensures.same
+    (extended_then c.find.new.self c.add.new.self (record { before = c.last_chain-before.result; class = c.args.class }) froms
+    (before_now c.args.chains.now c.find.new.self c.find.ensures.same c.last_chain-before.result froms
+    (ap (chain_before (chains_of c.args.chains.now.links)) c.last_chain-before.ensures ∙ c.requires.classes))
+    (option_map (λ (v : Vec ℕ Global). v.items) c.in_ok-numbers.numbers) c.add.result c.add.ensures.links c.add.ensures.refused)
 
 pub returns-clause-within : goal.returns-clause-within
 returns-clause-within c =
     let froms = map (λ (h : Held). h.class) c.args.stack.now in
-    let before : chain_before (chains_of c.args.chains.now.links) c.last_chain-before.result ≡ froms = ap (chain_before (chains_of c.args.chains.now.links)) c.last_chain-before.ensures ∙ c.requires.classes in
-    within_then c.args.chains.now c.add.new.self (record { before = c.last_chain-before.result; class = c.args.class }) froms before
+    within_then c.find.new.self c.add.new.self (record { before = c.last_chain-before.result; class = c.args.class }) froms
+    (before_now c.args.chains.now c.find.new.self c.find.ensures.same c.last_chain-before.result froms
+    (ap (chain_before (chains_of c.args.chains.now.links)) c.last_chain-before.ensures ∙ c.requires.classes))
     (option_map (λ (v : Vec ℕ Global). v.items) c.in_ok-numbers.numbers) c.add.result c.add.ensures.number c.add.ensures.links
 
 pub returns-clause-chain : goal.returns-clause-chain
 returns-clause-chain c =
     let froms = map (λ (h : Held). h.class) c.args.stack.now in
-    let before : chain_before (chains_of c.args.chains.now.links) c.last_chain-before.result ≡ froms = ap (chain_before (chains_of c.args.chains.now.links)) c.last_chain-before.ensures ∙ c.requires.classes in
-    chain_then c.args.chains.now c.add.new.self (record { before = c.last_chain-before.result; class = c.args.class }) froms before
+    chain_then c.find.new.self c.add.new.self (record { before = c.last_chain-before.result; class = c.args.class }) froms
+    (before_now c.args.chains.now c.find.new.self c.find.ensures.same c.last_chain-before.result froms
+    (ap (chain_before (chains_of c.args.chains.now.links)) c.last_chain-before.ensures ∙ c.requires.classes))
     (option_map (λ (v : Vec ℕ Global). v.items) c.in_ok-numbers.numbers) c.add.result c.add.ensures.number c.add.ensures.links
