@@ -5,3 +5,4 @@ pub mod SourceLemmas
 pub mod TraceLemmas
 pub mod ShownLemmas
 pub mod NamedLemmas
+pub mod ListedLemmas

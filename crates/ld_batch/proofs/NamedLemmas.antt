@@ -67,12 +67,6 @@ with_names-more known names now new own i d within so_far is =
     ∙ sym (fold-append with_name names (names_at known (take i own)) (get_or known (get_or own i d) no_class ∷ []))
     ∙ ap (with_names names) (sym (map_more (λ n. get_or known n no_class) own i d within))
 
--- what stands first in what stands first
-pub first_in_first : {X : Type 0} (old middle new : List X) → take (length old) middle ≡ old → take (length middle) new ≡ middle → take (length old) new ≡ old
-first_in_first old middle new first further =
-    let short : length old ≤ length middle = omega (arith, length-take (length old) middle, ap length first) in
-    sym (take-take (length old) (length middle) new short) ∙ ap (take (length old)) further ∙ first
-
 -- what is of some numbers is of others among which these are
 module _ (own numbers : List ℕ) (all : All (λ n. list_any (nat_eq n) numbers ≡ true) own) where
   there_too : (n : ℕ) → list_any (nat_eq n) own ≡ true → list_any (nat_eq n) numbers ≡ true

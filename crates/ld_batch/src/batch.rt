@@ -1,5 +1,7 @@
 //! `Batch`, which keeps what a few traces show together.
-ghost use Rattle.std.specs.Prelude.{◌≡◌, ◌<◌, ◌≤◌, ◌*◌, ◌++◌, ◌∷◌, [], None, IfOk, IfSome, OnErr, OnOk, length};
+ghost use Rattle.std.specs.Prelude.{◌≡◌, ◌<◌, ◌≤◌, ◌-◌, ◌*◌, ◌++◌, ◌∷◌, [], None, Some, IfOk, IfSome, OnErr};
+ghost use Rattle.std.specs.Prelude.{OnOk, length, slice_index_or};
+ghost use Rattle.ld_rules.specs.declared.outcome.Listed.{Listed};
 ghost use Rattle.std.specs.List.{last_or};
 ghost use Rattle.ld_trace.specs.Sources.{Fits, plain};
 ghost use Rattle.ld_rules.specs.declared.outcome.TheConstants.{MOST_CLASSES};
@@ -118,6 +120,8 @@ impl<'a> Batch<'a> {
     /// The traces with their outcomes, in order of their numbers. Takes no memory.
     pub fn listed(&self) -> &[Listed<'a>]
         ensures sources { sources_of result.now ≡ self.now.sources }
+        ensures last { (l : Listed) → 0 < length result.now → last_or None self.now.sources
+            ≡ Some (plain (slice_index_or result.now (length result.now - 1) l).source) }
         ensures outcomes { AreOutcomes result.now }
         ensures exact { IsBatch self.now }
         ensures few { length self.now.classes ≤ length self.now.sources * MOST_CLASSES }

@@ -5,7 +5,7 @@ use Rattle.ld_facts.specs.declared.scan.Scan.{Scan}
 use Rattle.ld_facts.specs.Inner.Reading.{StandsOn}
 
 -- what stands first in what stands first
-take-first : {X : Type 0} (old middle new : List X) → take (length old) middle ≡ old → take (length middle) new ≡ middle → take (length old) new ≡ old
+pub take-first : {X : Type 0} (old middle new : List X) → take (length old) middle ≡ old → take (length middle) new ≡ middle → take (length old) new ≡ old
 take-first old middle new first further =
     let short : length old ≤ length middle = omega (arith, length-take (length old) middle, ap length first) in
     sym (take-take (length old) (length middle) new short) ∙ ap (take (length old)) further ∙ first

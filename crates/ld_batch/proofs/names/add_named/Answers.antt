@@ -4,9 +4,10 @@ use Rattle.std.proofs.lemmas.List.Elements.{All-push, All-weaker}
 use Rattle.std.specs.List.{list_any}
 use Rattle.ld_class.specs.Names.{no_class, with_name}
 use Rattle.ld_facts.specs.Inner.Reading.{names_at}
+use Rattle.ld_facts.proofs.StandsLemmas.{take-first}
 use Rattle.ld_batch.specs.Inner.Names.{with_names}
 use Rattle.ld_batch.proofs.NameLemmas.{longer_all}
-use Rattle.ld_batch.proofs.NamedLemmas.{as_many, first_there, first_in_first, with_names-more}
+use Rattle.ld_batch.proofs.NamedLemmas.{first_there, with_names-more}
 use Rattle.ld_batch.proofs.names.add_named.Goals as goal
 
 pub add_one-requires-clause-room : goal.add_one-requires-clause-room
@@ -32,6 +33,6 @@ loop-number-preserved c =
           (All-weaker (λ n. list_any (nat_eq n) c.loop-number.numbers ≡ true) (λ n. list_any (nat_eq n) c.add_one.new.numbers ≡ true)
           (first_there c.loop-number.numbers c.add_one.new.numbers c.add_one.ensures.front) (take i own) so_far.there)
           c.in-Ok.ensures.there);
-      front = first_in_first c.args.numbers.now c.loop-number.numbers c.add_one.new.numbers so_far.front c.add_one.ensures.front;
-      first = first_in_first c.args.names.now c.loop-number.names c.add_one.new.names so_far.first c.add_one.ensures.first;
+      front = take-first c.args.numbers.now c.loop-number.numbers c.add_one.new.numbers so_far.front c.add_one.ensures.front;
+      first = take-first c.args.names.now c.loop-number.names c.add_one.new.names so_far.first c.add_one.ensures.first;
     }

@@ -1,10 +1,12 @@
-use Rattle.std.proofs.Common.{rules, sym, length}
+use Rattle.std.proofs.Common.{rules, ◌≡◌, ◌<◌, IfSome, Some, ap, length, subst, sym, ◌∙◌}
 use Rattle.std.proofs.lemmas.Bool.{ltb-true}
-use Rattle.ld_book_tests.proofs.ListedLemmas.{above_last}
+use Rattle.ld_trace.specs.Sources.{plain}
+use Rattle.ld_rules.specs.declared.outcome.Listed.{Listed}
 use Rattle.ld_book_tests.proofs.batches.push.Goals as goal
 
 pub push-requires-clause-above : goal.push-requires-clause-above
 push-requires-clause-above g c =
     let item = c.in-Some.ensures.item in
-    let listed = c.listed.result.now in
-    above_last c.in-Some.last.now listed c.args.batch.now.sources c.args.source.number (ltb-true 0 (length listed) (sym item.0)) item.1 c.listed.ensures.sources (search rules)
+    let above : c.in-Some.last.now.source.number < c.args.source.number = search rules in
+    subst (λ o. IfSome o (λ s. s.number < c.args.source.number))
+    (ap (λ (l : Listed). Some (plain l.source)) item.1 ∙ sym (c.listed.ensures.last c.in-Some.last.now (ltb-true 0 (length c.listed.result.now) (sym item.0)))) above

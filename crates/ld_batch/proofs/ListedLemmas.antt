@@ -1,14 +1,14 @@
 -- The last trace of a list.
-use Rattle.std.proofs.Common.{◌≡◌, ◌-◌, ◌<◌, ◌++◌, ◌∷◌, [], List, ℕ, None, Some, IfSome, get_or, length, ap, sym, subst, ◌∙◌, arith}
+use Rattle.std.proofs.Common.{◌≡◌, ◌-◌, ◌<◌, ◌++◌, ◌∷◌, [], List, None, Some, get_or, length, ap, sym, ◌∙◌, arith}
 use Rattle.std.proofs.lemmas.List.{get_or_push, length_push, map-append}
 use Rattle.std.specs.List.{last_or}
-use Rattle.ld_trace.specs.Sources.{PlainSource, plain}
+use Rattle.ld_trace.specs.Sources.{plain}
 use Rattle.ld_rules.specs.declared.outcome.Listed.{Listed}
 use Rattle.ld_rules.proofs.PlaceLemmas.{by_pushes, last_or-push}
 use Rattle.ld_batch.specs.Batch.{sources_of}
 
 -- the last of their sources is the source of the last
-last_source : (d : Listed) (listed : List Listed) → 0 < length listed → last_or None (sources_of listed) ≡ Some (plain (get_or listed (length listed - 1) d).source)
+pub last_source : (d : Listed) (listed : List Listed) → 0 < length listed → last_or None (sources_of listed) ≡ Some (plain (get_or listed (length listed - 1) d).source)
 last_source d listed = by_pushes (λ xs. 0 < length xs → last_or None (sources_of xs) ≡ Some (plain (get_or xs (length xs - 1) d).source)) (λ some. absurd (omega arith)) step listed
   where
     step : (xs : List Listed) (x : Listed) → (0 < length xs → last_or None (sources_of xs) ≡ Some (plain (get_or xs (length xs - 1) d).source))
@@ -18,11 +18,3 @@ last_source d listed = by_pushes (λ xs. 0 < length xs → last_or None (sources
         ap (last_or None) (map-append (λ l. plain l.source) xs (x ∷ []))
         ∙ last_or-push None (sources_of xs) (plain x.source)
         ∙ sym (ap (λ (l : Listed). Some (plain l.source)) here)
-
--- a number above that of the last one is above the last source's
-pub above_last : (last : Listed) (listed : List Listed) (sources : List PlainSource) (number : ℕ) → 0 < length listed → last ≡ get_or listed (length listed - 1) last
-    → sources_of listed ≡ sources → last.source.number < number → IfSome (last_or None sources) (λ s. s.number < number)
-above_last last listed sources number some is same above =
-    subst (λ o. IfSome o (λ s. s.number < number))
-    (ap (λ (l : Listed). Some (plain l.source)) is ∙ sym (last_source last listed some) ∙ ap (last_or None) same)
-    above
