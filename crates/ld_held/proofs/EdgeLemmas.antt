@@ -1,6 +1,6 @@
 -- Dependencies, and the numbers of their pairs.
-use Rattle.std.proofs.Common.{◌≡◌, ◌≢◌, ◌<◌, ◌≤◌, ◌+◌, ◌∷◌, [], ◌++◌, ◌&&◌, ◌||◌, ◌⊎◌, inl, inr, List, ℕ, Bool, true, false, true≢false, nat_eq, suc, ap, ◌∙◌, sym, subst, refl, arith}
-use Rattle.std.proofs.Common.{All, get_or, length, map, take, fold, if◌then◌else◌, length-append}
+use Rattle.std.proofs.Common.{◌≡◌, ◌≢◌, ◌<◌, ◌∷◌, [], ◌++◌, ◌&&◌, ◌||◌, ◌⊎◌, inl, inr, List, ℕ, Bool, true, false, true≢false, nat_eq, suc, ap, ◌∙◌, sym, refl, arith}
+use Rattle.std.proofs.Common.{All, get_or, length, map, if◌then◌else◌}
 use Rattle.std.proofs.lemmas.Bool.{and_from, and_parts, cases_order, eq-eqb, eqb-true}
 use Rattle.std.proofs.lemmas.List.{append-nil, get_or_append_left, length_push, map-append}
 use Rattle.std.proofs.lemmas.List.Elements.{All-push, All-weaker}

@@ -1,5 +1,5 @@
 -- The numbers that are kept with chains.
-use Rattle.std.proofs.Common.{◌≡◌, ◌<◌, ◌≤◌, ◌+◌, ◌∷◌, [], ◌++◌, ◌⊎◌, inl, inr, List, ℕ, Option, Some, None, IfSome, Bor, Vec, Global, Result, Ok, Err, OnOk, OnErr, IfOk}
+use Rattle.std.proofs.Common.{◌≡◌, ◌<◌, ◌≤◌, ◌∷◌, [], ◌++◌, ◌⊎◌, inl, inr, List, ℕ, Option, Some, None, IfSome, Bor, Vec, Global, Result, Ok, Err, OnOk, OnErr, IfOk}
 use Rattle.std.proofs.Common.{ap, sym, subst, ◌∙◌, arith, get_or, length, option_map, refl}
 use Rattle.std.proofs.lemmas.Bool.{cases_lt}
 use Rattle.std.proofs.lemmas.List.{get_or_append_left, get_or_push, length_push, same_from_push}

@@ -227,11 +227,12 @@ impl<'a> Locks<'a> {
     {
         let held = self.stacks.held(task);
         let top = held.len() - 1;
-        let last = held[top];
-        self.stacks.truncate(task, top);
         if place == top {
+            self.stacks.truncate(task, top);
             return Ok(());
         }
+        let last = held[top];
+        self.stacks.truncate(task, top);
         self.take_out(task, place)?;
         self.hold(task, last.lock, last.class)
     }

@@ -1,5 +1,4 @@
-use Rattle.std.proofs.Common.{◌≡◌, List, ℕ, Vec, Global, map, option_map, sym, ap, subst, ◌∙◌, ◌∷◌, [], ◌++◌, get_or, length}
-use Rattle.ld_held.specs.declared.chains.Link.{Link}
+use Rattle.std.proofs.Common.{◌≡◌, List, ℕ, Vec, Global, map, option_map, sym, ap, subst, ◌∙◌, length}
 use Rattle.ld_held.specs.declared.edges.Pair.{Pair}
 use Rattle.ld_held.specs.declared.held.Held.{Held}
 use Rattle.ld_held.specs.Inner.Chains.{KeptChains, chain_before, chains_of}

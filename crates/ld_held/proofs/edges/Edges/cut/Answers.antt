@@ -1,4 +1,4 @@
-use Rattle.std.proofs.Common.{◌≡◌, ◌<◌, List, ℕ, length, map, take, ap, sym, subst, ◌∙◌}
+use Rattle.std.proofs.Common.{◌<◌, List, ℕ, length, take, ap, sym, subst, ◌∙◌}
 use Rattle.std.proofs.lemmas.List.{take-map}
 use Rattle.std.proofs.lemmas.List.Elements.{All-take}
 use Rattle.ld_held.specs.declared.edges.EdgeFact.{EdgeFact}

@@ -1,4 +1,4 @@
-use Rattle.std.proofs.Common.{◌≡◌, ap, sym, subst, ◌∙◌, slice_get}
+use Rattle.std.proofs.Common.{sym, subst, ◌∙◌}
 use Rattle.std.proofs.lemmas.Option.{get_or_from_slice_get}
 use Rattle.ld_held.specs.Inner.Edges.{AreMore, AreTheirs, KeptEdges, no_pair}
 use Rattle.ld_held.proofs.EdgeLemmas.{AreMore-with_pair, distinct-with_pair, same_classes-≡, theirs_more, with_pair}

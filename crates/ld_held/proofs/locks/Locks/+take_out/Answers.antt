@@ -126,7 +126,7 @@ returns-then-place-top-clause-stacks t c =
 pub invariant_of-self-2 : goal.invariant_of-self-2
 invariant_of-self-2 t c = record {
   tied = tied c.self.inside.stacks c.self.inside.edges.edges c.args.self.now c.args.task c.held-held.result.now c.self.view_is c.held-held.ensures.held
-      c.args.place c.requires.inner c.requires.held c.requires.task c.truncate.new.self c.truncate.ensures (chains_of c.self.inside.chains.links) c.self.inside.told c.self.invariant.tied;
+      c.args.place c.requires.inner c.requires.held c.requires.task c.truncate-2.new.self c.truncate-2.ensures (chains_of c.self.inside.chains.links) c.self.inside.told c.self.invariant.tied;
   mark = c.self.invariant.mark;
   numbered = c.self.invariant.numbered;
 }
@@ -134,15 +134,15 @@ invariant_of-self-2 t c = record {
 pub take_out-requires : goal.take_out-requires
 take_out-requires t c = (
   (let shrinks = fewer c.self.inside.stacks c.self.inside.edges.edges c.args.self.now c.args.task c.held-held.result.now c.self.view_is c.held-held.ensures.held
-      c.args.place c.requires.inner c.requires.held c.requires.task c.truncate.new.self c.truncate.ensures in omega (arith, shrinks, c.decreases)),
+      c.args.place c.requires.inner c.requires.held c.requires.task c.truncate-2.new.self c.truncate-2.ensures in omega (arith, shrinks, c.decreases)),
   (
     stays_within c.self.inside.stacks c.self.inside.edges.edges c.args.self.now c.args.task c.held-held.result.now c.self.view_is c.held-held.ensures.held
-        c.args.place c.requires.inner c.requires.held c.requires.task c.truncate.new.self c.truncate.ensures,
+        c.args.place c.requires.inner c.requires.held c.requires.task c.truncate-2.new.self c.truncate-2.ensures,
     (
       inner_stays c.self.inside.stacks c.self.inside.edges.edges c.args.self.now c.args.task c.held-held.result.now c.self.view_is c.held-held.ensures.held
-          c.args.place c.requires.inner c.requires.held c.requires.task c.truncate.new.self c.truncate.ensures,
+          c.args.place c.requires.inner c.requires.held c.requires.task c.truncate-2.new.self c.truncate-2.ensures,
       stays_below c.self.inside.stacks c.self.inside.edges.edges c.args.self.now c.args.task c.held-held.result.now c.self.view_is c.held-held.ensures.held
-          c.args.place c.requires.inner c.requires.held c.requires.task c.truncate.new.self c.truncate.ensures c.if-place-top.false,
+          c.args.place c.requires.inner c.requires.held c.requires.task c.truncate-2.new.self c.truncate-2.ensures c.if-place-top.false,
     ),
   ),
 )
@@ -150,11 +150,11 @@ take_out-requires t c = (
 pub hold-requires-clause-room : goal.hold-requires-clause-room
 hold-requires-clause-room t c =
     room c.self.inside.stacks c.self.inside.edges.edges c.args.self.now c.args.task c.held-held.result.now c.self.view_is c.held-held.ensures.held
-    c.args.place c.requires.inner c.requires.held c.requires.task c.truncate.new.self c.truncate.ensures c.take_out.new.self c.in_ok-take_out.ensures.stacks
+    c.args.place c.requires.inner c.requires.held c.requires.task c.truncate-2.new.self c.truncate-2.ensures c.take_out.new.self c.in_ok-take_out.ensures.stacks
     MOST_HELD c.held-held.ensures.depth c.if-place-top.false
 
 pub returns-clause-stacks : goal.returns-clause-stacks
 returns-clause-stacks t c =
     again c.self.inside.stacks c.self.inside.edges.edges c.args.self.now c.args.task c.held-held.result.now c.self.view_is c.held-held.ensures.held
-    c.args.place c.requires.inner c.requires.held c.requires.task c.truncate.new.self c.truncate.ensures c.take_out.new.self c.in_ok-take_out.ensures.stacks
+    c.args.place c.requires.inner c.requires.held c.requires.task c.truncate-2.new.self c.truncate-2.ensures c.take_out.new.self c.in_ok-take_out.ensures.stacks
     c.hold.result _ c.hold.new.self c.if-place-top.false c.hold.ensures.held

@@ -1,10 +1,9 @@
-use Rattle.std.proofs.Common.{◌≡◌, ◌<◌, ◌∷◌, [], ◌++◌, IfSome, List, length, map, get_or, sym, ap, subst, ◌∙◌, take}
+use Rattle.std.proofs.Common.{◌∷◌, [], ◌++◌, List, get_or, sym, ap, subst, ◌∙◌, take}
 use Rattle.std.proofs.lemmas.List.{map-append}
-use Rattle.std.proofs.lemmas.Simd.{map-map}
-use Rattle.ld_held.specs.Inner.Stacks.{PlainHeld, PlainStack, empty_stack}
+use Rattle.ld_held.specs.Inner.Stacks.{PlainHeld, empty_stack}
 use Rattle.ld_trace.specs.Events.{plain_lock}
 use Rattle.ld_held.specs.Inner.Chains.{chains_of}
-use Rattle.ld_held.specs.Inner.Locks.{AreTied, Hold, IsBegun, chain_of, hold_of, held_by_tasks}
+use Rattle.ld_held.specs.Inner.Locks.{AreTied, Hold, IsBegun, hold_of, held_by_tasks}
 use Rattle.ld_held.proofs.BegunLemmas.{begun_extended}
 use Rattle.ld_held.proofs.LockLemmas.{classes_shown, holds_at, numbered, numbered_as, start_within, tied_push, shown_held, within_shown}
 use Rattle.ld_held.proofs.locks.Locks.hold.Goals as goal

@@ -1,12 +1,12 @@
-use Rattle.std.proofs.Common.{◌≡◌, ◌<◌, ◌∷◌, [], ◌++◌, Bool, List, ℕ, true, fold, get_or, length, map, sym, ap, subst, ◌∙◌, take}
+use Rattle.std.proofs.Common.{◌≡◌, ◌∷◌, [], ◌++◌, Bool, List, ℕ, true, fold, get_or, length, map, sym, ap, subst, ◌∙◌, take}
 use Rattle.std.specs.List.{list_any}
 use Rattle.ld_held.specs.declared.edges.EdgeFact.{EdgeFact}
 use Rattle.ld_held.specs.declared.held.Held.{Held}
 use Rattle.ld_held.specs.declared.locks.Begun.{Begun}
-use Rattle.ld_held.specs.Inner.Stacks.{PlainStack, empty_stack, inner, plain_held}
+use Rattle.ld_held.specs.Inner.Stacks.{PlainStack, empty_stack}
 use Rattle.ld_held.specs.Inner.Chains.{KeptChains, chains_of}
 use Rattle.ld_held.specs.Inner.Edges.{KeptEdges, edge_to, with_edge_fact}
-use Rattle.ld_held.specs.Inner.Locks.{AreTied, IsBegun, IsExtended, IsKept, classes_held, held_by_tasks}
+use Rattle.ld_held.specs.Inner.Locks.{AreTied, IsBegun, IsExtended, IsKept, held_by_tasks}
 use Rattle.ld_held.proofs.BegunLemmas.{begun_extended, begun_more, begun_same, begun_told}
 use Rattle.ld_held.proofs.LockLemmas.{classes_shown, known_told, numbered, numbered_as, start_within, tied_extended, tied_more, tied_told, told_now, told_shown}
 use Rattle.ld_held.proofs.NumberedLemmas.{known_numbers, numbered_more}
