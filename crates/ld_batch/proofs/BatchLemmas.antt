@@ -28,7 +28,7 @@ use Rattle.ld_facts.specs.Facts as facts
 use Rattle.ld_facts.specs.Inner.Reading as reading
 use Rattle.ld_facts.specs.Inner.Reading.{IsAt, fresh_scan, start_of, undone}
 use Rattle.ld_facts.proofs.StartLemmas.{begun-at}
-use Rattle.ld_batch.specs.Batch.{AreOutcomes, AreRising, IsBatch, IsUse, IsWithin, PlainBatch, named, named_use, sources_of, witness_of}
+use Rattle.ld_batch.specs.Batch.{AreOutcomes, AreRising, IsBatch, IsUse, IsEdge, PlainBatch, named_dependency, named_use, sources_of, witness_of}
 use Rattle.ld_batch.specs.Inner.Kept.{AreNames, Fields, HasOwn, IsKept, IsRead, IsReady}
 use Rattle.ld_batch.specs.Inner.Names.{IsLonger, with_names}
 use Rattle.ld_batch.specs.Inner.Rows.{AreMet, IsOwnEdge, IsOwnUse, edge_of, seen_of, use_of}
@@ -103,8 +103,8 @@ grown same known xs =
 pub more-edges : (old new : Scan) (source : PlainSource) → IsRead old source new → length old.locks.edges ≤ length new.locks.edges
 more-edges old new source shows = omega (
   arith,
-  length-map old.locks.edges (facts.named old.classes),
-  length-map new.locks.edges (facts.named new.classes),
+  length-map old.locks.edges (facts.named_dependency old.classes),
+  length-map new.locks.edges (facts.named_dependency new.classes),
   ap length shows.edges,
   grown same_dependency_seen (start_of old).edges (dependencies_of source),
 )
@@ -119,8 +119,8 @@ room-left old new source shows room =
 pub many-edges : (fields : Fields) → IsKept fields → length fields.edges ≡ length fields.scan.locks.edges
 many-edges fields kept =
     let names = fields.classes in
-    let met = map (named names) fields.edges in
-    omega (arith, length-map fields.edges (named names), length-map met seen_of, ap length kept.edges.same, length-map fields.scan.locks.edges (facts.named fields.scan.classes))
+    let met = map (named_dependency names) fields.edges in
+    omega (arith, length-map fields.edges (named_dependency names), length-map met seen_of, ap length kept.edges.same, length-map fields.scan.locks.edges (facts.named_dependency fields.scan.classes))
 
 pub many-uses : (fields : Fields) → IsKept fields → length fields.usage ≡ length fields.scan.uses
 many-uses fields kept =
@@ -156,7 +156,7 @@ kept-none scan new distinct few = subst (λ s. IsKept (record { listed = []; sca
     fit = All-nil Fits;
     rise = λ i j d before within. absurd (omega (arith, within));
     classes = refl;
-    within = All-nil (IsWithin []);
+    within = All-nil (IsEdge []);
     once = λ i j d before within. absurd (omega (arith, within));
     edges = λ what. refl;
     used_within = All-nil (IsUse []);
@@ -168,7 +168,7 @@ kept-none scan new distinct few = subst (λ s. IsKept (record { listed = []; sca
   known = omega (arith, few);
   names = record { within = All-nil (λ n. n < length scan.classes); same = refl };
   ready = refl;
-  begun = begun-at (fresh_scan scan.classes) distinct (All-nil (reading.IsWithin scan.classes)) (All-nil (facts.IsUse scan.classes)) (omega (arith, few));
+  begun = begun-at (fresh_scan scan.classes) distinct (All-nil (reading.IsEdge scan.classes)) (All-nil (facts.IsUse scan.classes)) (omega (arith, few));
   edges = record { same = refl; apart = λ i j d before within. absurd (omega (arith, within)) };
   usage = record { same = refl; apart = λ i j d before within. absurd (omega (arith, within)) };
 })
@@ -206,7 +206,7 @@ shows-none old new source line fault is same at =
 pub own-read : (old new : Scan) (source : PlainSource) (count : ℕ) → outcome source ≡ Read count → IsAt (start_of old) (positions source) new → HasOwn old source new
 own-read old new source count is at = record {
   names = record { within = at.many.2; same = at.own ∙ (λ i. if_read (sym is i) (classes (events (positions source)))) };
-  edges = subst (λ n. All (IsOwnEdge new.own) (drop n new.locks.edges)) (length-map old.locks.edges (facts.named old.classes)) (own_edges (start_of old) (positions source) new at);
+  edges = subst (λ n. All (IsOwnEdge new.own) (drop n new.locks.edges)) (length-map old.locks.edges (facts.named_dependency old.classes)) (own_edges (start_of old) (positions source) new at);
   uses = subst (λ n. All (IsOwnUse new.own) (drop n new.uses)) (length-map old.uses (facts.named_use old.classes)) (own_uses (start_of old) (positions source) new at);
 }
 
@@ -257,13 +257,13 @@ module _ (old new : Fields) (last : Listed) (kept : IsKept old) (adds : IsPushed
   longer_known : IsLonger old.scan.classes known (length (classes_of source))
   longer_known = subst (λ all. IsLonger old.scan.classes all (length (classes_of source))) (sym adds.shows.names) (longer_all old.scan.classes (classes_of source))
 
-  same_edges : map (named names) old.edges ≡ map (named old.classes) old.edges
+  same_edges : map (named_dependency names) old.edges ≡ map (named_dependency old.classes) old.edges
   same_edges = edges-longer old.classes names (length (classes_of source)) longer old.edges kept.exact.within
 
   same_uses : map (named_use names) old.usage ≡ map (named_use old.classes) old.usage
   same_uses = uses-longer old.classes names (length (classes_of source)) longer old.usage kept.exact.used_within
 
-  met_edges : AreMet (start_of old.scan).edges (map (named names) old.edges)
+  met_edges : AreMet (start_of old.scan).edges (map (named_dependency names) old.edges)
   met_edges = subst (AreMet (start_of old.scan).edges) (sym same_edges) kept.edges
 
   met_uses : AreMet (start_of old.scan).uses (map (named_use names) old.usage)
@@ -278,8 +278,8 @@ module _ (old new : Fields) (last : Listed) (kept : IsKept old) (adds : IsPushed
     usage = old.usage ++ map (use_of new.numbers source.number) (drop (length old.usage) new.scan.uses);
   }
 
-  all_edges : AreMet (start_of new.scan).edges (map (named names) joined.edges)
-  all_edges = are-met same_dependency Decides-same_dependency dependencies_of sources source (named names) (facts.named known) (edge_of new.numbers source.number) old.edges new.scan.locks.edges
+  all_edges : AreMet (start_of new.scan).edges (map (named_dependency names) joined.edges)
+  all_edges = are-met same_dependency Decides-same_dependency dependencies_of sources source (named_dependency names) (facts.named_dependency known) (edge_of new.numbers source.number) old.edges new.scan.locks.edges
       (named_rows known new.numbers names adds.names source.number (drop (length old.edges) new.scan.locks.edges) adds.own_edges) (start_of old.scan).edges met_edges adds.shows.edges
 
   all_uses : AreMet (start_of new.scan).uses (map (named_use names) joined.usage)
@@ -298,12 +298,12 @@ module _ (old new : Fields) (last : Listed) (kept : IsKept old) (adds : IsPushed
             ∙ ap (λ all. with_names all (classes_of source)) was.classes
             ∙ with_names-each_once (flat_map classes_of sources) (classes_of source)
             ∙ ap (each_once same_class) (sym (shown-push sources source));
-        within = All-append (IsWithin names) old.edges (map (edge_of new.numbers source.number) (drop (length old.edges) new.scan.locks.edges))
+        within = All-append (IsEdge names) old.edges (map (edge_of new.numbers source.number) (drop (length old.edges) new.scan.locks.edges))
             (within-longer old.classes names count longer old.edges was.within)
             (rows_within known new.numbers names adds.names source.number (drop (length old.edges) new.scan.locks.edges) adds.own_edges);
-        once = λ i j d before within both. pairs-of (λ m n. m.what ≢ n.what) (named names) joined.edges all_edges.apart i j d before within
+        once = λ i j d before within both. pairs-of (λ m n. m.what ≢ n.what) (named_dependency names) joined.edges all_edges.apart i j d before within
             (λ k. record { from = get_or names (both.0 k) no_class; to = get_or names (both.1 k) no_class });
-        edges = witness-new same_dependency Decides-same_dependency dependencies_of sources source (named names) (facts.named known) (edge_of new.numbers source.number) old.edges
+        edges = witness-new same_dependency Decides-same_dependency dependencies_of sources source (named_dependency names) (facts.named_dependency known) (edge_of new.numbers source.number) old.edges
             new.scan.locks.edges (named_rows known new.numbers names adds.names source.number (drop (length old.edges) new.scan.locks.edges) adds.own_edges)
             (start_of old.scan).edges met_edges adds.shows.edges
             (λ what. ap (λ all. witness_of same_dependency all what) same_edges ∙ was.edges what) (shown-Ascend dependencies_at source) low;
@@ -328,6 +328,6 @@ module _ (old new : Fields) (last : Listed) (kept : IsKept old) (adds : IsPushed
     names = adds.names;
     ready = adds.ready;
     begun = adds.begun;
-    edges = subst (λ rows. AreMet (start_of new.scan).edges (map (named names) rows)) (sym adds.edges) all_edges;
+    edges = subst (λ rows. AreMet (start_of new.scan).edges (map (named_dependency names) rows)) (sym adds.edges) all_edges;
     usage = subst (λ rows. AreMet (start_of new.scan).uses (map (named_use names) rows)) (sym adds.usage) all_uses;
   }

@@ -19,7 +19,8 @@ use Rattle.ld_rules.specs.Flags.{is_enabled}
 use Rattle.ld_rules.specs.Frames.{contexts, frame_of, task_of}
 use Rattle.ld_rules.specs.Held.{Acquisition, class_with, held, held_in, held_by, lock_acquired, same_frame, same_key, sub_taken}
 use Rattle.ld_rules.specs.Inner.Scanned.{remove_last, same_dependency_seen, same_use_seen, with_new}
-use Rattle.ld_rules.specs.Outcome.{class_acquired, classes, event_said, events}
+use Rattle.ld_rules.specs.Outcome.{classes, event_said, events}
+use Rattle.ld_rules.specs.Held.{class_acquired}
 use Rattle.ld_rules.specs.Usage.{Bit, Use, in_uses, on_uses, uses_at, uses_in}
 use Rattle.ld_rules.specs.Usage.Bit.{In, On}
 use Rattle.ld_rules.proofs.HeldLemmas.{acquisition_at, has_key, held-acquires, held-other, held-releases}
@@ -180,8 +181,8 @@ module _ (start : Start) (all : List Position) (scan : Scan) (at : IsAt start al
   own_number : (n : ℕ) → n < length scan.classes → IsClass (events all) (get_or scan.classes n no_class) → list_any (nat_eq n) scan.own ≡ true
   own_number n within there =
       let once = any_each_once same_class (alike_from_decides same_class same_class-Decides) (get_or scan.classes n no_class) (filter_map class_acquired (events all)) in
-      let named : list_any (same_class (get_or scan.classes n no_class)) (own_names scan) ≡ true = ap (list_any (same_class (get_or scan.classes n no_class))) at.own ∙ once ∙ there in
-      let found = Any-from_list_any (same_class (get_or scan.classes n no_class)) (own_names scan) named in
+      let named_dependency : list_any (same_class (get_or scan.classes n no_class)) (own_names scan) ≡ true = ap (list_any (same_class (get_or scan.classes n no_class))) at.own ∙ once ∙ there in
+      let found = Any-from_list_any (same_class (get_or scan.classes n no_class)) (own_names scan) named_dependency in
       let inside : found.0 < length scan.own = omega (arith, found.2, length-map scan.own (λ k. get_or scan.classes k no_class)) in
       let name : get_or (own_names scan) found.0 no_class ≡ get_or scan.classes (get_or scan.own found.0 0) no_class = get_or-map (λ k. get_or scan.classes k no_class) scan.own found.0 0 no_class inside in
       let same : get_or scan.classes n no_class ≡ get_or scan.classes (get_or scan.own found.0 0) no_class =
@@ -194,15 +195,15 @@ module _ (start : Start) (all : List Position) (scan : Scan) (at : IsAt start al
   pub own_edges : All (IsOwnEdge scan.own) (drop (length start.edges) scan.locks.edges)
   own_edges k d within =
       let edge = get_or (drop (length start.edges) scan.locks.edges) k d in
-      let inside = All-drop (reading.IsWithin scan.classes) (length start.edges) scan.locks.edges at.within k d within in
-      let shown = by_name k (facts.named scan.classes d) (omega (arith, within, length-map (drop (length start.edges) scan.locks.edges) (facts.named scan.classes))) in
-      let here : get_or (map (facts.named scan.classes) (drop (length start.edges) scan.locks.edges)) k (facts.named scan.classes d) ≡ facts.named scan.classes edge =
-      get_or-map (facts.named scan.classes) (drop (length start.edges) scan.locks.edges) k d (facts.named scan.classes d) within in
+      let inside = All-drop (reading.IsEdge scan.classes) (length start.edges) scan.locks.edges at.within k d within in
+      let shown = by_name k (facts.named_dependency scan.classes d) (omega (arith, within, length-map (drop (length start.edges) scan.locks.edges) (facts.named_dependency scan.classes))) in
+      let here : get_or (map (facts.named_dependency scan.classes) (drop (length start.edges) scan.locks.edges)) k (facts.named_dependency scan.classes d) ≡ facts.named_dependency scan.classes edge =
+      get_or-map (facts.named_dependency scan.classes) (drop (length start.edges) scan.locks.edges) k d (facts.named_dependency scan.classes d) within in
       let both = subst (λ (s : Seen Dependency). OfClasses (events all) s.what) here shown in
       (own_number edge.from inside.0 both.0, own_number edge.to inside.1 both.1)
     where
-      by_name : All (λ (s : Seen Dependency). OfClasses (events all) s.what) (map (facts.named scan.classes) (drop (length start.edges) scan.locks.edges))
-      by_name = subst (All (λ (s : Seen Dependency). OfClasses (events all) s.what)) (ap (drop (length start.edges)) (sym at.edges) ∙ drop-map (facts.named scan.classes) (length start.edges) scan.locks.edges)
+      by_name : All (λ (s : Seen Dependency). OfClasses (events all) s.what) (map (facts.named_dependency scan.classes) (drop (length start.edges) scan.locks.edges))
+      by_name = subst (All (λ (s : Seen Dependency). OfClasses (events all) s.what)) (ap (drop (length start.edges)) (sym at.edges) ∙ drop-map (facts.named_dependency scan.classes) (length start.edges) scan.locks.edges)
           (all_added (λ (s : Seen Dependency). OfClasses (events all) s.what) same_dependency_seen start.edges (seen dependencies_at all)
           (seen_classes dependencies_at OfClasses (λ past others d is. (more_classes past others d.from is.0, more_classes past others d.to is.1)) dependency_classes all))
 

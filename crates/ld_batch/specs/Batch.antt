@@ -45,8 +45,8 @@ abbrev pub witness_of : {A : Type 0} → (A → A → Bool) → List (Met A) →
 witness_of same all what = option_map (λ m. m.witness) (find (λ m. same what m.what) all)
 
 -- a dependency by the names of its classes, with its witness
-abbrev pub named : List PlainClass → WitnessedEdge → Met Dependency
-named classes edge = record {
+abbrev pub named_dependency : List PlainClass → WitnessedEdge → Met Dependency
+named_dependency classes edge = record {
   what = record {
     from = slice_index_or classes edge.from no_class;
     to = slice_index_or classes edge.to no_class;
@@ -62,8 +62,8 @@ named_use classes used = record {
 }
 
 -- both classes are among these
-abbrev pub IsWithin : List PlainClass → WitnessedEdge → Type 0
-IsWithin classes edge = (edge.from < length classes) × (edge.to < length classes)
+abbrev pub IsEdge : List PlainClass → WitnessedEdge → Type 0
+IsEdge classes edge = (edge.from < length classes) × (edge.to < length classes)
 
 -- it is one bit of one of these classes
 abbrev pub IsUse : List PlainClass → WitnessedUse → Type 0
@@ -76,10 +76,10 @@ pub record IsBatch (batch : PlainBatch) : Type 0 where
   pub fit : All Fits batch.sources
   pub rise : AreRising batch.sources
   pub classes : batch.classes ≡ union_classes batch.sources
-  pub within : All (IsWithin batch.classes) batch.edges
+  pub within : All (IsEdge batch.classes) batch.edges
   pub once : AllPairs (λ d e. (d.from ≡ e.from) × (d.to ≡ e.to) → ⊥) batch.edges
   pub edges : (what : Dependency)
-      → witness_of same_dependency (map (named batch.classes) batch.edges) what
+      → witness_of same_dependency (map (named_dependency batch.classes) batch.edges) what
       ≡ dependency_witness batch.sources what
   pub used_within : All (IsUse batch.classes) batch.usage
   pub used_once : AllPairs (λ u v. (u.class ≡ v.class) × (u.bit ≡ v.bit) → ⊥) batch.usage

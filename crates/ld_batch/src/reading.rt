@@ -32,7 +32,7 @@ pub(crate) fn read<'a>(
     requires names { AreNames scan.old.classes shown.old.numbers shown.old.classes }
     requires edges { length shown.old.edges.items ≡ length scan.old.locks.edges }
     requires usage { length shown.old.usage.items ≡ length scan.old.uses }
-    ensures told { IfOk result (λ told. told ≡ outcome (plain source.entry)) }
+    ensures outcome { IfOk result (λ what. what ≡ outcome (plain source.entry)) }
     ensures shows { OnOk result (IsRead scan.old (plain source.entry) scan.new) }
     ensures ready { OnOk result (IsReady scan.new) }
     ensures begun { OnOk result (IsAt (start_of scan.new) [] scan.new) }
@@ -69,7 +69,7 @@ fn scan_source<'a>(scan: &mut Scan<'a>, source: Source<'a>) -> Result<Outcome, A
     requires fits { Fits (plain source) }
     requires ready { IsReady scan.old }
     requires begun { IsAt (start_of scan.old) [] scan.old }
-    ensures told { IfOk result (λ told. told ≡ outcome (plain source.entry)) }
+    ensures outcome { IfOk result (λ what. what ≡ outcome (plain source.entry)) }
     ensures shows { OnOk result (IsRead scan.old (plain source.entry) scan.new) }
     ensures own { OnOk result (HasOwn scan.old (plain source.entry) scan.new) }
     ensures first { OnOk result (StandsOn scan.old scan.new) }

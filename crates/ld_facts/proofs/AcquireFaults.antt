@@ -14,7 +14,8 @@ use Rattle.ld_facts.specs.declared.scan.Scan.{Scan}
 use Rattle.ld_rules.specs.Frames.{task_of}
 use Rattle.ld_rules.specs.Held.{class_awaited, class_with, held_by, lock_acquired, sub_taken}
 use Rattle.ld_rules.specs.Inner.Levels.{is_interrupt}
-use Rattle.ld_rules.specs.Outcome.{class_acquired, classes, event_fault, events, is_bad_enable, is_bad_exit, is_badly_nested}
+use Rattle.ld_rules.specs.Outcome.{classes, event_fault, events, is_bad_enable, is_bad_exit, is_badly_nested}
+use Rattle.ld_rules.specs.Held.{class_acquired}
 use Rattle.ld_rules.specs.Outcome.{is_held_at_exit, is_late_begin, is_masked, is_not_held, is_one_too_many, tasks}
 use Rattle.ld_facts.specs.declared.taking.Taking.{Taking}
 use Rattle.ld_facts.specs.declared.taking.Taking.TheVariants.{Nesting, Trying, Waiting}

@@ -28,9 +28,9 @@ use Rattle.ld_rules.specs.Inner.Levels.{stack, state_of_frame}
 use Rattle.ld_held.specs.Inner.Locks.{Hold}
 use Rattle.ld_rules.specs.Outcome.{classes, events}
 use Rattle.ld_facts.specs.declared.taking.Taking.{Taking}
-use Rattle.ld_facts.specs.Inner.Reading.{AreMany, HasTask, HeldLock, IsAt, IsTask, IsWithin, Start, acquisition, class_taken, classes_after, edges_after, happens}
+use Rattle.ld_facts.specs.Inner.Reading.{AreMany, HasTask, HeldLock, IsAt, IsTask, IsEdge, Start, acquisition, class_taken, classes_after, edges_after, happens}
 use Rattle.ld_facts.specs.Inner.Reading.{lock_held, named_hold, names_at, own_names, uses_after, waits}
-use Rattle.ld_facts.specs.Facts.{named, named_use}
+use Rattle.ld_facts.specs.Facts.{named_dependency, named_use}
 use Rattle.ld_rules.specs.Inner.Scanned.{same_dependency_seen, same_use_seen, with_new}
 use Rattle.ld_facts.specs.Facts.{IsUse}
 use Rattle.ld_uses.specs.Inner.Uses.{in_facts, on_facts, with_use}
@@ -173,11 +173,11 @@ module _ {start : Start} (all : List Position) (old : Scan) (is : IsAt start all
 
   -- The dependencies.
 
-  edges-now : map (named new.classes) new.locks.edges ≡ edges_after start all
-  edges-now = (λ i. map (named (enters.classes i)) (enters.edges i)) ∙ named-more old.classes class old.locks.edges is.within ∙ is.edges
+  edges-now : map (named_dependency new.classes) new.locks.edges ≡ edges_after start all
+  edges-now = (λ i. map (named_dependency (enters.classes i)) (enters.edges i)) ∙ named-more old.classes class old.locks.edges is.within ∙ is.edges
 
-  within-now : All (IsWithin new.classes) new.locks.edges
-  within-now = subst (All (IsWithin new.classes)) (sym enters.edges) (subst (λ names. All (IsWithin names) old.locks.edges) (sym enters.classes)
+  within-now : All (IsEdge new.classes) new.locks.edges
+  within-now = subst (All (IsEdge new.classes)) (sym enters.edges) (subst (λ names. All (IsEdge names) old.locks.edges) (sym enters.classes)
       (within-more old.classes class old.locks.edges is.within))
 
   inner-within : All (λ hold. hold.class < length new.classes) inner
@@ -209,16 +209,16 @@ module _ {start : Start} (all : List Position) (old : Scan) (is : IsAt start all
   abbrev told_edges : List EdgeFact
   told_edges = fold with_edge_fact new.locks.edges (map (edge_to number line) froms)
 
-  edges-told : class_awaited event ≡ Some class → map (named new.classes) told_edges ≡ edges_after start (all ++ happens line event ∷ [])
+  edges-told : class_awaited event ≡ Some class → map (named_dependency new.classes) told_edges ≡ edges_after start (all ++ happens line event ∷ [])
   edges-told waits =
       tell-named new.classes distinct new.locks.edges line number froms within-now enters.class.0 (holds-within new.classes inner inner-within)
       ∙ (λ i. fold (with_new same_dependency_seen) (edges-now i) (told-now waits i))
       ∙ sym (dependencies-push start.edges all (happens line event))
 
-  within-told : All (IsWithin new.classes) told_edges
+  within-told : All (IsEdge new.classes) told_edges
   within-told = within-tell new.classes new.locks.edges line number froms within-now enters.class.0 (holds-within new.classes inner inner-within)
 
-  edges-untold : class_awaited event ≡ None → map (named new.classes) new.locks.edges ≡ edges_after start (all ++ happens line event ∷ [])
+  edges-untold : class_awaited event ≡ None → map (named_dependency new.classes) new.locks.edges ≡ edges_after start (all ++ happens line event ∷ [])
   edges-untold none =
       edges-now
       ∙ sym (dependencies-push start.edges all (happens line event) ∙ ap (λ ds. fold (with_new same_dependency_seen) (edges_after start all)
@@ -324,8 +324,8 @@ module _ {start : Start} (all : List Position) (old : Scan) (is : IsAt start all
   same : slice_index_or (slice_set new.locks.stacks id (held_now ++ top ∷ [])) id [] ≡ held_now ++ top ∷ []
   same = get_or-set_same new.locks.stacks id (held_now ++ top ∷ []) [] inside
 
-  acquired-by : (edges : List EdgeFact) (uses : List UsageFact) → length held_now < MOST_HELD → map (named new.classes) edges ≡
-      edges_after start (all ++ happens line event ∷ []) → All (IsWithin new.classes) edges → map
+  acquired-by : (edges : List EdgeFact) (uses : List UsageFact) → length held_now < MOST_HELD → map (named_dependency new.classes) edges ≡
+      edges_after start (all ++ happens line event ∷ []) → All (IsEdge new.classes) edges → map
       (named_use new.classes) uses ≡ uses_after start (all ++ happens line event ∷ []) → All
       (IsUse new.classes) uses → IsAt start (all ++ happens line event ∷ []) (with_top edges uses)
   acquired-by edges uses room shown within counted used =

@@ -26,7 +26,8 @@ use Rattle.ld_held.specs.Inner.Interrupts.{IsEntered, IsLeft, IsSet, enabled_now
 use Rattle.ld_rules.specs.Inner.Levels.{stack, state_of_frame}
 use Rattle.ld_held.specs.Inner.Locks.{Hold, ChangesInterrupts, HeldByTasks}
 use Rattle.ld_rules.specs.Open.{is_some_and}
-use Rattle.ld_rules.specs.Outcome.{class_acquired, event_fault, events, is_bad_enable, is_bad_exit, is_badly_nested, is_held_at_exit, is_late_begin, is_masked, is_one_too_many, tasks}
+use Rattle.ld_rules.specs.Outcome.{event_fault, events, is_bad_enable, is_bad_exit, is_badly_nested, is_held_at_exit, is_late_begin, is_masked, is_one_too_many, tasks}
+use Rattle.ld_rules.specs.Held.{class_acquired}
 use Rattle.ld_facts.specs.Inner.Reading.{HasTask, IsAt, IsTask, Start, happens, lock_held, named_hold, uses_after}
 use Rattle.ld_rules.specs.Inner.Scanned.{same_use_seen, with_new}
 use Rattle.ld_facts.specs.Facts.{IsUse}
@@ -340,7 +341,7 @@ module _ {start : Start} (all : List Position) (old : Scan) (is : IsAt start all
         both = record {
           stacks = again.stacks ∙ moved.stacks;
           edges = again.edges ∙ moved.edges;
-          begun = again.begun ∙ moved.begun;
+          before = again.before ∙ moved.before;
           many = again.many ∙ moved.many;
           others = λ k apart. again.others k apart ∙ moved.others k apart;
         }

@@ -16,10 +16,11 @@ use Rattle.ld_held.specs.declared.edges.EdgeFact.{EdgeFact}
 use Rattle.ld_rules.specs.declared.fault.TraceFault.{TraceFault}
 use Rattle.ld_rules.specs.declared.outcome.Outcome.TheVariants.{Read, Refused}
 use Rattle.ld_facts.specs.declared.scan.Scan.{Scan}
-use Rattle.ld_rules.specs.Outcome.{each_once, class_acquired, classes, event_fault, events, faulty_lines, outcome, outcome_by, of_line, said_fault}
+use Rattle.ld_rules.specs.Outcome.{each_once, classes, event_fault, events, faulty_lines, outcome, outcome_by, of_line, said_fault}
+use Rattle.ld_rules.specs.Held.{class_acquired}
 use Rattle.ld_rules.specs.Dependency.{Dependency, Seen, dependencies_at, least_line, same_dependency, seen}
 use Rattle.ld_rules.specs.Union.{if_read}
-use Rattle.ld_facts.specs.Facts.{IsKnown, named, named_use}
+use Rattle.ld_facts.specs.Facts.{IsKnown, named_dependency, named_use}
 use Rattle.ld_rules.specs.Usage.{Use, bit_of, same_use, uses_at}
 use Rattle.ld_rules.specs.Inner.Scanned.{same_dependency_seen, same_use_seen}
 use Rattle.ld_uses.specs.declared.uses.UsageFact.{UsageFact}
@@ -67,17 +68,17 @@ alike_seen : (x y : Seen Dependency) → same_dependency_seen x y ≡ true → (
 alike_seen x y is z = alike_from_decides same_dependency Decides-same_dependency x.what y.what is z.what
 
 -- numbered dependencies that are these by name, each once
-module _ (names : List PlainClass) (edges : List EdgeFact) (shown : List (Seen Dependency)) (is : map (named names) edges ≡ each_once same_dependency_seen shown) where
+module _ (names : List PlainClass) (edges : List EdgeFact) (shown : List (Seen Dependency)) (is : map (named_dependency names) edges ≡ each_once same_dependency_seen shown) where
   once_named : AllPairs (λ d e. (d.from ≡ e.from) × (d.to ≡ e.to) → ⊥) edges
   once_named i j d before below both =
-      let apart : AllPairs (λ a b. same_dependency_seen b a ≡ false) (map (named names) edges) = subst (AllPairs (λ a b. same_dependency_seen b a ≡ false)) (sym is)
+      let apart : AllPairs (λ a b. same_dependency_seen b a ≡ false) (map (named_dependency names) edges) = subst (AllPairs (λ a b. same_dependency_seen b a ≡ false)) (sym is)
       (each_once-pairs same_dependency_seen alike_seen shown) in
-      let differ : same_dependency_seen (get_or (map (named names) edges) j (named names d)) (get_or (map (named names) edges) i (named names d)) ≡ false = apart
-      i j (named names d) before (omega (arith, below, length-map edges (named names))) in
-      let here : get_or (map (named names) edges) i (named names d) ≡ named names (get_or edges i d) = get_or-map (named names) edges i d (named names d) (omega arith) in
-      let there : get_or (map (named names) edges) j (named names d) ≡ named names (get_or edges j d) = get_or-map (named names) edges j d (named names d) below in
-      let alike : (named names (get_or edges j d)).what ≡ (named names (get_or edges i d)).what = (λ k. record { from = get_or names (sym both.0 k) no_class; to = get_or names (sym both.1 k) no_class }) in
-      true≢false (sym ((Decides-same_dependency (named names (get_or edges j d)).what (named names (get_or edges i d)).what).1 alike) ∙ (λ k. same_dependency_seen (sym there k) (sym here k)) ∙ differ)
+      let differ : same_dependency_seen (get_or (map (named_dependency names) edges) j (named_dependency names d)) (get_or (map (named_dependency names) edges) i (named_dependency names d)) ≡ false = apart
+      i j (named_dependency names d) before (omega (arith, below, length-map edges (named_dependency names))) in
+      let here : get_or (map (named_dependency names) edges) i (named_dependency names d) ≡ named_dependency names (get_or edges i d) = get_or-map (named_dependency names) edges i d (named_dependency names d) (omega arith) in
+      let there : get_or (map (named_dependency names) edges) j (named_dependency names d) ≡ named_dependency names (get_or edges j d) = get_or-map (named_dependency names) edges j d (named_dependency names d) below in
+      let alike : (named_dependency names (get_or edges j d)).what ≡ (named_dependency names (get_or edges i d)).what = (λ k. record { from = get_or names (sym both.0 k) no_class; to = get_or names (sym both.1 k) no_class }) in
+      true≢false (sym ((Decides-same_dependency (named_dependency names (get_or edges j d)).what (named_dependency names (get_or edges i d)).what).1 alike) ∙ (λ k. same_dependency_seen (sym there k) (sym here k)) ∙ differ)
 
 -- numbered usage bits that are these by name, each once
 once_used : (names : List PlainClass) (uses : List UsageFact) (shown : List (Seen Use)) → map (named_use names) uses ≡ each_once same_use_seen shown →
@@ -156,7 +157,7 @@ pub read-known : (source : PlainSource) (scan : Scan) (count : ℕ) → Fits sou
     IsKnown (record { source = source; outcome = Read count; classes = scan.classes; edges = scan.locks.edges; usage = scan.uses })
 read-known source scan count fits at is =
     let names : scan.classes ≡ classes (events (positions source)) = at.names ∙ added_names-once (filter_map class_acquired (events (positions source))) in
-    let edges : map (named scan.classes) scan.locks.edges ≡ each_once same_dependency_seen (seen dependencies_at (positions source)) =
+    let edges : map (named_dependency scan.classes) scan.locks.edges ≡ each_once same_dependency_seen (seen dependencies_at (positions source)) =
     at.edges ∙ sym (each_once-append same_dependency_seen alike_seen [] (seen dependencies_at (positions source))) in
     let uses : map (named_use scan.classes) scan.uses ≡ each_once same_use_seen (seen uses_at (positions source)) =
     at.uses ∙ sym (each_once-append same_use_seen same_use_seen-alike [] (seen uses_at (positions source))) in

@@ -15,10 +15,11 @@ use Rattle.ld_trace.specs.Events.{PlainEvent}
 use Rattle.ld_held.specs.declared.edges.EdgeFact.{EdgeFact}
 use Rattle.ld_held.specs.Inner.Edges.{edge_to, same_pair, with_edge_fact}
 use Rattle.ld_held.specs.Inner.Locks.{Hold}
-use Rattle.ld_rules.specs.Outcome.{class_acquired, classes, each_once}
+use Rattle.ld_rules.specs.Outcome.{classes, each_once}
+use Rattle.ld_rules.specs.Held.{class_acquired}
 use Rattle.ld_rules.specs.Inner.Scanned.{same_dependency_seen, with_new}
-use Rattle.ld_facts.specs.Inner.Reading.{HeldLock, IsWithin, named_hold}
-use Rattle.ld_facts.specs.Facts.{named}
+use Rattle.ld_facts.specs.Inner.Reading.{HeldLock, IsEdge, named_hold}
+use Rattle.ld_facts.specs.Facts.{named_dependency}
 use Rattle.ld_rules.proofs.PlaceLemmas.{by_pushes}
 use Rattle.ld_rules.proofs.StepLemmas.{names-more}
 
@@ -38,49 +39,49 @@ module _ (names : List PlainClass) (distinct : AreDistinct names) where
       (λ h. by_numbers.1 (distinct i j (slice_index_or names j no_class) (low_i, by_names.0 h) (low_j, refl)))
       (λ h. by_names.1 (ap (λ k. slice_index_or names k no_class) (by_numbers.0 h)))
 
-  same_named : (a b : EdgeFact) → IsWithin names a → IsWithin names b → same_dependency_seen (named names a) (named names b) ≡ same_pair a b
+  same_named : (a b : EdgeFact) → IsEdge names a → IsEdge names b → same_dependency_seen (named_dependency names a) (named_dependency names b) ≡ same_pair a b
   same_named a b in_a in_b = λ i. numbers_by_name a.from b.from in_a.0 in_b.0 i && numbers_by_name a.to b.to in_a.1 in_b.1 i
 
-  any_named : (edges : List EdgeFact) (edge : EdgeFact) → All (IsWithin names) edges → IsWithin names edge → list_any (same_dependency_seen (named names edge))
-      (map (named names) edges) ≡ list_any (same_pair edge) edges
+  any_named : (edges : List EdgeFact) (edge : EdgeFact) → All (IsEdge names) edges → IsEdge names edge → list_any (same_dependency_seen (named_dependency names edge))
+      (map (named_dependency names) edges) ≡ list_any (same_pair edge) edges
   any_named [] edge within here = refl
   any_named (x ∷ xs) edge within here =
-      let first = same_named edge x here (All-head (IsWithin names) x xs within) in
-      let rest = any_named xs edge (All-tail (IsWithin names) x xs within) here in
+      let first = same_named edge x here (All-head (IsEdge names) x xs within) in
+      let rest = any_named xs edge (All-tail (IsEdge names) x xs within) here in
       (λ i. first i || rest i)
 
-pub with_edge_fact-named : (names : List PlainClass) → AreDistinct names → (edges : List EdgeFact) (edge : EdgeFact) → All (IsWithin names) edges → IsWithin
-    names edge → map (named names) (with_edge_fact edges edge) ≡ with_new same_dependency_seen (map (named names) edges) (named names edge)
+pub with_edge_fact-named : (names : List PlainClass) → AreDistinct names → (edges : List EdgeFact) (edge : EdgeFact) → All (IsEdge names) edges → IsEdge
+    names edge → map (named_dependency names) (with_edge_fact edges edge) ≡ with_new same_dependency_seen (map (named_dependency names) edges) (named_dependency names edge)
 with_edge_fact-named names distinct edges edge within here =
-    map-append (named names) edges (if list_any (same_pair edge) edges then [] else edge ∷ [])
-    ∙ ap (λ zs. map (named names) edges ++ zs) (by (list_any (same_pair edge) edges))
-    ∙ ap (λ (b : Bool). map (named names) edges ++ (if b then [] else named names edge ∷ [])) (sym (any_named names distinct edges edge within here))
+    map-append (named_dependency names) edges (if list_any (same_pair edge) edges then [] else edge ∷ [])
+    ∙ ap (λ zs. map (named_dependency names) edges ++ zs) (by (list_any (same_pair edge) edges))
+    ∙ ap (λ (b : Bool). map (named_dependency names) edges ++ (if b then [] else named_dependency names edge ∷ [])) (sym (any_named names distinct edges edge within here))
   where
-    by : (b : Bool) → map (named names) (if b then [] else edge ∷ []) ≡ (if b then [] else named names edge ∷ [])
+    by : (b : Bool) → map (named_dependency names) (if b then [] else edge ∷ []) ≡ (if b then [] else named_dependency names edge ∷ [])
     by true = refl
     by false = refl
 
-pub within-with_edge_fact : (names : List PlainClass) (edges : List EdgeFact) (edge : EdgeFact) → All (IsWithin names) edges → IsWithin names edge → All (IsWithin names) (with_edge_fact edges edge)
-within-with_edge_fact names edges edge within here = All-append (IsWithin names) edges (if list_any (same_pair edge) edges then [] else edge ∷ []) within (by (list_any (same_pair edge) edges))
+pub within-with_edge_fact : (names : List PlainClass) (edges : List EdgeFact) (edge : EdgeFact) → All (IsEdge names) edges → IsEdge names edge → All (IsEdge names) (with_edge_fact edges edge)
+within-with_edge_fact names edges edge within here = All-append (IsEdge names) edges (if list_any (same_pair edge) edges then [] else edge ∷ []) within (by (list_any (same_pair edge) edges))
   where
-    by : (b : Bool) → All (IsWithin names) (if b then [] else edge ∷ [])
-    by true = All-nil (IsWithin names)
-    by false = All-cons (IsWithin names) edge [] here (All-nil (IsWithin names))
+    by : (b : Bool) → All (IsEdge names) (if b then [] else edge ∷ [])
+    by true = All-nil (IsEdge names)
+    by false = All-cons (IsEdge names) edge [] here (All-nil (IsEdge names))
 
 -- the dependencies on one class from others, told at one line
-pub tell-named : (names : List PlainClass) → AreDistinct names → (edges : List EdgeFact) (line class : ℕ) (froms : List ℕ) → All (IsWithin names) edges
-    → class < length names → All (λ from. from < length names) froms → map (named names) (fold with_edge_fact edges (map (edge_to class line) froms)) ≡
-    fold (with_new same_dependency_seen) (map (named names) edges)
+pub tell-named : (names : List PlainClass) → AreDistinct names → (edges : List EdgeFact) (line class : ℕ) (froms : List ℕ) → All (IsEdge names) edges
+    → class < length names → All (λ from. from < length names) froms → map (named_dependency names) (fold with_edge_fact edges (map (edge_to class line) froms)) ≡
+    fold (with_new same_dependency_seen) (map (named_dependency names) edges)
     (map (λ from. record { what = record { from = slice_index_or names from no_class; to = slice_index_or names class no_class }; line = line }) froms)
 tell-named names distinct edges line class [] within inside all = refl
 tell-named names distinct edges line class (from ∷ froms) within inside all =
-    let here : IsWithin names (edge_to class line from) = (All-head (λ f. f < length names) from froms all, inside) in
+    let here : IsEdge names (edge_to class line from) = (All-head (λ f. f < length names) from froms all, inside) in
     tell-named names distinct (with_edge_fact edges (edge_to class line from)) line class froms
     (within-with_edge_fact names edges (edge_to class line from) within here) inside (All-tail (λ f. f < length names) from froms all)
-    ∙ ap (λ zs. fold (with_new same_dependency_seen) zs (map (λ f. named names (edge_to class line f)) froms)) (with_edge_fact-named names distinct edges (edge_to class line from) within here)
+    ∙ ap (λ zs. fold (with_new same_dependency_seen) zs (map (λ f. named_dependency names (edge_to class line f)) froms)) (with_edge_fact-named names distinct edges (edge_to class line from) within here)
 
-pub within-tell : (names : List PlainClass) (edges : List EdgeFact) (line class : ℕ) (froms : List ℕ) → All (IsWithin names) edges → class < length
-    names → All (λ from. from < length names) froms → All (IsWithin names) (fold with_edge_fact edges (map (edge_to class line) froms))
+pub within-tell : (names : List PlainClass) (edges : List EdgeFact) (line class : ℕ) (froms : List ℕ) → All (IsEdge names) edges → class < length
+    names → All (λ from. from < length names) froms → All (IsEdge names) (fold with_edge_fact edges (map (edge_to class line) froms))
 within-tell names edges line class [] within inside all = within
 within-tell names edges line class (from ∷ froms) within inside all =
     within-tell names (with_edge_fact edges (edge_to class line from)) line class froms
@@ -104,17 +105,17 @@ name-more names name i low = by (is_some (place_of names name))
 pub IsNameAt-more : (names : List PlainClass) (name : PlainClass) (i : ℕ) (other : PlainClass) → IsNameAt names i other → IsNameAt (with_name names name) i other
 IsNameAt-more names name i other at = (number-more names name i at.0, name-more names name i at.0 ∙ at.1)
 
-pub named-more : (names : List PlainClass) (name : PlainClass) (edges : List EdgeFact) → All (IsWithin names) edges → map (named (with_name names name)) edges ≡ map (named names) edges
+pub named-more : (names : List PlainClass) (name : PlainClass) (edges : List EdgeFact) → All (IsEdge names) edges → map (named_dependency (with_name names name)) edges ≡ map (named_dependency names) edges
 named-more names name [] within = refl
 named-more names name (x ∷ xs) within =
-    let here = All-head (IsWithin names) x xs within in
+    let here = All-head (IsEdge names) x xs within in
     let from_same = name-more names name x.from here.0 in
     let to_same = name-more names name x.to here.1 in
-    let rest = named-more names name xs (All-tail (IsWithin names) x xs within) in
+    let rest = named-more names name xs (All-tail (IsEdge names) x xs within) in
     (λ i. record { what = record { from = from_same i; to = to_same i }; line = x.line } ∷ rest i)
 
-pub within-more : (names : List PlainClass) (name : PlainClass) (edges : List EdgeFact) → All (IsWithin names) edges → All (IsWithin (with_name names name)) edges
-within-more names name edges within = All-weaker (IsWithin names) (IsWithin (with_name names name)) (λ x here. (number-more names name x.from here.0, number-more names name x.to here.1)) edges within
+pub within-more : (names : List PlainClass) (name : PlainClass) (edges : List EdgeFact) → All (IsEdge names) edges → All (IsEdge (with_name names name)) edges
+within-more names name edges within = All-weaker (IsEdge names) (IsEdge (with_name names name)) (λ x here. (number-more names name x.from here.0, number-more names name x.to here.1)) edges within
 
 pub distinct-each_once : (names : List PlainClass) → AreDistinct (each_once same_class names)
 distinct-each_once names = by_pushes (λ ns. AreDistinct (each_once same_class ns)) none (λ ns n h. subst AreDistinct (sym (names-more ns n)) (apart-with_one same_class no_class same_class-Decides (each_once same_class ns) n h)) names

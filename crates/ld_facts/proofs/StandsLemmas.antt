@@ -13,7 +13,7 @@ take-first old middle new first further =
 pub stands-same : (scan : Scan) → StandsOn scan scan
 stands-same scan = record {
   classes = take_all (length scan.classes) scan.classes (omega arith);
-  begun = refl;
+  edges = refl;
   before = refl;
   uses = take_all (length scan.uses) scan.uses (omega arith);
 }
@@ -21,7 +21,7 @@ stands-same scan = record {
 pub stands-further : (old middle new : Scan) → StandsOn old middle → StandsOn middle new → StandsOn old new
 stands-further old middle new first further = record {
   classes = take-first old.classes middle.classes new.classes first.classes further.classes;
-  begun = further.begun ∙ first.begun;
+  edges = further.edges ∙ first.edges;
   before = further.before ∙ first.before;
   uses = take-first old.uses middle.uses new.uses first.uses further.uses;
 }

@@ -6,10 +6,10 @@ use Rattle.ld_rules.specs.declared.outcome.TheConstants.{MOST_CLASSES}
 use Rattle.ld_facts.specs.declared.scan.Before.{Before}
 use Rattle.ld_facts.specs.declared.scan.Scan.{Scan}
 use Rattle.ld_facts.specs.Facts.{IsUse}
-use Rattle.ld_facts.specs.Inner.Reading.{IsAt, IsWithin, StandsOn, begun, start_of, undone}
+use Rattle.ld_facts.specs.Inner.Reading.{IsAt, IsEdge, StandsOn, begun, start_of, undone}
 
 -- it is at what the scan has, before its first event
-pub begun-at : (scan : Scan) → AreDistinct scan.classes → All (IsWithin scan.classes) scan.locks.edges → All (IsUse scan.classes) scan.uses →
+pub begun-at : (scan : Scan) → AreDistinct scan.classes → All (IsEdge scan.classes) scan.locks.edges → All (IsUse scan.classes) scan.uses →
     length scan.classes + MOST_CLASSES ≤ MOST_NAMES → IsAt (start_of scan) [] (begun scan)
 begun-at scan distinct within used room = record {
   clean = refl;
@@ -34,7 +34,7 @@ undone-is old new on = λ i. record {
   tasks = [];
   classes = (ap (λ (before : Before). take before.classes new.classes) on.before ∙ on.classes) i;
   own = [];
-  locks = record { stacks = []; interrupts = []; edges = on.begun i; begun = on.begun i };
+  locks = record { stacks = []; interrupts = []; edges = on.edges i; before = on.edges i };
   uses = (ap (λ (before : Before). take before.uses new.uses) on.before ∙ on.uses) i;
   before = on.before i;
 }

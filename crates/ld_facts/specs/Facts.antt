@@ -20,8 +20,8 @@ pub record PlainFacts : Type 0 where
   pub usage : List UsageFact
 
 -- a dependency by the names of its classes, with its line
-abbrev pub named : List PlainClass → EdgeFact → Seen Dependency
-named classes edge = record {
+abbrev pub named_dependency : List PlainClass → EdgeFact → Seen Dependency
+named_dependency classes edge = record {
   what = record {
     from = slice_index_or classes edge.from no_class;
     to = slice_index_or classes edge.to no_class;
@@ -51,7 +51,7 @@ pub record IsKnown (known : PlainFacts) : Type 0 where
       All (λ e. (e.from < length known.classes) × (e.to < length known.classes)) known.edges
   pub once : AllPairs (λ d e. (d.from ≡ e.from) × (d.to ≡ e.to) → ⊥) known.edges
   pub edges : (what : Dependency)
-      → least_line same_dependency (map (named known.classes) known.edges) what
+      → least_line same_dependency (map (named_dependency known.classes) known.edges) what
       ≡ least_line same_dependency (dependencies_of known.source) what
   pub used_within : All (IsUse known.classes) known.usage
   pub used_once : AllPairs (λ u v. (u.class ≡ v.class) × (u.bit ≡ v.bit) → ⊥) known.usage

@@ -49,8 +49,8 @@ pub fn facts<'a>(alloc: Global, source: Source<'a>) -> Result<Facts<'a>, AllocEr
 pub fn read_into<'a>(scan: &mut Scan<'a>, source: Source<'a>) -> Result<Outcome, AllocError>
     requires fits { Fits (plain source) }
     requires many { AreMany scan.old }
-    ensures told { IfOk result (λ told. (start : Start) → IsAt start [] scan.old →
-        told ≡ outcome (plain source.entry)) }
+    ensures outcome { IfOk result (λ what. (start : Start) → IsAt start [] scan.old →
+        what ≡ outcome (plain source.entry)) }
     ensures read { (events : ℕ) → result ≡ Ok (Read events) →
         (start : Start) → IsAt start [] scan.old →
         IsAt start (positions (plain source.entry)) scan.new }

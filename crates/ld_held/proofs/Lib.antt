@@ -3,5 +3,5 @@ pub mod ChainLemmas
 pub mod EdgeLemmas
 pub mod LockLemmas
 pub mod FirstLemmas
-pub mod BegunLemmas
+pub mod BeforeLemmas
 pub mod NumberedLemmas

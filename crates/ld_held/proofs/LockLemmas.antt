@@ -277,18 +277,18 @@ module _ (stacks : List PlainStack) (chains : List (List ℕ)) (told : List ℕ)
       (starts_of (get_or stacks task empty_stack).interrupts) (tied.chained task))
 
   -- a chain that was told tells nothing new
-  pub known_told : {begun : List EdgeFact} (known : HeldByTasks) → held_by_tasks stacks edges begun ≡ known → (task class line number : ℕ) →
+  pub known_told : {before : List EdgeFact} (known : HeldByTasks) → held_by_tasks stacks edges before ≡ known → (task class line number : ℕ) →
       get_or chains number [] ≡ classes_held (inner (get_or stacks task empty_stack)) ++ class ∷ [] → list_any (nat_eq number) told ≡ true → known ≡ record known
       { edges = fold with_edge_fact known.edges (map (edge_to class line) (map (λ (h : Hold). h.class) (drop (start_now (get_or known.interrupts task fresh)) (get_or known.stacks task [])))) }
-  known_told {begun} known is task class line number at there =
+  known_told {before} known is task class line number at there =
       subst (λ (k : HeldByTasks). k ≡ record k {
         edges = fold with_edge_fact k.edges
             (map (edge_to class line) (map (λ (h : Hold). h.class) (drop (start_now (get_or k.interrupts task fresh)) (get_or k.stacks task []))));
       }) is
-      (λ i. record (held_by_tasks stacks edges begun) { edges = sym all i })
+      (λ i. record (held_by_tasks stacks edges before) { edges = sym all i })
     where
-      froms : map (λ (h : Hold). h.class) (drop (start_now (get_or (held_by_tasks stacks edges begun).interrupts task fresh))
-          (get_or (held_by_tasks stacks edges begun).stacks task [])) ≡ classes_held (inner (get_or stacks task empty_stack))
+      froms : map (λ (h : Hold). h.class) (drop (start_now (get_or (held_by_tasks stacks edges before).interrupts task fresh))
+          (get_or (held_by_tasks stacks edges before).stacks task [])) ≡ classes_held (inner (get_or stacks task empty_stack))
       froms = ap (map (λ (h : Hold). h.class)) (inner_at stacks task) ∙ map-map (λ (h : Hold). h.class) hold_of (inner (get_or stacks task empty_stack))
 
       is_told : HasItsEdges chains edges number
@@ -297,7 +297,7 @@ module _ (stacks : List PlainStack) (chains : List (List ℕ)) (told : List ℕ)
           subst (HasItsEdges chains edges) (sym (eqb-true number found.1 found.4)) (subst (HasItsEdges chains edges) found.3 (tied.complete found.0 found.1 found.2))
 
       all : fold with_edge_fact edges (map (edge_to class line) (map (λ (h : Hold). h.class)
-          (drop (start_now (get_or (held_by_tasks stacks edges begun).interrupts task fresh)) (get_or (held_by_tasks stacks edges begun).stacks task [])))) ≡ edges
+          (drop (start_now (get_or (held_by_tasks stacks edges before).interrupts task fresh)) (get_or (held_by_tasks stacks edges before).stacks task [])))) ≡ edges
       all = ap (λ fs. fold with_edge_fact edges (map (edge_to class line) fs)) froms ∙
           none_new class line edges (classes_held (inner (get_or stacks task empty_stack))) (is_told.told (classes_held (inner (get_or stacks task empty_stack))) class at)
 
@@ -360,21 +360,21 @@ tied_push stacks chains told edges tied task held within more extended known is 
     (AreChainedIn-push more (get_or stacks task empty_stack).held held (starts_of (get_or stacks task empty_stack).interrupts) (tied_more.chained task) (known, is))
 
 -- a waiting acquisition that tells its dependencies, as callers see it
-pub told_shown : {E : Type 0} {begun after : List EdgeFact} (r : Result (Unit {0}) E) (stacks : List PlainStack) (edges : List EdgeFact) (known : HeldByTasks) (task class line : ℕ)
-    (new : List EdgeFact) → held_by_tasks stacks edges begun ≡ known → new ≡ fold with_edge_fact edges
-    (map (edge_to class line) (classes_held (inner (get_or stacks task empty_stack)))) → after ≡ begun → OnOk r
+pub told_shown : {E : Type 0} {before after : List EdgeFact} (r : Result (Unit {0}) E) (stacks : List PlainStack) (edges : List EdgeFact) (known : HeldByTasks) (task class line : ℕ)
+    (new : List EdgeFact) → held_by_tasks stacks edges before ≡ known → new ≡ fold with_edge_fact edges
+    (map (edge_to class line) (classes_held (inner (get_or stacks task empty_stack)))) → after ≡ before → OnOk r
     (held_by_tasks stacks new after ≡ record known {
       edges = fold with_edge_fact known.edges
           (map (edge_to class line) (map (λ (h : Hold). h.class) (drop (start_now (get_or known.interrupts task fresh)) (get_or known.stacks task []))));
     })
-told_shown {E} {begun} {after} r stacks edges known task class line new is told same = by r
+told_shown {E} {before} {after} r stacks edges known task class line new is told same = by r
   where
-    froms : map (λ (h : Hold). h.class) (drop (start_now (get_or (held_by_tasks stacks edges begun).interrupts task fresh))
-        (get_or (held_by_tasks stacks edges begun).stacks task [])) ≡ classes_held (inner (get_or stacks task empty_stack))
+    froms : map (λ (h : Hold). h.class) (drop (start_now (get_or (held_by_tasks stacks edges before).interrupts task fresh))
+        (get_or (held_by_tasks stacks edges before).stacks task [])) ≡ classes_held (inner (get_or stacks task empty_stack))
     froms = ap (map (λ (h : Hold). h.class)) (inner_at stacks task) ∙ map-map (λ (h : Hold). h.class) hold_of (inner (get_or stacks task empty_stack))
 
     edges_are : new ≡ fold with_edge_fact edges (map (edge_to class line)
-        (map (λ (h : Hold). h.class) (drop (start_now (get_or (held_by_tasks stacks edges begun).interrupts task fresh)) (get_or (held_by_tasks stacks edges begun).stacks task []))))
+        (map (λ (h : Hold). h.class) (drop (start_now (get_or (held_by_tasks stacks edges before).interrupts task fresh)) (get_or (held_by_tasks stacks edges before).stacks task []))))
     edges_are = told ∙ ap (λ fs. fold with_edge_fact edges (map (edge_to class line) fs)) (sym froms)
 
     whole : held_by_tasks stacks new after ≡ record known {
@@ -386,7 +386,7 @@ told_shown {E} {begun} {after} r stacks edges known task class line new is told 
           edges = fold with_edge_fact k.edges
               (map (edge_to class line) (map (λ (h : Hold). h.class) (drop (start_now (get_or k.interrupts task fresh)) (get_or k.stacks task []))));
         }) is
-        (λ i. record (held_by_tasks stacks edges begun) { edges = edges_are i; begun = same i })
+        (λ i. record (held_by_tasks stacks edges before) { edges = edges_are i; before = same i })
 
     by : {E : Type 0} (r : Result (Unit {0}) E) → OnOk r (held_by_tasks stacks new after ≡ record known
         { edges = fold with_edge_fact known.edges (map (edge_to class line) (map (λ (h : Hold). h.class) (drop (start_now (get_or known.interrupts task fresh)) (get_or known.stacks task [])))) })
@@ -394,18 +394,18 @@ told_shown {E} {begun} {after} r stacks edges known task class line new is told 
     by (Err e) = tt
 
 -- the number of tasks, as callers see it
-pub within_shown : {begun : List EdgeFact} (stacks : List PlainStack) (edges : List EdgeFact) (known : HeldByTasks) (task : ℕ) → held_by_tasks stacks edges begun ≡ known →
+pub within_shown : {before : List EdgeFact} (stacks : List PlainStack) (edges : List EdgeFact) (known : HeldByTasks) (task : ℕ) → held_by_tasks stacks edges before ≡ known →
     task < length known.stacks → task < length stacks
-within_shown {begun} stacks edges known task is within =
+within_shown {before} stacks edges known task is within =
     subst (λ n. task < n) (ap (λ (k : HeldByTasks). length k.stacks) (sym is) ∙ length-map stacks (λ (s : PlainStack). map hold_of s.held)) within
 
 -- another stack of a task, as callers see it
-pub shown_held : {begun : List EdgeFact} (stacks : List PlainStack) (edges : List EdgeFact) (known : HeldByTasks) (task : ℕ) → held_by_tasks stacks edges begun ≡ known →
+pub shown_held : {before : List EdgeFact} (stacks : List PlainStack) (edges : List EdgeFact) (known : HeldByTasks) (task : ℕ) → held_by_tasks stacks edges before ≡ known →
     (held : List PlainHeld) (holding : List Hold) → map hold_of held ≡ holding → held_by_tasks
-    (set stacks task (record (get_or stacks task empty_stack) { held = held })) edges begun ≡ record known { stacks = set known.stacks task holding }
-shown_held {begun} stacks edges known task is held holding same =
-    subst (λ (k : HeldByTasks). held_by_tasks (set stacks task stack) edges begun ≡ record k { stacks = set k.stacks task holding }) is
-    (λ i. record { stacks = stacks_are i; interrupts = interrupts_are i; edges = edges; begun = begun })
+    (set stacks task (record (get_or stacks task empty_stack) { held = held })) edges before ≡ record known { stacks = set known.stacks task holding }
+shown_held {before} stacks edges known task is held holding same =
+    subst (λ (k : HeldByTasks). held_by_tasks (set stacks task stack) edges before ≡ record k { stacks = set k.stacks task holding }) is
+    (λ i. record { stacks = stacks_are i; interrupts = interrupts_are i; edges = edges; before = before })
   where
     stack : PlainStack
     stack = record (get_or stacks task empty_stack) { held = held }
@@ -422,14 +422,14 @@ shown_held {begun} stacks edges known task is held holding same =
         ∙ set-get_or (map (λ (s : PlainStack). s.interrupts) stacks) task fresh
 
 -- other frames and flags of a task, as callers see them
-pub shown_moved : {begun : List EdgeFact} (stacks : List PlainStack) (edges : List EdgeFact) (known : HeldByTasks) (task : ℕ) → held_by_tasks stacks edges begun ≡ known →
-    (interrupts : Interrupts) → ChangesInterrupts known (held_by_tasks (set stacks task (record (get_or stacks task empty_stack) { interrupts = interrupts })) edges begun) task
-shown_moved {begun} stacks edges known task is interrupts =
-    subst (λ (k : HeldByTasks). ChangesInterrupts k (held_by_tasks (set stacks task (record (get_or stacks task empty_stack) { interrupts = interrupts })) edges begun) task) is
+pub shown_moved : {before : List EdgeFact} (stacks : List PlainStack) (edges : List EdgeFact) (known : HeldByTasks) (task : ℕ) → held_by_tasks stacks edges before ≡ known →
+    (interrupts : Interrupts) → ChangesInterrupts known (held_by_tasks (set stacks task (record (get_or stacks task empty_stack) { interrupts = interrupts })) edges before) task
+shown_moved {before} stacks edges known task is interrupts =
+    subst (λ (k : HeldByTasks). ChangesInterrupts k (held_by_tasks (set stacks task (record (get_or stacks task empty_stack) { interrupts = interrupts })) edges before) task) is
     (record {
       stacks = stacks_are;
       edges = refl;
-      begun = refl;
+      before = refl;
       many = many;
       others = λ k other. ap (λ xs. get_or xs k fresh) interrupts_are ∙ get_or-set_other
           (map (λ (s : PlainStack). s.interrupts) stacks) task k interrupts fresh other;
@@ -459,8 +459,8 @@ module _ (stacks : List PlainStack) (task : ℕ) (interrupts : Interrupts) (afte
       subst (λ ss. AreTied ss chains told edges) (sym is)
       (tied_set stacks chains told edges tied task (record (get_or stacks task empty_stack) { interrupts = interrupts }) within are)
 
-  pub moved_is : {begun : List EdgeFact} (edges : List EdgeFact) (known : HeldByTasks) → held_by_tasks stacks edges begun ≡ known → ChangesInterrupts known (held_by_tasks after edges begun) task
-  moved_is {begun} edges known shown = subst (λ ss. ChangesInterrupts known (held_by_tasks ss edges begun) task) (sym is) (shown_moved stacks edges known task shown interrupts)
+  pub moved_is : {before : List EdgeFact} (edges : List EdgeFact) (known : HeldByTasks) → held_by_tasks stacks edges before ≡ known → ChangesInterrupts known (held_by_tasks after edges before) task
+  moved_is {before} edges known shown = subst (λ ss. ChangesInterrupts known (held_by_tasks ss edges before) task) (sym is) (shown_moved stacks edges known task shown interrupts)
 
   pub moved_to : task < length stacks → get_or (map (λ (s : PlainStack). s.interrupts) after) task fresh ≡ interrupts
   moved_to within =
@@ -468,16 +468,16 @@ module _ (stacks : List PlainStack) (task : ℕ) (interrupts : Interrupts) (afte
       ∙ ap (λ ss. (get_or ss task empty_stack).interrupts) is
       ∙ ap (λ (s : PlainStack). s.interrupts) (get_or-set_same stacks task (record (get_or stacks task empty_stack) { interrupts = interrupts }) empty_stack within)
 
-pub interrupts_shown : {begun : List EdgeFact} (stacks : List PlainStack) (edges : List EdgeFact) (known : HeldByTasks) (task : ℕ) → held_by_tasks stacks edges begun ≡ known →
+pub interrupts_shown : {before : List EdgeFact} (stacks : List PlainStack) (edges : List EdgeFact) (known : HeldByTasks) (task : ℕ) → held_by_tasks stacks edges before ≡ known →
     (get_or stacks task empty_stack).interrupts ≡ get_or known.interrupts task fresh
-interrupts_shown {begun} stacks edges known task is = sym (interrupts_at stacks task) ∙ ap (λ (k : HeldByTasks). get_or k.interrupts task fresh) is
+interrupts_shown {before} stacks edges known task is = sym (interrupts_at stacks task) ∙ ap (λ (k : HeldByTasks). get_or k.interrupts task fresh) is
 
-pub holds_shown : {begun : List EdgeFact} (stacks : List PlainStack) (edges : List EdgeFact) (known : HeldByTasks) (task : ℕ) → held_by_tasks stacks edges begun ≡ known → map hold_of
+pub holds_shown : {before : List EdgeFact} (stacks : List PlainStack) (edges : List EdgeFact) (known : HeldByTasks) (task : ℕ) → held_by_tasks stacks edges before ≡ known → map hold_of
     (get_or stacks task empty_stack).held ≡ get_or known.stacks task []
-holds_shown {begun} stacks edges known task is = sym (holds_at stacks task) ∙ ap (λ (k : HeldByTasks). get_or k.stacks task []) is
+holds_shown {before} stacks edges known task is = sym (holds_at stacks task) ∙ ap (λ (k : HeldByTasks). get_or k.stacks task []) is
 
 -- the locks before and after one of them, as callers see them
-pub cut_shown : {begun : List EdgeFact} (stacks : List PlainStack) (edges : List EdgeFact) (known : HeldByTasks) (task : ℕ) → held_by_tasks stacks edges begun ≡ known → (place : ℕ)
+pub cut_shown : {before : List EdgeFact} (stacks : List PlainStack) (edges : List EdgeFact) (known : HeldByTasks) (task : ℕ) → held_by_tasks stacks edges before ≡ known → (place : ℕ)
     → map hold_of (take place (get_or stacks task empty_stack).held) ++ map hold_of (drop (suc place) (get_or stacks task empty_stack).held)
     ≡ take place (get_or known.stacks task []) ++ drop (place + 1) (get_or known.stacks task [])
 cut_shown stacks edges known task is place =
@@ -488,9 +488,9 @@ cut_shown stacks edges known task is place =
     ∙ ap (λ n. take place (get_or known.stacks task []) ++ drop n (get_or known.stacks task [])) next
 
 -- the locks that a task holds, as callers see them
-pub held_shown : {begun : List EdgeFact} (stacks : List PlainStack) (edges : List EdgeFact) (known : HeldByTasks) (task : ℕ) → held_by_tasks stacks edges begun ≡ known → (held : List Held) →
+pub held_shown : {before : List EdgeFact} (stacks : List PlainStack) (edges : List EdgeFact) (known : HeldByTasks) (task : ℕ) → held_by_tasks stacks edges before ≡ known → (held : List Held) →
     map plain_held held ≡ (get_or stacks task empty_stack).held → holds_of held ≡ get_or known.stacks task []
-held_shown {begun} stacks edges known task is held same = sym (map-map hold_of plain_held held) ∙ ap (map hold_of) same ∙ holds_shown stacks edges known task is
+held_shown {before} stacks edges known task is held same = sym (map-map hold_of plain_held held) ∙ ap (map hold_of) same ∙ holds_shown stacks edges known task is
 
 -- what holds of the frames and flags that were read and written, as callers see them
 pub shown_as : (R : Interrupts → Interrupts → Type 0) (old before new after : Interrupts) → old ≡ before → after ≡ new → R old new → R before after
@@ -525,9 +525,9 @@ put_again old now new task stack change so_far is within =
 -- a release
 
 -- a lock is held in the innermost frame, as callers see it
-pub any_shown : {begun : List EdgeFact} (stacks : List PlainStack) (edges : List EdgeFact) (known : HeldByTasks) (task : ℕ) (lock : PlainLock) → held_by_tasks stacks edges begun ≡ known →
+pub any_shown : {before : List EdgeFact} (stacks : List PlainStack) (edges : List EdgeFact) (known : HeldByTasks) (task : ℕ) (lock : PlainLock) → held_by_tasks stacks edges before ≡ known →
     list_any (is_of lock) (drop (start_now (get_or known.interrupts task fresh)) (get_or known.stacks task [])) ≡ list_any (holds lock) (inner (get_or stacks task empty_stack))
-any_shown {begun} stacks edges known task lock is =
+any_shown {before} stacks edges known task lock is =
     ap (λ (k : HeldByTasks). list_any (is_of lock) (drop (start_now (get_or k.interrupts task fresh)) (get_or k.stacks task []))) (sym is)
     ∙ ap (list_any (is_of lock)) (inner_at stacks task)
     ∙ list_any-map hold_of (is_of lock) (inner (get_or stacks task empty_stack))

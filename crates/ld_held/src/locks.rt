@@ -28,7 +28,7 @@ use std::marker::Model;
 
 /// How much there was when the trace began.
 #[derive(Clone, Copy)]
-struct Begun {
+struct Before {
     /// How many dependencies.
     edges: usize,
     /// How many chains had the dependencies of their last class told.
@@ -51,7 +51,7 @@ pub struct Locks<'a> {
     /// The numbers of the chains that had the dependencies of their last class told.
     told: Numbers,
     edges: Edges,
-    begun: Begun,
+    before: Before,
     alloc: Global,
 }
 
@@ -64,22 +64,22 @@ impl<'a> Model for Locks<'a> {
     ghost use Rattle.ld_held.specs.Inner.Locks.{IsKept, held_by_tasks};
 
     ghost view = { λ l. held_by_tasks l.stacks l.edges.edges
-        (take l.begun.edges l.edges.edges) };
+        (take l.before.edges l.edges.edges) };
 
-    ghost invariant = { λ l. IsKept l.stacks l.chains l.told l.edges l.begun };
+    ghost invariant = { λ l. IsKept l.stacks l.chains l.told l.edges l.before };
 }
 
 impl<'a> Locks<'a> {
     /// No task. Takes no memory.
     pub fn new(alloc: Global) -> Locks<'a>
-        ensures { result ≡ record { stacks = []; interrupts = []; edges = []; begun = [] } }
+        ensures { result ≡ record { stacks = []; interrupts = []; edges = []; before = [] } }
     {
         Locks {
             stacks: Stacks::new(alloc),
             chains: Chains::new(alloc),
             told: Numbers::new(alloc),
             edges: Edges::new(alloc),
-            begun: Begun { edges: 0, told: 0 },
+            before: Before { edges: 0, told: 0 },
             alloc,
         }
     }
@@ -90,11 +90,11 @@ impl<'a> Locks<'a> {
           stacks = [];
           interrupts = [];
           edges = self.old.edges;
-          begun = self.old.edges;
+          before = self.old.edges;
         } }
     {
         self.stacks.begin();
-        self.begun = Begun {
+        self.before = Before {
             edges: self.edges.as_slice().len(),
             told: self.told.len(),
         };
@@ -105,18 +105,18 @@ impl<'a> Locks<'a> {
         ensures { self.new ≡ record {
           stacks = [];
           interrupts = [];
-          edges = self.old.begun;
-          begun = self.old.begun;
+          edges = self.old.before;
+          before = self.old.before;
         } }
     {
         self.stacks.begin();
-        self.edges.cut(self.begun.edges);
-        self.told.cut(self.begun.told);
+        self.edges.cut(self.before.edges);
+        self.told.cut(self.before.told);
     }
 
     /// Takes all away. The memory stays; and so do the chains that were met, while they are few.
     pub fn clear(&mut self)
-        ensures { self.new ≡ record { stacks = []; interrupts = []; edges = []; begun = [] } }
+        ensures { self.new ≡ record { stacks = []; interrupts = []; edges = []; before = [] } }
     {
         self.stacks.begin();
         self.told.clear();
@@ -125,12 +125,12 @@ impl<'a> Locks<'a> {
             self.chains.clear();
             self.edges.clear();
         }
-        self.begun = Begun { edges: 0, told: 0 };
+        self.before = Before { edges: 0, told: 0 };
     }
 
     /// One more task, which holds nothing and is outside frames.
     pub fn grow(&mut self) -> Result<(), AllocError>
-        ensures begun { self.new.begun ≡ self.old.begun }
+        ensures before { self.new.before ≡ self.old.before }
         ensures grown { OnOk result (self.new ≡ record self.old {
           stacks = self.old.stacks ++ [] ∷ [];
           interrupts = self.old.interrupts ++ fresh ∷ [];
@@ -159,7 +159,7 @@ impl<'a> Locks<'a> {
     /// its innermost frame.
     pub fn tell(&mut self, task: u32, class: u32, line: u64) -> Result<(), AllocError>
         requires { task < length self.old.stacks }
-        ensures begun { self.new.begun ≡ self.old.begun }
+        ensures before { self.new.before ≡ self.old.before }
         ensures told { OnOk result (self.new ≡ record self.old {
           edges = fold with_edge_fact self.old.edges
               (map (edge_to class line) (map (λ hold. hold.class) (inner_of self.old task)));
@@ -179,7 +179,7 @@ impl<'a> Locks<'a> {
     pub fn hold(&mut self, task: u32, lock: Lock<'a>, class: u32) -> Result<(), AllocError>
         requires task { task < length self.old.stacks }
         requires room { length (slice_index_or self.old.stacks task []) < MOST_HELD }
-        ensures begun { self.new.begun ≡ self.old.begun }
+        ensures before { self.new.before ≡ self.old.before }
         ensures held { OnOk result (self.new ≡ record self.old {
           stacks = slice_set self.old.stacks task (slice_index_or self.old.stacks task []
               ++ record { lock = plain_lock lock.entry; class = class } ∷ []);
@@ -195,7 +195,7 @@ impl<'a> Locks<'a> {
     /// whether there was one.
     pub fn let_go(&mut self, task: u32, lock: Lock<'a>) -> Result<bool, AllocError>
         requires { task < length self.old.stacks }
-        ensures begun { self.new.begun ≡ self.old.begun }
+        ensures before { self.new.before ≡ self.old.before }
         ensures held { IfOk result (λ was.
             was ≡ list_any (is_of (plain_lock lock.entry)) (inner_of self.old task)) }
         ensures stacks { OnOk result (self.new ≡ record self.old {
@@ -218,7 +218,7 @@ impl<'a> Locks<'a> {
         requires task { task < length self.old.stacks }
         requires inner { start_now (slice_index_or self.old.interrupts task fresh) ≤ place }
         requires held { place < length (slice_index_or self.old.stacks task []) }
-        ensures begun { self.new.begun ≡ self.old.begun }
+        ensures before { self.new.before ≡ self.old.before }
         ensures stacks { OnOk result (self.new ≡ record self.old {
           stacks = slice_set self.old.stacks task
               (take place (slice_index_or self.old.stacks task [])

@@ -15,7 +15,8 @@ use Rattle.ld_class.specs.Names.{PlainClass, same_class, with_name, with_one, wi
 use Rattle.ld_class.proofs.NameLemmas.{same_class-Decides}
 use Rattle.ld_trace.specs.Events.{PlainEvent, Position}
 use Rattle.ld_rules.specs.Frames.{task_of}
-use Rattle.ld_rules.specs.Outcome.{each_once, class_acquired, tasks, classes, events}
+use Rattle.ld_rules.specs.Outcome.{each_once, tasks, classes, events}
+use Rattle.ld_rules.specs.Held.{class_acquired}
 use Rattle.ld_rules.specs.Dependency.{Dependency, Seen, same_dependency, dependencies_at, seen, seen_at}
 use Rattle.ld_rules.specs.Inner.Scanned.{same_dependency_seen, with_new}
 use Rattle.ld_rules.proofs.PlaceLemmas.{added-more, alike_from_decides, by_pushes, each_once-more}

@@ -1,6 +1,6 @@
 -- *Held locks*.
 use Rattle.std.specs.Prelude.{ℕ, ◌+◌, Bool, true, false, ◌&&◌, ◌==◌, List, map, take, filter}
-use Rattle.std.specs.Prelude.{Option, Some, None}
+use Rattle.std.specs.Prelude.{Option, Some, None, option_map, if◌then◌else◌}
 use Rattle.std.specs.List.{enumerate_from}
 use Rattle.std.specs.Str.{bytes_eq}
 use Rattle.ld_class.specs.Names.{PlainClass}
@@ -47,11 +47,19 @@ abbrev pub sub_taken : PlainEvent → ℕ
 sub_taken (Nested task lock sub) = sub
 sub_taken other = 0
 
--- a waiting acquisition is an `acquire` or a `nested`: the class that it waits for
+-- the class that an event acquires
+abbrev pub class_acquired : PlainEvent → Option PlainClass
+class_acquired event = option_map (λ lock. class_with lock (sub_taken event)) (lock_acquired event)
+
+-- a waiting acquisition is an `acquire` or a `nested`
+abbrev pub may_wait : PlainEvent → Bool
+may_wait (Acquire task lock) = true
+may_wait (Nested task lock sub) = true
+may_wait other = false
+
+-- the class that an event waits for
 abbrev pub class_awaited : PlainEvent → Option PlainClass
-class_awaited (Acquire task lock) = Some (class_with lock 0)
-class_awaited (Nested task lock sub) = Some (class_with lock sub)
-class_awaited other = None
+class_awaited event = if may_wait event then class_acquired event else None
 
 -- the key of an event that names this lock
 abbrev pub key_with : Placed → Option PlainLock → Option Key

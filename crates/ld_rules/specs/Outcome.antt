@@ -22,7 +22,7 @@ use Rattle.ld_rules.specs.declared.outcome.Outcome.TheVariants.{Read, Refused}
 use Rattle.ld_rules.specs.declared.outcome.TheConstants.{MOST_TASKS, MOST_CLASSES, MOST_HELD}
 use Rattle.ld_rules.specs.Open.{is_some_and}
 use Rattle.ld_rules.specs.Frames.{task_of, frame_of, contexts}
-use Rattle.ld_rules.specs.Held.{Key, class_with, lock_acquired, held, held_by, held_in, same_key, sub_taken}
+use Rattle.ld_rules.specs.Held.{Key, class_acquired, lock_acquired, held, held_by, held_in, same_key}
 use Rattle.ld_rules.specs.Flags.{same_state, is_enabled}
 
 -- the elements without those that are the same as an earlier one
@@ -30,10 +30,6 @@ abbrev pub each_once : {X : Type 0} → (X → X → Bool) → List X → List X
 each_once same xs =
     filter_map (λ p. if list_any (same p.1) (take p.0 xs) then None else Some p.1)
     (enumerate_from 0 xs)
-
--- the class that an event acquires
-abbrev pub class_acquired : PlainEvent → Option PlainClass
-class_acquired event = option_map (λ lock. class_with lock (sub_taken event)) (lock_acquired event)
 
 -- the tasks of a trace, in order of first event
 abbrev pub tasks : List PlainEvent → List (List ℕ)

@@ -163,11 +163,11 @@ pub reach-kept : (classes : ℕ) (edges : List Edge) (usage : List Usage) (state
 reach-kept classes edges usage state old new is count exact = record { count = count; seeds = is.seeds; seeded = is.seeded; exact = exact is.seeds is.exact }
 
 -- a union whose graph and reaches got other spares
-pub union-kept : (classes : List PlainClass) (graph : PlainGraph) (rows : List Witnessed) (usage : List UsageRow)
-    (closing : Option Edge) (reach more : PerState PlainReach) (spare_classes spare_edges : ℕ)
+pub union-kept : {classes : List PlainClass} {graph : PlainGraph} {rows : List Witnessed} {usage : List UsageRow}
+    {closing : Option Edge} {reach : PerState PlainReach} {spare_classes spare_edges : ℕ} (more : PerState PlainReach)
     → IsUnion classes graph rows usage closing reach → HaveClasses graph.classes more → StayExact (edges_of rows) (edges_of rows) reach more
     → IsUnion classes (with_spares graph spare_classes spare_edges) rows usage closing more
-union-kept classes graph rows usage closing reach more spare_classes spare_edges is count exact = record {
+union-kept {classes} {graph} {rows} {usage} {closing} {reach} more is count exact = record {
   numbered = is.numbered;
   few = is.few;
   count = is.count;

@@ -13,7 +13,7 @@ use Rattle.ld_rules.specs.declared.outcome.Witness.{Witness}
 use Rattle.ld_facts.specs.Union.{classes_of, union_classes}
 use Rattle.ld_facts.specs.Usage.{Use, same_use, usage_of}
 use Rattle.ld_rules.proofs.UsageLemmas.{Decides-same_use}
-use Rattle.ld_batch.specs.Batch.{IsBatch, Met, PlainBatch, named, named_use, witness_of}
+use Rattle.ld_batch.specs.Batch.{IsBatch, Met, PlainBatch, named_dependency, named_use, witness_of}
 use Rattle.ld_union.specs.Inner.Union.{earlier_of}
 use Rattle.ld_union.proofs.EachOnceLemmas.{IsDistinct-each_once}
 use Rattle.ld_batch.proofs.SourceLemmas.{earlier_of-none}
@@ -81,13 +81,13 @@ same_use-true a b same = (Decides-same_use a b).0 same
 
 module _ (batch : PlainBatch) (is : IsBatch batch) where
   -- no two dependencies of a batch are the same
-  pub dependencies_once : AllPairs (λ e f. (named batch.classes e).what ≢ (named batch.classes f).what) batch.edges
+  pub dependencies_once : AllPairs (λ e f. (named_dependency batch.classes e).what ≢ (named_dependency batch.classes f).what) batch.edges
   dependencies_once i j d before within same =
       let a = is.within i d (omega (arith, before, within)) in
       let b = is.within j d within in
       is.once i j d before within (
-        batch_distinct batch is (get_or batch.edges i d).from (get_or batch.edges j d).from (named batch.classes (get_or batch.edges j d)).what.from (a.0, ap (λ x. x.from) same) (b.0, refl),
-        batch_distinct batch is (get_or batch.edges i d).to (get_or batch.edges j d).to (named batch.classes (get_or batch.edges j d)).what.to (a.1, ap (λ x. x.to) same) (b.1, refl),
+        batch_distinct batch is (get_or batch.edges i d).from (get_or batch.edges j d).from (named_dependency batch.classes (get_or batch.edges j d)).what.from (a.0, ap (λ x. x.from) same) (b.0, refl),
+        batch_distinct batch is (get_or batch.edges i d).to (get_or batch.edges j d).to (named_dependency batch.classes (get_or batch.edges j d)).what.to (a.1, ap (λ x. x.to) same) (b.1, refl),
       )
 
   -- nor are two uses

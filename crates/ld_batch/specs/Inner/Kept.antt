@@ -13,7 +13,7 @@ use Rattle.ld_facts.specs.Inner.Reading.{IsAt, begun, names_at, start_of}
 use Rattle.ld_facts.specs.declared.bounds.TheConstants.{MOST_KNOWN}
 use Rattle.ld_batch.specs.declared.edges.WitnessedEdge.{WitnessedEdge}
 use Rattle.ld_batch.specs.declared.uses.WitnessedUse.{WitnessedUse}
-use Rattle.ld_batch.specs.Batch.{AreOutcomes, IsBatch, PlainBatch, named, named_use, sources_of}
+use Rattle.ld_batch.specs.Batch.{AreOutcomes, IsBatch, PlainBatch, named_dependency, named_use, sources_of}
 use Rattle.ld_batch.specs.Inner.Names.{with_names}
 use Rattle.ld_batch.specs.Inner.Rows.{AreMet, IsOwnEdge, IsOwnUse}
 
@@ -54,7 +54,7 @@ pub record IsKept (fields : Fields) : Type 0 where
   pub names : AreNames fields.scan.classes fields.numbers fields.classes
   pub ready : IsReady fields.scan
   pub begun : IsAt (start_of fields.scan) [] fields.scan
-  pub edges : AreMet (start_of fields.scan).edges (map (named fields.classes) fields.edges)
+  pub edges : AreMet (start_of fields.scan).edges (map (named_dependency fields.classes) fields.edges)
   pub usage : AreMet (start_of fields.scan).uses (map (named_use fields.classes) fields.usage)
 
 -- on top of what the one scan has the other has what this source shows
@@ -64,7 +64,7 @@ pub record IsRead (old : Scan) (source : PlainSource) (new : Scan) : Type 0 wher
   pub distinct : AreDistinct new.classes
   pub edges : (start_of new).edges
       ≡ fold (with_new same_dependency_seen) (start_of old).edges (dependencies_of source)
-  pub within : All (reading.IsWithin new.classes) new.locks.edges
+  pub within : All (reading.IsEdge new.classes) new.locks.edges
   pub uses : (start_of new).uses
       ≡ fold (with_new same_use_seen) (start_of old).uses (uses_of source)
   pub used : All (facts.IsUse new.classes) new.uses

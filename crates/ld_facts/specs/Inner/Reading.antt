@@ -17,14 +17,14 @@ use Rattle.ld_held.specs.declared.interrupts.Interrupts.{Interrupts}
 use Rattle.ld_facts.specs.declared.scan.Scan.{Scan}
 use Rattle.ld_facts.specs.declared.taking.Taking.{Taking}
 use Rattle.ld_facts.specs.declared.taking.Taking.TheVariants.{Nesting, Trying, Waiting}
-use Rattle.ld_facts.specs.Facts.{named, named_use}
+use Rattle.ld_facts.specs.Facts.{named_dependency, named_use}
 use Rattle.ld_held.specs.Inner.Edges.{edge_to, with_edge_fact}
 use Rattle.ld_held.specs.Inner.Interrupts.{fresh, levels_of, start_now, starts_of, states_of}
 use Rattle.ld_rules.specs.Inner.Levels.{levels, starts, states}
 use Rattle.ld_facts.specs.Facts.{IsUse}
 use Rattle.ld_uses.specs.Inner.Uses.{in_facts, on_facts, with_use}
 use Rattle.ld_rules.specs.Usage.{uses_at}
-use Rattle.ld_rules.specs.Held.{Acquisition, class_with, held_by}
+use Rattle.ld_rules.specs.Held.{Acquisition, class_with, held_by, may_wait, sub_taken}
 use Rattle.ld_held.specs.Inner.Locks.{Hold}
 use Rattle.ld_rules.specs.Outcome.{classes, events, faulty_lines, tasks}
 use Rattle.ld_rules.specs.Dependency.{Dependency, Seen, dependencies_at, seen}
@@ -61,8 +61,8 @@ abbrev pub own_names : Scan → List PlainClass
 own_names scan = names_at scan.classes scan.own
 
 -- the numbers of a dependency's classes are numbers of classes
-abbrev pub IsWithin : List PlainClass → EdgeFact → Type 0
-IsWithin classes edge = (edge.from < length classes) × (edge.to < length classes)
+abbrev pub IsEdge : List PlainClass → EdgeFact → Type 0
+IsEdge classes edge = (edge.from < length classes) × (edge.to < length classes)
 
 -- a lock that is held, and the class by which it was acquired
 pub record HeldLock : Type 0 where
@@ -111,8 +111,8 @@ pub record IsAt (start : Start) (all : List Position) (scan : Scan) : Type 0 whe
       → IsTask scan.classes (slice_index_or scan.locks.stacks id [])
       (slice_index_or scan.locks.interrupts id fresh) (events all) name
   pub shallow : (id : ℕ) → length (slice_index_or scan.locks.stacks id []) ≤ MOST_HELD
-  pub edges : map (named scan.classes) scan.locks.edges ≡ edges_after start all
-  pub within : All (IsWithin scan.classes) scan.locks.edges
+  pub edges : map (named_dependency scan.classes) scan.locks.edges ≡ edges_after start all
+  pub within : All (IsEdge scan.classes) scan.locks.edges
   pub uses : map (named_use scan.classes) scan.uses ≡ uses_after start all
   pub used : All (IsUse scan.classes) scan.uses
 
@@ -122,7 +122,7 @@ fresh_scan names = record {
   tasks = [];
   classes = names;
   own = [];
-  locks = record { stacks = []; interrupts = []; edges = []; begun = [] };
+  locks = record { stacks = []; interrupts = []; edges = []; before = [] };
   uses = [];
   before = record { classes = length names; uses = 0 };
 }
@@ -131,7 +131,7 @@ fresh_scan names = record {
 abbrev pub start_of : Scan → Start
 start_of scan = record {
   classes = scan.classes;
-  edges = map (named scan.classes) scan.locks.edges;
+  edges = map (named_dependency scan.classes) scan.locks.edges;
   uses = map (named_use scan.classes) scan.uses;
 }
 
@@ -140,14 +140,14 @@ abbrev pub begun : Scan → Scan
 begun scan = record scan {
   tasks = [];
   own = [];
-  locks = record { stacks = []; interrupts = []; edges = scan.locks.edges; begun = scan.locks.edges };
+  locks = record { stacks = []; interrupts = []; edges = scan.locks.edges; before = scan.locks.edges };
   before = record { classes = length scan.classes; uses = length scan.uses };
 }
 
 -- what the old scan had stands first in the new one, which is still that of the same trace
 pub record StandsOn (old new : Scan) : Type 0 where
   pub classes : take (length old.classes) new.classes ≡ old.classes
-  pub begun : new.locks.begun ≡ old.locks.begun
+  pub edges : new.locks.before ≡ old.locks.before
   pub before : new.before ≡ old.before
   pub uses : take (length old.uses) new.uses ≡ old.uses
 
@@ -157,7 +157,7 @@ undone scan = record scan {
   tasks = [];
   classes = take scan.before.classes scan.classes;
   own = [];
-  locks = record { stacks = []; interrupts = []; edges = scan.locks.begun; begun = scan.locks.begun };
+  locks = record { stacks = []; interrupts = []; edges = scan.locks.before; before = scan.locks.before };
   uses = take scan.before.uses scan.uses;
 }
 
@@ -185,17 +185,13 @@ acquisition Waiting task lock = Acquire task lock
 acquisition Trying task lock = Try task lock
 acquisition (Nesting sub) task lock = Nested task lock sub
 
--- whether the task may have waited for it
+-- whether the task may have waited for it, whatever task and lock
 abbrev pub waits : Taking → Bool
-waits Waiting = true
-waits Trying = false
-waits (Nesting sub) = true
+waits how = may_wait (acquisition how [] (record { class = []; instance = None }))
 
 -- the class that it acquires
 abbrev pub class_taken : Taking → PlainLock → PlainClass
-class_taken Waiting lock = class_with lock 0
-class_taken Trying lock = class_with lock 0
-class_taken (Nesting sub) lock = class_with lock sub
+class_taken how lock = class_with lock (sub_taken (acquisition how [] lock))
 
 -- the scan when the task waits at this line for a lock of the class with this number: the
 -- dependencies are told, and the class is used in the task's contexts

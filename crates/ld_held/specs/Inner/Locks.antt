@@ -12,7 +12,7 @@ use Rattle.ld_rules.specs.Held.{same_lock}
 use Rattle.ld_held.specs.Inner.Interrupts.{fresh, start_now, starts_of}
 use Rattle.ld_held.specs.Inner.Stacks.{PlainHeld, PlainStack, empty_stack, plain_held}
 use Rattle.ld_held.specs.declared.held.Held.{Held}
-use Rattle.ld_held.specs.declared.locks.Begun.{Begun}
+use Rattle.ld_held.specs.declared.locks.Before.{Before}
 use Rattle.ld_held.specs.declared.interrupts.Interrupts.{Interrupts}
 
 -- a lock that a task holds, and the number of its class
@@ -29,14 +29,14 @@ pub record HeldByTasks : Type 0 where
   pub stacks : List (List Hold)
   pub interrupts : List Interrupts
   pub edges : List EdgeFact
-  pub begun : List EdgeFact
+  pub before : List EdgeFact
 
 abbrev pub held_by_tasks : List PlainStack → List EdgeFact → List EdgeFact → HeldByTasks
-held_by_tasks stacks edges begun = record {
+held_by_tasks stacks edges before = record {
   stacks = map (λ stack. map hold_of stack.held) stacks;
   interrupts = map (λ stack. stack.interrupts) stacks;
   edges = edges;
-  begun = begun;
+  before = before;
 }
 
 -- what the task holds in its innermost frame, and what it holds in the frames around it
@@ -54,7 +54,7 @@ outer_of known task =
 pub record ChangesInterrupts (old new : HeldByTasks) (task : ℕ) : Type 0 where
   pub stacks : new.stacks ≡ old.stacks
   pub edges : new.edges ≡ old.edges
-  pub begun : new.begun ≡ old.begun
+  pub before : new.before ≡ old.before
   pub many : length new.interrupts ≡ length old.interrupts
   pub others : (k : ℕ) → (k ≡ task → ⊥)
       → slice_index_or new.interrupts k fresh ≡ slice_index_or old.interrupts k fresh
@@ -115,18 +115,18 @@ pub record AreTied (stacks : List PlainStack) (chains : List (List ℕ)) (told :
   pub complete : All (λ number. HasItsEdges chains edges number) told
 
 -- of what was there when the trace began, the dependencies of each chain that was told are there too
-pub record IsBegun (begun : Begun) (chains : List (List ℕ)) (told : List ℕ)
+pub record IsBefore (before : Before) (chains : List (List ℕ)) (told : List ℕ)
     (edges : List EdgeFact) : Type 0 where
-  pub edges_within : begun.edges ≤ length edges
-  pub told_within : begun.told ≤ length told
+  pub edges_within : before.edges ≤ length edges
+  pub told_within : before.told ≤ length told
   pub complete :
-      All (λ number. HasItsEdges chains (take begun.edges edges) number) (take begun.told told)
+      All (λ number. HasItsEdges chains (take before.edges edges) number) (take before.told told)
 
 -- what ties all that is kept
 pub record IsKept (stacks : List PlainStack) (chains : KeptChains) (told : List ℕ)
-    (edges : KeptEdges) (begun : Begun) : Type 0 where
+    (edges : KeptEdges) (before : Before) : Type 0 where
   pub tied : AreTied stacks (chains_of chains.links) told edges.edges
-  pub mark : IsBegun begun (chains_of chains.links) told edges.edges
+  pub mark : IsBefore before (chains_of chains.links) told edges.edges
   pub numbered : HasItsNumbers (chains_of chains.links) chains.numbers edges.pairs
 
 -- it is of this lock

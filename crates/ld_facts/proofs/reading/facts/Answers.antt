@@ -18,7 +18,7 @@ invariant_of-result c =
     })) (sym c.into_edges.ensures)
     (read-known (plain c.args.source) c.read_into.new.scan c.in-Ok-Read.events c.requires
     (c.read_into.ensures.read c.in-Ok-Read.events (c.in-Ok-Read.is ∙ ap Ok c.in-Ok-Read.field-0-is) no_start (none-at c.new-scan.result c.new-scan.ensures))
-    (sym (c.in-Ok-Read.ensures.told no_start (none-at c.new-scan.result c.new-scan.ensures)) ∙ c.in-Ok-Read.field-0-is))
+    (sym (c.in-Ok-Read.ensures.outcome no_start (none-at c.new-scan.result c.new-scan.ensures)) ∙ c.in-Ok-Read.field-0-is))
 
 pub refused-requires-clause-outcome : goal.refused-requires-clause-outcome
-refused-requires-clause-outcome c = sym (c.in-Ok-Refused.ensures.told no_start (none-at c.new-scan.result c.new-scan.ensures)) ∙ c.in-Ok-Refused.field-0-is
+refused-requires-clause-outcome c = sym (c.in-Ok-Refused.ensures.outcome no_start (none-at c.new-scan.result c.new-scan.ensures)) ∙ c.in-Ok-Refused.field-0-is

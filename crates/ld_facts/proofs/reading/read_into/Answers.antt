@@ -13,8 +13,8 @@ use Rattle.ld_facts.proofs.reading.read_into.Goals.{in-Ok-None, in-Ok-Some+in-Ok
 pub loop-said-init : goal.loop-said-init
 loop-said-init c = record { many = c.requires.many; lines = omega arith; counted = omega arith; read = read-none (plain c.args.source) c.args.scan.now; stands = stands-same c.args.scan.now }
 
-pub returns-in-Err-Fault-clause-told : goal.returns-in-Err-Fault-clause-told
-returns-in-Err-Fault-clause-told c start is_at =
+pub returns-in-Err-Fault-clause-outcome : goal.returns-in-Err-Fault-clause-outcome
+returns-in-Err-Fault-clause-outcome c start is_at =
     let first = c.in-Some.ensures in
     let is : said_by (text_of first.line) ≡ Ok (Some (plain_event c.in-Ok-Some.event)) = search rules in
     sym (refused-event (plain c.args.source) c.loop-said.line c.loop-said.rest.now c.args.scan.now c.loop-said.scan c.loop-said.events c.loop-said.invariant.read
@@ -23,16 +23,16 @@ returns-in-Err-Fault-clause-told c start is_at =
     (c.step.ensures.fault c.in-Err-Fault.fault (c.in-Err-Fault.is ∙ ap Err c.in-Err-Fault.field-0-is))
     ∙ ap (Refused c.loop-said.line) (sym c.in-Err-Fault.fault-is))
 
-pub returns-in-Err-clause-told : goal.returns-in-Err-clause-told
-returns-in-Err-clause-told c start is_at =
+pub returns-in-Err-clause-outcome : goal.returns-in-Err-clause-outcome
+returns-in-Err-clause-outcome c start is_at =
     let first = c.in-Some.ensures in
     sym (refused-line (plain c.args.source) c.loop-said.line c.loop-said.rest.now c.args.scan.now c.loop-said.scan c.loop-said.events c.loop-said.invariant.read
     first.line c.in-Some.others.now first.first start is_at
     c.in-Err.fault (first.says ∙ ap answer_seen c.in-Err.is)
     ∙ ap (Refused c.loop-said.line) (sym c.from-fault.ensures))
 
-pub returns-clause-told : goal.returns-clause-told
-returns-clause-told c start is_at =
+pub returns-clause-outcome : goal.returns-clause-outcome
+returns-clause-outcome c start is_at =
     sym (read-outcome (plain c.args.source) c.loop-said.line c.loop-said.rest.now c.args.scan.now c.loop-said.scan c.loop-said.events c.loop-said.invariant.read
     c.in_default.ensures start is_at)
 

@@ -47,7 +47,7 @@ invariant_of-self-2 c =
     let last : Listed = record { source = c.args.source; outcome = c.in_ok-outcome.outcome } in
     kept-added _ _ last c.self.invariant (record {
       fits = c.requires.fits;
-      outcome = c.in_ok-outcome.ensures.told;
+      outcome = c.in_ok-outcome.ensures.outcome;
       above = above (sources_of c.self.inside.listed.items) c.args.source.number c.args.self.now (ap (λ b. b.sources) c.self.view_is) c.requires.above;
       listed = c.in-Ok.ensures.items ∙ ap (λ all. all ++ last ∷ []) c.reserve.ensures.items;
       shows = c.in_ok-outcome.ensures.shows;

@@ -22,8 +22,8 @@ without-push place holds hold below =
     ∙ (λ i. sym (take-append-le place holds (hold ∷ []) (omega arith)) i ++ sym (drop-append-le (place + 1) holds (hold ∷ []) (omega arith)) i)
 
 -- what the requirements say of the fields
-module _ {begun : List EdgeFact} (stacks : List PlainStack) (edges : List EdgeFact) (known : HeldByTasks) (task : ℕ) (held : List Held)
-    (is : held_by_tasks stacks edges begun ≡ known) (same : map plain_held held ≡ (get_or stacks task empty_stack).held) (place : ℕ)
+module _ {before : List EdgeFact} (stacks : List PlainStack) (edges : List EdgeFact) (known : HeldByTasks) (task : ℕ) (held : List Held)
+    (is : held_by_tasks stacks edges before ≡ known) (same : map plain_held held ≡ (get_or stacks task empty_stack).held) (place : ℕ)
     (inner : start_now (get_or known.interrupts task fresh) ≤ place) (below : place < length (get_or known.stacks task [])) (task_within : task < length known.stacks) where
   abbrev stack : PlainStack
   stack = get_or stacks task empty_stack
@@ -61,22 +61,22 @@ module _ {begun : List EdgeFact} (stacks : List PlainStack) (edges : List EdgeFa
         subst (λ ss. AreTied ss chains told edges) (sym put)
         (tied_cut stacks chains told edges so_far task top (within_shown stacks edges known task is task_within) (omega (arith, low, inside)) (omega (arith, many)))
 
-    cut : held_by_tasks after edges begun ≡ record known { stacks = set known.stacks task lower }
+    cut : held_by_tasks after edges before ≡ record known { stacks = set known.stacks task lower }
     cut =
-        ap (λ ss. held_by_tasks ss edges begun) put
+        ap (λ ss. held_by_tasks ss edges before) put
         ∙ shown_held stacks edges known task is (take top stack.held) lower
         (ap (λ hs. map hold_of (take top hs)) (sym same) ∙ ap (map hold_of) (take-map plain_held top held) ∙ map-map hold_of plain_held (take top held))
 
-    stays_within : task < length (held_by_tasks after edges begun).stacks
+    stays_within : task < length (held_by_tasks after edges before).stacks
     stays_within = subst (λ n. task < n) (sym (ap (λ (k : HeldByTasks). length k.stacks) cut ∙ length-set known.stacks task lower)) task_within
 
-    lower_is : get_or (held_by_tasks after edges begun).stacks task [] ≡ lower
+    lower_is : get_or (held_by_tasks after edges before).stacks task [] ≡ lower
     lower_is = ap (λ (k : HeldByTasks). get_or k.stacks task []) cut ∙ get_or-set_same known.stacks task lower [] task_within
 
-    fewer : length (get_or (held_by_tasks after edges begun).stacks task []) < length (get_or known.stacks task [])
+    fewer : length (get_or (held_by_tasks after edges before).stacks task []) < length (get_or known.stacks task [])
     fewer = omega (arith, ap length lower_is, lower_many, below, inside, length-map held (λ (h : Held). hold_of (plain_held h)), ap length (held_shown stacks edges known task is held same))
 
-    was_last : place ≡ top → held_by_tasks after edges begun ≡ record known { stacks = set known.stacks task (without place (get_or known.stacks task [])) }
+    was_last : place ≡ top → held_by_tasks after edges before ≡ record known { stacks = set known.stacks task (without place (get_or known.stacks task [])) }
     was_last at =
         cut ∙ ap (λ hs. record known { stacks = set known.stacks task hs })
         (sym (append-nil lower)
@@ -84,17 +84,17 @@ module _ {begun : List EdgeFact} (stacks : List PlainStack) (edges : List EdgeFa
         ++ sym (drop_all (place + 1) (holds_of held) (omega (arith, at, inside, length-map held (λ (h : Held). hold_of (plain_held h))))) i)
         ∙ ap (without place) (held_shown stacks edges known task is held same))
 
-    inner_stays : start_now (get_or (held_by_tasks after edges begun).interrupts task fresh) ≤ place
+    inner_stays : start_now (get_or (held_by_tasks after edges before).interrupts task fresh) ≤ place
     inner_stays = subst (λ interrupts. start_now interrupts ≤ place) (sym (ap (λ (k : HeldByTasks). get_or k.interrupts task fresh) cut)) inner
 
-    stays_below : (place ≡ top → ⊥) → place < length (get_or (held_by_tasks after edges begun).stacks task [])
+    stays_below : (place ≡ top → ⊥) → place < length (get_or (held_by_tasks after edges before).stacks task [])
     stays_below other = omega (arith, other, inside, ap length lower_is, lower_many)
 
     -- and without the one at the place
-    module _ (new : HeldByTasks) (out : new ≡ record (held_by_tasks after edges begun)
-        { stacks = set (held_by_tasks after edges begun).stacks task (without place (get_or (held_by_tasks after edges begun).stacks task [])) }) where
+    module _ (new : HeldByTasks) (out : new ≡ record (held_by_tasks after edges before)
+        { stacks = set (held_by_tasks after edges before).stacks task (without place (get_or (held_by_tasks after edges before).stacks task [])) }) where
       lesser : new ≡ record known { stacks = set known.stacks task (without place lower) }
-      lesser = put_again known (held_by_tasks after edges begun) new task lower (without place) cut out task_within
+      lesser = put_again known (held_by_tasks after edges before) new task lower (without place) cut out task_within
 
       room : (most : ℕ) → length held ≤ most → (place ≡ top → ⊥) → length (get_or new.stacks task []) < most
       room most depth other =

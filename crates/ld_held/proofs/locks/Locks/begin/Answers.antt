@@ -2,7 +2,7 @@ use Rattle.std.proofs.Common.{◌≡◌, ap, subst, sym, ◌∙◌, length, take
 use Rattle.std.proofs.lemmas.List.{take_all}
 use Rattle.ld_held.specs.Inner.Locks.{AreTied, HeldByTasks}
 use Rattle.ld_held.specs.Inner.Chains.{chains_of}
-use Rattle.ld_held.proofs.BegunLemmas.{begun_now, none_shown, tied_none}
+use Rattle.ld_held.proofs.BeforeLemmas.{before_now, none_shown, tied_none}
 use Rattle.ld_held.proofs.locks.Locks.begin.Goals as goal
 
 pub invariant_of-self : goal.invariant_of-self
@@ -11,7 +11,7 @@ invariant_of-self c =
       tied =
           subst (λ ss. AreTied ss (chains_of c.self.inside.chains.links) c.self.inside.told c.self.inside.edges.edges) (sym c.begin.ensures)
           (tied_none (chains_of c.self.inside.chains.links) c.self.inside.told c.self.inside.edges.edges c.self.invariant.tied.complete);
-      mark = begun_now (chains_of c.self.inside.chains.links) c.self.inside.told c.self.inside.edges.edges c.self.invariant.tied.complete
+      mark = before_now (chains_of c.self.inside.chains.links) c.self.inside.told c.self.inside.edges.edges c.self.invariant.tied.complete
           (record { edges = length c.as_slice.result.now; told = c.len.result }) (ap length c.as_slice.ensures) c.len.ensures.len;
       numbered = c.self.invariant.numbered;
     }

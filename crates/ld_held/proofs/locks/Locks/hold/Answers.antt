@@ -3,8 +3,8 @@ use Rattle.std.proofs.lemmas.List.{map-append}
 use Rattle.ld_held.specs.Inner.Stacks.{PlainHeld, empty_stack}
 use Rattle.ld_trace.specs.Events.{plain_lock}
 use Rattle.ld_held.specs.Inner.Chains.{chains_of}
-use Rattle.ld_held.specs.Inner.Locks.{AreTied, Hold, IsBegun, hold_of, held_by_tasks}
-use Rattle.ld_held.proofs.BegunLemmas.{begun_extended}
+use Rattle.ld_held.specs.Inner.Locks.{AreTied, Hold, IsBefore, hold_of, held_by_tasks}
+use Rattle.ld_held.proofs.BeforeLemmas.{before_extended}
 use Rattle.ld_held.proofs.LockLemmas.{classes_shown, holds_at, numbered, numbered_as, start_within, tied_push, shown_held, within_shown}
 use Rattle.ld_held.proofs.locks.Locks.hold.Goals as goal
 
@@ -31,8 +31,8 @@ invariant_of-self-2 c = record {
       (within_shown c.self.inside.stacks c.self.inside.edges.edges c.args.self.now c.args.task c.self.view_is c.requires.task) (chains_of c.extended.new.chains.links)
       c.extended.ensures.more c.in_ok-chain.ensures.within
       (c.in_ok-chain.ensures.chain ∙ ap (λ cs. cs ++ c.args.class ∷ []) (classes_shown (get_or c.self.inside.stacks c.args.task empty_stack) c.innermost-stack.result.now c.innermost-stack.ensures.held))));
-  mark = subst (λ es. IsBegun c.self.inside.begun (chains_of c.extended.new.chains.links) c.self.inside.told es) (sym c.extended.ensures.edges)
-      (begun_extended c.self.inside.begun (chains_of c.self.inside.chains.links) c.self.inside.told c.self.inside.edges.edges c.self.invariant.mark
+  mark = subst (λ es. IsBefore c.self.inside.before (chains_of c.extended.new.chains.links) c.self.inside.told es) (sym c.extended.ensures.edges)
+      (before_extended c.self.inside.before (chains_of c.self.inside.chains.links) c.self.inside.told c.self.inside.edges.edges c.self.invariant.mark
       (chains_of c.extended.new.chains.links) c.extended.ensures.more);
   numbered = c.extended.ensures.numbered;
 }
@@ -41,7 +41,7 @@ pub returns-clause-held : goal.returns-clause-held
 returns-clause-held c =
     let held : PlainHeld = record { lock = plain_lock c.args.lock; class = c.args.class; chain = c.in_ok-chain.chain } in
     let before = (get_or c.self.inside.stacks c.args.task empty_stack).held in
-    (λ i. held_by_tasks (c.push.ensures i) (c.extended.ensures.edges i) (take c.self.inside.begun.edges (c.extended.ensures.edges i)))
+    (λ i. held_by_tasks (c.push.ensures i) (c.extended.ensures.edges i) (take c.self.inside.before.edges (c.extended.ensures.edges i)))
     ∙ shown_held c.self.inside.stacks c.self.inside.edges.edges c.args.self.now c.args.task c.self.view_is (before ++ held ∷ []) (get_or c.args.self.now.stacks c.args.task [] ++ hold_of held ∷ [])
     (map-append hold_of before (held ∷ []) ∙ ap (λ (hs : List Hold). hs ++ hold_of held ∷ [])
     (sym (holds_at c.self.inside.stacks c.args.task) ∙ ap (λ k. get_or k.stacks c.args.task []) c.self.view_is))

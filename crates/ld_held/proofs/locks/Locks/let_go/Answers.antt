@@ -13,8 +13,8 @@ use Rattle.ld_held.proofs.LockLemmas.{any_shown, cut_shown, none_gone, removed_s
 use Rattle.ld_held.proofs.locks.Locks.let_go.Goals as goal
 
 -- what the search says of the innermost frame, as the fields show it
-module _ {begun : List EdgeFact} (stacks : List PlainStack) (edges : List EdgeFact) (known : HeldByTasks) (task : ℕ) (lock : PlainLock) (held : List Held) (start : ℕ)
-    (is : held_by_tasks stacks edges begun ≡ known) (same : map plain_held held ≡ (get_or stacks task empty_stack).held) (starts : start ≡ start_now (get_or stacks task empty_stack).interrupts) where
+module _ {before : List EdgeFact} (stacks : List PlainStack) (edges : List EdgeFact) (known : HeldByTasks) (task : ℕ) (lock : PlainLock) (held : List Held) (start : ℕ)
+    (is : held_by_tasks stacks edges before ≡ known) (same : map plain_held held ≡ (get_or stacks task empty_stack).held) (starts : start ≡ start_now (get_or stacks task empty_stack).interrupts) where
   abbrev stack : PlainStack
   stack = get_or stacks task empty_stack
 

@@ -2,12 +2,12 @@ use Rattle.std.proofs.Common.{◌≡◌, ◌∷◌, [], ◌++◌, Bool, List, �
 use Rattle.std.specs.List.{list_any}
 use Rattle.ld_held.specs.declared.edges.EdgeFact.{EdgeFact}
 use Rattle.ld_held.specs.declared.held.Held.{Held}
-use Rattle.ld_held.specs.declared.locks.Begun.{Begun}
+use Rattle.ld_held.specs.declared.locks.Before.{Before}
 use Rattle.ld_held.specs.Inner.Stacks.{PlainStack, empty_stack}
 use Rattle.ld_held.specs.Inner.Chains.{KeptChains, chains_of}
 use Rattle.ld_held.specs.Inner.Edges.{KeptEdges, edge_to, with_edge_fact}
-use Rattle.ld_held.specs.Inner.Locks.{AreTied, IsBegun, IsExtended, IsKept, held_by_tasks}
-use Rattle.ld_held.proofs.BegunLemmas.{begun_extended, begun_more, begun_same, begun_told}
+use Rattle.ld_held.specs.Inner.Locks.{AreTied, IsBefore, IsExtended, IsKept, held_by_tasks}
+use Rattle.ld_held.proofs.BeforeLemmas.{before_extended, before_more, before_same, before_told}
 use Rattle.ld_held.proofs.LockLemmas.{classes_shown, known_told, numbered, numbered_as, start_within, tied_extended, tied_more, tied_told, told_now, told_shown}
 use Rattle.ld_held.proofs.NumberedLemmas.{known_numbers, numbered_more}
 use Rattle.ld_held.proofs.locks.Locks.tell.Goals as goal
@@ -26,32 +26,32 @@ extended-requires-clause-classes c =
     (numbered c.self.inside.stacks (chains_of c.self.inside.chains.links) c.self.inside.told c.self.inside.edges.edges c.self.invariant.tied c.args.task)).1
 
 -- once the chain has its number
-module _ (stacks : List PlainStack) (before after : KeptChains) (told : List ℕ) (old now : KeptEdges) (begun : Begun) (kept : IsKept stacks before told old begun)
-    (more : IsExtended (chains_of before.links) (chains_of after.links)) (same : now.edges ≡ old.edges) where
+module _ (stacks : List PlainStack) (chains_before after : KeptChains) (told : List ℕ) (old now : KeptEdges) (before : Before) (kept : IsKept stacks chains_before told old before)
+    (more : IsExtended (chains_of chains_before.links) (chains_of after.links)) (same : now.edges ≡ old.edges) where
   tied_here : AreTied stacks (chains_of after.links) told now.edges
   tied_here = subst (λ es. AreTied stacks (chains_of after.links) told es) (sym same)
-      (tied_extended stacks (chains_of before.links) told old.edges kept.tied (chains_of after.links) more)
+      (tied_extended stacks (chains_of chains_before.links) told old.edges kept.tied (chains_of after.links) more)
 
-  mark_here : IsBegun begun (chains_of after.links) told now.edges
-  mark_here = subst (λ es. IsBegun begun (chains_of after.links) told es) (sym same)
-      (begun_extended begun (chains_of before.links) told old.edges kept.mark (chains_of after.links) more)
+  mark_here : IsBefore before (chains_of after.links) told now.edges
+  mark_here = subst (λ es. IsBefore before (chains_of after.links) told es) (sym same)
+      (before_extended before (chains_of chains_before.links) told old.edges kept.mark (chains_of after.links) more)
 
   -- once more is told
   module _ (new : List EdgeFact) (keeps : (test : EdgeFact → Bool) → list_any test now.edges ≡ true → list_any test new ≡ true) (first : take (length now.edges) new ≡ now.edges) where
     tied_then : AreTied stacks (chains_of after.links) told new
     tied_then = tied_more stacks (chains_of after.links) told now.edges tied_here new keeps
 
-    mark_then : IsBegun begun (chains_of after.links) told new
-    mark_then = begun_more begun (chains_of after.links) told now.edges mark_here new first
+    mark_then : IsBefore before (chains_of after.links) told new
+    mark_then = before_more before (chains_of after.links) told now.edges mark_here new first
 
-    same_then : take begun.edges new ≡ take begun.edges old.edges
-    same_then = begun_same begun (chains_of after.links) told now.edges mark_here new first ∙ ap (take begun.edges) same
+    same_then : take before.edges new ≡ take before.edges old.edges
+    same_then = before_same before (chains_of after.links) told now.edges mark_here new first ∙ ap (take before.edges) same
 
 pub returns-then-has-clause-told : goal.returns-then-has-clause-told
 returns-then-has-clause-told c =
     let chains = chains_of c.extended.new.chains.links in
     let stack = get_or c.self.inside.stacks c.args.task empty_stack in
-    ap (λ es. held_by_tasks c.self.inside.stacks es (take c.self.inside.begun.edges es)) c.extended.ensures.edges
+    ap (λ es. held_by_tasks c.self.inside.stacks es (take c.self.inside.before.edges es)) c.extended.ensures.edges
     ∙ c.self.view_is
     ∙ known_told c.self.inside.stacks chains c.self.inside.told c.self.inside.edges.edges
     (tied_extended c.self.inside.stacks (chains_of c.self.inside.chains.links) c.self.inside.told c.self.inside.edges.edges c.self.invariant.tied chains c.extended.ensures.more)
@@ -69,10 +69,10 @@ tell_to-requires c =
 pub invariant_of-self-in_err-tell_to : goal.invariant_of-self-in_err-tell_to
 invariant_of-self-in_err-tell_to c = record {
   tied =
-      tied_then c.self.inside.stacks c.self.inside.chains c.extended.new.chains c.self.inside.told c.self.inside.edges c.extended.new.edges c.self.inside.begun c.self.invariant
+      tied_then c.self.inside.stacks c.self.inside.chains c.extended.new.chains c.self.inside.told c.self.inside.edges c.extended.new.edges c.self.inside.before c.self.invariant
       c.extended.ensures.more c.extended.ensures.edges c.tell_to.new.self.edges c.tell_to.ensures.kept c.tell_to.ensures.first;
   mark =
-      mark_then c.self.inside.stacks c.self.inside.chains c.extended.new.chains c.self.inside.told c.self.inside.edges c.extended.new.edges c.self.inside.begun c.self.invariant
+      mark_then c.self.inside.stacks c.self.inside.chains c.extended.new.chains c.self.inside.told c.self.inside.edges c.extended.new.edges c.self.inside.before c.self.invariant
       c.extended.ensures.more c.extended.ensures.edges c.tell_to.new.self.edges c.tell_to.ensures.kept c.tell_to.ensures.first;
   numbered = numbered_more (chains_of c.extended.new.chains.links) c.extended.new.chains.numbers c.extended.new.edges.pairs c.tell_to.new.self.pairs c.tell_to.ensures.more
       c.extended.ensures.numbered;
@@ -82,11 +82,11 @@ pub invariant_of-self-2 : goal.invariant_of-self-2
 invariant_of-self-2 c =
     let chains = chains_of c.extended.new.chains.links in
     let new = c.tell_to.new.self.edges in
-    let tied = tied_then c.self.inside.stacks c.self.inside.chains c.extended.new.chains c.self.inside.told c.self.inside.edges c.extended.new.edges c.self.inside.begun
+    let tied = tied_then c.self.inside.stacks c.self.inside.chains c.extended.new.chains c.self.inside.told c.self.inside.edges c.extended.new.edges c.self.inside.before
     c.self.invariant c.extended.ensures.more c.extended.ensures.edges new c.tell_to.ensures.kept c.tell_to.ensures.first in
-    let mark = mark_then c.self.inside.stacks c.self.inside.chains c.extended.new.chains c.self.inside.told c.self.inside.edges c.extended.new.edges c.self.inside.begun
+    let mark = mark_then c.self.inside.stacks c.self.inside.chains c.extended.new.chains c.self.inside.told c.self.inside.edges c.extended.new.edges c.self.inside.before
     c.self.invariant c.extended.ensures.more c.extended.ensures.edges new c.tell_to.ensures.kept c.tell_to.ensures.first in
-    let here = tied_here c.self.inside.stacks c.self.inside.chains c.extended.new.chains c.self.inside.told c.self.inside.edges c.extended.new.edges c.self.inside.begun
+    let here = tied_here c.self.inside.stacks c.self.inside.chains c.extended.new.chains c.self.inside.told c.self.inside.edges c.extended.new.edges c.self.inside.before
     c.self.invariant c.extended.ensures.more c.extended.ensures.edges in
     record {
       tied =
@@ -94,7 +94,7 @@ invariant_of-self-2 c =
           (told_now c.self.inside.stacks chains c.self.inside.told c.extended.new.edges.edges here (map (λ (h : Held). h.class) c.innermost-stack.result.now)
           c.args.class c.args.line c.in_ok-chain.chain new c.in_ok-chain.ensures.within c.in_ok-chain.ensures.chain c.in_ok-tell_to.ensures.told)
           c.add.ensures.added c.add.ensures.refused;
-      mark = begun_told c.self.inside.begun chains c.self.inside.told new mark c.add.result c.in_ok-chain.chain c.add.new.self c.add.ensures.added c.add.ensures.refused;
+      mark = before_told c.self.inside.before chains c.self.inside.told new mark c.add.result c.in_ok-chain.chain c.add.new.self c.add.ensures.added c.add.ensures.refused;
       numbered = numbered_more chains c.extended.new.chains.numbers c.extended.new.edges.pairs c.tell_to.new.self.pairs c.tell_to.ensures.more c.extended.ensures.numbered;
     }
 
@@ -105,5 +105,5 @@ returns-clause-told c =
     (c.in_ok-tell_to.ensures.told
     ∙ (λ i. fold with_edge_fact (c.extended.ensures.edges i)
     (map (edge_to c.args.class c.args.line) (classes_shown stack c.innermost-stack.result.now c.innermost-stack.ensures.held i))))
-    (same_then c.self.inside.stacks c.self.inside.chains c.extended.new.chains c.self.inside.told c.self.inside.edges c.extended.new.edges c.self.inside.begun c.self.invariant
+    (same_then c.self.inside.stacks c.self.inside.chains c.extended.new.chains c.self.inside.told c.self.inside.edges c.extended.new.edges c.self.inside.before c.self.invariant
     c.extended.ensures.more c.extended.ensures.edges c.tell_to.new.self.edges c.tell_to.ensures.kept c.tell_to.ensures.first)

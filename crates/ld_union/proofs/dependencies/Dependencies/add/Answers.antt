@@ -3,7 +3,7 @@ use Rattle.std.proofs.lemmas.List.{length-take}
 use Rattle.std.proofs.Math.Seq.{take-length}
 use Rattle.ld_class.specs.Names.{no_class}
 use Rattle.ld_batch.specs.declared.edges.WitnessedEdge.{WitnessedEdge}
-use Rattle.ld_batch.specs.Batch.{named}
+use Rattle.ld_batch.specs.Batch.{named_dependency}
 use Rattle.ld_facts.specs.Dependency.{Dependency, same_dependency}
 use Rattle.ld_union.specs.Inner.Union.{AreWitnessed, earlier_of, edges_of, named_edge}
 use Rattle.ld_union.proofs.ReachedLemmas.{in_front-same, in_front-then}
@@ -27,7 +27,7 @@ loop-seen-init c = record {
   closing = λ was. was;
   numbered = λ classes same numbered. numbered;
   witnesses = λ classes same numbered places first witnessed. subst (AreWitnessed classes c.args.self.now.rows.items)
-      (λ i what. none_noted same_dependency same_dependency-true (named c.args.batch.now.classes) c.args.batch.now.edges (first what) what i) witnessed;
+      (λ i what. none_noted same_dependency same_dependency-true (named_dependency c.args.batch.now.classes) c.args.batch.now.edges (first what) what i) witnessed;
 }
 
 pub loop-seen-preserved : goal.loop-seen-preserved
@@ -59,12 +59,12 @@ loop-seen-preserved c =
       numbered = λ classes same numbered. c.note.ensures.numbered classes (same ∙ sym c.loop-seen.invariant.count) (c.loop-seen.invariant.numbered classes same numbered);
       witnesses = λ classes same numbered are first witnessed.
           let seen : Dependency = named_edge classes (record { from = get_or places told.from 0; to = get_or places told.to 0 }) in
-          let same_seen : seen ≡ (named batch.classes (get_or batch.edges i no_edge)).what = λ j. record {
+          let same_seen : seen ≡ (named_dependency batch.classes (get_or batch.edges i no_edge)).what = λ j. record {
             from = ((are.each told.from within.0).1 ∙ ap (λ (edge : WitnessedEdge). get_or batch.classes edge.from no_class) same_told) j;
             to = ((are.each told.to within.1).1 ∙ ap (λ (edge : WitnessedEdge). get_or batch.classes edge.to no_class) same_told) j;
           } in
           subst (AreWitnessed classes c.note.new.self.rows.items)
-          (λ j what. one_noted same_dependency same_dependency-true (named batch.classes) batch.edges
+          (λ j what. one_noted same_dependency same_dependency-true (named_dependency batch.classes) batch.edges
           (dependencies_once batch exact) i no_edge here (first what) what seen told.witness (ap (λ (edge : WitnessedEdge). edge.witness) same_told) same_seen j)
           (c.note.ensures.noted classes (same ∙ sym c.loop-seen.invariant.count) (c.loop-seen.invariant.numbered classes same numbered) _
           (c.loop-seen.invariant.witnesses classes same numbered are first witnessed));
@@ -75,6 +75,6 @@ returns-clause-witnesses c classes same numbered are first witnessed =
     let batch = c.args.batch.now in
     let past : length batch.edges ≤ c.loop-seen.seen-index = subst (λ (edges : List WitnessedEdge). length edges ≤ c.loop-seen.seen-index) c.edges-seen-items.ensures.same c.loop-seen-test.false in
     subst (AreWitnessed classes c.loop-seen.self.rows.items)
-    (λ j what. (all_noted same_dependency same_dependency-true (named batch.classes) batch.edges (first what) c.loop-seen.seen-index what past
+    (λ j what. (all_noted same_dependency same_dependency-true (named_dependency batch.classes) batch.edges (first what) c.loop-seen.seen-index what past
     ∙ ap (earlier_of (first what)) (c.edges-seen-items.ensures.exact.edges what)) j)
     (c.loop-seen.invariant.witnesses classes same numbered are first witnessed)

@@ -2,7 +2,7 @@ use Rattle.std.proofs.Common.{◌≡◌, ◌+◌, ◌-◌, ◌≤◌, List, ℕ,
 use Rattle.ld_class.specs.Names.{PlainClass}
 use Rattle.ld_rules.specs.declared.outcome.Witness.{Witness}
 use Rattle.ld_facts.specs.Dependency.{Dependency, same_dependency}
-use Rattle.ld_batch.specs.Batch.{named, witness_of}
+use Rattle.ld_batch.specs.Batch.{named_dependency, witness_of}
 use Rattle.ld_batch.specs.Inner.Names.{ArePlaces}
 use Rattle.ld_union.specs.Inner.Reached.{AreInFront, HaveClasses, StayExact}
 use Rattle.ld_union.specs.Inner.Union.{AreBetween, AreWitnessed, IsCycleEdge, edges_of, with_first}
@@ -22,5 +22,5 @@ invariant-loop-seen l = record {
   numbered : (classes : List PlainClass) → length classes ≡ l.fn.self.graph.classes → AreBetween classes l.fn.self.rows.items → AreBetween classes l.self.rows.items;
   witnesses : (classes : List PlainClass) → length classes ≡ l.fn.self.graph.classes → AreBetween classes l.fn.self.rows.items → ArePlaces classes l.batch.classes l.places
       → (first : Dependency → Option Witness) → AreWitnessed classes l.fn.self.rows.items first
-      → AreWitnessed classes l.self.rows.items (with_first first (witness_of same_dependency (map (named l.batch.classes) (take l.seen-index l.batch.edges))));
+      → AreWitnessed classes l.self.rows.items (with_first first (witness_of same_dependency (map (named_dependency l.batch.classes) (take l.seen-index l.batch.edges))));
 }

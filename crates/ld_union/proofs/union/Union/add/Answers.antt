@@ -185,35 +185,23 @@ seed_all-requires-clause-within c =
 
 pub invariant_of-self : goal.invariant_of-self
 invariant_of-self c =
-    let union = c.self.inside in
-    let these = union.dependencies in
     rw (c.room.ensures.graph, c.room.ensures.rows, c.room.ensures.closing)
-    (union-kept union.classes these.graph these.rows.items union.usage.items these.closing these.reach c.room.new.self.reach _ _
-    c.self.invariant c.room.ensures.reach (c.room.ensures.exact (edges_of these.rows.items)))
+    (union-kept c.room.new.self.reach c.self.invariant c.room.ensures.reach (c.room.ensures.exact (edges_of c.self.inside.dependencies.rows.items)))
 
 pub invariant_of-self-in_err-reserve : goal.invariant_of-self-in_err-reserve
 invariant_of-self-in_err-reserve c =
-    let union = c.self.inside in
-    let these = union.dependencies in
     rw (c.room.ensures.graph, c.room.ensures.rows, c.room.ensures.closing, c.in_err-reserve.ensures.items)
-    (union-kept union.classes these.graph these.rows.items union.usage.items these.closing these.reach c.room.new.self.reach _ _
-    c.self.invariant c.room.ensures.reach (c.room.ensures.exact (edges_of these.rows.items)))
+    (union-kept c.room.new.self.reach c.self.invariant c.room.ensures.reach (c.room.ensures.exact (edges_of c.self.inside.dependencies.rows.items)))
 
 pub invariant_of-self-in_err-reserve-2 : goal.invariant_of-self-in_err-reserve-2
 invariant_of-self-in_err-reserve-2 c =
-    let union = c.self.inside in
-    let these = union.dependencies in
     rw (c.room.ensures.graph, c.room.ensures.rows, c.room.ensures.closing, c.in_ok-reserve.ensures.items)
-    (union-kept union.classes these.graph these.rows.items union.usage.items these.closing these.reach c.room.new.self.reach _ _
-    c.self.invariant c.room.ensures.reach (c.room.ensures.exact (edges_of these.rows.items)))
+    (union-kept c.room.new.self.reach c.self.invariant c.room.ensures.reach (c.room.ensures.exact (edges_of c.self.inside.dependencies.rows.items)))
 
 pub invariant_of-self-in_err-intern_all : goal.invariant_of-self-in_err-intern_all
 invariant_of-self-in_err-intern_all c =
-    let union = c.self.inside in
-    let these = union.dependencies in
     rw (c.room.ensures.graph, c.room.ensures.rows, c.room.ensures.closing, c.in_ok-reserve.ensures.items, c.in_err-intern_all.ensures.refused)
-    (union-kept union.classes these.graph these.rows.items union.usage.items these.closing these.reach c.room.new.self.reach _ _
-    c.self.invariant c.room.ensures.reach (c.room.ensures.exact (edges_of these.rows.items)))
+    (union-kept c.room.new.self.reach c.self.invariant c.room.ensures.reach (c.room.ensures.exact (edges_of c.self.inside.dependencies.rows.items)))
 
 pub invariant_of-self-2 : goal.invariant_of-self-2
 invariant_of-self-2 c = rw (c.seed_all.ensures.graph, c.seed_all.ensures.rows, c.seed_all.ensures.closing) (record {
