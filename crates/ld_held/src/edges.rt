@@ -79,6 +79,11 @@ impl Edges {
         self.edges
     }
 
+    /// The numbers of the pairs of the dependencies, in their order.
+    pub fn pairs(&self) -> &[usize] {
+        self.theirs.as_slice()
+    }
+
     /// The number of a pair.
     fn number(&mut self, pair: Pair) -> Result<usize, AllocError>
         ensures edges { self.new.edges ≡ self.old.edges }

@@ -287,6 +287,13 @@ impl<'a> Locks<'a> {
         self.edges.as_slice()
     }
 
+    /// The numbers that the pairs of classes of the dependencies have, in their order. A pair that comes again
+    /// once all was taken away has its number still, as long as chains are kept. No clause says so: whoever
+    /// reads one may guess by it, and no more.
+    pub fn pairs(&self) -> &[usize] {
+        self.edges.pairs()
+    }
+
     /// The dependencies.
     pub fn into_edges(self) -> Vec<EdgeFact>
         ensures { result.items ≡ self.entry.edges }
