@@ -1,8 +1,7 @@
 -- Dependencies between numbered classes, read by the names of the classes: distinct names make equal names
 -- equal numbers, so a dependency is new by its numbers where it is new by its names.
-use Rattle.std.proofs.Common.{◌≡◌, ◌<◌, ◌≤◌, ◌++◌, ◌∷◌, [], ◌||◌, ◌&&◌, ◌==◌, ◌⊎◌, inl, inr, List, ℕ, Bool, true, false, Option, Some, None, All}
+use Rattle.std.proofs.Common.{◌≡◌, ◌<◌, ◌++◌, ◌∷◌, [], ◌||◌, ◌&&◌, ◌==◌, List, ℕ, Bool, true, false, All}
 use Rattle.std.proofs.Common.{length, map, fold, is_some, slice_index_or, refl, ap, sym, subst, ◌∙◌, arith, if◌then◌else◌, length-append}
-use Rattle.std.proofs.lemmas.Bool.{cases_lt}
 use Rattle.std.proofs.lemmas.Bool.Decides.{Decides-eqb}
 use Rattle.std.proofs.lemmas.List.{get_or_append_left, map-append}
 use Rattle.std.proofs.lemmas.List.Elements.{All-nil, All-cons, All-head, All-tail, All-append, All-map, All-weaker}

@@ -1,5 +1,5 @@
 -- What the facts of a trace are, without where they lie in memory.
-use Rattle.std.specs.Prelude.{◌≡◌, ℕ, ◌<◌, ◌≤◌, List, map, length, slice_index_or, All}
+use Rattle.std.specs.Prelude.{◌≡◌, ◌<◌, ◌≤◌, List, map, length, slice_index_or, All}
 use Rattle.std.specs.Prelude.{AllPairs}
 use Rattle.ld_class.specs.Names.{PlainClass, no_class}
 use Rattle.ld_trace.specs.Sources.{Fits, PlainSource}

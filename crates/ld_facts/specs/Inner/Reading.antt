@@ -1,6 +1,6 @@
 -- What the scan of a trace keeps, against what it had when the trace began and the positions so far. The
 -- calls of a scan and `read_into` cite this, and no clause of `Facts`.
-use Rattle.std.specs.Prelude.{◌≡◌, ◌<◌, ◌≤◌, ◌+◌, ℕ, Bool, true, false, None, Ok, List, [], ◌∷◌, ◌++◌}
+use Rattle.std.specs.Prelude.{◌≡◌, ◌<◌, ◌≤◌, ◌+◌, ℕ, Bool, None, Ok, List, [], ◌∷◌, ◌++◌}
 use Rattle.std.specs.Prelude.{All, drop, fold, map, length, slice_index_or, slice_set, take}
 use Rattle.std.specs.List.{filter_map, enumerate_from}
 use Rattle.ld_class.specs.Names.{AreDistinct, IsTaskAt, PlainClass, no_class, place_of_task}
