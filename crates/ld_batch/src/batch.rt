@@ -8,6 +8,7 @@ ghost use Rattle.ld_rules.specs.declared.outcome.TheConstants.{MOST_CLASSES};
 ghost use Rattle.ld_batch.specs.Batch.{AreOutcomes, IsBatch, empty_batch, sources_of};
 
 use crate::edges::WitnessedEdge;
+use crate::guesses::Guesses;
 use crate::reading::read;
 use crate::shown::Shown;
 use crate::uses::WitnessedUse;
@@ -16,6 +17,7 @@ use ld_facts::{Facts, Listed, Scan};
 use ld_trace::Source;
 use std::alloc::{AllocError, Global};
 use std::marker::Model;
+use std::mem;
 
 /// What a few traces show together: their union, with the first witnesses. It is exact by itself, and
 /// says nothing of what other batches have.
@@ -28,6 +30,7 @@ pub struct Batch<'a> {
     /// knows more classes than those of the batch, which were met before the batch was emptied.
     scan: Scan<'a>,
     shown: Shown<'a>,
+    guesses: Guesses,
 }
 
 impl<'a> Model for Batch<'a> {
@@ -64,6 +67,7 @@ impl<'a> Batch<'a> {
             listed: Vec::new(alloc),
             scan: Scan::new(alloc),
             shown: Shown::new(alloc),
+            guesses: Guesses::new(alloc),
         }
     }
 
@@ -151,5 +155,24 @@ impl<'a> Batch<'a> {
         ensures exact { IsBatch self.now }
     {
         &self.shown.usage
+    }
+
+    /// The numbers that the scan has for the classes, in their order: guesses are kept by them. Takes no
+    /// memory.
+    pub fn class_numbers(&self) -> &[usize] {
+        self.shown.numbers.as_slice()
+    }
+
+    /// The numbers that the scan has for the pairs of classes of the dependencies, in their order: guesses
+    /// are kept by them. Takes no memory.
+    pub fn pair_numbers(&self) -> &[usize] {
+        self.scan.locks.pairs()
+    }
+
+    /// Puts these guesses in the place of those that were kept, and answers those. Takes no memory.
+    pub fn swap_guesses(&mut self, guesses: Guesses) -> Guesses
+        ensures { self.new ≡ self.old }
+    {
+        mem::replace(&mut self.guesses, guesses)
     }
 }

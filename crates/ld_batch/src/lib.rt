@@ -3,6 +3,7 @@
 
 mod batch;
 mod edges;
+mod guesses;
 mod names;
 mod reading;
 mod shown;
@@ -10,5 +11,6 @@ mod uses;
 
 pub use batch::Batch;
 pub use edges::WitnessedEdge;
+pub use guesses::Guesses;
 pub use names::intern_all;
 pub use uses::WitnessedUse;

@@ -2,17 +2,21 @@
 ghost use Rattle.std.specs.Prelude.{◌≡◌, ◌+◌, ◌<◌, ◌≤◌, All, OnErr, OnOk, length, nat_eq};
 ghost use Rattle.std.specs.Prelude.{slice_index_or, take, true};
 ghost use Rattle.std.specs.List.{list_any};
-ghost use Rattle.ld_class.specs.Names.{AreDistinct, no_class, with_name};
+ghost use Rattle.std.specs.Prelude.{ℕ, IfOk, Some};
+ghost use Rattle.std.specs.Bool.{OnTrue};
+ghost use Rattle.ld_class.specs.Names.{AreDistinct, IsNameAt, no_class, place_of, plain_class, with_name};
 ghost use Rattle.ld_class.specs.declared.names.TheConstants.{MOST_NAMES};
 ghost use Rattle.ld_facts.specs.Inner.Reading.{names_at};
 ghost use Rattle.ld_batch.specs.Inner.Kept.{AreNames};
 ghost use Rattle.ld_batch.specs.Inner.Names.{ArePlaces, IsLonger, with_names};
 
-use ld_class::Classes;
+use crate::guesses::Guesses;
+use ld_class::{ClassName, Classes};
 use ld_numbers::Numbers;
 use std::alloc::AllocError;
 
-/// Interns all of `more`, and writes their places among the names over `places`.
+/// Interns all of `more`, and writes their places among the names over `places`. What was guessed of these
+/// names, which have such numbers, is tried first, and kept for the next time.
 ///
 /// # Errors
 ///
@@ -20,6 +24,8 @@ use std::alloc::AllocError;
 pub fn intern_all<'a>(
     names: &mut Classes<'a>,
     more: &Classes<'a>,
+    numbers: &[usize],
+    guesses: &mut Guesses,
     places: &mut Vec<u32>,
 ) -> Result<(), AllocError>
     requires { length names.old + length more.now ≤ MOST_NAMES }
@@ -32,15 +38,54 @@ pub fn intern_all<'a>(
     places.reserve(more.len())?;
     let count = names.len();
     for id in 0..more.len() {
-        let Ok(place) = names.intern(more.name(id as u32)) else {
+        let number = number_at(numbers, id);
+        let name = more.name(id as u32);
+        let Ok(place) = intern_guessed(names, name, guesses.class(number)) else {
             names.cut(count);
             return Err(AllocError);
         };
+        guesses.keep_class(number, place);
         let Ok(()) = places.push(place) else {
             unreachable!()
         };
     }
     Ok(())
+}
+
+/// The number at a place, or 0.
+fn number_at(numbers: &[usize], place: usize) -> usize {
+    match numbers.get(place) {
+        Some(number) => *number,
+        None => 0,
+    }
+}
+
+/// The place of a name, which is put last where it is new, and looked for at the guess first.
+///
+/// `AllocError` where it is new and the memory for it was refused.
+fn intern_guessed<'a>(
+    names: &mut Classes<'a>,
+    name: ClassName<'a>,
+    guess: u32,
+) -> Result<u32, AllocError>
+    requires { length names.old < MOST_NAMES }
+    ensures names { OnOk result (names.new ≡ with_name names.old (plain_class name.entry)) }
+    ensures refused { OnErr result (names.new ≡ names.old) }
+    ensures place { IfOk result (λ id. IsNameAt names.new id (plain_class name.entry)) }
+    ensures kept { (id : ℕ) → id < length names.old
+        → IsNameAt names.new id (slice_index_or names.old id no_class) }
+{
+    if is_at(names, name, guess) {
+        return Ok(guess);
+    }
+    names.intern(name)
+}
+
+/// Whether the name stands at the place.
+fn is_at(names: &Classes<'_>, name: ClassName<'_>, place: u32) -> bool
+    ensures { OnTrue result (place_of names.now (plain_class name.entry) ≡ Some place) }
+{
+    (place as usize) < names.len() && names.name(place) == name
 }
 
 /// Adds the names that these numbers stand for among the known ones, where they aren't there yet, and

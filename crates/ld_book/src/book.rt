@@ -13,7 +13,7 @@ ghost use Rattle.ld_union.specs.Usage.{usage_row};
 
 use crate::listing::Listing;
 use crate::totals::Totals;
-use ld_batch::Batch;
+use ld_batch::{Batch, Guesses};
 use ld_class::ClassName;
 use ld_facts::{Facts, Listed, Witness};
 use ld_find::{Alarms, Findings, Found, findings_of};
@@ -137,7 +137,10 @@ impl<'a> Book<'a> {
         if self.listing.has_any(batch.listed()) {
             return Err(TakeRefusal::Twice);
         }
-        if self.enter(batch).is_err() {
+        let mut guesses = batch.swap_guesses(Guesses::new(self.alloc));
+        let entered = self.enter(batch, &mut guesses);
+        batch.swap_guesses(guesses);
+        if entered.is_err() {
             return Err(TakeRefusal::Memory);
         }
         batch.clear();
@@ -177,7 +180,7 @@ impl<'a> Book<'a> {
         ensures err { OnErr result (self.new ≡ self.old) }
     {
         let batch = Batch::of(self.alloc, facts)?;
-        let entered = self.enter(&batch);
+        let entered = self.enter(&batch, &mut Guesses::new(self.alloc));
         drop(batch);
         entered
     }
@@ -185,14 +188,14 @@ impl<'a> Book<'a> {
     /// Lists the traces of a batch, no number of which is listed, and adds what they show.
     ///
     /// `AllocError` where a growth of memory was refused. Nothing has changed then but spare memory.
-    fn enter(&mut self, batch: &Batch<'a>) -> Result<(), AllocError>
+    fn enter(&mut self, batch: &Batch<'a>, guesses: &mut Guesses) -> Result<(), AllocError>
         requires { is_any_listed self.old batch.now.sources ≡ false }
         ensures ok { OnOk result (self.new ≡ self.old ++ batch.now.sources) }
         ensures err { OnErr result (self.new ≡ self.old) }
     {
         let traces = batch.listed();
         self.listing.room(traces.len())?;
-        self.union.add(batch, &mut self.news)?;
+        self.union.add(batch, guesses, &mut self.news)?;
         // From here on nothing is refused.
         self.found.note(&self.union, &self.news);
         self.listing.add_all(traces);

@@ -1,11 +1,11 @@
 //! The dependencies between numbered classes, each with the place where it was first seen, and where
 //! they lead.
 ghost use Rattle.std.specs.Prelude.{◌≡◌, ℕ, ◌+◌, ◌<◌, ◌≤◌, List, Option, OnErr, OnOk, [], All};
-ghost use Rattle.std.specs.Prelude.{length, take, vec_len, vec_capacity};
+ghost use Rattle.std.specs.Prelude.{length, take, vec_len, vec_capacity, MatchOption};
 ghost use Rattle.ld_class.specs.Names.{PlainClass};
 ghost use Rattle.ld_graph.specs.declared.graph.TheConstants.{MOST_GRAPH_CLASSES};
 ghost use Rattle.ld_trace.specs.declared.event.State.{State};
-ghost use Rattle.ld_graph.specs.Edges.{IsEdge};
+ghost use Rattle.ld_graph.specs.Edges.{IsEdge, IsEdgeNumber};
 ghost use Rattle.ld_reach.specs.Reach.{IsReach, no_reach};
 ghost use Rattle.ld_union.specs.Inner.Reached.{AreInFront, HaveClasses, IsSeeded, StayExact};
 ghost use Rattle.ld_union.specs.Inner.States.{of_state};
@@ -22,7 +22,7 @@ ghost use Rattle.ld_union.specs.Inner.Union.{with_first, with_seen};
 
 use crate::news::NewBit;
 use crate::states::PerState;
-use ld_batch::Batch;
+use ld_batch::{Batch, Guesses};
 use ld_facts::Witness;
 use ld_graph::{Edge, Graph, Insert};
 use ld_reach::Reach;
@@ -122,7 +122,7 @@ impl Dependencies {
 
     /// Notes the dependencies of a batch whose classes have these numbers, each where it was seen
     /// first.
-    pub(crate) fn add(&mut self, batch: &Batch<'_>, places: &[u32])
+    pub(crate) fn add(&mut self, batch: &Batch<'_>, places: &[u32], guesses: &mut Guesses)
         requires edges { self.old.graph.edges ≡ edges_of self.old.rows.items }
         requires count { length places.now ≡ length batch.now.classes }
         requires within { All (λ place. place < self.old.graph.classes) places.now }
@@ -151,17 +151,24 @@ impl Dependencies {
             → AreWitnessed classes self.new.rows.items
             (with_first first (dependency_witness batch.now.sources)) }
     {
+        let mut pairs = batch.pair_numbers().iter();
         for seen in batch.edges() {
             let edge = Edge {
                 from: places[seen.from as usize],
                 to: places[seen.to as usize],
             };
-            self.note(edge, seen.witness);
+            let pair = match pairs.next() {
+                Some(pair) => *pair,
+                None => 0,
+            };
+            let number = self.note(edge, seen.witness, guesses.pair(pair));
+            guesses.keep_pair(pair, number);
         }
     }
 
-    /// Notes that the dependency was seen there, unless it was seen earlier.
-    fn note(&mut self, edge: Edge, witness: Witness)
+    /// Notes that the dependency was seen there, unless it was seen earlier, and answers its number. It may
+    /// be at the place that is guessed.
+    fn note(&mut self, edge: Edge, witness: Witness, guess: usize) -> usize
         requires edges { self.old.graph.edges ≡ edges_of self.old.rows.items }
         requires from { edge.from < self.old.graph.classes }
         requires to { edge.to < self.old.graph.classes }
@@ -190,10 +197,11 @@ impl Dependencies {
             → AreWitnessed classes self.new.rows.items
             (with_seen first (named_edge classes edge) witness) }
     {
-        match self.graph.edge(edge.from, edge.to) {
+        match self.number(edge, guess) {
             Some(number) => {
                 let known = &mut self.rows[number as usize];
                 known.first = known.first.earlier(witness);
+                number as usize
             }
             None => {
                 let answer = self.graph.insert(edge.from, edge.to);
@@ -203,11 +211,25 @@ impl Dependencies {
                     edge,
                     first: witness,
                 };
+                let number = self.rows.len();
                 let Ok(()) = self.rows.push(seen) else {
                     unreachable!()
                 };
+                number
             }
         }
+    }
+
+    /// The number of the edge, or `None` where there is no such edge. It is looked for at the guess first.
+    fn number(&self, edge: Edge, guess: usize) -> Option<u64>
+        requires { self.now.graph.edges ≡ edges_of self.now.rows.items }
+        ensures { MatchOption result (¬ IsEdge self.now.graph.edges edge.from edge.to)
+            (IsEdgeNumber self.now.graph.edges edge.from edge.to) }
+    {
+        if (guess as u64) < self.graph.edges() && self.rows[guess].edge == edge {
+            return Some(guess as u64);
+        }
+        self.graph.edge(edge.from, edge.to)
     }
 
     /// Makes each class a seed of the state of which it got the bit that handlers acquire it.

@@ -15,7 +15,7 @@ ghost use Rattle.ld_union.specs.Usage.{bits_of};
 use crate::dependencies::{Dependencies, Witnessed};
 use crate::news::News;
 use crate::usage::{UsageRow, add_usage};
-use ld_batch::{Batch, intern_all};
+use ld_batch::{Batch, Guesses, intern_all};
 use ld_class::{ClassName, Classes};
 use ld_facts::Witness;
 use ld_graph::{Edge, Graph};
@@ -70,13 +70,19 @@ impl<'a> Union<'a> {
         }
     }
 
-    /// Adds what the traces of a batch show, and writes over `news` what of it is new.
+    /// Adds what the traces of a batch show, and writes over `news` what of it is new. Classes and
+    /// dependencies are looked for where the guesses say, which say then where they are.
     ///
     /// # Errors
     ///
     /// `AllocError` where a growth of memory was refused. Nothing has changed then but spare memory
     /// and `news`.
-    pub fn add(&mut self, batch: &Batch<'a>, news: &mut News) -> Result<(), AllocError>
+    pub fn add(
+        &mut self,
+        batch: &Batch<'a>,
+        guesses: &mut Guesses,
+        news: &mut News,
+    ) -> Result<(), AllocError>
         requires { length self.old.classes + length batch.now.classes ≤ MOST_NAMES }
         ensures added { OnOk result (Adds batch.now.sources self.old self.new) }
         ensures told { OnOk result (Tells self.old self.new news.new) }
@@ -88,13 +94,14 @@ impl<'a> Union<'a> {
         self.usage.reserve(classes)?;
         news.bits.clear();
         news.bits.reserve(batch.usage().len())?;
-        intern_all(&mut self.classes, batch.classes(), &mut news.places)?;
+        let numbers = batch.class_numbers();
+        intern_all(&mut self.classes, batch.classes(), numbers, guesses, &mut news.places)?;
         // From here on nothing is refused.
         self.dependencies.enter_classes(self.classes.len());
         let Ok(()) = self.usage.resize(self.classes.len(), UsageRow::unused()) else {
             unreachable!()
         };
-        self.dependencies.add(batch, &news.places);
+        self.dependencies.add(batch, &news.places, guesses);
         add_usage(&mut self.usage, batch, &news.places, &mut news.bits);
         self.dependencies.seed_all(&news.bits);
         Ok(())
