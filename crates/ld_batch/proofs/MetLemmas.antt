@@ -12,7 +12,6 @@ use Rattle.std.specs.List.{find, list_any}
 use Rattle.std.specs.Option.{option_or}
 use Rattle.ld_rules.specs.Dependency.{Seen, least_line}
 use Rattle.ld_rules.specs.Inner.Scanned.{with_new}
-use Rattle.ld_rules.specs.declared.outcome.Witness.{Witness}
 use Rattle.ld_rules.proofs.LeastLemmas.{Ascend, first_line, least_is_first}
 use Rattle.ld_batch.specs.Batch.{Met, witness_of}
 use Rattle.ld_batch.specs.Inner.Rows.{seen_in, seen_of}

@@ -1,13 +1,13 @@
 -- Names of a list that stand for numbers among known ones.
-use Rattle.std.proofs.Common.{◌≡◌, ◌+◌, ◌<◌, ◌≤◌, ◌++◌, ◌∷◌, [], ◌-◌, ◌||◌, cond, All, Bool, true, false, List, ℕ, Option, Some, None, Result, Ok, Err, OnOk, OnErr, is_some, nat_eq, not, suc}
+use Rattle.std.proofs.Common.{◌≡◌, ◌+◌, ◌<◌, ◌++◌, ◌∷◌, [], ◌-◌, ◌||◌, cond, All, Bool, true, false, List, ℕ, Option, Some, None, Result, Ok, Err, OnOk, is_some, nat_eq, not, suc}
 use Rattle.std.proofs.Common.{drop, length, map, take, get_or, refl, ap, sym, subst, ◌∙◌, arith, if◌then◌else◌}
 use Rattle.std.proofs.lemmas.Bool.{eqb-true, or_left, true≢false}
-use Rattle.std.proofs.lemmas.List.{get_or-map, length-map, length-take, map_more, take-append-drop, take-take, take_rest}
+use Rattle.std.proofs.lemmas.List.{get_or-map, length-map, map_more, take-append-drop, take_rest}
 use Rattle.std.proofs.lemmas.List.Elements.{All-map, All-push, All-weaker}
 use Rattle.std.proofs.lemmas.List.Folds.{Any-from_list_any, list_any-append}
 use Rattle.std.proofs.lemmas.List.Sums.{fold-append}
 use Rattle.std.specs.List.{list_any}
-use Rattle.ld_class.specs.Names.{AreDistinct, IsNameAt, PlainClass, no_class, place_of, with_name}
+use Rattle.ld_class.specs.Names.{AreDistinct, PlainClass, no_class, place_of, with_name}
 use Rattle.ld_rules.specs.Usage.{IsBit, bit_of}
 use Rattle.ld_held.specs.declared.edges.EdgeFact.{EdgeFact}
 use Rattle.ld_uses.specs.declared.uses.UsageFact.{UsageFact}

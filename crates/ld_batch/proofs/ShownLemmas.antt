@@ -1,13 +1,13 @@
 -- What a trace shows is of its own classes.
-use Rattle.std.proofs.Common.{◌≡◌, ◌<◌, ◌≤◌, ◌++◌, ◌∷◌, [], ◌||◌, All, Bool, true, false, cond, List, ℕ, Option, Some, None, Result, Ok, Err, nat_eq}
-use Rattle.std.proofs.Common.{drop, fold, filter_map, length, map, get_or, refl, ap, sym, subst, ◌∙◌, arith, if◌then◌else◌, append_assoc, flat_map}
+use Rattle.std.proofs.Common.{◌≡◌, ◌<◌, ◌++◌, ◌∷◌, [], ◌||◌, All, Bool, true, false, cond, List, ℕ, Some, Result, Ok, Err, nat_eq}
+use Rattle.std.proofs.Common.{drop, fold, filter_map, length, map, get_or, refl, ap, sym, subst, ◌∙◌, arith, if◌then◌else◌, append_assoc}
 use Rattle.std.proofs.lemmas.Bool.{eq-eqb, or_left, or_right}
-use Rattle.std.proofs.lemmas.List.{append-nil, drop-map, get_or_default, get_or-map, length-map, map-append}
+use Rattle.std.proofs.lemmas.List.{append-nil, drop-map, get_or_default, get_or-map, length-map}
 use Rattle.std.proofs.lemmas.List.Elements.{All-append, All-cons, All-drop, All-filter, All-head, All-map, All-nil, All-push, All-tail, All-weaker, filter_map-append}
 use Rattle.std.proofs.lemmas.List.Folds.{Any-from_list_any, list_any-append, list_any_at}
 use Rattle.std.proofs.Math.Seq.{drop-append_seam}
 use Rattle.std.specs.List.{cons_option, list_any}
-use Rattle.ld_class.specs.Names.{AreDistinct, PlainClass, no_class, same_class}
+use Rattle.ld_class.specs.Names.{PlainClass, no_class, same_class}
 use Rattle.ld_class.proofs.NameLemmas.{same_class-Decides}
 use Rattle.ld_trace.specs.declared.event.LineFault.{LineFault}
 use Rattle.ld_trace.specs.declared.event.State.{State}
@@ -15,19 +15,16 @@ use Rattle.ld_trace.specs.declared.event.State.TheVariants.{Hard, Soft}
 use Rattle.ld_trace.specs.Events.{PlainEvent, PlainLock, Position}
 use Rattle.ld_trace.specs.Events.PlainEvent.{Acquire, Try, Nested, Release, Enter, Exit, Enable, Disable, Begin}
 use Rattle.ld_rules.specs.Dependency.{Dependency, Seen, dependencies_at, seen, seen_at}
-use Rattle.ld_rules.specs.Flags.{is_enabled}
 use Rattle.ld_rules.specs.Frames.{contexts, frame_of, task_of}
-use Rattle.ld_rules.specs.Held.{Acquisition, class_with, held, held_in, held_by, lock_acquired, same_frame, same_key, sub_taken}
+use Rattle.ld_rules.specs.Held.{Acquisition, class_with, held, held_in, held_by, lock_acquired, same_frame, sub_taken}
 use Rattle.ld_rules.specs.Inner.Scanned.{remove_last, same_dependency_seen, same_use_seen, with_new}
-use Rattle.ld_rules.specs.Outcome.{classes, event_said, events}
+use Rattle.ld_rules.specs.Outcome.{event_said, events}
 use Rattle.ld_rules.specs.Held.{class_acquired}
-use Rattle.ld_rules.specs.Usage.{Bit, Use, in_uses, on_uses, uses_at, uses_in}
+use Rattle.ld_rules.specs.Usage.{Use, in_uses, on_uses, uses_at, uses_in}
 use Rattle.ld_rules.specs.Usage.Bit.{In, On}
 use Rattle.ld_rules.proofs.HeldLemmas.{acquisition_at, has_key, held-acquires, held-other, held-releases}
 use Rattle.ld_rules.proofs.OutcomeLemmas.{events-push, seen-push}
 use Rattle.ld_rules.proofs.PlaceLemmas.{alike_from_decides, any_each_once, by_pushes}
-use Rattle.ld_held.specs.declared.edges.EdgeFact.{EdgeFact}
-use Rattle.ld_uses.specs.declared.uses.UsageFact.{UsageFact}
 use Rattle.ld_facts.specs.declared.scan.Scan.{Scan}
 use Rattle.ld_facts.specs.Facts as facts
 use Rattle.ld_facts.specs.Inner.Reading as reading

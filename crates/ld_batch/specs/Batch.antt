@@ -1,5 +1,5 @@
 -- What a batch is, without where it lies in memory.
-use Rattle.std.specs.Prelude.{◌≡◌, ℕ, ◌<◌, Bool, List, [], map, length, slice_index_or, All, AllPairs}
+use Rattle.std.specs.Prelude.{◌≡◌, ◌<◌, Bool, List, [], map, length, slice_index_or, All, AllPairs}
 use Rattle.std.specs.Prelude.{Option, option_map}
 use Rattle.std.specs.List.{find}
 use Rattle.ld_class.specs.Names.{PlainClass, no_class}

@@ -1,15 +1,12 @@
 -- What a union shows when the sources of a batch are added.
-use Rattle.std.proofs.Common.{◌≡◌, ◌++◌, ◌∷◌, [], ◌∙◌, Bool, List, Option, Some, None, filter_map, flat_map, length, sym, ap, refl, subst, append_assoc}
+use Rattle.std.proofs.Common.{◌≡◌, ◌++◌, ◌∷◌, [], ◌∙◌, Bool, List, Option, flat_map, length, sym, ap, subst, append_assoc}
 use Rattle.std.proofs.lemmas.List.{append-nil}
-use Rattle.std.proofs.lemmas.List.Elements.{filter_map-append}
-use Rattle.std.proofs.lemmas.List.Sums.{fold-append}
-use Rattle.std.specs.List.{cons_option}
 use Rattle.ld_class.specs.Names.{same_class}
 use Rattle.ld_trace.specs.Sources.{PlainSource}
 use Rattle.ld_rules.specs.declared.outcome.Witness.{Witness}
-use Rattle.ld_facts.specs.Dependency.{Dependency, Seen, least_line, same_dependency}
+use Rattle.ld_facts.specs.Dependency.{Dependency, Seen, same_dependency}
 use Rattle.ld_facts.specs.Outcome.{each_once}
-use Rattle.ld_facts.specs.Union.{classes_of, dependencies_of, dependency_witness, earlier, first_of, first_witness, use_witness, uses_of}
+use Rattle.ld_facts.specs.Union.{classes_of, dependencies_of, dependency_witness, first_witness, use_witness, uses_of}
 use Rattle.ld_facts.specs.Usage.{Use, same_use}
 use Rattle.ld_rules.proofs.PlaceLemmas.{by_pushes, flat_map-append}
 use Rattle.ld_batch.specs.Batch.{IsBatch, PlainBatch}

@@ -95,7 +95,13 @@ impl<'a> Union<'a> {
         news.bits.clear();
         news.bits.reserve(batch.usage().len())?;
         let numbers = batch.class_numbers();
-        intern_all(&mut self.classes, batch.classes(), numbers, guesses, &mut news.places)?;
+        intern_all(
+            &mut self.classes,
+            batch.classes(),
+            numbers,
+            guesses,
+            &mut news.places,
+        )?;
         // From here on nothing is refused.
         self.dependencies.enter_classes(self.classes.len());
         let Ok(()) = self.usage.resize(self.classes.len(), UsageRow::unused()) else {

@@ -1,11 +1,10 @@
-use Rattle.std.proofs.Common.{◌≡◌, ◌≤◌, ◌+◌, All, true, length, map, take, get_or, nat_eq, ap, sym, subst, ◌∙◌, arith}
-use Rattle.std.proofs.lemmas.List.{length-map, length-take-le, take-take, take_more, take_all}
+use Rattle.std.proofs.Common.{◌≡◌, ◌≤◌, ◌+◌, All, true, length, take, get_or, nat_eq, ap, sym, subst, ◌∙◌, arith}
+use Rattle.std.proofs.lemmas.List.{length-map, length-take-le, take_more}
 use Rattle.std.proofs.lemmas.List.Elements.{All-push, All-weaker}
 use Rattle.std.specs.List.{list_any}
-use Rattle.ld_class.specs.Names.{no_class, with_name}
+use Rattle.ld_class.specs.Names.{no_class}
 use Rattle.ld_facts.specs.Inner.Reading.{names_at}
 use Rattle.ld_facts.proofs.StandsLemmas.{take-first}
-use Rattle.ld_batch.specs.Inner.Names.{with_names}
 use Rattle.ld_batch.proofs.NameLemmas.{longer_all}
 use Rattle.ld_batch.proofs.NamedLemmas.{first_there, with_names-more}
 use Rattle.ld_batch.proofs.names.add_named.Goals as goal

@@ -1,5 +1,5 @@
-use Rattle.std.proofs.Common.{◌≡◌, ◌<◌, ◌≤◌, ap, sym, subst, ◌∙◌, arith, length, get_or, nat_eq, Some}
-use Rattle.ld_class.specs.Names.{no_class, place_of, with_name}
+use Rattle.std.proofs.Common.{◌≤◌, ap, sym, subst, ◌∙◌, arith, length}
+use Rattle.ld_class.specs.Names.{place_of, with_name}
 use Rattle.ld_batch.specs.Inner.Kept.{AreNames}
 use Rattle.ld_batch.proofs.NamedLemmas.{named-known, named-push, named-then}
 use Rattle.ld_batch.proofs.names.add_one.Goals as goal

@@ -1,4 +1,4 @@
-use Rattle.std.proofs.Common.{rules, ◌≡◌, ◌+◌, ◌-◌, ◌<◌, ◌≤◌, ◌∙◌, List, [], ap, arith, get_or, length, subst, sym}
+use Rattle.std.proofs.Common.{rules, ◌≡◌, ◌+◌, ◌-◌, ◌<◌, ◌≤◌, ◌∙◌, List, ap, arith, get_or, length, subst, sym}
 use Rattle.ld_class.specs.Names.{no_class}
 use Rattle.ld_class.specs.Usage.{no_bits}
 use Rattle.ld_batch.specs.declared.uses.WitnessedUse.{WitnessedUse}

@@ -1,4 +1,4 @@
-use Rattle.std.proofs.Common.{◌<◌, [], get_or, refl, subst}
+use Rattle.std.proofs.Common.{◌<◌, get_or, refl, subst}
 use Rattle.std.proofs.lemmas.Bool.{OnFalse_at, OnTrue_at}
 use Rattle.ld_class.specs.Names.{no_class}
 use Rattle.ld_facts.specs.Usage.{bit_of}

@@ -1,4 +1,4 @@
-use Rattle.std.proofs.Common.{◌≡◌, ap, sym, ◌∙◌, None}
+use Rattle.std.proofs.Common.{ap, sym, ◌∙◌, None}
 use Rattle.std.specs.List.{last_or}
 use Rattle.ld_batch.specs.Batch.{PlainBatch, sources_of}
 use Rattle.ld_batch.proofs.ListedLemmas.{last_source}

@@ -1,4 +1,4 @@
-use Rattle.std.proofs.Common.{rules, All, Contains, ◌<◌, ◌≡◌, ◌-◌, ◌++◌, ◌∷◌, ◌∙◌, [], None, List, ℕ, ap, arith, length, replicate, subst, sym, take}
+use Rattle.std.proofs.Common.{rules, All, Contains, ◌<◌, ◌≡◌, ◌-◌, ◌++◌, ◌∙◌, [], None, List, ℕ, ap, arith, length, replicate, subst, sym, take}
 use Rattle.std.proofs.lemmas.List.{take_all, with_items_is}
 use Rattle.std.specs.Vec.{with_items}
 use Rattle.ld_class.specs.Names.{PlainClass}
