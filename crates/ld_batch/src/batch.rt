@@ -26,8 +26,8 @@ use std::mem;
 #[derive(Drop)]
 pub struct Batch<'a> {
     listed: Vec<Listed<'a>>,
-    /// It scans each trace on top of what the ones before it show, and is ready for the next one. It
-    /// knows more classes than those of the batch, which were met before the batch was emptied.
+    /// It scans each trace on top of what the ones before it show, and is ready for the next one. It may
+    /// know more classes than those of the batch, which were met before the batch was emptied.
     scan: Scan<'a>,
     shown: Shown<'a>,
     guesses: Guesses,
@@ -72,7 +72,7 @@ impl<'a> Batch<'a> {
     }
 
     /// Lists no trace from here on, as a new batch does. The memory stays for further traces, and what was
-    /// learned of their classes and dependencies.
+    /// learned of the classes and dependencies of those that it listed.
     pub fn clear(&mut self)
         ensures { self.new ≡ empty_batch }
     {

@@ -1,4 +1,4 @@
-//! The dependencies of a batch, by the numbers of its classes.
+//! The dependencies of a batch, by the places of its classes.
 ghost use Rattle.std.specs.Prelude.{◌≡◌, ◌+◌, ◌++◌, ◌≤◌, All, length, map, vec_len, vec_capacity};
 ghost use Rattle.ld_class.specs.declared.names.TheConstants.{MOST_NAMES};
 ghost use Rattle.ld_batch.specs.Inner.Rows.{IsOwnEdge, edge_of};
@@ -9,9 +9,9 @@ use ld_numbers::Numbers;
 /// A dependency, and where it was first seen.
 #[derive(Clone, Copy, Debug, PartialEq, Eq)]
 pub struct WitnessedEdge {
-    /// The number of the class that was held.
+    /// The place among the batch's classes of the one that was held.
     pub from: u32,
-    /// The number of the class that was acquired under it.
+    /// The place of the one that was acquired under it.
     pub to: u32,
     /// The trace, and the line in the stream.
     pub witness: Witness,

@@ -15,8 +15,8 @@ use ld_class::{ClassName, Classes};
 use ld_numbers::Numbers;
 use std::alloc::AllocError;
 
-/// Interns all of `more`, and writes their places among the names over `places`. What was guessed of these
-/// names, which have such numbers, is tried first, and kept for the next time.
+/// Interns all of `more`, and writes their places among the names over `places`. Each is looked
+/// for where the guesses say first, which know the names by `numbers`; the guesses then have their places.
 ///
 /// # Errors
 ///
@@ -52,7 +52,7 @@ pub fn intern_all<'a>(
     Ok(())
 }
 
-/// The number at a place, or 0.
+/// The number at a place, or 0: no clause says that there are as many as names, and for a guess any will do.
 fn number_at(numbers: &[usize], place: usize) -> usize {
     match numbers.get(place) {
         Some(number) => *number,

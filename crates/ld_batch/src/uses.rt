@@ -1,4 +1,4 @@
-//! The usage bits of a batch, by the numbers of its classes.
+//! The usage bits of a batch, by the places of its classes.
 ghost use Rattle.std.specs.Prelude.{◌≡◌, ◌+◌, ◌++◌, ◌≤◌, All, length, map, vec_len, vec_capacity};
 ghost use Rattle.ld_class.specs.declared.names.TheConstants.{MOST_NAMES};
 ghost use Rattle.ld_batch.specs.Inner.Rows.{IsOwnUse, use_of};
@@ -10,7 +10,7 @@ use ld_numbers::Numbers;
 /// A usage bit of a class, and where it was first seen.
 #[derive(Clone, Copy, Debug, PartialEq, Eq)]
 pub struct WitnessedUse {
-    /// The number of the class.
+    /// The place of the class among the batch's.
     pub class: u32,
     /// The one bit.
     pub bit: Usage,

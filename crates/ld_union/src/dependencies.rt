@@ -157,6 +157,7 @@ impl Dependencies {
                 from: places[seen.from as usize],
                 to: places[seen.to as usize],
             };
+            // No clause says that there are as many. For a guess any number will do.
             let pair = match pairs.next() {
                 Some(pair) => *pair,
                 None => 0,

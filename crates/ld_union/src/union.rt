@@ -71,7 +71,7 @@ impl<'a> Union<'a> {
     }
 
     /// Adds what the traces of a batch show, and writes over `news` what of it is new. Classes and
-    /// dependencies are looked for where the guesses say, which say then where they are.
+    /// dependencies are looked for where the guesses say first; the guesses then have their places.
     ///
     /// # Errors
     ///
@@ -102,7 +102,7 @@ impl<'a> Union<'a> {
             guesses,
             &mut news.places,
         )?;
-        // From here on nothing is refused.
+        // From here on no refusal is answered: a guess without memory is left out.
         self.dependencies.enter_classes(self.classes.len());
         let Ok(()) = self.usage.resize(self.classes.len(), UsageRow::unused()) else {
             unreachable!()

@@ -44,7 +44,8 @@ pub record AreNames (known : List PlainClass) (numbers : List ℕ) (names : List
   pub same : names_at known numbers ≡ names
 
 -- The batch is what its traces show. A trace may begin on top of what the scan has, which is what the
--- rows have, but for the traces' numbers; and which knows the classes of the batch, among others.
+-- rows have, but for the traces' numbers and the places of classes. The scan knows the batch's classes,
+-- maybe among others.
 pub record IsKept (fields : Fields) : Type 0 where
   pub exact : IsBatch (batch_of fields)
   pub outcomes : AreOutcomes fields.listed

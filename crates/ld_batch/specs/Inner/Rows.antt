@@ -1,4 +1,4 @@
--- The rows of a batch, by the numbers of its classes. No contract of a `Batch` cites this file.
+-- The rows of a batch, by the places of its classes. No contract of a `Batch` cites this file.
 use Rattle.std.specs.Prelude.{◌≡◌, ◌≢◌, ℕ, List, Option, None, Some, AllPairs, map, nat_eq}
 use Rattle.std.specs.Prelude.{option_map, true}
 use Rattle.std.specs.List.{list_any, position_or_len}
@@ -20,7 +20,7 @@ abbrev pub IsOwnEdge : List ℕ → EdgeFact → Type 0
 IsOwnEdge numbers fact =
     (list_any (nat_eq fact.from) numbers ≡ true) × (list_any (nat_eq fact.to) numbers ≡ true)
 
--- the class is
+-- its class is among these, by its number in the scan
 abbrev pub IsOwnUse : List ℕ → UsageFact → Type 0
 IsOwnUse numbers fact = list_any (nat_eq fact.class) numbers ≡ true
 
