@@ -1,5 +1,5 @@
 -- What traces show together doesn't depend on their order.
-use Rattle.std.proofs.Common.{◌≡◌, [], ◌∷◌, ◌||◌, List, ℕ, Bool, cond, Option, Some, None, IsSome, length, fold, map, filter_map, flat_map, refl, sym, ap, subst, ◌∙◌}
+use Rattle.std.proofs.Common.{◌≡◌, [], ◌∷◌, ◌||◌, List, Bool, cond, Option, Some, None, IsSome, length, fold, map, filter_map, flat_map, refl, sym, ap, subst, ◌∙◌}
 use Rattle.std.proofs.Math.Bool.{or-false, or_assoc}
 use Rattle.std.proofs.lemmas.List.Folds.{list_any-append}
 use Rattle.std.proofs.lemmas.List.Sorted.{IsPermutation-sym, length_permutation, list_any-IsPermutation, sum_by-IsPermutation}

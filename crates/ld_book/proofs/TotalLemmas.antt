@@ -6,7 +6,6 @@ use Rattle.std.proofs.lemmas.List.{get_or-map, length-map}
 use Rattle.std.proofs.lemmas.List.Folds.{Any-from_list_any, list_any-append, list_any_at}
 use Rattle.std.proofs.lemmas.Map.Keys.{IsDistinct-from_apart}
 use Rattle.std.proofs.lemmas.Map.Made.{length-from_same_keys}
-use Rattle.std.specs.Bool.{Decides}
 use Rattle.std.specs.List.{cons_option, list_any, reduce}
 use Rattle.ld_class.specs.Names.{PlainClass}
 use Rattle.ld_class.proofs.Mapped.{list_any-map}

@@ -1,7 +1,6 @@
-use Rattle.std.proofs.Common.{◌≡◌, ◌<◌, ◌++◌, ◌∷◌, [], ◌∙◌, List, ℕ, ap, append_assoc, arith, false, get_or, length, subst, sym, take}
-use Rattle.std.proofs.lemmas.List.{get_or-map, length-map, take_more}
+use Rattle.std.proofs.Common.{◌≡◌, ◌++◌, ◌∷◌, [], ◌∙◌, ap, append_assoc, arith, false, get_or, subst, sym, take}
+use Rattle.std.proofs.lemmas.List.{get_or-map, take_more}
 use Rattle.ld_trace.specs.Sources.{Fits, PlainSource, plain}
-use Rattle.ld_rules.specs.declared.outcome.Listed.{Listed}
 use Rattle.ld_batch.specs.Batch.{sources_of}
 use Rattle.ld_book.specs.Book.{is_listed}
 use Rattle.ld_book.proofs.ListedLemmas.{no_source, source_within}

@@ -1,8 +1,7 @@
-use Rattle.std.proofs.Common.{◌<◌, ◌||◌, [], ◌∙◌, List, ℕ, ap, length, subst, sym}
-use Rattle.std.proofs.lemmas.List.{get_or-map, length-map}
+use Rattle.std.proofs.Common.{◌||◌, ◌∙◌, ap, sym}
+use Rattle.std.proofs.lemmas.List.{get_or-map}
 use Rattle.std.proofs.lemmas.List.Folds.{list_any_at, list_any_more}
 use Rattle.ld_trace.specs.Sources.{PlainSource, plain}
-use Rattle.ld_rules.specs.declared.outcome.Listed.{Listed}
 use Rattle.ld_batch.specs.Batch.{sources_of}
 use Rattle.ld_book.specs.Book.{is_listed}
 use Rattle.ld_book.proofs.ListedLemmas.{no_source, source_within}
