@@ -28,7 +28,7 @@ use Rattle.ld_facts.specs.Facts as facts
 use Rattle.ld_facts.specs.Inner.Reading as reading
 use Rattle.ld_facts.specs.Inner.Reading.{IsAt, fresh_scan, start_of, undone}
 use Rattle.ld_facts.proofs.StartLemmas.{begun-at}
-use Rattle.ld_batch.specs.Batch.{AreOutcomes, AreRising, IsBatch, IsUse, IsEdge, PlainBatch, named_dependency, named_use, sources_of, witness_of}
+use Rattle.ld_batch.specs.Batch.{AreOutcomes, AreRising, IsBatch, IsUse, IsBetween, PlainBatch, named_dependency, named_use, sources_of, witness_of}
 use Rattle.ld_batch.specs.Inner.Kept.{AreNames, Fields, HasOwn, IsKept, IsRead, IsReady}
 use Rattle.ld_batch.specs.Inner.Names.{IsLonger, with_names}
 use Rattle.ld_batch.specs.Inner.Rows.{AreMet, IsOwnEdge, IsOwnUse, edge_of, seen_of, use_of}
@@ -156,7 +156,7 @@ kept-none scan new distinct few = subst (λ s. IsKept (record { listed = []; sca
     fit = All-nil Fits;
     rise = λ i j d before within. absurd (omega (arith, within));
     classes = refl;
-    within = All-nil (IsEdge []);
+    within = All-nil (IsBetween []);
     once = λ i j d before within. absurd (omega (arith, within));
     edges = λ what. refl;
     used_within = All-nil (IsUse []);
@@ -168,7 +168,7 @@ kept-none scan new distinct few = subst (λ s. IsKept (record { listed = []; sca
   known = omega (arith, few);
   names = record { within = All-nil (λ n. n < length scan.classes); same = refl };
   ready = refl;
-  begun = begun-at (fresh_scan scan.classes) distinct (All-nil (reading.IsEdge scan.classes)) (All-nil (facts.IsUse scan.classes)) (omega (arith, few));
+  begun = begun-at (fresh_scan scan.classes) distinct (All-nil (reading.IsBetween scan.classes)) (All-nil (facts.IsUse scan.classes)) (omega (arith, few));
   edges = record { same = refl; apart = λ i j d before within. absurd (omega (arith, within)) };
   usage = record { same = refl; apart = λ i j d before within. absurd (omega (arith, within)) };
 })
@@ -298,7 +298,7 @@ module _ (old new : Fields) (last : Listed) (kept : IsKept old) (adds : IsPushed
             ∙ ap (λ all. with_names all (classes_of source)) was.classes
             ∙ with_names-each_once (flat_map classes_of sources) (classes_of source)
             ∙ ap (each_once same_class) (sym (shown-push sources source));
-        within = All-append (IsEdge names) old.edges (map (edge_of new.numbers source.number) (drop (length old.edges) new.scan.locks.edges))
+        within = All-append (IsBetween names) old.edges (map (edge_of new.numbers source.number) (drop (length old.edges) new.scan.locks.edges))
             (within-longer old.classes names count longer old.edges was.within)
             (rows_within known new.numbers names adds.names source.number (drop (length old.edges) new.scan.locks.edges) adds.own_edges);
         once = λ i j d before within both. pairs-of (λ m n. m.what ≢ n.what) (named_dependency names) joined.edges all_edges.apart i j d before within

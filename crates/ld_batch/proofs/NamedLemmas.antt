@@ -16,7 +16,7 @@ use Rattle.ld_facts.specs.Inner.Reading.{names_at}
 use Rattle.ld_facts.proofs.OwnLemmas.{own-known, own-more, own-none}
 use Rattle.ld_batch.specs.Inner.Kept.{AreNames}
 use Rattle.ld_batch.specs.Inner.Names.{IsLonger, with_names}
-use Rattle.ld_batch.specs.Batch.{IsUse, IsEdge, named_dependency, named_use}
+use Rattle.ld_batch.specs.Batch.{IsUse, IsBetween, named_dependency, named_use}
 use Rattle.ld_batch.specs.Inner.Rows.{IsOwnEdge, IsOwnUse, edge_of, place_in, use_of}
 use Rattle.ld_batch.proofs.MetLemmas.{met}
 use Rattle.ld_batch.proofs.TraceLemmas.{same_maps, same_name}
@@ -120,9 +120,9 @@ module _ (known : List PlainClass) (numbers : List ℕ) (names : List PlainClass
   named_use_rows number = same_maps (λ f. named_use names (use_of numbers number f)) (λ f. met number (facts.named_use known f)) (IsOwnUse numbers)
       (λ f own i. record { what = record { class = place_name f.class own i; bit = bit_of f.bit }; witness = record { number = number; line = f.line } })
 
-  pub rows_within : (number : ℕ) (told : List EdgeFact) → All (IsOwnEdge numbers) told → All (IsEdge names) (map (edge_of numbers number) told)
-  rows_within number told own = All-map (IsEdge names) (edge_of numbers number) told
-      (All-weaker (IsOwnEdge numbers) (λ f. IsEdge names (edge_of numbers number f)) (λ f is. (place_within f.from is.0, place_within f.to is.1)) told own)
+  pub rows_within : (number : ℕ) (told : List EdgeFact) → All (IsOwnEdge numbers) told → All (IsBetween names) (map (edge_of numbers number) told)
+  rows_within number told own = All-map (IsBetween names) (edge_of numbers number) told
+      (All-weaker (IsOwnEdge numbers) (λ f. IsBetween names (edge_of numbers number f)) (λ f is. (place_within f.from is.0, place_within f.to is.1)) told own)
 
   pub use_rows_within : (number : ℕ) (told : List UsageFact) → All (IsOwnUse numbers) told → All (λ f. IsBit f.bit) told → All (IsUse names) (map (use_of numbers number) told)
   use_rows_within number told own bits = All-map (IsUse names) (use_of numbers number) told

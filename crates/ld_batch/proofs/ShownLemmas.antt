@@ -192,7 +192,7 @@ module _ (start : Start) (all : List Position) (scan : Scan) (at : IsAt start al
   pub own_edges : All (IsOwnEdge scan.own) (drop (length start.edges) scan.locks.edges)
   own_edges k d within =
       let edge = get_or (drop (length start.edges) scan.locks.edges) k d in
-      let inside = All-drop (reading.IsEdge scan.classes) (length start.edges) scan.locks.edges at.within k d within in
+      let inside = All-drop (reading.IsBetween scan.classes) (length start.edges) scan.locks.edges at.within k d within in
       let shown = by_name k (facts.named_dependency scan.classes d) (omega (arith, within, length-map (drop (length start.edges) scan.locks.edges) (facts.named_dependency scan.classes))) in
       let here : get_or (map (facts.named_dependency scan.classes) (drop (length start.edges) scan.locks.edges)) k (facts.named_dependency scan.classes d) ≡ facts.named_dependency scan.classes edge =
       get_or-map (facts.named_dependency scan.classes) (drop (length start.edges) scan.locks.edges) k d (facts.named_dependency scan.classes d) within in

@@ -6,7 +6,7 @@ use Rattle.ld_class.specs.Names.{PlainClass, no_class}
 use Rattle.ld_rules.specs.Usage.{bit_of}
 use Rattle.ld_batch.specs.declared.edges.WitnessedEdge.{WitnessedEdge}
 use Rattle.ld_batch.specs.declared.uses.WitnessedUse.{WitnessedUse}
-use Rattle.ld_batch.specs.Batch.{IsUse, IsEdge, named_dependency, named_use}
+use Rattle.ld_batch.specs.Batch.{IsUse, IsBetween, named_dependency, named_use}
 use Rattle.ld_batch.specs.Inner.Names.{IsLonger}
 
 -- two maps that agree on each element
@@ -22,12 +22,12 @@ module _ (names more : List PlainClass) (count : ℕ) (longer : IsLonger names m
   pub same_name : (k : ℕ) → k < length names → get_or more k no_class ≡ get_or names k no_class
   same_name k within = sym (get_or-take (length names) more k no_class within) ∙ ap (λ all. get_or all k no_class) longer.front
 
-  pub edges-longer : (rows : List WitnessedEdge) → All (IsEdge names) rows → map (named_dependency more) rows ≡ map (named_dependency names) rows
-  edges-longer = same_maps (named_dependency more) (named_dependency names) (IsEdge names)
+  pub edges-longer : (rows : List WitnessedEdge) → All (IsBetween names) rows → map (named_dependency more) rows ≡ map (named_dependency names) rows
+  edges-longer = same_maps (named_dependency more) (named_dependency names) (IsBetween names)
       (λ e h i. record { what = record { from = same_name e.from h.0 i; to = same_name e.to h.1 i }; witness = e.witness })
 
-  pub within-longer : (rows : List WitnessedEdge) → All (IsEdge names) rows → All (IsEdge more) rows
-  within-longer rows within = All-weaker (IsEdge names) (IsEdge more) (λ e h. (omega (arith, h.0, longer.least), omega (arith, h.1, longer.least))) rows within
+  pub within-longer : (rows : List WitnessedEdge) → All (IsBetween names) rows → All (IsBetween more) rows
+  within-longer rows within = All-weaker (IsBetween names) (IsBetween more) (λ e h. (omega (arith, h.0, longer.least), omega (arith, h.1, longer.least))) rows within
 
   pub uses-longer : (rows : List WitnessedUse) → All (IsUse names) rows → map (named_use more) rows ≡ map (named_use names) rows
   uses-longer = same_maps (named_use more) (named_use names) (IsUse names)

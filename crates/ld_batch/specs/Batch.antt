@@ -62,8 +62,8 @@ named_use classes used = record {
 }
 
 -- both classes are among these
-abbrev pub IsEdge : List PlainClass → WitnessedEdge → Type 0
-IsEdge classes edge = (edge.from < length classes) × (edge.to < length classes)
+abbrev pub IsBetween : List PlainClass → WitnessedEdge → Type 0
+IsBetween classes edge = (edge.from < length classes) × (edge.to < length classes)
 
 -- it is one bit of one of these classes
 abbrev pub IsUse : List PlainClass → WitnessedUse → Type 0
@@ -76,7 +76,7 @@ pub record IsBatch (batch : PlainBatch) : Type 0 where
   pub fit : All Fits batch.sources
   pub rise : AreRising batch.sources
   pub classes : batch.classes ≡ union_classes batch.sources
-  pub within : All (IsEdge batch.classes) batch.edges
+  pub within : All (IsBetween batch.classes) batch.edges
   pub once : AllPairs (λ d e. (d.from ≡ e.from) × (d.to ≡ e.to) → ⊥) batch.edges
   pub edges : (what : Dependency)
       → witness_of same_dependency (map (named_dependency batch.classes) batch.edges) what

@@ -1,10 +1,8 @@
 //! Adds the names of one list to another.
 ghost use Rattle.std.specs.Prelude.{◌≡◌, ◌+◌, ◌<◌, ◌≤◌, All, OnErr, OnOk, length, nat_eq};
-ghost use Rattle.std.specs.Prelude.{slice_index_or, take, true};
+ghost use Rattle.std.specs.Prelude.{slice_index_or, take, true, ℕ, IfOk};
 ghost use Rattle.std.specs.List.{list_any};
-ghost use Rattle.std.specs.Prelude.{ℕ, IfOk, Some};
-ghost use Rattle.std.specs.Bool.{OnTrue};
-ghost use Rattle.ld_class.specs.Names.{AreDistinct, IsNameAt, no_class, place_of, plain_class, with_name};
+ghost use Rattle.ld_class.specs.Names.{AreDistinct, IsNameAt, no_class, plain_class, with_name};
 ghost use Rattle.ld_class.specs.declared.names.TheConstants.{MOST_NAMES};
 ghost use Rattle.ld_facts.specs.Inner.Reading.{names_at};
 ghost use Rattle.ld_batch.specs.Inner.Kept.{AreNames};
@@ -75,17 +73,10 @@ fn intern_guessed<'a>(
     ensures kept { (id : ℕ) → id < length names.old
         → IsNameAt names.new id (slice_index_or names.old id no_class) }
 {
-    if is_at(names, name, guess) {
+    if names.is_at(guess, name) {
         return Ok(guess);
     }
     names.intern(name)
-}
-
-/// Whether the name stands at the place.
-fn is_at(names: &Classes<'_>, name: ClassName<'_>, place: u32) -> bool
-    ensures { OnTrue result (place_of names.now (plain_class name.entry) ≡ Some place) }
-{
-    (place as usize) < names.len() && names.name(place) == name
 }
 
 /// Adds the names that these numbers stand for among the known ones, where they aren't there yet, and

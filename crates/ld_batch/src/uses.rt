@@ -3,9 +3,9 @@ ghost use Rattle.std.specs.Prelude.{◌≡◌, ◌+◌, ◌++◌, ◌≤◌, All
 ghost use Rattle.ld_class.specs.declared.names.TheConstants.{MOST_NAMES};
 ghost use Rattle.ld_batch.specs.Inner.Rows.{IsOwnUse, use_of};
 
-use ld_class::Usage;
 use ld_facts::{UsageFact, Witness};
 use ld_numbers::Numbers;
+use ld_usage::Usage;
 
 /// A usage bit of a class, and where it was first seen.
 #[derive(Clone, Copy, Debug, PartialEq, Eq)]

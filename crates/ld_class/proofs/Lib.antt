@@ -2,4 +2,3 @@ pub mod Mapped
 pub mod AnyNames
 pub mod NameLemmas
 pub mod Shown
-pub mod UsageLemmas

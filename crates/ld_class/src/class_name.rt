@@ -12,19 +12,18 @@ pub struct ClassName<'a> {
     pub sub: u8,
 }
 
-// The bytes are hashed by one write, where a slice hashes them one by one.
+// The bytes are hashed by one write, where a slice hashes them one by one. The subclass is left out, which would
+// cost every name a second write: a class has eight at most.
 impl<'a> Hash for ClassName<'a> {
-    ghost use Rattle.std.specs.Prelude.{[], ◌∷◌, ◌++◌};
-    ghost use Rattle.std.specs.Hash as fed;
+    ghost use Rattle.std.specs.Prelude.{[], ◌∷◌};
     ghost use Rattle.std.specs.Cmp.Rules.{hashing};
     ghost use Rattle.std.proofs.Common.{rules};
 
-    ghost hash_input = { λ class. (class.name.now ∷ []) ++ fed.u8 class.sub };
+    ghost hash_input = { λ class. class.name.now ∷ [] };
 
     ghost respects_eq = { Prim.search (hashing, rules) };
 
     fn hash<H: Hasher>(&self, state: &mut H) {
         state.write(self.name);
-        state.write_u8(self.sub);
     }
 }

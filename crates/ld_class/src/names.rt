@@ -1,6 +1,7 @@
 //! `Classes`, which numbers the names of classes.
 ghost use Rattle.std.specs.Prelude.{◌≡◌, ◌<◌, ◌≤◌, ◌↔◌, ℕ, [], length, take};
-ghost use Rattle.std.specs.Prelude.{slice_index_or, IfOk, OnOk, OnErr};
+ghost use Rattle.std.specs.Prelude.{slice_index_or, IfOk, OnOk, OnErr, Some};
+ghost use Rattle.std.specs.Bool.{OnTrue};
 ghost use Rattle.ld_class.specs.Names.{place_of, with_name, IsNameAt, AreDistinct};
 ghost use Rattle.ld_class.specs.Names.{no_class, plain_class};
 
@@ -97,6 +98,13 @@ impl<'a> Classes<'a> {
         ensures place { place_of self.now (plain_class result) ≡ Some id }
     {
         self.names.as_slice()[id as usize]
+    }
+
+    /// Whether `name` stands at the place `id`, which may be past the end.
+    pub fn is_at(&self, id: u32, name: ClassName<'_>) -> bool
+        ensures { OnTrue result (place_of self.now (plain_class name.entry) ≡ Some id) }
+    {
+        (id as usize) < self.len() && self.name(id) == name
     }
 
     /// Keeps the first `n` names, or all where there are no more. The memory stays for later ones.

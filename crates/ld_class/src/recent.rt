@@ -1,8 +1,6 @@
 //! Names of tasks, of which the one that was asked for last is found by its bytes alone.
-ghost use Rattle.std.specs.Prelude.{◌≡◌, ◌<◌, [], length, IfOk, IfSome, OnOk, OnErr, Some};
-ghost use Rattle.std.specs.Bool.{OnTrue};
-ghost use Rattle.ld_class.specs.Names.{AreDistinctTasks, IsTaskAt, place_of, place_of_task};
-ghost use Rattle.ld_class.specs.Names.{plain_class, with_task};
+ghost use Rattle.std.specs.Prelude.{◌≡◌, ◌<◌, [], length, IfOk, IfSome, OnOk, OnErr};
+ghost use Rattle.ld_class.specs.Names.{AreDistinctTasks, IsTaskAt, place_of_task, with_task};
 ghost use Rattle.ld_class.specs.declared.names.TheConstants.{MOST_NAMES};
 
 use crate::class_name::ClassName;
@@ -58,7 +56,7 @@ impl<'a> RecentNames<'a> {
         ensures here { IfSome result (λ id. IsTaskAt self.old id name.now) }
     {
         let name = ClassName { name, sub: 0 };
-        if is_at(&self.names, self.last, name) {
+        if self.names.is_at(self.last, name) {
             return Some(self.last);
         }
         let place = self.names.find(name)?;
@@ -86,11 +84,4 @@ impl<'a> RecentNames<'a> {
     {
         self.names.cut(0);
     }
-}
-
-/// Whether the name stands at the place.
-fn is_at(names: &Classes<'_>, place: u32, name: ClassName<'_>) -> bool
-    ensures { OnTrue result (place_of names.now (plain_class name.entry) ≡ Some place) }
-{
-    (place as usize) < names.len() && names.name(place) == name
 }

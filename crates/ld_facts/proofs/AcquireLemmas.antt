@@ -28,7 +28,7 @@ use Rattle.ld_rules.specs.Inner.Levels.{stack, state_of_frame}
 use Rattle.ld_held.specs.Inner.Locks.{Hold}
 use Rattle.ld_rules.specs.Outcome.{classes, events}
 use Rattle.ld_facts.specs.declared.taking.Taking.{Taking}
-use Rattle.ld_facts.specs.Inner.Reading.{AreMany, HasTask, HeldLock, IsAt, IsTask, IsEdge, Start, acquisition, class_taken, classes_after, edges_after, happens}
+use Rattle.ld_facts.specs.Inner.Reading.{AreMany, HasTask, HeldLock, IsAt, IsTask, IsBetween, Start, acquisition, class_taken, classes_after, edges_after, happens}
 use Rattle.ld_facts.specs.Inner.Reading.{lock_held, named_hold, names_at, own_names, uses_after, waits}
 use Rattle.ld_facts.specs.Facts.{named_dependency, named_use}
 use Rattle.ld_rules.specs.Inner.Scanned.{same_dependency_seen, same_use_seen, with_new}
@@ -176,8 +176,8 @@ module _ {start : Start} (all : List Position) (old : Scan) (is : IsAt start all
   edges-now : map (named_dependency new.classes) new.locks.edges ≡ edges_after start all
   edges-now = (λ i. map (named_dependency (enters.classes i)) (enters.edges i)) ∙ named-more old.classes class old.locks.edges is.within ∙ is.edges
 
-  within-now : All (IsEdge new.classes) new.locks.edges
-  within-now = subst (All (IsEdge new.classes)) (sym enters.edges) (subst (λ names. All (IsEdge names) old.locks.edges) (sym enters.classes)
+  within-now : All (IsBetween new.classes) new.locks.edges
+  within-now = subst (All (IsBetween new.classes)) (sym enters.edges) (subst (λ names. All (IsBetween names) old.locks.edges) (sym enters.classes)
       (within-more old.classes class old.locks.edges is.within))
 
   inner-within : All (λ hold. hold.class < length new.classes) inner
@@ -215,7 +215,7 @@ module _ {start : Start} (all : List Position) (old : Scan) (is : IsAt start all
       ∙ (λ i. fold (with_new same_dependency_seen) (edges-now i) (told-now waits i))
       ∙ sym (dependencies-push start.edges all (happens line event))
 
-  within-told : All (IsEdge new.classes) told_edges
+  within-told : All (IsBetween new.classes) told_edges
   within-told = within-tell new.classes new.locks.edges line number froms within-now enters.class.0 (holds-within new.classes inner inner-within)
 
   edges-untold : class_awaited event ≡ None → map (named_dependency new.classes) new.locks.edges ≡ edges_after start (all ++ happens line event ∷ [])
@@ -325,7 +325,7 @@ module _ {start : Start} (all : List Position) (old : Scan) (is : IsAt start all
   same = get_or-set_same new.locks.stacks id (held_now ++ top ∷ []) [] inside
 
   acquired-by : (edges : List EdgeFact) (uses : List UsageFact) → length held_now < MOST_HELD → map (named_dependency new.classes) edges ≡
-      edges_after start (all ++ happens line event ∷ []) → All (IsEdge new.classes) edges → map
+      edges_after start (all ++ happens line event ∷ []) → All (IsBetween new.classes) edges → map
       (named_use new.classes) uses ≡ uses_after start (all ++ happens line event ∷ []) → All
       (IsUse new.classes) uses → IsAt start (all ++ happens line event ∷ []) (with_top edges uses)
   acquired-by edges uses room shown within counted used =

@@ -14,7 +14,7 @@ use Rattle.ld_facts.specs.Facts.{named_dependency, named_use}
 use Rattle.ld_held.specs.Inner.Interrupts.{fresh}
 use Rattle.ld_rules.specs.Outcome.{classes, event_fault, events, is_one_too_many, tasks}
 use Rattle.ld_rules.specs.Held.{class_acquired}
-use Rattle.ld_facts.specs.Inner.Reading.{AreMany, HasTask, IsAt, IsTask, IsEdge, Start, classes_after, edges_after, happens, names_at, own_names, uses_after}
+use Rattle.ld_facts.specs.Inner.Reading.{AreMany, HasTask, IsAt, IsTask, IsBetween, Start, classes_after, edges_after, happens, names_at, own_names, uses_after}
 use Rattle.ld_rules.specs.Inner.Scanned.{same_dependency_seen, with_new}
 use Rattle.ld_facts.specs.Facts.{IsUse}
 use Rattle.ld_rules.proofs.OutcomeLemmas.{events-push, no_fault}
@@ -37,7 +37,7 @@ pub record Moved (start : Start) (all : List Position) (old : Scan) (e : PlainEv
   pub task : IsTask new.classes (get_or new.locks.stacks id []) (get_or new.locks.interrupts id fresh) (events all ++ e ∷ []) (task_of e)
   pub shallow : length (get_or new.locks.stacks id []) ≤ MOST_HELD
   pub edges : map (named_dependency new.classes) new.locks.edges ≡ edges_after start (all ++ happens line e ∷ [])
-  pub within : All (IsEdge new.classes) new.locks.edges
+  pub within : All (IsBetween new.classes) new.locks.edges
   pub uses : map (named_use new.classes) new.uses ≡ uses_after start (all ++ happens line e ∷ [])
   pub used : All (IsUse new.classes) new.uses
 
@@ -141,7 +141,7 @@ unacquired {start} all old e line id mid new is has changed fault acquires_none 
           ∙ is.edges
           ∙ sym (dependencies-push start.edges all (happens line e) ∙ ap (λ ds. fold (with_new same_dependency_seen) (edges_after start all)
           (map (λ (what : Dependency). record { what = what; line = line }) ds)) depends_none);
-      within = subst (λ ns. All (IsEdge ns) new.locks.edges) (sym classes-same) (subst (All (IsEdge old.classes)) (sym edges-same) is.within);
+      within = subst (λ ns. All (IsBetween ns) new.locks.edges) (sym classes-same) (subst (All (IsBetween old.classes)) (sym edges-same) is.within);
       uses = ap (λ ns. map (named_use ns) new.uses) classes-same ∙ uses;
       used = subst (λ ns. All (IsUse ns) new.uses) (sym classes-same) used;
     })

@@ -17,7 +17,7 @@ use Rattle.ld_held.specs.Inner.Locks.{Hold}
 use Rattle.ld_rules.specs.Outcome.{classes, each_once}
 use Rattle.ld_rules.specs.Held.{class_acquired}
 use Rattle.ld_rules.specs.Inner.Scanned.{same_dependency_seen, with_new}
-use Rattle.ld_facts.specs.Inner.Reading.{HeldLock, IsEdge, named_hold}
+use Rattle.ld_facts.specs.Inner.Reading.{HeldLock, IsBetween, named_hold}
 use Rattle.ld_facts.specs.Facts.{named_dependency}
 use Rattle.ld_rules.proofs.PlaceLemmas.{by_pushes}
 use Rattle.ld_rules.proofs.StepLemmas.{names-more}
@@ -38,18 +38,18 @@ module _ (names : List PlainClass) (distinct : AreDistinct names) where
       (λ h. by_numbers.1 (distinct i j (slice_index_or names j no_class) (low_i, by_names.0 h) (low_j, refl)))
       (λ h. by_names.1 (ap (λ k. slice_index_or names k no_class) (by_numbers.0 h)))
 
-  same_named : (a b : EdgeFact) → IsEdge names a → IsEdge names b → same_dependency_seen (named_dependency names a) (named_dependency names b) ≡ same_pair a b
+  same_named : (a b : EdgeFact) → IsBetween names a → IsBetween names b → same_dependency_seen (named_dependency names a) (named_dependency names b) ≡ same_pair a b
   same_named a b in_a in_b = λ i. numbers_by_name a.from b.from in_a.0 in_b.0 i && numbers_by_name a.to b.to in_a.1 in_b.1 i
 
-  any_named : (edges : List EdgeFact) (edge : EdgeFact) → All (IsEdge names) edges → IsEdge names edge → list_any (same_dependency_seen (named_dependency names edge))
+  any_named : (edges : List EdgeFact) (edge : EdgeFact) → All (IsBetween names) edges → IsBetween names edge → list_any (same_dependency_seen (named_dependency names edge))
       (map (named_dependency names) edges) ≡ list_any (same_pair edge) edges
   any_named [] edge within here = refl
   any_named (x ∷ xs) edge within here =
-      let first = same_named edge x here (All-head (IsEdge names) x xs within) in
-      let rest = any_named xs edge (All-tail (IsEdge names) x xs within) here in
+      let first = same_named edge x here (All-head (IsBetween names) x xs within) in
+      let rest = any_named xs edge (All-tail (IsBetween names) x xs within) here in
       (λ i. first i || rest i)
 
-pub with_edge_fact-named : (names : List PlainClass) → AreDistinct names → (edges : List EdgeFact) (edge : EdgeFact) → All (IsEdge names) edges → IsEdge
+pub with_edge_fact-named : (names : List PlainClass) → AreDistinct names → (edges : List EdgeFact) (edge : EdgeFact) → All (IsBetween names) edges → IsBetween
     names edge → map (named_dependency names) (with_edge_fact edges edge) ≡ with_new same_dependency_seen (map (named_dependency names) edges) (named_dependency names edge)
 with_edge_fact-named names distinct edges edge within here =
     map-append (named_dependency names) edges (if list_any (same_pair edge) edges then [] else edge ∷ [])
@@ -60,27 +60,27 @@ with_edge_fact-named names distinct edges edge within here =
     by true = refl
     by false = refl
 
-pub within-with_edge_fact : (names : List PlainClass) (edges : List EdgeFact) (edge : EdgeFact) → All (IsEdge names) edges → IsEdge names edge → All (IsEdge names) (with_edge_fact edges edge)
-within-with_edge_fact names edges edge within here = All-append (IsEdge names) edges (if list_any (same_pair edge) edges then [] else edge ∷ []) within (by (list_any (same_pair edge) edges))
+pub within-with_edge_fact : (names : List PlainClass) (edges : List EdgeFact) (edge : EdgeFact) → All (IsBetween names) edges → IsBetween names edge → All (IsBetween names) (with_edge_fact edges edge)
+within-with_edge_fact names edges edge within here = All-append (IsBetween names) edges (if list_any (same_pair edge) edges then [] else edge ∷ []) within (by (list_any (same_pair edge) edges))
   where
-    by : (b : Bool) → All (IsEdge names) (if b then [] else edge ∷ [])
-    by true = All-nil (IsEdge names)
-    by false = All-cons (IsEdge names) edge [] here (All-nil (IsEdge names))
+    by : (b : Bool) → All (IsBetween names) (if b then [] else edge ∷ [])
+    by true = All-nil (IsBetween names)
+    by false = All-cons (IsBetween names) edge [] here (All-nil (IsBetween names))
 
 -- the dependencies on one class from others, told at one line
-pub tell-named : (names : List PlainClass) → AreDistinct names → (edges : List EdgeFact) (line class : ℕ) (froms : List ℕ) → All (IsEdge names) edges
+pub tell-named : (names : List PlainClass) → AreDistinct names → (edges : List EdgeFact) (line class : ℕ) (froms : List ℕ) → All (IsBetween names) edges
     → class < length names → All (λ from. from < length names) froms → map (named_dependency names) (fold with_edge_fact edges (map (edge_to class line) froms)) ≡
     fold (with_new same_dependency_seen) (map (named_dependency names) edges)
     (map (λ from. record { what = record { from = slice_index_or names from no_class; to = slice_index_or names class no_class }; line = line }) froms)
 tell-named names distinct edges line class [] within inside all = refl
 tell-named names distinct edges line class (from ∷ froms) within inside all =
-    let here : IsEdge names (edge_to class line from) = (All-head (λ f. f < length names) from froms all, inside) in
+    let here : IsBetween names (edge_to class line from) = (All-head (λ f. f < length names) from froms all, inside) in
     tell-named names distinct (with_edge_fact edges (edge_to class line from)) line class froms
     (within-with_edge_fact names edges (edge_to class line from) within here) inside (All-tail (λ f. f < length names) from froms all)
     ∙ ap (λ zs. fold (with_new same_dependency_seen) zs (map (λ f. named_dependency names (edge_to class line f)) froms)) (with_edge_fact-named names distinct edges (edge_to class line from) within here)
 
-pub within-tell : (names : List PlainClass) (edges : List EdgeFact) (line class : ℕ) (froms : List ℕ) → All (IsEdge names) edges → class < length
-    names → All (λ from. from < length names) froms → All (IsEdge names) (fold with_edge_fact edges (map (edge_to class line) froms))
+pub within-tell : (names : List PlainClass) (edges : List EdgeFact) (line class : ℕ) (froms : List ℕ) → All (IsBetween names) edges → class < length
+    names → All (λ from. from < length names) froms → All (IsBetween names) (fold with_edge_fact edges (map (edge_to class line) froms))
 within-tell names edges line class [] within inside all = within
 within-tell names edges line class (from ∷ froms) within inside all =
     within-tell names (with_edge_fact edges (edge_to class line from)) line class froms
@@ -104,17 +104,17 @@ name-more names name i low = by (is_some (place_of names name))
 pub IsNameAt-more : (names : List PlainClass) (name : PlainClass) (i : ℕ) (other : PlainClass) → IsNameAt names i other → IsNameAt (with_name names name) i other
 IsNameAt-more names name i other at = (number-more names name i at.0, name-more names name i at.0 ∙ at.1)
 
-pub named-more : (names : List PlainClass) (name : PlainClass) (edges : List EdgeFact) → All (IsEdge names) edges → map (named_dependency (with_name names name)) edges ≡ map (named_dependency names) edges
+pub named-more : (names : List PlainClass) (name : PlainClass) (edges : List EdgeFact) → All (IsBetween names) edges → map (named_dependency (with_name names name)) edges ≡ map (named_dependency names) edges
 named-more names name [] within = refl
 named-more names name (x ∷ xs) within =
-    let here = All-head (IsEdge names) x xs within in
+    let here = All-head (IsBetween names) x xs within in
     let from_same = name-more names name x.from here.0 in
     let to_same = name-more names name x.to here.1 in
-    let rest = named-more names name xs (All-tail (IsEdge names) x xs within) in
+    let rest = named-more names name xs (All-tail (IsBetween names) x xs within) in
     (λ i. record { what = record { from = from_same i; to = to_same i }; line = x.line } ∷ rest i)
 
-pub within-more : (names : List PlainClass) (name : PlainClass) (edges : List EdgeFact) → All (IsEdge names) edges → All (IsEdge (with_name names name)) edges
-within-more names name edges within = All-weaker (IsEdge names) (IsEdge (with_name names name)) (λ x here. (number-more names name x.from here.0, number-more names name x.to here.1)) edges within
+pub within-more : (names : List PlainClass) (name : PlainClass) (edges : List EdgeFact) → All (IsBetween names) edges → All (IsBetween (with_name names name)) edges
+within-more names name edges within = All-weaker (IsBetween names) (IsBetween (with_name names name)) (λ x here. (number-more names name x.from here.0, number-more names name x.to here.1)) edges within
 
 pub distinct-each_once : (names : List PlainClass) → AreDistinct (each_once same_class names)
 distinct-each_once names = by_pushes (λ ns. AreDistinct (each_once same_class ns)) none (λ ns n h. subst AreDistinct (sym (names-more ns n)) (apart-with_one same_class no_class same_class-Decides (each_once same_class ns) n h)) names

@@ -6,10 +6,10 @@ use Rattle.ld_rules.specs.declared.outcome.TheConstants.{MOST_CLASSES}
 use Rattle.ld_facts.specs.declared.scan.Before.{Before}
 use Rattle.ld_facts.specs.declared.scan.Scan.{Scan}
 use Rattle.ld_facts.specs.Facts.{IsUse}
-use Rattle.ld_facts.specs.Inner.Reading.{IsAt, IsEdge, StandsOn, begun, start_of, undone}
+use Rattle.ld_facts.specs.Inner.Reading.{IsAt, IsBetween, StandsOn, begun, start_of, undone}
 
 -- it is at what the scan has, before its first event
-pub begun-at : (scan : Scan) → AreDistinct scan.classes → All (IsEdge scan.classes) scan.locks.edges → All (IsUse scan.classes) scan.uses →
+pub begun-at : (scan : Scan) → AreDistinct scan.classes → All (IsBetween scan.classes) scan.locks.edges → All (IsUse scan.classes) scan.uses →
     length scan.classes + MOST_CLASSES ≤ MOST_NAMES → IsAt (start_of scan) [] (begun scan)
 begun-at scan distinct within used room = record {
   clean = refl;

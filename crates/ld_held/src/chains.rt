@@ -20,6 +20,9 @@ pub struct Link {
 /// How many numbers of pairs are kept with the chains at most, but for those of one chain.
 const MOST_KEPT: usize = 1 << 19;
 
+// No clause says how many are kept.
+const _: () = prove!(MOST_KEPT == 524_288);
+
 /// The chains that were met, each once. They are the nodes of a tree, and are numbered from 0.
 #[derive(Drop)]
 pub struct Chains {

@@ -31,8 +31,8 @@ pub struct Pair {
 
 /// Dependencies, each pair of classes once, with the line that was told first.
 ///
-/// Pairs have numbers, which they keep when the dependencies are taken away, so that one that is met
-/// again isn't looked up.
+/// Pairs have numbers, which they keep when the dependencies are taken away, so that a chain that is met
+/// again tells its pairs without looking them up.
 ///
 /// A call answers `AllocError` where a growth of memory was refused.
 #[derive(Drop)]

@@ -114,7 +114,8 @@ impl<'a> Locks<'a> {
         self.told.cut(self.before.told);
     }
 
-    /// Takes all away. The memory stays; and so do the chains that were met, while they are few.
+    /// Takes all away. The memory stays; and so do the chains that were met and the numbers of
+    /// pairs, while there is room for further ones ([`Chains::has_room`]).
     pub fn clear(&mut self)
         ensures { self.new ≡ record { stacks = []; interrupts = []; edges = []; before = [] } }
     {

@@ -7,7 +7,7 @@ use Rattle.std.proofs.lemmas.List.{get_or_push, get_or_append_left, get_or-set_s
 use Rattle.std.proofs.lemmas.List.Folds.{Any-from_list_any, list_any_at}
 use Rattle.std.proofs.lemmas.List.Sums.{position_or_len_is}
 use Rattle.std.specs.List.{list_any, position_or_len}
-use Rattle.ld_numbers.specs.Numbers.{AreAtPlaces}
+use Rattle.ld_numbers.specs.Inner.Numbers.{AreAtPlaces}
 
 -- a number stands at its place
 record IsHere (order place : List ℕ) (number : ℕ) : Type 0 where

@@ -23,7 +23,7 @@ pub struct Numbers {
 
 impl Model for Numbers {
     ghost use Rattle.std.specs.Prelude.{List, ℕ};
-    ghost use Rattle.ld_numbers.specs.Numbers.{AreAtPlaces};
+    ghost use Rattle.ld_numbers.specs.Inner.Numbers.{AreAtPlaces};
 
     ghost Value = { List ℕ };
 

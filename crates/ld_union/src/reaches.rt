@@ -10,10 +10,10 @@ ghost use Rattle.ld_union.specs.Inner.States.{of_state};
 
 use crate::news::NewBit;
 use crate::states::PerState;
-use ld_class::Usage;
 use ld_graph::{Edge, Graph};
 use ld_reach::Reach;
 use ld_trace::State;
+use ld_usage::Usage;
 use std::alloc::{AllocError, Global};
 
 impl PerState<Reach> {

@@ -1,14 +1,14 @@
-//! The usage bits of a trace's numbered classes.
+//! The usage bits of the numbered classes of some traces.
 ghost use Rattle.std.specs.Prelude.{◌≡◌, ◌<◌, ◌-◌, ℕ, [], ◌∷◌, fold, length, map, slice_index_or, take};
 ghost use Rattle.std.specs.Prelude.{vec_len, OnErr, OnOk};
-ghost use Rattle.ld_class.specs.Usage.{no_bits};
+ghost use Rattle.ld_usage.specs.Usage.{no_bits};
 ghost use Rattle.ld_rules.specs.Usage.{IsBit};
 ghost use Rattle.ld_uses.specs.Inner.Uses.{in_facts, on_facts, use_at, with_use};
 
 use bitflags::Flags;
-use ld_class::Usage;
 use ld_held::{Held, Interrupts};
 use ld_trace::State;
+use ld_usage::Usage;
 use std::alloc::{AllocError, Global};
 use std::marker::Model;
 
@@ -26,7 +26,7 @@ pub struct UsageFact {
 /// Usage bits, each of each class once, with the line at which it came first.
 ///
 /// A call answers `AllocError` where a growth of memory was refused. It may have noted some bits then,
-/// so the owner gives the whole up.
+/// so the owner takes the trace back, or gives the whole up.
 #[derive(Drop)]
 pub struct Uses {
     facts: Vec<UsageFact>,

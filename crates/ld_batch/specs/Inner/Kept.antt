@@ -65,7 +65,7 @@ pub record IsRead (old : Scan) (source : PlainSource) (new : Scan) : Type 0 wher
   pub distinct : AreDistinct new.classes
   pub edges : (start_of new).edges
       ≡ fold (with_new same_dependency_seen) (start_of old).edges (dependencies_of source)
-  pub within : All (reading.IsEdge new.classes) new.locks.edges
+  pub within : All (reading.IsBetween new.classes) new.locks.edges
   pub uses : (start_of new).uses
       ≡ fold (with_new same_use_seen) (start_of old).uses (uses_of source)
   pub used : All (facts.IsUse new.classes) new.uses

@@ -61,8 +61,8 @@ abbrev pub own_names : Scan → List PlainClass
 own_names scan = names_at scan.classes scan.own
 
 -- the numbers of a dependency's classes are numbers of classes
-abbrev pub IsEdge : List PlainClass → EdgeFact → Type 0
-IsEdge classes edge = (edge.from < length classes) × (edge.to < length classes)
+abbrev pub IsBetween : List PlainClass → EdgeFact → Type 0
+IsBetween classes edge = (edge.from < length classes) × (edge.to < length classes)
 
 -- a lock that is held, and the class by which it was acquired
 pub record HeldLock : Type 0 where
@@ -112,7 +112,7 @@ pub record IsAt (start : Start) (all : List Position) (scan : Scan) : Type 0 whe
       (slice_index_or scan.locks.interrupts id fresh) (events all) name
   pub shallow : (id : ℕ) → length (slice_index_or scan.locks.stacks id []) ≤ MOST_HELD
   pub edges : map (named_dependency scan.classes) scan.locks.edges ≡ edges_after start all
-  pub within : All (IsEdge scan.classes) scan.locks.edges
+  pub within : All (IsBetween scan.classes) scan.locks.edges
   pub uses : map (named_use scan.classes) scan.uses ≡ uses_after start all
   pub used : All (IsUse scan.classes) scan.uses
 

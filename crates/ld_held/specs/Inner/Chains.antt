@@ -24,7 +24,8 @@ IsTree links =
 abbrev pub same_link : Link → Link → Bool
 same_link a b = option_eq nat_eq a.before b.before && a.class == b.class
 
--- the chains, and of those of which they are kept the numbers of the pairs of their last class
+-- the chains, and of each, where they are kept, the numbers of the pairs from each class before its
+-- last one to that
 pub record KeptChains : Type 0 where
   pub links : List Link
   pub numbers : List (Option (List ℕ))

@@ -115,7 +115,7 @@ pub record AreTied (stacks : List PlainStack) (chains : List (List ℕ)) (told :
   pub complete : All (λ number. HasItsEdges chains edges number) told
 
 -- of what was there when the trace began, the dependencies of each chain that was told are there too
-pub record IsBefore (before : Before) (chains : List (List ℕ)) (told : List ℕ)
+pub record IsAtStart (before : Before) (chains : List (List ℕ)) (told : List ℕ)
     (edges : List EdgeFact) : Type 0 where
   pub edges_within : before.edges ≤ length edges
   pub told_within : before.told ≤ length told
@@ -126,7 +126,7 @@ pub record IsBefore (before : Before) (chains : List (List ℕ)) (told : List �
 pub record IsKept (stacks : List PlainStack) (chains : KeptChains) (told : List ℕ)
     (edges : KeptEdges) (before : Before) : Type 0 where
   pub tied : AreTied stacks (chains_of chains.links) told edges.edges
-  pub mark : IsBefore before (chains_of chains.links) told edges.edges
+  pub start : IsAtStart before (chains_of chains.links) told edges.edges
   pub numbered : HasItsNumbers (chains_of chains.links) chains.numbers edges.pairs
 
 -- it is of this lock

@@ -114,7 +114,7 @@ pub invariant_of-self : goal.invariant_of-self
 invariant_of-self t c = record {
   tied = tied c.self.inside.stacks c.self.inside.edges.edges c.args.self.now c.args.task c.held-held.result.now c.self.view_is c.held-held.ensures.held
       c.args.place c.requires.inner c.requires.held c.requires.task c.truncate.new.self c.truncate.ensures (chains_of c.self.inside.chains.links) c.self.inside.told c.self.invariant.tied;
-  mark = c.self.invariant.mark;
+  start = c.self.invariant.start;
   numbered = c.self.invariant.numbered;
 }
 
@@ -127,7 +127,7 @@ pub invariant_of-self-2 : goal.invariant_of-self-2
 invariant_of-self-2 t c = record {
   tied = tied c.self.inside.stacks c.self.inside.edges.edges c.args.self.now c.args.task c.held-held.result.now c.self.view_is c.held-held.ensures.held
       c.args.place c.requires.inner c.requires.held c.requires.task c.truncate-2.new.self c.truncate-2.ensures (chains_of c.self.inside.chains.links) c.self.inside.told c.self.invariant.tied;
-  mark = c.self.invariant.mark;
+  start = c.self.invariant.start;
   numbered = c.self.invariant.numbered;
 }
 

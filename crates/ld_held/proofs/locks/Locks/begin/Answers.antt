@@ -11,7 +11,7 @@ invariant_of-self c =
       tied =
           subst (λ ss. AreTied ss (chains_of c.self.inside.chains.links) c.self.inside.told c.self.inside.edges.edges) (sym c.begin.ensures)
           (tied_none (chains_of c.self.inside.chains.links) c.self.inside.told c.self.inside.edges.edges c.self.invariant.tied.complete);
-      mark = before_now (chains_of c.self.inside.chains.links) c.self.inside.told c.self.inside.edges.edges c.self.invariant.tied.complete
+      start = before_now (chains_of c.self.inside.chains.links) c.self.inside.told c.self.inside.edges.edges c.self.invariant.tied.complete
           (record { edges = length c.as_slice.result.now; told = c.len.result }) (ap length c.as_slice.ensures) c.len.ensures.len;
       numbered = c.self.invariant.numbered;
     }

@@ -16,7 +16,7 @@ invariant_of-self c = record {
       (chained_entered (chains_of c.self.inside.chains.links) (get_or c.self.inside.stacks c.args.task empty_stack).held c.args.state c.held-start.result.now
       (get_or c.self.inside.stacks c.args.task empty_stack).interrupts c.interrupts-interrupts.result c.enter.new.self
       c.held-start.ensures.held c.interrupts-interrupts.ensures c.enter.ensures (c.self.invariant.tied.chained c.args.task));
-  mark = c.self.invariant.mark;
+  start = c.self.invariant.start;
   numbered = c.self.invariant.numbered;
 }
 

@@ -18,7 +18,7 @@ invariant_of-self c = record {
       ∙ sym (ap length (holds_shown c.self.inside.stacks c.self.inside.edges.edges c.args.self.now c.args.task c.self.view_is))
       ∙ length-map (get_or c.self.inside.stacks c.args.task empty_stack).held hold_of)
       c.interrupts-interrupts.ensures c.exit.ensures (c.self.invariant.tied.chained c.args.task));
-  mark = c.self.invariant.mark;
+  start = c.self.invariant.start;
   numbered = c.self.invariant.numbered;
 }
 

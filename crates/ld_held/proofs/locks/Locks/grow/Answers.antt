@@ -7,6 +7,6 @@ invariant_of-self c = record {
   tied =
       tied_grown c.self.inside.stacks (chains_of c.self.inside.chains.links) c.self.inside.told c.self.inside.edges.edges c.self.invariant.tied c.grow.result
       c.grow.new.self c.grow.ensures.grown c.grow.ensures.refused;
-  mark = c.self.invariant.mark;
+  start = c.self.invariant.start;
   numbered = c.self.invariant.numbered;
 }

@@ -3,7 +3,7 @@ use Rattle.std.proofs.lemmas.List.{map-append}
 use Rattle.ld_held.specs.Inner.Stacks.{PlainHeld, empty_stack}
 use Rattle.ld_trace.specs.Events.{plain_lock}
 use Rattle.ld_held.specs.Inner.Chains.{chains_of}
-use Rattle.ld_held.specs.Inner.Locks.{AreTied, Hold, IsBefore, hold_of, held_by_tasks}
+use Rattle.ld_held.specs.Inner.Locks.{AreTied, Hold, IsAtStart, hold_of, held_by_tasks}
 use Rattle.ld_held.proofs.BeforeLemmas.{before_extended}
 use Rattle.ld_held.proofs.LockLemmas.{classes_shown, holds_at, numbered, numbered_as, start_within, tied_push, shown_held, within_shown}
 use Rattle.ld_held.proofs.locks.Locks.hold.Goals as goal
@@ -31,8 +31,8 @@ invariant_of-self-2 c = record {
       (within_shown c.self.inside.stacks c.self.inside.edges.edges c.args.self.now c.args.task c.self.view_is c.requires.task) (chains_of c.extended.new.chains.links)
       c.extended.ensures.more c.in_ok-chain.ensures.within
       (c.in_ok-chain.ensures.chain ∙ ap (λ cs. cs ++ c.args.class ∷ []) (classes_shown (get_or c.self.inside.stacks c.args.task empty_stack) c.innermost-stack.result.now c.innermost-stack.ensures.held))));
-  mark = subst (λ es. IsBefore c.self.inside.before (chains_of c.extended.new.chains.links) c.self.inside.told es) (sym c.extended.ensures.edges)
-      (before_extended c.self.inside.before (chains_of c.self.inside.chains.links) c.self.inside.told c.self.inside.edges.edges c.self.invariant.mark
+  start = subst (λ es. IsAtStart c.self.inside.before (chains_of c.extended.new.chains.links) c.self.inside.told es) (sym c.extended.ensures.edges)
+      (before_extended c.self.inside.before (chains_of c.self.inside.chains.links) c.self.inside.told c.self.inside.edges.edges c.self.invariant.start
       (chains_of c.extended.new.chains.links) c.extended.ensures.more);
   numbered = c.extended.ensures.numbered;
 }

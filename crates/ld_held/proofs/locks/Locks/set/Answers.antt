@@ -13,7 +13,7 @@ invariant_of-self c = record {
       (within_shown c.self.inside.stacks c.self.inside.edges.edges c.args.self.now c.args.task c.self.view_is c.requires.task)
       (subst (AreChainedIn (chains_of c.self.inside.chains.links) (get_or c.self.inside.stacks c.args.task empty_stack).held)
       (sym (c.set.ensures.starts ∙ ap starts_of c.interrupts-interrupts.ensures)) (c.self.invariant.tied.chained c.args.task));
-  mark = c.self.invariant.mark;
+  start = c.self.invariant.start;
   numbered = c.self.invariant.numbered;
 }
 

@@ -6,7 +6,7 @@ use Rattle.ld_held.specs.declared.locks.Before.{Before}
 use Rattle.ld_held.specs.Inner.Stacks.{PlainStack, empty_stack}
 use Rattle.ld_held.specs.Inner.Chains.{KeptChains, chains_of}
 use Rattle.ld_held.specs.Inner.Edges.{KeptEdges, edge_to, with_edge_fact}
-use Rattle.ld_held.specs.Inner.Locks.{AreTied, IsBefore, IsExtended, IsKept, held_by_tasks}
+use Rattle.ld_held.specs.Inner.Locks.{AreTied, IsAtStart, IsExtended, IsKept, held_by_tasks}
 use Rattle.ld_held.proofs.BeforeLemmas.{before_extended, before_more, before_same, before_told}
 use Rattle.ld_held.proofs.LockLemmas.{classes_shown, known_told, numbered, numbered_as, start_within, tied_extended, tied_more, tied_told, told_now, told_shown}
 use Rattle.ld_held.proofs.NumberedLemmas.{known_numbers, numbered_more}
@@ -32,20 +32,20 @@ module _ (stacks : List PlainStack) (chains_before after : KeptChains) (told : L
   tied_here = subst (λ es. AreTied stacks (chains_of after.links) told es) (sym same)
       (tied_extended stacks (chains_of chains_before.links) told old.edges kept.tied (chains_of after.links) more)
 
-  mark_here : IsBefore before (chains_of after.links) told now.edges
-  mark_here = subst (λ es. IsBefore before (chains_of after.links) told es) (sym same)
-      (before_extended before (chains_of chains_before.links) told old.edges kept.mark (chains_of after.links) more)
+  start_here : IsAtStart before (chains_of after.links) told now.edges
+  start_here = subst (λ es. IsAtStart before (chains_of after.links) told es) (sym same)
+      (before_extended before (chains_of chains_before.links) told old.edges kept.start (chains_of after.links) more)
 
   -- once more is told
   module _ (new : List EdgeFact) (keeps : (test : EdgeFact → Bool) → list_any test now.edges ≡ true → list_any test new ≡ true) (first : take (length now.edges) new ≡ now.edges) where
     tied_then : AreTied stacks (chains_of after.links) told new
     tied_then = tied_more stacks (chains_of after.links) told now.edges tied_here new keeps
 
-    mark_then : IsBefore before (chains_of after.links) told new
-    mark_then = before_more before (chains_of after.links) told now.edges mark_here new first
+    start_then : IsAtStart before (chains_of after.links) told new
+    start_then = before_more before (chains_of after.links) told now.edges start_here new first
 
     same_then : take before.edges new ≡ take before.edges old.edges
-    same_then = before_same before (chains_of after.links) told now.edges mark_here new first ∙ ap (take before.edges) same
+    same_then = before_same before (chains_of after.links) told now.edges start_here new first ∙ ap (take before.edges) same
 
 pub returns-then-has-clause-told : goal.returns-then-has-clause-told
 returns-then-has-clause-told c =
@@ -71,8 +71,8 @@ invariant_of-self-in_err-tell_to c = record {
   tied =
       tied_then c.self.inside.stacks c.self.inside.chains c.extended.new.chains c.self.inside.told c.self.inside.edges c.extended.new.edges c.self.inside.before c.self.invariant
       c.extended.ensures.more c.extended.ensures.edges c.tell_to.new.self.edges c.tell_to.ensures.kept c.tell_to.ensures.first;
-  mark =
-      mark_then c.self.inside.stacks c.self.inside.chains c.extended.new.chains c.self.inside.told c.self.inside.edges c.extended.new.edges c.self.inside.before c.self.invariant
+  start =
+      start_then c.self.inside.stacks c.self.inside.chains c.extended.new.chains c.self.inside.told c.self.inside.edges c.extended.new.edges c.self.inside.before c.self.invariant
       c.extended.ensures.more c.extended.ensures.edges c.tell_to.new.self.edges c.tell_to.ensures.kept c.tell_to.ensures.first;
   numbered = numbered_more (chains_of c.extended.new.chains.links) c.extended.new.chains.numbers c.extended.new.edges.pairs c.tell_to.new.self.pairs c.tell_to.ensures.more
       c.extended.ensures.numbered;
@@ -84,7 +84,7 @@ invariant_of-self-2 c =
     let new = c.tell_to.new.self.edges in
     let tied = tied_then c.self.inside.stacks c.self.inside.chains c.extended.new.chains c.self.inside.told c.self.inside.edges c.extended.new.edges c.self.inside.before
     c.self.invariant c.extended.ensures.more c.extended.ensures.edges new c.tell_to.ensures.kept c.tell_to.ensures.first in
-    let mark = mark_then c.self.inside.stacks c.self.inside.chains c.extended.new.chains c.self.inside.told c.self.inside.edges c.extended.new.edges c.self.inside.before
+    let start = start_then c.self.inside.stacks c.self.inside.chains c.extended.new.chains c.self.inside.told c.self.inside.edges c.extended.new.edges c.self.inside.before
     c.self.invariant c.extended.ensures.more c.extended.ensures.edges new c.tell_to.ensures.kept c.tell_to.ensures.first in
     let here = tied_here c.self.inside.stacks c.self.inside.chains c.extended.new.chains c.self.inside.told c.self.inside.edges c.extended.new.edges c.self.inside.before
     c.self.invariant c.extended.ensures.more c.extended.ensures.edges in
@@ -94,7 +94,7 @@ invariant_of-self-2 c =
           (told_now c.self.inside.stacks chains c.self.inside.told c.extended.new.edges.edges here (map (λ (h : Held). h.class) c.innermost-stack.result.now)
           c.args.class c.args.line c.in_ok-chain.chain new c.in_ok-chain.ensures.within c.in_ok-chain.ensures.chain c.in_ok-tell_to.ensures.told)
           c.add.ensures.added c.add.ensures.refused;
-      mark = before_told c.self.inside.before chains c.self.inside.told new mark c.add.result c.in_ok-chain.chain c.add.new.self c.add.ensures.added c.add.ensures.refused;
+      start = before_told c.self.inside.before chains c.self.inside.told new start c.add.result c.in_ok-chain.chain c.add.new.self c.add.ensures.added c.add.ensures.refused;
       numbered = numbered_more chains c.extended.new.chains.numbers c.extended.new.edges.pairs c.tell_to.new.self.pairs c.tell_to.ensures.more c.extended.ensures.numbered;
     }
 

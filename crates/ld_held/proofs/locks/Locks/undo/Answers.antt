@@ -7,7 +7,7 @@ use Rattle.ld_held.proofs.locks.Locks.undo.Goals as goal
 
 pub invariant_of-self : goal.invariant_of-self
 invariant_of-self c =
-    undone c.self.inside.before c.self.inside.chains c.self.inside.told c.self.inside.edges c.self.invariant.mark c.self.invariant.numbered
+    undone c.self.inside.before c.self.inside.chains c.self.inside.told c.self.inside.edges c.self.invariant.start c.self.invariant.numbered
     c.begin.new.self c.cut-2.new.self c.cut.new.self c.begin.ensures c.cut-2.ensures c.cut.ensures
 
 pub returns : goal.returns

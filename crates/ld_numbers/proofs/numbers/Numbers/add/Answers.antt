@@ -1,7 +1,7 @@
 use Rattle.std.proofs.Common.{◌≡◌, ◌∷◌, [], ◌++◌, ◌∙◌, false, length, nat_eq, set, ap, subst, sym, arith}
 use Rattle.std.proofs.lemmas.Grind.{common_steps}
 use Rattle.std.specs.List.{list_any}
-use Rattle.ld_numbers.specs.Numbers.{AreAtPlaces}
+use Rattle.ld_numbers.specs.Inner.Numbers.{AreAtPlaces}
 use Rattle.ld_numbers.proofs.NumberLemmas.{pushed, reached}
 use Rattle.ld_numbers.proofs.numbers.Numbers.add.Goals as goal
 
