@@ -12,7 +12,7 @@ use Rattle.ld_class.proofs.NameLemmas.{same_class-Decides}
 use Rattle.ld_trace.specs.declared.event.State.{State}
 use Rattle.ld_trace.specs.declared.event.State.TheVariants.{Hard, Soft}
 use Rattle.ld_trace.specs.Events.{PlainEvent, PlainLock, Position}
-use Rattle.ld_held.specs.declared.interrupts.Interrupts.{Interrupts}
+use Rattle.ld_frames.specs.declared.interrupts.Interrupts.{Interrupts}
 use Rattle.ld_rules.specs.declared.outcome.TheConstants.{MOST_CLASSES, MOST_HELD, MOST_TASKS}
 use Rattle.ld_held.specs.declared.edges.EdgeFact.{EdgeFact}
 use Rattle.ld_facts.specs.declared.scan.Scan.{Scan}
@@ -23,7 +23,7 @@ use Rattle.ld_rules.specs.Frames.{contexts, frame_of, task_of}
 use Rattle.ld_rules.specs.Held.{Acquisition, class_awaited, held_by, held_in}
 use Rattle.ld_rules.specs.Dependency.{Dependency, Seen, dependencies_at, dependencies_to, seen_at}
 use Rattle.ld_rules.specs.Usage.{Use, uses_in}
-use Rattle.ld_held.specs.Inner.Interrupts.{enabled_now, fresh, start_now}
+use Rattle.ld_frames.specs.Inner.Interrupts.{enabled_now, fresh, start_now}
 use Rattle.ld_rules.specs.Inner.Levels.{stack, state_of_frame}
 use Rattle.ld_held.specs.Inner.Locks.{Hold}
 use Rattle.ld_rules.specs.Outcome.{classes, events}

@@ -13,7 +13,7 @@ use Rattle.ld_trace.specs.declared.event.State.TheVariants.{Hard, Soft}
 use Rattle.ld_trace.specs.Events.{PlainEvent, Position}
 use Rattle.ld_trace.specs.Events.PlainEvent.{Enter, Exit, Enable, Disable, Begin}
 use Rattle.ld_rules.specs.declared.fault.TraceFault.TheVariants.{BadEnable, BadExit, BadNest, HeldAtExit, LateBegin, Masked}
-use Rattle.ld_held.specs.declared.interrupts.Interrupts.{Interrupts}
+use Rattle.ld_frames.specs.declared.interrupts.Interrupts.{Interrupts}
 use Rattle.ld_rules.specs.declared.outcome.TheConstants.{MOST_HELD, MOST_TASKS}
 use Rattle.ld_facts.specs.declared.scan.Scan.{Scan}
 use Rattle.ld_uses.specs.declared.uses.UsageFact.{UsageFact}
@@ -22,7 +22,7 @@ use Rattle.ld_facts.specs.Facts.{named_use}
 use Rattle.ld_rules.specs.Flags.{flag_for, is_enabled, same_state}
 use Rattle.ld_rules.specs.Frames.{contexts, frame_of, task_of}
 use Rattle.ld_rules.specs.Held.{class_awaited, held_by, held_in}
-use Rattle.ld_held.specs.Inner.Interrupts.{IsEntered, IsLeft, IsSet, enabled_now, fresh, levels_of, nests_in, start_now, states_of}
+use Rattle.ld_frames.specs.Inner.Interrupts.{IsEntered, IsLeft, IsSet, enabled_now, fresh, levels_of, nests_in, start_now, states_of}
 use Rattle.ld_rules.specs.Inner.Levels.{stack, state_of_frame}
 use Rattle.ld_held.specs.Inner.Locks.{Hold, ChangesInterrupts, HeldByTasks}
 use Rattle.ld_rules.specs.Open.{is_some_and}

@@ -5,7 +5,7 @@ ghost use Rattle.ld_class.specs.Names.{place_of, place_of_task, plain_class, wit
 ghost use Rattle.ld_class.specs.declared.names.TheConstants.{MOST_NAMES};
 ghost use Rattle.ld_trace.specs.Events.{Position, plain_event, plain_lock};
 ghost use Rattle.ld_trace.specs.Events.PlainEvent.{Begin, Disable, Enable, Enter, Exit, Release};
-ghost use Rattle.ld_held.specs.Inner.Interrupts.{fresh};
+ghost use Rattle.ld_frames.specs.Inner.Interrupts.{fresh};
 ghost use Rattle.ld_rules.specs.Outcome.{event_fault, events};
 ghost use Rattle.ld_facts.specs.Inner.Reading.{AreMany, HasTask, IsAt, Start, acquisition, happens};
 ghost use Rattle.ld_facts.specs.Inner.Reading.{StandsOn, fresh_scan, own_names, taken, waited};
@@ -16,7 +16,8 @@ ghost use Rattle.ld_rules.specs.declared.outcome.TheConstants.{MOST_CLASSES, MOS
 use crate::stop::Stop;
 use crate::taking::Taking;
 use ld_class::{ClassName, Classes, RecentNames};
-use ld_held::{Flag, Locks};
+use ld_frames::Flag;
+use ld_held::Locks;
 use ld_numbers::Numbers;
 use ld_rules::{MOST_CLASSES, MOST_HELD, MOST_TASKS, TraceFault};
 use ld_trace::{Event, Lock, State};

@@ -19,9 +19,9 @@ use Rattle.ld_held.specs.Inner.Chains.{chain_before}
 use Rattle.ld_held.specs.Inner.Edges.{same_pair, edge_to, with_edge_fact}
 use Rattle.ld_held.specs.declared.held.Held.{Held}
 use Rattle.ld_trace.specs.Events.{PlainLock}
-use Rattle.ld_held.specs.declared.interrupts.Interrupts.{Interrupts}
+use Rattle.ld_frames.specs.declared.interrupts.Interrupts.{Interrupts}
 use Rattle.ld_trace.specs.declared.event.State.{State}
-use Rattle.ld_held.specs.Inner.Interrupts.{IsEntered, IsLeft, fresh, start_now, starts_of}
+use Rattle.ld_frames.specs.Inner.Interrupts.{IsEntered, IsLeft, fresh, start_now, starts_of}
 use Rattle.ld_held.specs.Inner.Stacks.{PlainHeld, PlainStack, empty_stack, inner, plain_held, holds}
 use Rattle.ld_rules.specs.Inner.Scanned.{remove_last}
 use Rattle.ld_held.specs.Inner.Locks.{Hold, HeldByTasks, ChangesInterrupts, is_of, hold_of, holds_of, held_by_tasks, classes_held}

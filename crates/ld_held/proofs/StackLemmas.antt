@@ -8,7 +8,7 @@ use Rattle.ld_trace.specs.Events.{PlainLock, plain_lock}
 use Rattle.ld_rules.specs.Held.{same_lock}
 use Rattle.ld_held.specs.declared.held.Held.{Held}
 use Rattle.ld_held.specs.declared.held.Stack.{Stack}
-use Rattle.ld_held.specs.Inner.Interrupts.{start_now}
+use Rattle.ld_frames.specs.Inner.Interrupts.{start_now}
 use Rattle.ld_held.specs.Inner.Stacks.{PlainStack, empty_stack, inner, plain_held, holds}
 use Rattle.ld_rules.specs.Inner.Scanned.{remove_last}
 

@@ -4,4 +4,3 @@ pub mod Stacks
 pub mod Chains
 pub mod Edges
 pub mod Locks
-pub mod Interrupts

@@ -4,13 +4,13 @@ ghost use Rattle.std.specs.Prelude.{take, slice_index_or, slice_set, IfNone, IfS
 ghost use Rattle.std.specs.List.{list_any};
 ghost use Rattle.ld_trace.specs.Events.{plain_lock};
 ghost use Rattle.ld_rules.specs.Held.{same_lock};
-ghost use Rattle.ld_held.specs.Inner.Interrupts.{fresh, start_now};
+ghost use Rattle.ld_frames.specs.Inner.Interrupts.{fresh, start_now};
 ghost use Rattle.ld_held.specs.Inner.Stacks.{empty_stack, holds, inner, plain_held};
 ghost use Rattle.ld_rules.specs.Inner.Scanned.{remove_last};
 ghost use Rattle.ld_rules.specs.declared.outcome.TheConstants.{MOST_HELD};
 
-use crate::interrupts::Interrupts;
 use arrayvec::ArrayVec;
+use ld_frames::Interrupts;
 use ld_rules::MOST_HELD;
 use ld_trace::Lock;
 use std::alloc::{AllocError, Global};

@@ -5,10 +5,8 @@
 mod chains;
 mod edges;
 mod held;
-mod interrupts;
 mod locks;
 
 pub use edges::EdgeFact;
 pub use held::Held;
-pub use interrupts::{Flag, Interrupts};
 pub use locks::Locks;

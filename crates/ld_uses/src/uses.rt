@@ -6,7 +6,8 @@ ghost use Rattle.ld_rules.specs.Usage.{IsBit};
 ghost use Rattle.ld_uses.specs.Inner.Uses.{in_facts, on_facts, use_at, with_use};
 
 use bitflags::Flags;
-use ld_held::{Held, Interrupts};
+use ld_frames::Interrupts;
+use ld_held::Held;
 use ld_trace::State;
 use ld_usage::Usage;
 use std::alloc::{AllocError, Global};

@@ -13,13 +13,13 @@ use Rattle.ld_trace.specs.Events.{PlainEvent, PlainLock, Position, position_of, 
 use Rattle.ld_trace.specs.Events.PlainEvent.{Acquire, Try, Nested}
 use Rattle.ld_held.specs.declared.edges.EdgeFact.{EdgeFact}
 use Rattle.ld_rules.specs.declared.outcome.TheConstants.{MOST_CLASSES, MOST_HELD, MOST_TASKS}
-use Rattle.ld_held.specs.declared.interrupts.Interrupts.{Interrupts}
+use Rattle.ld_frames.specs.declared.interrupts.Interrupts.{Interrupts}
 use Rattle.ld_facts.specs.declared.scan.Scan.{Scan}
 use Rattle.ld_facts.specs.declared.taking.Taking.{Taking}
 use Rattle.ld_facts.specs.declared.taking.Taking.TheVariants.{Nesting, Trying, Waiting}
 use Rattle.ld_facts.specs.Facts.{named_dependency, named_use}
 use Rattle.ld_held.specs.Inner.Edges.{edge_to, with_edge_fact}
-use Rattle.ld_held.specs.Inner.Interrupts.{fresh, levels_of, start_now, starts_of, states_of}
+use Rattle.ld_frames.specs.Inner.Interrupts.{fresh, levels_of, start_now, starts_of, states_of}
 use Rattle.ld_rules.specs.Inner.Levels.{levels, starts, states}
 use Rattle.ld_facts.specs.Facts.{IsUse}
 use Rattle.ld_uses.specs.Inner.Uses.{in_facts, on_facts, with_use}

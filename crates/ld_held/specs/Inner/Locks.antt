@@ -1,5 +1,5 @@
 -- What tasks hold and which dependencies were told, and what ties the cache of chains to them.
--- The calls of ld_held cite this, and nothing that a caller of ld_batch sees.
+-- The calls of ld_frames cite this, and nothing that a caller of ld_batch sees.
 use Rattle.std.specs.Prelude.{◌≡◌, ◌<◌, ◌≤◌, ◌+◌, ℕ, Bool, true, List, [], ◌∷◌, ◌++◌, map, length, take}
 use Rattle.std.specs.Prelude.{drop, slice_index_or, Option, None, IfSome}
 use Rattle.std.specs.List.{last_or, list_all, list_any, All}
@@ -9,11 +9,11 @@ use Rattle.ld_held.specs.declared.edges.Pair.{Pair}
 use Rattle.ld_held.specs.Inner.Chains.{KeptChains, chains_of}
 use Rattle.ld_held.specs.Inner.Edges.{AreNumbers, KeptEdges, edge_to, same_pair}
 use Rattle.ld_rules.specs.Held.{same_lock}
-use Rattle.ld_held.specs.Inner.Interrupts.{fresh, start_now, starts_of}
+use Rattle.ld_frames.specs.Inner.Interrupts.{fresh, start_now, starts_of}
 use Rattle.ld_held.specs.Inner.Stacks.{PlainHeld, PlainStack, empty_stack, plain_held}
 use Rattle.ld_held.specs.declared.held.Held.{Held}
 use Rattle.ld_held.specs.declared.locks.Before.{Before}
-use Rattle.ld_held.specs.declared.interrupts.Interrupts.{Interrupts}
+use Rattle.ld_frames.specs.declared.interrupts.Interrupts.{Interrupts}
 
 -- a lock that a task holds, and the number of its class
 pub record Hold : Type 0 where

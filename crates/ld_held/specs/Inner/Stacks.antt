@@ -3,8 +3,8 @@ use Rattle.std.specs.Prelude.{ℕ, Bool, List, [], drop}
 use Rattle.ld_trace.specs.Events.{PlainLock, plain_lock}
 use Rattle.ld_rules.specs.Held.{same_lock}
 use Rattle.ld_held.specs.declared.held.Held.{Held}
-use Rattle.ld_held.specs.declared.interrupts.Interrupts.{Interrupts}
-use Rattle.ld_held.specs.Inner.Interrupts.{fresh, start_now}
+use Rattle.ld_frames.specs.declared.interrupts.Interrupts.{Interrupts}
+use Rattle.ld_frames.specs.Inner.Interrupts.{fresh, start_now}
 
 -- a lock that a task holds, without where its names lie in memory: the lock, the number of its
 -- class, and the number of the chain of the classes that the task holds up to it in its frame

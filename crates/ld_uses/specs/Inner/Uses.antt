@@ -7,8 +7,8 @@ use Rattle.ld_usage.specs.declared.usage.Usage.{Usage}
 use Rattle.ld_usage.specs.Usage.{has_bit, no_bits}
 use Rattle.ld_trace.specs.declared.event.State.TheVariants.{Hard, Soft}
 use Rattle.ld_uses.specs.declared.uses.UsageFact.{UsageFact}
-use Rattle.ld_held.specs.declared.interrupts.Interrupts.{Interrupts}
-use Rattle.ld_held.specs.Inner.Interrupts.{enabled_now, states_of}
+use Rattle.ld_frames.specs.declared.interrupts.Interrupts.{Interrupts}
+use Rattle.ld_frames.specs.Inner.Interrupts.{enabled_now, states_of}
 use Rattle.ld_rules.specs.Usage.{Bit, IsBit, usage_of}
 use Rattle.ld_rules.specs.Usage.Bit.{In, On}
 

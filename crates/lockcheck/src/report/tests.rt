@@ -226,21 +226,7 @@ fn refuses_a_trace_with_too_many_tasks(rt: HostRuntime) -> Result<(), Fail> {
 }
 
 #[test]
-fn refuses_a_trace_with_too_many_classes_or_locks(rt: HostRuntime) -> Result<(), Fail> {
-    let mut classes = String::new(rt.alloc());
-    for class in 1..=8191u32 {
-        writeln!(classes, "acquire t c{class}")?;
-        writeln!(classes, "release t c{class}")?;
-    }
-    assert_accepted(
-        &rt,
-        rt.alloc(),
-        classes.as_str(),
-        "events 16382 classes 8191 dependencies 0",
-    )?;
-    classes.push_str("acquire t c8192\nrelease t c8192\n")?;
-    assert_refused(&rt, rt.alloc(), classes.as_str(), 16384, "TooManyClasses")?;
-
+fn refuses_a_trace_with_too_many_locks(rt: HostRuntime) -> Result<(), Fail> {
     let mut held = String::new(rt.alloc());
     for class in 1..=97u32 {
         writeln!(held, "acquire t c{class}")?;

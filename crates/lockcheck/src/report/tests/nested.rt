@@ -1,6 +1,6 @@
 //! Reports of traces with nested acquisitions.
 
-use super::{assert_accepted, assert_refused, assert_report};
+use super::{assert_refused, assert_report};
 use std::test::Fail;
 
 #[test]
@@ -137,24 +137,5 @@ fn refuses_a_trace_with_too_many_nested_acquisitions(rt: HostRuntime) -> Result<
     for class in 1..=97u32 {
         writeln!(held, "nested t c{class} 1")?;
     }
-    assert_refused(&rt, rt.alloc(), held.as_str(), 98, "TooDeep")?;
-
-    let mut classes = String::new(rt.alloc());
-    for class in 1..=1023u32 {
-        writeln!(classes, "acquire t c{class}\nrelease t c{class}")?;
-        for sub in 1..=7u32 {
-            writeln!(classes, "nested t c{class} {sub}\nrelease t c{class}")?;
-        }
-    }
-    for sub in 1..=7u32 {
-        writeln!(classes, "nested t d {sub}\nrelease t d")?;
-    }
-    assert_accepted(
-        &rt,
-        rt.alloc(),
-        classes.as_str(),
-        "events 16382 classes 8191 dependencies 0",
-    )?;
-    classes.push_str("acquire t d\n")?;
-    assert_refused(&rt, rt.alloc(), classes.as_str(), 16384, "TooManyClasses")
+    assert_refused(&rt, rt.alloc(), held.as_str(), 98, "TooDeep")
 }

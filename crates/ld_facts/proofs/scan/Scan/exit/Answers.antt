@@ -9,7 +9,7 @@ use Rattle.std.specs.Prelude.{slice_get}
 use Rattle.ld_rules.specs.declared.fault.TraceFault.TheVariants.{BadExit, HeldAtExit}
 use Rattle.ld_held.specs.declared.held.Held.{Held}
 use Rattle.ld_rules.specs.Flags.{same_state}
-use Rattle.ld_held.specs.Inner.Interrupts.{fresh, start_now, states_of}
+use Rattle.ld_frames.specs.Inner.Interrupts.{fresh, start_now, states_of}
 use Rattle.ld_held.specs.Inner.Locks.{hold_of}
 use Rattle.ld_rules.specs.Open.{is_some_and}
 use Rattle.ld_facts.specs.Inner.Reading.{IsAt, happens}

@@ -1,5 +1,5 @@
 use Rattle.std.proofs.Common.{◌∙◌, ap, get_or}
-use Rattle.ld_held.specs.Inner.Interrupts.{start_now}
+use Rattle.ld_frames.specs.Inner.Interrupts.{start_now}
 use Rattle.ld_held.specs.Inner.Stacks.{empty_stack}
 use Rattle.ld_held.proofs.StackLemmas.{part_is}
 use Rattle.ld_held.proofs.held.Stacks.innermost.Goals as goal

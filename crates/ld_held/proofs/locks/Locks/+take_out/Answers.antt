@@ -3,7 +3,7 @@ use Rattle.std.proofs.lemmas.List.{append-nil, append_assoc, drop-append-le, dro
 use Rattle.std.proofs.lemmas.Simd.{map-map}
 use Rattle.ld_held.specs.declared.edges.EdgeFact.{EdgeFact}
 use Rattle.ld_held.specs.declared.held.Held.{Held}
-use Rattle.ld_held.specs.Inner.Interrupts.{fresh, start_now}
+use Rattle.ld_frames.specs.Inner.Interrupts.{fresh, start_now}
 use Rattle.ld_held.specs.Inner.Locks.{AreTied, HeldByTasks, Hold, hold_of, holds_of, held_by_tasks}
 use Rattle.ld_held.specs.Inner.Stacks.{PlainStack, empty_stack, plain_held}
 use Rattle.ld_rules.specs.declared.outcome.TheConstants.{MOST_HELD}

@@ -1,6 +1,6 @@
 use Rattle.std.proofs.Common.{◌≡◌, [], get_or, length, map, sym, ap, subst, ◌∙◌}
 use Rattle.std.proofs.lemmas.List.{length-map}
-use Rattle.ld_held.specs.Inner.Interrupts.{IsEntered, fresh}
+use Rattle.ld_frames.specs.Inner.Interrupts.{IsEntered, fresh}
 use Rattle.ld_held.specs.Inner.Locks.{hold_of}
 use Rattle.ld_held.specs.Inner.Stacks.{PlainStack, empty_stack, plain_held}
 use Rattle.ld_held.specs.declared.held.Held.{Held}

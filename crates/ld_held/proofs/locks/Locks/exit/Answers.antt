@@ -1,6 +1,6 @@
 use Rattle.std.proofs.Common.{get_or, length, map, sym, ap, ◌∙◌}
 use Rattle.std.proofs.lemmas.List.{length-map}
-use Rattle.ld_held.specs.Inner.Interrupts.{IsLeft, fresh, start_now}
+use Rattle.ld_frames.specs.Inner.Interrupts.{IsLeft, fresh, start_now}
 use Rattle.ld_held.specs.Inner.Locks.{hold_of}
 use Rattle.ld_held.specs.Inner.Stacks.{PlainStack, empty_stack}
 use Rattle.ld_held.specs.Inner.Chains.{chains_of}

@@ -4,7 +4,7 @@ use Rattle.std.specs.List.{list_any}
 use Rattle.ld_trace.specs.Events.{PlainLock, plain_lock}
 use Rattle.ld_held.specs.declared.edges.EdgeFact.{EdgeFact}
 use Rattle.ld_held.specs.declared.held.Held.{Held}
-use Rattle.ld_held.specs.Inner.Interrupts.{fresh, start_now}
+use Rattle.ld_frames.specs.Inner.Interrupts.{fresh, start_now}
 use Rattle.ld_held.specs.Inner.Locks.{HeldByTasks, hold_of, is_of, held_by_tasks}
 use Rattle.ld_held.specs.Inner.Stacks.{PlainStack, empty_stack, holds, inner, plain_held}
 use Rattle.ld_rules.specs.Inner.Scanned.{remove_last}

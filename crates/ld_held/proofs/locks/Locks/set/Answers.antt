@@ -1,5 +1,5 @@
 use Rattle.std.proofs.Common.{get_or, map, sym, ap, subst, ◌∙◌}
-use Rattle.ld_held.specs.Inner.Interrupts.{IsSet, fresh, is_on, starts_of}
+use Rattle.ld_frames.specs.Inner.Interrupts.{IsSet, fresh, is_on, starts_of}
 use Rattle.ld_held.specs.Inner.Locks.{AreChainedIn}
 use Rattle.ld_held.specs.Inner.Stacks.{PlainStack, empty_stack}
 use Rattle.ld_held.specs.Inner.Chains.{chains_of}

@@ -4,8 +4,8 @@ ghost use Rattle.std.specs.List.{list_any};
 ghost use Rattle.ld_trace.specs.declared.event.State.{State};
 ghost use Rattle.ld_rules.specs.Flags.{same_state};
 ghost use Rattle.ld_rules.specs.Open.{is_some_and};
-ghost use Rattle.ld_held.specs.Inner.Interrupts.{IsEntered, IsLeft, IsSet, enabled_now, flag_now, fresh};
-ghost use Rattle.ld_held.specs.Inner.Interrupts.{is_on, nests_in, start_now, states_of};
+ghost use Rattle.ld_frames.specs.Inner.Interrupts.{IsEntered, IsLeft, IsSet, enabled_now, flag_now, fresh};
+ghost use Rattle.ld_frames.specs.Inner.Interrupts.{is_on, nests_in, start_now, states_of};
 
 use ld_trace::State;
 

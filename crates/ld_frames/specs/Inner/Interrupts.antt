@@ -1,15 +1,15 @@
 -- What the scan keeps of a task's frames and flags, read as lists: the innermost frame first.
--- The calls of ld_held cite this, and nothing that a caller of ld_batch sees.
+-- The calls of ld_frames cite this, and nothing that a caller of ld_batch sees.
 use Rattle.std.specs.Prelude.{◌≡◌, ℕ, Bool, true, false, ◌&&◌, not, List, [], ◌∷◌, ◌++◌, map, drop}
 use Rattle.std.specs.Prelude.{slice_index_or, Option, Some, None, if◌then◌else◌}
 use Rattle.std.specs.List.{list_any}
 use Rattle.ld_trace.specs.declared.event.State.{State}
 use Rattle.ld_trace.specs.declared.event.State.TheVariants.{Hard, Soft}
-use Rattle.ld_held.specs.declared.interrupts.Flag.{Flag}
-use Rattle.ld_held.specs.declared.interrupts.Flag.TheVariants.{On, Off}
-use Rattle.ld_held.specs.declared.interrupts.Flags.{Flags}
-use Rattle.ld_held.specs.declared.interrupts.OpenFrame.{OpenFrame}
-use Rattle.ld_held.specs.declared.interrupts.Interrupts.{Interrupts}
+use Rattle.ld_frames.specs.declared.interrupts.Flag.{Flag}
+use Rattle.ld_frames.specs.declared.interrupts.Flag.TheVariants.{On, Off}
+use Rattle.ld_frames.specs.declared.interrupts.Flags.{Flags}
+use Rattle.ld_frames.specs.declared.interrupts.OpenFrame.{OpenFrame}
+use Rattle.ld_frames.specs.declared.interrupts.Interrupts.{Interrupts}
 use Rattle.ld_rules.specs.Flags.{same_state}
 
 -- an open frame with its state
