@@ -1,8 +1,9 @@
 -- The numbers that are kept with chains.
 use Rattle.std.proofs.Common.{◌≡◌, ◌<◌, ◌≤◌, ◌∷◌, [], ◌++◌, ◌⊎◌, inl, inr, List, ℕ, Option, Some, None, IfSome, Bor, Vec, Global, Result, Ok, Err, OnOk, OnErr, IfOk}
-use Rattle.std.proofs.Common.{ap, sym, subst, ◌∙◌, arith, get_or, length, option_map, refl}
-use Rattle.std.proofs.lemmas.Bool.{cases_lt}
-use Rattle.std.proofs.lemmas.List.{get_or_append_left, get_or_push, length_push, same_from_push}
+use Rattle.std.proofs.Common.{◌≢◌, ap, sym, subst, ◌∙◌, arith, get_or, length, map, option_map, refl, set}
+use Rattle.std.proofs.lemmas.Bool.{cases_eq, cases_lt}
+use Rattle.std.proofs.lemmas.Grind.{get_or-set_at}
+use Rattle.std.proofs.lemmas.List.{get_or-set_other, get_or_append_left, get_or_push, length-map, length_push, same_from_push}
 use Rattle.ld_held.specs.declared.chains.Link.{Link}
 use Rattle.ld_held.specs.declared.edges.Pair.{Pair}
 use Rattle.ld_held.specs.Inner.Chains.{KeptChains, chain_before, chains_of}
@@ -83,3 +84,29 @@ pub known_numbers : (pairs : List Pair) (class : ℕ) (froms : List ℕ) (kept :
     option_map (λ (numbers : Bor (List ℕ)). numbers.now) o ≡ kept → IfSome o (λ (numbers : Bor (List ℕ)). AreNumbers pairs class froms numbers.now)
 known_numbers pairs class froms kept are None is = tt
 known_numbers pairs class froms kept are (Some numbers) is = subst (λ k. IfSome k (AreNumbers pairs class froms)) (sym is) are
+
+-- a chain has its place among the numbers, where they lie in memory
+pub kept_within : (links : _) (numbers : List (Option (Vec ℕ Global))) (known : KeptChains) (number : ℕ) → record { links = links; numbers = map (option_map (λ (v : Vec ℕ Global). v.items)) numbers } ≡
+    known → length (map (option_map (λ (v : Vec ℕ Global). v.items)) numbers) ≡ length links → number < length (chains_of known.links) → number < length numbers
+kept_within links numbers known number is many within = omega (
+  arith,
+  within,
+  many,
+  ap (λ (k : KeptChains). length (chains_of k.links)) is,
+  length-chains_of links,
+  length-map numbers (option_map (λ (v : Vec ℕ Global). v.items)),
+)
+
+-- with the numbers of one more chain
+pub numbered_set : (chains : List (List ℕ)) (numbers : List (Option (List ℕ))) (pairs : List Pair) (chain : ℕ) (froms : List ℕ) (class : ℕ) (kept : List ℕ) → chain < length numbers →
+    get_or chains chain [] ≡ froms ++ class ∷ [] → AreNumbers pairs class froms kept → HasItsNumbers chains numbers pairs → HasItsNumbers chains (set numbers chain (Some kept)) pairs
+numbered_set chains numbers pairs chain froms class kept place is new are = record { each = λ n others last within said. by n others last within said (cases_eq n chain) }
+  where
+    by : (n : ℕ) (others : List ℕ) (last : ℕ) → n < length chains → get_or chains n [] ≡ others ++ last ∷ [] → (n ≡ chain) ⊎ (n ≢ chain) →
+        IfSome (get_or (set numbers chain (Some kept)) n None) (AreNumbers pairs last others)
+    by n others last within said (inl here) =
+        let parts = same_from_push froms others class last (sym is ∙ ap (λ k. get_or chains k []) (sym here) ∙ said) in
+        subst (λ o. IfSome o (AreNumbers pairs last others)) (sym (get_or-set_at numbers chain n (Some kept) None here place))
+        (subst (λ fs. AreNumbers pairs last fs kept) parts.0 (subst (λ k. AreNumbers pairs k froms kept) parts.1 new))
+    by n others last within said (inr other) =
+        subst (λ o. IfSome o (AreNumbers pairs last others)) (sym (get_or-set_other numbers chain n (Some kept) None other)) (are.each n others last within said)

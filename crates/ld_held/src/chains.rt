@@ -1,6 +1,6 @@
 //! Chains of classes: the lists of the classes that a task holds in a frame, in order of acquisition.
 ghost use Rattle.std.specs.Prelude.{◌≡◌, ◌<◌, ℕ, [], ◌∷◌, ◌++◌, false, length, slice_index_or, IfNone};
-ghost use Rattle.std.specs.Prelude.{IfOk, IfSome, None, OnErr, OnOk, option_map};
+ghost use Rattle.std.specs.Prelude.{IfOk, IfSome, None, Some, OnErr, OnOk, option_map, slice_set};
 ghost use Rattle.std.specs.Bool.{OnTrue};
 ghost use Rattle.std.specs.List.{list_any};
 ghost use Rattle.ld_held.specs.Inner.Chains.{KeptChains, chain_before, chains_of, same_link};
@@ -20,8 +20,11 @@ pub struct Link {
 /// How many numbers of pairs are kept with the chains at most, but for those of one chain.
 const MOST_KEPT: usize = 1 << 19;
 
+/// How many chains are kept at most when all is taken away.
+const MOST_CHAINS: usize = 1 << 18;
+
 // No clause says how many are kept.
-const _: () = prove!(MOST_KEPT == 524_288);
+const _: () = prove!(MOST_KEPT == 524_288 && MOST_CHAINS == 262_144);
 
 /// The chains that were met, each once. They are the nodes of a tree, and are numbered from 0.
 #[derive(Drop)]
@@ -74,9 +77,16 @@ impl Chains {
         self.kept = 0;
     }
 
-    /// Whether there is room to keep more numbers of pairs.
+    /// How many chains were met.
+    pub fn len(&self) -> usize
+        ensures { result ≡ length self.now.links }
+    {
+        self.links.len()
+    }
+
+    /// Whether there is room to keep more chains and numbers of pairs.
     pub fn has_room(&self) -> bool {
-        self.kept < MOST_KEPT
+        self.kept < MOST_KEPT && self.links.len() < MOST_CHAINS
     }
 
     /// The number of a chain, or `None` where it wasn't met. One that is asked for twice on end is looked
@@ -98,35 +108,41 @@ impl Chains {
         Some(number)
     }
 
-    /// Adds a chain that wasn't met, with the numbers of its pairs, and answers its number.
-    pub fn add(&mut self, link: Link, numbers: Option<Vec<usize>>) -> Result<usize, AllocError>
+    /// Adds a chain that wasn't met, and answers its number.
+    pub fn add(&mut self, link: Link) -> Result<usize, AllocError>
         requires before { IfSome link.before (λ n. n < length (chains_of self.old.links)) }
         requires new { list_any (same_link link) self.old.links ≡ false }
         ensures number { IfOk result (λ n. n ≡ length self.old.links) }
         ensures links { OnOk result (self.new.links ≡ self.old.links ++ link ∷ []) }
-        ensures numbers { OnOk result (self.new.numbers
-            ≡ self.old.numbers ++ option_map (λ kept. kept.items) numbers ∷ []) }
+        ensures numbers { OnOk result (self.new.numbers ≡ self.old.numbers ++ None ∷ []) }
         ensures refused { OnErr result (self.new ≡ self.old) }
     {
-        let count = match &numbers {
-            Some(numbers) => numbers.len(),
-            None => 0,
-        };
         self.numbers.reserve(1)?;
         let (number, _) = self.links.insert_full(link)?;
-        self.kept = self.kept.saturating_add(count);
         self.last = number;
-        if self.numbers.push(numbers).is_err() {
+        if self.numbers.push(None).is_err() {
             unreachable!();
         }
         Ok(number)
+    }
+
+    /// Keeps the numbers of the pairs from each class before the last one of this chain to that.
+    pub fn keep(&mut self, number: usize, numbers: Vec<usize>)
+        requires { number < length (chains_of self.old.links) }
+        ensures links { self.new.links ≡ self.old.links }
+        ensures numbers { self.new.numbers
+            ≡ slice_set self.old.numbers number (Some numbers.items) }
+    {
+        self.kept = self.kept.saturating_add(numbers.len());
+        self.numbers[number] = Some(numbers);
     }
 
     /// The numbers of the pairs from each class before the last one of this chain to that, where they
     /// are kept.
     pub fn numbers(&self, number: usize) -> Option<&[usize]>
         requires { number < length (chains_of self.now.links) }
-        ensures { option_map (λ numbers. numbers.now) result
+        ensures many { length self.now.numbers ≡ length self.now.links }
+        ensures kept { option_map (λ numbers. numbers.now) result
             ≡ slice_index_or self.now.numbers number None }
     {
         match &self.numbers[number] {

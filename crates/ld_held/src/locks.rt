@@ -3,10 +3,11 @@
 //! Locks of outer frames stay held, but an acquisition and a release see those of the innermost
 //! frame alone.
 ghost use Rattle.std.specs.Prelude.{◌≡◌, ◌<◌, ◌≤◌, ◌+◌, true, [], ◌∷◌, ◌++◌, drop, fold, length};
-ghost use Rattle.std.specs.Prelude.{map, take, slice_index_or, slice_set, IfOk, IfSome, OnOk};
+ghost use Rattle.std.specs.Prelude.{List, map, take, slice_index_or, slice_set, IfOk, IfSome, OnOk};
 ghost use Rattle.std.specs.List.{list_any};
 ghost use Rattle.ld_trace.specs.Events.{plain_lock};
-ghost use Rattle.ld_held.specs.Inner.Edges.{AreMore, AreNumbers, edge_to, with_edge_fact};
+ghost use Rattle.ld_held.specs.declared.edges.Pair.{Pair};
+ghost use Rattle.ld_held.specs.Inner.Edges.{edge_to, with_edge_fact};
 ghost use Rattle.ld_frames.specs.Inner.Interrupts.{IsEntered, IsLeft, IsSet, fresh, nests_in, start_now};
 ghost use Rattle.ld_frames.specs.Inner.Interrupts.{is_on, states_of};
 ghost use Rattle.ld_held.specs.Inner.Chains.{chain_before, chains_of};
@@ -187,7 +188,7 @@ impl<'a> Locks<'a> {
         }) }
     {
         let stack = self.stacks.innermost(task);
-        let chain = extended(&mut self.chains, &mut self.edges, self.alloc, stack, class)?;
+        let chain = linked(&mut self.chains, stack, class)?;
         self.stacks.push(task, Held { lock, class, chain });
         Ok(())
     }
@@ -304,6 +305,29 @@ impl<'a> Locks<'a> {
 }
 
 /// The number of the chain of a stack's classes and one more, which may be new.
+fn linked(chains: &mut Chains, stack: &[Held<'_>], class: u32) -> Result<usize, AllocError>
+    requires before { IfSome (chain_of (map plain_held stack.now))
+        (λ n. n < length (chains_of chains.old.links)) }
+    requires classes { chain_before (chains_of chains.old.links) (chain_of (map plain_held stack.now))
+        ≡ map (λ held. held.class) stack.now }
+    ensures numbered { (pairs : List Pair)
+        → HasItsNumbers (chains_of chains.old.links) chains.old.numbers pairs
+        → HasItsNumbers (chains_of chains.new.links) chains.new.numbers pairs }
+    ensures more { IsExtended (chains_of chains.old.links) (chains_of chains.new.links) }
+    ensures within { IfOk result (λ n. n < length (chains_of chains.new.links)) }
+    ensures chain { IfOk result (λ n. slice_index_or (chains_of chains.new.links) n []
+        ≡ map (λ held. held.class) stack.now ++ class ∷ []) }
+{
+    let before = last_chain(stack);
+    let link = Link { before, class };
+    if let Some(chain) = chains.find(link) {
+        return Ok(chain);
+    }
+    chains.add(link)
+}
+
+/// The same, and where the chain was met before, the numbers of its pairs are kept from here on. One that comes
+/// for the first time may never come again.
 fn extended(
     chains: &mut Chains,
     edges: &mut Edges,
@@ -323,33 +347,39 @@ fn extended(
     ensures chain { IfOk result (λ n. slice_index_or (chains_of chains.new.links) n []
         ≡ map (λ held. held.class) stack.now ++ class ∷ []) }
 {
-    let before = last_chain(stack);
-    let link = Link { before, class };
-    if let Some(chain) = chains.find(link) {
+    let met = chains.len();
+    let chain = linked(chains, stack, class)?;
+    if chain >= met {
         return Ok(chain);
     }
-    let numbers = kept(chains, edges, alloc, stack, class)?;
-    chains.add(link, numbers)
+    learn(chains, edges, alloc, chain, stack, class)?;
+    Ok(chain)
 }
 
-/// The numbers of the pairs from the classes of a stack to one more, where there is room to keep them.
-fn kept(
-    chains: &Chains,
+/// Keeps the numbers of the pairs of a chain, where there is room for them and they aren't kept: those from
+/// the classes of a stack to one more.
+fn learn(
+    chains: &mut Chains,
     edges: &mut Edges,
     alloc: Global,
+    chain: usize,
     stack: &[Held<'_>],
     class: u32,
-) -> Result<Option<Vec<usize>>, AllocError>
+) -> Result<(), AllocError>
+    requires within { chain < length (chains_of chains.old.links) }
+    requires is { slice_index_or (chains_of chains.old.links) chain []
+        ≡ map (λ held. held.class) stack.now ++ class ∷ [] }
+    requires numbered { HasItsNumbers (chains_of chains.old.links) chains.old.numbers edges.old.pairs }
+    ensures numbered { HasItsNumbers (chains_of chains.new.links) chains.new.numbers edges.new.pairs }
+    ensures links { chains.new.links ≡ chains.old.links }
     ensures edges { edges.new.edges ≡ edges.old.edges }
-    ensures more { AreMore edges.old.pairs edges.new.pairs }
-    ensures numbers { IfOk result (λ kept. IfSome kept (λ numbers. AreNumbers edges.new.pairs class
-        (map (λ held. held.class) stack.now) numbers.items)) }
 {
-    if !chains.has_room() {
-        return Ok(None);
+    if chains.numbers(chain).is_some() || !chains.has_room() {
+        return Ok(());
     }
     let numbers = edges.numbers(alloc, stack, class)?;
-    Ok(Some(numbers))
+    chains.keep(chain, numbers);
+    Ok(())
 }
 
 /// The chain of the classes of a stack; `None` where it is empty.

@@ -1,4 +1,4 @@
-use Rattle.std.proofs.Common.{◌≡◌, ◌<◌, ◌++◌, ◌∷◌, [], ℕ, Vec, Global, IfSome, false, length, option_map, ap, sym, subst, ◌∙◌, arith}
+use Rattle.std.proofs.Common.{◌≡◌, ◌<◌, ◌++◌, ◌∷◌, [], ℕ, Vec, Global, None, IfSome, false, length, option_map, ap, sym, subst, ◌∙◌, arith}
 use Rattle.std.proofs.lemmas.Grind.{common_steps}
 use Rattle.std.proofs.lemmas.List.{length-map, length_push}
 use Rattle.std.specs.List.{list_any}
@@ -18,7 +18,7 @@ module _ (chains known : KeptChains) (link : Link) (is : chains ≡ known) where
 pub invariant_of-self-2 : goal.invariant_of-self-2
 invariant_of-self-2 c =
     let keys = new_keys c.self.inside.links.keys c.args.link (none_of _ c.args.self.now c.args.link c.self.view_is c.requires.new) c.insert_full.new.self.keys c.in_ok-number.ensures.keys in
-    let pushed : c.push.new.self.items ≡ c.reserve.new.self.items ++ c.args.numbers ∷ [] = grind (arith, common_steps) in
+    let pushed : c.push.new.self.items ≡ c.reserve.new.self.items ++ None ∷ [] = grind (arith, common_steps) in
     record {
       tree = subst IsTree (sym keys) (IsTree-push c.self.inside.links.keys c.args.link c.self.invariant.tree (within_of _ c.args.self.now c.args.link c.self.view_is c.requires.before));
       many = omega (
@@ -26,7 +26,7 @@ invariant_of-self-2 c =
         length-map c.push.new.self.items (option_map (λ (numbers : Vec ℕ Global). numbers.items)),
         length-map c.self.inside.numbers.items (option_map (λ (numbers : Vec ℕ Global). numbers.items)),
         ap length pushed,
-        length_push c.reserve.new.self.items c.args.numbers,
+        length_push c.reserve.new.self.items None,
         ap length c.reserve.ensures.items,
         ap length keys,
         length_push c.self.inside.links.keys c.args.link,

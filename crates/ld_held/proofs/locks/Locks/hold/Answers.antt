@@ -11,13 +11,13 @@ use Rattle.ld_held.proofs.locks.Locks.hold.Goals as goal
 pub innermost-stack-requires-clause-start : goal.innermost-stack-requires-clause-start
 innermost-stack-requires-clause-start c = start_within c.self.inside.stacks (chains_of c.self.inside.chains.links) c.self.inside.told c.self.inside.edges.edges c.self.invariant.tied c.args.task
 
-pub extended-requires-clause-before : goal.extended-requires-clause-before
-extended-requires-clause-before c =
+pub linked-requires-clause-before : goal.linked-requires-clause-before
+linked-requires-clause-before c =
     (numbered_as (chains_of c.self.inside.chains.links) (get_or c.self.inside.stacks c.args.task empty_stack) c.innermost-stack.result.now c.innermost-stack.ensures.held
     (numbered c.self.inside.stacks (chains_of c.self.inside.chains.links) c.self.inside.told c.self.inside.edges.edges c.self.invariant.tied c.args.task)).0
 
-pub extended-requires-clause-classes : goal.extended-requires-clause-classes
-extended-requires-clause-classes c =
+pub linked-requires-clause-classes : goal.linked-requires-clause-classes
+linked-requires-clause-classes c =
     (numbered_as (chains_of c.self.inside.chains.links) (get_or c.self.inside.stacks c.args.task empty_stack) c.innermost-stack.result.now c.innermost-stack.ensures.held
     (numbered c.self.inside.stacks (chains_of c.self.inside.chains.links) c.self.inside.told c.self.inside.edges.edges c.self.invariant.tied c.args.task)).1
 
@@ -25,23 +25,21 @@ pub invariant_of-self-2 : goal.invariant_of-self-2
 invariant_of-self-2 c = record {
   tied =
       let held : PlainHeld = record { lock = plain_lock c.args.lock; class = c.args.class; chain = c.in_ok-chain.chain } in
-      subst (λ es. AreTied c.push.new.self (chains_of c.extended.new.chains.links) c.self.inside.told es) (sym c.extended.ensures.edges)
-      (subst (λ ss. AreTied ss (chains_of c.extended.new.chains.links) c.self.inside.told c.self.inside.edges.edges) (sym c.push.ensures)
+      subst (λ ss. AreTied ss (chains_of c.linked.new.chains.links) c.self.inside.told c.self.inside.edges.edges) (sym c.push.ensures)
       (tied_push c.self.inside.stacks (chains_of c.self.inside.chains.links) c.self.inside.told c.self.inside.edges.edges c.self.invariant.tied c.args.task held
-      (within_shown c.self.inside.stacks c.self.inside.edges.edges c.args.self.now c.args.task c.self.view_is c.requires.task) (chains_of c.extended.new.chains.links)
-      c.extended.ensures.more c.in_ok-chain.ensures.within
-      (c.in_ok-chain.ensures.chain ∙ ap (λ cs. cs ++ c.args.class ∷ []) (classes_shown (get_or c.self.inside.stacks c.args.task empty_stack) c.innermost-stack.result.now c.innermost-stack.ensures.held))));
-  start = subst (λ es. IsAtStart c.self.inside.before (chains_of c.extended.new.chains.links) c.self.inside.told es) (sym c.extended.ensures.edges)
-      (before_extended c.self.inside.before (chains_of c.self.inside.chains.links) c.self.inside.told c.self.inside.edges.edges c.self.invariant.start
-      (chains_of c.extended.new.chains.links) c.extended.ensures.more);
-  numbered = c.extended.ensures.numbered;
+      (within_shown c.self.inside.stacks c.self.inside.edges.edges c.args.self.now c.args.task c.self.view_is c.requires.task) (chains_of c.linked.new.chains.links)
+      c.linked.ensures.more c.in_ok-chain.ensures.within
+      (c.in_ok-chain.ensures.chain ∙ ap (λ cs. cs ++ c.args.class ∷ []) (classes_shown (get_or c.self.inside.stacks c.args.task empty_stack) c.innermost-stack.result.now c.innermost-stack.ensures.held)));
+  start = before_extended c.self.inside.before (chains_of c.self.inside.chains.links) c.self.inside.told c.self.inside.edges.edges c.self.invariant.start
+      (chains_of c.linked.new.chains.links) c.linked.ensures.more;
+  numbered = c.linked.ensures.numbered c.self.inside.edges.pairs c.self.invariant.numbered;
 }
 
 pub returns-clause-held : goal.returns-clause-held
 returns-clause-held c =
     let held : PlainHeld = record { lock = plain_lock c.args.lock; class = c.args.class; chain = c.in_ok-chain.chain } in
     let before = (get_or c.self.inside.stacks c.args.task empty_stack).held in
-    (λ i. held_by_tasks (c.push.ensures i) (c.extended.ensures.edges i) (take c.self.inside.before.edges (c.extended.ensures.edges i)))
+    ap (λ ss. held_by_tasks ss c.self.inside.edges.edges (take c.self.inside.before.edges c.self.inside.edges.edges)) c.push.ensures
     ∙ shown_held c.self.inside.stacks c.self.inside.edges.edges c.args.self.now c.args.task c.self.view_is (before ++ held ∷ []) (get_or c.args.self.now.stacks c.args.task [] ++ hold_of held ∷ [])
     (map-append hold_of before (held ∷ []) ∙ ap (λ (hs : List Hold). hs ++ hold_of held ∷ [])
     (sym (holds_at c.self.inside.stacks c.args.task) ∙ ap (λ k. get_or k.stacks c.args.task []) c.self.view_is))

@@ -64,7 +64,7 @@ tell_to-requires c =
     let froms = map (λ (h : Held). h.class) c.innermost-stack.result.now in
     known_numbers c.extended.new.edges.pairs c.args.class froms (get_or c.extended.new.chains.numbers c.in_ok-chain.chain _)
     (c.extended.ensures.numbered.each c.in_ok-chain.chain froms c.args.class c.in_ok-chain.ensures.within c.in_ok-chain.ensures.chain)
-    c.numbers-known.result c.numbers-known.ensures
+    c.numbers-known.result c.numbers-known.ensures.kept
 
 pub invariant_of-self-in_err-tell_to : goal.invariant_of-self-in_err-tell_to
 invariant_of-self-in_err-tell_to c = record {

@@ -1,17 +1,15 @@
-use Rattle.std.proofs.Common.{◌≡◌, List, ℕ, Vec, Global, map, option_map, sym, ap, subst, ◌∙◌, length}
-use Rattle.ld_held.specs.declared.edges.Pair.{Pair}
+use Rattle.std.proofs.Common.{◌≡◌, List, ℕ, None, ap, length, map, subst, sym, ◌∙◌}
 use Rattle.ld_held.specs.declared.held.Held.{Held}
+use Rattle.ld_held.specs.declared.edges.Pair.{Pair}
 use Rattle.ld_held.specs.Inner.Chains.{KeptChains, chain_before, chains_of}
-use Rattle.ld_held.specs.Inner.Edges.{AreMore}
 use Rattle.ld_held.specs.Inner.Locks.{HasItsNumbers, IsExtended}
-use Rattle.ld_held.proofs.NumberedLemmas.{chain_then, extended_then, numbered_more, numbered_then, plain_numbers, within_then}
-use Rattle.ld_held.proofs.locks.extended.Goals as goal
+use Rattle.ld_held.proofs.NumberedLemmas.{chain_then, extended_then, numbered_then, within_then}
+use Rattle.ld_held.proofs.locks.linked.Goals as goal
 
 -- what was asked of the chains holds of them once the chain was looked for
 module _ (old now : KeptChains) (same : now ≡ old) where
-  numbered_now : (pairs more : List Pair) → AreMore pairs more → HasItsNumbers (chains_of old.links) old.numbers pairs → HasItsNumbers (chains_of now.links) now.numbers more
-  numbered_now pairs more are numbered = subst (λ (k : KeptChains). HasItsNumbers (chains_of k.links) k.numbers more) (sym same)
-      (numbered_more (chains_of old.links) old.numbers pairs more are numbered)
+  numbered_now : (pairs : List Pair) → HasItsNumbers (chains_of old.links) old.numbers pairs → HasItsNumbers (chains_of now.links) now.numbers pairs
+  numbered_now pairs = subst (λ (k : KeptChains). HasItsNumbers (chains_of k.links) k.numbers pairs) (sym same)
 
   before_now : (before : _) (froms : List ℕ) → chain_before (chains_of old.links) before ≡ froms → chain_before (chains_of now.links) before ≡ froms
   before_now before froms is = ap (λ (k : KeptChains). chain_before (chains_of k.links) before) same ∙ is
@@ -19,21 +17,16 @@ module _ (old now : KeptChains) (same : now ≡ old) where
   many_now : length old.numbers ≡ length old.links → length now.numbers ≡ length now.links
   many_now = subst (λ (k : KeptChains). length k.numbers ≡ length k.links) (sym same)
 
-pub returns-in_err-numbers-clause-numbered : goal.returns-in_err-numbers-clause-numbered
-returns-in_err-numbers-clause-numbered c =
-    numbered_now c.args.chains.now c.find.new.self c.find.ensures.same c.args.edges.now.pairs c.kept.new.edges.pairs c.kept.ensures.more c.requires.numbered
-
 pub returns-clause-numbered : goal.returns-clause-numbered
-returns-clause-numbered c =
+returns-clause-numbered c pairs numbered =
     let froms = map (λ (h : Held). h.class) c.args.stack.now in
     numbered_then c.find.new.self c.add.new.self (record { before = c.last_chain-before.result; class = c.args.class }) froms
     (before_now c.args.chains.now c.find.new.self c.find.ensures.same c.last_chain-before.result froms
     (ap (chain_before (chains_of c.args.chains.now.links)) c.last_chain-before.ensures ∙ c.requires.classes))
-    (option_map (λ (v : Vec ℕ Global). v.items) c.in_ok-numbers.numbers) c.add.result c.kept.new.edges.pairs
+    None c.add.result pairs
     (many_now c.args.chains.now c.find.new.self c.find.ensures.same c.find.ensures.many)
-    (numbered_now c.args.chains.now c.find.new.self c.find.ensures.same c.args.edges.now.pairs c.kept.new.edges.pairs c.kept.ensures.more c.requires.numbered)
-    (plain_numbers c.kept.new.edges.pairs c.args.class froms c.in_ok-numbers.numbers c.in_ok-numbers.ensures.numbers)
-    c.add.ensures.links c.add.ensures.numbers c.add.ensures.refused
+    (numbered_now c.args.chains.now c.find.new.self c.find.ensures.same pairs numbered)
+    tt c.add.ensures.links c.add.ensures.numbers c.add.ensures.refused
 
 pub returns-clause-more : goal.returns-clause-more
 returns-clause-more c =
@@ -42,7 +35,7 @@ returns-clause-more c =
     (extended_then c.find.new.self c.add.new.self (record { before = c.last_chain-before.result; class = c.args.class }) froms
     (before_now c.args.chains.now c.find.new.self c.find.ensures.same c.last_chain-before.result froms
     (ap (chain_before (chains_of c.args.chains.now.links)) c.last_chain-before.ensures ∙ c.requires.classes))
-    (option_map (λ (v : Vec ℕ Global). v.items) c.in_ok-numbers.numbers) c.add.result c.add.ensures.links c.add.ensures.refused)
+    None c.add.result c.add.ensures.links c.add.ensures.refused)
 
 pub returns-clause-within : goal.returns-clause-within
 returns-clause-within c =
@@ -50,7 +43,7 @@ returns-clause-within c =
     within_then c.find.new.self c.add.new.self (record { before = c.last_chain-before.result; class = c.args.class }) froms
     (before_now c.args.chains.now c.find.new.self c.find.ensures.same c.last_chain-before.result froms
     (ap (chain_before (chains_of c.args.chains.now.links)) c.last_chain-before.ensures ∙ c.requires.classes))
-    (option_map (λ (v : Vec ℕ Global). v.items) c.in_ok-numbers.numbers) c.add.result c.add.ensures.number c.add.ensures.links
+    None c.add.result c.add.ensures.number c.add.ensures.links
 
 pub returns-clause-chain : goal.returns-clause-chain
 returns-clause-chain c =
@@ -58,4 +51,4 @@ returns-clause-chain c =
     chain_then c.find.new.self c.add.new.self (record { before = c.last_chain-before.result; class = c.args.class }) froms
     (before_now c.args.chains.now c.find.new.self c.find.ensures.same c.last_chain-before.result froms
     (ap (chain_before (chains_of c.args.chains.now.links)) c.last_chain-before.ensures ∙ c.requires.classes))
-    (option_map (λ (v : Vec ℕ Global). v.items) c.in_ok-numbers.numbers) c.add.result c.add.ensures.number c.add.ensures.links
+    None c.add.result c.add.ensures.number c.add.ensures.links

@@ -1,0 +1,22 @@
+use Rattle.std.proofs.Common.{◌<◌, length, map, sym, subst, arith}
+use Rattle.ld_held.specs.declared.held.Held.{Held}
+use Rattle.ld_held.specs.Inner.Chains.{chains_of}
+use Rattle.ld_held.specs.Inner.Locks.{HasItsNumbers}
+use Rattle.ld_held.proofs.ChainLemmas.{length-chains_of}
+use Rattle.ld_held.proofs.NumberedLemmas.{numbered_more, numbered_set}
+use Rattle.ld_held.proofs.locks.learn.Goals as goal
+
+pub returns-in_err-numbers-clause-numbered : goal.returns-in_err-numbers-clause-numbered
+returns-in_err-numbers-clause-numbered c =
+    numbered_more (chains_of c.args.chains.now.links) c.args.chains.now.numbers c.args.edges.now.pairs c.numbers-2.new.self.pairs c.numbers-2.ensures.more c.requires.numbered
+
+pub returns-clause-numbered : goal.returns-clause-numbered
+returns-clause-numbered c =
+    let chains = c.args.chains.now in
+    let pairs = c.numbers-2.new.self.pairs in
+    let froms = map (λ (h : Held). h.class) c.args.stack.now in
+    let place : c.args.chain < length chains.numbers = omega (arith, c.requires.within, c.numbers.ensures.many, length-chains_of chains.links) in
+    subst (λ ls. HasItsNumbers (chains_of ls) c.keep.new.self.numbers pairs) (sym c.keep.ensures.links)
+    (subst (λ ns. HasItsNumbers (chains_of chains.links) ns pairs) (sym c.keep.ensures.numbers)
+    (numbered_set (chains_of chains.links) chains.numbers pairs c.args.chain froms c.args.class c.in_ok-numbers.numbers.items place c.requires.is c.in_ok-numbers.ensures.numbers
+    (numbered_more (chains_of chains.links) chains.numbers c.args.edges.now.pairs pairs c.in_ok-numbers.ensures.more c.requires.numbered)))
