@@ -279,7 +279,8 @@ module _ (old new : Fields) (last : Listed) (kept : IsKept old) (adds : IsPushed
   }
 
   all_edges : AreMet (start_of new.scan).edges (map (named_dependency names) joined.edges)
-  all_edges = are-met same_dependency Decides-same_dependency dependencies_of sources source (named_dependency names) (facts.named_dependency known) (edge_of new.numbers source.number) old.edges new.scan.locks.edges
+  all_edges = are-met same_dependency Decides-same_dependency dependencies_of sources source (named_dependency names)
+      (facts.named_dependency known) (edge_of new.numbers source.number) old.edges new.scan.locks.edges
       (named_rows known new.numbers names adds.names source.number (drop (length old.edges) new.scan.locks.edges) adds.own_edges) (start_of old.scan).edges met_edges adds.shows.edges
 
   all_uses : AreMet (start_of new.scan).uses (map (named_use names) joined.usage)

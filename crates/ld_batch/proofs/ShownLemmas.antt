@@ -68,7 +68,8 @@ held_classes = by_pushes (λ past. All (λ one. IsClass past one.class) (held pa
         Holds : PlainEvent → List Acquisition → Type 0
         Holds e = All (λ one. IsClass (past ++ e ∷ []) one.class)
 
-        acquired : (e : PlainEvent) (lock : PlainLock) → lock_acquired e ≡ Some lock → filter_map class_acquired (e ∷ []) ≡ class_with lock (sub_taken e) ∷ [] → Holds e (held past) → Holds e (held (past ++ e ∷ []))
+        acquired : (e : PlainEvent) (lock : PlainLock) → lock_acquired e ≡ Some lock →
+            filter_map class_acquired (e ∷ []) ≡ class_with lock (sub_taken e) ∷ [] → Holds e (held past) → Holds e (held (past ++ e ∷ []))
         acquired e lock is class all = subst (Holds e) (sym (held-acquires past e lock is))
             (All-push (λ one. IsClass (past ++ e ∷ []) one.class) (held past) (acquisition_at past e lock) all (new_class past e (class_with lock (sub_taken e)) class))
 
@@ -181,7 +182,8 @@ module _ (start : Start) (all : List Position) (scan : Scan) (at : IsAt start al
       let named_dependency : list_any (same_class (get_or scan.classes n no_class)) (own_names scan) ≡ true = ap (list_any (same_class (get_or scan.classes n no_class))) at.own ∙ once ∙ there in
       let found = Any-from_list_any (same_class (get_or scan.classes n no_class)) (own_names scan) named_dependency in
       let inside : found.0 < length scan.own = omega (arith, found.2, length-map scan.own (λ k. get_or scan.classes k no_class)) in
-      let name : get_or (own_names scan) found.0 no_class ≡ get_or scan.classes (get_or scan.own found.0 0) no_class = get_or-map (λ k. get_or scan.classes k no_class) scan.own found.0 0 no_class inside in
+      let name : get_or (own_names scan) found.0 no_class ≡ get_or scan.classes (get_or scan.own found.0 0) no_class =
+      get_or-map (λ k. get_or scan.classes k no_class) scan.own found.0 0 no_class inside in
       let same : get_or scan.classes n no_class ≡ get_or scan.classes (get_or scan.own found.0 0) no_class =
       (same_class-Decides (get_or scan.classes n no_class) found.1).0 found.4 ∙ sym found.3 ∙ get_or_default (own_names scan) found.0 _ no_class found.2 ∙ name in
       let low : get_or scan.own found.0 0 < length scan.classes = at.many.2 found.0 0 inside in
@@ -200,7 +202,8 @@ module _ (start : Start) (all : List Position) (scan : Scan) (at : IsAt start al
       (own_number edge.from inside.0 both.0, own_number edge.to inside.1 both.1)
     where
       by_name : All (λ (s : Seen Dependency). OfClasses (events all) s.what) (map (facts.named_dependency scan.classes) (drop (length start.edges) scan.locks.edges))
-      by_name = subst (All (λ (s : Seen Dependency). OfClasses (events all) s.what)) (ap (drop (length start.edges)) (sym at.edges) ∙ drop-map (facts.named_dependency scan.classes) (length start.edges) scan.locks.edges)
+      by_name = subst (All (λ (s : Seen Dependency). OfClasses (events all) s.what))
+          (ap (drop (length start.edges)) (sym at.edges) ∙ drop-map (facts.named_dependency scan.classes) (length start.edges) scan.locks.edges)
           (all_added (λ (s : Seen Dependency). OfClasses (events all) s.what) same_dependency_seen start.edges (seen dependencies_at all)
           (seen_classes dependencies_at OfClasses (λ past others d is. (more_classes past others d.from is.0, more_classes past others d.to is.1)) dependency_classes all))
 

@@ -95,13 +95,15 @@ module _ {start : Start} (all : List Position) (old : Scan) (is : IsAt start all
 
   pub fault-classes : place_of (own_names old) (class_taken how lock) ≡ None → MOST_CLASSES ≤ length old.own → event_fault (events all) (acquisition how name lock) ≡ Some TooManyClasses
   fault-classes new full =
-      let many : is_one_too_many same_class MOST_CLASSES (classes (events all)) (class_taken how lock) ≡ true = rw (← is.own) (is_one_too_many-full same_class no_class same_class-Decides MOST_CLASSES (own_names old) (class_taken how lock) new
+      let many : is_one_too_many same_class MOST_CLASSES (classes (events all)) (class_taken how lock) ≡ true =
+      rw (← is.own) (is_one_too_many-full same_class no_class same_class-Decides MOST_CLASSES (own_names old) (class_taken how lock) new
       (omega (arith, count, full)) (omega (arith, count, is.few_classes))) in
       rw (tasks_fit, class-acquired name lock how, many) refl
 
   module _ (class_fits : place_of (own_names old) (class_taken how lock) ≡ None → length old.own < MOST_CLASSES) where
     classes_fit : is_one_too_many same_class MOST_CLASSES (classes (events all)) (class_taken how lock) ≡ false
-    classes_fit = rw (← is.own) (is_one_too_many-fits same_class no_class same_class-Decides MOST_CLASSES (own_names old) (class_taken how lock) (λ new. let low = class_fits new in omega (arith, count, low)))
+    classes_fit = rw (← is.own) (is_one_too_many-fits same_class no_class same_class-Decides MOST_CLASSES
+        (own_names old) (class_taken how lock) (λ new. let low = class_fits new in omega (arith, count, low)))
 
     pub fault-deep : length (held_by (events all) name) ≡ MOST_HELD → event_fault (events all) (acquisition how name lock) ≡ Some TooDeep
     fault-deep deep = rw (

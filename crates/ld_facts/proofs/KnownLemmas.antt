@@ -73,12 +73,17 @@ module _ (names : List PlainClass) (edges : List EdgeFact) (shown : List (Seen D
   once_named i j d before below both =
       let apart : AllPairs (λ a b. same_dependency_seen b a ≡ false) (map (named_dependency names) edges) = subst (AllPairs (λ a b. same_dependency_seen b a ≡ false)) (sym is)
       (each_once-pairs same_dependency_seen alike_seen shown) in
-      let differ : same_dependency_seen (get_or (map (named_dependency names) edges) j (named_dependency names d)) (get_or (map (named_dependency names) edges) i (named_dependency names d)) ≡ false = apart
+      let differ : same_dependency_seen (get_or (map (named_dependency names) edges) j (named_dependency names d))
+      (get_or (map (named_dependency names) edges) i (named_dependency names d)) ≡ false = apart
       i j (named_dependency names d) before (omega (arith, below, length-map edges (named_dependency names))) in
-      let here : get_or (map (named_dependency names) edges) i (named_dependency names d) ≡ named_dependency names (get_or edges i d) = get_or-map (named_dependency names) edges i d (named_dependency names d) (omega arith) in
-      let there : get_or (map (named_dependency names) edges) j (named_dependency names d) ≡ named_dependency names (get_or edges j d) = get_or-map (named_dependency names) edges j d (named_dependency names d) below in
-      let alike : (named_dependency names (get_or edges j d)).what ≡ (named_dependency names (get_or edges i d)).what = (λ k. record { from = get_or names (sym both.0 k) no_class; to = get_or names (sym both.1 k) no_class }) in
-      true≢false (sym ((Decides-same_dependency (named_dependency names (get_or edges j d)).what (named_dependency names (get_or edges i d)).what).1 alike) ∙ (λ k. same_dependency_seen (sym there k) (sym here k)) ∙ differ)
+      let here : get_or (map (named_dependency names) edges) i (named_dependency names d) ≡ named_dependency names (get_or edges i d) =
+      get_or-map (named_dependency names) edges i d (named_dependency names d) (omega arith) in
+      let there : get_or (map (named_dependency names) edges) j (named_dependency names d) ≡ named_dependency names (get_or edges j d) =
+      get_or-map (named_dependency names) edges j d (named_dependency names d) below in
+      let alike : (named_dependency names (get_or edges j d)).what ≡ (named_dependency names (get_or edges i d)).what =
+      (λ k. record { from = get_or names (sym both.0 k) no_class; to = get_or names (sym both.1 k) no_class }) in
+      true≢false (sym ((Decides-same_dependency (named_dependency names (get_or edges j d)).what (named_dependency names (get_or edges i d)).what).1 alike)
+      ∙ (λ k. same_dependency_seen (sym there k) (sym here k)) ∙ differ)
 
 -- numbered usage bits that are these by name, each once
 once_used : (names : List PlainClass) (uses : List UsageFact) (shown : List (Seen Use)) → map (named_use names) uses ≡ each_once same_use_seen shown →

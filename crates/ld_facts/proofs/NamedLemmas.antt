@@ -77,7 +77,8 @@ tell-named names distinct edges line class (from ∷ froms) within inside all =
     let here : IsBetween names (edge_to class line from) = (All-head (λ f. f < length names) from froms all, inside) in
     tell-named names distinct (with_edge_fact edges (edge_to class line from)) line class froms
     (within-with_edge_fact names edges (edge_to class line from) within here) inside (All-tail (λ f. f < length names) from froms all)
-    ∙ ap (λ zs. fold (with_new same_dependency_seen) zs (map (λ f. named_dependency names (edge_to class line f)) froms)) (with_edge_fact-named names distinct edges (edge_to class line from) within here)
+    ∙ ap (λ zs. fold (with_new same_dependency_seen) zs (map (λ f. named_dependency names (edge_to class line f)) froms))
+    (with_edge_fact-named names distinct edges (edge_to class line from) within here)
 
 pub within-tell : (names : List PlainClass) (edges : List EdgeFact) (line class : ℕ) (froms : List ℕ) → All (IsBetween names) edges → class < length
     names → All (λ from. from < length names) froms → All (IsBetween names) (fold with_edge_fact edges (map (edge_to class line) froms))
@@ -104,7 +105,8 @@ name-more names name i low = by (is_some (place_of names name))
 pub IsNameAt-more : (names : List PlainClass) (name : PlainClass) (i : ℕ) (other : PlainClass) → IsNameAt names i other → IsNameAt (with_name names name) i other
 IsNameAt-more names name i other at = (number-more names name i at.0, name-more names name i at.0 ∙ at.1)
 
-pub named-more : (names : List PlainClass) (name : PlainClass) (edges : List EdgeFact) → All (IsBetween names) edges → map (named_dependency (with_name names name)) edges ≡ map (named_dependency names) edges
+pub named-more : (names : List PlainClass) (name : PlainClass) (edges : List EdgeFact) →
+    All (IsBetween names) edges → map (named_dependency (with_name names name)) edges ≡ map (named_dependency names) edges
 named-more names name [] within = refl
 named-more names name (x ∷ xs) within =
     let here = All-head (IsBetween names) x xs within in
@@ -114,10 +116,12 @@ named-more names name (x ∷ xs) within =
     (λ i. record { what = record { from = from_same i; to = to_same i }; line = x.line } ∷ rest i)
 
 pub within-more : (names : List PlainClass) (name : PlainClass) (edges : List EdgeFact) → All (IsBetween names) edges → All (IsBetween (with_name names name)) edges
-within-more names name edges within = All-weaker (IsBetween names) (IsBetween (with_name names name)) (λ x here. (number-more names name x.from here.0, number-more names name x.to here.1)) edges within
+within-more names name edges within =
+    All-weaker (IsBetween names) (IsBetween (with_name names name)) (λ x here. (number-more names name x.from here.0, number-more names name x.to here.1)) edges within
 
 pub distinct-each_once : (names : List PlainClass) → AreDistinct (each_once same_class names)
-distinct-each_once names = by_pushes (λ ns. AreDistinct (each_once same_class ns)) none (λ ns n h. subst AreDistinct (sym (names-more ns n)) (apart-with_one same_class no_class same_class-Decides (each_once same_class ns) n h)) names
+distinct-each_once names = by_pushes (λ ns. AreDistinct (each_once same_class ns)) none
+    (λ ns n h. subst AreDistinct (sym (names-more ns n)) (apart-with_one same_class no_class same_class-Decides (each_once same_class ns) n h)) names
   where
     none : AreDistinct []
     none i j other at_i at_j = absurd (omega (arith, at_i.0))

@@ -37,7 +37,8 @@ length-more names name = by (is_some (place_of names name))
     by false = omega (arith, length-append names (name ∷ []))
 
 -- the names of these classes have that of each
-any-own : (names : List PlainClass) (own : List ℕ) (id : ℕ) (name : PlainClass) → list_any (nat_eq id) own ≡ true → get_or names id no_class ≡ name → list_any (same_class name) (names_at names own) ≡ true
+any-own : (names : List PlainClass) (own : List ℕ) (id : ℕ) (name : PlainClass) → list_any (nat_eq id) own ≡ true →
+    get_or names id no_class ≡ name → list_any (same_class name) (names_at names own) ≡ true
 any-own names [] id name there is = absurd (true≢false (sym there))
 any-own names (x ∷ xs) id name there is = by (nat_eq id x) refl (any-own names xs id name)
   where

@@ -132,7 +132,8 @@ module _ (names : List PlainClass) (stack : List Hold) (interrupts : Interrupts)
   inner_held =
       sym (any_held_by past key)
       ∙ sym (list_any-filter (has_key key) (λ other. same_frame frame other.key.frame) in_frame (held_by past task))
-      ∙ list_any_agree (has_key key) (λ other. same_lock lock other.key.lock) (λ other. same_frame frame other.key.frame && bytes_eq task other.key.task) told_by_lock (held_in past task frame) all_in_frame
+      ∙ list_any_agree (has_key key) (λ other. same_lock lock other.key.lock)
+      (λ other. same_frame frame other.key.frame && bytes_eq task other.key.task) told_by_lock (held_in past task frame) all_in_frame
       ∙ sym (list_any-map lock_held is_lock (held_in past task frame))
       ∙ ap (list_any is_lock) (sym (inner-is names stack interrupts past task is grouped))
       ∙ list_any-map (named_hold names) is_lock inner

@@ -168,7 +168,8 @@ module _ {start : Start} (all : List Position) (scan : Scan) (is_at : IsAt start
 pub scan_too_many_tasks : {start : Start} (all : List Position) (scan : Scan) (e : PlainEvent) → IsAt start all scan → place_of_task scan.tasks (task_of e) ≡ None → MOST_TASKS ≤
     length scan.tasks → event_fault (events all) e ≡ Some TooManyTasks
 scan_too_many_tasks all scan e is_at new full =
-    too_many_tasks (events all) e (ap (λ ns. is_one_too_many bytes_eq MOST_TASKS ns (task_of e)) (sym is_at.tasks) ∙ is_one_too_many-full bytes_eq [] bytes_eq-Decides MOST_TASKS scan.tasks (task_of e) new full is_at.few_tasks)
+    too_many_tasks (events all) e (ap (λ ns. is_one_too_many bytes_eq MOST_TASKS ns (task_of e)) (sym is_at.tasks)
+    ∙ is_one_too_many-full bytes_eq [] bytes_eq-Decides MOST_TASKS scan.tasks (task_of e) new full is_at.few_tasks)
 
 -- the same of an acquisition
 pub acquisition_too_many_tasks : {start : Start} (all : List Position) (scan : Scan) (how : Taking) (name : List ℕ) (lock : PlainLock) → IsAt start all scan → place_of_task
@@ -180,4 +181,5 @@ acquisition_too_many_tasks all scan Waiting name lock is_at new full = scan_too_
 -- one that has not
 pub scan_not_too_many_tasks : {start : Start} (all : List Position) (scan : Scan) (name : List ℕ) → IsAt start all scan →
     (place_of_task scan.tasks name ≡ None → length scan.tasks < MOST_TASKS) → is_one_too_many bytes_eq MOST_TASKS (tasks (events all)) name ≡ false
-scan_not_too_many_tasks all scan name is_at fits = ap (λ ns. is_one_too_many bytes_eq MOST_TASKS ns name) (sym is_at.tasks) ∙ is_one_too_many-fits bytes_eq [] bytes_eq-Decides MOST_TASKS scan.tasks name fits
+scan_not_too_many_tasks all scan name is_at fits =
+    ap (λ ns. is_one_too_many bytes_eq MOST_TASKS ns name) (sym is_at.tasks) ∙ is_one_too_many-fits bytes_eq [] bytes_eq-Decides MOST_TASKS scan.tasks name fits

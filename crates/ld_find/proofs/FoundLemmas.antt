@@ -133,7 +133,8 @@ nothing_found found cycle conflict forbidden = record {
 -- where nothing of a kind was found, exact alarms say that there is none
 pub of_each_from_exact : (sources : List PlainSource) (classes : List PlainClass) (found : Found) → AreExact sources (named_alarms classes found) → IsOfEach sources found
 of_each_from_exact sources classes found exact = record {
-  cycle = λ none a b cycle. subst (λ o. IsExact {A = PlainClass × PlainClass} (λ p. IsCycle sources p.0 p.1) (option_map (λ (e : Edge). named_pair classes e.from e.to) o)) none exact.cycle ((a, b), cycle);
+  cycle = λ none a b cycle. subst
+      (λ o. IsExact {A = PlainClass × PlainClass} (λ p. IsCycle sources p.0 p.1) (option_map (λ (e : Edge). named_pair classes e.from e.to) o)) none exact.cycle ((a, b), cycle);
   conflict = λ state none class conflict. subst (λ o. IsExact (IsConflict sources state) (option_map (λ c. get_or classes c no_class) o)) none (exact.conflict state) (class, conflict);
   forbidden = λ state none a b walk. subst (λ o. IsExact {A = PlainClass × PlainClass} (λ p. IsForbidden sources state p.0 p.1)
       (option_map (λ (f : Forbidden). named_pair classes f.from f.to) o)) none (exact.forbidden state) ((a, b), walk);

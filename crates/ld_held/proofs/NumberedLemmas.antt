@@ -86,7 +86,8 @@ known_numbers pairs class froms kept are None is = tt
 known_numbers pairs class froms kept are (Some numbers) is = subst (λ k. IfSome k (AreNumbers pairs class froms)) (sym is) are
 
 -- a chain has its place among the numbers, where they lie in memory
-pub kept_within : (links : _) (numbers : List (Option (Vec ℕ Global))) (known : KeptChains) (number : ℕ) → record { links = links; numbers = map (option_map (λ (v : Vec ℕ Global). v.items)) numbers } ≡
+pub kept_within : (links : _) (numbers : List (Option (Vec ℕ Global))) (known : KeptChains) (number : ℕ) →
+    record { links = links; numbers = map (option_map (λ (v : Vec ℕ Global). v.items)) numbers } ≡
     known → length (map (option_map (λ (v : Vec ℕ Global). v.items)) numbers) ≡ length links → number < length (chains_of known.links) → number < length numbers
 kept_within links numbers known number is many within = omega (
   arith,

@@ -168,10 +168,20 @@ impl<'a> Locks<'a> {
         }) }
     {
         let stack = self.stacks.innermost(task);
-        let chain = extended(&mut self.chains, &mut self.edges, self.alloc, stack, class)?;
+        let met = self.chains.len();
+        let chain = linked(&mut self.chains, stack, class)?;
         if self.told.has(chain) {
             return Ok(());
         }
+        learn(
+            &mut self.chains,
+            &mut self.edges,
+            self.alloc,
+            met,
+            chain,
+            stack,
+            class,
+        )?;
         let known = self.chains.numbers(chain);
         self.edges.tell_to(self.alloc, known, stack, class, line)?;
         self.told.add(chain)
@@ -326,42 +336,14 @@ fn linked(chains: &mut Chains, stack: &[Held<'_>], class: u32) -> Result<usize, 
     chains.add(link)
 }
 
-/// The same, and where the chain was met before, the numbers of its pairs are kept from here on. One that comes
-/// for the first time may never come again.
-fn extended(
-    chains: &mut Chains,
-    edges: &mut Edges,
-    alloc: Global,
-    stack: &[Held<'_>],
-    class: u32,
-) -> Result<usize, AllocError>
-    requires before { IfSome (chain_of (map plain_held stack.now))
-        (λ n. n < length (chains_of chains.old.links)) }
-    requires classes { chain_before (chains_of chains.old.links) (chain_of (map plain_held stack.now))
-        ≡ map (λ held. held.class) stack.now }
-    requires numbered { HasItsNumbers (chains_of chains.old.links) chains.old.numbers edges.old.pairs }
-    ensures numbered { HasItsNumbers (chains_of chains.new.links) chains.new.numbers edges.new.pairs }
-    ensures edges { edges.new.edges ≡ edges.old.edges }
-    ensures more { IsExtended (chains_of chains.old.links) (chains_of chains.new.links) }
-    ensures within { IfOk result (λ n. n < length (chains_of chains.new.links)) }
-    ensures chain { IfOk result (λ n. slice_index_or (chains_of chains.new.links) n []
-        ≡ map (λ held. held.class) stack.now ++ class ∷ []) }
-{
-    let met = chains.len();
-    let chain = linked(chains, stack, class)?;
-    if chain >= met {
-        return Ok(chain);
-    }
-    learn(chains, edges, alloc, chain, stack, class)?;
-    Ok(chain)
-}
-
-/// Keeps the numbers of the pairs of a chain, where there is room for them and they aren't kept: those from
-/// the classes of a stack to one more.
+/// Keeps the numbers of the pairs of a chain, those from the classes of a stack to one more, where it is one
+/// of the chains `met` before, there is room for them and they aren't kept. Most chains are told once and
+/// never again.
 fn learn(
     chains: &mut Chains,
     edges: &mut Edges,
     alloc: Global,
+    met: usize,
     chain: usize,
     stack: &[Held<'_>],
     class: u32,
@@ -374,7 +356,7 @@ fn learn(
     ensures links { chains.new.links ≡ chains.old.links }
     ensures edges { edges.new.edges ≡ edges.old.edges }
 {
-    if chains.numbers(chain).is_some() || !chains.has_room() {
+    if chain >= met || chains.numbers(chain).is_some() || !chains.has_room() {
         return Ok(());
     }
     let numbers = edges.numbers(alloc, stack, class)?;

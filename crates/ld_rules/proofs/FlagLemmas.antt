@@ -19,7 +19,8 @@ use Rattle.ld_rules.specs.Held.{Placed, placed, same_frame}
 use Rattle.ld_rules.specs.Flags.{same_state, says_flag, says_begun, flag_begun, flag_for, says_flag_in, last_said, flag_in, flag, is_enabled}
 use Rattle.ld_rules.specs.Inner.Levels.{is_interrupt, levels, levels_in, stack, state_of_frame, states}
 use Rattle.ld_rules.specs.declared.outcome.TheConstants.{MOST_TASKS}
-use Rattle.ld_rules.specs.Outcome.{tasks, is_one_too_many, has_too_many_classes, is_too_deep, is_not_held, is_badly_nested, is_masked, is_bad_exit, is_held_at_exit, is_bad_enable, is_late_begin, event_fault}
+use Rattle.ld_rules.specs.Outcome.{tasks, is_one_too_many, has_too_many_classes, is_too_deep, is_not_held, is_badly_nested}
+use Rattle.ld_rules.specs.Outcome.{is_masked, is_bad_exit, is_held_at_exit, is_bad_enable, is_late_begin, event_fault}
 use Rattle.ld_rules.proofs.PlaceLemmas.{by_pushes, last_or-push}
 use Rattle.ld_rules.proofs.BegunLemmas.{flag_begun-none, flag_begun-some, says_begun-other}
 use Rattle.ld_rules.proofs.FrameLemmas.{frames-enter, frames-exit, frames-exit_other, frames-exit_none, frames-other}

@@ -56,7 +56,8 @@ Grouped (f ∷ fs) ss keys = (outer : List Acquisition) × ((own : List Acquisit
     ((keys ≡ outer ++ own) × (length outer ≡ get_or ss 0 0) × (list_all (λ one. same_frame (Some f.place) one.key.frame) own ≡ true) × Grouped fs (drop 1 ss) outer))
 
 -- acquisitions grouped by frames are in none of a later place
-grouped_elsewhere : (n m : ℕ) (fs : List Frame) (ss : List ℕ) (keys : List Acquisition) → m ≤ n → Falls m fs → Grouped fs ss keys → list_all (λ one. not (same_frame (Some n) one.key.frame)) keys ≡ true
+grouped_elsewhere : (n m : ℕ) (fs : List Frame) (ss : List ℕ) (keys : List Acquisition) → m ≤ n →
+    Falls m fs → Grouped fs ss keys → list_all (λ one. not (same_frame (Some n) one.key.frame)) keys ≡ true
 grouped_elsewhere n m [] ss keys le falls h =
     list_all_mono (λ one. same_frame None one.key.frame) (λ one. not (same_frame (Some n) one.key.frame))
     (λ one is. ap (λ frame. not (same_frame (Some n) frame)) (sym ((Decides-same_frame None one.key.frame).0 is))) keys h

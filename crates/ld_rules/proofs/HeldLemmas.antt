@@ -12,7 +12,9 @@ use Rattle.ld_trace.specs.Events.{PlainEvent, PlainLock}
 use Rattle.ld_trace.specs.Events.PlainEvent.{Acquire, Try, Nested, Release, Enter, Exit, Enable, Disable, Begin}
 use Rattle.ld_rules.specs.Open.{openings}
 use Rattle.ld_rules.specs.Frames.{enters, exits, task_of, frame_of}
-use Rattle.ld_rules.specs.Held.{Placed, placed, Key, key_with, lock_acquired, lock_released, acquires, releases, same_option, same_frame, same_lock, same_key, Acquisition, acquisition_of, class_with, sub_taken, held, held_by}
+use Rattle.ld_rules.specs.Held.{Placed, placed, Key, key_with, lock_acquired, lock_released, acquires, releases, same_option}
+use Rattle.ld_rules.specs.Held.{same_frame, same_lock, same_key, Acquisition, acquisition_of, class_with, sub_taken, held}
+use Rattle.ld_rules.specs.Held.{held_by}
 use Rattle.ld_rules.specs.Inner.Scanned.{remove_last}
 use Rattle.ld_rules.proofs.OpenLemmas.{HasKeys, openings-opens, openings-closes, openings-neither}
 use Rattle.ld_rules.proofs.RemoveLemmas.{map-remove_last, filter-remove_last, filter-remove_other, list_any-filter}

@@ -3,6 +3,8 @@ use Rattle.std.proofs.Common.{ℕ, ◌≡◌, ◌<◌, Bool, true, false, not, L
 use Rattle.std.proofs.Math.Numerals.{one-add}
 use Rattle.std.specs.List.{filter, prefix_len, position_or_len, slice_split}
 use Rattle.ld_trace.specs.Lines.{is_blank, is_empty, fields}
+use Rattle.ld_trace.specs.Sources.{begins_trace}
+use Rattle.ld_trace.specs.Inner.Splitting.{begins_with_t}
 
 -- a blank before a field belongs to none
 fields-blank : (b : ℕ) (text : List ℕ) → is_blank b ≡ true → fields (b ∷ text) ≡ fields text
@@ -47,3 +49,12 @@ fields-run (b ∷ text) some full = by (is_blank b) refl full
 pub fields-empty : (text : List ℕ) → length text ≡ 0 → fields text ≡ []
 fields-empty [] none = refl
 fields-empty (b ∷ text) none = absurd (omega arith)
+
+-- what begins with a field of another letter is no header
+pub other-letter : (text : List ℕ) → prefix_len is_blank text ≡ 0 → begins_with_t text ≡ false → begins_trace (fields text) ≡ false
+other-letter [] full other = refl
+other-letter (b ∷ text) full other = by (is_blank b) refl full
+  where
+    by : (test : Bool) → is_blank b ≡ test → prefix_len is_blank (b ∷ text) ≡ 0 → begins_trace (fields (b ∷ text)) ≡ false
+    by true blank none = absurd (let h = rw (blank, one-add) at none in cc)
+    by false full none = let s = split-run text in rw (full, s.is, other) refl

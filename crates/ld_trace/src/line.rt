@@ -53,7 +53,7 @@ fn blank_len(text: &[u8]) -> usize
 }
 
 /// What stands after the blanks at the front.
-fn skip_blanks(text: &[u8]) -> &[u8]
+pub(crate) fn skip_blanks(text: &[u8]) -> &[u8]
     ensures same { fields text.now ≡ fields result.now }
     ensures front { prefix_len is_blank result.now ≡ 0 }
 {

@@ -38,7 +38,8 @@ joined before (Some m) last false new = sym (earlier_of-none (earlier_of before 
 -- the classes of a batch are distinct
 batch_distinct : (batch : PlainBatch) → IsBatch batch → AreDistinct batch.classes
 batch_distinct batch is =
-    subst AreDistinct (sym is.classes) (apart-from_IsDistinct same_class no_class same_class-Decides (union_classes batch.sources) (IsDistinct-each_once same_class same_class-Decides (flat_map classes_of batch.sources)))
+    subst AreDistinct (sym is.classes) (apart-from_IsDistinct same_class no_class same_class-Decides
+    (union_classes batch.sources) (IsDistinct-each_once same_class same_class-Decides (flat_map classes_of batch.sources)))
 
 -- Rows, no two of which are of the same thing.
 module _ {R A : Type 0} (same : A → A → Bool) (equal : (a b : A) → same a b ≡ true → a ≡ b) (name : R → Met A) (rows : List R) where
@@ -86,7 +87,8 @@ module _ (batch : PlainBatch) (is : IsBatch batch) where
       let a = is.within i d (omega (arith, before, within)) in
       let b = is.within j d within in
       is.once i j d before within (
-        batch_distinct batch is (get_or batch.edges i d).from (get_or batch.edges j d).from (named_dependency batch.classes (get_or batch.edges j d)).what.from (a.0, ap (λ x. x.from) same) (b.0, refl),
+        batch_distinct batch is (get_or batch.edges i d).from (get_or batch.edges j d).from
+            (named_dependency batch.classes (get_or batch.edges j d)).what.from (a.0, ap (λ x. x.from) same) (b.0, refl),
         batch_distinct batch is (get_or batch.edges i d).to (get_or batch.edges j d).to (named_dependency batch.classes (get_or batch.edges j d)).what.to (a.1, ap (λ x. x.to) same) (b.1, refl),
       )
 

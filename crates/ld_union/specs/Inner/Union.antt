@@ -89,7 +89,8 @@ IsCycleEdge edges closing = MatchOption closing (¬ ((e : Edge) × IsCycleAt edg
 
 -- What a union keeps true of its fields: the graph has the classes and the edges, each class has a row of
 -- usage, and for each state it is known what is reached.
-pub record IsUnion (classes : List PlainClass) (graph : graphs.PlainGraph) (dependencies : List Witnessed) (usage : List UsageRow) (closed_by : Option Edge) (reach : PerState PlainReach) : Type 0 where
+pub record IsUnion (classes : List PlainClass) (graph : graphs.PlainGraph) (dependencies : List Witnessed)
+    (usage : List UsageRow) (closed_by : Option Edge) (reach : PerState PlainReach) : Type 0 where
   pub numbered : AreBetween classes dependencies
   pub few : length classes ≤ MOST_NAMES
   pub count : graph.classes ≡ length classes

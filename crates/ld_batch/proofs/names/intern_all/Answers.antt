@@ -15,10 +15,12 @@ loop-id-preserved c =
     record {
       made = added ∙ (λ i. with_name (c.loop-id.invariant.made i) (c.name-name.ensures.name i)) ∙ sym (fold_more with_name c.args.names.now c.args.more.now c.loop-id.id no_class (omega arith));
       counted = search rules;
-      longer = subst (λ names. IsLonger c.args.names.now names (c.loop-id.id + 1)) (sym added) (longer_more c.args.names.now c.loop-id.names (plain_class c.name-name.result) c.loop-id.id c.loop-id.invariant.longer);
+      longer = subst (λ names. IsLonger c.args.names.now names (c.loop-id.id + 1)) (sym added)
+          (longer_more c.args.names.now c.loop-id.names (plain_class c.name-name.result) c.loop-id.id c.loop-id.invariant.longer);
       places =
           rw (c.in-Ok-push.ensures.items, sym one_more)
-          (places_more c.loop-id.names c.intern_guessed.new.names first (plain_class c.name-name.result) c.loop-id.places.items c.in-Ok.place c.loop-id.invariant.places c.in-Ok.ensures.kept c.in-Ok.ensures.place);
+          (places_more c.loop-id.names c.intern_guessed.new.names first (plain_class c.name-name.result)
+          c.loop-id.places.items c.in-Ok.place c.loop-id.invariant.places c.in-Ok.ensures.kept c.in-Ok.ensures.place);
       room = search rules;
     }
 

@@ -12,7 +12,8 @@ loop-class-preserved c =
     let added : ClassName × ℕ = (c.name.result, c.loop-class.class) in
     let pushed : c.push.new.self.items ≡ old ++ added ∷ [] = search rules in
     record {
-      names = subst (All (λ p. IsNameAt c.args.classes.now p.1 (plain_class p.0))) (sym pushed) (All-push (λ p. IsNameAt c.args.classes.now p.1 (plain_class p.0)) old added c.loop-class.invariant.names (search rules));
+      names = subst (All (λ p. IsNameAt c.args.classes.now p.1 (plain_class p.0))) (sym pushed)
+          (All-push (λ p. IsNameAt c.args.classes.now p.1 (plain_class p.0)) old added c.loop-class.invariant.names (search rules));
       numbers = ap (map (λ p. p.1)) pushed ∙ map-append (λ p. p.1) old (added ∷ []) ∙ ap (λ l. l ++ c.loop-class.class ∷ [])
           c.loop-class.invariant.numbers ∙ sym (range_with_len-more c.loop-class.class);
     }

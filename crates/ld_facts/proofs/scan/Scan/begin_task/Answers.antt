@@ -29,7 +29,9 @@ pub returns-clause-ok : goal.returns-clause-ok
 returns-clause-ok c start all line is_at =
     let new = ap is_some (sym c.find.ensures.place) ∙ sym c.is_some.ensures ∙ c.if-is_some.false in
     let has = subst (λ (ts : List (List ℕ)). HasTask (record c.args.self.now { tasks = ts }) c.args.task.now c.in_ok-task.task c.task.new.self) c.find.ensures.same c.in_ok-task.ensures.task in
-    let first = subst (λ (b : Bool). IsSet Hard b (get_or c.task.new.self.locks.interrupts c.in_ok-task.task fresh) (get_or c.set.new.self.interrupts c.in_ok-task.task fresh)) c.of.ensures c.set.ensures.set in
-    let second = subst (λ (b : Bool). IsSet Soft b (get_or c.set.new.self.interrupts c.in_ok-task.task fresh) (get_or c.set-2.new.self.interrupts c.in_ok-task.task fresh)) c.of-2.ensures c.set-2.ensures.set in
+    let first = subst (λ (b : Bool). IsSet Hard b (get_or c.task.new.self.locks.interrupts c.in_ok-task.task fresh) (get_or c.set.new.self.interrupts c.in_ok-task.task fresh))
+    c.of.ensures c.set.ensures.set in
+    let second = subst (λ (b : Bool). IsSet Soft b (get_or c.set.new.self.interrupts c.in_ok-task.task fresh) (get_or c.set-2.new.self.interrupts c.in_ok-task.task fresh))
+    c.of-2.ensures c.set-2.ensures.set in
     begun_task-at all c.args.self.now is_at c.args.task.now c.in_ok-task.task c.task.new.self has new c.args.hard c.args.soft line c.set.new.self
     c.set-2.new.self c.set.ensures.moved first c.set-2.ensures.moved second

@@ -11,7 +11,8 @@ returns-then-has-clause-own c =
 
 pub returns-then-has-clause-fits : goal.returns-then-has-clause-fits
 returns-then-has-clause-fits c none = absurd (
-    own-placed c.args.self.now.classes c.args.self.now.own c.in-Some.class (plain_class c.args.name) ((c.find-known.ensures.exact c.in-Some.class).0 c.in-Some.is) (sym c.has.ensures ∙ c.if-has.true) none)
+    own-placed c.args.self.now.classes c.args.self.now.own c.in-Some.class (plain_class c.args.name)
+    ((c.find-known.ensures.exact c.in-Some.class).0 c.in-Some.is) (sym c.has.ensures ∙ c.if-has.true) none)
 
 pub own_class-requires-clause-new : goal.own_class-requires-clause-new
 own_class-requires-clause-new c =

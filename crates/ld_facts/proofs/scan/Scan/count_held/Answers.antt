@@ -10,7 +10,14 @@ use Rattle.ld_facts.proofs.scan.Scan.count_held.Goals as goal
 
 pub returns-clause-counted : goal.returns-clause-counted
 returns-clause-counted c = on_ok_weaker c.held-2.result
-    (λ counted. ap (λ (uses : List UsageFact). record { tasks = c.args.self.now.tasks; classes = c.args.self.now.classes; own = c.args.self.now.own; locks = c.args.self.now.locks; uses = uses; before = c.args.self.now.before })
+    (λ counted. ap (λ (uses : List UsageFact). record {
+      tasks = c.args.self.now.tasks;
+      classes = c.args.self.now.classes;
+      own = c.args.self.now.own;
+      locks = c.args.self.now.locks;
+      uses = uses;
+      before = c.args.self.now.before;
+    })
     (counted ∙ (λ i. fold with_use c.args.self.now.uses (on_facts (c.interrupts-interrupts.ensures i) c.args.line (classes i)))))
     c.held-2.ensures.uses
   where

@@ -27,6 +27,13 @@ returns-else-branch-clause-fault c fault is start all is_at =
 pub returns-then-branch-clause-ok : goal.returns-then-branch-clause-ok
 returns-then-branch-clause-ok c start all line is_at =
     subst (λ (locks : HeldByTasks). IsAt start (all ++ happens line (Release c.args.task.now (plain_lock c.args.lock)) ∷ [])
-    (record { tasks = c.task.new.self.tasks; classes = c.task.new.self.classes; own = c.task.new.self.own; locks = locks; uses = c.task.new.self.uses; before = c.task.new.self.before })) (sym c.in_ok-let_go.ensures.stacks)
+    (record {
+      tasks = c.task.new.self.tasks;
+      classes = c.task.new.self.classes;
+      own = c.task.new.self.own;
+      locks = locks;
+      uses = c.task.new.self.uses;
+      before = c.task.new.self.before;
+    })) (sym c.in_ok-let_go.ensures.stacks)
     (release-at all c.args.self.now is_at c.args.task.now (plain_lock c.args.lock) c.in_ok-task.task c.task.new.self c.in_ok-task.ensures.task line
     (sym c.in_ok-let_go.ensures.held ∙ c.if-branch.true))

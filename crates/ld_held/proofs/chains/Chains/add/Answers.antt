@@ -36,7 +36,8 @@ invariant_of-self-2 c =
 
 pub returns-clause-number : goal.returns-clause-number
 returns-clause-number c =
-    c.in_ok-number.ensures.index ∙ new_place c.self.inside.links.keys c.args.link (none_of _ c.args.self.now c.args.link c.self.view_is c.requires.new) ∙ ap (λ (k : KeptChains). length k.links) c.self.view_is
+    c.in_ok-number.ensures.index ∙ new_place c.self.inside.links.keys c.args.link (none_of _ c.args.self.now c.args.link c.self.view_is c.requires.new)
+    ∙ ap (λ (k : KeptChains). length k.links) c.self.view_is
 
 pub returns-clause-links : goal.returns-clause-links
 returns-clause-links c =

@@ -6,7 +6,9 @@ use Rattle.ld_held.proofs.NumberedLemmas.{kept_within}
 use Rattle.ld_held.proofs.chains.Chains.numbers.Goals as goal
 
 pub index-requires : goal.index-requires
-index-requires c = let within = kept_within c.self.inside.links.keys c.self.inside.numbers.items c.args.self.now c.args.number c.self.view_is c.self.invariant.many c.requires in omega (arith, within, c.self.inside.numbers.ok)
+index-requires c =
+    let within = kept_within c.self.inside.links.keys c.self.inside.numbers.items c.args.self.now c.args.number c.self.view_is c.self.invariant.many c.requires in
+    omega (arith, within, c.self.inside.numbers.ok)
 
 pub returns-in-Some-clause-kept : goal.returns-in-Some-clause-kept
 returns-in-Some-clause-kept c =

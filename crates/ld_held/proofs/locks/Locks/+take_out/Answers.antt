@@ -1,5 +1,7 @@
 use Rattle.std.proofs.Common.{◌≡◌, ℕ, ◌<◌, ◌≤◌, ◌+◌, ◌-◌, ◌++◌, ◌∷◌, List, [], map, length, take, drop, get_or, set, sym, ap, subst, ◌∙◌, arith, Result, Ok, Err, OnOk}
-use Rattle.std.proofs.lemmas.List.{append-nil, append_assoc, drop-append-le, drop_all, get_or-set_same, length-append, length-drop, length-map, length-set, length-take-le, map_more, take-append-le, take-map, take_all}
+use Rattle.std.proofs.lemmas.List.{append-nil, append_assoc, drop-append-le, drop_all, get_or-set_same, length-append}
+use Rattle.std.proofs.lemmas.List.{length-drop, length-map, length-set, length-take-le, map_more, take-append-le, take-map}
+use Rattle.std.proofs.lemmas.List.{take_all}
 use Rattle.std.proofs.lemmas.Simd.{map-map}
 use Rattle.ld_held.specs.declared.edges.EdgeFact.{EdgeFact}
 use Rattle.ld_held.specs.declared.held.Held.{Held}
@@ -98,8 +100,18 @@ module _ {before : List EdgeFact} (stacks : List PlainStack) (edges : List EdgeF
 
       room : (most : ℕ) → length held ≤ most → (place ≡ top → ⊥) → length (get_or new.stacks task []) < most
       room most depth other =
-          let now : get_or new.stacks task [] ≡ without place lower = ap (λ (k : HeldByTasks). get_or k.stacks task []) lesser ∙ get_or-set_same known.stacks task (without place lower) [] task_within in
-          omega (arith, ap length now, length-append (take place lower) (drop (place + 1) lower), length-take-le place lower (omega (arith, inside, lower_many)), length-drop (place + 1) lower, lower_many, other, inside)
+          let now : get_or new.stacks task [] ≡ without place lower =
+          ap (λ (k : HeldByTasks). get_or k.stacks task []) lesser ∙ get_or-set_same known.stacks task (without place lower) [] task_within in
+          omega (
+            arith,
+            ap length now,
+            length-append (take place lower) (drop (place + 1) lower),
+            length-take-le place lower (omega (arith, inside, lower_many)),
+            length-drop (place + 1) lower,
+            lower_many,
+            other,
+            inside,
+          )
 
       again : {E : Type 0} (r : Result (Unit {0}) E) (d : Held) (last : HeldByTasks) → (place ≡ top → ⊥) → OnOk r
           (last ≡ record new { stacks = set new.stacks task (get_or new.stacks task [] ++ hold_of (plain_held (get_or held top d)) ∷ []) })

@@ -11,7 +11,8 @@ use Rattle.ld_held.proofs.locks.Locks.enter.Goals as goal
 pub invariant_of-self : goal.invariant_of-self
 invariant_of-self c = record {
   tied =
-      tied_moved c.self.inside.stacks c.args.task c.enter.new.self c.set_interrupts.new.self c.set_interrupts.ensures (chains_of c.self.inside.chains.links) c.self.inside.told c.self.inside.edges.edges c.self.invariant.tied
+      tied_moved c.self.inside.stacks c.args.task c.enter.new.self c.set_interrupts.new.self c.set_interrupts.ensures
+      (chains_of c.self.inside.chains.links) c.self.inside.told c.self.inside.edges.edges c.self.invariant.tied
       (within_shown c.self.inside.stacks c.self.inside.edges.edges c.args.self.now c.args.task c.self.view_is c.requires.task)
       (chained_entered (chains_of c.self.inside.chains.links) (get_or c.self.inside.stacks c.args.task empty_stack).held c.args.state c.held-start.result.now
       (get_or c.self.inside.stacks c.args.task empty_stack).interrupts c.interrupts-interrupts.result c.enter.new.self

@@ -10,7 +10,8 @@ use Rattle.ld_held.proofs.locks.Locks.exit.Goals as goal
 pub invariant_of-self : goal.invariant_of-self
 invariant_of-self c = record {
   tied =
-      tied_moved c.self.inside.stacks c.args.task c.exit.new.self c.set_interrupts.new.self c.set_interrupts.ensures (chains_of c.self.inside.chains.links) c.self.inside.told c.self.inside.edges.edges c.self.invariant.tied
+      tied_moved c.self.inside.stacks c.args.task c.exit.new.self c.set_interrupts.new.self c.set_interrupts.ensures
+      (chains_of c.self.inside.chains.links) c.self.inside.told c.self.inside.edges.edges c.self.invariant.tied
       (within_shown c.self.inside.stacks c.self.inside.edges.edges c.args.self.now c.args.task c.self.view_is c.requires.task)
       (chained_left (chains_of c.self.inside.chains.links) (get_or c.self.inside.stacks c.args.task empty_stack).held
       (get_or c.self.inside.stacks c.args.task empty_stack).interrupts c.interrupts-interrupts.result c.exit.new.self

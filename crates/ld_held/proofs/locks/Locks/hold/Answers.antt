@@ -29,7 +29,8 @@ invariant_of-self-2 c = record {
       (tied_push c.self.inside.stacks (chains_of c.self.inside.chains.links) c.self.inside.told c.self.inside.edges.edges c.self.invariant.tied c.args.task held
       (within_shown c.self.inside.stacks c.self.inside.edges.edges c.args.self.now c.args.task c.self.view_is c.requires.task) (chains_of c.linked.new.chains.links)
       c.linked.ensures.more c.in_ok-chain.ensures.within
-      (c.in_ok-chain.ensures.chain ∙ ap (λ cs. cs ++ c.args.class ∷ []) (classes_shown (get_or c.self.inside.stacks c.args.task empty_stack) c.innermost-stack.result.now c.innermost-stack.ensures.held)));
+      (c.in_ok-chain.ensures.chain ∙ ap (λ cs. cs ++ c.args.class ∷ [])
+      (classes_shown (get_or c.self.inside.stacks c.args.task empty_stack) c.innermost-stack.result.now c.innermost-stack.ensures.held)));
   start = before_extended c.self.inside.before (chains_of c.self.inside.chains.links) c.self.inside.told c.self.inside.edges.edges c.self.invariant.start
       (chains_of c.linked.new.chains.links) c.linked.ensures.more;
   numbered = c.linked.ensures.numbered c.self.inside.edges.pairs c.self.invariant.numbered;
