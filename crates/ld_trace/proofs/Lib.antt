@@ -1,8 +1,5 @@
-pub mod LineLemmas
-pub mod FieldLemmas
 pub mod VerbLemmas
 pub mod PlainLemmas
-pub mod VectorLemmas
 pub mod SplitLemmas
 pub mod NumberLemmas
 pub mod SectionLemmas

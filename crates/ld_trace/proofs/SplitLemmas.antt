@@ -40,15 +40,6 @@ prefix_len-next p n k rest x others is first passes =
     let step : prefix_len p rest ≡ 1 + prefix_len p others = rw (first, passes) refl in
     omega (arith, is, step)
 
--- behind the first that pass comes one that fails, or nothing
-pub prefix_len-after : {X : Type 0} (p : X → Bool) (xs : List X) → prefix_len p (drop (prefix_len p xs) xs) ≡ 0
-prefix_len-after p [] = refl
-prefix_len-after p (x ∷ xs) = by (p x) refl (prefix_len-after p xs)
-  where
-    by : (test : Bool) → p x ≡ test → prefix_len p (drop (prefix_len p xs) xs) ≡ 0 → prefix_len p (drop (prefix_len p (x ∷ xs)) (x ∷ xs)) ≡ 0
-    by true is others = rw (is, one-add) others
-    by false is others = rw (is, is) refl
-
 -- a list after a push that was refused or not
 pub pushed : {X A E : Type 0} (r : Result A E) (new old : List X) (x : X) → new ≡ (if is_ok r then old ++ x ∷ [] else old) → is_err r ≡ false → new ≡ old ++ x ∷ []
 pushed (Ok a) new old x is fine = is

@@ -1,4 +1,3 @@
-pub mod Lines
 pub mod Sources
 pub mod Events
 pub mod First

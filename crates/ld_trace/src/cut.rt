@@ -2,33 +2,27 @@
 ghost use Rattle.std.specs.Prelude.{◌≡◌, ◌+◌, ◌≤◌, All, Err, IfErr, IfOk, IfSome, None, OnErr, Some, drop, length, map, slice_get};
 ghost use Rattle.std.specs.List.{concat, prefix_len, take_while};
 ghost use Rattle.std.specs.Option.{option_map};
-ghost use Rattle.ld_trace.specs.Lines.{lines, says_nothing};
+ghost use Rattle.ld_lines.specs.Lines.{lines, says_nothing};
 ghost use Rattle.ld_trace.specs.Sources.{AreNumbered, Fits, fields_of, headers_before, is_header, is_other, label_of, line_faults, opened_at, plain, sections, sources, stream_fault};
-ghost use Rattle.ld_trace.specs.Inner.Splitting.{IsCutAt, begins_with_t, given_from};
+ghost use Rattle.ld_trace.specs.Inner.Splitting.{IsCutAt, given_from};
 
-use crate::line::{begins_comment, is_word, next_field, next_line, skip_blanks, text};
 use crate::source::{LONGEST_STREAM, MOST_TRACES, Source, StreamFault};
+use ld_lines::{begins_comment, first_byte, is_word, next_field, next_line, text};
 use std::alloc::Global;
 
 /// Whether a line is a header, well formed or not.
 fn is_header(line: &[u8]) -> bool
     ensures { result ≡ is_header line.now }
 {
-    let text = skip_blanks(text(line));
-    if !begins_with_t(text) {
+    let text = text(line);
+    // Tells most lines from a header at once.
+    if first_byte(text) != Some(b't') {
         return false;
     }
     match next_field(text) {
         Some((first, _)) => first == b"trace".as_slice(),
         None => false,
     }
-}
-
-/// Whether a text begins as the word `trace` does, by which most lines are told from a header.
-fn begins_with_t(text: &[u8]) -> bool
-    ensures { result ≡ begins_with_t text.now }
-{
-    matches!(text, [b't', ..])
 }
 
 /// Whether a line says nothing.

@@ -5,11 +5,10 @@
 mod cut;
 mod event;
 mod fast;
-mod line;
 mod source;
 
 pub use cut::split;
 pub use event::{Event, LineFault, Lock, State, read_event};
 pub use fast::next_event;
-pub use line::{LONGEST_WORD, next_line, text};
+pub use ld_lines::{LONGEST_WORD, next_line, text};
 pub use source::{LONGEST_STREAM, MOST_TRACES, Source, StreamFault};

@@ -7,7 +7,7 @@ use Rattle.ld_class.specs.Names.{AreDistinct, IsTaskAt, PlainClass, no_class, pl
 use Rattle.ld_class.specs.Names.{with_name, with_task}
 use Rattle.ld_class.specs.declared.names.TheConstants.{MOST_NAMES}
 use Rattle.ld_trace.specs.declared.event.State.{State}
-use Rattle.ld_trace.specs.Lines.{lines, text_of}
+use Rattle.ld_lines.specs.Lines.{lines, text_of}
 use Rattle.ld_trace.specs.Sources.{PlainSource}
 use Rattle.ld_trace.specs.Events.{PlainEvent, PlainLock, Position, position_of, positions, said_by}
 use Rattle.ld_trace.specs.Events.PlainEvent.{Acquire, Try, Nested}

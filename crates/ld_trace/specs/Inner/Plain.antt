@@ -1,21 +1,8 @@
 -- The plainest form of a line of a lock, as the functions that read it in one pass see it. No public
 -- contract cites this file.
-use Rattle.std.specs.Prelude.{◌≡◌, ℕ, ◌<◌, ◌≤◌, Bool, true, ◌&&◌, not, List, ◌∷◌, ◌++◌, length, take, Option, Some, None, IfSome}
-use Rattle.std.specs.Char.{is_ascii_graphic}
-use Rattle.ld_trace.specs.declared.line.TheConstants.{LONGEST_WORD}
-use Rattle.ld_trace.specs.Lines.{is_name, is_separator}
+use Rattle.std.specs.Prelude.{◌≡◌, ℕ, true, List, ◌∷◌, ◌++◌, Option, Some, None, IfSome}
+use Rattle.ld_lines.specs.Lines.{is_name}
 use Rattle.ld_trace.specs.Events.{PlainLock}
-
--- a byte that stands in names
-abbrev pub in_name : ℕ → Bool
-in_name b = is_ascii_graphic b && not (is_separator b)
-
--- these are so many bytes from the front, as many as a word may have
-pub record IsFront (bytes : List ℕ) (len : ℕ) (front : List ℕ) : Type 0 where
-  pub is : front ≡ take len bytes
-  pub long : length front ≡ len
-  pub some : 0 < len
-  pub few : len ≤ LONGEST_WORD
 
 -- how the lock of this class with that instance is spelled
 abbrev pub spelling_with : List ℕ → Option (List ℕ) → List ℕ

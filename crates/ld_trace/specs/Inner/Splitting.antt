@@ -1,8 +1,8 @@
 -- What is left of a stream's lines, as the functions that cut it see it. No public contract cites this
 -- file.
-use Rattle.std.specs.Prelude.{◌≡◌, ◌==◌, ℕ, Bool, false, List, [], ◌∷◌, drop, Option}
+use Rattle.std.specs.Prelude.{◌≡◌, ℕ, List, drop, Option}
 use Rattle.std.specs.List.{filter_map, enumerate_from, prefix_len}
-use Rattle.ld_trace.specs.Lines.{lines}
+use Rattle.ld_lines.specs.Lines.{lines}
 use Rattle.ld_trace.specs.Sources.{fault_at, is_other, line_faults}
 
 -- what the lines from place k on give, each with its place
@@ -15,8 +15,3 @@ pub record IsCutAt (all : List (List ℕ)) (k : ℕ) (rest : List ℕ) : Type 0 
   pub left : lines rest ≡ drop k all
   pub faults : line_faults all ≡ given_from (fault_at all) all k
   pub at_header : prefix_len is_other (lines rest) ≡ 0
-
--- a text begins with `t`, the first letter of a header
-abbrev pub begins_with_t : List ℕ → Bool
-begins_with_t [] = false
-begins_with_t (b ∷ text) = b == 116

@@ -1,6 +1,6 @@
 -- One line that is no header is one more of the section.
 use Rattle.std.proofs.Common.{◌≡◌, ◌∷◌, true, arith, sym, ◌∙◌, refl, ap, length, length-append, drop}
-use Rattle.ld_trace.specs.Lines.{lines}
+use Rattle.ld_lines.specs.Lines.{lines}
 use Rattle.ld_trace.specs.Sources.{is_other}
 use Rattle.ld_trace.proofs.SplitLemmas.{drop-next, concat-next, prefix_len-next}
 use Rattle.ld_trace.proofs.cut.body.Goals as goal

@@ -1,7 +1,7 @@
 -- The lines so far are others than headers, and what they leave is what is not read yet.
 use Rattle.std.proofs.Common.{◌≡◌, ◌+◌, ◌≤◌, ◌++◌, length, take, drop}
 use Rattle.std.specs.List.{concat, prefix_len}
-use Rattle.ld_trace.specs.Lines.{lines}
+use Rattle.ld_lines.specs.Lines.{lines}
 use Rattle.ld_trace.specs.Sources.{is_other}
 use Rattle.ld_trace.proofs.cut.body.Given as goal
 

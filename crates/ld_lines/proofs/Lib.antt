@@ -1,0 +1,4 @@
+pub mod LineLemmas
+pub mod FieldLemmas
+pub mod VectorLemmas
+pub mod FrontLemmas
