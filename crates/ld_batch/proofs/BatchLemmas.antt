@@ -23,11 +23,11 @@ use Rattle.ld_rules.proofs.LeastLemmas.{Ascend, seen-Ascend}
 use Rattle.ld_rules.proofs.PlaceLemmas.{by_pushes, last_or-push}
 use Rattle.ld_rules.proofs.StepLemmas.{Decides-same_dependency}
 use Rattle.ld_rules.proofs.UsageLemmas.{Decides-same_use}
-use Rattle.ld_facts.specs.declared.scan.Scan.{Scan}
-use Rattle.ld_facts.specs.Facts as facts
-use Rattle.ld_facts.specs.Inner.Reading as reading
-use Rattle.ld_facts.specs.Inner.Reading.{IsAt, fresh_scan, start_of, undone}
-use Rattle.ld_facts.proofs.StartLemmas.{begun-at}
+use Rattle.ld_scan.specs.declared.scan.Scan.{Scan}
+use Rattle.ld_scan.specs.Named as scans
+use Rattle.ld_scan.specs.Inner.Scan as scanned
+use Rattle.ld_scan.specs.Inner.Scan.{IsAt, fresh_scan, start_of, undone}
+use Rattle.ld_scan.proofs.StartLemmas.{begun-at}
 use Rattle.ld_batch.specs.Batch.{AreOutcomes, AreRising, IsBatch, IsUse, IsBetween, PlainBatch, named_dependency, named_use, sources_of, witness_of}
 use Rattle.ld_batch.specs.Inner.Kept.{AreNames, Fields, HasOwn, IsKept, IsRead, IsReady}
 use Rattle.ld_batch.specs.Inner.Names.{IsLonger, with_names}
@@ -103,8 +103,8 @@ grown same known xs =
 pub more-edges : (old new : Scan) (source : PlainSource) → IsRead old source new → length old.locks.edges ≤ length new.locks.edges
 more-edges old new source shows = omega (
   arith,
-  length-map old.locks.edges (facts.named_dependency old.classes),
-  length-map new.locks.edges (facts.named_dependency new.classes),
+  length-map old.locks.edges (scans.named_dependency old.classes),
+  length-map new.locks.edges (scans.named_dependency new.classes),
   ap length shows.edges,
   grown same_dependency_seen (start_of old).edges (dependencies_of source),
 )
@@ -120,13 +120,13 @@ pub many-edges : (fields : Fields) → IsKept fields → length fields.edges ≡
 many-edges fields kept =
     let names = fields.classes in
     let met = map (named_dependency names) fields.edges in
-    omega (arith, length-map fields.edges (named_dependency names), length-map met seen_of, ap length kept.edges.same, length-map fields.scan.locks.edges (facts.named_dependency fields.scan.classes))
+    omega (arith, length-map fields.edges (named_dependency names), length-map met seen_of, ap length kept.edges.same, length-map fields.scan.locks.edges (scans.named_dependency fields.scan.classes))
 
 pub many-uses : (fields : Fields) → IsKept fields → length fields.usage ≡ length fields.scan.uses
 many-uses fields kept =
     let names = fields.classes in
     let met = map (named_use names) fields.usage in
-    omega (arith, length-map fields.usage (named_use names), length-map met seen_of, ap length kept.usage.same, length-map fields.scan.uses (facts.named_use fields.scan.classes))
+    omega (arith, length-map fields.usage (named_use names), length-map met seen_of, ap length kept.usage.same, length-map fields.scan.uses (scans.named_use fields.scan.classes))
 
 -- the fields before and after, and the trace that was added
 pub record IsPushed (old new : Fields) (last : Listed) : Type 0 where
@@ -168,7 +168,7 @@ kept-none scan new distinct few = subst (λ s. IsKept (record { listed = []; sca
   known = omega (arith, few);
   names = record { within = All-nil (λ n. n < length scan.classes); same = refl };
   ready = refl;
-  begun = begun-at (fresh_scan scan.classes) distinct (All-nil (reading.IsBetween scan.classes)) (All-nil (facts.IsUse scan.classes)) (omega (arith, few));
+  begun = begun-at (fresh_scan scan.classes) distinct (All-nil (scanned.IsBetween scan.classes)) (All-nil (scans.IsUse scan.classes)) (omega (arith, few));
   edges = record { same = refl; apart = λ i j d before within. absurd (omega (arith, within)) };
   usage = record { same = refl; apart = λ i j d before within. absurd (omega (arith, within)) };
 })
@@ -206,8 +206,8 @@ shows-none old new source line fault is same at =
 pub own-read : (old new : Scan) (source : PlainSource) (count : ℕ) → outcome source ≡ Read count → IsAt (start_of old) (positions source) new → HasOwn old source new
 own-read old new source count is at = record {
   names = record { within = at.many.2; same = at.own ∙ (λ i. if_read (sym is i) (classes (events (positions source)))) };
-  edges = subst (λ n. All (IsOwnEdge new.own) (drop n new.locks.edges)) (length-map old.locks.edges (facts.named_dependency old.classes)) (own_edges (start_of old) (positions source) new at);
-  uses = subst (λ n. All (IsOwnUse new.own) (drop n new.uses)) (length-map old.uses (facts.named_use old.classes)) (own_uses (start_of old) (positions source) new at);
+  edges = subst (λ n. All (IsOwnEdge new.own) (drop n new.locks.edges)) (length-map old.locks.edges (scans.named_dependency old.classes)) (own_edges (start_of old) (positions source) new at);
+  uses = subst (λ n. All (IsOwnUse new.own) (drop n new.uses)) (length-map old.uses (scans.named_use old.classes)) (own_uses (start_of old) (positions source) new at);
 }
 
 -- those of a refused source are none
@@ -280,11 +280,11 @@ module _ (old new : Fields) (last : Listed) (kept : IsKept old) (adds : IsPushed
 
   all_edges : AreMet (start_of new.scan).edges (map (named_dependency names) joined.edges)
   all_edges = are-met same_dependency Decides-same_dependency dependencies_of sources source (named_dependency names)
-      (facts.named_dependency known) (edge_of new.numbers source.number) old.edges new.scan.locks.edges
+      (scans.named_dependency known) (edge_of new.numbers source.number) old.edges new.scan.locks.edges
       (named_rows known new.numbers names adds.names source.number (drop (length old.edges) new.scan.locks.edges) adds.own_edges) (start_of old.scan).edges met_edges adds.shows.edges
 
   all_uses : AreMet (start_of new.scan).uses (map (named_use names) joined.usage)
-  all_uses = are-met same_use Decides-same_use uses_of sources source (named_use names) (facts.named_use known) (use_of new.numbers source.number) old.usage new.scan.uses
+  all_uses = are-met same_use Decides-same_use uses_of sources source (named_use names) (scans.named_use known) (use_of new.numbers source.number) old.usage new.scan.uses
       (named_use_rows known new.numbers names adds.names source.number (drop (length old.usage) new.scan.uses) adds.own_uses) (start_of old.scan).uses met_uses adds.shows.uses
 
   exact : IsBatch joined
@@ -304,17 +304,17 @@ module _ (old new : Fields) (last : Listed) (kept : IsKept old) (adds : IsPushed
             (rows_within known new.numbers names adds.names source.number (drop (length old.edges) new.scan.locks.edges) adds.own_edges);
         once = λ i j d before within both. pairs-of (λ m n. m.what ≢ n.what) (named_dependency names) joined.edges all_edges.apart i j d before within
             (λ k. record { from = get_or names (both.0 k) no_class; to = get_or names (both.1 k) no_class });
-        edges = witness-new same_dependency Decides-same_dependency dependencies_of sources source (named_dependency names) (facts.named_dependency known) (edge_of new.numbers source.number) old.edges
+        edges = witness-new same_dependency Decides-same_dependency dependencies_of sources source (named_dependency names) (scans.named_dependency known) (edge_of new.numbers source.number) old.edges
             new.scan.locks.edges (named_rows known new.numbers names adds.names source.number (drop (length old.edges) new.scan.locks.edges) adds.own_edges)
             (start_of old.scan).edges met_edges adds.shows.edges
             (λ what. ap (λ all. witness_of same_dependency all what) same_edges ∙ was.edges what) (shown-Ascend dependencies_at source) low;
         used_within = All-append (IsUse names) old.usage (map (use_of new.numbers source.number) (drop (length old.usage) new.scan.uses))
             (used-longer old.classes names count longer old.usage was.used_within)
             (use_rows_within known new.numbers names adds.names source.number (drop (length old.usage) new.scan.uses) adds.own_uses
-            (All-weaker (facts.IsUse known) (λ f. IsBit f.bit) (λ f is. is.1) (drop (length old.usage) new.scan.uses) (All-drop (facts.IsUse known) (length old.usage) new.scan.uses adds.shows.used)));
+            (All-weaker (scans.IsUse known) (λ f. IsBit f.bit) (λ f is. is.1) (drop (length old.usage) new.scan.uses) (All-drop (scans.IsUse known) (length old.usage) new.scan.uses adds.shows.used)));
         used_once = λ i j d before within both. pairs-of (λ m n. m.what ≢ n.what) (named_use names) joined.usage all_uses.apart i j d before within
             (λ k. record { class = get_or names (both.0 k) no_class; bit = bit_of (both.1 k) });
-        usage = witness-new same_use Decides-same_use uses_of sources source (named_use names) (facts.named_use known) (use_of new.numbers source.number) old.usage
+        usage = witness-new same_use Decides-same_use uses_of sources source (named_use names) (scans.named_use known) (use_of new.numbers source.number) old.usage
             new.scan.uses (named_use_rows known new.numbers names adds.names source.number (drop (length old.usage) new.scan.uses) adds.own_uses)
             (start_of old.scan).uses met_uses adds.shows.uses
             (λ what. ap (λ all. witness_of same_use all what) same_uses ∙ was.usage what) (shown-Ascend uses_at source) low;

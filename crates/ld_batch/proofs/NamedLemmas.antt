@@ -11,9 +11,9 @@ use Rattle.ld_class.specs.Names.{AreDistinct, PlainClass, no_class, place_of, wi
 use Rattle.ld_rules.specs.Usage.{IsBit, bit_of}
 use Rattle.ld_held.specs.declared.edges.EdgeFact.{EdgeFact}
 use Rattle.ld_uses.specs.declared.uses.UsageFact.{UsageFact}
-use Rattle.ld_facts.specs.Facts as facts
-use Rattle.ld_facts.specs.Inner.Reading.{names_at}
-use Rattle.ld_facts.proofs.OwnLemmas.{own-known, own-more, own-none}
+use Rattle.ld_scan.specs.Named as scans
+use Rattle.ld_scan.specs.Inner.Scan.{names_at}
+use Rattle.ld_scan.proofs.OwnLemmas.{own-known, own-more, own-none}
 use Rattle.ld_batch.specs.Inner.Kept.{AreNames}
 use Rattle.ld_batch.specs.Inner.Names.{IsLonger, with_names}
 use Rattle.ld_batch.specs.Batch.{IsUse, IsBetween, named_dependency, named_use}
@@ -111,13 +111,13 @@ module _ (known : List PlainClass) (numbers : List ℕ) (names : List PlainClass
 
   -- rows by places say what facts by numbers say
   pub named_rows : (number : ℕ) (told : List EdgeFact) → All (IsOwnEdge numbers) told →
-      map (λ f. named_dependency names (edge_of numbers number f)) told ≡ map (λ f. met number (facts.named_dependency known f)) told
-  named_rows number = same_maps (λ f. named_dependency names (edge_of numbers number f)) (λ f. met number (facts.named_dependency known f)) (IsOwnEdge numbers)
+      map (λ f. named_dependency names (edge_of numbers number f)) told ≡ map (λ f. met number (scans.named_dependency known f)) told
+  named_rows number = same_maps (λ f. named_dependency names (edge_of numbers number f)) (λ f. met number (scans.named_dependency known f)) (IsOwnEdge numbers)
       (λ f own i. record { what = record { from = place_name f.from own.0 i; to = place_name f.to own.1 i }; witness = record { number = number; line = f.line } })
 
   pub named_use_rows : (number : ℕ) (told : List UsageFact) → All (IsOwnUse numbers) told →
-      map (λ f. named_use names (use_of numbers number f)) told ≡ map (λ f. met number (facts.named_use known f)) told
-  named_use_rows number = same_maps (λ f. named_use names (use_of numbers number f)) (λ f. met number (facts.named_use known f)) (IsOwnUse numbers)
+      map (λ f. named_use names (use_of numbers number f)) told ≡ map (λ f. met number (scans.named_use known f)) told
+  named_use_rows number = same_maps (λ f. named_use names (use_of numbers number f)) (λ f. met number (scans.named_use known f)) (IsOwnUse numbers)
       (λ f own i. record { what = record { class = place_name f.class own i; bit = bit_of f.bit }; witness = record { number = number; line = f.line } })
 
   pub rows_within : (number : ℕ) (told : List EdgeFact) → All (IsOwnEdge numbers) told → All (IsBetween names) (map (edge_of numbers number) told)

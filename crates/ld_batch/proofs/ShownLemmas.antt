@@ -25,10 +25,10 @@ use Rattle.ld_rules.specs.Usage.Bit.{In, On}
 use Rattle.ld_rules.proofs.HeldLemmas.{acquisition_at, has_key, held-acquires, held-other, held-releases}
 use Rattle.ld_rules.proofs.OutcomeLemmas.{events-push, seen-push}
 use Rattle.ld_rules.proofs.PlaceLemmas.{alike_from_decides, any_each_once, by_pushes}
-use Rattle.ld_facts.specs.declared.scan.Scan.{Scan}
-use Rattle.ld_facts.specs.Facts as facts
-use Rattle.ld_facts.specs.Inner.Reading as reading
-use Rattle.ld_facts.specs.Inner.Reading.{IsAt, Start, names_at, own_names}
+use Rattle.ld_scan.specs.declared.scan.Scan.{Scan}
+use Rattle.ld_scan.specs.Named as scans
+use Rattle.ld_scan.specs.Inner.Scan as scanned
+use Rattle.ld_scan.specs.Inner.Scan.{IsAt, Start, names_at, own_names}
 use Rattle.ld_batch.specs.Inner.Rows.{IsOwnEdge, IsOwnUse}
 
 -- the class is one of those that these events acquire
@@ -194,29 +194,29 @@ module _ (start : Start) (all : List Position) (scan : Scan) (at : IsAt start al
   pub own_edges : All (IsOwnEdge scan.own) (drop (length start.edges) scan.locks.edges)
   own_edges k d within =
       let edge = get_or (drop (length start.edges) scan.locks.edges) k d in
-      let inside = All-drop (reading.IsBetween scan.classes) (length start.edges) scan.locks.edges at.within k d within in
-      let shown = by_name k (facts.named_dependency scan.classes d) (omega (arith, within, length-map (drop (length start.edges) scan.locks.edges) (facts.named_dependency scan.classes))) in
-      let here : get_or (map (facts.named_dependency scan.classes) (drop (length start.edges) scan.locks.edges)) k (facts.named_dependency scan.classes d) ≡ facts.named_dependency scan.classes edge =
-      get_or-map (facts.named_dependency scan.classes) (drop (length start.edges) scan.locks.edges) k d (facts.named_dependency scan.classes d) within in
+      let inside = All-drop (scanned.IsBetween scan.classes) (length start.edges) scan.locks.edges at.within k d within in
+      let shown = by_name k (scans.named_dependency scan.classes d) (omega (arith, within, length-map (drop (length start.edges) scan.locks.edges) (scans.named_dependency scan.classes))) in
+      let here : get_or (map (scans.named_dependency scan.classes) (drop (length start.edges) scan.locks.edges)) k (scans.named_dependency scan.classes d) ≡ scans.named_dependency scan.classes edge =
+      get_or-map (scans.named_dependency scan.classes) (drop (length start.edges) scan.locks.edges) k d (scans.named_dependency scan.classes d) within in
       let both = subst (λ (s : Seen Dependency). OfClasses (events all) s.what) here shown in
       (own_number edge.from inside.0 both.0, own_number edge.to inside.1 both.1)
     where
-      by_name : All (λ (s : Seen Dependency). OfClasses (events all) s.what) (map (facts.named_dependency scan.classes) (drop (length start.edges) scan.locks.edges))
+      by_name : All (λ (s : Seen Dependency). OfClasses (events all) s.what) (map (scans.named_dependency scan.classes) (drop (length start.edges) scan.locks.edges))
       by_name = subst (All (λ (s : Seen Dependency). OfClasses (events all) s.what))
-          (ap (drop (length start.edges)) (sym at.edges) ∙ drop-map (facts.named_dependency scan.classes) (length start.edges) scan.locks.edges)
+          (ap (drop (length start.edges)) (sym at.edges) ∙ drop-map (scans.named_dependency scan.classes) (length start.edges) scan.locks.edges)
           (all_added (λ (s : Seen Dependency). OfClasses (events all) s.what) same_dependency_seen start.edges (seen dependencies_at all)
           (seen_classes dependencies_at OfClasses (λ past others d is. (more_classes past others d.from is.0, more_classes past others d.to is.1)) dependency_classes all))
 
   pub own_uses : All (IsOwnUse scan.own) (drop (length start.uses) scan.uses)
   own_uses k d within =
       let fact = get_or (drop (length start.uses) scan.uses) k d in
-      let inside = All-drop (facts.IsUse scan.classes) (length start.uses) scan.uses at.used k d within in
-      let shown = by_name k (facts.named_use scan.classes d) (omega (arith, within, length-map (drop (length start.uses) scan.uses) (facts.named_use scan.classes))) in
-      let here : get_or (map (facts.named_use scan.classes) (drop (length start.uses) scan.uses)) k (facts.named_use scan.classes d) ≡ facts.named_use scan.classes fact =
-      get_or-map (facts.named_use scan.classes) (drop (length start.uses) scan.uses) k d (facts.named_use scan.classes d) within in
+      let inside = All-drop (scans.IsUse scan.classes) (length start.uses) scan.uses at.used k d within in
+      let shown = by_name k (scans.named_use scan.classes d) (omega (arith, within, length-map (drop (length start.uses) scan.uses) (scans.named_use scan.classes))) in
+      let here : get_or (map (scans.named_use scan.classes) (drop (length start.uses) scan.uses)) k (scans.named_use scan.classes d) ≡ scans.named_use scan.classes fact =
+      get_or-map (scans.named_use scan.classes) (drop (length start.uses) scan.uses) k d (scans.named_use scan.classes d) within in
       own_number fact.class inside.0 (subst (λ (s : Seen Use). OfClass (events all) s.what) here shown)
     where
-      by_name : All (λ (s : Seen Use). OfClass (events all) s.what) (map (facts.named_use scan.classes) (drop (length start.uses) scan.uses))
-      by_name = subst (All (λ (s : Seen Use). OfClass (events all) s.what)) (ap (drop (length start.uses)) (sym at.uses) ∙ drop-map (facts.named_use scan.classes) (length start.uses) scan.uses)
+      by_name : All (λ (s : Seen Use). OfClass (events all) s.what) (map (scans.named_use scan.classes) (drop (length start.uses) scan.uses))
+      by_name = subst (All (λ (s : Seen Use). OfClass (events all) s.what)) (ap (drop (length start.uses)) (sym at.uses) ∙ drop-map (scans.named_use scan.classes) (length start.uses) scan.uses)
           (all_added (λ (s : Seen Use). OfClass (events all) s.what) same_use_seen start.uses (seen uses_at all)
           (seen_classes uses_at OfClass (λ past others u is. more_classes past others u.class is) use_classes all))

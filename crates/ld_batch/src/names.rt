@@ -4,7 +4,7 @@ ghost use Rattle.std.specs.Prelude.{slice_index_or, take, true, ℕ, IfOk};
 ghost use Rattle.std.specs.List.{list_any};
 ghost use Rattle.ld_class.specs.Names.{AreDistinct, IsNameAt, no_class, plain_class, with_name};
 ghost use Rattle.ld_class.specs.declared.names.TheConstants.{MOST_NAMES};
-ghost use Rattle.ld_facts.specs.Inner.Reading.{names_at};
+ghost use Rattle.ld_scan.specs.Inner.Scan.{names_at};
 ghost use Rattle.ld_batch.specs.Inner.Kept.{AreNames};
 ghost use Rattle.ld_batch.specs.Inner.Names.{ArePlaces, IsLonger, with_names};
 

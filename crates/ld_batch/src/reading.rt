@@ -5,13 +5,14 @@ ghost use Rattle.ld_class.specs.declared.names.TheConstants.{MOST_NAMES};
 ghost use Rattle.ld_rules.specs.declared.outcome.TheConstants.{MOST_CLASSES};
 ghost use Rattle.ld_rules.specs.Outcome.{outcome};
 ghost use Rattle.ld_rules.specs.Union.{classes_of};
-ghost use Rattle.ld_facts.specs.Inner.Reading.{IsAt, StandsOn, start_of};
+ghost use Rattle.ld_scan.specs.Inner.Scan.{IsAt, StandsOn, start_of};
 ghost use Rattle.ld_batch.specs.Inner.Kept.{AreNames, HasOwn, IsRead, IsReady};
 ghost use Rattle.ld_batch.specs.Inner.Names.{with_names};
 ghost use Rattle.ld_batch.specs.Inner.Rows.{IsOwnEdge, IsOwnUse, edge_of, use_of};
 
 use crate::shown::Shown;
-use ld_facts::{Outcome, Scan, read_into};
+use ld_facts::{Outcome, read_into};
+use ld_scan::Scan;
 use ld_trace::Source;
 use std::alloc::AllocError;
 

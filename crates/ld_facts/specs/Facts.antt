@@ -1,16 +1,16 @@
 -- What the facts of a trace are, without where they lie in memory.
-use Rattle.std.specs.Prelude.{◌≡◌, ◌<◌, ◌≤◌, List, map, length, slice_index_or, All}
-use Rattle.std.specs.Prelude.{AllPairs}
-use Rattle.ld_class.specs.Names.{PlainClass, no_class}
+use Rattle.std.specs.Prelude.{◌≡◌, ◌<◌, ◌≤◌, List, map, length, All, AllPairs}
+use Rattle.ld_class.specs.Names.{PlainClass}
 use Rattle.ld_trace.specs.Sources.{Fits, PlainSource}
 use Rattle.ld_rules.specs.declared.outcome.Outcome.{Outcome}
 use Rattle.ld_rules.specs.declared.outcome.TheConstants.{MOST_CLASSES}
 use Rattle.ld_held.specs.declared.edges.EdgeFact.{EdgeFact}
 use Rattle.ld_uses.specs.declared.uses.UsageFact.{UsageFact}
 use Rattle.ld_rules.specs.Outcome.{outcome}
-use Rattle.ld_rules.specs.Dependency.{Dependency, Seen, least_line, same_dependency}
-use Rattle.ld_rules.specs.Usage.{IsBit, Use, bit_of, same_use}
+use Rattle.ld_rules.specs.Dependency.{Dependency, least_line, same_dependency}
+use Rattle.ld_rules.specs.Usage.{Use, same_use}
 use Rattle.ld_rules.specs.Union.{classes_of, dependencies_of, uses_of}
+use Rattle.ld_scan.specs.Named.{IsUse, named_dependency, named_use}
 
 pub record PlainFacts : Type 0 where
   pub source : PlainSource
@@ -18,27 +18,6 @@ pub record PlainFacts : Type 0 where
   pub classes : List PlainClass
   pub edges : List EdgeFact
   pub usage : List UsageFact
-
--- a dependency by the names of its classes, with its line
-abbrev pub named_dependency : List PlainClass → EdgeFact → Seen Dependency
-named_dependency classes edge = record {
-  what = record {
-    from = slice_index_or classes edge.from no_class;
-    to = slice_index_or classes edge.to no_class;
-  };
-  line = edge.line;
-}
-
--- a usage bit by the name of its class, with its line
-abbrev pub named_use : List PlainClass → UsageFact → Seen Use
-named_use classes fact = record {
-  what = record { class = slice_index_or classes fact.class no_class; bit = bit_of fact.bit };
-  line = fact.line;
-}
-
--- it is one bit of one of these classes
-abbrev pub IsUse : List PlainClass → UsageFact → Type 0
-IsUse classes one = (one.class < length classes) × IsBit one.bit
 
 -- The source fits. The outcome, the classes in order of first acquisition, no more than a trace may
 -- have, and each dependency and each usage bit once, with its least line.

@@ -1,3 +1,2 @@
--- What invariants and proofs cite, and what the calls of a scan say to ld_batch: a reader of the
--- promises needs none of it.
+-- What invariants and proofs cite: a reader of the promises needs none of it.
 pub mod Reading

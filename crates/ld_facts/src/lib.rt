@@ -2,17 +2,11 @@
 //! met interrupt handlers.
 #![tactic(auto)]
 
-mod bounds;
 mod known;
 mod reading;
-mod scan;
-mod stop;
-mod taking;
 
-pub use bounds::MOST_KNOWN;
 pub use known::Facts;
 pub use ld_held::EdgeFact;
 pub use ld_rules::{Listed, MOST_CLASSES, MOST_HELD, MOST_TASKS, Outcome, TraceFault, Witness};
 pub use ld_uses::UsageFact;
 pub use reading::{facts, read_into};
-pub use scan::Scan;

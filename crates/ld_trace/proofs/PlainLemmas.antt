@@ -1,7 +1,6 @@
 -- A line of words with single blanks, that ends by an LF.
-use Rattle.std.proofs.Common.{ℕ, ◌≡◌, ◌+◌, ◌<◌, ◌≤◌, ◌-◌, Bool, true, false, not, ◌&&◌, ◌||◌, List, [], ◌∷◌, ◌++◌, length, take, drop, refl, sym, ◌∙◌, ap, arith}
+use Rattle.std.proofs.Common.{ℕ, ◌≡◌, ◌+◌, ◌<◌, ◌-◌, Bool, true, false, not, ◌&&◌, ◌||◌, List, [], ◌∷◌, ◌++◌, length, take, drop, refl, sym, ◌∙◌, ap, arith}
 use Rattle.std.proofs.Common.{Some, None, Ok, append_assoc, length-append, if◌then◌else◌}
-use Rattle.std.proofs.Math.Numerals.{one-add}
 use Rattle.std.proofs.Math.Bool.{and-false}
 use Rattle.std.proofs.Math.Seq.{drop-append-add}
 use Rattle.std.proofs.lemmas.Bool.{and_from, and_parts}
@@ -9,9 +8,8 @@ use Rattle.std.proofs.lemmas.Bool.Decides.{nat_tests}
 use Rattle.std.proofs.lemmas.List.{append-nil, drop_at, take_at}
 use Rattle.std.proofs.lemmas.List.Folds.{list_all-append, list_any-append}
 use Rattle.std.specs.Prelude.{◌==◌, IfSome, Option, nat_le}
-use Rattle.std.specs.Borrow.{Bor}
 use Rattle.std.specs.Char.{is_ascii_graphic}
-use Rattle.std.specs.List.{list_all, list_any, onto_first, prefix_len, position_or_len, slice_split, filter}
+use Rattle.std.specs.List.{list_all, list_any, onto_first, position_or_len, slice_split, filter}
 use Rattle.ld_lines.specs.declared.line.TheConstants.{LONGEST_WORD}
 use Rattle.ld_lines.specs.Lines.{is_blank, is_empty, fields, is_name, is_separator, is_word, lines, less_end, text_of}
 use Rattle.ld_trace.specs.declared.event.LockVerb.{LockVerb}

@@ -6,11 +6,11 @@ use Rattle.ld_rules.specs.declared.outcome.Listed.{Listed}
 use Rattle.ld_rules.specs.declared.outcome.TheConstants.{MOST_CLASSES}
 use Rattle.ld_rules.specs.Inner.Scanned.{same_dependency_seen, same_use_seen, with_new}
 use Rattle.ld_rules.specs.Union.{classes_of, dependencies_of, uses_of}
-use Rattle.ld_facts.specs.declared.scan.Scan.{Scan}
-use Rattle.ld_facts.specs.Facts as facts
-use Rattle.ld_facts.specs.Inner.Reading as reading
-use Rattle.ld_facts.specs.Inner.Reading.{IsAt, begun, names_at, start_of}
-use Rattle.ld_facts.specs.declared.bounds.TheConstants.{MOST_KNOWN}
+use Rattle.ld_scan.specs.declared.scan.Scan.{Scan}
+use Rattle.ld_scan.specs.Named as scans
+use Rattle.ld_scan.specs.Inner.Scan as scanned
+use Rattle.ld_scan.specs.Inner.Scan.{IsAt, begun, names_at, start_of}
+use Rattle.ld_scan.specs.declared.bounds.TheConstants.{MOST_KNOWN}
 use Rattle.ld_batch.specs.declared.edges.WitnessedEdge.{WitnessedEdge}
 use Rattle.ld_batch.specs.declared.uses.WitnessedUse.{WitnessedUse}
 use Rattle.ld_batch.specs.Batch.{AreOutcomes, IsBatch, PlainBatch, named_dependency, named_use, sources_of}
@@ -65,10 +65,10 @@ pub record IsRead (old : Scan) (source : PlainSource) (new : Scan) : Type 0 wher
   pub distinct : AreDistinct new.classes
   pub edges : (start_of new).edges
       ≡ fold (with_new same_dependency_seen) (start_of old).edges (dependencies_of source)
-  pub within : All (reading.IsBetween new.classes) new.locks.edges
+  pub within : All (scanned.IsBetween new.classes) new.locks.edges
   pub uses : (start_of new).uses
       ≡ fold (with_new same_use_seen) (start_of old).uses (uses_of source)
-  pub used : All (facts.IsUse new.classes) new.uses
+  pub used : All (scans.IsUse new.classes) new.uses
 
 -- the own classes of the scan are those of this source, and what it has more than the other is of them
 pub record HasOwn (old : Scan) (source : PlainSource) (new : Scan) : Type 0 where

@@ -3,8 +3,8 @@ use Rattle.std.proofs.lemmas.List.{length-map, length-take-le, take_more}
 use Rattle.std.proofs.lemmas.List.Elements.{All-push, All-weaker}
 use Rattle.std.specs.List.{list_any}
 use Rattle.ld_class.specs.Names.{no_class}
-use Rattle.ld_facts.specs.Inner.Reading.{names_at}
-use Rattle.ld_facts.proofs.StandsLemmas.{take-first}
+use Rattle.ld_scan.specs.Inner.Scan.{names_at}
+use Rattle.ld_scan.proofs.StandsLemmas.{take-first}
 use Rattle.ld_batch.proofs.NameLemmas.{longer_all}
 use Rattle.ld_batch.proofs.NamedLemmas.{first_there, with_names-more}
 use Rattle.ld_batch.proofs.names.add_named.Goals as goal

@@ -1,6 +1,6 @@
 use Rattle.std.proofs.Common.{◌≡◌, All, length, nat_eq, take, true}
 use Rattle.std.specs.List.{list_any}
-use Rattle.ld_facts.specs.Inner.Reading.{names_at}
+use Rattle.ld_scan.specs.Inner.Scan.{names_at}
 use Rattle.ld_batch.specs.Inner.Kept.{AreNames}
 use Rattle.ld_batch.specs.Inner.Names.{with_names}
 use Rattle.ld_batch.proofs.names.add_named.Given as goal

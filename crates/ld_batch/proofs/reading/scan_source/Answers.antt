@@ -1,6 +1,6 @@
 use Rattle.std.proofs.Common.{rules, ◌≡◌, ◌∙◌, Ok, ap, sym}
 use Rattle.ld_trace.specs.Sources.{plain}
-use Rattle.ld_facts.specs.Inner.Reading.{start_of}
+use Rattle.ld_scan.specs.Inner.Scan.{start_of}
 use Rattle.ld_batch.proofs.BatchLemmas.{own-none, own-read, shows-none, shows-read}
 use Rattle.ld_batch.proofs.reading.scan_source.Goals as goal
 

@@ -1,7 +1,7 @@
 use Rattle.std.proofs.Common.{◌+◌, ◌≤◌, All, drop, length, get_or, ap, sym, subst, arith}
 use Rattle.std.proofs.lemmas.List.{length-map}
 use Rattle.ld_class.specs.Names.{no_class}
-use Rattle.ld_facts.specs.Inner.Reading.{names_at}
+use Rattle.ld_scan.specs.Inner.Scan.{names_at}
 use Rattle.ld_batch.specs.Inner.Rows.{IsOwnEdge, IsOwnUse}
 use Rattle.ld_batch.proofs.NameLemmas.{longer_all}
 use Rattle.ld_batch.proofs.NamedLemmas.{as_many, edges_too, slice_is, uses_too}

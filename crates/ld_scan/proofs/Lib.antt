@@ -1,0 +1,12 @@
+pub mod NamedLemmas
+pub mod OwnLemmas
+pub mod InnerLemmas
+pub mod TaskLemmas
+pub mod MovedLemmas
+pub mod UseLemmas
+pub mod AcquireFaults
+pub mod AcquireLemmas
+pub mod ReleaseLemmas
+pub mod InterruptLemmas
+pub mod StandsLemmas
+pub mod StartLemmas
