@@ -10,8 +10,8 @@ use crate::edges::{WitnessedEdge, add_edges};
 use crate::names::add_named;
 use crate::uses::{WitnessedUse, add_uses};
 use ld_class::Classes;
-use ld_scan::Scan;
 use ld_numbers::Numbers;
+use ld_scan::Scan;
 use std::alloc::{AllocError, Global};
 
 /// What the traces of a batch show.
