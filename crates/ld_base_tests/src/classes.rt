@@ -1,25 +1,42 @@
 //! Names and their numbers.
 
 use ld_class::{ClassName, Classes, MOST_NAMES, RecentNames};
+use std::process::Abort;
 
 /// The class of this name, and not one of its subclasses.
 fn class(name: &[u8]) -> ClassName<'_> {
     ClassName { name, sub: 0 }
 }
 
+/// Asserts that the class gets this number, or has it.
+fn expect_number<'a, R: Abort>(
+    rt: &R,
+    classes: &mut Classes<'a>,
+    name: ClassName<'a>,
+    number: u32,
+) {
+    assert!(rt; classes.len() < MOST_NAMES);
+    assert_eq!(rt; classes.intern(name), Ok(number));
+}
+
+/// Asserts that the class has this number, or none.
+fn expect_place<R: Abort>(rt: &R, classes: &Classes<'_>, name: ClassName<'_>, place: Option<u32>) {
+    assert_eq!(rt; classes.find(name), place);
+}
+
 #[test]
 fn numbers_names_in_order_of_first_insertion(rt: HostRuntime) {
     let mut classes = Classes::new(rt.alloc());
-    assert_eq!(rt; classes.intern(class(b"B")), Ok(0));
-    assert_eq!(rt; classes.intern(class(b"A")), Ok(1));
-    assert_eq!(rt; classes.intern(class(b"B")), Ok(0));
+    for (name, number) in [(b"B", 0), (b"A", 1), (b"B", 0)] {
+        expect_number(&rt, &mut classes, class(name), number);
+    }
     assert_eq!(rt; classes.len(), 2);
     assert_eq!(rt; classes.name(1), class(b"A"));
-    assert_eq!(rt; classes.find(class(b"A")), Some(1));
-    assert_eq!(rt; classes.find(class(b"C")), None);
+    expect_place(&rt, &classes, class(b"A"), Some(1));
+    expect_place(&rt, &classes, class(b"C"), None);
     classes.cut(1);
-    assert_eq!(rt; classes.find(class(b"A")), None);
-    assert_eq!(rt; classes.intern(class(b"C")), Ok(1));
+    expect_place(&rt, &classes, class(b"A"), None);
+    expect_number(&rt, &mut classes, class(b"C"), 1);
     drop(classes);
 }
 
@@ -27,12 +44,13 @@ fn numbers_names_in_order_of_first_insertion(rt: HostRuntime) {
 fn a_subclass_has_a_number_of_its_own(rt: HostRuntime) {
     let nested = ClassName { name: b"B", sub: 1 };
     let mut classes = Classes::new(rt.alloc());
-    assert_eq!(rt; classes.intern(class(b"B")), Ok(0));
-    assert_eq!(rt; classes.find(nested), None);
-    assert_eq!(rt; classes.intern(nested), Ok(1));
+    expect_number(&rt, &mut classes, class(b"B"), 0);
+    expect_place(&rt, &classes, nested, None);
+    expect_number(&rt, &mut classes, nested, 1);
+    assert!(rt; classes.len() == 2);
     assert_eq!(rt; classes.name(1), nested);
-    assert_eq!(rt; classes.find(class(b"B")), Some(0));
-    assert_eq!(rt; classes.find(nested), Some(1));
+    expect_place(&rt, &classes, class(b"B"), Some(0));
+    expect_place(&rt, &classes, nested, Some(1));
     drop(classes);
 }
 

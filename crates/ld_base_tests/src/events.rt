@@ -98,40 +98,52 @@ fn flags_of_a_start_are_read(rt: HostRuntime) {
 }
 
 #[test]
-fn the_first_fault_of_a_line_is_told(rt: HostRuntime) -> Result<(), Fail> {
-    assert!(rt; refuses(b"lock t A", LineFault::BadVerb));
-    assert!(rt; refuses(b"Acquire t A", LineFault::BadVerb));
-    assert!(rt; refuses(b"trace a", LineFault::BadVerb));
-    assert!(rt; refuses(b"Nested t A 1", LineFault::BadVerb));
-    assert!(rt; refuses(b"Begin t on on", LineFault::BadVerb));
-    assert!(rt; refuses(b"acquire t", LineFault::BadCount));
-    assert!(rt; refuses(b"acquire t A B", LineFault::BadCount));
-    assert!(rt; refuses(b"acquire t A@", LineFault::BadName));
-    assert!(rt; refuses(b"acquire t @1", LineFault::BadName));
-    assert!(rt; refuses(b"acquire t A@1@2", LineFault::BadName));
-    assert!(rt; refuses(b"acquire t A/1", LineFault::BadName));
-    assert!(rt; refuses(b"nested t A", LineFault::BadCount));
-    assert!(rt; refuses(b"nested t A 1 1", LineFault::BadCount));
-    assert!(rt; refuses(b"nested t A 0", LineFault::BadName));
-    assert!(rt; refuses(b"nested t A 8", LineFault::BadName));
-    assert!(rt; refuses(b"nested t A 01", LineFault::BadName));
-    assert!(rt; refuses(b"nested t A@ 1", LineFault::BadName));
-    assert!(rt; refuses(b"nested t A/1 1", LineFault::BadName));
-    assert!(rt; refuses(b"exit t", LineFault::BadCount));
-    assert!(rt; refuses(b"enable t hard soft", LineFault::BadCount));
-    assert!(rt; refuses(b"enter t nmi", LineFault::BadState));
-    assert!(rt; refuses(b"disable t Hard", LineFault::BadState));
-    assert!(rt; refuses(b"begin t on", LineFault::BadCount));
-    assert!(rt; refuses(b"begin t on on on", LineFault::BadCount));
-    assert!(rt; refuses(b"begin t yes on", LineFault::BadState));
-    assert!(rt; refuses(b"begin t on yes", LineFault::BadState));
-    assert!(rt; refuses(b"begin t On on", LineFault::BadState));
-    let task = with_letters(rt.alloc(), b"enter ", 65, b" nmi")?;
-    assert!(rt; refuses(task.as_slice(), LineFault::BadName));
-    let task = with_letters(rt.alloc(), b"nested ", 65, b" A 1")?;
-    assert!(rt; refuses(task.as_slice(), LineFault::BadName));
-    let task = with_letters(rt.alloc(), b"begin ", 65, b" yes on")?;
-    assert!(rt; refuses(task.as_slice(), LineFault::BadName));
+fn the_first_fault_of_a_line_is_told(rt: HostRuntime) {
+    let rows: [(&[u8], LineFault); 27] = [
+        (b"lock t A", LineFault::BadVerb),
+        (b"Acquire t A", LineFault::BadVerb),
+        (b"trace a", LineFault::BadVerb),
+        (b"Nested t A 1", LineFault::BadVerb),
+        (b"Begin t on on", LineFault::BadVerb),
+        (b"acquire t", LineFault::BadCount),
+        (b"acquire t A B", LineFault::BadCount),
+        (b"acquire t A@", LineFault::BadName),
+        (b"acquire t @1", LineFault::BadName),
+        (b"acquire t A@1@2", LineFault::BadName),
+        (b"acquire t A/1", LineFault::BadName),
+        (b"nested t A", LineFault::BadCount),
+        (b"nested t A 1 1", LineFault::BadCount),
+        (b"nested t A 0", LineFault::BadName),
+        (b"nested t A 8", LineFault::BadName),
+        (b"nested t A 01", LineFault::BadName),
+        (b"nested t A@ 1", LineFault::BadName),
+        (b"nested t A/1 1", LineFault::BadName),
+        (b"exit t", LineFault::BadCount),
+        (b"enable t hard soft", LineFault::BadCount),
+        (b"enter t nmi", LineFault::BadState),
+        (b"disable t Hard", LineFault::BadState),
+        (b"begin t on", LineFault::BadCount),
+        (b"begin t on on on", LineFault::BadCount),
+        (b"begin t yes on", LineFault::BadState),
+        (b"begin t on yes", LineFault::BadState),
+        (b"begin t On on", LineFault::BadState),
+    ];
+    for (line, fault) in rows {
+        assert!(rt; refuses(line, fault));
+    }
+}
+
+#[test]
+fn a_long_task_comes_before_a_bad_state(rt: HostRuntime) -> Result<(), Fail> {
+    let rows: [(&[u8], &[u8]); 3] = [
+        (b"enter ", b" nmi"),
+        (b"nested ", b" A 1"),
+        (b"begin ", b" yes on"),
+    ];
+    for (verb, others) in rows {
+        let line = with_letters(rt.alloc(), verb, 65, others)?;
+        assert!(rt; refuses(line.as_slice(), LineFault::BadName));
+    }
     Ok(())
 }
 

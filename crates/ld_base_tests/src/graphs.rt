@@ -34,6 +34,10 @@ fn insert<R: Abort>(rt: &R, graph: &mut Graph, a: u32, b: u32) -> Insert {
     graph.insert(a, b)
 }
 
+fn expect_insert<R: Abort>(rt: &R, graph: &mut Graph, a: u32, b: u32, wanted: Insert) {
+    assert_eq!(rt; insert(rt, graph, a, b), wanted);
+}
+
 /// Inserts an edge that is not there yet.
 fn insert_new<R: Abort>(rt: &R, graph: &mut Graph, a: u32, b: u32) {
     let count = graph.edges();
@@ -53,6 +57,15 @@ fn rank<R: Abort>(rt: &R, graph: &Graph, class: u32) -> u32 {
     let order = graph.order().expect(rt, "an order");
     assert!(rt; (class as usize) < order.len());
     order[class as usize]
+}
+
+fn expect_rank<R: Abort>(rt: &R, graph: &Graph, class: u32, wanted: u32) {
+    assert_eq!(rt; rank(rt, graph, class), wanted);
+}
+
+/// Asserts that the edge has this number, or none.
+fn expect_edge<R: Abort>(rt: &R, graph: &Graph, a: u32, b: u32, wanted: Option<u64>) {
+    assert_eq!(rt; graph.edge(a, b), wanted);
 }
 
 fn distances<R: Abort>(rt: &R, alloc: Global, graph: &Graph, to: u32) -> Vec<Option<u64>>
@@ -129,11 +142,11 @@ fn expect_circle<R: Abort>(rt: &R, alloc: Global, graph: &Graph) {
     let places = [0, 1, 2, 3];
     assert_eq!(rt; graph.len(), 4);
     assert_eq!(rt; graph.edges(), 4);
-    assert_eq!(rt; graph.edge(0, 1), Some(0));
-    assert_eq!(rt; graph.edge(2, 0), Some(1));
-    assert_eq!(rt; graph.edge(1, 2), Some(2));
-    assert_eq!(rt; graph.edge(3, 3), Some(3));
-    assert_eq!(rt; graph.edge(0, 2), None);
+    expect_edge(rt, graph, 0, 1, Some(0));
+    expect_edge(rt, graph, 2, 0, Some(1));
+    expect_edge(rt, graph, 1, 2, Some(2));
+    expect_edge(rt, graph, 3, 3, Some(3));
+    expect_edge(rt, graph, 0, 2, None);
     let wanted = [Some(2), Some(1), Some(3), None];
     assert_eq!(rt;
         distances(rt, alloc, graph, 2).as_slice(),
@@ -153,27 +166,27 @@ fn circle(rt: HostRuntime) {
     make_room(&rt, &mut graph, 4, 5);
     add_classes(&rt, &mut graph, 4);
     for class in 0..4 {
-        assert_eq!(rt; rank(&rt, &graph, class), class);
+        expect_rank(&rt, &graph, class, class);
     }
-    assert_eq!(rt; insert(&rt, &mut graph, 0, 1), Insert::Kept);
+    expect_insert(&rt, &mut graph, 0, 1, Insert::Kept);
     insert_moved(&rt, &mut graph, 2, 0, 3);
     assert!(rt; rank(&rt, &graph, 2) < rank(&rt, &graph, 0));
     assert!(rt; rank(&rt, &graph, 0) < rank(&rt, &graph, 1));
-    assert_eq!(rt; rank(&rt, &graph, 3), 3);
+    expect_rank(&rt, &graph, 3, 3);
     let ranks = [
         rank(&rt, &graph, 0),
         rank(&rt, &graph, 1),
         rank(&rt, &graph, 2),
         rank(&rt, &graph, 3),
     ];
-    assert_eq!(rt; insert(&rt, &mut graph, 0, 1), Insert::Known);
+    expect_insert(&rt, &mut graph, 0, 1, Insert::Known);
     for class in 0..4 {
-        assert_eq!(rt; rank(&rt, &graph, class), ranks[class as usize]);
+        expect_rank(&rt, &graph, class, ranks[class as usize]);
     }
-    assert_eq!(rt; insert(&rt, &mut graph, 1, 2), Insert::Closed);
+    expect_insert(&rt, &mut graph, 1, 2, Insert::Closed);
     assert!(rt; graph.order().is_none());
-    assert_eq!(rt; insert(&rt, &mut graph, 3, 3), Insert::AfterCycle);
-    assert_eq!(rt; insert(&rt, &mut graph, 0, 1), Insert::Known);
+    expect_insert(&rt, &mut graph, 3, 3, Insert::AfterCycle);
+    expect_insert(&rt, &mut graph, 0, 1, Insert::Known);
     assert!(rt; graph.order().is_none());
     expect_circle(&rt, alloc, &graph);
     // Where a growth of this graph is refused, each answer is as before.
@@ -225,8 +238,8 @@ fn edge_to_itself(rt: HostRuntime) {
     let mut graph = Graph::new(rt.alloc());
     make_room(&rt, &mut graph, 1, 1);
     add_classes(&rt, &mut graph, 1);
-    assert_eq!(rt; rank(&rt, &graph, 0), 0);
-    assert_eq!(rt; insert(&rt, &mut graph, 0, 0), Insert::Closed);
+    expect_rank(&rt, &graph, 0, 0);
+    expect_insert(&rt, &mut graph, 0, 0, Insert::Closed);
     assert!(rt; graph.order().is_none());
     drop(graph);
 }
@@ -236,15 +249,15 @@ fn ends_outside_the_range(rt: HostRuntime) {
     let mut graph = Graph::new(rt.alloc());
     make_room(&rt, &mut graph, 6, 5);
     add_classes(&rt, &mut graph, 6);
-    assert_eq!(rt; insert(&rt, &mut graph, 0, 5), Insert::Kept);
+    expect_insert(&rt, &mut graph, 0, 5, Insert::Kept);
     insert_moved(&rt, &mut graph, 4, 1, 4);
     assert!(rt; rank(&rt, &graph, 4) < rank(&rt, &graph, 1));
-    assert_eq!(rt; rank(&rt, &graph, 0), 0);
-    assert_eq!(rt; rank(&rt, &graph, 5), 5);
-    assert_eq!(rt; insert(&rt, &mut graph, 1, 4), Insert::Closed);
+    expect_rank(&rt, &graph, 0, 0);
+    expect_rank(&rt, &graph, 5, 5);
+    expect_insert(&rt, &mut graph, 1, 4, Insert::Closed);
     assert!(rt; graph.order().is_none());
-    assert_eq!(rt; insert(&rt, &mut graph, 5, 0), Insert::AfterCycle);
-    assert_eq!(rt; insert(&rt, &mut graph, 0, 5), Insert::Known);
+    expect_insert(&rt, &mut graph, 5, 0, Insert::AfterCycle);
+    expect_insert(&rt, &mut graph, 0, 5, Insert::Known);
     drop(graph);
 }
 

@@ -29,22 +29,20 @@ fn marks_have_a_character_for_each_state(rt: HostRuntime) {
 
 #[test]
 fn each_flag_has_its_name_and_bit(rt: HostRuntime) {
-    assert_eq!(rt; Usage::IN_HARD.bits(), 1);
-    assert_eq!(rt; Usage::ON_HARD.bits(), 2);
-    assert_eq!(rt; Usage::IN_SOFT.bits(), 4);
-    assert_eq!(rt; Usage::ON_SOFT.bits(), 8);
-    assert_eq!(rt; Usage::from_name("IN_HARD"), Some(Usage::IN_HARD));
-    assert_eq!(rt; Usage::from_name("ON_HARD"), Some(Usage::ON_HARD));
-    assert_eq!(rt; Usage::from_name("IN_SOFT"), Some(Usage::IN_SOFT));
-    assert_eq!(rt; Usage::from_name("ON_SOFT"), Some(Usage::ON_SOFT));
-    assert_eq!(rt; Usage::from_name("in_hard"), None);
-
+    let flags = [
+        ("IN_HARD", Usage::IN_HARD, 1),
+        ("ON_HARD", Usage::ON_HARD, 2),
+        ("IN_SOFT", Usage::IN_SOFT, 4),
+        ("ON_SOFT", Usage::ON_SOFT, 8),
+    ];
     let mut names = Usage::all().iter_names();
-    assert_eq!(rt; names.next(), Some(("IN_HARD", Usage::IN_HARD)));
-    assert_eq!(rt; names.next(), Some(("ON_HARD", Usage::ON_HARD)));
-    assert_eq!(rt; names.next(), Some(("IN_SOFT", Usage::IN_SOFT)));
-    assert_eq!(rt; names.next(), Some(("ON_SOFT", Usage::ON_SOFT)));
+    for (name, flag, bits) in flags {
+        assert_eq!(rt; flag.bits(), bits);
+        assert_eq!(rt; Usage::from_name(name), Some(flag));
+        assert_eq!(rt; names.next(), Some((name, flag)));
+    }
     assert_eq!(rt; names.next(), None);
+    assert_eq!(rt; Usage::from_name("in_hard"), None);
 }
 
 #[test]

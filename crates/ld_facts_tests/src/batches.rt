@@ -82,13 +82,18 @@ fn told_alone<'a, R: AllocGlobal + Abort>(
     for source in sources {
         assert!(rt; source.fits());
         let facts = facts(rt.alloc(), *source)?;
-        told.outcomes.push(facts.outcome())?;
-        note_classes(&facts, &mut told.classes)?;
-        note_edges(rt, &facts, &mut told.edges)?;
-        note_usage(rt, &facts, &mut told.usage)?;
+        let noted = note(rt, &facts, &mut told);
         drop(facts);
+        noted?;
     }
     Ok(told)
+}
+
+fn note<'a, R: Abort>(rt: &R, facts: &Facts<'a>, told: &mut Told<'a>) -> Result<(), AllocError> {
+    told.outcomes.push(facts.outcome())?;
+    note_classes(facts, &mut told.classes)?;
+    note_edges(rt, facts, &mut told.edges)?;
+    note_usage(rt, facts, &mut told.usage)
 }
 
 fn note_classes<'a>(facts: &Facts<'a>, classes: &mut Vec<ClassName<'a>>) -> Result<(), AllocError> {
