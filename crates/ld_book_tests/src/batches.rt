@@ -1,6 +1,8 @@
 //! Books that take batches.
 
-use crate::books::{A, B, C, NONE, THREE_TRACES, book_of, sources_of, totals, witness};
+use crate::books::{
+    A, B, C, NONE, THREE_TRACES, book_of, expect_edge, expect_totals, sources_of, totals, witness,
+};
 use ld_book::{Batch, BatchRefusal, Book, TakeRefusal};
 use ld_trace::Source;
 use std::alloc::{AllocError, Global};
@@ -80,11 +82,11 @@ fn a_batch_is_added_whole_or_comes_back(rt: HostRuntime) {
     assert_eq!(rt; batch.edges().len(), 1);
     let mut book = Book::new(rt.alloc());
     add_batch(&rt, &mut book, batch);
-    assert_eq!(rt; book.totals(), totals(2, 0, 4, 2, 1));
-    assert_eq!(rt; book.edge(A, B), witness(0, 3));
+    expect_totals(&rt, &book, totals(2, 0, 4, 2, 1));
+    expect_edge(&rt, &book, A, B, witness(0, 3));
     let second = batch_of(&rt, rt.alloc(), &sources[1..2]);
     assert!(rt; comes_back(&mut book, second));
-    assert_eq!(rt; book.totals(), totals(2, 0, 4, 2, 1));
+    expect_totals(&rt, &book, totals(2, 0, 4, 2, 1));
     drop(book);
 }
 
@@ -97,13 +99,13 @@ fn a_refused_batch_changes_nothing(rt: HostRuntime) {
     assert_eq!(rt; sources.len(), 3);
     let batch = batch_of(&rt, rt.alloc(), &sources[1..2]);
     if let Some(batch) = try_add_batch(&rt, &mut book, batch) {
-        assert_eq!(rt; book.totals(), totals(1, 0, 2, 2, 1));
-        assert_eq!(rt; book.edge(B, C), None);
+        expect_totals(&rt, &book, totals(1, 0, 2, 2, 1));
+        expect_edge(&rt, &book, B, C, None);
         assert!(rt; book.usage(C).is_none());
         assert_eq!(rt; book.alarms(), NONE);
         add_batch(&rt, &mut book, batch);
     }
-    assert_eq!(rt; book.totals(), totals(2, 0, 4, 3, 2));
+    expect_totals(&rt, &book, totals(2, 0, 4, 3, 2));
     drop(book);
 }
 
@@ -112,7 +114,7 @@ fn a_batch_without_traces_changes_nothing(rt: HostRuntime) {
     let mut book = book_of(&rt, rt.alloc(), THREE_TRACES, &[0, 2]);
     let before = book.totals();
     add_batch(&rt, &mut book, Batch::new(rt.alloc()));
-    assert_eq!(rt; book.totals(), before);
+    expect_totals(&rt, &book, before);
     assert_eq!(rt; book.listed().len(), 2);
     drop(book);
 }
@@ -133,16 +135,16 @@ fn a_batch_that_was_taken_is_filled_again(rt: HostRuntime) {
     let mut book = Book::new(rt.alloc());
     let mut batch = batch_of(&rt, rt.alloc(), &sources[..2]);
     take(&rt, &mut book, &mut batch);
-    assert_eq!(rt; book.totals(), totals(2, 0, 4, 3, 2));
+    expect_totals(&rt, &book, totals(2, 0, 4, 3, 2));
     assert!(rt; batch.listed().is_empty() && batch.edges().is_empty() && batch.usage().is_empty());
     assert_eq!(rt; batch.classes().len(), 0);
     fill(&rt, &mut batch, &sources[2..]);
     take(&rt, &mut book, &mut batch);
-    assert_eq!(rt; book.totals(), totals(3, 0, 6, 3, 3));
+    expect_totals(&rt, &book, totals(3, 0, 6, 3, 3));
     fill(&rt, &mut batch, &sources[1..]);
     assert!(rt; book.take(&mut batch) == Err(TakeRefusal::Twice));
     assert_eq!(rt; batch.listed().len(), 2);
-    assert_eq!(rt; book.totals(), totals(3, 0, 6, 3, 3));
+    expect_totals(&rt, &book, totals(3, 0, 6, 3, 3));
     drop(batch);
     drop(book);
 }
@@ -156,7 +158,7 @@ fn a_batch_of_twenty_traces_is_added(rt: HostRuntime) {
     let sources = sources_of(&rt, rt.alloc(), &stream);
     let mut book = Book::new(rt.alloc());
     add_batch(&rt, &mut book, batch_of(&rt, rt.alloc(), &sources));
-    assert_eq!(rt; book.totals(), totals(20, 0, 40, 2, 1));
-    assert_eq!(rt; book.edge(A, B), witness(0, 3));
+    expect_totals(&rt, &book, totals(20, 0, 40, 2, 1));
+    expect_edge(&rt, &book, A, B, witness(0, 3));
     drop(book);
 }

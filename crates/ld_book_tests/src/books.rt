@@ -107,6 +107,21 @@ pub(crate) fn book_of<'a, R: Abort>(
     book
 }
 
+pub(crate) fn expect_totals<R: Abort>(rt: &R, book: &Book<'_>, wanted: Totals) {
+    assert_eq!(rt; book.totals(), wanted);
+}
+
+/// Asserts the first witness of a dependency, or that the book has none.
+pub(crate) fn expect_edge<R: Abort>(
+    rt: &R,
+    book: &Book<'_>,
+    from: ClassName<'_>,
+    to: ClassName<'_>,
+    wanted: Option<Witness>,
+) {
+    assert_eq!(rt; book.edge(from, to), wanted);
+}
+
 pub(crate) fn witness(number: u64, line: u64) -> Option<Witness> {
     Some(Witness { number, line })
 }

@@ -1,6 +1,8 @@
 //! The traces that a book lists, their totals, and the dependencies with their first witnesses.
 
-use crate::books::{A, A_1, B, C, book_of, class, facts_of, totals, witness};
+use crate::books::{
+    A, A_1, B, C, book_of, class, expect_edge, expect_totals, facts_of, totals, witness,
+};
 use ld_book::{ClassName, Refusal, Totals};
 use ld_facts::Witness;
 use std::alloc::Global;
@@ -60,8 +62,8 @@ fn a_number_that_is_listed_comes_back(rt: HostRuntime) {
             drop(answer);
         }
     }
-    assert_eq!(rt; book.totals(), totals(2, 0, 4, 2, 1));
-    assert_eq!(rt; book.edge(A, B), witness(0, 3));
+    expect_totals(&rt, &book, totals(2, 0, 4, 2, 1));
+    expect_edge(&rt, &book, A, B, witness(0, 3));
     drop(book);
 }
 

@@ -1,6 +1,6 @@
 //! All violations, in the order of a report.
 
-use crate::books::{A, A_1, B, C, THREE_TRACES, book_of, class, totals, witness};
+use crate::books::{A, A_1, B, C, THREE_TRACES, book_of, class, expect_totals, totals, witness};
 use ld_book::{ClassName, CycleRow, Findings};
 use ld_facts::Witness;
 use std::alloc::AllocError;
@@ -37,12 +37,12 @@ fn findings_are_refused_or_whole(rt: HostRuntime) {
     let findings = match book.findings(rt.alloc()) {
         Ok(findings) => findings,
         Err(AllocError) => {
-            assert_eq!(rt; book.totals(), totals(3, 0, 6, 3, 3));
+            expect_totals(&rt, &book, totals(3, 0, 6, 3, 3));
             book.findings(rt.alloc()).expect(&rt, "the findings")
         }
     };
     expect_three_cycles(&rt, &findings);
-    assert_eq!(rt; book.totals(), totals(3, 0, 6, 3, 3));
+    expect_totals(&rt, &book, totals(3, 0, 6, 3, 3));
     drop(findings);
     drop(book);
 }

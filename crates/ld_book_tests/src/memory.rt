@@ -1,6 +1,9 @@
 //! Refused memory, and many traces.
 
-use crate::books::{B, C, NONE, THREE_TRACES, add_now, book_of, facts_of, totals, try_add};
+use crate::books::{
+    B, C, NONE, THREE_TRACES, add_now, book_of, expect_edge, expect_totals, facts_of, totals,
+    try_add,
+};
 use ld_book::Book;
 use ld_facts::facts;
 use ld_trace::split;
@@ -12,13 +15,13 @@ fn a_refused_add_changes_nothing(rt: HostRuntime) {
     let mut book = book_of(&rt, rt.alloc(), THREE_TRACES, &[0]);
     let facts = facts_of(&rt, rt.alloc(), THREE_TRACES, 1);
     if let Some(facts) = try_add(&rt, &mut book, facts) {
-        assert_eq!(rt; book.totals(), totals(1, 0, 2, 2, 1));
-        assert_eq!(rt; book.edge(B, C), None);
+        expect_totals(&rt, &book, totals(1, 0, 2, 2, 1));
+        expect_edge(&rt, &book, B, C, None);
         assert!(rt; book.usage(C).is_none());
         assert_eq!(rt; book.alarms(), NONE);
         add_now(&rt, &mut book, facts);
     }
-    assert_eq!(rt; book.totals(), totals(2, 0, 4, 3, 2));
+    expect_totals(&rt, &book, totals(2, 0, 4, 3, 2));
     drop(book);
 }
 
@@ -35,6 +38,6 @@ fn more_than_a_thousand_traces_are_listed(rt: HostRuntime) {
         let facts = facts(rt.alloc(), *source).expect(&rt, "the facts of a trace");
         add_now(&rt, &mut book, facts);
     }
-    assert_eq!(rt; book.totals(), totals(1001, 0, 2002, 2, 1));
+    expect_totals(&rt, &book, totals(1001, 0, 2002, 2, 1));
     drop(book);
 }

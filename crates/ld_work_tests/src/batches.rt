@@ -84,6 +84,24 @@ fn submit_first<'a, T: Ledger, E: Ledger, R: Wait + Abort>(
     assert_eq!(rt; totals_of(rt, desk), totals(2, 4, 2, 1));
 }
 
+/// Submits a batch one number of which is listed, and gives it as it comes back.
+fn comes_back<'a, T: Ledger, E: Ledger, R: Wait + Abort>(
+    rt: &R,
+    desk: &Desk<'a, T, E>,
+    batch: Batch<'a>,
+    feeder: &mut Feeder<T, E>,
+) -> Batch<'a> {
+    let answer = desk.look(rt).submit_batch(feeder, batch);
+    match answer {
+        Err(BatchRefusal::Twice(batch)) => batch,
+        Err(BatchRefusal::Memory(batch)) => {
+            assert!(rt; false, "memory is refused");
+            batch
+        }
+        Ok(()) => panic!(rt; "a trace is listed twice"),
+    }
+}
+
 /// Submits a batch one number of which is listed: it comes back, and nothing is counted.
 fn submit_again<'a, T: Ledger, E: Ledger, R: Wait + Abort>(
     rt: &R,
@@ -91,13 +109,9 @@ fn submit_again<'a, T: Ledger, E: Ledger, R: Wait + Abort>(
     batch: Batch<'a>,
     feeder: &mut Feeder<T, E>,
 ) {
-    let answer = desk.look(rt).submit_batch(feeder, batch);
-    let is_back = match answer {
-        Err(BatchRefusal::Twice(batch)) => batch.listed().len() == 1,
-        Err(BatchRefusal::Memory(_batch)) => false,
-        Ok(()) => false,
-    };
-    assert!(rt; is_back);
+    let batch = comes_back(rt, desk, batch, feeder);
+    assert_eq!(rt; batch.listed().len(), 1);
+    drop(batch);
     assert_eq!(rt; feeder.tally(), tally(2, 4));
     assert_eq!(rt; totals_of(rt, desk), totals(2, 4, 2, 1));
 }
