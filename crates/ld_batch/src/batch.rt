@@ -116,9 +116,7 @@ impl<'a> Batch<'a> {
         self.listed.reserve(1)?;
         let outcome = read(&mut self.scan, &mut self.shown, source)?;
         // From here on nothing is refused.
-        let Ok(()) = self.listed.push(Listed { source, outcome }) else {
-            unreachable!()
-        };
+        self.listed.push_reserved(Listed { source, outcome });
         Ok(())
     }
 

@@ -39,8 +39,6 @@ pub(crate) fn add_edges(
             to: to as u32,
             witness: Witness { number, line },
         };
-        let Ok(()) = rows.push(edge) else {
-            unreachable!()
-        };
+        rows.push_reserved(edge);
     }
 }

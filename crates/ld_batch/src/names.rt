@@ -43,9 +43,7 @@ pub fn intern_all<'a>(
             return Err(AllocError);
         };
         guesses.keep_class(number, place);
-        let Ok(()) = places.push(place) else {
-            unreachable!()
-        };
+        places.push_reserved(place);
     }
     Ok(())
 }

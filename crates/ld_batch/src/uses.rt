@@ -39,8 +39,6 @@ pub(crate) fn add_uses(
             bit: fact.bit,
             witness: Witness { number, line },
         };
-        let Ok(()) = rows.push(used) else {
-            unreachable!()
-        };
+        rows.push_reserved(used);
     }
 }

@@ -31,7 +31,7 @@ const _: () = prove!(MOST_KEPT == 524_288 && MOST_CHAINS == 262_144);
 pub struct Chains {
     links: IndexSet<Link>,
     /// By the number of a chain, the numbers of the pairs from each class before its last one to that.
-    /// `None` where the chain wasn't told again yet, or there was no room for them.
+    /// `None` until the chain is told when it was there already, and where there was no room for them.
     numbers: Vec<Option<Vec<usize>>>,
     /// How many numbers are kept.
     kept: usize,
@@ -120,9 +120,7 @@ impl Chains {
         self.numbers.reserve(1)?;
         let (number, _) = self.links.insert_full(link)?;
         self.last = number;
-        if self.numbers.push(None).is_err() {
-            unreachable!();
-        }
+        self.numbers.push_reserved(None);
         Ok(number)
     }
 

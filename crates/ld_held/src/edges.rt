@@ -31,8 +31,8 @@ pub struct Pair {
 
 /// Dependencies, each pair of classes once, with the line that was told first.
 ///
-/// Pairs have numbers, which they keep when the dependencies are taken away, so that a chain that is met
-/// again tells its pairs without looking them up.
+/// Pairs have numbers, which they keep when the dependencies are taken away, so that a chain whose numbers
+/// are kept tells its pairs without looking them up.
 ///
 /// A call answers `AllocError` where a growth of memory was refused.
 #[derive(Drop)]
@@ -138,9 +138,7 @@ impl Edges {
         };
         self.edges.reserve(1)?;
         self.theirs.add(number)?;
-        if self.edges.push(edge).is_err() {
-            unreachable!();
-        }
+        self.edges.push_reserved(edge);
         Ok(())
     }
 

@@ -40,8 +40,8 @@ struct Before {
 /// far, also of the traces before it.
 ///
 /// Beside them stands a cache: a waiting acquisition by which a chain comes that was told before tells
-/// nothing anew, and one that was met before knows the numbers of its dependencies. Chains and numbers
-/// stay when the dependencies are taken away.
+/// nothing anew, and one that was met before learns the numbers of its dependencies when it is told, while
+/// there is room. Chains and numbers stay when the dependencies are taken away.
 ///
 /// A call answers `AllocError` where a growth of memory was refused. It may have done a part of its
 /// work then, so the owner takes the trace back, or gives the whole up.

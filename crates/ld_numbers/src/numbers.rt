@@ -94,9 +94,7 @@ impl Numbers {
         extend_to(&mut self.place, number)?;
         self.order.reserve(1)?;
         self.place[number] = self.order.len();
-        if self.order.push(number).is_err() {
-            unreachable!();
-        }
+        self.order.push_reserved(number);
         Ok(())
     }
 
