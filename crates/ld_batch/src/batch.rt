@@ -158,13 +158,13 @@ impl<'a> Batch<'a> {
 
     /// The numbers that the scan has for the classes, in their order: guesses are kept by them. Takes no
     /// memory.
-    pub fn class_numbers(&self) -> &[usize] {
+    pub fn class_numbers(&self) -> &[u32] {
         self.shown.numbers.as_slice()
     }
 
     /// The numbers that the scan has for the pairs of classes of the dependencies, in their order: guesses
     /// are kept by them. Takes no memory.
-    pub fn pair_numbers(&self) -> &[usize] {
+    pub fn pair_numbers(&self) -> &[u32] {
         self.scan.locks.pairs()
     }
 

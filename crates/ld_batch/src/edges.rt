@@ -32,11 +32,9 @@ pub(crate) fn add_edges(
 {
     for fact in facts {
         let line = fact.line;
-        let from = numbers.place(fact.from as usize);
-        let to = numbers.place(fact.to as usize);
         let edge = WitnessedEdge {
-            from: from as u32,
-            to: to as u32,
+            from: numbers.place(fact.from),
+            to: numbers.place(fact.to),
             witness: Witness { number, line },
         };
         rows.push_reserved(edge);

@@ -33,9 +33,8 @@ pub(crate) fn add_uses(
 {
     for fact in facts {
         let line = fact.line;
-        let class = numbers.place(fact.class as usize);
         let used = WitnessedUse {
-            class: class as u32,
+            class: numbers.place(fact.class),
             bit: fact.bit,
             witness: Witness { number, line },
         };
