@@ -6,6 +6,7 @@ ghost use Rattle.std.specs.List.{list_any};
 ghost use Rattle.ld_held.specs.Inner.Chains.{KeptChains, chain_before, chains_of, same_link};
 
 use indexmap::IndexSet;
+use ld_numbers::as_number;
 use std::alloc::{AllocError, Global};
 use std::marker::Model;
 
@@ -50,7 +51,7 @@ pub struct Chains {
 
 impl Model for Chains {
     ghost use Rattle.std.specs.Prelude.{map};
-    ghost use Rattle.ld_held.specs.Inner.Chains.{AreKept, AreRuns, KeptChains, numbers_in};
+    ghost use Rattle.ld_held.specs.Inner.Chains.{AreKept, KeptChains, numbers_in};
 
     ghost Value = { KeptChains };
 
@@ -59,10 +60,7 @@ impl Model for Chains {
       numbers = map (numbers_in c.numbers.items) c.runs.items;
     } };
 
-    ghost invariant = { λ c. AreKept (record {
-      links = c.links.keys;
-      numbers = map (numbers_in c.numbers.items) c.runs.items;
-    }) × AreRuns c.numbers.items c.runs.items };
+    ghost invariant = { λ c. AreKept c.links.keys c.numbers.items c.runs.items };
 }
 
 impl Chains {
@@ -112,9 +110,9 @@ impl Chains {
         if is_at(&self.links, self.last, link) {
             return Some(self.last);
         }
-        let number = self.links.get_index_of(&link)? as u32;
-        self.last = number;
-        Some(number)
+        let place = self.links.get_index_of(&link)?;
+        self.last = place as u32;
+        Some(place as u32)
     }
 
     /// Adds a chain that wasn't met, and answers its number. `AllocError` too where there are as many as
@@ -127,14 +125,12 @@ impl Chains {
         ensures numbers { OnOk result (self.new.numbers ≡ self.old.numbers ++ None ∷ []) }
         ensures refused { OnErr result (self.new ≡ self.old) }
     {
-        if self.links.len() >= u32::MAX as usize {
-            return Err(AllocError);
-        }
+        let number = as_number(self.links.len())?;
         self.runs.reserve(1)?;
-        let (number, _) = self.links.insert_full(link)?;
+        self.links.insert(link)?;
         self.runs.push_reserved(Run { start: 0, end: 0 });
-        self.last = number as u32;
-        Ok(number as u32)
+        self.last = number;
+        Ok(number)
     }
 
     /// Keeps the numbers of the pairs from each class before the last one of this chain to that, of which
@@ -147,15 +143,10 @@ impl Chains {
             ≡ slice_set self.old.numbers chain (Some numbers.now)) }
         ensures refused { OnErr result (self.new ≡ self.old) }
     {
-        let start = self.numbers.len();
-        if start + numbers.len() > u32::MAX as usize {
-            return Err(AllocError);
-        }
+        let start = as_number(self.numbers.len())?;
+        let end = as_number(self.numbers.len() + numbers.len())?;
         self.numbers.extend_from_slice(numbers)?;
-        self.runs[chain as usize] = Run {
-            start: start as u32,
-            end: (start + numbers.len()) as u32,
-        };
+        self.runs[chain as usize] = Run { start, end };
         Ok(())
     }
 

@@ -7,7 +7,7 @@ ghost use Rattle.ld_held.specs.Inner.Edges.{with_edge_fact};
 
 use crate::held::Held;
 use indexmap::IndexSet;
-use ld_numbers::Marked;
+use ld_numbers::{Marked, as_number};
 use std::alloc::{AllocError, Global};
 use std::marker::Model;
 
@@ -92,10 +92,7 @@ impl Edges {
         ensures number { IfOk result (λ number. pair_at self.new.pairs number ≡ pair) }
     {
         let (number, _) = self.pairs.insert_full(pair)?;
-        if number > u32::MAX as usize {
-            return Err(AllocError);
-        }
-        Ok(number as u32)
+        as_number(number)
     }
 
     /// The numbers of the pairs from the classes of these locks to the class.

@@ -5,4 +5,4 @@ mod marked;
 mod numbers;
 
 pub use marked::Marked;
-pub use numbers::Numbers;
+pub use numbers::{Numbers, as_number};

@@ -92,7 +92,7 @@ impl Numbers {
         ensures added { OnOk result (self.new ≡ self.old ++ number ∷ []) }
         ensures refused { OnErr result (self.new ≡ self.old) }
     {
-        let place = as_place(self.order.len())?;
+        let place = as_number(self.order.len())?;
         extend_to(&mut self.place, number)?;
         self.order.reserve(1)?;
         self.place[number as usize] = place;
@@ -122,12 +122,12 @@ fn extend_to(place: &mut Vec<u32>, number: u32) -> Result<(), AllocError>
     place.resize(index + 1, 0)
 }
 
-/// So many as the place of the next, where a place may be so great.
-fn as_place(count: usize) -> Result<u32, AllocError>
-    ensures { IfOk result (λ place. place ≡ count) }
+/// A place as a number. `AllocError` where it is above those that there are, as where a list can't grow so long.
+pub fn as_number(place: usize) -> Result<u32, AllocError>
+    ensures { IfOk result (λ number. number ≡ place) }
 {
-    if count > u32::MAX as usize {
+    if place > u32::MAX as usize {
         return Err(AllocError);
     }
-    Ok(count as u32)
+    Ok(place as u32)
 }
