@@ -32,9 +32,11 @@ pub(crate) fn add_edges(
 {
     for fact in facts {
         let line = fact.line;
+        let from = numbers.place(fact.from);
+        let to = numbers.place(fact.to);
         let edge = WitnessedEdge {
-            from: numbers.place(fact.from),
-            to: numbers.place(fact.to),
+            from,
+            to,
             witness: Witness { number, line },
         };
         rows.push_reserved(edge);

@@ -33,8 +33,9 @@ pub(crate) fn add_uses(
 {
     for fact in facts {
         let line = fact.line;
+        let class = numbers.place(fact.class);
         let used = WitnessedUse {
-            class: numbers.place(fact.class),
+            class,
             bit: fact.bit,
             witness: Witness { number, line },
         };
