@@ -1,5 +1,6 @@
 //! Where a book had what the batches of a worker showed before.
 
+use ld_numbers::as_number;
 use std::alloc::Global;
 
 /// Where a book may have the classes and dependencies of a batch, by the numbers that the batch's scan
@@ -33,13 +34,15 @@ impl Guesses {
     }
 
     /// Where the dependency between the classes of this pair may be.
-    pub fn pair(&self, number: u32) -> u32 {
-        at(&self.pairs, number)
+    pub fn pair(&self, number: u32) -> usize {
+        at(&self.pairs, number) as usize
     }
 
     /// The dependency between the classes of this pair is there.
-    pub fn keep_pair(&mut self, number: u32, place: u32) {
-        keep(&mut self.pairs, number, place);
+    pub fn keep_pair(&mut self, number: u32, place: usize) {
+        if let Ok(place) = as_number(place) {
+            keep(&mut self.pairs, number, place);
+        }
     }
 }
 

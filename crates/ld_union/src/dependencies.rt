@@ -169,7 +169,7 @@ impl Dependencies {
 
     /// Notes that the dependency was seen there, unless it was seen earlier, and answers its number. It may
     /// be at the place that is guessed.
-    fn note(&mut self, edge: Edge, witness: Witness, guess: u32) -> u32
+    fn note(&mut self, edge: Edge, witness: Witness, guess: usize) -> usize
         requires edges { self.old.graph.edges ≡ edges_of self.old.rows.items }
         requires from { edge.from < self.old.graph.classes }
         requires to { edge.to < self.old.graph.classes }
@@ -202,7 +202,7 @@ impl Dependencies {
             Some(number) => {
                 let known = &mut self.rows[number as usize];
                 known.first = known.first.earlier(witness);
-                number as u32
+                number as usize
             }
             None => {
                 let answer = self.graph.insert(edge.from, edge.to);
@@ -212,7 +212,7 @@ impl Dependencies {
                     edge,
                     first: witness,
                 };
-                let number = self.rows.len() as u32;
+                let number = self.rows.len();
                 self.rows.push_reserved(seen);
                 number
             }
@@ -220,12 +220,12 @@ impl Dependencies {
     }
 
     /// The number of the edge, or `None` where there is no such edge. It is looked for at the guess first.
-    fn number(&self, edge: Edge, guess: u32) -> Option<u64>
+    fn number(&self, edge: Edge, guess: usize) -> Option<u64>
         requires { self.now.graph.edges ≡ edges_of self.now.rows.items }
         ensures { MatchOption result (¬ IsEdge self.now.graph.edges edge.from edge.to)
             (IsEdgeNumber self.now.graph.edges edge.from edge.to) }
     {
-        if (guess as u64) < self.graph.edges() && self.rows[guess as usize].edge == edge {
+        if (guess as u64) < self.graph.edges() && self.rows[guess].edge == edge {
             return Some(guess as u64);
         }
         self.graph.edge(edge.from, edge.to)
