@@ -134,7 +134,7 @@ fn the_first_fault_of_a_line_is_told(rt: HostRuntime) {
 }
 
 #[test]
-fn a_long_task_comes_before_a_bad_state(rt: HostRuntime) -> Result<(), Fail> {
+fn a_long_task_is_a_bad_name(rt: HostRuntime) -> Result<(), Fail> {
     let rows: [(&[u8], &[u8]); 3] = [
         (b"enter ", b" nmi"),
         (b"nested ", b" A 1"),

@@ -1,5 +1,5 @@
-//! Tests of `ld_trace`, `ld_class`, `ld_graph` and `ld_reach` by their public calls, so that these aren't proved
-//! once more for them.
+//! Tests of `ld_trace`, `ld_usage`, `ld_class`, `ld_graph` and `ld_reach` by their public calls, so that these
+//! aren't proved once more for them. Through `ld_trace` they test `ld_lines`.
 #![tactic(auto)]
 
 #[cfg(test)]

@@ -116,9 +116,7 @@ impl<'a> Batch<'a> {
         self.listed.reserve(1)?;
         let outcome = read(&mut self.scan, &mut self.shown, source)?;
         // From here on nothing is refused.
-        let Ok(()) = self.listed.push(Listed { source, outcome }) else {
-            unreachable!()
-        };
+        self.listed.push_reserved(Listed { source, outcome });
         Ok(())
     }
 
@@ -160,13 +158,13 @@ impl<'a> Batch<'a> {
 
     /// The numbers that the scan has for the classes, in their order: guesses are kept by them. Takes no
     /// memory.
-    pub fn class_numbers(&self) -> &[usize] {
+    pub fn class_numbers(&self) -> &[u32] {
         self.shown.numbers.as_slice()
     }
 
     /// The numbers that the scan has for the pairs of classes of the dependencies, in their order: guesses
     /// are kept by them. Takes no memory.
-    pub fn pair_numbers(&self) -> &[usize] {
+    pub fn pair_numbers(&self) -> &[u32] {
         self.scan.locks.pairs()
     }
 

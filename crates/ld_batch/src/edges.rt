@@ -32,15 +32,13 @@ pub(crate) fn add_edges(
 {
     for fact in facts {
         let line = fact.line;
-        let from = numbers.place(fact.from as usize);
-        let to = numbers.place(fact.to as usize);
+        let from = numbers.place(fact.from);
+        let to = numbers.place(fact.to);
         let edge = WitnessedEdge {
-            from: from as u32,
-            to: to as u32,
+            from,
+            to,
             witness: Witness { number, line },
         };
-        let Ok(()) = rows.push(edge) else {
-            unreachable!()
-        };
+        rows.push_reserved(edge);
     }
 }

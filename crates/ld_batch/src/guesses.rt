@@ -1,5 +1,6 @@
 //! Where a book had what the batches of a worker showed before.
 
+use ld_numbers::as_number;
 use std::alloc::Global;
 
 /// Where a book may have the classes and dependencies of a batch, by the numbers that the batch's scan
@@ -10,7 +11,7 @@ use std::alloc::Global;
 #[derive(Drop)]
 pub struct Guesses {
     classes: Vec<u32>,
-    pairs: Vec<usize>,
+    pairs: Vec<u32>,
 }
 
 impl Guesses {
@@ -23,40 +24,41 @@ impl Guesses {
     }
 
     /// Where the class of this number may be.
-    pub fn class(&self, number: usize) -> u32 {
-        at(&self.classes, number, 0)
+    pub fn class(&self, number: u32) -> u32 {
+        at(&self.classes, number)
     }
 
     /// The class of this number is there.
-    pub fn keep_class(&mut self, number: usize, place: u32) {
-        keep(&mut self.classes, number, place, 0);
+    pub fn keep_class(&mut self, number: u32, place: u32) {
+        keep(&mut self.classes, number, place);
     }
 
     /// Where the dependency between the classes of this pair may be.
-    pub fn pair(&self, number: usize) -> usize {
-        at(&self.pairs, number, 0)
+    pub fn pair(&self, number: u32) -> usize {
+        at(&self.pairs, number) as usize
     }
 
     /// The dependency between the classes of this pair is there.
-    pub fn keep_pair(&mut self, number: usize, place: usize) {
-        keep(&mut self.pairs, number, place, 0);
+    pub fn keep_pair(&mut self, number: u32, place: usize) {
+        if let Ok(place) = as_number(place) {
+            keep(&mut self.pairs, number, place);
+        }
     }
 }
 
-/// What was kept for the number, or `none`.
-fn at<T: Copy>(kept: &[T], number: usize, none: T) -> T {
-    match kept.get(number) {
+/// What was kept for the number, else 0.
+fn at(kept: &[u32], number: u32) -> u32 {
+    match kept.get(number as usize) {
         Some(place) => *place,
-        None => none,
+        None => 0,
     }
 }
 
 /// Keeps the place for the number, where there is memory for it.
-fn keep<T: Copy>(kept: &mut Vec<T>, number: usize, place: T, none: T) {
-    if kept.len() <= number && (number == usize::MAX || kept.resize(number + 1, none).is_err()) {
+fn keep(kept: &mut Vec<u32>, number: u32, place: u32) {
+    let index = number as usize;
+    if kept.len() <= index && kept.resize(index + 1, 0).is_err() {
         return;
     }
-    if let Some(known) = kept.get_mut(number) {
-        *known = place;
-    }
+    kept[index] = place;
 }

@@ -22,7 +22,7 @@ use std::alloc::AllocError;
 pub fn intern_all<'a>(
     names: &mut Classes<'a>,
     more: &Classes<'a>,
-    numbers: &[usize],
+    numbers: &[u32],
     guesses: &mut Guesses,
     places: &mut Vec<u32>,
 ) -> Result<(), AllocError>
@@ -43,15 +43,13 @@ pub fn intern_all<'a>(
             return Err(AllocError);
         };
         guesses.keep_class(number, place);
-        let Ok(()) = places.push(place) else {
-            unreachable!()
-        };
+        places.push_reserved(place);
     }
     Ok(())
 }
 
 /// The number at a place, or 0: no clause says that there are as many as names, and for a guess any will do.
-fn number_at(numbers: &[usize], place: usize) -> usize {
+fn number_at(numbers: &[u32], place: usize) -> u32 {
     match numbers.get(place) {
         Some(number) => *number,
         None => 0,
@@ -87,7 +85,7 @@ pub(crate) fn add_named<'a>(
     names: &mut Classes<'a>,
     numbers: &mut Numbers,
     known: &Classes<'a>,
-    own: &[usize],
+    own: &[u32],
 ) -> Result<(), AllocError>
     requires room { length names.old + length own.now ≤ MOST_NAMES }
     requires few { length known.now ≤ MOST_NAMES }
@@ -117,7 +115,7 @@ fn add_one<'a>(
     names: &mut Classes<'a>,
     numbers: &mut Numbers,
     known: &Classes<'a>,
-    number: usize,
+    number: u32,
 ) -> Result<(), AllocError>
     requires room { length names.old < MOST_NAMES }
     requires few { length known.now ≤ MOST_NAMES }
@@ -134,6 +132,6 @@ fn add_one<'a>(
     if numbers.has(number) {
         return Ok(());
     }
-    names.intern(known.name(number as u32))?;
+    names.intern(known.name(number))?;
     numbers.add(number)
 }

@@ -33,14 +33,12 @@ pub(crate) fn add_uses(
 {
     for fact in facts {
         let line = fact.line;
-        let class = numbers.place(fact.class as usize);
+        let class = numbers.place(fact.class);
         let used = WitnessedUse {
-            class: class as u32,
+            class,
             bit: fact.bit,
             witness: Witness { number, line },
         };
-        let Ok(()) = rows.push(used) else {
-            unreachable!()
-        };
+        rows.push_reserved(used);
     }
 }

@@ -64,7 +64,7 @@ impl<'a, T: Ledger, E: Ledger> Locked<'a, T, E> {
     fn submit_batch(
         &mut self,
         feeder: &mut Feeder<T, E>,
-        batch: Batch<'a>,
+        mut batch: Batch<'a>,
     ) -> Result<(), BatchRefusal<'a>>
         ensures ok { OnOk result
             (IsSubmitted batch.entry.sources self.old self.new feeder.old feeder.new) }
@@ -75,11 +75,14 @@ impl<'a, T: Ledger, E: Ledger> Locked<'a, T, E> {
         ensures memory { is_any_listed self.old batch.entry.sources ≡ false
             → OnErr result (result ≡ Err (BatchRefusal.Memory batch.entry)) }
     {
-        let before = self.book.totals();
-        self.book.add_batch(batch)?;
-        let more = added_since(before, self.book.totals());
-        count(&mut self.trace_sum, &mut self.event_sum, feeder, more);
-        Ok(())
+        match self.take(feeder, &mut batch) {
+            Ok(()) => {
+                drop(batch);
+                Ok(())
+            }
+            Err(TakeRefusal::Twice) => Err(BatchRefusal::Twice(batch)),
+            Err(TakeRefusal::Memory) => Err(BatchRefusal::Memory(batch)),
+        }
     }
 
     /// Adds the traces of a batch to the book, and to the tally of the feeder, and leaves the batch

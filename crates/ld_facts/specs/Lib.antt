@@ -9,3 +9,4 @@ pub use Rattle.ld_rules.specs.Outcome
 pub use Rattle.ld_rules.specs.Dependency
 pub use Rattle.ld_rules.specs.Usage
 pub use Rattle.ld_rules.specs.Union
+pub use Rattle.ld_scan.specs.Named

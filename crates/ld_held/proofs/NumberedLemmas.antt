@@ -1,13 +1,17 @@
 -- The numbers that are kept with chains.
-use Rattle.std.proofs.Common.{◌≡◌, ◌<◌, ◌≤◌, ◌∷◌, [], ◌++◌, ◌⊎◌, inl, inr, List, ℕ, Option, Some, None, IfSome, Bor, Vec, Global, Result, Ok, Err, OnOk, OnErr, IfOk}
-use Rattle.std.proofs.Common.{◌≢◌, ap, sym, subst, ◌∙◌, arith, get_or, length, map, option_map, refl, set}
-use Rattle.std.proofs.lemmas.Bool.{cases_eq, cases_lt}
+use Rattle.std.proofs.Common.{◌≡◌, ◌<◌, ◌≤◌, ◌∷◌, [], ◌++◌, ◌⊎◌, inl, inr, List, ℕ, Option, Some, None, IfSome, Bor, Bool, false, Result, Ok, Err, OnOk, OnErr, IfOk}
+use Rattle.std.proofs.Common.{◌≢◌, ◌+◌, ◌-◌, ◌==◌, All, ap, sym, subst, ◌∙◌, arith, drop, get_or, if◌then◌else◌, length, map, option_map, refl, set, take}
+use Rattle.std.proofs.Math.Seq.{drop-append_seam}
+use Rattle.std.proofs.lemmas.Bool.{cases_eq, cases_lt, ne_eqb}
 use Rattle.std.proofs.lemmas.Grind.{get_or-set_at}
-use Rattle.std.proofs.lemmas.List.{get_or-set_other, get_or_append_left, get_or_push, length-map, length_push, same_from_push}
+use Rattle.std.proofs.lemmas.List.{drop-append-le, get_or-set_other, get_or_append_left, get_or_push, length-append, length-drop, length-map, length_push, map-set}
+use Rattle.std.proofs.lemmas.List.{same_from_push, take-append-le, take_all}
+use Rattle.std.proofs.lemmas.List.Elements.{All-head, All-set, All-tail, All-weaker}
 use Rattle.ld_held.specs.declared.chains.Link.{Link}
 use Rattle.ld_held.specs.declared.edges.Pair.{Pair}
-use Rattle.ld_held.specs.Inner.Chains.{KeptChains, chain_before, chains_of}
-use Rattle.ld_held.specs.Inner.Edges.{AreMore, AreNumbers}
+use Rattle.ld_held.specs.declared.chains.Run.{Run}
+use Rattle.ld_held.specs.Inner.Chains.{IsRun, KeptChains, chain_before, chains_of, numbers_in}
+use Rattle.ld_held.specs.Inner.Edges.{AreMore, AreNumbers, pair_at, pair_to}
 use Rattle.ld_held.specs.Inner.Locks.{HasItsNumbers, IsExtended}
 use Rattle.ld_held.proofs.ChainLemmas.{chain_last, chains_kept, length-chains_of}
 use Rattle.ld_held.proofs.EdgeLemmas.{AreNumbers-kept}
@@ -21,12 +25,6 @@ pub numbered_more : (chains : List (List ℕ)) (numbers : List (Option (List ℕ
 numbered_more chains numbers a b more are = record {
   each = λ n froms class within last. some_kept a b class froms more (get_or numbers n None) (are.each n froms class within last);
 }
-
--- the numbers, as plain data
-pub plain_numbers : (pairs : List Pair) (class : ℕ) (froms : List ℕ) (o : Option (Vec ℕ Global)) → IfSome o (λ (v : Vec ℕ Global). AreNumbers pairs class froms v.items) →
-    IfSome (option_map (λ (v : Vec ℕ Global). v.items) o) (AreNumbers pairs class froms)
-plain_numbers pairs class froms None are = tt
-plain_numbers pairs class froms (Some v) are = are
 
 -- the chain that a link stands for
 module _ (links : List Link) (link : Link) (froms : List ℕ) (before : chain_before (chains_of links) link.before ≡ froms) where
@@ -85,18 +83,59 @@ pub known_numbers : (pairs : List Pair) (class : ℕ) (froms : List ℕ) (kept :
 known_numbers pairs class froms kept are None is = tt
 known_numbers pairs class froms kept are (Some numbers) is = subst (λ k. IfSome k (AreNumbers pairs class froms)) (sym is) are
 
--- a chain has its place among the numbers, where they lie in memory
-pub kept_within : (links : _) (numbers : List (Option (Vec ℕ Global))) (known : KeptChains) (number : ℕ) →
-    record { links = links; numbers = map (option_map (λ (v : Vec ℕ Global). v.items)) numbers } ≡
-    known → length (map (option_map (λ (v : Vec ℕ Global). v.items)) numbers) ≡ length links → number < length (chains_of known.links) → number < length numbers
-kept_within links numbers known number is many within = omega (
-  arith,
-  within,
-  many,
-  ap (λ (k : KeptChains). length (chains_of k.links)) is,
-  length-chains_of links,
-  length-map numbers (option_map (λ (v : Vec ℕ Global). v.items)),
-)
+-- a chain has its place among the runs
+pub kept_within : (links : List Link) (numbers : List ℕ) (runs : List Run) (known : KeptChains) (chain : ℕ) → record { links = links; numbers = map (numbers_in numbers) runs } ≡ known →
+    length runs ≡ length links → chain < length (chains_of known.links) → chain < length runs
+kept_within links numbers runs known chain is many within = omega (arith, within, many, ap (λ (k : KeptChains). length (chains_of k.links)) is, length-chains_of links)
+
+-- a run by its place
+pub run_at : (numbers : List ℕ) (runs : List Run) (chain : ℕ) (run : Run) → All (IsRun numbers) runs → run ≡ get_or runs chain run → chain < length runs → IsRun numbers run
+run_at numbers runs chain run are is within = subst (IsRun numbers) (sym is) (are chain run within)
+
+-- the numbers of one that isn't empty
+pub some_numbers : (numbers : List ℕ) (run : Run) → (run.start == run.end) ≡ false → Some (take (run.end - run.start) (drop run.start numbers)) ≡ numbers_in numbers run
+some_numbers numbers run some = sym (ap (λ (t : Bool). if t then None else Some (take (run.end - run.start) (drop run.start numbers))) some)
+
+-- more numbers leave those of a run as they are
+numbers_kept : (numbers more : List ℕ) (run : Run) → IsRun numbers run → numbers_in (numbers ++ more) run ≡ numbers_in numbers run
+numbers_kept numbers more run is =
+    ap (λ ns. if run.start == run.end then None else Some ns)
+    (ap (take (run.end - run.start)) (drop-append-le run.start numbers more (omega (arith, is.order, is.within)))
+    ∙ take-append-le (run.end - run.start) (drop run.start numbers) more (omega (arith, is.order, is.within, length-drop run.start numbers)))
+
+all_kept : (numbers more : List ℕ) (runs : List Run) → All (IsRun numbers) runs → map (numbers_in (numbers ++ more)) runs ≡ map (numbers_in numbers) runs
+all_kept numbers more [] are = refl
+all_kept numbers more (run ∷ runs) are =
+    ap (λ kept. kept ∷ map (numbers_in (numbers ++ more)) runs) (numbers_kept numbers more run (All-head (IsRun numbers) run runs are))
+    ∙ ap (λ others. numbers_in numbers run ∷ others) (all_kept numbers more runs (All-tail (IsRun numbers) run runs are))
+
+-- and are themselves those of a run
+module _ (numbers more : List ℕ) (run : Run) (start : run.start ≡ length numbers) (end : run.end ≡ length numbers + length more) where
+  new_run : IsRun (numbers ++ more) run
+  new_run = record {
+    order = omega (arith, start, end);
+    within = omega (arith, end, length-append numbers more);
+  }
+
+  new_numbers : 0 < length more → numbers_in (numbers ++ more) run ≡ Some more
+  new_numbers some =
+      ap (λ (t : Bool). if t then None else Some (take (run.end - run.start) (drop run.start (numbers ++ more)))) (ne_eqb run.start run.end (λ same. omega (arith, some, start, end, same)))
+      ∙ ap Some (ap (λ k. take (run.end - run.start) (drop k (numbers ++ more))) start
+      ∙ ap (take (run.end - run.start)) (drop-append_seam numbers more)
+      ∙ take_all (run.end - run.start) more (omega (arith, start, end)))
+
+  -- so they can be kept with a chain
+  pub runs_set : (runs : List Run) (chain : ℕ) → All (IsRun numbers) runs → All (IsRun (numbers ++ more)) (set runs chain run)
+  runs_set runs chain are = All-set (IsRun (numbers ++ more)) runs chain run new_run
+      (All-weaker (IsRun numbers) (IsRun (numbers ++ more))
+      (λ r is. record { order = is.order; within = omega (arith, is.within, length-append numbers more) }) runs are)
+
+  pub numbers_set : (runs : List Run) (chain : ℕ) → 0 < length more → All (IsRun numbers) runs → map (numbers_in (numbers ++ more)) (set runs chain run)
+      ≡ set (map (numbers_in numbers) runs) chain (Some more)
+  numbers_set runs chain some are =
+      map-set (numbers_in (numbers ++ more)) runs chain run
+      ∙ ap (λ ns. set ns chain (numbers_in (numbers ++ more) run)) (all_kept numbers more runs are)
+      ∙ ap (set (map (numbers_in numbers) runs) chain) (new_numbers some)
 
 -- with the numbers of one more chain
 pub numbered_set : (chains : List (List ℕ)) (numbers : List (Option (List ℕ))) (pairs : List Pair) (chain : ℕ) (froms : List ℕ) (class : ℕ) (kept : List ℕ) → chain < length numbers →
@@ -111,3 +150,14 @@ numbered_set chains numbers pairs chain froms class kept place is new are = reco
         (subst (λ fs. AreNumbers pairs last fs kept) parts.0 (subst (λ k. AreNumbers pairs k froms kept) parts.1 new))
     by n others last within said (inr other) =
         subst (λ o. IfSome o (AreNumbers pairs last others)) (sym (get_or-set_other numbers chain n (Some kept) None other)) (are.each n others last within said)
+
+-- what an attempt to keep numbers leaves
+pub numbered_kept : {U E : Type 0} (old new : KeptChains) (pairs : List Pair) (numbers : List (Option (List ℕ))) (r : Result U E) → HasItsNumbers (chains_of old.links) old.numbers pairs →
+    HasItsNumbers (chains_of old.links) numbers pairs → new.links ≡ old.links → OnOk r (new.numbers ≡ numbers) → OnErr r (new ≡ old) → HasItsNumbers (chains_of new.links) new.numbers pairs
+numbered_kept old new pairs numbers (Ok u) _ are links is _ =
+    subst (λ ls. HasItsNumbers (chains_of ls) new.numbers pairs) (sym links) (subst (λ ns. HasItsNumbers (chains_of old.links) ns pairs) (sym is) are)
+numbered_kept old new pairs numbers (Err e) are _ _ _ refused = subst (λ (k : KeptChains). HasItsNumbers (chains_of k.links) k.numbers pairs) (sym refused) are
+
+-- there are as many as classes that they are of
+pub numbers-many : (pairs : List Pair) (class : ℕ) (froms numbers : List ℕ) → AreNumbers pairs class froms numbers → length numbers ≡ length froms
+numbers-many pairs class froms numbers are = sym (length-map numbers (pair_at pairs)) ∙ ap length are.same ∙ length-map froms (pair_to class)

@@ -1,4 +1,4 @@
--- What invariants and proofs cite, and what the calls of ld_held say to ld_facts: a reader of the
+-- What invariants and proofs cite, and what the calls of ld_held say to ld_scan: a reader of the
 -- promises needs none of it.
 pub mod Stacks
 pub mod Chains

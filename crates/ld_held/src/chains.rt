@@ -6,6 +6,7 @@ ghost use Rattle.std.specs.List.{list_any};
 ghost use Rattle.ld_held.specs.Inner.Chains.{KeptChains, chain_before, chains_of, same_link};
 
 use indexmap::IndexSet;
+use ld_numbers::as_number;
 use std::alloc::{AllocError, Global};
 use std::marker::Model;
 
@@ -13,7 +14,7 @@ use std::marker::Model;
 /// the first class.
 #[derive(Clone, Copy, PartialEq, Eq, Hash)]
 pub struct Link {
-    pub before: Option<usize>,
+    pub before: Option<u32>,
     pub class: u32,
 }
 
@@ -26,34 +27,40 @@ const MOST_CHAINS: usize = 1 << 18;
 // No clause says how many are kept.
 const _: () = prove!(MOST_KEPT == 524_288 && MOST_CHAINS == 262_144);
 
+/// Where the numbers of a chain's pairs stand among those of all chains; from a place to itself where they
+/// aren't kept.
+#[derive(Clone, Copy)]
+pub struct Run {
+    pub start: u32,
+    pub end: u32,
+}
+
 /// The chains that were met, each once. They are the nodes of a tree, and are numbered from 0.
 #[derive(Drop)]
 pub struct Chains {
     links: IndexSet<Link>,
-    /// By the number of a chain, the numbers of the pairs from each class before its last one to that.
-    /// `None` where the chain wasn't told again yet, or there was no room for them.
-    numbers: Vec<Option<Vec<usize>>>,
-    /// How many numbers are kept.
-    kept: usize,
+    /// The numbers of pairs that are kept, of one chain after another.
+    numbers: Vec<u32>,
+    /// By the number of a chain, where the numbers of the pairs from each class before its last one to that
+    /// stand. They aren't kept until the chain is told when it was there already, nor where there was no
+    /// room for them.
+    runs: Vec<Run>,
     /// The chain that was answered last. It may be past the end, and says nothing then.
-    last: usize,
+    last: u32,
 }
 
 impl Model for Chains {
-    ghost use Rattle.std.specs.Prelude.{map, option_map};
-    ghost use Rattle.ld_held.specs.Inner.Chains.{AreKept, KeptChains};
+    ghost use Rattle.std.specs.Prelude.{map};
+    ghost use Rattle.ld_held.specs.Inner.Chains.{AreKept, KeptChains, numbers_in};
 
     ghost Value = { KeptChains };
 
     ghost view = { λ c. record {
       links = c.links.keys;
-      numbers = map (option_map (λ numbers. numbers.items)) c.numbers.items;
+      numbers = map (numbers_in c.numbers.items) c.runs.items;
     } };
 
-    ghost invariant = { λ c. AreKept (record {
-      links = c.links.keys;
-      numbers = map (option_map (λ numbers. numbers.items)) c.numbers.items;
-    }) };
+    ghost invariant = { λ c. AreKept c.links.keys c.numbers.items c.runs.items };
 }
 
 impl Chains {
@@ -63,7 +70,7 @@ impl Chains {
         Chains {
             links: IndexSet::new(alloc),
             numbers: Vec::new(alloc),
-            kept: 0,
+            runs: Vec::new(alloc),
             last: 0,
         }
     }
@@ -73,8 +80,8 @@ impl Chains {
         ensures { self.new ≡ record { links = []; numbers = [] } }
     {
         self.links.truncate(0);
+        self.runs.clear();
         self.numbers.clear();
-        self.kept = 0;
     }
 
     /// How many chains were met.
@@ -86,12 +93,12 @@ impl Chains {
 
     /// Whether there is room to keep more chains and numbers of pairs.
     pub fn has_room(&self) -> bool {
-        self.kept < MOST_KEPT && self.links.len() < MOST_CHAINS
+        self.numbers.len() < MOST_KEPT && self.links.len() < MOST_CHAINS
     }
 
     /// The number of a chain, or `None` where it wasn't met. One that is asked for twice on end is looked
     /// up once.
-    pub fn find(&mut self, link: Link) -> Option<usize>
+    pub fn find(&mut self, link: Link) -> Option<u32>
         requires { IfSome link.before (λ n. n < length (chains_of self.old.links)) }
         ensures same { self.new ≡ self.old }
         ensures many { length self.old.numbers ≡ length self.old.links }
@@ -103,13 +110,14 @@ impl Chains {
         if is_at(&self.links, self.last, link) {
             return Some(self.last);
         }
-        let number = self.links.get_index_of(&link)?;
-        self.last = number;
-        Some(number)
+        let place = self.links.get_index_of(&link)?;
+        self.last = place as u32;
+        Some(place as u32)
     }
 
-    /// Adds a chain that wasn't met, and answers its number.
-    pub fn add(&mut self, link: Link) -> Result<usize, AllocError>
+    /// Adds a chain that wasn't met, and answers its number. `AllocError` too where there are as many as
+    /// have numbers.
+    pub fn add(&mut self, link: Link) -> Result<u32, AllocError>
         requires before { IfSome link.before (λ n. n < length (chains_of self.old.links)) }
         requires new { list_any (same_link link) self.old.links ≡ false }
         ensures number { IfOk result (λ n. n ≡ length self.old.links) }
@@ -117,45 +125,52 @@ impl Chains {
         ensures numbers { OnOk result (self.new.numbers ≡ self.old.numbers ++ None ∷ []) }
         ensures refused { OnErr result (self.new ≡ self.old) }
     {
-        self.numbers.reserve(1)?;
-        let (number, _) = self.links.insert_full(link)?;
+        let number = as_number(self.links.len())?;
+        self.runs.reserve(1)?;
+        self.links.insert(link)?;
+        self.runs.push_reserved(Run { start: 0, end: 0 });
         self.last = number;
-        if self.numbers.push(None).is_err() {
-            unreachable!();
-        }
         Ok(number)
     }
 
-    /// Keeps the numbers of the pairs from each class before the last one of this chain to that.
-    pub fn keep(&mut self, number: usize, numbers: Vec<usize>)
-        requires { number < length (chains_of self.old.links) }
+    /// Keeps the numbers of the pairs from each class before the last one of this chain to that, of which
+    /// there are some.
+    pub fn keep(&mut self, chain: u32, numbers: &[u32]) -> Result<(), AllocError>
+        requires chain { chain < length (chains_of self.old.links) }
+        requires some { 0 < length numbers.now }
         ensures links { self.new.links ≡ self.old.links }
-        ensures numbers { self.new.numbers
-            ≡ slice_set self.old.numbers number (Some numbers.items) }
+        ensures numbers { OnOk result (self.new.numbers
+            ≡ slice_set self.old.numbers chain (Some numbers.now)) }
+        ensures refused { OnErr result (self.new ≡ self.old) }
     {
-        self.kept = self.kept.saturating_add(numbers.len());
-        self.numbers[number] = Some(numbers);
+        let start = as_number(self.numbers.len())?;
+        let end = as_number(self.numbers.len() + numbers.len())?;
+        self.numbers.extend_from_slice(numbers)?;
+        self.runs[chain as usize] = Run { start, end };
+        Ok(())
     }
 
     /// The numbers of the pairs from each class before the last one of this chain to that, where they
     /// are kept.
-    pub fn numbers(&self, number: usize) -> Option<&[usize]>
-        requires { number < length (chains_of self.now.links) }
+    pub fn numbers(&self, chain: u32) -> Option<&[u32]>
+        requires { chain < length (chains_of self.now.links) }
         ensures many { length self.now.numbers ≡ length self.now.links }
         ensures kept { option_map (λ numbers. numbers.now) result
-            ≡ slice_index_or self.now.numbers number None }
+            ≡ slice_index_or self.now.numbers chain None }
     {
-        match &self.numbers[number] {
-            Some(numbers) => Some(numbers.as_slice()),
-            None => None,
+        let run = self.runs[chain as usize];
+        if run.start == run.end {
+            return None;
         }
+        Some(&self.numbers[run.start as usize..run.end as usize])
     }
 }
 
 /// Whether the chain stands at the place.
-fn is_at(links: &IndexSet<Link>, place: usize, link: Link) -> bool
+fn is_at(links: &IndexSet<Link>, place: u32, link: Link) -> bool
     ensures { OnTrue result ((place < length links.now.keys)
         × (slice_index_or links.now.keys place link ≡ link)) }
 {
+    let place = place as usize;
     place < links.len() && links.as_slice()[place] == link
 }

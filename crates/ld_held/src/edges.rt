@@ -7,7 +7,7 @@ ghost use Rattle.ld_held.specs.Inner.Edges.{with_edge_fact};
 
 use crate::held::Held;
 use indexmap::IndexSet;
-use ld_numbers::Numbers;
+use ld_numbers::{Marked, as_number};
 use std::alloc::{AllocError, Global};
 use std::marker::Model;
 
@@ -31,8 +31,8 @@ pub struct Pair {
 
 /// Dependencies, each pair of classes once, with the line that was told first.
 ///
-/// Pairs have numbers, which they keep when the dependencies are taken away, so that a chain that is met
-/// again tells its pairs without looking them up.
+/// Pairs have numbers, which they keep when the dependencies are taken away, so that a chain whose numbers
+/// are kept tells its pairs without looking them up.
 ///
 /// A call answers `AllocError` where a growth of memory was refused.
 #[derive(Drop)]
@@ -40,7 +40,7 @@ pub struct Edges {
     edges: Vec<EdgeFact>,
     pairs: IndexSet<Pair>,
     /// The numbers of the pairs of the dependencies, in their order.
-    theirs: Numbers,
+    theirs: Marked,
 }
 
 impl Model for Edges {
@@ -61,7 +61,7 @@ impl Edges {
         Edges {
             edges: Vec::new(alloc),
             pairs: IndexSet::new(alloc),
-            theirs: Numbers::new(alloc),
+            theirs: Marked::new(alloc),
         }
     }
 
@@ -80,19 +80,19 @@ impl Edges {
     }
 
     /// The numbers of the pairs of the dependencies, in their order.
-    pub fn pairs(&self) -> &[usize] {
+    pub fn pairs(&self) -> &[u32] {
         self.theirs.as_slice()
     }
 
-    /// The number of a pair.
-    fn number(&mut self, pair: Pair) -> Result<usize, AllocError>
+    /// The number of a pair. `AllocError` too where there are as many as have numbers.
+    fn number(&mut self, pair: Pair) -> Result<u32, AllocError>
         ensures edges { self.new.edges ≡ self.old.edges }
         ensures more { AreMore self.old.pairs self.new.pairs }
         ensures within { IfOk result (λ number. number < length self.new.pairs) }
         ensures number { IfOk result (λ number. pair_at self.new.pairs number ≡ pair) }
     {
         let (number, _) = self.pairs.insert_full(pair)?;
-        Ok(number)
+        as_number(number)
     }
 
     /// The numbers of the pairs from the classes of these locks to the class.
@@ -101,7 +101,7 @@ impl Edges {
         alloc: Global,
         stack: &[Held<'_>],
         class: u32,
-    ) -> Result<Vec<usize>, AllocError>
+    ) -> Result<Vec<u32>, AllocError>
         ensures edges { self.new.edges ≡ self.old.edges }
         ensures more { AreMore self.old.pairs self.new.pairs }
         ensures numbers { IfOk result (λ numbers. AreNumbers self.new.pairs class
@@ -120,7 +120,7 @@ impl Edges {
     }
 
     /// Adds the dependency of the pair of this number, where it isn't there yet.
-    fn add(&mut self, number: usize, line: u64) -> Result<(), AllocError>
+    fn add(&mut self, number: u32, line: u64) -> Result<(), AllocError>
         requires { number < length self.old.pairs }
         ensures pairs { self.new.pairs ≡ self.old.pairs }
         ensures added { OnOk result (self.new.edges
@@ -130,7 +130,7 @@ impl Edges {
         if self.theirs.has(number) {
             return Ok(());
         }
-        let pair = self.pairs.as_slice()[number];
+        let pair = self.pairs.as_slice()[number as usize];
         let edge = EdgeFact {
             from: pair.from,
             to: pair.to,
@@ -138,14 +138,12 @@ impl Edges {
         };
         self.edges.reserve(1)?;
         self.theirs.add(number)?;
-        if self.edges.push(edge).is_err() {
-            unreachable!();
-        }
+        self.edges.push_reserved(edge);
         Ok(())
     }
 
     /// Adds the dependencies of the pairs of these numbers.
-    fn tell(&mut self, numbers: &[usize], line: u64) -> Result<(), AllocError>
+    fn tell(&mut self, numbers: &[u32], line: u64) -> Result<(), AllocError>
         requires { All (λ number. number < length self.old.pairs) numbers.now }
         ensures pairs { self.new.pairs ≡ self.old.pairs }
         ensures kept { (test : EdgeFact → Bool)
@@ -165,7 +163,7 @@ impl Edges {
     pub fn tell_to(
         &mut self,
         alloc: Global,
-        known: Option<&[usize]>,
+        known: Option<&[u32]>,
         stack: &[Held<'_>],
         class: u32,
         line: u64,
@@ -201,7 +199,7 @@ impl Edges {
         ensures { self.new ≡ record { edges = []; pairs = [] } }
     {
         self.edges.clear();
-        self.theirs.clear();
+        self.theirs.cut(0);
         self.pairs.truncate(0);
     }
 }

@@ -24,7 +24,7 @@ pub struct Held<'a> {
     pub class: u32,
     /// The number of the chain of the classes that the task holds in the frame of this lock, up to
     /// this one.
-    pub chain: usize,
+    pub chain: u32,
 }
 
 impl<'a> Default for Held<'a> {

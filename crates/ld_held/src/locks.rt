@@ -21,7 +21,7 @@ use crate::chains::{Chains, Link};
 use crate::edges::{EdgeFact, Edges};
 use crate::held::{Held, Stacks, latest};
 use ld_frames::{Flag, Interrupts};
-use ld_numbers::Numbers;
+use ld_numbers::Marked;
 use ld_rules::MOST_HELD;
 use ld_trace::{Lock, State};
 use std::alloc::{AllocError, Global};
@@ -40,8 +40,8 @@ struct Before {
 /// far, also of the traces before it.
 ///
 /// Beside them stands a cache: a waiting acquisition by which a chain comes that was told before tells
-/// nothing anew, and one that was met before knows the numbers of its dependencies. Chains and numbers
-/// stay when the dependencies are taken away.
+/// nothing anew, and one that was met before learns the numbers of its dependencies when it is told, while
+/// there is room. Chains and numbers stay when the dependencies are taken away.
 ///
 /// A call answers `AllocError` where a growth of memory was refused. It may have done a part of its
 /// work then, so the owner takes the trace back, or gives the whole up.
@@ -50,7 +50,7 @@ pub struct Locks<'a> {
     stacks: Stacks<'a>,
     chains: Chains,
     /// The numbers of the chains that had the dependencies of their last class told.
-    told: Numbers,
+    told: Marked,
     edges: Edges,
     before: Before,
     alloc: Global,
@@ -78,7 +78,7 @@ impl<'a> Locks<'a> {
         Locks {
             stacks: Stacks::new(alloc),
             chains: Chains::new(alloc),
-            told: Numbers::new(alloc),
+            told: Marked::new(alloc),
             edges: Edges::new(alloc),
             before: Before { edges: 0, told: 0 },
             alloc,
@@ -97,7 +97,7 @@ impl<'a> Locks<'a> {
         self.stacks.begin();
         self.before = Before {
             edges: self.edges.as_slice().len(),
-            told: self.told.len(),
+            told: self.told.as_slice().len(),
         };
     }
 
@@ -121,7 +121,7 @@ impl<'a> Locks<'a> {
         ensures { self.new ≡ record { stacks = []; interrupts = []; edges = []; before = [] } }
     {
         self.stacks.begin();
-        self.told.clear();
+        self.told.cut(0);
         self.edges.cut(0);
         if !self.chains.has_room() {
             self.chains.clear();
@@ -302,7 +302,7 @@ impl<'a> Locks<'a> {
     /// The numbers that the pairs of classes of the dependencies have, in their order. A pair that comes again
     /// once all was taken away has its number still, as long as chains are kept. No clause says so: whoever
     /// reads one may guess by it, and no more.
-    pub fn pairs(&self) -> &[usize] {
+    pub fn pairs(&self) -> &[u32] {
         self.edges.pairs()
     }
 
@@ -315,7 +315,7 @@ impl<'a> Locks<'a> {
 }
 
 /// The number of the chain of a stack's classes and one more, which may be new.
-fn linked(chains: &mut Chains, stack: &[Held<'_>], class: u32) -> Result<usize, AllocError>
+fn linked(chains: &mut Chains, stack: &[Held<'_>], class: u32) -> Result<u32, AllocError>
     requires before { IfSome (chain_of (map plain_held stack.now))
         (λ n. n < length (chains_of chains.old.links)) }
     requires classes { chain_before (chains_of chains.old.links) (chain_of (map plain_held stack.now))
@@ -344,7 +344,7 @@ fn learn(
     edges: &mut Edges,
     alloc: Global,
     met: usize,
-    chain: usize,
+    chain: u32,
     stack: &[Held<'_>],
     class: u32,
 ) -> Result<(), AllocError>
@@ -356,16 +356,18 @@ fn learn(
     ensures links { chains.new.links ≡ chains.old.links }
     ensures edges { edges.new.edges ≡ edges.old.edges }
 {
-    if chain >= met || chains.numbers(chain).is_some() || !chains.has_room() {
+    if stack.is_empty() || chain as usize >= met || chains.numbers(chain).is_some() {
+        return Ok(());
+    }
+    if !chains.has_room() {
         return Ok(());
     }
     let numbers = edges.numbers(alloc, stack, class)?;
-    chains.keep(chain, numbers);
-    Ok(())
+    chains.keep(chain, &numbers)
 }
 
 /// The chain of the classes of a stack; `None` where it is empty.
-fn last_chain(stack: &[Held<'_>]) -> Option<usize>
+fn last_chain(stack: &[Held<'_>]) -> Option<u32>
     ensures { result ≡ chain_of (map plain_held stack.now) }
 {
     match stack.last() {

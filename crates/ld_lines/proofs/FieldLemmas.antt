@@ -3,8 +3,7 @@ use Rattle.std.proofs.Common.{ℕ, ◌≡◌, ◌<◌, Bool, true, false, not, L
 use Rattle.std.proofs.Math.Numerals.{one-add}
 use Rattle.std.specs.Prelude.{slice_get}
 use Rattle.std.specs.List.{filter, prefix_len, position_or_len, slice_split}
-use Rattle.ld_lines.specs.Lines.{is_blank, is_empty, fields}
-use Rattle.ld_lines.specs.Inner.Front.{first_byte}
+use Rattle.ld_lines.specs.Lines.{first_field_byte, is_blank, is_empty, fields}
 
 -- a blank before a field belongs to none
 fields-blank : (b : ℕ) (text : List ℕ) → is_blank b ≡ true → fields (b ∷ text) ≡ fields text
@@ -51,11 +50,11 @@ fields-empty [] none = refl
 fields-empty (b ∷ text) none = absurd (omega arith)
 
 -- the first field begins with the first byte, where this is no blank
-pub first-byte : (text : List ℕ) → prefix_len is_blank text ≡ 0 → first_byte (fields text) ≡ slice_get text 0
+pub first-byte : (text : List ℕ) → prefix_len is_blank text ≡ 0 → first_field_byte (fields text) ≡ slice_get text 0
 first-byte [] full = refl
 first-byte (b ∷ text) full = by (is_blank b) refl full
   where
-    by : (test : Bool) → is_blank b ≡ test → prefix_len is_blank (b ∷ text) ≡ 0 → first_byte (fields (b ∷ text)) ≡ slice_get (b ∷ text) 0
+    by : (test : Bool) → is_blank b ≡ test → prefix_len is_blank (b ∷ text) ≡ 0 → first_field_byte (fields (b ∷ text)) ≡ slice_get (b ∷ text) 0
     by true blank none = absurd (let h = rw (blank, one-add) at none in cc)
     by false full none = let s = split-run text in rw (full, s.is) refl
 

@@ -1,5 +1,5 @@
 -- Lines and fields of a list of bytes, and the words that stand in fields.
-use Rattle.std.specs.Prelude.{ℕ, ◌-◌, Bool, true, false, ◌&&◌, ◌||◌, not, ◌==◌, nat_eq, nat_le, List, [], ◌∷◌, length, take, filter, if◌then◌else◌}
+use Rattle.std.specs.Prelude.{ℕ, ◌-◌, Bool, true, false, ◌&&◌, ◌||◌, not, ◌==◌, nat_eq, nat_le, List, [], ◌∷◌, length, take, filter, slice_get, Option, None, if◌then◌else◌}
 use Rattle.std.specs.Char.{is_ascii_graphic}
 use Rattle.std.specs.List.{list_all, list_any, ends_with, slice_split, onto_first}
 use Rattle.ld_lines.specs.declared.line.TheConstants.{LONGEST_WORD}
@@ -29,6 +29,11 @@ is_empty (b ∷ bytes) = false
 -- the maximal runs of bytes other than space and tab: what lies between two blanks and isn't empty
 abbrev pub fields : List ℕ → List (List ℕ)
 fields text = filter (λ run. not (is_empty run)) (slice_split is_blank text)
+
+-- the byte that the first field begins with
+abbrev pub first_field_byte : List (List ℕ) → Option ℕ
+first_field_byte [] = None
+first_field_byte (first ∷ others) = slice_get first 0
 
 -- a field that begins with `#`
 abbrev pub begins_comment : List ℕ → Bool

@@ -38,7 +38,7 @@ fn word_len(bytes: &[u8]) -> usize
         .count()
 }
 
-/// The word at the front, as far as it goes, and what follows it.
+/// The word at the front, as far as it goes, and what follows it. `None` says nothing.
 pub fn next_word(bytes: &[u8]) -> Option<(&[u8], &[u8])>
     ensures whole { IfSome result (λ cut. bytes.now ≡ cut.0.now ++ cut.1.now) }
     ensures spelled { IfSome result (λ cut. is_word cut.0.now ≡ true) }
@@ -76,7 +76,7 @@ fn name_len(bytes: &[u8]) -> usize
     bytes.iter().take_while(|byte| in_name(**byte)).count()
 }
 
-/// The name at the front, as far as it goes, and what follows it.
+/// The name at the front, as far as it goes, and what follows it. `None` says nothing.
 pub fn next_name(bytes: &[u8]) -> Option<(&[u8], &[u8])>
     ensures whole { IfSome result (λ cut. bytes.now ≡ cut.0.now ++ cut.1.now) }
     ensures spelled { IfSome result (λ cut. is_name cut.0.now ≡ true) }

@@ -6,5 +6,5 @@ mod line;
 
 pub use front::{next_name, next_word};
 pub use line::{
-    LONGEST_WORD, begins_comment, first_byte, is_name, is_word, next_field, next_line, text,
+    LONGEST_WORD, begins_comment, first_field_byte, is_name, is_word, next_field, next_line, text,
 };

@@ -2,8 +2,8 @@
 ghost use Rattle.std.specs.Prelude.{◌≡◌, ◌<◌, ◌≤◌, ◌++◌, ◌∷◌, [], length, IfSome, MatchOption};
 ghost use Rattle.std.specs.Char.{is_ascii_graphic};
 ghost use Rattle.std.specs.List.{list_all, list_any, prefix_len, position_or_len};
-ghost use Rattle.ld_lines.specs.Lines.{begins_comment, fields, is_blank, is_name, is_separator, is_word, lines, text_of};
-ghost use Rattle.ld_lines.specs.Inner.Front.{first_byte};
+ghost use Rattle.ld_lines.specs.Lines.{begins_comment, fields, first_field_byte, is_blank, is_name};
+ghost use Rattle.ld_lines.specs.Lines.{is_separator, is_word, lines, text_of};
 
 use memchr::memchr;
 
@@ -63,8 +63,8 @@ fn skip_blanks(text: &[u8]) -> &[u8]
 }
 
 /// The byte that the first field begins with; `None` where there is no field.
-pub fn first_byte(text: &[u8]) -> Option<u8>
-    ensures { result ≡ first_byte (fields text.now) }
+pub fn first_field_byte(text: &[u8]) -> Option<u8>
+    ensures { result ≡ first_field_byte (fields text.now) }
 {
     match skip_blanks(text) {
         [first, ..] => Some(*first),

@@ -1,6 +1,8 @@
 //! Distinct numbers, in the order in which they came, in a list that begins anew at no cost.
 #![tactic(auto)]
 
+mod marked;
 mod numbers;
 
-pub use numbers::Numbers;
+pub use marked::Marked;
+pub use numbers::{Numbers, as_number};

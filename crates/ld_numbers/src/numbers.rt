@@ -1,6 +1,6 @@
 //! Distinct numbers, in the order in which they came.
 ghost use Rattle.std.specs.Prelude.{◌≡◌, ◌≢◌, ◌<◌, ◌≤◌, ℕ, [], ◌∷◌, ◌++◌, false, length, nat_eq, take};
-ghost use Rattle.std.specs.Prelude.{true, slice_index_or, OnErr, OnOk};
+ghost use Rattle.std.specs.Prelude.{true, slice_index_or, IfOk, OnErr, OnOk};
 ghost use Rattle.std.specs.List.{list_any, position_or_len, AllPairs};
 
 use std::alloc::{AllocError, Global};
@@ -15,10 +15,10 @@ use std::marker::Model;
 /// A call answers `AllocError` where a growth of memory was refused.
 #[derive(Drop)]
 pub struct Numbers {
-    order: Vec<usize>,
+    order: Vec<u32>,
     /// By a number its place in the order. That of a number which isn't in the order is anything: another
     /// stands there, or none.
-    place: Vec<usize>,
+    place: Vec<u32>,
 }
 
 impl Model for Numbers {
@@ -59,44 +59,44 @@ impl Numbers {
     }
 
     /// The numbers, in the order in which they came.
-    pub fn as_slice(&self) -> &[usize]
+    pub fn as_slice(&self) -> &[u32]
         ensures { result.now ≡ self.now }
     {
         self.order.as_slice()
     }
 
     /// Whether the number is there.
-    pub fn has(&self, number: usize) -> bool
+    pub fn has(&self, number: u32) -> bool
         ensures { result ≡ list_any (nat_eq number) self.now }
     {
-        if self.place.len() <= number {
+        let index = number as usize;
+        if self.place.len() <= index {
             return false;
         }
-        let place = self.place[number];
+        let place = self.place[index] as usize;
         place < self.order.len() && self.order[place] == number
     }
 
     /// The place of a member.
-    pub fn place(&self, member: usize) -> usize
+    pub fn place(&self, member: u32) -> u32
         requires { list_any (nat_eq member) self.now ≡ true }
         ensures place { result ≡ position_or_len (nat_eq member) self.now }
         ensures within { result < length self.now }
     {
-        self.place[member]
+        self.place[member as usize]
     }
 
     /// Adds a number that isn't there.
-    pub fn add(&mut self, number: usize) -> Result<(), AllocError>
+    pub fn add(&mut self, number: u32) -> Result<(), AllocError>
         requires { list_any (nat_eq number) self.old ≡ false }
         ensures added { OnOk result (self.new ≡ self.old ++ number ∷ []) }
         ensures refused { OnErr result (self.new ≡ self.old) }
     {
+        let place = as_number(self.order.len())?;
         extend_to(&mut self.place, number)?;
         self.order.reserve(1)?;
-        self.place[number] = self.order.len();
-        if self.order.push(number).is_err() {
-            unreachable!();
-        }
+        self.place[number as usize] = place;
+        self.order.push_reserved(number);
         Ok(())
     }
 
@@ -109,17 +109,25 @@ impl Numbers {
 }
 
 /// Gives the number a place, where it has none yet.
-fn extend_to(place: &mut Vec<usize>, number: usize) -> Result<(), AllocError>
+fn extend_to(place: &mut Vec<u32>, number: u32) -> Result<(), AllocError>
     ensures more { length place.old.items ≤ length place.new.items }
     ensures kept { (k : ℕ)
         → slice_index_or place.new.items k 0 ≡ slice_index_or place.old.items k 0 }
     ensures reached { OnOk result (number < length place.new.items) }
 {
-    if number < place.len() {
+    let index = number as usize;
+    if index < place.len() {
         return Ok(());
     }
-    if number == usize::MAX {
+    place.resize(index + 1, 0)
+}
+
+/// A place as a number. `AllocError` where it is above those that there are, as where a list can't grow so long.
+pub fn as_number(place: usize) -> Result<u32, AllocError>
+    ensures { IfOk result (λ number. number ≡ place) }
+{
+    if place > u32::MAX as usize {
         return Err(AllocError);
     }
-    place.resize(number + 1, 0)
+    Ok(place as u32)
 }

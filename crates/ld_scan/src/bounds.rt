@@ -18,7 +18,7 @@ impl<'a> Scan<'a> {
         ensures { self.new ≡ begun self.old }
     {
         self.tasks.clear();
-        self.own.clear();
+        self.own.cut(0);
         self.locks.begin();
         self.before = Before {
             classes: self.classes.len(),
@@ -37,7 +37,7 @@ impl<'a> Scan<'a> {
         if self.classes.len() > MOST_KNOWN {
             self.classes.cut(0);
         }
-        self.own.clear();
+        self.own.cut(0);
         self.locks.clear();
         self.uses.cut(0);
         self.before = Before {
@@ -52,7 +52,7 @@ impl<'a> Scan<'a> {
     {
         self.tasks.clear();
         self.classes.cut(self.before.classes);
-        self.own.clear();
+        self.own.cut(0);
         self.locks.undo();
         self.uses.cut(self.before.uses);
     }

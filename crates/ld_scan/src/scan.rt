@@ -18,7 +18,7 @@ use crate::taking::Taking;
 use ld_class::{ClassName, Classes, RecentNames};
 use ld_frames::Flag;
 use ld_held::Locks;
-use ld_numbers::Numbers;
+use ld_numbers::Marked;
 use ld_rules::{MOST_CLASSES, MOST_HELD, MOST_TASKS, TraceFault};
 use ld_trace::{Event, Lock, State};
 use ld_uses::Uses;
@@ -40,7 +40,7 @@ pub struct Scan<'a> {
     /// first acquisition.
     pub classes: Classes<'a>,
     /// The classes of the trace, by their numbers, in order of first acquisition.
-    pub own: Numbers,
+    pub own: Marked,
     /// What the tasks hold, by their numbers, their frames and flags, and the dependencies.
     pub locks: Locks<'a>,
     /// The usage bits of the classes, by their numbers.
@@ -56,7 +56,7 @@ impl<'a> Scan<'a> {
         Scan {
             tasks: RecentNames::new(alloc),
             classes: Classes::new(alloc),
-            own: Numbers::new(alloc),
+            own: Marked::new(alloc),
             locks: Locks::new(alloc),
             uses: Uses::new(alloc),
             before: Before {
@@ -334,7 +334,7 @@ impl<'a> Scan<'a> {
     {
         let known = self.classes.find(name);
         if let Some(class) = known {
-            if self.own.has(class as usize) {
+            if self.own.has(class) {
                 return Ok(class);
             }
         }
@@ -363,11 +363,11 @@ impl<'a> Scan<'a> {
             × (MOST_CLASSES ≤ length self.old.own) }
         ensures first { StandsOn self.old self.new }
     {
-        if self.own.len() >= MOST_CLASSES {
+        if self.own.as_slice().len() >= MOST_CLASSES {
             return Err(Stop::Fault(TraceFault::TooManyClasses));
         }
         let class = self.number(known, name)?;
-        self.own.add(class as usize)?;
+        self.own.add(class)?;
         Ok(class)
     }
 

@@ -7,7 +7,7 @@ ghost use Rattle.ld_trace.specs.Sources.{AreNumbered, Fits, fields_of, headers_b
 ghost use Rattle.ld_trace.specs.Inner.Splitting.{IsCutAt, given_from};
 
 use crate::source::{LONGEST_STREAM, MOST_TRACES, Source, StreamFault};
-use ld_lines::{begins_comment, first_byte, is_word, next_field, next_line, text};
+use ld_lines::{begins_comment, first_field_byte, is_word, next_field, next_line, text};
 use std::alloc::Global;
 
 /// Whether a line is a header, well formed or not.
@@ -16,7 +16,7 @@ fn is_header(line: &[u8]) -> bool
 {
     let text = text(line);
     // Tells most lines from a header at once.
-    if first_byte(text) != Some(b't') {
+    if first_field_byte(text) != Some(b't') {
         return false;
     }
     match next_field(text) {

@@ -213,9 +213,7 @@ impl Dependencies {
                     first: witness,
                 };
                 let number = self.rows.len();
-                let Ok(()) = self.rows.push(seen) else {
-                    unreachable!()
-                };
+                self.rows.push_reserved(seen);
                 number
             }
         }

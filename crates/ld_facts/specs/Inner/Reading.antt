@@ -1,4 +1,4 @@
--- How far a trace is read. `read_into` cites this, and no promise.
+-- How far a trace is read. The loop of `read_into` cites this, and no promise.
 use Rattle.std.specs.Prelude.{◌≡◌, ℕ, List, [], ◌++◌, length}
 use Rattle.std.specs.List.{filter_map, enumerate_from}
 use Rattle.ld_lines.specs.Lines.{lines, text_of}

@@ -1,8 +1,9 @@
 -- Chains of classes as the nodes of a tree. No public contract cites this file.
-use Rattle.std.specs.Prelude.{◌≡◌, ◌<◌, ℕ, Bool, ◌&&◌, ◌==◌, nat_eq, List, [], ◌∷◌, ◌++◌, Option, Some}
-use Rattle.std.specs.Prelude.{None, length, slice_index_or, fold, IfSome}
+use Rattle.std.specs.Prelude.{◌≡◌, ◌<◌, ◌≤◌, ◌-◌, ◌^◌, ℕ, Bool, ◌&&◌, ◌==◌, nat_eq, List, [], ◌∷◌, ◌++◌, All, Option}
+use Rattle.std.specs.Prelude.{Some, None, drop, fold, if◌then◌else◌, length, slice_index_or, take, IfSome}
 use Rattle.std.specs.Option.{option_eq}
 use Rattle.ld_held.specs.declared.chains.Link.{Link}
+use Rattle.ld_held.specs.declared.chains.Run.{Run}
 
 -- the chain of this number, or the empty one
 abbrev pub chain_before : List (List ℕ) → Option ℕ → List ℕ
@@ -30,7 +31,19 @@ pub record KeptChains : Type 0 where
   pub links : List Link
   pub numbers : List (Option (List ℕ))
 
--- each chain stands after the one before it, and has its place among the numbers
-pub record AreKept (chains : KeptChains) : Type 0 where
-  pub tree : IsTree chains.links
-  pub many : length chains.numbers ≡ length chains.links
+-- the numbers from a run's start to its end, where there are some
+abbrev pub numbers_in : List ℕ → Run → Option (List ℕ)
+numbers_in numbers run =
+    if run.start == run.end then None else Some (take (run.end - run.start) (drop run.start numbers))
+
+-- a run lies among the numbers
+pub record IsRun (numbers : List ℕ) (run : Run) : Type 0 where
+  pub order : run.start ≤ run.end
+  pub within : run.end ≤ length numbers
+
+-- each chain stands after the one before it, and has its run among the numbers
+pub record AreKept (links : List Link) (numbers : List ℕ) (runs : List Run) : Type 0 where
+  pub tree : IsTree links
+  pub many : length runs ≡ length links
+  pub few : length links ≤ 2 ^ 32
+  pub within : All (IsRun numbers) runs

@@ -1,13 +1,8 @@
 -- The front of some bytes, as the functions that read it see it. No promise cites this file.
-use Rattle.std.specs.Prelude.{◌≡◌, ℕ, ◌<◌, ◌≤◌, Bool, ◌&&◌, not, List, [], ◌∷◌, length, take, slice_get, Option, None}
+use Rattle.std.specs.Prelude.{◌≡◌, ℕ, ◌<◌, ◌≤◌, Bool, ◌&&◌, not, List, [], ◌∷◌, length, take}
 use Rattle.std.specs.Char.{is_ascii_graphic}
 use Rattle.ld_lines.specs.declared.line.TheConstants.{LONGEST_WORD}
 use Rattle.ld_lines.specs.Lines.{is_separator}
-
--- the byte that the first field begins with
-abbrev pub first_byte : List (List ℕ) → Option ℕ
-first_byte [] = None
-first_byte (first ∷ others) = slice_get first 0
 
 -- a byte that stands in names
 abbrev pub in_name : ℕ → Bool

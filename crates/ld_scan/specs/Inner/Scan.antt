@@ -6,7 +6,7 @@ use Rattle.ld_class.specs.Names.{AreDistinct, IsTaskAt, PlainClass, no_class, pl
 use Rattle.ld_class.specs.Names.{with_name, with_task}
 use Rattle.ld_class.specs.declared.names.TheConstants.{MOST_NAMES}
 use Rattle.ld_trace.specs.declared.event.State.{State}
-use Rattle.ld_trace.specs.Events.{PlainEvent, PlainLock, Position, positions}
+use Rattle.ld_trace.specs.Events.{PlainEvent, PlainLock, Position}
 use Rattle.ld_trace.specs.Events.PlainEvent.{Acquire, Try, Nested}
 use Rattle.ld_held.specs.declared.edges.EdgeFact.{EdgeFact}
 use Rattle.ld_rules.specs.declared.outcome.TheConstants.{MOST_CLASSES, MOST_HELD, MOST_TASKS}

@@ -1,4 +1,4 @@
-use Rattle.std.proofs.Common.{◌≤◌, ap, sym, subst, ◌∙◌, arith, length}
+use Rattle.std.proofs.Common.{ap, sym, subst, ◌∙◌}
 use Rattle.ld_class.specs.Names.{place_of, with_name}
 use Rattle.ld_batch.specs.Inner.Kept.{AreNames}
 use Rattle.ld_batch.proofs.NamedLemmas.{named-known, named-push, named-then}
@@ -7,9 +7,6 @@ use Rattle.ld_batch.proofs.names.add_one.Goals as goal
 pub returns-then-has-clause-names : goal.returns-then-has-clause-names
 returns-then-has-clause-names c =
     named-known c.args.known.now c.args.numbers.now c.args.names.now c.requires.names c.args.number c.requires.within (sym c.has.ensures ∙ c.if-has.true)
-
-pub overflow_cast-number : goal.overflow_cast-number
-overflow_cast-number c = let few : length c.args.known.now ≤ 1073741824 = c.requires.few in omega (arith, few, c.requires.within)
 
 pub returns-clause-same : goal.returns-clause-same
 returns-clause-same c =

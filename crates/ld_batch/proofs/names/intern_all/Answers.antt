@@ -18,7 +18,7 @@ loop-id-preserved c =
       longer = subst (λ names. IsLonger c.args.names.now names (c.loop-id.id + 1)) (sym added)
           (longer_more c.args.names.now c.loop-id.names (plain_class c.name-name.result) c.loop-id.id c.loop-id.invariant.longer);
       places =
-          rw (c.in-Ok-push.ensures.items, sym one_more)
+          rw (c.push_reserved.ensures.items, sym one_more)
           (places_more c.loop-id.names c.intern_guessed.new.names first (plain_class c.name-name.result)
           c.loop-id.places.items c.in-Ok.place c.loop-id.invariant.places c.in-Ok.ensures.kept c.in-Ok.ensures.place);
       room = search rules;

@@ -1,10 +1,11 @@
-use Rattle.std.proofs.Common.{◌≡◌, ◌<◌, ◌++◌, ◌∷◌, [], ℕ, Vec, Global, None, IfSome, false, length, option_map, ap, sym, subst, ◌∙◌, arith}
-use Rattle.std.proofs.lemmas.Grind.{common_steps}
-use Rattle.std.proofs.lemmas.List.{length-map, length_push}
+use Rattle.std.proofs.Common.{◌≡◌, ◌<◌, ◌++◌, ◌∷◌, [], All, IfSome, false, length, ap, sym, subst, ◌∙◌, arith}
+use Rattle.std.proofs.lemmas.List.{length_push}
+use Rattle.std.proofs.lemmas.List.Elements.{All-push}
 use Rattle.std.specs.List.{list_any}
 use Rattle.ld_held.specs.declared.chains.Link.{Link}
-use Rattle.ld_held.specs.Inner.Chains.{IsTree, KeptChains, chains_of, same_link}
-use Rattle.ld_held.proofs.ChainLemmas.{IsTree-push, length-chains_of, new_keys, new_place}
+use Rattle.ld_held.specs.declared.chains.Run.{Run}
+use Rattle.ld_held.specs.Inner.Chains.{IsRun, IsTree, KeptChains, chains_of, same_link}
+use Rattle.ld_held.proofs.ChainLemmas.{IsTree-push, length-chains_of, new_keys}
 use Rattle.ld_held.proofs.chains.Chains.add.Goals as goal
 
 -- what the requirements say of the fields
@@ -17,29 +18,21 @@ module _ (chains known : KeptChains) (link : Link) (is : chains ≡ known) where
 
 pub invariant_of-self-2 : goal.invariant_of-self-2
 invariant_of-self-2 c =
-    let keys = new_keys c.self.inside.links.keys c.args.link (none_of _ c.args.self.now c.args.link c.self.view_is c.requires.new) c.insert_full.new.self.keys c.in_ok-number.ensures.keys in
-    let pushed : c.push.new.self.items ≡ c.reserve.new.self.items ++ None ∷ [] = grind (arith, common_steps) in
+    let keys = new_keys c.self.inside.links.keys c.args.link (none_of _ c.args.self.now c.args.link c.self.view_is c.requires.new) c.insert.new.self.keys c.in_ok-insert.ensures.keys in
+    let run : Run = record { start = 0; end = 0 } in
+    let pushed : c.push_reserved.new.self.items ≡ c.self.inside.runs.items ++ run ∷ [] = c.push_reserved.ensures.items ∙ ap (λ rs. rs ++ run ∷ []) c.reserve.ensures.items in
     record {
       tree = subst IsTree (sym keys) (IsTree-push c.self.inside.links.keys c.args.link c.self.invariant.tree (within_of _ c.args.self.now c.args.link c.self.view_is c.requires.before));
-      many = omega (
-        arith,
-        length-map c.push.new.self.items (option_map (λ (numbers : Vec ℕ Global). numbers.items)),
-        length-map c.self.inside.numbers.items (option_map (λ (numbers : Vec ℕ Global). numbers.items)),
-        ap length pushed,
-        length_push c.reserve.new.self.items None,
-        ap length c.reserve.ensures.items,
-        ap length keys,
-        length_push c.self.inside.links.keys c.args.link,
-        c.self.invariant.many,
-      );
+      many = omega (arith, ap length pushed, length_push c.self.inside.runs.items run, ap length keys, length_push c.self.inside.links.keys c.args.link, c.self.invariant.many);
+      few = omega (arith, ap length keys, length_push c.self.inside.links.keys c.args.link, c.len.ensures.len);
+      within = subst (All (IsRun c.self.inside.numbers.items)) (sym pushed)
+          (All-push (IsRun c.self.inside.numbers.items) c.self.inside.runs.items run c.self.invariant.within (record { order = omega arith; within = omega arith }));
     }
 
 pub returns-clause-number : goal.returns-clause-number
-returns-clause-number c =
-    c.in_ok-number.ensures.index ∙ new_place c.self.inside.links.keys c.args.link (none_of _ c.args.self.now c.args.link c.self.view_is c.requires.new)
-    ∙ ap (λ (k : KeptChains). length k.links) c.self.view_is
+returns-clause-number c = omega (arith, c.in_ok-number.ensures, c.len.ensures.len, ap (λ (k : KeptChains). length k.links) c.self.view_is)
 
 pub returns-clause-links : goal.returns-clause-links
 returns-clause-links c =
-    new_keys c.self.inside.links.keys c.args.link (none_of _ c.args.self.now c.args.link c.self.view_is c.requires.new) c.insert_full.new.self.keys c.in_ok-number.ensures.keys
+    new_keys c.self.inside.links.keys c.args.link (none_of _ c.args.self.now c.args.link c.self.view_is c.requires.new) c.insert.new.self.keys c.in_ok-insert.ensures.keys
     ∙ ap (λ (k : KeptChains). k.links ++ c.args.link ∷ []) c.self.view_is

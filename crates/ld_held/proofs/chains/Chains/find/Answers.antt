@@ -15,11 +15,11 @@ returns-then-is_at-clause-chain c =
 
 pub returns-clause-within : goal.returns-clause-within
 returns-clause-within c =
-    subst (λ (k : KeptChains). c.in_ok-number.number < length (chains_of k.links)) c.self.view_is
-    (found_within c.self.inside.links.keys c.args.link c.self.invariant.tree (Some c.in_ok-number.number) c.in_ok-number.ensures.index)
+    subst (λ (k : KeptChains). c.in_ok-place.place < length (chains_of k.links)) c.self.view_is
+    (found_within c.self.inside.links.keys c.args.link c.self.invariant.tree (Some c.in_ok-place.place) c.in_ok-place.ensures.index)
 
 pub returns-clause-chain : goal.returns-clause-chain
 returns-clause-chain c =
-    subst (λ (k : KeptChains). get_or (chains_of k.links) c.in_ok-number.number [] ≡ chain_before (chains_of k.links) c.args.link.before ++ c.args.link.class ∷ [])
+    subst (λ (k : KeptChains). get_or (chains_of k.links) c.in_ok-place.place [] ≡ chain_before (chains_of k.links) c.args.link.before ++ c.args.link.class ∷ [])
     c.self.view_is
-    (found_chain c.self.inside.links.keys c.args.link c.self.invariant.tree (Some c.in_ok-number.number) c.in_ok-number.ensures.index)
+    (found_chain c.self.inside.links.keys c.args.link c.self.invariant.tree (Some c.in_ok-place.place) c.in_ok-place.ensures.index)

@@ -14,8 +14,8 @@ returns-then-has-clause-added c =
 pub returns-clause-added : goal.returns-clause-added
 returns-clause-added c =
     let edge = edge_at c.args.line (pair_at c.self.inside.pairs.keys c.args.number) in
-    let pushed : c.push.new.self.items ≡ c.reserve.new.self.items ++ edge ∷ [] = grind (arith, common_steps) in
-    subst (λ (k : KeptEdges). c.push.new.self.items ≡ with_edge_fact k.edges (edge_at c.args.line (pair_at k.pairs c.args.number))) c.self.view_is
+    let pushed : c.push_reserved.new.self.items ≡ c.reserve.new.self.items ++ edge ∷ [] = grind (arith, common_steps) in
+    subst (λ (k : KeptEdges). c.push_reserved.new.self.items ≡ with_edge_fact k.edges (edge_at c.args.line (pair_at k.pairs c.args.number))) c.self.view_is
     (pushed ∙ ap (λ es. es ++ edge ∷ []) c.reserve.ensures.items
     ∙ with_edge_fact-new c.self.inside.edges.items c.self.inside.pairs.keys c.self.inside.theirs c.self.invariant c.args.line c.args.number
     (subst (λ (k : KeptEdges). c.args.number < length k.pairs) (sym c.self.view_is) c.requires)

@@ -12,7 +12,7 @@ invariant_of-self c =
           subst (λ ss. AreTied ss (chains_of c.self.inside.chains.links) c.self.inside.told c.self.inside.edges.edges) (sym c.begin.ensures)
           (tied_none (chains_of c.self.inside.chains.links) c.self.inside.told c.self.inside.edges.edges c.self.invariant.tied.complete);
       start = before_now (chains_of c.self.inside.chains.links) c.self.inside.told c.self.inside.edges.edges c.self.invariant.tied.complete
-          (record { edges = length c.as_slice.result.now; told = c.len.result }) (ap length c.as_slice.ensures) c.len.ensures.len;
+          (record { edges = length c.as_slice.result.now; told = length c.as_slice-2.result.now }) (ap length c.as_slice.ensures) (ap length c.as_slice-2.ensures.same);
       numbered = c.self.invariant.numbered;
     }
 

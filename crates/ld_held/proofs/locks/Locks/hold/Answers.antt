@@ -3,7 +3,7 @@ use Rattle.std.proofs.lemmas.List.{map-append}
 use Rattle.ld_held.specs.Inner.Stacks.{PlainHeld, empty_stack}
 use Rattle.ld_trace.specs.Events.{plain_lock}
 use Rattle.ld_held.specs.Inner.Chains.{chains_of}
-use Rattle.ld_held.specs.Inner.Locks.{AreTied, Hold, IsAtStart, hold_of, held_by_tasks}
+use Rattle.ld_held.specs.Inner.Locks.{AreTied, Hold, hold_of, held_by_tasks}
 use Rattle.ld_held.proofs.BeforeLemmas.{before_extended}
 use Rattle.ld_held.proofs.LockLemmas.{classes_shown, holds_at, numbered, numbered_as, start_within, tied_push, shown_held, within_shown}
 use Rattle.ld_held.proofs.locks.Locks.hold.Goals as goal

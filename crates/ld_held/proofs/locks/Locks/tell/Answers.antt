@@ -6,7 +6,7 @@ use Rattle.ld_held.specs.declared.locks.Before.{Before}
 use Rattle.ld_held.specs.Inner.Stacks.{PlainStack, empty_stack}
 use Rattle.ld_held.specs.Inner.Chains.{KeptChains, chains_of}
 use Rattle.ld_held.specs.Inner.Edges.{KeptEdges, edge_to, with_edge_fact}
-use Rattle.ld_held.specs.Inner.Locks.{AreTied, IsAtStart, IsExtended, IsKept, held_by_tasks}
+use Rattle.ld_held.specs.Inner.Locks.{AreTied, IsAtStart, IsExtended, IsKept}
 use Rattle.ld_held.proofs.BeforeLemmas.{before_extended, before_more, before_same, before_told}
 use Rattle.ld_held.proofs.LockLemmas.{classes_shown, known_told, numbered, numbered_as, start_within, tied_extended, tied_more, tied_told, told_now, told_shown}
 use Rattle.ld_held.proofs.NumberedLemmas.{known_numbers, numbered_more}

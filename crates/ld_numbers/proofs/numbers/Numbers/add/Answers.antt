@@ -8,9 +8,9 @@ use Rattle.ld_numbers.proofs.numbers.Numbers.add.Goals as goal
 pub invariant_of-self-2 : goal.invariant_of-self-2
 invariant_of-self-2 c =
     let none : list_any (nat_eq c.args.number) c.self.inside.order.items ≡ false = ap (list_any (nat_eq c.args.number)) c.self.view_is ∙ c.requires in
-    let items : c.push.new.self.items ≡ c.reserve.new.self.items ++ c.args.number ∷ [] = grind (arith, common_steps) in
-    let count : length c.self.inside.order.items ≡ c.len.result = omega (arith, c.len.ensures, ap length c.reserve.ensures.items) in
-    subst (λ n. AreAtPlaces c.push.new.self.items (set c.extend_to.new.place.items c.args.number n)) count
+    let items : c.push_reserved.new.self.items ≡ c.reserve.new.self.items ++ c.args.number ∷ [] = grind (arith, common_steps) in
+    let count : length c.self.inside.order.items ≡ c.in_ok-place.place = omega (arith, c.len.ensures, c.in_ok-place.ensures) in
+    subst (λ n. AreAtPlaces c.push_reserved.new.self.items (set c.extend_to.new.place.items c.args.number n)) count
     (subst (λ xs. AreAtPlaces xs (set c.extend_to.new.place.items c.args.number (length c.self.inside.order.items)))
     (sym (items ∙ ap (λ xs. xs ++ c.args.number ∷ []) c.reserve.ensures.items))
     (pushed c.self.inside.order.items c.extend_to.new.place.items

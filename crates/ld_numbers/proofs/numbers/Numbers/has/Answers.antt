@@ -4,23 +4,23 @@ use Rattle.std.specs.List.{list_any}
 use Rattle.ld_numbers.proofs.NumberLemmas.{is_at, none_beyond, none_past}
 use Rattle.ld_numbers.proofs.numbers.Numbers.has.Goals as goal
 
-pub returns-then-len-number : goal.returns-then-len-number
-returns-then-len-number c =
+pub returns-then-len-index : goal.returns-then-len-index
+returns-then-len-index c =
     none_past c.self.inside.order.items c.self.inside.place.items c.self.invariant c.args.number (omega arith)
     ∙ ap (list_any (nat_eq c.args.number)) c.self.view_is
 
 pub returns-then-place-len : goal.returns-then-place-len
 returns-then-place-len c =
-    is_at c.self.inside.order.items c.self.inside.place.items c.self.invariant c.args.number c.index-place.result.now
-    (c.index-place.ensures ∙ get_or_default_zero c.self.inside.place.items c.args.number c.index-place.result.now (omega arith))
-    c.index.result.now (omega arith)
-    (c.index.ensures ∙ get_or_default_zero c.self.inside.order.items c.index-place.result.now c.index.result.now (omega arith))
+    is_at c.self.inside.order.items c.self.inside.place.items c.self.invariant c.args.number c.index.result.now
+    (c.index.ensures ∙ get_or_default_zero c.self.inside.place.items c.args.number c.index.result.now (omega arith))
+    c.index-then-place-len.result.now (omega arith)
+    (c.index-then-place-len.ensures ∙ get_or_default_zero c.self.inside.order.items c.index.result.now c.index-then-place-len.result.now (omega arith))
     ∙ ap (list_any (nat_eq c.args.number)) c.self.view_is
 
 pub returns-else-place-len : goal.returns-else-place-len
 returns-else-place-len c =
     let many : c.len-2.result ≡ length c.self.inside.order.items = omega (arith, c.len-2.ensures) in
-    ap (nat_lt c.index-place.result.now) many
-    ∙ none_beyond c.self.inside.order.items c.self.inside.place.items c.self.invariant c.args.number c.index-place.result.now
-    (c.index-place.ensures ∙ get_or_default_zero c.self.inside.place.items c.args.number c.index-place.result.now (omega arith)) (omega arith)
+    ap (nat_lt c.index.result.now) many
+    ∙ none_beyond c.self.inside.order.items c.self.inside.place.items c.self.invariant c.args.number c.index.result.now
+    (c.index.ensures ∙ get_or_default_zero c.self.inside.place.items c.args.number c.index.result.now (omega arith)) (omega arith)
     ∙ ap (list_any (nat_eq c.args.number)) c.self.view_is

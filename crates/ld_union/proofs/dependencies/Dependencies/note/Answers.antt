@@ -44,18 +44,18 @@ returns-in-Some-clause-noted c classes count numbered first witnessed =
     (get_or_read rows c.in-Some.number known at.0 c.index_mut-known.ensures.value _))
     first witnessed
 
-pub returns-in-Ok-clause-numbered : goal.returns-in-Ok-clause-numbered
-returns-in-Ok-clause-numbered c classes count numbered =
+pub returns-in-None-clause-numbered : goal.returns-in-None-clause-numbered
+returns-in-None-clause-numbered c classes count numbered =
     let e = c.args.edge in
     let new = subst (λ edges. ¬ IsEdge edges e.from e.to) c.requires.edges c.in-None.ensures in
-    rw c.in-Ok.ensures.items
+    rw c.push_reserved.ensures.items
     (numbered-pushed classes c.args.self.now.rows.items numbered e (subst (λ n. e.from < n) (sym count) c.requires.from, subst (λ n. e.to < n) (sym count) c.requires.to) new _ refl)
 
-pub returns-in-Ok-clause-noted : goal.returns-in-Ok-clause-noted
-returns-in-Ok-clause-noted c classes count numbered first witnessed =
+pub returns-in-None-clause-noted : goal.returns-in-None-clause-noted
+returns-in-None-clause-noted c classes count numbered first witnessed =
     let e = c.args.edge in
     let new = subst (λ edges. ¬ IsEdge edges e.from e.to) c.requires.edges c.in-None.ensures in
-    rw c.in-Ok.ensures.items
+    rw c.push_reserved.ensures.items
     (witnessed-pushed classes c.args.self.now.rows.items numbered e (subst (λ n. e.from < n) (sym count) c.requires.from, subst (λ n. e.to < n) (sym count) c.requires.to) new _ refl first witnessed)
 
 pub returns-in-Some-clause-closing : goal.returns-in-Some-clause-closing
@@ -67,12 +67,12 @@ returns-in-Some-clause-closing c was =
     subst (λ edges. IsCycleEdge edges c.args.self.now.closing)
     (sym (edges-set rows c.in-Some.number e at.0 at.1 _ (ap (λ (row : Witnessed). row.edge) c.index_mut-known.ensures.value ∙ at.1 known))) was
 
-pub returns-in-Ok-clause-closing : goal.returns-in-Ok-clause-closing
-returns-in-Ok-clause-closing c was =
+pub returns-in-None-clause-closing : goal.returns-in-None-clause-closing
+returns-in-None-clause-closing c was =
     let graph = c.insert-answer.new.self in
     let inserted : graph ≡ with_edge c.args.self.now.graph c.args.edge.from c.args.edge.to graph.order = c.insert-answer.ensures.new c.in-None.ensures in
-    let same : edges_of c.push.new.self.items ≡ graph.edges =
-    ap edges_of c.in-Ok.ensures.items ∙ map-append (λ (row : Witnessed). row.edge) c.args.self.now.rows.items _
+    let same : edges_of c.push_reserved.new.self.items ≡ graph.edges =
+    ap edges_of c.push_reserved.ensures.items ∙ map-append (λ (row : Witnessed). row.edge) c.args.self.now.rows.items _
     ∙ ap (λ edges. edges ++ c.args.edge ∷ []) (sym c.requires.edges) ∙ sym (ap (λ (g : PlainGraph). g.edges) inserted) in
     subst (λ edges. IsCycleEdge edges c.closing_then-self.result) (sym same)
     (c.closing_then-self.ensures c.args.self.now.graph graph c.insert-answer.ensures.inserted (subst (λ edges. IsCycleEdge edges c.args.self.now.closing) (sym c.requires.edges) was))
