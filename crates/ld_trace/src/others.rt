@@ -1,5 +1,5 @@
 //! The lines at the front of some bytes that are no headers, told from headers 32 bytes at a time.
-ghost use Rattle.std.specs.Prelude.{◌≡◌, ◌<◌, ◌≤◌, ℕ, count_by, false, length, map, slice_index_or, take, true};
+ghost use Rattle.std.specs.Prelude.{◌≡◌, ◌≤◌, count_by, length, map, take};
 ghost use Rattle.std.specs.Simd.Lanes.{mask_l};
 ghost use Rattle.ld_trace.specs.Inner.Splitting.{AreSkipped, IsQuiet, is_lf, may_begin};
 
