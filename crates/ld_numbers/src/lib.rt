@@ -1,4 +1,5 @@
-//! Distinct numbers, in the order in which they came, in a list that begins anew at no cost.
+//! Distinct numbers, in the order in which they came: `Numbers`, which begin anew at no cost, and `Marked`,
+//! which tell at one look whether a number is there.
 #![tactic(auto)]
 
 mod marked;

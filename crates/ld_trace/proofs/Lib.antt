@@ -4,3 +4,5 @@ pub mod SplitLemmas
 pub mod NumberLemmas
 pub mod SectionLemmas
 pub mod PositionLemmas
+pub mod QuietLemmas
+pub mod SkipLemmas

@@ -1,10 +1,8 @@
 -- One line more of a list of lines.
-use Rattle.std.proofs.Common.{ℕ, zero, suc, ◌≡◌, ◌+◌, Bool, true, false, List, [], ◌∷◌, ◌++◌, take, drop, refl, sym, ◌∙◌, ap, arith, add-one}
-use Rattle.std.proofs.Common.{append_assoc, append-nil, subst, Result, Ok, Err, is_ok, All}
+use Rattle.std.proofs.Common.{ℕ, zero, suc, ◌≡◌, ◌+◌, false, List, [], ◌∷◌, ◌++◌, take, drop, sym, ap, add-one}
+use Rattle.std.proofs.Common.{subst, Result, Ok, Err, is_ok, All}
 use Rattle.std.specs.Prelude.{is_err, if◌then◌else◌}
 use Rattle.std.proofs.lemmas.List.Elements.{All-push}
-use Rattle.std.proofs.lemmas.List.Folds.{concat-append}
-use Rattle.std.specs.List.{concat, prefix_len}
 
 -- what is taken and what is left, one element on
 pub take-next : {X : Type 0} (xs : List X) (k : ℕ) (x : X) (ys : List X) → drop k xs ≡ x ∷ ys → take (k + 1) xs ≡ take k xs ++ x ∷ []
@@ -24,20 +22,6 @@ drop-next {X} xs k x ys is = rw add-one (by xs k is)
     by [] (suc k) is = absurd (cc)
     by (z ∷ zs) zero is = ap (λ o. drop 1 o) is
     by (z ∷ zs) (suc k) is = by zs k is
-
--- the bytes of the lines taken, one line on
-pub concat-next : (lines : List (List ℕ)) (k : ℕ) (line : List ℕ) (others : List (List ℕ)) (bytes rest after : List ℕ) → drop k lines ≡ line ∷ others
-    → bytes ≡ concat (take k lines) ++ rest → rest ≡ line ++ after → bytes ≡ concat (take (k + 1) lines) ++ after
-concat-next lines k line others bytes rest after is cut first =
-    let taken : concat (take (k + 1) lines) ≡ concat (take k lines) ++ line = rw (take-next lines k line others is)
-    (concat-append (take k lines) (line ∷ []) ∙ ap (λ o. concat (take k lines) ++ o) (append-nil line)) in
-    cut ∙ ap (λ o. concat (take k lines) ++ o) first ∙ sym (append_assoc (concat (take k lines)) line after) ∙ ap (λ o. o ++ after) (sym taken)
-
--- one more that passes
-pub prefix_len-next : {X : Type 0} (p : X → Bool) (n k : ℕ) (rest : List X) (x : X) (others : List X) → n ≡ k + prefix_len p rest → rest ≡ x ∷ others → p x ≡ true → n ≡ k + 1 + prefix_len p others
-prefix_len-next p n k rest x others is first passes =
-    let step : prefix_len p rest ≡ 1 + prefix_len p others = rw (first, passes) refl in
-    omega (arith, is, step)
 
 -- a list after a push that was refused or not
 pub pushed : {X A E : Type 0} (r : Result A E) (new old : List X) (x : X) → new ≡ (if is_ok r then old ++ x ∷ [] else old) → is_err r ≡ false → new ≡ old ++ x ∷ []

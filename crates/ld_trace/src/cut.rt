@@ -6,6 +6,7 @@ ghost use Rattle.ld_lines.specs.Lines.{lines, says_nothing};
 ghost use Rattle.ld_trace.specs.Sources.{AreNumbered, Fits, fields_of, headers_before, is_header, is_other, label_of, line_faults, opened_at, plain, sections, sources, stream_fault};
 ghost use Rattle.ld_trace.specs.Inner.Splitting.{IsCutAt, given_from};
 
+use crate::others::{Rest, skip_others};
 use crate::source::{LONGEST_STREAM, MOST_TRACES, Source, StreamFault};
 use ld_lines::{begins_comment, first_field_byte, is_word, next_field, next_line, text};
 use std::alloc::Global;
@@ -45,13 +46,6 @@ fn label(header: &[u8]) -> Option<&[u8]>
         None if is_word(name) => Some(name),
         _ => None,
     }
-}
-
-/// What is left of a stream behind some lines, and how many these are.
-#[derive(Clone, Copy)]
-struct Rest<'a> {
-    bytes: &'a [u8],
-    line: u64,
 }
 
 /// The lines before the first header. They have to say nothing.
@@ -98,14 +92,16 @@ fn body(bytes: &[u8]) -> Front<'_>
     ensures within { result.count + length result.rest.now ≤ length bytes.now }
     ensures own { length result.bytes.now ≤ length bytes.now }
 {
-    let mut rest = bytes;
-    let mut count = 0;
+    let first = skip_others(bytes);
+    let mut rest = first.bytes;
+    let mut count = first.line;
     while let Some((line, after)) = next_line(rest) {
         if is_header(line) {
             break;
         }
-        rest = after;
-        count += 1;
+        let ahead = skip_others(after);
+        rest = ahead.bytes;
+        count += 1 + ahead.line;
     }
     let (bytes, _) = bytes.split_at(bytes.len() - rest.len());
     Front { bytes, rest, count }

@@ -5,6 +5,7 @@
 mod cut;
 mod event;
 mod fast;
+mod others;
 mod source;
 
 pub use cut::split;

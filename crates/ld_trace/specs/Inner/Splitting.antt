@@ -1,7 +1,7 @@
 -- What is left of a stream's lines, as the functions that cut it see it. No public contract cites this
 -- file.
-use Rattle.std.specs.Prelude.{◌≡◌, ℕ, List, drop, Option}
-use Rattle.std.specs.List.{filter_map, enumerate_from, prefix_len}
+use Rattle.std.specs.Prelude.{◌≡◌, ℕ, ◌+◌, ◌<◌, ◌≤◌, Bool, true, false, ◌||◌, ◌==◌, List, ◌++◌, length, drop, take, slice_index_or, Option}
+use Rattle.std.specs.List.{concat, filter_map, enumerate_from, prefix_len}
 use Rattle.ld_lines.specs.Lines.{lines}
 use Rattle.ld_trace.specs.Sources.{fault_at, is_other, line_faults}
 
@@ -15,3 +15,23 @@ pub record IsCutAt (all : List (List ℕ)) (k : ℕ) (rest : List ℕ) : Type 0 
   pub left : lines rest ≡ drop k all
   pub faults : line_faults all ≡ given_from (fault_at all) all k
   pub at_header : prefix_len is_other (lines rest) ≡ 0
+
+-- These many lines at the front of the bytes are no headers, and the rest stands behind them.
+pub record AreSkipped (bytes : List ℕ) (count : ℕ) (rest : List ℕ) : Type 0 where
+  pub cut : bytes ≡ concat (take count (lines bytes)) ++ rest
+  pub left : lines rest ≡ drop count (lines bytes)
+  pub others : prefix_len is_other (lines bytes) ≡ count + prefix_len is_other (lines rest)
+  pub within : count + length rest ≤ length bytes
+
+abbrev pub is_lf : ℕ → Bool
+is_lf b = b == 10
+
+-- a line that begins with another byte is no header
+abbrev pub may_begin : ℕ → Bool
+may_begin b = b == 116 || b == 32 || b == 9
+
+-- behind no LF among so many bytes at the front stands a byte that a header may begin with
+abbrev pub IsQuiet : List ℕ → ℕ → Type 0
+IsQuiet bytes len =
+    (k : ℕ) → k < len → is_lf (slice_index_or bytes k 0) ≡ true
+    → may_begin (slice_index_or bytes (k + 1) 0) ≡ false
