@@ -62,8 +62,8 @@ fn a_class_is_before_its_subclasses_and_these_before_longer_names(rt: HostRuntim
     assert!(rt; class(b"A!") < class(b"B"));
 }
 
-// Under `rt try --test --fail-alloc N`, for N from 1 to 24, one allocation of one growth is
-// refused: the answers are then as before, and the call made again answers `Ok`.
+// Under `rt try --test --fail-alloc N` one allocation is refused, another for each N: the answers are
+// then as before, and the call made again answers `Ok`.
 #[test]
 fn a_refused_growth_changes_nothing(rt: HostRuntime) {
     // Names of 1 to 200 bytes, for which the set grows six times.

@@ -63,6 +63,13 @@ fn expect_rank<R: Abort>(rt: &R, graph: &Graph, class: u32, wanted: u32) {
     assert_eq!(rt; rank(rt, graph, class), wanted);
 }
 
+/// Asserts the ranks of the first classes in turn.
+fn expect_ranks<R: Abort>(rt: &R, graph: &Graph, wanted: &[u32]) {
+    for (class, rank) in wanted.iter().enumerate() {
+        expect_rank(rt, graph, class as u32, *rank);
+    }
+}
+
 /// Asserts that the edge has this number, or none.
 fn expect_edge<R: Abort>(rt: &R, graph: &Graph, a: u32, b: u32, wanted: Option<u64>) {
     assert_eq!(rt; graph.edge(a, b), wanted);
@@ -140,6 +147,7 @@ fn expect_walks_along<R: Abort>(
 /// Asserts the answers of the graph with the edges (0, 1), (2, 0), (1, 2) and (3, 3).
 fn expect_circle<R: Abort>(rt: &R, alloc: Global, graph: &Graph) {
     let places = [0, 1, 2, 3];
+    assert!(rt; graph.order().is_none());
     assert_eq!(rt; graph.len(), 4);
     assert_eq!(rt; graph.edges(), 4);
     expect_edge(rt, graph, 0, 1, Some(0));
@@ -165,9 +173,7 @@ fn circle(rt: HostRuntime) {
     let mut graph = Graph::new(alloc);
     make_room(&rt, &mut graph, 4, 5);
     add_classes(&rt, &mut graph, 4);
-    for class in 0..4 {
-        expect_rank(&rt, &graph, class, class);
-    }
+    expect_ranks(&rt, &graph, &[0, 1, 2, 3]);
     expect_insert(&rt, &mut graph, 0, 1, Insert::Kept);
     insert_moved(&rt, &mut graph, 2, 0, 3);
     assert!(rt; rank(&rt, &graph, 2) < rank(&rt, &graph, 0));
@@ -180,16 +186,18 @@ fn circle(rt: HostRuntime) {
         rank(&rt, &graph, 3),
     ];
     expect_insert(&rt, &mut graph, 0, 1, Insert::Known);
-    for class in 0..4 {
-        expect_rank(&rt, &graph, class, ranks[class as usize]);
+    expect_ranks(&rt, &graph, &ranks);
+    // Where a growth of this graph is refused, each answer is as before.
+    assert!(rt; graph.len() == 4);
+    if graph.room(100, 100).is_err() {
+        expect_ranks(&rt, &graph, &ranks);
     }
+    make_room(&rt, &mut graph, 100, 100);
     expect_insert(&rt, &mut graph, 1, 2, Insert::Closed);
     assert!(rt; graph.order().is_none());
     expect_insert(&rt, &mut graph, 3, 3, Insert::AfterCycle);
     expect_insert(&rt, &mut graph, 0, 1, Insert::Known);
-    assert!(rt; graph.order().is_none());
     expect_circle(&rt, alloc, &graph);
-    // Where a growth of this graph is refused, each answer is as before.
     assert!(rt; graph.len() == 4);
     if graph.room(1000, 1000).is_err() {
         expect_circle(&rt, alloc, &graph);

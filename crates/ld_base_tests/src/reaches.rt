@@ -65,6 +65,10 @@ fn a_seed_is_reached_where_a_walk_comes_back(rt: HostRuntime) {
     expect_sources(&rt, &reach, &[Some(0), Some(0), Some(0)]);
     assert!(rt; reach.expanded() <= 3);
     // Where a growth is refused now, each answer is as before.
+    assert!(rt; reach.len() == 3);
+    if reach.room(1_000).is_err() {
+        expect_sources(&rt, &reach, &[Some(0), Some(0), Some(0)]);
+    }
     make_room(&rt, &mut reach, 1_000);
     expect_sources(&rt, &reach, &[Some(0), Some(0), Some(0)]);
     drop(graph);

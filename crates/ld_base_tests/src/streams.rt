@@ -1,7 +1,8 @@
 //! The rows of `split`.
 
-use ld_trace::{StreamFault, split};
+use ld_trace::{Source, StreamFault, split};
 use std::alloc::Global;
+use std::process::Abort;
 use std::test::Fail;
 
 /// Whether a stream is refused with this fault.
@@ -9,6 +10,17 @@ fn refuses(alloc: Global, stream: &[u8], fault: StreamFault) -> bool {
     match split(alloc, stream) {
         Ok(_) => false,
         Err(found) => found == fault,
+    }
+}
+
+/// The sources of a stream without a fault. Where memory for them is refused it is asked for again.
+fn sources<'a, R: Abort>(rt: &R, alloc: Global, stream: &'a [u8]) -> Vec<Source<'a>> {
+    match split(alloc, stream) {
+        Ok(sources) => sources,
+        Err(fault) => {
+            assert!(rt; fault == StreamFault::Memory);
+            split(alloc, stream).expect(rt, "sources, once memory is there")
+        }
     }
 }
 
@@ -42,10 +54,10 @@ fn a_header_alone_opens_an_empty_section(rt: HostRuntime) -> Result<(), Fail> {
 }
 
 #[test]
-fn sections_end_before_the_next_header(rt: HostRuntime) -> Result<(), Fail> {
+fn sections_end_before_the_next_header(rt: HostRuntime) {
     let stream =
         b"trace ab\nacquire t A\nacquire t B\nrelease t B\nrelease t A\ntrace ba\nacquire t B\nacquire t A\nrelease t A\nrelease t B\n";
-    let sources = split(rt.alloc(), stream)?;
+    let sources = sources(&rt, rt.alloc(), stream);
     assert_eq!(rt; sources.len(), 2);
     let first = sources[0];
     assert_eq!(rt; first.number, 0);
@@ -59,7 +71,6 @@ fn sections_end_before_the_next_header(rt: HostRuntime) -> Result<(), Fail> {
     assert_eq!(rt; second.first_line, 7);
     let expected = b"acquire t B\nacquire t A\nrelease t A\nrelease t B\n";
     assert!(rt; second.bytes == expected.as_slice());
-    Ok(())
 }
 
 #[test]
@@ -104,21 +115,11 @@ fn a_stream_has_at_most_65535_traces(rt: HostRuntime) -> Result<(), Fail> {
     Ok(())
 }
 
-// The list of traces is all the memory that `split` takes. Where a growth of it is refused, the
-// answer is `Memory`, and the call made again gives the sources; a fault needs no memory.
+// The list of traces is all the memory that `split` takes, so a fault needs none.
 #[test]
 fn a_refused_growth_is_told(rt: HostRuntime) {
     let stream = b"trace a\ntrace b\ntrace c\ntrace d\ntrace e\ntrace f\n";
-    match split(rt.alloc(), stream) {
-        Ok(sources) => assert_eq!(rt; sources.len(), 6),
-        Err(fault) => {
-            assert!(rt; fault == StreamFault::Memory);
-            match split(rt.alloc(), stream) {
-                Ok(sources) => assert_eq!(rt; sources.len(), 6),
-                Err(_) => assert!(rt; false, "memory was refused once"),
-            }
-        }
-    }
+    assert_eq!(rt; sources(&rt, rt.alloc(), stream).len(), 6);
     let faulty = b"trace a\ntrace b\ntrace c\ntrace d\ntrace e\ntrace";
     assert!(rt; refuses(rt.alloc(), faulty, StreamFault::BadHeader(6)));
 }

@@ -2,6 +2,7 @@
 use ld_class::Usage;
 use ld_facts::{EdgeFact, Facts, Outcome, TraceFault, UsageFact, Witness, facts};
 use ld_trace::Source;
+use std::alloc::AllocError;
 use std::process::Abort;
 use std::test::Fail;
 
@@ -14,11 +15,15 @@ fn source(bytes: &[u8]) -> Source<'_> {
     }
 }
 
-/// What is told of a trace of these lines, the first of which is line 2.
+/// What is told of a trace of these lines, the first of which is line 2. Where memory is refused it is
+/// asked for again.
 fn told<'a, R: AllocGlobal + Abort>(rt: &R, bytes: &'a [u8]) -> Facts<'a> {
     let source = source(bytes);
     assert!(rt; source.fits());
-    facts(rt.alloc(), source).expect(rt, "memory")
+    match facts(rt.alloc(), source) {
+        Ok(facts) => facts,
+        Err(AllocError) => facts(rt.alloc(), source).expect(rt, "facts, once memory is there"),
+    }
 }
 
 fn assert_outcome<R: AllocGlobal + Abort>(rt: &R, bytes: &[u8], outcome: Outcome) {
@@ -301,20 +306,14 @@ const NESTED: &[u8] = b"acquire t A\nacquire t B\nrelease t A\nenter t soft\nacq
     enter t hard\nacquire t H\nrelease t H\nexit t hard\nrelease t S\nexit t soft\n";
 
 #[test]
-fn a_refused_growth_is_told(rt: HostRuntime) -> Result<(), Fail> {
-    let source = source(NESTED);
-    assert!(rt; source.fits());
-    let facts = match facts(rt.alloc(), source) {
-        Ok(facts) => facts,
-        Err(_) => facts(rt.alloc(), source)?,
-    };
+fn a_refused_growth_is_told(rt: HostRuntime) {
+    let facts = told(&rt, NESTED);
     assert_eq!(rt; facts.outcome(), Outcome::Read { events: 11 });
     assert_eq!(rt; facts.classes().len(), 4);
     assert_eq!(rt; facts.edges().len(), 1);
     assert!(rt; facts.edges().contains(&edge(0, 1, 3)));
     assert_eq!(rt; facts.usage().len(), 8);
     drop(facts);
-    Ok(())
 }
 
 #[test]
