@@ -2,7 +2,6 @@
 use ld_class::Usage;
 use ld_facts::{EdgeFact, Facts, Outcome, TraceFault, UsageFact, Witness, facts};
 use ld_trace::Source;
-use std::alloc::AllocError;
 use std::process::Abort;
 use std::test::Fail;
 
@@ -20,10 +19,12 @@ fn source(bytes: &[u8]) -> Source<'_> {
 fn told<'a, R: AllocGlobal + Abort>(rt: &R, bytes: &'a [u8]) -> Facts<'a> {
     let source = source(bytes);
     assert!(rt; source.fits());
-    match facts(rt.alloc(), source) {
-        Ok(facts) => facts,
-        Err(AllocError) => facts(rt.alloc(), source).expect(rt, "facts, once memory is there"),
+    let mut answer = facts(rt.alloc(), source);
+    if answer.is_err() {
+        drop(answer);
+        answer = facts(rt.alloc(), source);
     }
+    answer.expect(rt, "facts, once memory is there")
 }
 
 fn assert_outcome<R: AllocGlobal + Abort>(rt: &R, bytes: &[u8], outcome: Outcome) {

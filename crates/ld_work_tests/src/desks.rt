@@ -6,7 +6,7 @@ use ld_book::{Refusal, Totals};
 use ld_facts::{Facts, Outcome, facts};
 use ld_trace::Source;
 use ld_work::{Back, Desk, Feeder, Tally};
-use std::alloc::{AllocError, Global};
+use std::alloc::Global;
 use std::marker::Brand;
 use std::process::Abort;
 use std::sync::Wait;
@@ -39,12 +39,11 @@ pub fn totals(traces: u64, events: u64, classes: u64, dependencies: u64) -> Tota
 }
 
 /// Asserts that these are the facts of `OUT_OF_ORDER_RELEASE`.
-fn expect_whole<R: Abort>(rt: &R, facts: Facts<'_>) {
+fn expect_whole<R: Abort>(rt: &R, facts: &Facts<'_>) {
     assert_eq!(rt; facts.source().number, 0);
     assert_eq!(rt; facts.outcome(), Outcome::Read { events: 4 });
     assert_eq!(rt; facts.classes().len(), 3);
     assert_eq!(rt; facts.edges().len(), 2);
-    drop(facts);
 }
 
 /// Submits a trace whose number may be listed, and tells whether it was added.
@@ -59,14 +58,12 @@ fn submit<'a, T: Ledger, E: Ledger, R: Wait + Abort>(
     let facts = facts(alloc, source).expect(rt, "the facts of a trace");
     let answer = desk.look(rt).submit(&mut feeder, facts);
     let added = answer.is_ok();
-    match answer {
+    match &answer {
         Ok(()) => {}
         Err(Refusal::Twice(facts)) => expect_whole(rt, facts),
-        Err(Refusal::Memory(facts)) => {
-            assert!(rt; false, "memory is refused");
-            drop(facts);
-        }
+        Err(Refusal::Memory(_)) => panic!(rt; "memory is refused"),
     }
+    drop(answer);
     (feeder, added)
 }
 
@@ -197,10 +194,12 @@ fn sixteen_threads_feed_a_desk(rt: HostRuntime) -> Result<(), Fail> {
 /// The facts of a trace, whichever allocation is refused, as long as it is one alone.
 fn facts_of<'a, R: Abort>(rt: &R, alloc: Global, source: Source<'a>) -> Facts<'a> {
     assert!(rt; source.fits());
-    match facts(alloc, source) {
-        Ok(facts) => facts,
-        Err(AllocError) => facts(alloc, source).expect(rt, "the facts of a trace"),
+    let mut answer = facts(alloc, source);
+    if answer.is_err() {
+        drop(answer);
+        answer = facts(alloc, source);
     }
+    answer.expect(rt, "the facts of a trace")
 }
 
 /// Submits a trace whose number isn't listed. The facts come back where memory is refused.

@@ -2,10 +2,11 @@
 ghost use Rattle.std.specs.Prelude.{◌≡◌, ◌≤◌, All, IfOk, length, map};
 ghost use Rattle.ld_trace.specs.Sources.{AreNumbered, Fits, plain};
 
+use crate::desks::{tally, totals};
 use ld_book::{Book, ClassName};
 use ld_facts::{Witness, facts};
 use ld_trace::{MOST_TRACES, Source, split};
-use ld_work::{Back, Desk, Feeder, Gate, MOST_FEEDERS, NoGate, Tally, WorkFault, work};
+use ld_work::{Back, Desk, Feeder, Gate, MOST_FEEDERS, NoGate, WorkFault, work};
 use std::alloc::{AllocError, Global};
 use std::marker::Brand;
 use std::ops::Range;
@@ -46,24 +47,14 @@ pub fn class(name: &[u8]) -> ClassName<'_> {
 
 /// Asserts that the book has the totals and the witnesses of `INVERSION`.
 fn expect_inversion<R: Abort>(rt: &R, book: &Book<'_>) {
-    let totals = book.totals();
-    assert_eq!(rt; totals.traces, 2);
-    assert_eq!(rt; totals.refused, 0);
-    assert_eq!(rt; totals.events, 8);
-    assert_eq!(rt; totals.classes, 2);
-    assert_eq!(rt; totals.dependencies, 2);
+    assert_eq!(rt; book.totals(), totals(2, 8, 2, 2));
     assert_eq!(rt; book.edge(class(b"A"), class(b"B")), witness(0, 3));
     assert_eq!(rt; book.edge(class(b"B"), class(b"A")), witness(1, 8));
 }
 
 /// Asserts that the book has the totals and the witnesses of `THREE_TRACES`.
 fn expect_three_traces<R: Abort>(rt: &R, book: &Book<'_>) {
-    let totals = book.totals();
-    assert_eq!(rt; totals.traces, 3);
-    assert_eq!(rt; totals.refused, 0);
-    assert_eq!(rt; totals.events, 6);
-    assert_eq!(rt; totals.classes, 3);
-    assert_eq!(rt; totals.dependencies, 3);
+    assert_eq!(rt; book.totals(), totals(3, 6, 3, 3));
     assert_eq!(rt; book.edge(class(b"A"), class(b"B")), witness(0, 3));
     assert_eq!(rt; book.edge(class(b"B"), class(b"C")), witness(1, 6));
     assert_eq!(rt; book.edge(class(b"C"), class(b"A")), witness(2, 9));
@@ -100,13 +91,18 @@ fn feed<'a, T: Ledger, E: Ledger, R: Wait + Abort>(
     feeder
 }
 
-/// The number of the trace that the desk's book lists first.
+/// The number of the trace that a book lists first.
+fn first_of(book: &Book<'_>) -> Option<u64> {
+    book.listed().first().map(|trace| trace.source.number)
+}
+
+/// The same of a desk's book.
 fn first_listed<T: Ledger, E: Ledger, R: Wait>(rt: &R, desk: &Desk<'_, T, E>) -> Option<u64> {
-    desk.look(rt)
-        .book()
-        .listed()
-        .first()
-        .map(|trace| trace.source.number)
+    first_of(desk.look(rt).book())
+}
+
+fn lists<'a>(book: &Book<'a>, source: Source<'a>) -> bool {
+    book.listed().iter().any(|trace| trace.source == source)
 }
 
 /// Two threads add a trace each to a desk, which is then gathered.
@@ -131,12 +127,8 @@ where
         move || feed(rt, alloc, shared, ab, first),
         move || feed(rt, alloc, shared, ba, second),
     );
-    let one = Tally {
-        traces: 1,
-        events: 4,
-    };
-    assert_eq!(rt; first.tally(), one);
-    assert_eq!(rt; second.tally(), one);
+    assert_eq!(rt; first.tally(), tally(1, 4));
+    assert_eq!(rt; second.tally(), tally(1, 4));
     assert!(rt; feeders.push(first).is_ok());
     // Either of the two may have come first, and is to stay the first.
     let listed = first_listed(rt, &desk);
@@ -147,15 +139,9 @@ where
     assert_eq!(rt; first_listed(rt, &desk), listed);
     assert!(rt; feeders.push(second).is_ok());
     let all = desk.gather(feeders).ok().expect(rt, "both feeders");
-    assert_eq!(rt; all.tally.traces, 2);
-    assert_eq!(rt; all.tally.events, 8);
-    for source in [ab, ba] {
-        assert!(rt; all.book.listed().iter().any(|trace| trace.source == source));
-    }
-    assert_eq!(rt;
-        all.book.listed().first().map(|trace| trace.source.number),
-        listed
-    );
+    assert_eq!(rt; all.tally, tally(2, 8));
+    assert!(rt; lists(&all.book, ab) && lists(&all.book, ba));
+    assert_eq!(rt; first_of(&all.book), listed);
     expect_inversion(rt, &all.book);
     drop(all);
     Ok(())
