@@ -1,11 +1,11 @@
 //! Desks in the hands of callers with threads of their own.
 ghost use Rattle.std.specs.Prelude.{◌≡◌};
 
-use crate::tests::{INVERSION, class, feed_one, long_trace, sources_of, witness};
+use crate::tests::{INVERSION, class, feed_one, gather_twice, long_trace, sources_of, witness};
 use ld_book::{Refusal, Totals};
 use ld_facts::{Facts, Outcome, facts};
 use ld_trace::Source;
-use ld_work::{Back, Desk, Feeder, Tally};
+use ld_work::{Desk, Feeder, Tally};
 use std::alloc::Global;
 use std::marker::Brand;
 use std::process::Abort;
@@ -132,8 +132,39 @@ fn feed_four<'a, T: Ledger, E: Ledger, R: Wait + Abort>(
     feeder
 }
 
-/// Sixteen threads add four of these 64 traces each to a desk. It is then gathered, first without one of
-/// the feeders, which hands the desk back.
+/// A thread for each feeder adds four of these traces to the desk.
+fn fed_by_threads<'a, T, E, R>(
+    rt: &R,
+    alloc: Global,
+    desk: &Desk<'a, T, E>,
+    sources: &[Source<'a>],
+    feeders: Vec<Feeder<T, E>>,
+) -> Vec<Feeder<T, E>>
+where
+    T: Ledger + Send + Sync,
+    E: Ledger + Send + Sync,
+    R: Threads + Wait + Abort + Sync,
+{
+    let next = AtomicU64::new(0);
+    let place = &next;
+    let fed = thread::map_vec(
+        rt,
+        feeders,
+        &|feeder: Feeder<T, E>| {
+            feed_four(
+                rt,
+                alloc,
+                desk,
+                sources,
+                place.fetch_add(4, Ordering::SeqCst),
+                feeder,
+            )
+        },
+    );
+    fed.expect(rt, "the feeders")
+}
+
+/// Sixteen threads add four of these 64 traces each to a desk, which is then gathered.
 fn sixteen_feeders<'a, T, E, R>(
     rt: &R,
     alloc: Global,
@@ -150,32 +181,9 @@ where
 {
     let made = Desk::<T, E>::new(alloc, traces, events, 16);
     let (desk, feeders) = made.expect(rt, "a desk");
-    let next = AtomicU64::new(0);
-    let (shared, place) = (&desk, &next);
-    let fed = thread::map_vec(
-        rt,
-        feeders,
-        &|feeder: Feeder<T, E>| {
-            feed_four(
-                rt,
-                alloc,
-                shared,
-                sources,
-                place.fetch_add(4, Ordering::SeqCst),
-                feeder,
-            )
-        },
-    );
-    let mut feeders = fed.expect(rt, "sixteen feeders");
-    let last = feeders.pop().expect(rt, "a last feeder");
-    let back = desk
-        .gather(feeders)
-        .err()
-        .expect(rt, "fifteen feeders back");
-    let Back { desk, mut feeders } = back;
-    assert_eq!(rt; feeders.len(), 15);
-    assert!(rt; feeders.push(last).is_ok());
-    let all = desk.gather(feeders).ok().expect(rt, "all feeders");
+    let fed = fed_by_threads(rt, alloc, &desk, sources, feeders);
+    assert_eq!(rt; fed.len(), 16);
+    let all = gather_twice(rt, desk, fed);
     assert_eq!(rt; all.tally, tally(64, 128));
     assert_eq!(rt; all.book.totals(), totals(64, 128, 2, 1));
     assert_eq!(rt; all.book.edge(class(b"A"), class(b"B")), witness(0, 3));

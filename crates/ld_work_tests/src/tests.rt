@@ -6,7 +6,7 @@ use crate::desks::{tally, totals};
 use ld_book::{Book, ClassName};
 use ld_facts::{Witness, facts};
 use ld_trace::{MOST_TRACES, Source, split};
-use ld_work::{Back, Desk, Feeder, Gate, MOST_FEEDERS, NoGate, WorkFault, work};
+use ld_work::{Back, Desk, Feeder, Gate, Gathered, MOST_FEEDERS, NoGate, WorkFault, work};
 use std::alloc::{AllocError, Global};
 use std::marker::Brand;
 use std::ops::Range;
@@ -105,6 +105,29 @@ fn lists<'a>(book: &Book<'a>, source: Source<'a>) -> bool {
     book.listed().iter().any(|trace| trace.source == source)
 }
 
+/// Gathers a desk, first without the last of its feeders: it comes back with the others, and its book is as
+/// before.
+pub fn gather_twice<'a, T: Ledger, E: Ledger, R: Wait + Abort>(
+    rt: &R,
+    desk: Desk<'a, T, E>,
+    mut feeders: Vec<Feeder<T, E>>,
+) -> Gathered<'a> {
+    let last = feeders.pop().expect(rt, "a last feeder");
+    let (listed, others) = (first_listed(rt, &desk), feeders.len());
+    assert!(rt; listed.is_some());
+    let back = desk
+        .gather(feeders)
+        .err()
+        .expect(rt, "all but the last one back");
+    let Back { desk, mut feeders } = back;
+    assert_eq!(rt; feeders.len(), others);
+    assert_eq!(rt; first_listed(rt, &desk), listed);
+    assert!(rt; feeders.push(last).is_ok());
+    let all = desk.gather(feeders).ok().expect(rt, "all feeders");
+    assert_eq!(rt; first_of(&all.book), listed);
+    all
+}
+
 /// Two threads add a trace each to a desk, which is then gathered.
 fn two_feeders<T, E, R>(rt: &R, alloc: Global, traces: Blank, events: Blank) -> Result<(), Fail>
 where
@@ -130,18 +153,10 @@ where
     assert_eq!(rt; first.tally(), tally(1, 4));
     assert_eq!(rt; second.tally(), tally(1, 4));
     assert!(rt; feeders.push(first).is_ok());
-    // Either of the two may have come first, and is to stay the first.
-    let listed = first_listed(rt, &desk);
-    assert!(rt; listed.is_some());
-    let back = desk.gather(feeders).err().expect(rt, "one feeder back");
-    let Back { desk, mut feeders } = back;
-    assert_eq!(rt; feeders.len(), 1);
-    assert_eq!(rt; first_listed(rt, &desk), listed);
     assert!(rt; feeders.push(second).is_ok());
-    let all = desk.gather(feeders).ok().expect(rt, "both feeders");
+    let all = gather_twice(rt, desk, feeders);
     assert_eq!(rt; all.tally, tally(2, 8));
     assert!(rt; lists(&all.book, ab) && lists(&all.book, ba));
-    assert_eq!(rt; first_of(&all.book), listed);
     expect_inversion(rt, &all.book);
     drop(all);
     Ok(())
