@@ -50,11 +50,11 @@ fn label(header: &[u8]) -> Option<&[u8]>
 
 /// The lines before the first header. They have to say nothing.
 fn skip_preamble(bytes: &[u8]) -> Result<Rest<'_>, StreamFault>
-    ensures cut { IfOk result (λ rest. IsCutAt (lines bytes.now) rest.line rest.bytes.now) }
-    ensures no_header { IfOk result (λ rest. headers_before (lines bytes.now) rest.line ≡ 0) }
+    ensures cut { IfOk result (λ rest. IsCutAt (lines bytes.now) rest.count rest.bytes.now) }
+    ensures no_header { IfOk result (λ rest. headers_before (lines bytes.now) rest.count ≡ 0) }
     ensures no_section { IfOk result (λ rest. let all = lines bytes.now in
-        sections all ≡ given_from (opened_at all) all rest.line) }
-    ensures within { IfOk result (λ rest. rest.line + length rest.bytes.now ≤ length bytes.now) }
+        sections all ≡ given_from (opened_at all) all rest.count) }
+    ensures within { IfOk result (λ rest. rest.count + length rest.bytes.now ≤ length bytes.now) }
     ensures fault { IfErr result (λ fault.
         slice_get (line_faults (lines bytes.now)) 0 ≡ Some fault) }
 {
@@ -70,10 +70,7 @@ fn skip_preamble(bytes: &[u8]) -> Result<Rest<'_>, StreamFault>
         }
         rest = after;
     }
-    Ok(Rest {
-        bytes: rest,
-        line: count,
-    })
+    Ok(Rest { bytes: rest, count })
 }
 
 /// Some lines at the front of a stream, what stands after them, and how many they are.
@@ -94,14 +91,14 @@ fn body(bytes: &[u8]) -> Front<'_>
 {
     let first = skip_others(bytes);
     let mut rest = first.bytes;
-    let mut count = first.line;
+    let mut count = first.count;
     while let Some((line, after)) = next_line(rest) {
         if is_header(line) {
             break;
         }
         let ahead = skip_others(after);
         rest = ahead.bytes;
-        count += 1 + ahead.line;
+        count += 1 + ahead.count;
     }
     let (bytes, _) = bytes.split_at(bytes.len() - rest.len());
     Front { bytes, rest, count }
@@ -128,7 +125,7 @@ pub fn split<'a>(alloc: Global, bytes: &'a [u8]) -> Result<Vec<Source<'a>>, Stre
     let mut refused = false;
     while let Some((header, after)) = next_line(rest.bytes) {
         let Some(name) = label(header) else {
-            return Err(StreamFault::BadHeader(rest.line + 1));
+            return Err(StreamFault::BadHeader(rest.count + 1));
         };
         if number == MOST_TRACES {
             return Err(StreamFault::TooManyTraces);
@@ -137,7 +134,7 @@ pub fn split<'a>(alloc: Global, bytes: &'a [u8]) -> Result<Vec<Source<'a>>, Stre
         let source = Source {
             number,
             name,
-            first_line: rest.line + 2,
+            first_line: rest.count + 2,
             bytes: body.bytes,
         };
         // A fault of a later line comes before want of memory.
@@ -145,7 +142,7 @@ pub fn split<'a>(alloc: Global, bytes: &'a [u8]) -> Result<Vec<Source<'a>>, Stre
         number += 1;
         rest = Rest {
             bytes: body.rest,
-            line: rest.line + 1 + body.count,
+            count: rest.count + 1 + body.count,
         };
     }
     if refused {

@@ -13,7 +13,7 @@ const LANES: usize = 32;
 #[derive(Clone, Copy)]
 pub struct Rest<'a> {
     pub bytes: &'a [u8],
-    pub line: u64,
+    pub count: u64,
 }
 
 /// Which of these bytes are LFs, as bits.
@@ -69,9 +69,9 @@ fn quiet_front(bytes: &[u8]) -> Quiet
 /// What is left behind lines at the front that are no headers, since each begins with a byte that no
 /// header begins with: as many of them as are told so at once, none where the first one isn't.
 pub fn skip_others(bytes: &[u8]) -> Rest<'_>
-    ensures { AreSkipped bytes.now result.line result.bytes.now }
+    ensures { AreSkipped bytes.now result.count result.bytes.now }
 {
-    let none = Rest { bytes, line: 0 };
+    let none = Rest { bytes, count: 0 };
     let [first, ..] = bytes else {
         return none;
     };
@@ -82,7 +82,7 @@ pub fn skip_others(bytes: &[u8]) -> Rest<'_>
     match memrchr(b'\n', &bytes[..quiet.len]) {
         Some(last) => Rest {
             bytes: &bytes[last + 1..],
-            line: quiet.ends,
+            count: quiet.ends,
         },
         None => none,
     }

@@ -16,7 +16,7 @@ use Rattle.ld_trace.proofs.cut.split.Goals as goal
 pub loop-header-preserved : goal.loop-header-preserved
 loop-header-preserved c =
     let all = lines c.args.bytes.now in
-    let k = c.loop-header.rest.line in
+    let k = c.loop-header.rest.count in
     let m = c.body-body.result.count in
     let number = c.loop-header.number in
     let x = c.in-Some.header.now in

@@ -8,11 +8,11 @@ use Rattle.ld_trace.proofs.cut.split.Given as goal
 
 abbrev pub invariant-loop-header : goal.invariant-loop-header
 invariant-loop-header l = let all = lines l.bytes in record {
-  cut : IsCutAt all l.rest.line l.rest.bytes.now;
-  headers : headers_before all l.rest.line ≡ l.number;
-  opened : l.refused ≡ false → map plain l.sources.items ++ given_from (opened_at all) all l.rest.line ≡ sections all;
+  cut : IsCutAt all l.rest.count l.rest.bytes.now;
+  headers : headers_before all l.rest.count ≡ l.number;
+  opened : l.refused ≡ false → map plain l.sources.items ++ given_from (opened_at all) all l.rest.count ≡ sections all;
   fit : All (λ source. Fits (plain source)) l.sources.items;
-  within : l.rest.line + length l.rest.bytes.now ≤ length l.bytes;
+  within : l.rest.count + length l.rest.bytes.now ≤ length l.bytes;
   long : length l.bytes ≤ LONGEST_STREAM;
   few : l.number ≤ MOST_TRACES;
 }
