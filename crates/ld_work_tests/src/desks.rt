@@ -1,11 +1,11 @@
 //! Desks in the hands of callers with threads of their own.
 ghost use Rattle.std.specs.Prelude.{◌≡◌};
 
-use crate::tests::{INVERSION, class, feed_one, gather_twice, long_trace, sources_of, witness};
-use ld_book::{Refusal, Totals};
+use crate::tests::{INVERSION, class, expect_inversion, long_trace, sources_of, witness};
+use ld_book::{Book, Refusal, Totals};
 use ld_facts::{Facts, Outcome, facts};
 use ld_trace::Source;
-use ld_work::{Desk, Feeder, Tally};
+use ld_work::{Back, Desk, Feeder, Gathered, Tally};
 use std::alloc::Global;
 use std::marker::Brand;
 use std::process::Abort;
@@ -38,6 +38,20 @@ pub fn totals(traces: u64, events: u64, classes: u64, dependencies: u64) -> Tota
     }
 }
 
+/// The number of the trace that a book lists first.
+fn first_of(book: &Book<'_>) -> Option<u64> {
+    book.listed().first().map(|trace| trace.source.number)
+}
+
+/// The same of a desk's book.
+fn first_listed<T: Ledger, E: Ledger, R: Wait>(rt: &R, desk: &Desk<'_, T, E>) -> Option<u64> {
+    first_of(desk.look(rt).book())
+}
+
+fn lists<'a>(book: &Book<'a>, source: Source<'a>) -> bool {
+    book.listed().iter().any(|trace| trace.source == source)
+}
+
 /// Asserts that these are the facts of `OUT_OF_ORDER_RELEASE`.
 fn expect_whole<R: Abort>(rt: &R, facts: &Facts<'_>) {
     assert_eq!(rt; facts.source().number, 0);
@@ -46,35 +60,88 @@ fn expect_whole<R: Abort>(rt: &R, facts: &Facts<'_>) {
     assert_eq!(rt; facts.edges().len(), 2);
 }
 
-/// Submits a trace whose number may be listed, and tells whether it was added.
+/// Asserts that a desk's book has at least what a feeder added.
+fn expect_covered<T: Ledger, E: Ledger, R: Wait + Abort>(
+    rt: &R,
+    desk: &Desk<'_, T, E>,
+    feeder: &mut Feeder<T, E>,
+) {
+    let mut look = desk.look(rt);
+    look.covers(feeder);
+    let (totals, tally) = (look.book().totals(), feeder.tally());
+    assert!(rt; totals.traces >= tally.traces);
+    assert!(rt; totals.events >= tally.events);
+}
+
+/// Submits a trace whose number may be listed, and tells whether it was added. One that wasn't is that of
+/// `OUT_OF_ORDER_RELEASE`.
 fn submit<'a, T: Ledger, E: Ledger, R: Wait + Abort>(
+    rt: &R,
+    alloc: Global,
+    desk: &Desk<'a, T, E>,
+    source: Source<'a>,
+    feeder: &mut Feeder<T, E>,
+) -> bool {
+    assert!(rt; source.fits());
+    let facts = facts(alloc, source).expect(rt, "the facts of a trace");
+    let answer = desk.look(rt).submit(feeder, facts);
+    match &answer {
+        Ok(()) => {}
+        Err(Refusal::Twice(facts)) => expect_whole(rt, facts),
+        Err(Refusal::Memory(_)) => panic!(rt; "memory is refused"),
+    }
+    let added = answer.is_ok();
+    drop(answer);
+    expect_covered(rt, desk, feeder);
+    added
+}
+
+/// The same of a trace of four events, by a feeder that has added nothing.
+fn submit_once<'a, T: Ledger, E: Ledger, R: Wait + Abort>(
     rt: &R,
     alloc: Global,
     desk: &Desk<'a, T, E>,
     source: Source<'a>,
     mut feeder: Feeder<T, E>,
 ) -> (Feeder<T, E>, bool) {
-    assert!(rt; source.fits());
-    let facts = facts(alloc, source).expect(rt, "the facts of a trace");
-    let answer = desk.look(rt).submit(&mut feeder, facts);
-    let added = answer.is_ok();
-    match &answer {
-        Ok(()) => {}
-        Err(Refusal::Twice(facts)) => expect_whole(rt, facts),
-        Err(Refusal::Memory(_)) => panic!(rt; "memory is refused"),
-    }
-    drop(answer);
+    let added = submit(rt, alloc, desk, source, &mut feeder);
+    let wanted = if added { tally(1, 4) } else { tally(0, 0) };
+    assert_eq!(rt; feeder.tally(), wanted);
     (feeder, added)
 }
 
-/// Asserts that the tally of a feeder is that of the trace where it was added, and else of nothing.
-fn expect_counted<T: Ledger, E: Ledger, R: Abort>(rt: &R, feeder: &Feeder<T, E>, added: bool) {
-    let wanted = if added { tally(1, 4) } else { tally(0, 0) };
-    assert_eq!(rt; feeder.tally(), wanted);
+/// Gathers a desk, first without the last of its feeders: it comes back with the others, and its book is as
+/// before.
+fn gather_twice<'a, T: Ledger, E: Ledger, R: Wait + Abort>(
+    rt: &R,
+    desk: Desk<'a, T, E>,
+    mut feeders: Vec<Feeder<T, E>>,
+) -> Gathered<'a> {
+    let last = feeders.pop().expect(rt, "a last feeder");
+    let (listed, others) = (first_listed(rt, &desk), feeders.len());
+    assert!(rt; listed.is_some());
+    let back = desk
+        .gather(feeders)
+        .err()
+        .expect(rt, "all but the last one back");
+    let Back { desk, mut feeders } = back;
+    assert_eq!(rt; feeders.len(), others);
+    assert_eq!(rt; first_listed(rt, &desk), listed);
+    assert!(rt; feeders.push(last).is_ok());
+    let all = desk.gather(feeders).ok().expect(rt, "all feeders");
+    assert_eq!(rt; first_of(&all.book), listed);
+    all
 }
 
-/// Two threads submit the same trace to a desk, which is then gathered.
-fn one_trace_twice<T, E, R>(rt: &R, alloc: Global, traces: Blank, events: Blank) -> Result<(), Fail>
+/// Two threads submit a trace each to a desk, which is then gathered. Tells which of the traces were added.
+fn two_feeders<'a, T, E, R>(
+    rt: &R,
+    alloc: Global,
+    traces: Blank,
+    events: Blank,
+    first: Source<'a>,
+    second: Source<'a>,
+) -> ((bool, bool), Gathered<'a>)
 where
     T: Ledger + Send + Sync,
     E: Ledger + Send + Sync,
@@ -82,37 +149,56 @@ where
     requires traces { (traces.name ≡ T.name) × (traces.parts ≡ T.parts) × (traces.parts ≡ 2) }
     requires events { (events.name ≡ E.name) × (events.parts ≡ E.parts) × (events.parts ≡ 2) }
 {
-    let sources = sources_of(alloc, OUT_OF_ORDER_RELEASE)?;
-    assert_eq!(rt; sources.len(), 1);
-    let source = sources[0];
     let made = Desk::<T, E>::new(alloc, traces, events, 2);
     let (desk, mut feeders) = made.expect(rt, "a desk");
-    let second = feeders.pop().expect(rt, "a second feeder");
-    let first = feeders.pop().expect(rt, "a first feeder");
+    let right = feeders.pop().expect(rt, "a second feeder");
+    let left = feeders.pop().expect(rt, "a first feeder");
     let shared = &desk;
-    let (first, second) = thread::join(
+    let (left, right) = thread::join(
         rt,
-        move || submit(rt, alloc, shared, source, first),
-        move || submit(rt, alloc, shared, source, second),
+        move || submit_once(rt, alloc, shared, first, left),
+        move || submit_once(rt, alloc, shared, second, right),
     );
-    let (first, first_added) = first;
-    let (second, second_added) = second;
-    assert!(rt; first_added != second_added);
-    expect_counted(rt, &first, first_added);
-    expect_counted(rt, &second, second_added);
-    assert!(rt; feeders.push(first).is_ok());
-    assert!(rt; feeders.push(second).is_ok());
-    let all = desk.gather(feeders).ok().expect(rt, "both feeders");
-    assert_eq!(rt; all.tally, tally(1, 4));
-    assert_eq!(rt; all.book.totals(), totals(1, 4, 3, 2));
+    let added = (left.1, right.1);
+    assert!(rt; feeders.push(left.0).is_ok());
+    assert!(rt; feeders.push(right.0).is_ok());
+    (added, gather_twice(rt, desk, feeders))
+}
+
+#[test]
+fn two_threads_feed_a_desk(rt: HostRuntime) -> Result<(), Fail> {
+    let sources = sources_of(rt.alloc(), INVERSION)?;
+    assert_eq!(&rt; sources.len(), 2);
+    let (ab, ba) = (sources[0], sources[1]);
+    let (traces, events) = (Blank::new(2), Blank::new(2));
+    let (added, all) = two_feeders::<Brand, Brand, _>(&rt, rt.alloc(), traces, events, ab, ba);
+    assert_eq!(&rt; added, (true, true));
+    assert_eq!(&rt; all.tally, tally(2, 8));
+    assert!(&rt; lists(&all.book, ab) && lists(&all.book, ba));
+    expect_inversion(&rt, &all.book);
     drop(all);
     Ok(())
 }
 
 #[test]
 fn one_of_two_threads_adds_a_trace(rt: HostRuntime) -> Result<(), Fail> {
+    let sources = sources_of(rt.alloc(), OUT_OF_ORDER_RELEASE)?;
+    assert_eq!(&rt; sources.len(), 1);
+    let source = sources[0];
     let (traces, events) = (Blank::new(2), Blank::new(2));
-    one_trace_twice::<Brand, Brand, _>(&rt, rt.alloc(), traces, events)
+    let (added, all) = two_feeders::<Brand, Brand, _>(
+        &rt,
+        rt.alloc(),
+        traces,
+        events,
+        source,
+        source,
+    );
+    assert!(&rt; added.0 != added.1);
+    assert_eq!(&rt; all.tally, tally(1, 4));
+    assert_eq!(&rt; all.book.totals(), totals(1, 4, 3, 2));
+    drop(all);
+    Ok(())
 }
 
 /// Adds four of these traces, from that place on, the last of them first.
@@ -127,7 +213,7 @@ fn feed_four<'a, T: Ledger, E: Ledger, R: Wait + Abort>(
     let first = first as usize;
     assert!(rt; first < sources.len() && sources.len() - first >= 4);
     for place in (first..first + 4).rev() {
-        feed_one(rt, alloc, desk, sources[place], &mut feeder);
+        assert!(rt; submit(rt, alloc, desk, sources[place], &mut feeder));
     }
     feeder
 }
@@ -171,7 +257,7 @@ fn sixteen_feeders<'a, T, E, R>(
     traces: Blank,
     events: Blank,
     sources: &[Source<'a>],
-)
+) -> Gathered<'a>
 where
     T: Ledger + Send + Sync,
     E: Ledger + Send + Sync,
@@ -183,11 +269,7 @@ where
     let (desk, feeders) = made.expect(rt, "a desk");
     let fed = fed_by_threads(rt, alloc, &desk, sources, feeders);
     assert_eq!(rt; fed.len(), 16);
-    let all = gather_twice(rt, desk, fed);
-    assert_eq!(rt; all.tally, tally(64, 128));
-    assert_eq!(rt; all.book.totals(), totals(64, 128, 2, 1));
-    assert_eq!(rt; all.book.edge(class(b"A"), class(b"B")), witness(0, 3));
-    drop(all);
+    gather_twice(rt, desk, fed)
 }
 
 #[test]
@@ -195,7 +277,11 @@ fn sixteen_threads_feed_a_desk(rt: HostRuntime) -> Result<(), Fail> {
     let stream = b"trace a\nacquire t A\nacquire t B\n".repeat(rt.alloc(), 64)?;
     let sources = sources_of(rt.alloc(), &stream)?;
     let (traces, events) = (Blank::new(16), Blank::new(16));
-    sixteen_feeders::<Brand, Brand, _>(&rt, rt.alloc(), traces, events, &sources);
+    let all = sixteen_feeders::<Brand, Brand, _>(&rt, rt.alloc(), traces, events, &sources);
+    assert_eq!(&rt; all.tally, tally(64, 128));
+    assert_eq!(&rt; all.book.totals(), totals(64, 128, 2, 1));
+    assert_eq!(&rt; all.book.edge(class(b"A"), class(b"B")), witness(0, 3));
+    drop(all);
     Ok(())
 }
 
@@ -228,45 +314,50 @@ fn try_submit<'a, T: Ledger, E: Ledger, R: Wait + Abort>(
     }
 }
 
-/// Submits the first trace of a desk. Where memory is refused the tally and the book are as before, and
-/// the call made again answers `Ok`.
+/// Submits the first trace of a desk, and tells whether memory was refused. Then the tally and the book are as
+/// before, and the call made again answers `Ok`.
 fn submit_first<'a, T: Ledger, E: Ledger, R: Wait + Abort>(
     rt: &R,
     alloc: Global,
     desk: &Desk<'a, T, E>,
     source: Source<'a>,
     feeder: &mut Feeder<T, E>,
-) {
+) -> bool {
     let facts = facts_of(rt, alloc, source);
-    if let Some(facts) = try_submit(rt, desk, facts, feeder) {
-        assert_eq!(rt; feeder.tally(), tally(0, 0));
-        assert_eq!(rt; totals_of(rt, desk), totals(0, 0, 0, 0));
-        let back = try_submit(rt, desk, facts, feeder);
-        assert!(rt; back.is_none());
-        drop(back);
-    }
-    assert_eq!(rt; feeder.tally(), tally(1, 4));
-    assert_eq!(rt; totals_of(rt, desk), totals(1, 4, 2, 1));
+    let Some(facts) = try_submit(rt, desk, facts, feeder) else {
+        return false;
+    };
+    assert_eq!(rt; feeder.tally(), tally(0, 0));
+    assert_eq!(rt; totals_of(rt, desk), totals(0, 0, 0, 0));
+    let back = try_submit(rt, desk, facts, feeder);
+    assert!(rt; back.is_none());
+    drop(back);
+    true
 }
 
-/// The one feeder of a desk submits a trace, where a growth may be refused: then there is no desk, or the
-/// trace is submitted again.
+/// The one feeder of a desk submits a trace, by which its book comes to have that much. Tells whether memory
+/// was refused: then there is no desk, or the trace is submitted again.
 fn one_feeder<'a, T: Ledger, E: Ledger, R: Wait + Abort>(
     rt: &R,
     alloc: Global,
     traces: Blank,
     events: Blank,
     source: Source<'a>,
-)
+    wanted: Totals,
+) -> bool
     requires traces { (traces.name ≡ T.name) × (traces.parts ≡ T.parts) × (traces.parts ≡ 1) }
     requires events { (events.name ≡ E.name) × (events.parts ≡ E.parts) × (events.parts ≡ 1) }
 {
-    if let Ok((desk, mut feeders)) = Desk::<T, E>::new(alloc, traces, events, 1) {
-        let mut feeder = feeders.pop().expect(rt, "a feeder");
-        assert!(rt; feeders.is_empty());
-        submit_first(rt, alloc, &desk, source, &mut feeder);
-        drop(desk);
-    }
+    let Ok((desk, mut feeders)) = Desk::<T, E>::new(alloc, traces, events, 1) else {
+        return true;
+    };
+    let mut feeder = feeders.pop().expect(rt, "a feeder");
+    assert!(rt; feeders.is_empty());
+    let is_refused = submit_first(rt, alloc, &desk, source, &mut feeder);
+    assert_eq!(rt; feeder.tally(), tally(wanted.traces, wanted.events));
+    assert_eq!(rt; totals_of(rt, &desk), wanted);
+    drop(desk);
+    is_refused
 }
 
 // Under `rt try --test --fail-alloc N` one allocation is refused, another for each N.
@@ -275,28 +366,9 @@ fn a_refused_submit_changes_nothing(rt: HostRuntime) -> Result<(), Fail> {
     let sources = sources_of(rt.alloc(), INVERSION)?;
     assert_eq!(rt; sources.len(), 2);
     let (traces, events) = (Blank::new(1), Blank::new(1));
-    one_feeder::<Brand, Brand, _>(&rt, rt.alloc(), traces, events, sources[0]);
+    let wanted = totals(1, 4, 2, 1);
+    one_feeder::<Brand, Brand, _>(&rt, rt.alloc(), traces, events, sources[0], wanted);
     Ok(())
-}
-
-/// The one feeder of a desk adds a trace of 20 000 events.
-fn one_long_trace<'a, T: Ledger, E: Ledger, R: Wait + Abort>(
-    rt: &R,
-    alloc: Global,
-    traces: Blank,
-    events: Blank,
-    source: Source<'a>,
-)
-    requires traces { (traces.name ≡ T.name) × (traces.parts ≡ T.parts) × (traces.parts ≡ 1) }
-    requires events { (events.name ≡ E.name) × (events.parts ≡ E.parts) × (events.parts ≡ 1) }
-{
-    let made = Desk::<T, E>::new(alloc, traces, events, 1);
-    let (desk, mut feeders) = made.expect(rt, "a desk");
-    let mut feeder = feeders.pop().expect(rt, "a feeder");
-    feed_one(rt, alloc, &desk, source, &mut feeder);
-    assert_eq!(rt; feeder.tally(), tally(1, 20_000));
-    assert_eq!(rt; totals_of(rt, &desk), totals(1, 20_000, 1, 0));
-    drop(desk);
 }
 
 // A `submit` that answered `Memory` for a long trace would meet every contract.
@@ -306,6 +378,15 @@ fn a_long_trace_is_submitted(rt: HostRuntime) -> Result<(), Fail> {
     let sources = sources_of(rt.alloc(), &stream)?;
     assert_eq!(rt; sources.len(), 1);
     let (traces, events) = (Blank::new(1), Blank::new(1));
-    one_long_trace::<Brand, Brand, _>(&rt, rt.alloc(), traces, events, sources[0]);
+    let wanted = totals(1, 20_000, 1, 0);
+    let is_refused = one_feeder::<Brand, Brand, _>(
+        &rt,
+        rt.alloc(),
+        traces,
+        events,
+        sources[0],
+        wanted,
+    );
+    assert!(rt; !is_refused);
     Ok(())
 }

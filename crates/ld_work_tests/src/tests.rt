@@ -4,16 +4,14 @@ ghost use Rattle.ld_trace.specs.Sources.{AreNumbered, Fits, plain};
 
 use crate::desks::{tally, totals};
 use ld_book::{Book, ClassName};
-use ld_facts::{Witness, facts};
+use ld_facts::Witness;
 use ld_trace::{MOST_TRACES, Source, split};
-use ld_work::{Back, Desk, Feeder, Gate, Gathered, MOST_FEEDERS, NoGate, WorkFault, work};
+use ld_work::{Gate, MOST_FEEDERS, NoGate, WorkFault, work};
 use std::alloc::{AllocError, Global};
-use std::marker::Brand;
 use std::ops::Range;
 use std::process::Abort;
 use std::sync::Wait;
 use std::sync::atomic::{AtomicU64, Ordering};
-use std::sync::ledger::{Blank, Ledger};
 use std::test::Fail;
 use std::thread;
 use std::thread::Threads;
@@ -46,7 +44,7 @@ pub fn class(name: &[u8]) -> ClassName<'_> {
 }
 
 /// Asserts that the book has the totals and the witnesses of `INVERSION`.
-fn expect_inversion<R: Abort>(rt: &R, book: &Book<'_>) {
+pub fn expect_inversion<R: Abort>(rt: &R, book: &Book<'_>) {
     assert_eq!(rt; book.totals(), totals(2, 8, 2, 2));
     assert_eq!(rt; book.edge(class(b"A"), class(b"B")), witness(0, 3));
     assert_eq!(rt; book.edge(class(b"B"), class(b"A")), witness(1, 8));
@@ -58,114 +56,6 @@ fn expect_three_traces<R: Abort>(rt: &R, book: &Book<'_>) {
     assert_eq!(rt; book.edge(class(b"A"), class(b"B")), witness(0, 3));
     assert_eq!(rt; book.edge(class(b"B"), class(b"C")), witness(1, 6));
     assert_eq!(rt; book.edge(class(b"C"), class(b"A")), witness(2, 9));
-}
-
-/// Adds a trace, and looks at what the book has then.
-pub fn feed_one<'a, T: Ledger, E: Ledger, R: Wait + Abort>(
-    rt: &R,
-    alloc: Global,
-    desk: &Desk<'a, T, E>,
-    source: Source<'a>,
-    feeder: &mut Feeder<T, E>,
-) {
-    assert!(rt; source.fits());
-    let facts = facts(alloc, source).expect(rt, "the facts of a trace");
-    let answer = desk.look(rt).submit(feeder, facts);
-    assert!(rt; answer.is_ok());
-    drop(answer);
-    let mut look = desk.look(rt);
-    look.covers(feeder);
-    let (totals, tally) = (look.book().totals(), feeder.tally());
-    assert!(rt; totals.traces >= tally.traces);
-    assert!(rt; totals.events >= tally.events);
-}
-
-fn feed<'a, T: Ledger, E: Ledger, R: Wait + Abort>(
-    rt: &R,
-    alloc: Global,
-    desk: &Desk<'a, T, E>,
-    source: Source<'a>,
-    mut feeder: Feeder<T, E>,
-) -> Feeder<T, E> {
-    feed_one(rt, alloc, desk, source, &mut feeder);
-    feeder
-}
-
-/// The number of the trace that a book lists first.
-fn first_of(book: &Book<'_>) -> Option<u64> {
-    book.listed().first().map(|trace| trace.source.number)
-}
-
-/// The same of a desk's book.
-fn first_listed<T: Ledger, E: Ledger, R: Wait>(rt: &R, desk: &Desk<'_, T, E>) -> Option<u64> {
-    first_of(desk.look(rt).book())
-}
-
-fn lists<'a>(book: &Book<'a>, source: Source<'a>) -> bool {
-    book.listed().iter().any(|trace| trace.source == source)
-}
-
-/// Gathers a desk, first without the last of its feeders: it comes back with the others, and its book is as
-/// before.
-pub fn gather_twice<'a, T: Ledger, E: Ledger, R: Wait + Abort>(
-    rt: &R,
-    desk: Desk<'a, T, E>,
-    mut feeders: Vec<Feeder<T, E>>,
-) -> Gathered<'a> {
-    let last = feeders.pop().expect(rt, "a last feeder");
-    let (listed, others) = (first_listed(rt, &desk), feeders.len());
-    assert!(rt; listed.is_some());
-    let back = desk
-        .gather(feeders)
-        .err()
-        .expect(rt, "all but the last one back");
-    let Back { desk, mut feeders } = back;
-    assert_eq!(rt; feeders.len(), others);
-    assert_eq!(rt; first_listed(rt, &desk), listed);
-    assert!(rt; feeders.push(last).is_ok());
-    let all = desk.gather(feeders).ok().expect(rt, "all feeders");
-    assert_eq!(rt; first_of(&all.book), listed);
-    all
-}
-
-/// Two threads add a trace each to a desk, which is then gathered.
-fn two_feeders<T, E, R>(rt: &R, alloc: Global, traces: Blank, events: Blank) -> Result<(), Fail>
-where
-    T: Ledger + Send + Sync,
-    E: Ledger + Send + Sync,
-    R: Threads + Wait + Abort + Sync,
-    requires traces { (traces.name ≡ T.name) × (traces.parts ≡ T.parts) × (traces.parts ≡ 2) }
-    requires events { (events.name ≡ E.name) × (events.parts ≡ E.parts) × (events.parts ≡ 2) }
-{
-    let sources = sources_of(alloc, INVERSION)?;
-    assert_eq!(rt; sources.len(), 2);
-    let (ab, ba) = (sources[0], sources[1]);
-    let made = Desk::<T, E>::new(alloc, traces, events, 2);
-    let (desk, mut feeders) = made.expect(rt, "a desk");
-    let second = feeders.pop().expect(rt, "a second feeder");
-    let first = feeders.pop().expect(rt, "a first feeder");
-    let shared = &desk;
-    let (first, second) = thread::join(
-        rt,
-        move || feed(rt, alloc, shared, ab, first),
-        move || feed(rt, alloc, shared, ba, second),
-    );
-    assert_eq!(rt; first.tally(), tally(1, 4));
-    assert_eq!(rt; second.tally(), tally(1, 4));
-    assert!(rt; feeders.push(first).is_ok());
-    assert!(rt; feeders.push(second).is_ok());
-    let all = gather_twice(rt, desk, feeders);
-    assert_eq!(rt; all.tally, tally(2, 8));
-    assert!(rt; lists(&all.book, ab) && lists(&all.book, ba));
-    expect_inversion(rt, &all.book);
-    drop(all);
-    Ok(())
-}
-
-#[test]
-fn two_threads_feed_a_desk(rt: HostRuntime) -> Result<(), Fail> {
-    let (traces, events) = (Blank::new(2), Blank::new(2));
-    two_feeders::<Brand, Brand, HostRuntime>(&rt, rt.alloc(), traces, events)
 }
 
 #[test]
