@@ -103,7 +103,9 @@ fn a_refused_batch_changes_nothing(rt: HostRuntime) {
         expect_edge(&rt, &book, B, C, None);
         assert!(rt; book.usage(C).is_none());
         assert_eq!(rt; book.alarms(), NONE);
-        add_batch(&rt, &mut book, batch);
+        let back = try_add_batch(&rt, &mut book, batch);
+        assert!(rt; back.is_none());
+        drop(back);
     }
     expect_totals(&rt, &book, totals(2, 0, 4, 3, 2));
     drop(book);

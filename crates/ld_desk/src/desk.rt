@@ -157,6 +157,7 @@ impl<'d, 'a, T: Ledger, E: Ledger> Model for Look<'d, 'a, T, E> {
 /// What a desk gives at its end.
 #[derive(Drop)]
 pub struct Gathered<'a> {
+    /// The desk's book.
     pub book: Book<'a>,
     /// The sum of the tallies of all feeders.
     pub tally: Tally,
@@ -165,7 +166,9 @@ pub struct Gathered<'a> {
 /// What wasn't gathered, because the feeders aren't as many as the desk was made with.
 #[derive(Drop)]
 pub struct Back<'a, T: Ledger, E: Ledger> {
+    /// The desk, whose book is as before.
     pub desk: Desk<'a, T, E>,
+    /// The feeders that were handed in.
     pub feeders: Vec<Feeder<T, E>>,
 }
 

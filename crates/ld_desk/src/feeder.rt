@@ -13,7 +13,9 @@ const _: () = prove!(MOST_FEEDERS == 1 << 4);
 /// A number of traces, and how many events those have that are read.
 #[derive(Clone, Copy, Debug, PartialEq, Eq)]
 pub struct Tally {
+    /// All traces, also those that are refused.
     pub traces: u64,
+    /// The events of those that are read.
     pub events: u64,
 }
 

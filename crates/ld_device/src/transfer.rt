@@ -15,7 +15,7 @@ pub const MOST_READ: usize = LONGEST_STREAM + 1;
 
 const _: () = prove!(MOST_READ == (1 << 31) + 1);
 
-// How many bytes one read asks for.
+/// How many bytes one read asks for.
 const CHUNK: usize = 65_536;
 
 /// Why an input could not be read whole.
@@ -43,13 +43,14 @@ impl From<DeviceFault> for ReadFault {
     }
 }
 
+/// So many zeros.
 fn zeros(alloc: Global, len: usize) -> Result<Vec<u8>, AllocError>
     ensures { IfOk result (λ bytes. vec_len bytes ≡ len) }
 {
     vec![in alloc; 0; len]
 }
 
-// Reads once into the chunk and appends what was read. Answers how many bytes these are.
+/// Reads once into the chunk and appends what was read. Answers how many bytes these are.
 fn read_more<I: Input>(
     input: &mut I,
     chunk: &mut [u8],

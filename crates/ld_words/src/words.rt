@@ -48,7 +48,7 @@ pub fn workers<'a, S: AsStr>(alloc: Global, words: &'a [S]) -> Result<usize, Err
     }
 }
 
-// What the words may say.
+/// What the words may say.
 fn command_line<'a>(alloc: Global) -> Result<Command<'a>, AllocError>
     ensures { IfOk result (λ command. app_of command ≡ told_by_words) }
 {
@@ -58,7 +58,7 @@ fn command_line<'a>(alloc: Global) -> Result<Command<'a>, AllocError>
         .arg(count_of_workers(alloc))
 }
 
-// `--workers N`.
+/// `--workers N`.
 fn count_of_workers<'a>(alloc: Global) -> Arg<'a>
     ensures rule { rule_of result ≡ workers_argument }
     ensures local { result.global ≡ false }

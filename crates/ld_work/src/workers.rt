@@ -315,6 +315,8 @@ fn submit<'a, T: Ledger, E: Ledger, R: Wait>(
 
 /// The feeders of all workers.
 ///
+/// # Errors
+///
 /// `AllocError` where one of them was refused memory, or memory for the feeders was.
 fn feeders_of<T: Ledger, E: Ledger>(
     alloc: Global,

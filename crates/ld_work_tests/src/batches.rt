@@ -2,8 +2,7 @@
 ghost use Rattle.std.specs.Prelude.{◌≡◌, ◌∷◌, []};
 ghost use Rattle.ld_trace.specs.Sources.{plain};
 
-use crate::desks::{tally, totals, totals_of};
-use crate::tests::{class, sources_of, witness};
+use crate::common::{class, sources_of, tally, totals, totals_of, witness};
 use ld_book::{Batch, BatchRefusal};
 use ld_trace::Source;
 use ld_work::{Desk, Feeder, Gate, NoGate, work};

@@ -1,11 +1,11 @@
 //! Desks in the hands of callers with threads of their own.
 ghost use Rattle.std.specs.Prelude.{◌≡◌};
 
-use crate::tests::{INVERSION, class, expect_inversion, long_trace, sources_of, witness};
+use crate::common::{INVERSION, class, expect_inversion, sources_of, tally, totals, witness};
 use ld_book::{Book, Refusal, Totals};
-use ld_facts::{Facts, Outcome, facts};
+use ld_facts::{Facts, Outcome, Witness, facts};
 use ld_trace::Source;
-use ld_work::{Back, Desk, Feeder, Gathered, Tally};
+use ld_work::{Back, Desk, Feeder, Gathered};
 use std::alloc::Global;
 use std::marker::Brand;
 use std::process::Abort;
@@ -19,33 +19,23 @@ use std::thread::Threads;
 const OUT_OF_ORDER_RELEASE: &[u8] =
     b"trace o\nacquire t A\nacquire t B\nrelease t A\nacquire t C\n";
 
-pub fn tally(traces: u64, events: u64) -> Tally {
-    Tally { traces, events }
-}
-
-/// What the desk's book has, of whose traces none is refused.
-pub fn totals_of<T: Ledger, E: Ledger, R: Wait>(rt: &R, desk: &Desk<'_, T, E>) -> Totals {
-    desk.look(rt).book().totals()
-}
-
-pub fn totals(traces: u64, events: u64, classes: u64, dependencies: u64) -> Totals {
-    Totals {
-        traces,
-        refused: 0,
-        events,
-        classes,
-        dependencies,
-    }
-}
-
 /// The number of the trace that a book lists first.
 fn first_of(book: &Book<'_>) -> Option<u64> {
     book.listed().first().map(|trace| trace.source.number)
 }
 
+/// What a book shows: its totals, the trace that it lists first, and the first witness of A before B.
+fn shown(book: &Book<'_>) -> (Totals, Option<u64>, Option<Witness>) {
+    let edge = book.edge(class(b"A"), class(b"B"));
+    (book.totals(), first_of(book), edge)
+}
+
 /// The same of a desk's book.
-fn first_listed<T: Ledger, E: Ledger, R: Wait>(rt: &R, desk: &Desk<'_, T, E>) -> Option<u64> {
-    first_of(desk.look(rt).book())
+fn shown_by<T: Ledger, E: Ledger, R: Wait>(
+    rt: &R,
+    desk: &Desk<'_, T, E>,
+) -> (Totals, Option<u64>, Option<Witness>) {
+    shown(desk.look(rt).book())
 }
 
 fn lists<'a>(book: &Book<'a>, source: Source<'a>) -> bool {
@@ -118,18 +108,18 @@ fn gather_twice<'a, T: Ledger, E: Ledger, R: Wait + Abort>(
     mut feeders: Vec<Feeder<T, E>>,
 ) -> Gathered<'a> {
     let last = feeders.pop().expect(rt, "a last feeder");
-    let (listed, others) = (first_listed(rt, &desk), feeders.len());
-    assert!(rt; listed.is_some());
+    let (before, others) = (shown_by(rt, &desk), feeders.len());
+    assert!(rt; before.0.traces > 0);
     let back = desk
         .gather(feeders)
         .err()
         .expect(rt, "all but the last one back");
     let Back { desk, mut feeders } = back;
     assert_eq!(rt; feeders.len(), others);
-    assert_eq!(rt; first_listed(rt, &desk), listed);
+    assert_eq!(rt; shown_by(rt, &desk), before);
     assert!(rt; feeders.push(last).is_ok());
     let all = desk.gather(feeders).ok().expect(rt, "all feeders");
-    assert_eq!(rt; first_of(&all.book), listed);
+    assert_eq!(rt; shown(&all.book), before);
     all
 }
 
@@ -282,111 +272,5 @@ fn sixteen_threads_feed_a_desk(rt: HostRuntime) -> Result<(), Fail> {
     assert_eq!(&rt; all.book.totals(), totals(64, 128, 2, 1));
     assert_eq!(&rt; all.book.edge(class(b"A"), class(b"B")), witness(0, 3));
     drop(all);
-    Ok(())
-}
-
-/// The facts of a trace, whichever allocation is refused, as long as it is one alone.
-fn facts_of<'a, R: Abort>(rt: &R, alloc: Global, source: Source<'a>) -> Facts<'a> {
-    assert!(rt; source.fits());
-    let mut answer = facts(alloc, source);
-    if answer.is_err() {
-        drop(answer);
-        answer = facts(alloc, source);
-    }
-    answer.expect(rt, "the facts of a trace")
-}
-
-/// Submits a trace whose number isn't listed. The facts come back where memory is refused.
-fn try_submit<'a, T: Ledger, E: Ledger, R: Wait + Abort>(
-    rt: &R,
-    desk: &Desk<'a, T, E>,
-    facts: Facts<'a>,
-    feeder: &mut Feeder<T, E>,
-) -> Option<Facts<'a>> {
-    let answer = desk.look(rt).submit(feeder, facts);
-    match answer {
-        Ok(()) => None,
-        Err(Refusal::Memory(facts)) => Some(facts),
-        Err(Refusal::Twice(facts)) => {
-            assert!(rt; false, "no trace is listed");
-            Some(facts)
-        }
-    }
-}
-
-/// Submits the first trace of a desk, and tells whether memory was refused. Then the tally and the book are as
-/// before, and the call made again answers `Ok`.
-fn submit_first<'a, T: Ledger, E: Ledger, R: Wait + Abort>(
-    rt: &R,
-    alloc: Global,
-    desk: &Desk<'a, T, E>,
-    source: Source<'a>,
-    feeder: &mut Feeder<T, E>,
-) -> bool {
-    let facts = facts_of(rt, alloc, source);
-    let Some(facts) = try_submit(rt, desk, facts, feeder) else {
-        return false;
-    };
-    assert_eq!(rt; feeder.tally(), tally(0, 0));
-    assert_eq!(rt; totals_of(rt, desk), totals(0, 0, 0, 0));
-    let back = try_submit(rt, desk, facts, feeder);
-    assert!(rt; back.is_none());
-    drop(back);
-    true
-}
-
-/// The one feeder of a desk submits a trace, by which its book comes to have that much. Tells whether memory
-/// was refused: then there is no desk, or the trace is submitted again.
-fn one_feeder<'a, T: Ledger, E: Ledger, R: Wait + Abort>(
-    rt: &R,
-    alloc: Global,
-    traces: Blank,
-    events: Blank,
-    source: Source<'a>,
-    wanted: Totals,
-) -> bool
-    requires traces { (traces.name ≡ T.name) × (traces.parts ≡ T.parts) × (traces.parts ≡ 1) }
-    requires events { (events.name ≡ E.name) × (events.parts ≡ E.parts) × (events.parts ≡ 1) }
-{
-    let Ok((desk, mut feeders)) = Desk::<T, E>::new(alloc, traces, events, 1) else {
-        return true;
-    };
-    let mut feeder = feeders.pop().expect(rt, "a feeder");
-    assert!(rt; feeders.is_empty());
-    let is_refused = submit_first(rt, alloc, &desk, source, &mut feeder);
-    assert_eq!(rt; feeder.tally(), tally(wanted.traces, wanted.events));
-    assert_eq!(rt; totals_of(rt, &desk), wanted);
-    drop(desk);
-    is_refused
-}
-
-// Under `rt try --test --fail-alloc N` one allocation is refused, another for each N.
-#[test]
-fn a_refused_submit_changes_nothing(rt: HostRuntime) -> Result<(), Fail> {
-    let sources = sources_of(rt.alloc(), INVERSION)?;
-    assert_eq!(rt; sources.len(), 2);
-    let (traces, events) = (Blank::new(1), Blank::new(1));
-    let wanted = totals(1, 4, 2, 1);
-    one_feeder::<Brand, Brand, _>(&rt, rt.alloc(), traces, events, sources[0], wanted);
-    Ok(())
-}
-
-// A `submit` that answered `Memory` for a long trace would meet every contract.
-#[test]
-fn a_long_trace_is_submitted(rt: HostRuntime) -> Result<(), Fail> {
-    let stream = long_trace(rt.alloc())?;
-    let sources = sources_of(rt.alloc(), &stream)?;
-    assert_eq!(rt; sources.len(), 1);
-    let (traces, events) = (Blank::new(1), Blank::new(1));
-    let wanted = totals(1, 20_000, 1, 0);
-    let is_refused = one_feeder::<Brand, Brand, _>(
-        &rt,
-        rt.alloc(),
-        traces,
-        events,
-        sources[0],
-        wanted,
-    );
-    assert!(rt; !is_refused);
     Ok(())
 }

@@ -1,11 +1,11 @@
 //! Worked streams, by several threads.
-ghost use Rattle.std.specs.Prelude.{◌≡◌, ◌≤◌, All, IfOk, length, map};
-ghost use Rattle.ld_trace.specs.Sources.{AreNumbered, Fits, plain};
+ghost use Rattle.std.specs.Prelude.{◌≤◌};
 
-use crate::desks::{tally, totals};
-use ld_book::{Book, ClassName};
-use ld_facts::Witness;
-use ld_trace::{MOST_TRACES, Source, split};
+use crate::common::{
+    INVERSION, class, expect_first_once, expect_inversion, long_trace, sources_of, totals, witness,
+    zeros,
+};
+use ld_book::Book;
 use ld_work::{Gate, MOST_FEEDERS, NoGate, WorkFault, work};
 use std::alloc::{AllocError, Global};
 use std::ops::Range;
@@ -16,39 +16,8 @@ use std::test::Fail;
 use std::thread;
 use std::thread::Threads;
 
-pub const INVERSION: &[u8] = b"trace ab\nacquire t A\nacquire t B\nrelease t B\nrelease t A\n\
-    trace ba\nacquire t B\nacquire t A\nrelease t A\nrelease t B\n";
-
 const THREE_TRACES: &[u8] = b"trace x\nacquire t A\nacquire t B\n\
     trace y\nacquire t B\nacquire t C\ntrace z\nacquire t C\nacquire t A\n";
-
-/// The traces of a stream, whichever allocation is refused, as long as it is one alone.
-pub fn sources_of<'a>(alloc: Global, bytes: &'a [u8]) -> Result<Vec<Source<'a>>, Fail>
-    ensures few { IfOk result (λ sources. length sources.items ≤ MOST_TRACES) }
-    ensures numbered { IfOk result (λ sources. AreNumbered (map plain sources.items)) }
-    ensures fit { IfOk result (λ sources. All (λ source. Fits (plain source)) sources.items) }
-{
-    match split(alloc, bytes) {
-        Ok(sources) => Ok(sources),
-        Err(_) => Ok(split(alloc, bytes)?),
-    }
-}
-
-pub fn witness(number: u64, line: u64) -> Option<Witness> {
-    Some(Witness { number, line })
-}
-
-/// The class of this name, without a subclass.
-pub fn class(name: &[u8]) -> ClassName<'_> {
-    ClassName { name, sub: 0 }
-}
-
-/// Asserts that the book has the totals and the witnesses of `INVERSION`.
-pub fn expect_inversion<R: Abort>(rt: &R, book: &Book<'_>) {
-    assert_eq!(rt; book.totals(), totals(2, 8, 2, 2));
-    assert_eq!(rt; book.edge(class(b"A"), class(b"B")), witness(0, 3));
-    assert_eq!(rt; book.edge(class(b"B"), class(b"A")), witness(1, 8));
-}
 
 /// Asserts that the book has the totals and the witnesses of `THREE_TRACES`.
 fn expect_three_traces<R: Abort>(rt: &R, book: &Book<'_>) {
@@ -109,18 +78,6 @@ fn many_traces_are_read(rt: HostRuntime) -> Result<(), Fail> {
     expect_totals(&rt, rt.alloc(), &stream, 2_000, 4_000)
 }
 
-/// A stream of one trace that has more than a million bytes, and 20 000 events.
-pub fn long_trace(alloc: Global) -> Result<Vec<u8>, AllocError> {
-    let mut stream = b"trace x\n".to_vec(alloc)?;
-    for _ in 0..10_000 {
-        stream.extend_from_slice(
-            b"# a long trace has many bytes, and as many as a million of them are still read\n",
-        )?;
-        stream.extend_from_slice(b"acquire t A\nrelease t A\n")?;
-    }
-    Ok(stream)
-}
-
 #[test]
 fn a_long_trace_is_read(rt: HostRuntime) -> Result<(), Fail> {
     let stream = long_trace(rt.alloc())?;
@@ -157,25 +114,10 @@ fn a_refused_growth_in_any_worker_is_memory(rt: HostRuntime) -> Result<(), Fail>
     expect_inversion_or_memory(&rt, rt.alloc(), 4)
 }
 
-/// As many counters, each at 0.
-pub fn zeros(alloc: Global, count: usize) -> Result<Vec<AtomicU64>, AllocError>
-    ensures { IfOk result (λ counts. length counts.items ≡ count) }
-{
-    (0..count).map(|_| AtomicU64::new(0)).collect(alloc)
-}
-
 /// Adds one to the counter at a place.
 fn count_at(counts: &[AtomicU64], place: u64) {
     if let Some(count) = counts.get(place as usize) {
         count.fetch_add(1, Ordering::SeqCst);
-    }
-}
-
-/// Asserts that the first counters are at 1, as many as are said, and all others at 0.
-pub fn expect_first_once<R: Abort>(rt: &R, counts: &[AtomicU64], first: usize) {
-    for (place, count) in counts.iter().enumerate() {
-        let wanted = if place < first { 1 } else { 0 };
-        assert_eq!(rt; count.load(Ordering::SeqCst), wanted);
     }
 }
 

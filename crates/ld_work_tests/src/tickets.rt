@@ -2,7 +2,7 @@
 ghost use Rattle.std.specs.Prelude.{◌≡◌, ◌≤◌, ◌<◌, All, length};
 ghost use Rattle.ld_work.specs.Draw.{IsSeatOf};
 
-use crate::tests::{expect_first_once, zeros};
+use crate::common::{expect_first_once, zeros};
 use ld_work::{DrawSeat, Tickets};
 use std::alloc::{AllocError, Global};
 use std::process::Abort;

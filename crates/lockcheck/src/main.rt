@@ -48,7 +48,7 @@ fn main(rt: HostRuntime) -> ExitCode {
     end(&rt, outcome)
 }
 
-// The exit status of a run that ended so. Where there is no whole report, standard error says why.
+/// The exit status of a run that ended so. Where there is no whole report, standard error says why.
 fn end<R: Eprint>(rt: &R, outcome: Result<Verdict, RunFault>) -> ExitCode
     ensures clean { outcome ≡ Ok Verdict.Clean → exit_status result ≡ 0 }
     ensures violations { outcome ≡ Ok Verdict.Violations → exit_status result ≡ 1 }
@@ -61,13 +61,13 @@ fn end<R: Eprint>(rt: &R, outcome: Result<Verdict, RunFault>) -> ExitCode
     }
 }
 
-// The words of the command line, the program's name first.
+/// The words of the command line, the program's name first.
 fn given_words<R: Env + AllocGlobal>(rt: &R) -> io::Result<Vec<String>> {
     Ok(env::args(rt)?.collect(rt.alloc())?)
 }
 
-// Prints clap's text: the help on standard output, or what is wrong with the words on standard
-// error.
+/// Prints clap's text: the help on standard output, or what is wrong with the words on standard
+/// error.
 fn answer<R: Print + Eprint>(rt: &R, error: clap::Error) -> ExitCode
     ensures { (kind_of error ≢ ErrorKind.DisplayHelp)
         → (kind_of error ≢ ErrorKind.DisplayVersion) → exit_status result ≡ NO_REPORT }
@@ -79,7 +79,7 @@ fn answer<R: Print + Eprint>(rt: &R, error: clap::Error) -> ExitCode
     }
 }
 
-// Says on standard error why there is no report. Where that fails too, the status alone says so.
+/// Says on standard error why there is no report. Where that fails too, the status alone says so.
 fn refuse<D: Display + Drop>(rt: &impl Eprint, reason: D) -> ExitCode
     ensures { exit_status result ≡ NO_REPORT }
 {

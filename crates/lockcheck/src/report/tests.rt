@@ -1,3 +1,5 @@
+//! Reports of streams, by several numbers of workers.
+
 use super::report_of;
 use crate::check::CheckFault;
 use crate::fakes::Meeting;

@@ -1,4 +1,4 @@
-use Rattle.ld_work_tests.proofs.desks.a_refused_submit_changes_nothing.Given as goal
+use Rattle.ld_work_tests.proofs.memory.a_refused_submit_changes_nothing.Given as goal
 
 abbrev pub ghosts-one_feeder-T-Ledger : goal.ghosts-one_feeder-T-Ledger
 ghosts-one_feeder-T-Ledger g a = record { name = a.traces.name; parts = a.traces.parts }
