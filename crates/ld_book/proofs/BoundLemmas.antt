@@ -9,7 +9,7 @@ use Rattle.std.proofs.lemmas.Map.Steps.{length-le_from_distinct_below}
 use Rattle.std.specs.List.{IsDistinct, cons_option, enumerate_from, onto_first}
 use Rattle.indexmap.proofs.CallerLemmas.{Contains-list_any}
 use Rattle.ld_trace.specs.declared.source.TheConstants.{LONGEST_STREAM, MOST_TRACES}
-use Rattle.ld_lines.specs.Lines.{lines, text_of}
+use Rattle.ld_trace.specs.Lines.{lines, text_of}
 use Rattle.ld_trace.specs.Sources.{Fits, PlainSource, plain}
 use Rattle.ld_trace.specs.Events.{position_of, positions, said_by}
 use Rattle.ld_rules.specs.declared.outcome.Listed.{Listed}

@@ -9,7 +9,7 @@ use Rattle.std.proofs.lemmas.List.Quantifiers.{all_pairs_push}
 use Rattle.ld_class.specs.Names.{PlainClass, no_class}
 use Rattle.ld_trace.specs.declared.event.Event.{Event}
 use Rattle.ld_trace.specs.declared.event.LineFault.{LineFault}
-use Rattle.ld_lines.specs.Lines.{lines, text_of}
+use Rattle.ld_trace.specs.Lines.{lines, text_of}
 use Rattle.ld_trace.specs.Sources.{Fits, PlainSource}
 use Rattle.ld_trace.specs.Events.{PlainEvent, Position, Said, plain_event, position_of, positions, said_by}
 use Rattle.ld_held.specs.declared.edges.EdgeFact.{EdgeFact}

@@ -1,3 +1,7 @@
+pub mod LineLemmas
+pub mod FieldLemmas
+pub mod VectorLemmas
+pub mod FrontLemmas
 pub mod VerbLemmas
 pub mod PlainLemmas
 pub mod SplitLemmas

@@ -6,7 +6,7 @@ use Rattle.std.proofs.lemmas.List.Sums.{fold_push}
 use Rattle.std.specs.List.{cons_option, enumerate_from}
 use Rattle.ld_trace.specs.declared.source.Source.{Source}
 use Rattle.ld_trace.specs.declared.source.TheConstants.{MOST_TRACES}
-use Rattle.ld_lines.specs.Lines.{lines}
+use Rattle.ld_trace.specs.Lines.{lines}
 use Rattle.ld_trace.specs.Sources.{AreNumbered, Fits, PlainSource, headers_before, is_header, opened_at, plain, section_at, sources}
 
 -- the sections that lines from place n on open

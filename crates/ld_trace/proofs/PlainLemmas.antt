@@ -10,8 +10,8 @@ use Rattle.std.proofs.lemmas.List.Folds.{list_all-append, list_any-append}
 use Rattle.std.specs.Prelude.{◌==◌, IfSome, Option, nat_le}
 use Rattle.std.specs.Char.{is_ascii_graphic}
 use Rattle.std.specs.List.{list_all, list_any, onto_first, position_or_len, slice_split, filter}
-use Rattle.ld_lines.specs.declared.line.TheConstants.{LONGEST_WORD}
-use Rattle.ld_lines.specs.Lines.{is_blank, is_empty, fields, is_name, is_separator, is_word, lines, less_end, text_of}
+use Rattle.ld_trace.specs.declared.line.TheConstants.{LONGEST_WORD}
+use Rattle.ld_trace.specs.Lines.{is_blank, is_empty, fields, is_name, is_separator, is_word, lines, less_end, text_of}
 use Rattle.ld_trace.specs.declared.event.LockVerb.{LockVerb}
 use Rattle.ld_trace.specs.declared.event.LockVerb.TheVariants as lock_verbs
 use Rattle.ld_trace.specs.Events.{PlainEvent, Acquire, Try, Release, PlainLock, is_sign, lock_of, said_by, said_by_fields}

@@ -9,7 +9,7 @@ use Rattle.std.proofs.lemmas.List.Sums.{prefix_len_passes, prefix_len-le-length,
 use Rattle.std.proofs.lemmas.Bool.Decides.{eqb_tells}
 use Rattle.std.proofs.lemmas.Slice.Eq.{bytes_eq-Decides}
 use Rattle.ld_trace.specs.declared.source.TheConstants.{MOST_TRACES}
-use Rattle.ld_lines.specs.Lines.{is_word, says_nothing}
+use Rattle.ld_trace.specs.Lines.{is_word, says_nothing}
 use Rattle.ld_trace.specs.Sources.{PlainSource, begins_trace, fault_at, fields_of, headers_before, is_header, is_other, label_of, line_faults, opened_at, section_at, sections}
 use Rattle.ld_trace.specs.Inner.Splitting.{given_from}
 use Rattle.ld_trace.proofs.SplitLemmas.{take-next, drop-next}

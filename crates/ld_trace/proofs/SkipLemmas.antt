@@ -10,9 +10,9 @@ use Rattle.std.proofs.lemmas.Slice.Eq.{bytes_eq-Decides}
 use Rattle.std.specs.Prelude.{nat_eq, ◌==◌, ◌||◌}
 use Rattle.memchr.specs.Find.{is_byte, NoneAfter, Nowhere, Passes}
 use Rattle.std.specs.List.{concat, ends_with, prefix_len}
-use Rattle.ld_lines.specs.Lines.{fields, is_blank, first_field_byte, less_end, lines}
-use Rattle.ld_lines.proofs.FieldLemmas.{first-byte}
-use Rattle.ld_lines.proofs.LineLemmas.{lines-cut}
+use Rattle.ld_trace.specs.Lines.{fields, is_blank, first_field_byte, less_end, lines}
+use Rattle.ld_trace.proofs.FieldLemmas.{first-byte}
+use Rattle.ld_trace.proofs.LineLemmas.{lines-cut}
 use Rattle.ld_trace.specs.Sources.{begins_trace, is_header, is_other}
 use Rattle.ld_trace.specs.Inner.Splitting.{AreSkipped, IsQuiet, is_lf, may_begin}
 

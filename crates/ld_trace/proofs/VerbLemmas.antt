@@ -7,7 +7,7 @@ use Rattle.ld_trace.specs.declared.event.Verb.TheVariants.{OfLock, OfState, Nest
 use Rattle.ld_trace.specs.declared.event.LockVerb.TheVariants as lock_verbs
 use Rattle.ld_trace.specs.declared.event.StateVerb.TheVariants as state_verbs
 use Rattle.ld_trace.specs.declared.event.LineFault.TheVariants.{BadVerb}
-use Rattle.ld_lines.specs.Lines.{begins_comment}
+use Rattle.ld_trace.specs.Lines.{begins_comment}
 use Rattle.ld_trace.specs.Events.{said_by_fields}
 use Rattle.ld_trace.specs.Inner.Reading.{said_after, spelling}
 

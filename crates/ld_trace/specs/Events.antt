@@ -10,7 +10,7 @@ use Rattle.ld_trace.specs.declared.event.State.{State}
 use Rattle.ld_trace.specs.declared.event.State.TheVariants.{Hard, Soft}
 use Rattle.ld_trace.specs.declared.event.LineFault.{LineFault}
 use Rattle.ld_trace.specs.declared.event.LineFault.TheVariants.{BadVerb, BadCount, BadName, BadState}
-use Rattle.ld_lines.specs.Lines.{lines, text_of, fields, begins_comment, is_word, is_name}
+use Rattle.ld_trace.specs.Lines.{lines, text_of, fields, begins_comment, is_word, is_name}
 use Rattle.ld_trace.specs.Sources.{PlainSource}
 
 -- a lock without where it lies in memory: `CLASS` alone differs from every `CLASS@INSTANCE`

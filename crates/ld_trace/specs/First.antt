@@ -1,6 +1,6 @@
 -- What the first line of some bytes says.
 use Rattle.std.specs.Prelude.{◌≡◌, ℕ, ◌<◌, List, ◌∷◌, ◌++◌, length}
-use Rattle.ld_lines.specs.Lines.{lines, text_of}
+use Rattle.ld_trace.specs.Lines.{lines, text_of}
 use Rattle.ld_trace.specs.Events.{Said, said_by}
 
 -- the first line of the bytes says this, and these bytes follow it

@@ -7,7 +7,7 @@ use Rattle.ld_trace.specs.declared.source.Source.{Source}
 use Rattle.ld_trace.specs.declared.source.StreamFault.{StreamFault}
 use Rattle.ld_trace.specs.declared.source.StreamFault.TheVariants.{TooLong, NoHeader, BadHeader, TooManyTraces}
 use Rattle.ld_trace.specs.declared.source.TheConstants.{LONGEST_STREAM, MOST_TRACES}
-use Rattle.ld_lines.specs.Lines.{lines, text_of, fields, says_nothing, is_word}
+use Rattle.ld_trace.specs.Lines.{lines, text_of, fields, says_nothing, is_word}
 
 -- a source without where it lies in memory
 pub record PlainSource : Type 0 where

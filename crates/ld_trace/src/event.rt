@@ -4,10 +4,10 @@ ghost use Rattle.std.specs.List.{position};
 ghost use Rattle.std.specs.Option.{option_map};
 ghost use Rattle.ld_trace.specs.Events.{PlainEvent, PlainLock, answer_seen, is_sign, lock_of, plain_lock};
 ghost use Rattle.ld_trace.specs.Events.{said_by, said_of_begin, said_of_lock, said_of_nested, said_of_state, setting_of, state_of, sub_of};
-ghost use Rattle.ld_lines.specs.Lines.{fields};
+ghost use Rattle.ld_trace.specs.Lines.{fields};
 ghost use Rattle.ld_trace.specs.Inner.Reading.{all_now, both_now, three_fields_of, two_fields_of, said_with_lock, said_with_state};
 
-use ld_lines::{begins_comment, is_name, is_word, next_field};
+use crate::line::{begins_comment, is_name, is_word, next_field};
 
 /// A lock: an instance of a class, or the one that has no instance's name.
 #[derive(Clone, Copy, Debug, PartialEq, Eq)]

@@ -6,7 +6,7 @@ ghost use Rattle.ld_trace.specs.Inner.Plain.{IsLockLine};
 ghost use Rattle.ld_trace.specs.Inner.Reading.{spelling_of_lock_verb};
 
 use crate::event::{Event, Lock, LockVerb};
-use ld_lines::{next_name, next_word};
+use crate::front::{next_name, next_word};
 
 /// The event of the first line, and what follows that line, where the line is `VERB TASK LOCK` with
 /// one blank between two of them and nothing else before its LF. `None` says nothing: whoever gets it

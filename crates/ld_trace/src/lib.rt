@@ -1,15 +1,17 @@
-//! Reads the lines of a stream of lock traces: where its traces begin and end, and which event a
-//! line names.
+//! The streams of traces: their lines, the sections of a stream, and the event that a line names.
 #![tactic(auto)]
 
 mod cut;
 mod event;
 mod fast;
+mod front;
+mod line;
 mod others;
 mod source;
 
 pub use cut::split;
 pub use event::{Event, LineFault, Lock, State, read_event};
 pub use fast::next_event;
-pub use ld_lines::{LONGEST_WORD, next_line, text};
+pub use front::{next_name, next_word};
+pub use line::{LONGEST_WORD, begins_comment, first_field_byte, is_name, is_word, next_field, next_line, text};
 pub use source::{LONGEST_STREAM, MOST_TRACES, Source, StreamFault};

@@ -1,7 +1,7 @@
 //! The traces of a stream.
 ghost use Rattle.std.specs.Prelude.{◌↔◌, IsTrue};
 
-use ld_lines::is_word;
+use crate::line::is_word;
 use thiserror::Error;
 
 /// How many bytes a stream has at most.

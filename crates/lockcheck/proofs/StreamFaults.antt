@@ -5,7 +5,7 @@ use Rattle.std.specs.List.{cons_option, enumerate_from}
 use Rattle.ld_trace.specs.declared.source.TheConstants.{LONGEST_STREAM, MOST_TRACES}
 use Rattle.ld_trace.specs.declared.source.StreamFault.{StreamFault}
 use Rattle.ld_trace.specs.declared.source.StreamFault.TheVariants.{BadHeader, Memory, NoHeader, TooLong, TooManyTraces}
-use Rattle.ld_lines.specs.Lines.{lines, says_nothing}
+use Rattle.ld_trace.specs.Lines.{lines, says_nothing}
 use Rattle.ld_trace.specs.Sources.{fault_at, fields_of, headers_before, is_header, label_of, line_faults, stream_fault}
 use Rattle.lockcheck.specs.declared.check.CheckFault.{CheckFault}
 use Rattle.lockcheck.specs.declared.check.CheckFault.TheVariants.{Stream}

@@ -1,7 +1,7 @@
 -- How far a trace is read. The loop of `read_into` cites this, and no promise.
 use Rattle.std.specs.Prelude.{◌≡◌, ℕ, List, [], ◌++◌, length}
 use Rattle.std.specs.List.{filter_map, enumerate_from}
-use Rattle.ld_lines.specs.Lines.{lines, text_of}
+use Rattle.ld_trace.specs.Lines.{lines, text_of}
 use Rattle.ld_trace.specs.Sources.{PlainSource}
 use Rattle.ld_trace.specs.Events.{Position, position_of, positions, said_by}
 use Rattle.ld_scan.specs.declared.scan.Scan.{Scan}

@@ -1,7 +1,7 @@
 -- The plainest form of a line of a lock, as the functions that read it in one pass see it. No public
 -- contract cites this file.
 use Rattle.std.specs.Prelude.{◌≡◌, ℕ, true, List, ◌∷◌, ◌++◌, Option, Some, None, IfSome}
-use Rattle.ld_lines.specs.Lines.{is_name}
+use Rattle.ld_trace.specs.Lines.{is_name}
 use Rattle.ld_trace.specs.Events.{PlainLock}
 
 -- how the lock of this class with that instance is spelled

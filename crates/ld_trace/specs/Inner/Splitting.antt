@@ -2,7 +2,7 @@
 -- file.
 use Rattle.std.specs.Prelude.{◌≡◌, ℕ, ◌+◌, ◌<◌, ◌≤◌, Bool, true, false, ◌||◌, ◌==◌, List, ◌++◌, length, drop, take, slice_index_or, Option}
 use Rattle.std.specs.List.{concat, filter_map, enumerate_from, prefix_len}
-use Rattle.ld_lines.specs.Lines.{lines}
+use Rattle.ld_trace.specs.Lines.{lines}
 use Rattle.ld_trace.specs.Sources.{fault_at, is_other, line_faults}
 
 -- what the lines from place k on give, each with its place

@@ -1,6 +1,6 @@
 -- Each line takes the scan one position further, or refuses the trace.
 use Rattle.std.proofs.Common.{rules, ◌≡◌, ◌+◌, None, Some, Ok, Err, arith, sym, ap, subst, refl, ◌∙◌, length, length-append}
-use Rattle.ld_lines.specs.Lines.{text_of}
+use Rattle.ld_trace.specs.Lines.{text_of}
 use Rattle.ld_trace.specs.Sources.{plain}
 use Rattle.ld_trace.specs.Events.{answer_seen, plain_event, said_by}
 use Rattle.ld_rules.specs.declared.outcome.Outcome.TheVariants.{Refused}

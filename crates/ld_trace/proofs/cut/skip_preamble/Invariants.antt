@@ -1,6 +1,6 @@
 -- The lines so far say nothing, so they have no fault and open no section.
 use Rattle.std.proofs.Common.{◌≡◌, ◌+◌, ◌≤◌, length, drop}
-use Rattle.ld_lines.specs.Lines.{lines}
+use Rattle.ld_trace.specs.Lines.{lines}
 use Rattle.ld_trace.specs.Sources.{fault_at, headers_before, line_faults, opened_at, sections}
 use Rattle.ld_trace.specs.Inner.Splitting.{given_from}
 use Rattle.ld_trace.proofs.cut.skip_preamble.Given as goal

@@ -4,9 +4,9 @@ use Rattle.std.proofs.lemmas.List.{map-append}
 use Rattle.std.specs.List.{prefix_len}
 use Rattle.ld_trace.specs.declared.source.Source.{Source}
 use Rattle.ld_trace.specs.declared.source.TheConstants.{MOST_TRACES}
-use Rattle.ld_lines.specs.Lines.{lines}
+use Rattle.ld_trace.specs.Lines.{lines}
 use Rattle.ld_trace.specs.Sources.{AreNumbered, Fits, fields_of, is_other, label_of, opened_at, plain, section_at, sources}
-use Rattle.ld_lines.proofs.FieldLemmas.{prefix_len-after}
+use Rattle.ld_trace.proofs.FieldLemmas.{prefix_len-after}
 use Rattle.ld_trace.proofs.SplitLemmas.{pushed, pushed-all}
 use Rattle.ld_trace.specs.Inner.Splitting.{given_from}
 use Rattle.ld_trace.proofs.SectionLemmas.{Opens, header-first, headers-section, left-section, faults-section, sections-section, section-is, label-word, neither}

@@ -1,7 +1,7 @@
 -- The lines so far have no fault and open the sections so far; what is left begins with a header.
 use Rattle.std.proofs.Common.{◌≡◌, ◌+◌, ◌++◌, ◌≤◌, false, length, map, All}
 use Rattle.ld_trace.specs.declared.source.TheConstants.{LONGEST_STREAM, MOST_TRACES}
-use Rattle.ld_lines.specs.Lines.{lines}
+use Rattle.ld_trace.specs.Lines.{lines}
 use Rattle.ld_trace.specs.Sources.{Fits, headers_before, opened_at, plain, sections}
 use Rattle.ld_trace.specs.Inner.Splitting.{IsCutAt, given_from}
 use Rattle.ld_trace.proofs.cut.split.Given as goal

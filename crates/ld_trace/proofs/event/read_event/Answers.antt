@@ -1,6 +1,6 @@
 -- The first field is a verb, or none.
 use Rattle.std.proofs.Common.{sym, ◌∙◌, ap}
-use Rattle.ld_lines.specs.Lines.{fields}
+use Rattle.ld_trace.specs.Lines.{fields}
 use Rattle.ld_trace.specs.Events.{said_by_fields}
 use Rattle.ld_trace.proofs.VerbLemmas.{said-line, said-no_verb}
 use Rattle.ld_trace.proofs.event.read_event.Goals as goal

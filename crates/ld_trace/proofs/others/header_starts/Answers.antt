@@ -1,7 +1,7 @@
 -- A lane's bit says whether a header may begin with its byte.
 use Rattle.std.proofs.Common.{ℕ, eqb, cond, refl, arith}
 use Rattle.std.proofs.lemmas.Simd.{zip2_splat, zip2_of_maps}
-use Rattle.ld_lines.proofs.VectorLemmas.{masked}
+use Rattle.ld_trace.proofs.VectorLemmas.{masked}
 use Rattle.ld_trace.specs.Inner.Splitting.{may_begin}
 use Rattle.ld_trace.proofs.others.header_starts.Goals as goal
 use lib.Bits.{bit_or}

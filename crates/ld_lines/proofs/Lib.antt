@@ -1,4 +1,0 @@
-pub mod LineLemmas
-pub mod FieldLemmas
-pub mod VectorLemmas
-pub mod FrontLemmas
