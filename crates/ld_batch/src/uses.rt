@@ -5,7 +5,7 @@ ghost use Rattle.ld_batch.specs.Inner.Rows.{IsOwnUse, use_of};
 
 use ld_facts::{UsageFact, Witness};
 use ld_numbers::Numbers;
-use ld_usage::Usage;
+use ld_class::Usage;
 
 /// A usage bit of a class, and where it was first seen.
 #[derive(Clone, Copy, Debug, PartialEq, Eq)]

@@ -9,7 +9,7 @@ use Rattle.std.specs.List.{cons_option, list_any}
 use Rattle.std.specs.List.Sorted.{IsPermutation}
 use Rattle.ld_class.specs.Names.{PlainClass, same_class}
 use Rattle.ld_class.proofs.NameLemmas.{same_class-Decides}
-use Rattle.ld_usage.specs.Usage.{marks_of}
+use Rattle.ld_class.specs.Usage.{marks_of}
 use Rattle.ld_trace.specs.Sources.{PlainSource}
 use Rattle.ld_graph.specs.Walks.{HasWalk, IsShownWalk}
 use Rattle.ld_rules.specs.declared.outcome.Witness.{Witness}

@@ -1,3 +1,4 @@
+pub mod UsageLemmas
 pub mod Mapped
 pub mod AnyNames
 pub mod NameLemmas

@@ -2,7 +2,7 @@
 use Rattle.std.proofs.Common.{◌≡◌, ◌<◌, ◌∙◌, List, ℕ, Option, None, is_some, arith, ap, get_or, length, subst, sym}
 use Rattle.std.proofs.lemmas.List.{get_or-map, length-map}
 use Rattle.ld_class.specs.Names.{PlainClass, no_class}
-use Rattle.ld_usage.specs.Usage.{has_bit, no_bits}
+use Rattle.ld_class.specs.Usage.{has_bit, no_bits}
 use Rattle.ld_trace.specs.Sources.{PlainSource}
 use Rattle.ld_rules.specs.declared.outcome.Witness.{Witness}
 use Rattle.ld_facts.specs.Union.{use_witness}

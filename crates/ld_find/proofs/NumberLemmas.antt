@@ -1,7 +1,7 @@
 -- What violations by number say of the names.
 use Rattle.std.proofs.Common.{◌≡◌, ◌<◌, true, arith, option_map, IfSome, List, ℕ, zero, suc, Option, Some, None, is_some, Any, length, get_or, refl, sym, ap, subst, ◌∙◌}
 use Rattle.std.proofs.lemmas.Bool.{true≢false}
-use Rattle.ld_usage.specs.declared.usage.Usage.{Usage}
+use Rattle.ld_class.specs.declared.usage.Usage.{Usage}
 use Rattle.ld_class.specs.Names.{IsNameAt, PlainClass, no_class, place_of}
 use Rattle.ld_class.proofs.NameLemmas.{place_of-Some}
 use Rattle.ld_graph.specs.declared.Edge.{Edge}

@@ -2,7 +2,7 @@
 ghost use Rattle.std.specs.Prelude.{◌≡◌, ◌↔◌, ℕ, ◌<◌, true, length, All, IsTrue, MatchOption};
 ghost use Rattle.std.specs.Prelude.{[], List, IfSome, option_map, slice_index_or};
 ghost use Rattle.ld_class.specs.Names.{PlainClass, no_class, plain_class};
-ghost use Rattle.ld_usage.specs.Usage.{has_bit, no_bits};
+ghost use Rattle.ld_class.specs.Usage.{has_bit, no_bits};
 ghost use Rattle.ld_facts.specs.Usage.{usage_of};
 ghost use Rattle.ld_facts.specs.Usage.Bit.{In, On};
 ghost use Rattle.ld_find.specs.Alarms.{IsExact, plain_alarms};
@@ -13,11 +13,10 @@ ghost use Rattle.ld_union.specs.Inner.Union.{PlainUnion, edges_of};
 ghost use Rattle.ld_union.specs.Usage.{bits_of};
 
 use bitflags::Flags;
-use ld_class::{ClassName, Classes};
+use ld_class::{ClassName, Classes, Usage};
 use ld_graph::Edge;
 use ld_trace::State;
 use ld_union::{NewBit, News, PerState, Union, UsageRow};
-use ld_usage::Usage;
 
 /// For each kind of violation one that the traces show, or none where they show none of the kind.
 /// Where there are two states, the hard one comes first.

@@ -13,7 +13,7 @@ use Rattle.std.specs.Bool.{Decides}
 use Rattle.std.specs.List.{list_all, list_any}
 use Rattle.std.specs.Str.{bytes_eq}
 use Rattle.ld_class.specs.Names.{same_class}
-use Rattle.ld_usage.specs.Usage.{has_bit, no_bits}
+use Rattle.ld_class.specs.Usage.{has_bit, no_bits}
 use Rattle.ld_class.proofs.Mapped.{list_any-map}
 use Rattle.ld_class.proofs.NameLemmas.{same_class-Decides}
 use Rattle.ld_trace.specs.declared.event.LineFault.{LineFault}

@@ -2,8 +2,8 @@
 use Rattle.std.specs.Prelude.{◌≡◌, Bool, false, ◌&&◌, List, [], ◌∷◌, ◌++◌, map, filter}
 use Rattle.std.specs.Prelude.{Option, Some, None, if◌then◌else◌}
 use Rattle.ld_class.specs.Names.{PlainClass, same_class}
-use Rattle.ld_usage.specs.declared.usage.Usage as sets
-use Rattle.ld_usage.specs.Usage.{has_bit, in_hard, in_soft, on_hard, on_soft}
+use Rattle.ld_class.specs.declared.usage.Usage as sets
+use Rattle.ld_class.specs.Usage.{has_bit, in_hard, in_soft, on_hard, on_soft}
 use Rattle.ld_trace.specs.declared.event.State.{State}
 use Rattle.ld_trace.specs.declared.event.State.TheVariants.{Hard, Soft}
 use Rattle.ld_trace.specs.Events.{PlainEvent}

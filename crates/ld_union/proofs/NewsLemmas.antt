@@ -5,9 +5,9 @@ use Rattle.std.proofs.lemmas.Bool.{true≢false, cases_eq, cases_lt}
 use Rattle.std.proofs.lemmas.List.{get_or-map, get_or-set_same, get_or-set_other, get_or_append_left, get_or-append_right, get_or-replicate, get_or_past}
 use Rattle.std.proofs.lemmas.List.{length-map, length-replicate, length-set, map-set, map-append}
 use Rattle.std.proofs.lemmas.List.Elements.{All-nil, All-push, Contains-append_left, Contains-append_right}
-use Rattle.ld_usage.specs.declared.usage.Usage.{Usage}
-use Rattle.ld_usage.specs.Usage.{either, has_bit, no_bits}
-use Rattle.ld_usage.proofs.UsageLemmas.{has_bit-either}
+use Rattle.ld_class.specs.declared.usage.Usage.{Usage}
+use Rattle.ld_class.specs.Usage.{either, has_bit, no_bits}
+use Rattle.ld_class.proofs.UsageLemmas.{has_bit-either}
 use Rattle.ld_trace.specs.declared.event.State.TheVariants.{Hard, Soft}
 use Rattle.ld_facts.specs.Usage.{Bit, IsBit, bit_of, usage_of}
 use Rattle.ld_facts.specs.Usage.Bit.{In, On}

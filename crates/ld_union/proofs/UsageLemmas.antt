@@ -6,9 +6,9 @@ use Rattle.std.proofs.lemmas.List.{get_or-map, get_or-take, get_or-set_same, get
 use Rattle.std.proofs.lemmas.List.{get_or-replicate, length-map, length-replicate, length-set, same_lists, take_all}
 use Rattle.std.specs.Int.{trailing_zeros}
 use Rattle.std.specs.List.{position_or_len}
-use Rattle.ld_usage.specs.declared.usage.Usage.{Usage}
+use Rattle.ld_class.specs.declared.usage.Usage.{Usage}
 use Rattle.ld_class.specs.Names.{AreDistinct, IsNameAt, PlainClass, no_class, place_of, same_class}
-use Rattle.ld_usage.specs.Usage.{either, has_bit, in_hard, in_soft, no_bits, on_hard, on_soft}
+use Rattle.ld_class.specs.Usage.{either, has_bit, in_hard, in_soft, no_bits, on_hard, on_soft}
 use Rattle.ld_class.proofs.NameLemmas.{place_of-at, place_of-Some, same_class-Decides}
 use Rattle.ld_trace.specs.declared.event.State.TheVariants.{Hard, Soft}
 use Rattle.ld_rules.specs.declared.outcome.Witness.{Witness}

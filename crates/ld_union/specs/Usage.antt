@@ -1,9 +1,9 @@
 -- What a row of usage says of a class.
 use Rattle.std.specs.Prelude.{List, [], ◌∷◌, map, filter, fold, Option, Some, None, if◌then◌else◌}
 use Rattle.std.specs.Option.{is_some}
-use Rattle.ld_usage.specs.declared.usage.Usage.{Usage}
+use Rattle.ld_class.specs.declared.usage.Usage.{Usage}
 use Rattle.ld_class.specs.Names.{PlainClass, place_of}
-use Rattle.ld_usage.specs.Usage.{either, no_bits}
+use Rattle.ld_class.specs.Usage.{either, no_bits}
 use Rattle.ld_trace.specs.declared.event.State.TheVariants.{Hard, Soft}
 use Rattle.ld_trace.specs.Sources.{PlainSource}
 use Rattle.ld_rules.specs.declared.outcome.Witness.{Witness}

@@ -4,7 +4,7 @@ ghost use Rattle.ld_union.specs.Inner.States.{of_state};
 
 use crate::states::PerState;
 use ld_trace::State;
-use ld_usage::Usage;
+use ld_class::Usage;
 use std::alloc::{AllocError, Global};
 use std::marker::Model;
 

@@ -13,7 +13,7 @@ use crate::states::PerState;
 use ld_graph::{Edge, Graph};
 use ld_reach::Reach;
 use ld_trace::State;
-use ld_usage::Usage;
+use ld_class::Usage;
 use std::alloc::{AllocError, Global};
 
 impl PerState<Reach> {

@@ -4,7 +4,7 @@ ghost use Rattle.std.specs.Prelude.{length, slice_index_or, vec_len, vec_capacit
 ghost use Rattle.std.specs.Bool.{OnFalse, OnTrue};
 ghost use Rattle.std.specs.List.{position_or_len};
 ghost use Rattle.ld_class.specs.Names.{AreDistinct, PlainClass, no_class};
-ghost use Rattle.ld_usage.specs.Usage.{either, has_bit};
+ghost use Rattle.ld_class.specs.Usage.{either, has_bit};
 ghost use Rattle.ld_facts.specs.Union.{use_witness};
 ghost use Rattle.ld_facts.specs.Usage.{Bit, IsBit, Use, bit_of, same_bit};
 ghost use Rattle.ld_batch.specs.Inner.Names.{ArePlaces};
@@ -16,7 +16,7 @@ use crate::news::NewBit;
 use bitflags::Flags;
 use ld_batch::Batch;
 use ld_facts::Witness;
-use ld_usage::Usage;
+use ld_class::Usage;
 
 /// The usage of a class, over all traces.
 #[derive(Clone, Copy, Debug, PartialEq, Eq)]

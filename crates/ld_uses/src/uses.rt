@@ -1,7 +1,7 @@
 //! The usage bits of the numbered classes of some traces.
 ghost use Rattle.std.specs.Prelude.{◌≡◌, ◌<◌, ◌-◌, ℕ, [], ◌∷◌, fold, length, map, slice_index_or, take};
 ghost use Rattle.std.specs.Prelude.{vec_len, OnErr, OnOk};
-ghost use Rattle.ld_usage.specs.Usage.{no_bits};
+ghost use Rattle.ld_class.specs.Usage.{no_bits};
 ghost use Rattle.ld_rules.specs.Usage.{IsBit};
 ghost use Rattle.ld_uses.specs.Inner.Uses.{in_facts, on_facts, use_at, with_use};
 
@@ -9,7 +9,7 @@ use bitflags::Flags;
 use ld_frames::Interrupts;
 use ld_held::Held;
 use ld_trace::State;
-use ld_usage::Usage;
+use ld_class::Usage;
 use std::alloc::{AllocError, Global};
 use std::marker::Model;
 

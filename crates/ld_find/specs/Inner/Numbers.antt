@@ -1,7 +1,7 @@
 -- Violations by the numbers of the classes, and what the numbers stand for. No contract of a `Book`
 -- cites this file.
 use Rattle.std.specs.Prelude.{◌≡◌, ◌↔◌, ℕ, ◌<◌, ◌≤◌, List, length, slice_index_or, None, IfSome, IsSome, option_map}
-use Rattle.ld_usage.specs.declared.usage.Usage.{Usage}
+use Rattle.ld_class.specs.declared.usage.Usage.{Usage}
 use Rattle.ld_class.specs.Names.{PlainClass, no_class, place_of}
 use Rattle.ld_graph.specs.declared.Edge.{Edge}
 use Rattle.ld_graph.specs.Edges.{IsEdge}

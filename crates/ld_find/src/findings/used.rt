@@ -9,10 +9,9 @@ ghost use Rattle.ld_find.specs.Inner.Rows.{IsNoted};
 ghost use Rattle.ld_union.specs.Inner.Union.{Shows};
 ghost use Rattle.ld_find.specs.Violations.{HasBit};
 
-use ld_class::ClassName;
+use ld_class::{ClassName, Usage};
 use ld_facts::Witness;
 use ld_union::Union;
-use ld_usage::Usage;
 
 /// What the rows say of a class that has a bit.
 #[derive(Clone, Copy)]

@@ -1,7 +1,7 @@
 -- The bits of classes, by their numbers. No contract of a `Book` cites this file.
 use Rattle.std.specs.Prelude.{◌≡◌, ℕ, true, List, slice_index_or}
-use Rattle.ld_usage.specs.declared.usage.Usage.{Usage}
-use Rattle.ld_usage.specs.Usage.{has_bit, no_bits}
+use Rattle.ld_class.specs.declared.usage.Usage.{Usage}
+use Rattle.ld_class.specs.Usage.{has_bit, no_bits}
 use Rattle.ld_facts.specs.Usage.{Bit, usage_of}
 use Rattle.ld_union.specs.declared.news.NewBit.{NewBit}
 

@@ -1,6 +1,6 @@
 -- What the batch that was added last showed for the first time. No contract of a `Book` cites this file.
 use Rattle.std.specs.Prelude.{◌≡◌, ℕ, List, length, take, All, Contains}
-use Rattle.ld_usage.specs.declared.usage.Usage.{Usage}
+use Rattle.ld_class.specs.declared.usage.Usage.{Usage}
 use Rattle.ld_trace.specs.declared.event.State.{State}
 use Rattle.ld_facts.specs.Usage.{Bit, IsBit, bit_of}
 use Rattle.ld_union.specs.declared.news.NewBit.{NewBit}

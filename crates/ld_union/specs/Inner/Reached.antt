@@ -1,7 +1,7 @@
 -- For each interrupt state, which classes walks lead to from those that handlers of the state acquire. No
 -- contract of a `Book` cites this file.
 use Rattle.std.specs.Prelude.{◌≡◌, ◌↔◌, ◌⊎◌, ℕ, List, length, take, Contains}
-use Rattle.ld_usage.specs.declared.usage.Usage.{Usage}
+use Rattle.ld_class.specs.declared.usage.Usage.{Usage}
 use Rattle.ld_graph.specs.declared.Edge.{Edge}
 use Rattle.ld_graph.specs.Edges.{IsEdge}
 use Rattle.ld_graph.specs.Walks.{HasWalk}

@@ -3,8 +3,8 @@
 use Rattle.std.specs.Prelude.{ℕ, Bool, false, ◌&&◌, ◌==◌, List, [], ◌∷◌, ◌++◌, ◌≡◌, ◌<◌, length, map, take}
 use Rattle.std.specs.Prelude.{reverse, slice_index_or, if◌then◌else◌}
 use Rattle.std.specs.List.{list_any}
-use Rattle.ld_usage.specs.declared.usage.Usage.{Usage}
-use Rattle.ld_usage.specs.Usage.{has_bit, no_bits}
+use Rattle.ld_class.specs.declared.usage.Usage.{Usage}
+use Rattle.ld_class.specs.Usage.{has_bit, no_bits}
 use Rattle.ld_trace.specs.declared.event.State.TheVariants.{Hard, Soft}
 use Rattle.ld_uses.specs.declared.uses.UsageFact.{UsageFact}
 use Rattle.ld_frames.specs.declared.interrupts.Interrupts.{Interrupts}

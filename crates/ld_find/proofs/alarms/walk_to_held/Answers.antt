@@ -1,7 +1,7 @@
 use Rattle.std.proofs.Common.{rules, ◌≡◌, ◌≢◌, All, ℕ, arith, get_or, subst}
 use Rattle.std.proofs.lemmas.List.{take_all}
 use Rattle.std.proofs.lemmas.List.Elements.{All-more}
-use Rattle.ld_usage.specs.Usage.{no_bits}
+use Rattle.ld_class.specs.Usage.{no_bits}
 use Rattle.ld_facts.specs.Usage.{usage_of}
 use Rattle.ld_facts.specs.Usage.Bit.{On}
 use Rattle.ld_find.specs.Inner.Numbers.{IsForbiddenAt}

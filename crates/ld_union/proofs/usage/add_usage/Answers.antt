@@ -1,6 +1,6 @@
 use Rattle.std.proofs.Common.{rules, ◌≡◌, ◌+◌, ◌-◌, ◌<◌, ◌≤◌, ◌∙◌, List, ap, arith, get_or, length, subst, sym}
 use Rattle.ld_class.specs.Names.{no_class}
-use Rattle.ld_usage.specs.Usage.{no_bits}
+use Rattle.ld_class.specs.Usage.{no_bits}
 use Rattle.ld_batch.specs.declared.uses.WitnessedUse.{WitnessedUse}
 use Rattle.ld_batch.specs.Batch.{named_use}
 use Rattle.ld_facts.specs.Usage.{Use, bit_of, same_use}

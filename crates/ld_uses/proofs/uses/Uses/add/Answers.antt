@@ -1,7 +1,7 @@
 use Rattle.std.proofs.Common.{◌<◌, ◌∙◌, bit_or, length, set, subst, sym, ap, arith}
 use Rattle.std.proofs.lemmas.List.{get_or_default}
-use Rattle.ld_usage.specs.declared.usage.Usage.{Usage}
-use Rattle.ld_usage.specs.Usage.{has_bit, no_bits}
+use Rattle.ld_class.specs.declared.usage.Usage.{Usage}
+use Rattle.ld_class.specs.Usage.{has_bit, no_bits}
 use Rattle.ld_uses.specs.Inner.Uses.{AreNoted}
 use Rattle.ld_uses.proofs.UseLemmas.{noted_push, noted_reached}
 use Rattle.ld_uses.proofs.uses.Uses.add.Goals as goal

@@ -1,7 +1,7 @@
 use Rattle.std.proofs.Common.{◌<◌, ◌-◌, ◌^◌, ◌∙◌, ◌++◌, ◌∷◌, [], bit_and, length, subst, ap, arith}
 use Rattle.std.proofs.lemmas.List.{get_or_default}
-use Rattle.ld_usage.specs.declared.usage.Usage.{Usage}
-use Rattle.ld_usage.specs.Usage.{no_bits}
+use Rattle.ld_class.specs.declared.usage.Usage.{Usage}
+use Rattle.ld_class.specs.Usage.{no_bits}
 use Rattle.ld_uses.specs.Inner.Uses.{AreNoted}
 use Rattle.ld_uses.proofs.UseLemmas.{known_last, noted_cut}
 use Rattle.ld_uses.proofs.uses.Uses.drop_last.Goals as goal

@@ -2,7 +2,7 @@
 -- ON_SOFT 8.
 use Rattle.std.specs.Prelude.{ℕ, Bool, true, false, ◌==◌, List, ◌++◌, codes}
 use Rattle.std.specs.Int.RustNames.{bit_and, bit_or}
-use Rattle.ld_usage.specs.declared.usage.Usage.{Usage}
+use Rattle.ld_class.specs.declared.usage.Usage.{Usage}
 
 -- no bit
 abbrev pub no_bits : Usage

@@ -1,7 +1,7 @@
 //! `Usage`, which tells how the locks of a class met interrupt handlers.
 ghost use Rattle.std.specs.Prelude.{⊤, ◌≡◌, [], ◌∷◌, codes};
-ghost use Rattle.ld_usage.specs.Usage.{in_hard, on_hard, in_soft, on_soft};
-ghost use Rattle.ld_usage.specs.Usage.{either, usage_character, marks_of};
+ghost use Rattle.ld_class.specs.Usage.{in_hard, on_hard, in_soft, on_soft};
+ghost use Rattle.ld_class.specs.Usage.{either, usage_character, marks_of};
 
 use bitflags::{Flag, Flags};
 use std::ops::{BitOr, BitOrAssign};
