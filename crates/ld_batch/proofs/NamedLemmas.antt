@@ -9,8 +9,8 @@ use Rattle.std.proofs.lemmas.List.Sums.{fold-append}
 use Rattle.std.specs.List.{list_any}
 use Rattle.ld_class.specs.Names.{AreDistinct, PlainClass, no_class, place_of, with_name}
 use Rattle.ld_rules.specs.Usage.{IsBit, bit_of}
-use Rattle.ld_held.specs.declared.edges.EdgeFact.{EdgeFact}
-use Rattle.ld_uses.specs.declared.uses.UsageFact.{UsageFact}
+use Rattle.ld_tables.specs.declared.edges.EdgeFact.{EdgeFact}
+use Rattle.ld_tables.specs.declared.uses.UsageFact.{UsageFact}
 use Rattle.ld_scan.specs.Named as scans
 use Rattle.ld_scan.specs.Inner.Scan.{names_at}
 use Rattle.ld_scan.proofs.OwnLemmas.{own-known, own-more, own-none}

@@ -4,7 +4,7 @@ ghost use Rattle.ld_class.specs.declared.names.TheConstants.{MOST_NAMES};
 ghost use Rattle.ld_batch.specs.Inner.Rows.{IsOwnEdge, edge_of};
 
 use ld_facts::{EdgeFact, Witness};
-use ld_numbers::Numbers;
+use ld_tables::Numbers;
 
 /// A dependency, and where it was first seen.
 #[derive(Clone, Copy, Debug, PartialEq, Eq)]

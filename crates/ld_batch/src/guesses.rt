@@ -1,6 +1,6 @@
 //! Where a book had what the batches of a worker showed before.
 
-use ld_numbers::as_number;
+use ld_tables::as_number;
 use std::alloc::Global;
 
 /// Where a book may have the classes and dependencies of a batch, by the numbers that the batch's scan

@@ -10,7 +10,7 @@ ghost use Rattle.ld_batch.specs.Inner.Names.{ArePlaces, IsLonger, with_names};
 
 use crate::guesses::Guesses;
 use ld_class::{ClassName, Classes};
-use ld_numbers::Numbers;
+use ld_tables::Numbers;
 use std::alloc::AllocError;
 
 /// Interns all of `more`, and writes their places among the names over `places`. Each is looked

@@ -10,7 +10,7 @@ use crate::edges::{WitnessedEdge, add_edges};
 use crate::names::add_named;
 use crate::uses::{WitnessedUse, add_uses};
 use ld_class::Classes;
-use ld_numbers::Numbers;
+use ld_tables::Numbers;
 use ld_scan::Scan;
 use std::alloc::{AllocError, Global};
 

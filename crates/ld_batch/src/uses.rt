@@ -4,7 +4,7 @@ ghost use Rattle.ld_class.specs.declared.names.TheConstants.{MOST_NAMES};
 ghost use Rattle.ld_batch.specs.Inner.Rows.{IsOwnUse, use_of};
 
 use ld_facts::{UsageFact, Witness};
-use ld_numbers::Numbers;
+use ld_tables::Numbers;
 use ld_class::Usage;
 
 /// A usage bit of a class, and where it was first seen.

@@ -12,7 +12,7 @@ use Rattle.ld_trace.specs.declared.event.LineFault.{LineFault}
 use Rattle.ld_trace.specs.Lines.{lines, text_of}
 use Rattle.ld_trace.specs.Sources.{Fits, PlainSource}
 use Rattle.ld_trace.specs.Events.{PlainEvent, Position, Said, plain_event, position_of, positions, said_by}
-use Rattle.ld_held.specs.declared.edges.EdgeFact.{EdgeFact}
+use Rattle.ld_tables.specs.declared.edges.EdgeFact.{EdgeFact}
 use Rattle.ld_rules.specs.declared.fault.TraceFault.{TraceFault}
 use Rattle.ld_rules.specs.declared.outcome.Outcome.TheVariants.{Read, Refused}
 use Rattle.ld_scan.specs.declared.scan.Scan.{Scan}
@@ -24,7 +24,7 @@ use Rattle.ld_scan.specs.Named.{named_dependency, named_use}
 use Rattle.ld_facts.specs.Facts.{IsKnown}
 use Rattle.ld_rules.specs.Usage.{Use, bit_of, same_use, uses_at}
 use Rattle.ld_rules.specs.Inner.Scanned.{same_dependency_seen, same_use_seen}
-use Rattle.ld_uses.specs.declared.uses.UsageFact.{UsageFact}
+use Rattle.ld_tables.specs.declared.uses.UsageFact.{UsageFact}
 use Rattle.ld_scan.specs.Inner.Scan.{IsAt, Start, fresh_scan, happens, no_start}
 use Rattle.ld_facts.specs.Inner.Reading.{IsReadTo, positions_from}
 use Rattle.ld_rules.proofs.OutcomeLemmas.{first_fault}

@@ -4,8 +4,8 @@ use Rattle.ld_class.specs.Names.{PlainClass}
 use Rattle.ld_trace.specs.Sources.{Fits, PlainSource}
 use Rattle.ld_rules.specs.declared.outcome.Outcome.{Outcome}
 use Rattle.ld_rules.specs.declared.outcome.TheConstants.{MOST_CLASSES}
-use Rattle.ld_held.specs.declared.edges.EdgeFact.{EdgeFact}
-use Rattle.ld_uses.specs.declared.uses.UsageFact.{UsageFact}
+use Rattle.ld_tables.specs.declared.edges.EdgeFact.{EdgeFact}
+use Rattle.ld_tables.specs.declared.uses.UsageFact.{UsageFact}
 use Rattle.ld_rules.specs.Outcome.{outcome}
 use Rattle.ld_rules.specs.Dependency.{Dependency, least_line, same_dependency}
 use Rattle.ld_rules.specs.Usage.{Use, same_use}

@@ -4,10 +4,9 @@ ghost use Rattle.ld_trace.specs.Sources.{plain};
 ghost use Rattle.ld_facts.specs.Facts.{IsKnown};
 
 use ld_class::Classes;
-use ld_held::EdgeFact;
+use ld_tables::{EdgeFact, UsageFact, Uses};
 use ld_rules::Outcome;
 use ld_trace::Source;
-use ld_uses::{UsageFact, Uses};
 use std::marker::Model;
 
 /// What one trace shows.

@@ -12,7 +12,7 @@ use ld_class::Classes;
 use ld_rules::{Outcome, TraceFault};
 use ld_scan::{Scan, Stop};
 use ld_trace::{Event, LineFault, Source, next_event, next_line, read_event, text};
-use ld_uses::Uses;
+use ld_tables::Uses;
 use std::alloc::{AllocError, Global};
 
 /// The facts of a trace: what became of it and, where it was read to its end, what it shows. A

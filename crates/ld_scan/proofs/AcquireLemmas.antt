@@ -12,20 +12,20 @@ use Rattle.ld_class.proofs.NameLemmas.{same_class-Decides}
 use Rattle.ld_trace.specs.declared.event.State.{State}
 use Rattle.ld_trace.specs.declared.event.State.TheVariants.{Hard, Soft}
 use Rattle.ld_trace.specs.Events.{PlainEvent, PlainLock, Position}
-use Rattle.ld_frames.specs.declared.interrupts.Interrupts.{Interrupts}
+use Rattle.ld_tables.specs.declared.interrupts.Interrupts.{Interrupts}
 use Rattle.ld_rules.specs.declared.outcome.TheConstants.{MOST_CLASSES, MOST_HELD, MOST_TASKS}
-use Rattle.ld_held.specs.declared.edges.EdgeFact.{EdgeFact}
+use Rattle.ld_tables.specs.declared.edges.EdgeFact.{EdgeFact}
 use Rattle.ld_scan.specs.declared.scan.Scan.{Scan}
-use Rattle.ld_uses.specs.declared.uses.UsageFact.{UsageFact}
-use Rattle.ld_held.specs.Inner.Edges.{edge_to, with_edge_fact}
+use Rattle.ld_tables.specs.declared.uses.UsageFact.{UsageFact}
+use Rattle.ld_tables.specs.Inner.Edges.{edge_to, with_edge_fact}
 use Rattle.ld_rules.specs.Flags.{is_enabled}
 use Rattle.ld_rules.specs.Frames.{contexts, frame_of, task_of}
 use Rattle.ld_rules.specs.Held.{Acquisition, class_awaited, held_by, held_in}
 use Rattle.ld_rules.specs.Dependency.{Dependency, Seen, dependencies_at, dependencies_to, seen_at}
 use Rattle.ld_rules.specs.Usage.{Use, uses_in}
-use Rattle.ld_frames.specs.Inner.Interrupts.{enabled_now, fresh, start_now}
+use Rattle.ld_tables.specs.Inner.Interrupts.{enabled_now, fresh, start_now}
 use Rattle.ld_rules.specs.Inner.Levels.{stack, state_of_frame}
-use Rattle.ld_held.specs.Inner.Locks.{Hold}
+use Rattle.ld_tables.specs.Inner.Locks.{Hold}
 use Rattle.ld_rules.specs.Outcome.{classes, events}
 use Rattle.ld_scan.specs.declared.taking.Taking.{Taking}
 use Rattle.ld_scan.specs.Inner.Scan.{AreMany, HasTask, HeldLock, IsAt, IsTask, IsBetween, Start, acquisition, class_taken, classes_after, edges_after, happens}
@@ -33,7 +33,7 @@ use Rattle.ld_scan.specs.Inner.Scan.{lock_held, named_hold, names_at, own_names,
 use Rattle.ld_scan.specs.Named.{named_dependency, named_use}
 use Rattle.ld_rules.specs.Inner.Scanned.{same_dependency_seen, same_use_seen, with_new}
 use Rattle.ld_scan.specs.Named.{IsUse}
-use Rattle.ld_uses.specs.Inner.Uses.{in_facts, on_facts, with_use}
+use Rattle.ld_tables.specs.Inner.Uses.{in_facts, on_facts, with_use}
 use Rattle.ld_rules.proofs.FlagLemmas.{is_enabled-quiet, levels-quiet, stack-quiet}
 use Rattle.ld_rules.proofs.GroupLemmas.{starts-kept}
 use Rattle.ld_rules.proofs.HeldLemmas.{acquisition_at, enters_none, held_by-acquires}

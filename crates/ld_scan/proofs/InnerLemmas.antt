@@ -13,13 +13,13 @@ use Rattle.ld_trace.specs.declared.event.LineFault.{LineFault}
 use Rattle.ld_trace.specs.declared.event.State.{State}
 use Rattle.ld_trace.specs.declared.event.State.TheVariants.{Hard, Soft}
 use Rattle.ld_trace.specs.Events.{PlainEvent, Position}
-use Rattle.ld_frames.specs.declared.interrupts.Interrupts.{Interrupts}
+use Rattle.ld_tables.specs.declared.interrupts.Interrupts.{Interrupts}
 use Rattle.ld_rules.specs.Flags.{flag, is_enabled}
 use Rattle.ld_rules.specs.Frames.{contexts, frame_of}
 use Rattle.ld_rules.specs.Held.{held_by, held_in}
-use Rattle.ld_frames.specs.Inner.Interrupts.{enabled_now, flag_now, start_now, states_of}
+use Rattle.ld_tables.specs.Inner.Interrupts.{enabled_now, flag_now, start_now, states_of}
 use Rattle.ld_rules.specs.Inner.Levels.{starts}
-use Rattle.ld_held.specs.Inner.Locks.{Hold}
+use Rattle.ld_tables.specs.Inner.Locks.{Hold}
 use Rattle.ld_rules.specs.Outcome.{event_said, events, faulty_lines, said_fault}
 use Rattle.ld_scan.specs.Inner.Scan.{HeldLock, IsTask, lock_held, named_hold}
 use Rattle.ld_rules.proofs.FlagLemmas.{contexts-states, flag-levels, no_fault_parts}

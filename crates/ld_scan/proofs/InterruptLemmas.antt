@@ -13,25 +13,25 @@ use Rattle.ld_trace.specs.declared.event.State.TheVariants.{Hard, Soft}
 use Rattle.ld_trace.specs.Events.{PlainEvent, Position}
 use Rattle.ld_trace.specs.Events.PlainEvent.{Enter, Exit, Enable, Disable, Begin}
 use Rattle.ld_rules.specs.declared.fault.TraceFault.TheVariants.{BadEnable, BadExit, BadNest, HeldAtExit, LateBegin, Masked}
-use Rattle.ld_frames.specs.declared.interrupts.Interrupts.{Interrupts}
+use Rattle.ld_tables.specs.declared.interrupts.Interrupts.{Interrupts}
 use Rattle.ld_rules.specs.declared.outcome.TheConstants.{MOST_HELD, MOST_TASKS}
 use Rattle.ld_scan.specs.declared.scan.Scan.{Scan}
-use Rattle.ld_uses.specs.declared.uses.UsageFact.{UsageFact}
+use Rattle.ld_tables.specs.declared.uses.UsageFact.{UsageFact}
 use Rattle.ld_rules.specs.Dependency.{dependencies_at}
 use Rattle.ld_scan.specs.Named.{named_use}
 use Rattle.ld_rules.specs.Flags.{flag_for, is_enabled, same_state}
 use Rattle.ld_rules.specs.Frames.{contexts, frame_of, task_of}
 use Rattle.ld_rules.specs.Held.{class_awaited, held_by, held_in}
-use Rattle.ld_frames.specs.Inner.Interrupts.{IsEntered, IsLeft, IsSet, enabled_now, fresh, levels_of, nests_in, start_now, states_of}
+use Rattle.ld_tables.specs.Inner.Interrupts.{IsEntered, IsLeft, IsSet, enabled_now, fresh, levels_of, nests_in, start_now, states_of}
 use Rattle.ld_rules.specs.Inner.Levels.{stack, state_of_frame}
-use Rattle.ld_held.specs.Inner.Locks.{Hold, ChangesInterrupts, HeldByTasks}
+use Rattle.ld_tables.specs.Inner.Locks.{Hold, ChangesInterrupts, HeldByTasks}
 use Rattle.ld_rules.specs.Open.{is_some_and}
 use Rattle.ld_rules.specs.Outcome.{event_fault, events, is_bad_enable, is_bad_exit, is_badly_nested, is_held_at_exit, is_late_begin, is_masked, is_one_too_many, tasks}
 use Rattle.ld_rules.specs.Held.{class_acquired}
 use Rattle.ld_scan.specs.Inner.Scan.{HasTask, IsAt, IsTask, Start, happens, lock_held, named_hold, uses_after}
 use Rattle.ld_rules.specs.Inner.Scanned.{same_use_seen, with_new}
 use Rattle.ld_scan.specs.Named.{IsUse}
-use Rattle.ld_uses.specs.Inner.Uses.{on_facts, with_use}
+use Rattle.ld_tables.specs.Inner.Uses.{on_facts, with_use}
 use Rattle.ld_rules.proofs.FlagLemmas.{levels-begin, levels-disable, levels-enable, levels-enter, levels-exit_good, stack-quiet, states-enter, states-exit}
 use Rattle.ld_rules.proofs.GroupLemmas.{IsGrouped, start-within, starts-enter, starts-exit, starts-kept}
 use Rattle.ld_rules.proofs.HeldLemmas.{held_by-other}

@@ -11,7 +11,7 @@ use Rattle.ld_scan.specs.declared.scan.Scan.{Scan}
 use Rattle.ld_rules.specs.Frames.{task_of}
 use Rattle.ld_rules.specs.Dependency.{Dependency, dependencies_at}
 use Rattle.ld_scan.specs.Named.{named_dependency, named_use}
-use Rattle.ld_frames.specs.Inner.Interrupts.{fresh}
+use Rattle.ld_tables.specs.Inner.Interrupts.{fresh}
 use Rattle.ld_rules.specs.Outcome.{classes, event_fault, events, is_one_too_many, tasks}
 use Rattle.ld_rules.specs.Held.{class_acquired}
 use Rattle.ld_scan.specs.Inner.Scan.{AreMany, HasTask, IsAt, IsTask, IsBetween, Start, classes_after, edges_after, happens, names_at, own_names, uses_after}

@@ -11,9 +11,9 @@ use Rattle.ld_class.specs.Names.{AreDistinct, IsNameAt, PlainClass, no_class, pl
 use Rattle.ld_class.proofs.AnyNames.{apart-with_one}
 use Rattle.ld_class.proofs.NameLemmas.{same_class-Decides}
 use Rattle.ld_trace.specs.Events.{PlainEvent}
-use Rattle.ld_held.specs.declared.edges.EdgeFact.{EdgeFact}
-use Rattle.ld_held.specs.Inner.Edges.{edge_to, same_pair, with_edge_fact}
-use Rattle.ld_held.specs.Inner.Locks.{Hold}
+use Rattle.ld_tables.specs.declared.edges.EdgeFact.{EdgeFact}
+use Rattle.ld_tables.specs.Inner.Edges.{edge_to, same_pair, with_edge_fact}
+use Rattle.ld_tables.specs.Inner.Locks.{Hold}
 use Rattle.ld_rules.specs.Outcome.{classes, each_once}
 use Rattle.ld_rules.specs.Held.{class_acquired}
 use Rattle.ld_rules.specs.Inner.Scanned.{same_dependency_seen, with_new}

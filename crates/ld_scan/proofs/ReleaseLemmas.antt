@@ -14,7 +14,7 @@ use Rattle.ld_trace.specs.declared.event.State.TheVariants.{Hard, Soft}
 use Rattle.ld_trace.specs.Events.{PlainEvent, PlainLock, Position}
 use Rattle.ld_trace.specs.Events.PlainEvent.{Release}
 use Rattle.ld_rules.specs.declared.fault.TraceFault.TheVariants.{NotHeld}
-use Rattle.ld_frames.specs.declared.interrupts.Interrupts.{Interrupts}
+use Rattle.ld_tables.specs.declared.interrupts.Interrupts.{Interrupts}
 use Rattle.ld_rules.specs.declared.outcome.TheConstants.{MOST_HELD, MOST_TASKS}
 use Rattle.ld_scan.specs.declared.scan.Scan.{Scan}
 use Rattle.ld_rules.specs.Inner.Scanned.{remove_last}
@@ -22,9 +22,9 @@ use Rattle.ld_scan.specs.Named.{named_use}
 use Rattle.ld_rules.specs.Flags.{is_enabled}
 use Rattle.ld_rules.specs.Frames.{contexts, frame_of, task_of}
 use Rattle.ld_rules.specs.Held.{Acquisition, Key, class_awaited, same_frame, same_lock, held, held_by, held_in}
-use Rattle.ld_frames.specs.Inner.Interrupts.{fresh, start_now}
+use Rattle.ld_tables.specs.Inner.Interrupts.{fresh, start_now}
 use Rattle.ld_rules.specs.Inner.Levels.{stack, starts, state_of_frame}
-use Rattle.ld_held.specs.Inner.Locks.{Hold, is_of}
+use Rattle.ld_tables.specs.Inner.Locks.{Hold, is_of}
 use Rattle.ld_rules.specs.Outcome.{event_fault, events, is_not_held, is_one_too_many, tasks}
 use Rattle.ld_scan.specs.Inner.Scan.{HasTask, HeldLock, IsAt, IsTask, Start, happens, lock_held, named_hold, uses_after}
 use Rattle.ld_scan.specs.Named.{IsUse}

@@ -20,13 +20,13 @@ use Rattle.ld_trace.specs.declared.event.State.TheVariants.{Hard, Soft}
 use Rattle.ld_rules.specs.declared.fault.TraceFault.TheVariants.{TooManyTasks}
 use Rattle.ld_rules.specs.declared.outcome.TheConstants.{MOST_TASKS}
 use Rattle.ld_scan.specs.declared.scan.Scan.{Scan}
-use Rattle.ld_frames.specs.declared.interrupts.Interrupts.{Interrupts}
+use Rattle.ld_tables.specs.declared.interrupts.Interrupts.{Interrupts}
 use Rattle.ld_rules.specs.Flags.{last_said}
 use Rattle.ld_rules.specs.Frames.{task_of}
 use Rattle.ld_rules.specs.Held.{held_by}
-use Rattle.ld_frames.specs.Inner.Interrupts.{fresh, levels_of, starts_of, states_of}
+use Rattle.ld_tables.specs.Inner.Interrupts.{fresh, levels_of, starts_of, states_of}
 use Rattle.ld_rules.specs.Inner.Levels.{levels, stack, starts_in, state_of_frame}
-use Rattle.ld_held.specs.Inner.Locks.{Hold}
+use Rattle.ld_tables.specs.Inner.Locks.{Hold}
 use Rattle.ld_rules.specs.Outcome.{is_one_too_many, event_fault, events, tasks}
 use Rattle.ld_scan.specs.declared.taking.Taking.{Taking}
 use Rattle.ld_scan.specs.declared.taking.Taking.TheVariants.{Nesting, Trying, Waiting}

@@ -10,17 +10,17 @@ use Rattle.std.proofs.lemmas.Simd.{map-map}
 use Rattle.ld_class.specs.Names.{AreDistinct, IsNameAt, PlainClass, no_class, with_name}
 use Rattle.ld_trace.specs.declared.event.State.{State}
 use Rattle.ld_trace.specs.declared.event.State.TheVariants.{Hard, Soft}
-use Rattle.ld_uses.specs.declared.uses.UsageFact.{UsageFact}
-use Rattle.ld_frames.specs.declared.interrupts.Interrupts.{Interrupts}
+use Rattle.ld_tables.specs.declared.uses.UsageFact.{UsageFact}
+use Rattle.ld_tables.specs.declared.interrupts.Interrupts.{Interrupts}
 use Rattle.ld_rules.specs.Dependency.{Seen}
 use Rattle.ld_scan.specs.Named.{named_use}
 use Rattle.ld_rules.specs.Held.{Acquisition}
-use Rattle.ld_frames.specs.Inner.Interrupts.{enabled_now, states_of}
+use Rattle.ld_tables.specs.Inner.Interrupts.{enabled_now, states_of}
 use Rattle.ld_rules.specs.Usage.{Bit, Use, bit_of, usage_of, uses_in}
 use Rattle.ld_rules.specs.Usage.Bit.{In, On}
 use Rattle.ld_rules.specs.Inner.Scanned.{same_use_seen, with_new}
 use Rattle.ld_scan.specs.Named.{IsUse}
-use Rattle.ld_uses.specs.Inner.Uses.{fact, in_facts, on_facts, same_fact, with_use}
+use Rattle.ld_tables.specs.Inner.Uses.{fact, in_facts, on_facts, same_fact, with_use}
 use Rattle.ld_scan.proofs.NamedLemmas.{name-more, number-more}
 use Rattle.ld_rules.proofs.UsageLemmas.{Decides-same_use, at_line, bit_of-usage, on_use}
 

@@ -1,8 +1,8 @@
 -- Dependencies and usage bits by the names of their classes.
 use Rattle.std.specs.Prelude.{◌<◌, List, length, slice_index_or}
 use Rattle.ld_class.specs.Names.{PlainClass, no_class}
-use Rattle.ld_held.specs.declared.edges.EdgeFact.{EdgeFact}
-use Rattle.ld_uses.specs.declared.uses.UsageFact.{UsageFact}
+use Rattle.ld_tables.specs.declared.edges.EdgeFact.{EdgeFact}
+use Rattle.ld_tables.specs.declared.uses.UsageFact.{UsageFact}
 use Rattle.ld_rules.specs.Dependency.{Dependency, Seen}
 use Rattle.ld_rules.specs.Usage.{IsBit, Use, bit_of}
 

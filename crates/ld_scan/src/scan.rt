@@ -5,23 +5,20 @@ ghost use Rattle.ld_class.specs.Names.{place_of, place_of_task, plain_class, wit
 ghost use Rattle.ld_class.specs.declared.names.TheConstants.{MOST_NAMES};
 ghost use Rattle.ld_trace.specs.Events.{Position, plain_event, plain_lock};
 ghost use Rattle.ld_trace.specs.Events.PlainEvent.{Begin, Disable, Enable, Enter, Exit, Release};
-ghost use Rattle.ld_frames.specs.Inner.Interrupts.{fresh};
+ghost use Rattle.ld_tables.specs.Inner.Interrupts.{fresh};
 ghost use Rattle.ld_rules.specs.Outcome.{event_fault, events};
 ghost use Rattle.ld_scan.specs.Inner.Scan.{AreMany, HasTask, IsAt, Start, acquisition, happens};
 ghost use Rattle.ld_scan.specs.Inner.Scan.{StandsOn, fresh_scan, own_names, taken, waited};
-ghost use Rattle.ld_uses.specs.Inner.Uses.{on_facts, with_use};
+ghost use Rattle.ld_tables.specs.Inner.Uses.{on_facts, with_use};
 ghost use Rattle.ld_rules.specs.declared.fault.TraceFault.{TraceFault};
 ghost use Rattle.ld_rules.specs.declared.outcome.TheConstants.{MOST_CLASSES, MOST_HELD, MOST_TASKS};
 
 use crate::stop::Stop;
 use crate::taking::Taking;
 use ld_class::{ClassName, Classes, RecentNames};
-use ld_frames::Flag;
-use ld_held::Locks;
-use ld_numbers::Marked;
+use ld_tables::{Flag, Locks, Marked, Uses};
 use ld_rules::{MOST_CLASSES, MOST_HELD, MOST_TASKS, TraceFault};
 use ld_trace::{Event, Lock, State};
-use ld_uses::Uses;
 use std::alloc::{AllocError, Global};
 
 /// How much there was before the trace.

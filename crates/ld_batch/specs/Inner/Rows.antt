@@ -2,8 +2,8 @@
 use Rattle.std.specs.Prelude.{◌≡◌, ◌≢◌, ℕ, List, Option, None, Some, AllPairs, map, nat_eq}
 use Rattle.std.specs.Prelude.{option_map, true}
 use Rattle.std.specs.List.{list_any, position_or_len}
-use Rattle.ld_held.specs.declared.edges.EdgeFact.{EdgeFact}
-use Rattle.ld_uses.specs.declared.uses.UsageFact.{UsageFact}
+use Rattle.ld_tables.specs.declared.edges.EdgeFact.{EdgeFact}
+use Rattle.ld_tables.specs.declared.uses.UsageFact.{UsageFact}
 use Rattle.ld_rules.specs.declared.outcome.Witness.{Witness}
 use Rattle.ld_rules.specs.Dependency.{Seen}
 use Rattle.ld_rules.specs.Union.{earlier}

@@ -8,20 +8,20 @@ use Rattle.ld_class.specs.declared.names.TheConstants.{MOST_NAMES}
 use Rattle.ld_trace.specs.declared.event.State.{State}
 use Rattle.ld_trace.specs.Events.{PlainEvent, PlainLock, Position}
 use Rattle.ld_trace.specs.Events.PlainEvent.{Acquire, Try, Nested}
-use Rattle.ld_held.specs.declared.edges.EdgeFact.{EdgeFact}
+use Rattle.ld_tables.specs.declared.edges.EdgeFact.{EdgeFact}
 use Rattle.ld_rules.specs.declared.outcome.TheConstants.{MOST_CLASSES, MOST_HELD, MOST_TASKS}
-use Rattle.ld_frames.specs.declared.interrupts.Interrupts.{Interrupts}
+use Rattle.ld_tables.specs.declared.interrupts.Interrupts.{Interrupts}
 use Rattle.ld_scan.specs.declared.scan.Scan.{Scan}
 use Rattle.ld_scan.specs.declared.taking.Taking.{Taking}
 use Rattle.ld_scan.specs.declared.taking.Taking.TheVariants.{Nesting, Trying, Waiting}
-use Rattle.ld_held.specs.Inner.Edges.{edge_to, with_edge_fact}
-use Rattle.ld_frames.specs.Inner.Interrupts.{fresh, levels_of, start_now, starts_of, states_of}
+use Rattle.ld_tables.specs.Inner.Edges.{edge_to, with_edge_fact}
+use Rattle.ld_tables.specs.Inner.Interrupts.{fresh, levels_of, start_now, starts_of, states_of}
 use Rattle.ld_rules.specs.Inner.Levels.{levels, starts, states}
 use Rattle.ld_scan.specs.Named.{IsUse, named_dependency, named_use}
-use Rattle.ld_uses.specs.Inner.Uses.{in_facts, on_facts, with_use}
+use Rattle.ld_tables.specs.Inner.Uses.{in_facts, on_facts, with_use}
 use Rattle.ld_rules.specs.Usage.{uses_at}
 use Rattle.ld_rules.specs.Held.{Acquisition, class_with, held_by, may_wait, sub_taken}
-use Rattle.ld_held.specs.Inner.Locks.{Hold}
+use Rattle.ld_tables.specs.Inner.Locks.{Hold}
 use Rattle.ld_rules.specs.Outcome.{classes, events, faulty_lines, tasks}
 use Rattle.ld_rules.specs.Dependency.{Dependency, Seen, dependencies_at, seen}
 use Rattle.ld_rules.specs.Usage.{Use}

@@ -7,12 +7,12 @@ use Rattle.std.proofs.Common.{◌<◌, ◌≤◌, None, List, ℕ, length, get_o
 use Rattle.std.proofs.lemmas.List.{length-map}
 use Rattle.ld_class.specs.Names.{place_of, plain_class}
 use Rattle.ld_rules.specs.declared.fault.TraceFault.TheVariants.{TooDeep}
-use Rattle.ld_held.specs.declared.held.Held.{Held}
+use Rattle.ld_tables.specs.declared.held.Held.{Held}
 use Rattle.ld_rules.specs.declared.outcome.TheConstants.{MOST_CLASSES, MOST_HELD}
 use Rattle.ld_scan.specs.declared.scan.Scan.{Scan}
-use Rattle.ld_held.specs.Inner.Locks.{hold_of}
+use Rattle.ld_tables.specs.Inner.Locks.{hold_of}
 use Rattle.ld_scan.specs.Inner.Scan.{IsAt, acquisition, class_taken, happens, names_at, own_names, taken}
-use Rattle.ld_held.specs.Inner.Stacks.{plain_held}
+use Rattle.ld_tables.specs.Inner.Stacks.{plain_held}
 use Rattle.ld_scan.proofs.AcquireFaults.{fault-classes, fault-deep}
 use Rattle.ld_scan.proofs.AcquireLemmas.{Entered, acquired-at, entered, length-held, tried-at}
 use Rattle.ld_scan.proofs.scan.Scan.acquire.Goals.{then-waits+in_ok-wait, else-waits}

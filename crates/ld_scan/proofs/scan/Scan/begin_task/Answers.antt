@@ -4,7 +4,7 @@ use Rattle.ld_trace.specs.declared.event.State.TheVariants.{Hard, Soft}
 use Rattle.ld_trace.specs.Events.PlainEvent.{Begin}
 use Rattle.ld_rules.specs.declared.fault.TraceFault.TheVariants.{LateBegin}
 use Rattle.ld_scan.specs.declared.stop.Stop.TheVariants.{Fault}
-use Rattle.ld_frames.specs.Inner.Interrupts.{IsSet, fresh}
+use Rattle.ld_tables.specs.Inner.Interrupts.{IsSet, fresh}
 use Rattle.ld_scan.specs.Inner.Scan.{HasTask, IsAt}
 use Rattle.ld_scan.proofs.InterruptLemmas.{begun_late, begun_task-at}
 use Rattle.ld_scan.proofs.TaskLemmas.{scan_too_many_tasks}

@@ -1,11 +1,11 @@
 use Rattle.std.proofs.Common.{◌≡◌, List, [], fold, get_or, map, ap, sym, ◌∙◌}
 use Rattle.std.proofs.lemmas.Result.{on_ok_weaker}
 use Rattle.std.proofs.lemmas.Simd.{map-map}
-use Rattle.ld_held.specs.declared.held.Held.{Held}
-use Rattle.ld_uses.specs.declared.uses.UsageFact.{UsageFact}
-use Rattle.ld_held.specs.Inner.Locks.{Hold, hold_of}
-use Rattle.ld_held.specs.Inner.Stacks.{plain_held}
-use Rattle.ld_uses.specs.Inner.Uses.{on_facts, with_use}
+use Rattle.ld_tables.specs.declared.held.Held.{Held}
+use Rattle.ld_tables.specs.declared.uses.UsageFact.{UsageFact}
+use Rattle.ld_tables.specs.Inner.Locks.{Hold, hold_of}
+use Rattle.ld_tables.specs.Inner.Stacks.{plain_held}
+use Rattle.ld_tables.specs.Inner.Uses.{on_facts, with_use}
 use Rattle.ld_scan.proofs.scan.Scan.count_held.Goals as goal
 
 pub returns-clause-counted : goal.returns-clause-counted

@@ -7,7 +7,7 @@ use Rattle.std.proofs.Common.{true, false, get_or, subst, ◌++◌, ◌∷◌, [
 use Rattle.std.specs.List.{list_any}
 use Rattle.ld_rules.specs.declared.fault.TraceFault.TheVariants.{BadEnable}
 use Rattle.ld_rules.specs.Flags.{same_state}
-use Rattle.ld_frames.specs.Inner.Interrupts.{fresh, states_of}
+use Rattle.ld_tables.specs.Inner.Interrupts.{fresh, states_of}
 use Rattle.ld_scan.specs.Inner.Scan.{IsAt, happens}
 use Rattle.ld_scan.proofs.InterruptLemmas.{enable-bad, enabled-at}
 use Rattle.ld_scan.proofs.scan.Scan.enable.Goals as goal

@@ -3,7 +3,7 @@ use Rattle.std.proofs.lemmas.Result.{err_from_is_err_and}
 use Rattle.ld_trace.specs.Events.PlainEvent.{Enter}
 use Rattle.ld_rules.specs.declared.fault.TraceFault.TheVariants.{BadNest, Masked}
 use Rattle.ld_scan.specs.declared.stop.Stop.TheVariants.{Fault}
-use Rattle.ld_frames.specs.Inner.Interrupts.{enabled_now, fresh, nests_in, states_of}
+use Rattle.ld_tables.specs.Inner.Interrupts.{enabled_now, fresh, nests_in, states_of}
 use Rattle.ld_scan.proofs.InterruptLemmas.{enter-masked, enter-nested, entered-at}
 use Rattle.ld_scan.proofs.TaskLemmas.{scan_too_many_tasks}
 use Rattle.ld_scan.proofs.scan.Scan.enter.Goals as goal

@@ -7,13 +7,13 @@ use Rattle.std.proofs.Common.{◌≢◌, true, false, get_or, length, subst, ◌
 use Rattle.std.proofs.lemmas.List.{length-map}
 use Rattle.std.specs.Prelude.{slice_get}
 use Rattle.ld_rules.specs.declared.fault.TraceFault.TheVariants.{BadExit, HeldAtExit}
-use Rattle.ld_held.specs.declared.held.Held.{Held}
+use Rattle.ld_tables.specs.declared.held.Held.{Held}
 use Rattle.ld_rules.specs.Flags.{same_state}
-use Rattle.ld_frames.specs.Inner.Interrupts.{fresh, start_now, states_of}
-use Rattle.ld_held.specs.Inner.Locks.{hold_of}
+use Rattle.ld_tables.specs.Inner.Interrupts.{fresh, start_now, states_of}
+use Rattle.ld_tables.specs.Inner.Locks.{hold_of}
 use Rattle.ld_rules.specs.Open.{is_some_and}
 use Rattle.ld_scan.specs.Inner.Scan.{IsAt, happens}
-use Rattle.ld_held.specs.Inner.Stacks.{plain_held}
+use Rattle.ld_tables.specs.Inner.Stacks.{plain_held}
 use Rattle.ld_scan.proofs.InterruptLemmas.{exit-bad, exit-held, exited-at}
 use Rattle.ld_scan.proofs.scan.Scan.exit.Goals as goal
 

@@ -4,7 +4,7 @@ use Rattle.ld_trace.specs.Events.{plain_lock}
 use Rattle.ld_trace.specs.Events.PlainEvent.{Release}
 use Rattle.ld_rules.specs.declared.fault.TraceFault.TheVariants.{NotHeld}
 use Rattle.ld_scan.specs.declared.stop.Stop.TheVariants.{Fault}
-use Rattle.ld_held.specs.Inner.Locks.{HeldByTasks}
+use Rattle.ld_tables.specs.Inner.Locks.{HeldByTasks}
 use Rattle.ld_scan.specs.Inner.Scan.{IsAt, happens}
 use Rattle.ld_scan.proofs.TaskLemmas.{scan_too_many_tasks}
 use Rattle.ld_scan.proofs.ReleaseLemmas.{release-not_held, release-at}

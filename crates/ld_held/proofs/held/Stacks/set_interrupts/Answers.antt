@@ -1,9 +1,0 @@
-use Rattle.std.proofs.Common.{refl}
-use Rattle.ld_held.specs.Inner.Stacks.{PlainStack}
-use Rattle.ld_held.proofs.StackLemmas.{put}
-use Rattle.ld_held.proofs.held.Stacks.set_interrupts.Goals as goal
-
-pub returns : goal.returns
-returns c =
-    put c.args.self.now c.self.inside.stacks.items c.self.inside.live c.self.invariant c.self.view_is c.args.task c.requires c.index_mut.result.now c.index_mut.ensures.value _
-    (λ (s : PlainStack). record s { interrupts = c.args.interrupts }) refl

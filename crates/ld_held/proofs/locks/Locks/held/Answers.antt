@@ -1,5 +1,0 @@
-use Rattle.ld_held.proofs.LockLemmas.{held_shown}
-use Rattle.ld_held.proofs.locks.Locks.held.Goals as goal
-
-pub returns : goal.returns
-returns c = held_shown c.self.inside.stacks c.self.inside.edges.edges c.args.self.now c.args.task c.self.view_is c.held.result.now c.held.ensures.held

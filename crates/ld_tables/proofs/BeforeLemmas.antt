@@ -1,0 +1,92 @@
+-- What was there when a trace began, as its events add to it.
+use Rattle.std.proofs.Common.{◌≡◌, ◌∷◌, [], ◌++◌, List, ℕ, Result, Ok, Err, OnOk, OnErr, length, take, ap, sym, subst, ◌∙◌, arith}
+use Rattle.std.proofs.lemmas.List.{length-take, length-take-le, length_push, take-append-le, take-take, take_all}
+use Rattle.std.proofs.lemmas.List.Elements.{All-weaker}
+use Rattle.std.specs.List.{All}
+use Rattle.ld_tables.specs.declared.edges.EdgeFact.{EdgeFact}
+use Rattle.ld_tables.specs.declared.locks.Before.{Before}
+use Rattle.ld_tables.specs.Inner.Chains.{KeptChains, chains_of}
+use Rattle.ld_tables.specs.Inner.Edges.{KeptEdges}
+use Rattle.ld_tables.specs.Inner.Stacks.{PlainStack}
+use Rattle.ld_tables.specs.Inner.Locks.{AreTied, HasItsEdges, HasItsNumbers, IsAtStart, IsExtended, IsKept, held_by_tasks}
+use Rattle.ld_tables.proofs.LockLemmas.{HasItsEdges-kept}
+
+module _ (before : Before) (chains : List (List ℕ)) (told : List ℕ) (edges : List EdgeFact) (is : IsAtStart before chains told edges) where
+  -- more dependencies, behind those that are there
+  pub before_same : (new : List EdgeFact) → take (length edges) new ≡ edges → take before.edges new ≡ take before.edges edges
+  before_same new first = sym (take-take before.edges (length edges) new is.edges_within) ∙ ap (take before.edges) first
+
+  pub before_more : (new : List EdgeFact) → take (length edges) new ≡ edges → IsAtStart before chains told new
+  before_more new first = record {
+    edges_within = let within = is.edges_within in omega (arith, length-take (length edges) new, ap length first);
+    told_within = is.told_within;
+    complete = subst (λ es. All (λ number. HasItsEdges chains es number) (take before.told told)) (sym (before_same new first)) is.complete;
+  }
+
+  -- more chains
+  pub before_extended : (more : List (List ℕ)) → IsExtended chains more → IsAtStart before more told edges
+  before_extended more extended = record {
+    edges_within = is.edges_within;
+    told_within = is.told_within;
+    complete = All-weaker (λ number. HasItsEdges chains (take before.edges edges) number) (λ number. HasItsEdges more (take before.edges edges) number)
+        (λ number has. HasItsEdges-kept chains more (take before.edges edges) number extended has) (take before.told told) is.complete;
+  }
+
+  -- one more that was told
+  pub before_told : {E : Type 0} (r : Result (Unit {0}) E) (number : ℕ) (numbers : List ℕ) → OnOk r (numbers ≡ told ++ number ∷ []) → OnErr r
+      (numbers ≡ told) → IsAtStart before chains numbers edges
+  before_told r number numbers = by r
+    where
+      by : {E : Type 0} (r : Result (Unit {0}) E) → OnOk r (numbers ≡ told ++ number ∷ []) → OnErr r (numbers ≡ told) → IsAtStart before chains numbers edges
+      by (Ok u) noted _ = subst (λ ns. IsAtStart before chains ns edges) (sym noted) (record {
+        edges_within = is.edges_within;
+        told_within = let within = is.told_within in omega (arith, length_push told number);
+        complete = subst (λ ns. All (λ n. HasItsEdges chains (take before.edges edges) n) ns) (sym (take-append-le before.told told (number ∷ []) is.told_within)) is.complete;
+      })
+      by (Err e) _ refused = subst (λ ns. IsAtStart before chains ns edges) (sym refused) is
+
+  -- what came since is taken back
+  pub before_again : IsAtStart before chains (take before.told told) (take before.edges edges)
+  before_again = record {
+    edges_within = omega (arith, length-take-le before.edges edges is.edges_within);
+    told_within = omega (arith, length-take-le before.told told is.told_within);
+    complete =
+        (subst (λ es. All (λ number. HasItsEdges chains es number) (take before.told (take before.told told))) (sym (take-take before.edges before.edges edges (omega arith)))
+        (subst (λ ls. All (λ number. HasItsEdges chains (take before.edges edges) number) ls) (sym (take-take before.told before.told told (omega arith))) is.complete));
+  }
+
+-- no task
+pub tied_none : (chains : List (List ℕ)) (told : List ℕ) (edges : List EdgeFact) → All (λ number. HasItsEdges chains edges number) told → AreTied [] chains told edges
+tied_none chains told edges complete = record {
+  chained = λ task i d below within. absurd (omega arith);
+  complete = complete;
+}
+
+pub undone : (before : Before) (chains : KeptChains) (told : List ℕ) (edges : KeptEdges) → IsAtStart before (chains_of chains.links) told edges.edges →
+    HasItsNumbers (chains_of chains.links) chains.numbers edges.pairs → (stacks : List PlainStack) (numbers : List ℕ) (facts : KeptEdges) → stacks ≡ [] →
+    numbers ≡ take before.told told → facts ≡ record edges { edges = take before.edges edges.edges } → IsKept stacks chains numbers facts before
+undone before chains told edges is numbered stacks numbers facts none numbers_are facts_are =
+    subst (λ ss. IsKept ss chains numbers facts before) (sym none)
+    (subst (λ es. IsKept [] chains numbers es before) (sym facts_are)
+    (subst (λ ns. IsKept [] chains ns (record edges { edges = take before.edges edges.edges }) before) (sym numbers_are)
+    (record {
+      tied = tied_none (chains_of chains.links) (take before.told told) (take before.edges edges.edges) is.complete;
+      start = before_again before (chains_of chains.links) told edges.edges is;
+      numbered = numbered;
+    })))
+
+-- a trace begins here
+pub before_now : (chains : List (List ℕ)) (told : List ℕ) (edges : List EdgeFact) → All (λ number. HasItsEdges chains edges number) told → (before : Before) →
+    before.edges ≡ length edges → before.told ≡ length told → IsAtStart before chains told edges
+before_now chains told edges complete before all_edges all_told = record {
+  edges_within = omega arith;
+  told_within = omega arith;
+  complete =
+      subst (λ es. All (λ number. HasItsEdges chains es number) (take before.told told)) (sym (take_all before.edges edges (omega arith)))
+      (subst (λ ls. All (λ number. HasItsEdges chains edges number) ls) (sym (take_all before.told told (omega arith))) complete);
+}
+
+-- no task, as callers see it
+pub none_shown : (stacks : List PlainStack) (edges before seen seen_before : List EdgeFact) → stacks ≡ [] → edges ≡ seen → before ≡ seen_before → held_by_tasks
+    stacks edges before ≡ record { stacks = []; interrupts = []; edges = seen; before = seen_before }
+none_shown stacks edges before seen seen_before none same begins = (λ i. held_by_tasks (none i) (same i) (begins i))

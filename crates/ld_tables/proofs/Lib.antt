@@ -1,0 +1,10 @@
+pub mod MarkLemmas
+pub mod NumberLemmas
+pub mod StackLemmas
+pub mod ChainLemmas
+pub mod EdgeLemmas
+pub mod LockLemmas
+pub mod FirstLemmas
+pub mod BeforeLemmas
+pub mod NumberedLemmas
+pub mod UseLemmas

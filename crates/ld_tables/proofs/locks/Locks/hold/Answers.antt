@@ -1,0 +1,46 @@
+use Rattle.std.proofs.Common.{◌∷◌, [], ◌++◌, List, get_or, sym, ap, subst, ◌∙◌, take}
+use Rattle.std.proofs.lemmas.List.{map-append}
+use Rattle.ld_tables.specs.Inner.Stacks.{PlainHeld, empty_stack}
+use Rattle.ld_trace.specs.Events.{plain_lock}
+use Rattle.ld_tables.specs.Inner.Chains.{chains_of}
+use Rattle.ld_tables.specs.Inner.Locks.{AreTied, Hold, hold_of, held_by_tasks}
+use Rattle.ld_tables.proofs.BeforeLemmas.{before_extended}
+use Rattle.ld_tables.proofs.LockLemmas.{classes_shown, holds_at, numbered, numbered_as, start_within, tied_push, shown_held, within_shown}
+use Rattle.ld_tables.proofs.locks.Locks.hold.Goals as goal
+
+pub innermost-stack-requires-clause-start : goal.innermost-stack-requires-clause-start
+innermost-stack-requires-clause-start c = start_within c.self.inside.stacks (chains_of c.self.inside.chains.links) c.self.inside.told c.self.inside.edges.edges c.self.invariant.tied c.args.task
+
+pub linked-requires-clause-before : goal.linked-requires-clause-before
+linked-requires-clause-before c =
+    (numbered_as (chains_of c.self.inside.chains.links) (get_or c.self.inside.stacks c.args.task empty_stack) c.innermost-stack.result.now c.innermost-stack.ensures.held
+    (numbered c.self.inside.stacks (chains_of c.self.inside.chains.links) c.self.inside.told c.self.inside.edges.edges c.self.invariant.tied c.args.task)).0
+
+pub linked-requires-clause-classes : goal.linked-requires-clause-classes
+linked-requires-clause-classes c =
+    (numbered_as (chains_of c.self.inside.chains.links) (get_or c.self.inside.stacks c.args.task empty_stack) c.innermost-stack.result.now c.innermost-stack.ensures.held
+    (numbered c.self.inside.stacks (chains_of c.self.inside.chains.links) c.self.inside.told c.self.inside.edges.edges c.self.invariant.tied c.args.task)).1
+
+pub invariant_of-self-2 : goal.invariant_of-self-2
+invariant_of-self-2 c = record {
+  tied =
+      let held : PlainHeld = record { lock = plain_lock c.args.lock; class = c.args.class; chain = c.in_ok-chain.chain } in
+      subst (λ ss. AreTied ss (chains_of c.linked.new.chains.links) c.self.inside.told c.self.inside.edges.edges) (sym c.push.ensures)
+      (tied_push c.self.inside.stacks (chains_of c.self.inside.chains.links) c.self.inside.told c.self.inside.edges.edges c.self.invariant.tied c.args.task held
+      (within_shown c.self.inside.stacks c.self.inside.edges.edges c.args.self.now c.args.task c.self.view_is c.requires.task) (chains_of c.linked.new.chains.links)
+      c.linked.ensures.more c.in_ok-chain.ensures.within
+      (c.in_ok-chain.ensures.chain ∙ ap (λ cs. cs ++ c.args.class ∷ [])
+      (classes_shown (get_or c.self.inside.stacks c.args.task empty_stack) c.innermost-stack.result.now c.innermost-stack.ensures.held)));
+  start = before_extended c.self.inside.before (chains_of c.self.inside.chains.links) c.self.inside.told c.self.inside.edges.edges c.self.invariant.start
+      (chains_of c.linked.new.chains.links) c.linked.ensures.more;
+  numbered = c.linked.ensures.numbered c.self.inside.edges.pairs c.self.invariant.numbered;
+}
+
+pub returns-clause-held : goal.returns-clause-held
+returns-clause-held c =
+    let held : PlainHeld = record { lock = plain_lock c.args.lock; class = c.args.class; chain = c.in_ok-chain.chain } in
+    let before = (get_or c.self.inside.stacks c.args.task empty_stack).held in
+    ap (λ ss. held_by_tasks ss c.self.inside.edges.edges (take c.self.inside.before.edges c.self.inside.edges.edges)) c.push.ensures
+    ∙ shown_held c.self.inside.stacks c.self.inside.edges.edges c.args.self.now c.args.task c.self.view_is (before ++ held ∷ []) (get_or c.args.self.now.stacks c.args.task [] ++ hold_of held ∷ [])
+    (map-append hold_of before (held ∷ []) ∙ ap (λ (hs : List Hold). hs ++ hold_of held ∷ [])
+    (sym (holds_at c.self.inside.stacks c.args.task) ∙ ap (λ k. get_or k.stacks c.args.task []) c.self.view_is))

@@ -1,0 +1,49 @@
+-- Chains of classes as the nodes of a tree. No public contract cites this file.
+use Rattle.std.specs.Prelude.{◌≡◌, ◌<◌, ◌≤◌, ◌-◌, ◌^◌, ℕ, Bool, ◌&&◌, ◌==◌, nat_eq, List, [], ◌∷◌, ◌++◌, All, Option}
+use Rattle.std.specs.Prelude.{Some, None, drop, fold, if◌then◌else◌, length, slice_index_or, take, IfSome}
+use Rattle.std.specs.Option.{option_eq}
+use Rattle.ld_tables.specs.declared.chains.Link.{Link}
+use Rattle.ld_tables.specs.declared.chains.Run.{Run}
+
+-- the chain of this number, or the empty one
+abbrev pub chain_before : List (List ℕ) → Option ℕ → List ℕ
+chain_before chains None = []
+chain_before chains (Some number) = slice_index_or chains number []
+
+-- the chains by their numbers: each is a chain before it with one more class
+abbrev pub chains_of : List Link → List (List ℕ)
+chains_of links =
+    fold (λ chains link. chains ++ (chain_before chains link.before ++ link.class ∷ []) ∷ []) []
+    links
+
+-- each chain stands after the one before it
+abbrev pub IsTree : List Link → Type 0
+IsTree links =
+    (n : ℕ) (link : Link) → n < length links
+    → IfSome (slice_index_or links n link).before (λ m. m < n)
+
+abbrev pub same_link : Link → Link → Bool
+same_link a b = option_eq nat_eq a.before b.before && a.class == b.class
+
+-- the chains, and of each, where they are kept, the numbers of the pairs from each class before its
+-- last one to that
+pub record KeptChains : Type 0 where
+  pub links : List Link
+  pub numbers : List (Option (List ℕ))
+
+-- the numbers from a run's start to its end, where there are some
+abbrev pub numbers_in : List ℕ → Run → Option (List ℕ)
+numbers_in numbers run =
+    if run.start == run.end then None else Some (take (run.end - run.start) (drop run.start numbers))
+
+-- a run lies among the numbers
+pub record IsRun (numbers : List ℕ) (run : Run) : Type 0 where
+  pub order : run.start ≤ run.end
+  pub within : run.end ≤ length numbers
+
+-- each chain stands after the one before it, and has its run among the numbers
+pub record AreKept (links : List Link) (numbers : List ℕ) (runs : List Run) : Type 0 where
+  pub tree : IsTree links
+  pub many : length runs ≡ length links
+  pub few : length links ≤ 2 ^ 32
+  pub within : All (IsRun numbers) runs

@@ -1,0 +1,138 @@
+-- What tasks hold and which dependencies were told, and what ties the cache of chains to them.
+-- The calls of ld_held cite this, and nothing that a caller of ld_batch sees.
+use Rattle.std.specs.Prelude.{◌≡◌, ◌<◌, ◌≤◌, ◌+◌, ℕ, Bool, true, List, [], ◌∷◌, ◌++◌, map, length, take}
+use Rattle.std.specs.Prelude.{drop, slice_index_or, Option, None, IfSome}
+use Rattle.std.specs.List.{last_or, list_all, list_any, All}
+use Rattle.ld_trace.specs.Events.{PlainLock}
+use Rattle.ld_tables.specs.declared.edges.EdgeFact.{EdgeFact}
+use Rattle.ld_tables.specs.declared.edges.Pair.{Pair}
+use Rattle.ld_tables.specs.Inner.Chains.{KeptChains, chains_of}
+use Rattle.ld_tables.specs.Inner.Edges.{AreNumbers, KeptEdges, edge_to, same_pair}
+use Rattle.ld_rules.specs.Held.{same_lock}
+use Rattle.ld_tables.specs.Inner.Interrupts.{fresh, start_now, starts_of}
+use Rattle.ld_tables.specs.Inner.Stacks.{PlainHeld, PlainStack, empty_stack, plain_held}
+use Rattle.ld_tables.specs.declared.held.Held.{Held}
+use Rattle.ld_tables.specs.declared.locks.Before.{Before}
+use Rattle.ld_tables.specs.declared.interrupts.Interrupts.{Interrupts}
+
+-- a lock that a task holds, and the number of its class
+pub record Hold : Type 0 where
+  pub lock : PlainLock
+  pub class : ℕ
+
+abbrev pub hold_of : PlainHeld → Hold
+hold_of held = record { lock = held.lock; class = held.class }
+
+-- by the numbers of the tasks, what each holds in all its frames, in order of acquisition, and its
+-- frames and flags; and the dependencies so far, and those that there were when the trace began
+pub record HeldByTasks : Type 0 where
+  pub stacks : List (List Hold)
+  pub interrupts : List Interrupts
+  pub edges : List EdgeFact
+  pub before : List EdgeFact
+
+abbrev pub held_by_tasks : List PlainStack → List EdgeFact → List EdgeFact → HeldByTasks
+held_by_tasks stacks edges before = record {
+  stacks = map (λ stack. map hold_of stack.held) stacks;
+  interrupts = map (λ stack. stack.interrupts) stacks;
+  edges = edges;
+  before = before;
+}
+
+-- what the task holds in its innermost frame, and what it holds in the frames around it
+abbrev pub inner_of : HeldByTasks → ℕ → List Hold
+inner_of known task =
+    drop (start_now (slice_index_or known.interrupts task fresh))
+    (slice_index_or known.stacks task [])
+
+abbrev pub outer_of : HeldByTasks → ℕ → List Hold
+outer_of known task =
+    take (start_now (slice_index_or known.interrupts task fresh))
+    (slice_index_or known.stacks task [])
+
+-- nothing but the frames and flags of this task changed
+pub record ChangesInterrupts (old new : HeldByTasks) (task : ℕ) : Type 0 where
+  pub stacks : new.stacks ≡ old.stacks
+  pub edges : new.edges ≡ old.edges
+  pub before : new.before ≡ old.before
+  pub many : length new.interrupts ≡ length old.interrupts
+  pub others : (k : ℕ) → (k ≡ task → ⊥)
+      → slice_index_or new.interrupts k fresh ≡ slice_index_or old.interrupts k fresh
+
+abbrev pub classes_held : List PlainHeld → List ℕ
+classes_held stack = map (λ held. held.class) stack
+
+-- the chain of a stack is that of its last lock
+abbrev pub chain_of : List PlainHeld → Option ℕ
+chain_of stack = last_or None (map (λ held. held.chain) stack)
+
+-- this number is that of the chain
+abbrev pub IsChain : List (List ℕ) → ℕ → List ℕ → Type 0
+IsChain chains number chain = (number < length chains) × (slice_index_or chains number [] ≡ chain)
+
+-- each of the first n locks carries the chain of the classes up to it
+abbrev pub AreChainedBelow : List (List ℕ) → List PlainHeld → ℕ → Type 0
+AreChainedBelow chains stack n =
+    (i : ℕ) (d : PlainHeld) → i < n → i < length stack
+    → IsChain chains (slice_index_or stack i d).chain (take (i + 1) (classes_held stack))
+
+abbrev pub AreChained : List (List ℕ) → List PlainHeld → Type 0
+AreChained chains stack = AreChainedBelow chains stack (length stack)
+
+-- the locks of each frame are chained by themselves, where the frames' locks begin at these places
+-- of the stack, innermost first
+abbrev pub AreChainedIn : List (List ℕ) → List PlainHeld → List ℕ → Type 0
+AreChainedIn chains stack [] = AreChained chains stack
+AreChainedIn chains stack (start ∷ starts) =
+    (start ≤ length stack)
+    × (AreChained chains (drop start stack) × AreChainedIn chains (take start stack) starts)
+
+-- chains keep their numbers as more are met
+pub record IsExtended (old new : List (List ℕ)) : Type 0 where
+  pub more : length old ≤ length new
+  pub kept : (n : ℕ) → n < length old → slice_index_or new n [] ≡ slice_index_or old n []
+
+-- the dependencies of the last class of this chain are there, from each class before it
+pub record HasItsEdges (chains : List (List ℕ)) (edges : List EdgeFact) (number : ℕ) : Type 0 where
+  pub known : number < length chains
+  pub told : (froms : List ℕ) (class : ℕ)
+      → slice_index_or chains number [] ≡ froms ++ class ∷ []
+      → list_all (λ from. list_any (same_pair (edge_to class 0 from)) edges) froms ≡ true
+
+-- where the numbers of a chain's pairs are kept, they are those of the pairs of its last class
+pub record HasItsNumbers (chains : List (List ℕ)) (numbers : List (Option (List ℕ)))
+    (pairs : List Pair) : Type 0 where
+  pub each : (n : ℕ) (froms : List ℕ) (class : ℕ) → n < length chains
+      → slice_index_or chains n [] ≡ froms ++ class ∷ []
+      → IfSome (slice_index_or numbers n None) (AreNumbers pairs class froms)
+
+-- what ties stacks, chains and what was told
+pub record AreTied (stacks : List PlainStack) (chains : List (List ℕ)) (told : List ℕ)
+    (edges : List EdgeFact) : Type 0 where
+  pub chained : (task : ℕ)
+      → AreChainedIn chains (slice_index_or stacks task empty_stack).held
+      (starts_of (slice_index_or stacks task empty_stack).interrupts)
+  pub complete : All (λ number. HasItsEdges chains edges number) told
+
+-- of what was there when the trace began, the dependencies of each chain that was told are there too
+pub record IsAtStart (before : Before) (chains : List (List ℕ)) (told : List ℕ)
+    (edges : List EdgeFact) : Type 0 where
+  pub edges_within : before.edges ≤ length edges
+  pub told_within : before.told ≤ length told
+  pub complete :
+      All (λ number. HasItsEdges chains (take before.edges edges) number) (take before.told told)
+
+-- what ties all that is kept
+pub record IsKept (stacks : List PlainStack) (chains : KeptChains) (told : List ℕ)
+    (edges : KeptEdges) (before : Before) : Type 0 where
+  pub tied : AreTied stacks (chains_of chains.links) told edges.edges
+  pub start : IsAtStart before (chains_of chains.links) told edges.edges
+  pub numbered : HasItsNumbers (chains_of chains.links) chains.numbers edges.pairs
+
+-- it is of this lock
+abbrev pub is_of : PlainLock → Hold → Bool
+is_of lock hold = same_lock lock hold.lock
+
+-- the locks of a stack, as plain data without their chains
+abbrev pub holds_of : List Held → List Hold
+holds_of stack = map (λ held. hold_of (plain_held held)) stack

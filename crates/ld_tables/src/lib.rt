@@ -1,0 +1,19 @@
+//! What a scan keeps of tasks and of classes, by numbers: stacks, frames, flags, chains, dependencies, usage bits.
+#![tactic(auto)]
+
+mod chains;
+mod edges;
+mod held;
+mod interrupts;
+mod locks;
+mod marked;
+mod numbers;
+mod uses;
+
+pub use edges::EdgeFact;
+pub use held::Held;
+pub use interrupts::{Flag, Interrupts};
+pub use locks::Locks;
+pub use marked::Marked;
+pub use numbers::{Numbers, as_number};
+pub use uses::{UsageFact, Uses};
