@@ -1,8 +1,7 @@
 //! A worked reach beside its graph. The call that takes memory is made once more where it was refused,
 //! so these hold whichever allocation fails.
 
-use ld_graph::{Graph, MOST_GRAPH_CLASSES};
-use ld_reach::Reach;
+use ld_graph::{Graph, MOST_GRAPH_CLASSES, Reach};
 use std::process::Abort;
 
 /// Makes room. Where memory is refused nothing else changes, and the call made again answers `Ok`.

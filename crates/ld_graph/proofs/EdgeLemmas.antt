@@ -15,8 +15,8 @@ use Rattle.indexmap.proofs.CallerLemmas.{Contains-list_any}
 use Rattle.ld_graph.specs.declared.Edge.{Edge}
 use Rattle.ld_graph.specs.Edges.{edge, IsEdge, IsEdgeNumber}
 use Rattle.ld_graph.specs.Walks.{DistanceIs}
-use Rattle.ld_lists.specs.Lists.{list_at, IsNear}
-use Rattle.ld_lists.proofs.NearLemmas.{IsNear-push, IsNear-old, IsNear-new}
+use Rattle.ld_graph.specs.Lists.{list_at, IsNear}
+use Rattle.ld_graph.proofs.NearLemmas.{IsNear-push, IsNear-old, IsNear-new}
 use Rattle.ld_graph.proofs.WalkLemmas.{DistanceIs-same}
 use Rattle.indexmap.specs.IndexSet.{insert_key}
 

@@ -15,7 +15,7 @@ use Rattle.ld_graph.specs.declared.turns.Side.TheVariants.{After, Before}
 use Rattle.ld_graph.specs.Walks.{HasWalk}
 use Rattle.ld_graph.specs.Inner.Repairs.{HasAllNear, IsInside, IsRow, IsSought, IsOrReaches}
 use Rattle.ld_graph.specs.Inner.Repairs.{in_front, is_part, HasEnded, HasMet}
-use Rattle.ld_lists.specs.Lists.{IsNear, Sides}
+use Rattle.ld_graph.specs.Lists.{IsNear, Sides}
 use Rattle.ld_graph.proofs.WalkLemmas.{Far, Far-turned, HasWalk-Far, IsWalk-Far}
 use Rattle.ld_graph.proofs.MarkLemmas.{bool_cases}
 use Rattle.ld_graph.proofs.PartLemmas.{any_Contains, Contains_any, any_none}

@@ -6,7 +6,7 @@ use Rattle.std.proofs.lemmas.List.{get_or_append_left}
 use Rattle.indexmap.specs.IndexSet.{spare}
 use Rattle.ld_graph.specs.declared.graph.Graph.TheInside.{Inside}
 use Rattle.ld_graph.specs.declared.graph.TheConstants.{MOST_GRAPH_CLASSES}
-use Rattle.ld_lists.specs.Lists.{IsNear, ListsGrown}
+use Rattle.ld_graph.specs.Lists.{IsNear, ListsGrown}
 use Rattle.ld_graph.specs.Edges.{IsEdge}
 use Rattle.ld_graph.specs.Order.{HasCycle}
 use Rattle.ld_graph.specs.Inner.Kept.{IsKept}

@@ -1,3 +1,6 @@
+pub mod RunLemmas
+pub mod OnceLemmas
+pub mod NearLemmas
 pub mod WalkLemmas
 pub mod SpreadLemmas
 pub mod SearchLemmas
@@ -11,3 +14,4 @@ pub mod MendLemmas
 pub mod EndedLemmas
 pub mod ShownLemmas
 pub mod PlacedLemmas
+pub mod ReachLemmas

@@ -14,7 +14,7 @@ use Rattle.std.proofs.lemmas.List.{get_or-replicate, length-replicate, get_or_de
 use Rattle.std.proofs.lemmas.List.Elements.{Contains-push, Contains-push_cases}
 use Rattle.std.proofs.lemmas.List.Elements.{Contains-append_left}
 use Rattle.ld_graph.specs.Inner.Marks.{AreMarked}
-use Rattle.ld_lists.proofs.OnceLemmas.{IsDistinct-none, IsDistinct-one_more}
+use Rattle.ld_graph.proofs.OnceLemmas.{IsDistinct-none, IsDistinct-one_more}
 
 pub bool_cases : (b : Bool) → (b ≡ true) ⊎ (b ≡ false)
 bool_cases true = inl refl

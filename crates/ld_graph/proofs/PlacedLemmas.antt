@@ -9,7 +9,7 @@ use Rattle.ld_graph.specs.declared.placed.Insert.TheVariants.{Known, Kept, Moved
 use Rattle.ld_graph.specs.declared.Edge.{Edge}
 use Rattle.ld_graph.specs.Edges.{edge, IsEdge, PlainGraph, with_edge}
 use Rattle.ld_graph.specs.Order.{HasCycle, IsInserted, IsOrder, StaysOutside}
-use Rattle.ld_lists.specs.Lists.{IsNear}
+use Rattle.ld_graph.specs.Lists.{IsNear}
 use Rattle.ld_graph.specs.Inner.Kept.{IsKept, order_of, graph_of}
 use Rattle.ld_graph.specs.Inner.Placed.{IsPlaced}
 use Rattle.ld_graph.specs.Inner.Repairs.{AreInverse, IsOrReaches}

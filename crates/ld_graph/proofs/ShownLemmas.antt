@@ -4,7 +4,7 @@ use Rattle.std.proofs.Common.{get_or, Option, Some, None, Contains, ◌↔◌, M
 use Rattle.std.proofs.Common.{ap, subst, ◌∙◌}
 use Rattle.std.proofs.lemmas.List.{append_assoc, get_or_default}
 use Rattle.ld_graph.specs.Edges.{ComesBefore}
-use Rattle.ld_lists.specs.Lists.{IsNear}
+use Rattle.ld_graph.specs.Lists.{IsNear}
 use Rattle.ld_graph.specs.Inner.Levels.{level_at, IsLeastAtLevel}
 use Rattle.ld_graph.specs.Walks.{IsDistance, DistanceIs, IsNext, ShownFrom, IsShownWalk}
 use Rattle.ld_graph.proofs.WalkLemmas.{Far, IsWalk-Far, Far-IsWalk, IsDistance-Far, DistanceIs-same}

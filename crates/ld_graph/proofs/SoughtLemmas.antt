@@ -10,7 +10,7 @@ use Rattle.std.proofs.lemmas.List.Elements.{Contains-push, Contains-push_cases}
 use Rattle.std.proofs.lemmas.List.Elements.{Contains-append_left, Contains-get_or}
 use Rattle.std.proofs.lemmas.Map.Views.{Contains-from_any}
 use Rattle.std.proofs.lemmas.Map.Steps.{length-le_from_distinct_below}
-use Rattle.ld_lists.specs.Lists.{IsNear, list_at}
+use Rattle.ld_graph.specs.Lists.{IsNear, list_at}
 use Rattle.ld_graph.specs.Inner.Repairs.{IsAdded, HasAllNear, IsGrown, IsInside, IsRow, IsSought}
 use Rattle.ld_graph.specs.Inner.Repairs.{IsOrReaches}
 use Rattle.ld_graph.proofs.WalkLemmas.{Far-snoc, HasWalk-Far, IsWalk-Far}

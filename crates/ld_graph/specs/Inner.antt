@@ -1,7 +1,11 @@
--- What only invariants, private functions and proofs cite: a reader of the promises needs none of it.
+-- What invariants and proofs cite, and what the calls of ld_graph say to the crates above: a reader of the
+-- promises needs none of it.
+pub mod Runs
+pub mod Sides
 pub mod Levels
 pub mod Repairs
 pub mod Marks
 pub mod Ranks
 pub mod Placed
 pub mod Kept
+pub mod KeptReach

@@ -1,4 +1,6 @@
+pub mod Lists
+pub mod Inner
 pub mod Walks
 pub mod Edges
 pub mod Order
-pub mod Inner
+pub mod Reach

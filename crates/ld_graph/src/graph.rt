@@ -5,7 +5,7 @@ ghost use Rattle.std.specs.Prelude.{slice_index_or, None, Some, IfOk};
 ghost use Rattle.std.specs.Prelude.{OnOk, MatchOption};
 ghost use Rattle.ld_graph.specs.Edges.{ComesBefore, IsEdge, IsEdgeNumber};
 ghost use Rattle.ld_graph.specs.Edges.{empty_graph, with_class, with_edge, with_spares};
-ghost use Rattle.ld_lists.specs.Lists.{IsNear};
+ghost use Rattle.ld_graph.specs.Lists.{IsNear};
 ghost use Rattle.ld_graph.specs.Order.{HasCycle, IsInserted, IsOrder};
 ghost use Rattle.ld_graph.specs.Walks.{DistanceIs, HasWalk, IsShownWalk};
 
@@ -15,7 +15,7 @@ use crate::placed::{Insert, place};
 use crate::ranks::Ranks;
 use crate::shown::show;
 use indexmap::IndexSet;
-use ld_lists::{Lists, Steps};
+use crate::lists::{Lists, Steps};
 use std::alloc::{AllocError, Global};
 use std::marker::Model;
 

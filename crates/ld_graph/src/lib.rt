@@ -1,19 +1,22 @@
-//! A directed graph of numbered classes: its distances, its shown walks, and an order of its classes
-//! that is kept as edges come.
+//! A graph between numbered classes: its lists, distances and shown walks, an order that is kept by repairs, and what is\nreached from some classes.
 #![tactic(auto)]
 
 mod graph;
 mod levels;
+mod lists;
+mod neighbours;
 mod placed;
 mod ranks;
+mod reach;
 mod repair;
 mod search;
 mod shown;
 mod turns;
 
 pub use graph::{Graph, MOST_GRAPH_CLASSES};
-pub use ld_lists::{Lists, Steps};
+pub use lists::{Lists, Steps};
 pub use placed::Insert;
+pub use reach::Reach;
 
 /// An edge, from one class to another.
 #[derive(Clone, Copy, PartialEq, Eq, Hash, Debug)]

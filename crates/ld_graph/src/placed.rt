@@ -2,10 +2,10 @@
 
 ghost use Rattle.std.specs.Prelude.{◌≡◌, ◌↔◌, ℕ, ◌<◌, false, length, slice_index};
 ghost use Rattle.ld_graph.specs.Inner.Placed.{IsPlaced, TellsSteps};
-ghost use Rattle.ld_lists.specs.Lists.{IsNear};
+ghost use Rattle.ld_graph.specs.Lists.{IsNear};
 
 use crate::ranks::Ranks;
-use ld_lists::{Lists, Steps};
+use crate::lists::{Lists, Steps};
 
 /// What an insert has done.
 #[derive(Clone, Copy, PartialEq, Eq, Debug)]

@@ -7,11 +7,11 @@ ghost use Rattle.ld_graph.specs.declared.graph.TheConstants.{MOST_GRAPH_CLASSES}
 ghost use Rattle.ld_graph.specs.Inner.Repairs.{AreInverse, HasMet, AreRanked, IsPlan, IsRepaired};
 ghost use Rattle.ld_graph.specs.Inner.Repairs.{IsRow, IsOrReaches};
 ghost use Rattle.ld_graph.specs.Inner.Repairs.{count, in_front, is_part, other, picked, split};
-ghost use Rattle.ld_lists.specs.Lists.{IsNear};
+ghost use Rattle.ld_graph.specs.Lists.{IsNear};
 
 use crate::search::Search;
 use crate::turns::{Side, search_in_turn};
-use ld_lists::{Lists, Steps};
+use crate::lists::{Lists, Steps};
 
 /// Room for a repair.
 #[derive(Drop)]

@@ -4,10 +4,10 @@ ghost use Rattle.std.specs.Prelude.{◌≡◌, ℕ, ◌<◌, ◌↔◌, length, 
 ghost use Rattle.std.specs.Prelude.{IsTrue, IfOk, MatchOption};
 ghost use Rattle.ld_graph.specs.Edges.{ComesBefore};
 ghost use Rattle.ld_graph.specs.Inner.Levels.{IsLeastAtLevel, level_at};
-ghost use Rattle.ld_lists.specs.Lists.{IsNear};
+ghost use Rattle.ld_graph.specs.Lists.{IsNear};
 ghost use Rattle.ld_graph.specs.Walks.{DistanceIs, IsShownWalk};
 
-use ld_lists::{Lists, Steps};
+use crate::lists::{Lists, Steps};
 use std::alloc::{AllocError, Global};
 
 /// Whether `x` comes before `y`: by place, then by number.

@@ -4,10 +4,10 @@ ghost use Rattle.std.specs.Prelude.{◌≡◌, ℕ, ◌+◌, ◌-◌, ◌*◌, �
 ghost use Rattle.std.specs.Prelude.{Contains, MatchOption};
 ghost use Rattle.ld_graph.specs.declared.graph.TheConstants.{MOST_GRAPH_CLASSES};
 ghost use Rattle.ld_graph.specs.Inner.Repairs.{HasEnded, IsGrown, IsInside, IsRow, IsSought};
-ghost use Rattle.ld_lists.specs.Lists.{IsNear};
+ghost use Rattle.ld_graph.specs.Lists.{IsNear};
 
 use crate::search::Search;
-use ld_lists::{Lists, Steps};
+use crate::lists::{Lists, Steps};
 
 /// One of the two searches, by the neighbours that it follows.
 #[derive(Clone, Copy)]

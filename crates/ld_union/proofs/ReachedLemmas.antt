@@ -10,7 +10,7 @@ use Rattle.ld_class.specs.declared.usage.Usage.{Usage}
 use Rattle.ld_class.specs.Usage.{has_bit, no_bits}
 use Rattle.ld_graph.specs.declared.Edge.{Edge}
 use Rattle.ld_graph.specs.Edges.{IsEdge, PlainGraph, with_spares}
-use Rattle.ld_reach.specs.Reach.{IsReach, IsSource, PlainReach, source_of}
+use Rattle.ld_graph.specs.Reach.{IsReach, IsSource, PlainReach, source_of}
 use Rattle.ld_trace.specs.declared.event.State.{State}
 use Rattle.ld_trace.specs.declared.event.State.TheVariants.{Hard, Soft}
 use Rattle.ld_facts.specs.Usage.{Bit, bit_of, usage_of}

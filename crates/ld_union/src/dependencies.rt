@@ -6,7 +6,7 @@ ghost use Rattle.ld_class.specs.Names.{PlainClass};
 ghost use Rattle.ld_graph.specs.declared.graph.TheConstants.{MOST_GRAPH_CLASSES};
 ghost use Rattle.ld_trace.specs.declared.event.State.{State};
 ghost use Rattle.ld_graph.specs.Edges.{IsEdge, IsEdgeNumber};
-ghost use Rattle.ld_reach.specs.Reach.{IsReach, no_reach};
+ghost use Rattle.ld_graph.specs.Reach.{IsReach, no_reach};
 ghost use Rattle.ld_union.specs.Inner.Reached.{AreInFront, HaveClasses, IsSeeded, StayExact};
 ghost use Rattle.ld_union.specs.Inner.States.{of_state};
 ghost use Rattle.ld_graph.specs.Edges.{empty_graph, with_spares};
@@ -24,8 +24,7 @@ use crate::news::NewBit;
 use crate::states::PerState;
 use ld_batch::{Batch, Guesses};
 use ld_facts::Witness;
-use ld_graph::{Edge, Graph, Insert};
-use ld_reach::Reach;
+use ld_graph::{Edge, Graph, Insert, Reach};
 use std::alloc::{AllocError, Global};
 
 /// An edge of the graph, and where its dependency was first seen.

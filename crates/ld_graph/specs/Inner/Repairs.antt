@@ -6,7 +6,7 @@ use Rattle.ld_graph.specs.declared.repair.Part.{Part}
 use Rattle.ld_graph.specs.declared.repair.Part.TheVariants.{Found, Rest}
 use Rattle.ld_graph.specs.declared.turns.Side.{Side}
 use Rattle.ld_graph.specs.declared.turns.Side.TheVariants.{After, Before}
-use Rattle.ld_lists.specs.Lists.{IsNear, Sides}
+use Rattle.ld_graph.specs.Lists.{IsNear, Sides}
 use Rattle.ld_graph.specs.Order.{StaysOutside}
 use Rattle.ld_graph.specs.Walks.{HasWalk}
 

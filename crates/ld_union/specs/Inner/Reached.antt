@@ -5,7 +5,7 @@ use Rattle.ld_class.specs.declared.usage.Usage.{Usage}
 use Rattle.ld_graph.specs.declared.Edge.{Edge}
 use Rattle.ld_graph.specs.Edges.{IsEdge}
 use Rattle.ld_graph.specs.Walks.{HasWalk}
-use Rattle.ld_reach.specs.Reach.{IsReach, PlainReach}
+use Rattle.ld_graph.specs.Reach.{IsReach, PlainReach}
 use Rattle.ld_trace.specs.declared.event.State.{State}
 use Rattle.ld_facts.specs.Usage.Bit.{In}
 use Rattle.ld_union.specs.declared.news.NewBit.{NewBit}

@@ -10,7 +10,7 @@ use Rattle.ld_trace.specs.Sources.{PlainSource}
 use Rattle.ld_graph.specs.declared.Edge.{Edge}
 use Rattle.ld_graph.specs.Edges as graphs
 use Rattle.ld_graph.specs.Walks.{HasWalk}
-use Rattle.ld_reach.specs.Reach.{PlainReach}
+use Rattle.ld_graph.specs.Reach.{PlainReach}
 use Rattle.ld_rules.specs.declared.outcome.Witness.{Witness}
 use Rattle.ld_facts.specs.Dependency.{Dependency, same_dependency}
 use Rattle.ld_facts.specs.Union.{dependency_witness, union_classes, use_witness}

@@ -1,5 +1,5 @@
 use Rattle.std.proofs.Common.{◌+◌, ℕ, [], Contains, arith, subst}
-use Rattle.ld_lists.specs.Lists.{IsNear}
+use Rattle.ld_graph.specs.Lists.{IsNear}
 use Rattle.ld_graph.specs.Inner.Levels.{HasLevel, Spreads}
 use Rattle.ld_graph.proofs.SpreadLemmas.{count_none}
 use Rattle.ld_graph.proofs.SearchLemmas.{IsPartial-begun, IsPartial-next, IsPartial-all}

@@ -1,5 +1,5 @@
 use Rattle.std.proofs.Common.{◌≡◌, ◌+◌, ◌-◌, ◌≤◌, length, count_by, is_none, vec_len, vec_capacity}
-use Rattle.ld_lists.specs.Lists.{IsNear}
+use Rattle.ld_graph.specs.Lists.{IsNear}
 use Rattle.ld_graph.proofs.SearchLemmas.{IsPartial}
 use Rattle.ld_graph.proofs.levels.measure.Given as goal
 

@@ -1,6 +1,6 @@
 use Rattle.std.proofs.Common.{◌≢◌, ◌+◌, ◌<◌, ◌≤◌, ℕ, get_or, length, refl, subst, sym}
 use Rattle.ld_graph.specs.Inner.Repairs.{AreRanked, IsOrReaches}
-use Rattle.ld_lists.specs.Lists.{IsNear}
+use Rattle.ld_graph.specs.Lists.{IsNear}
 use Rattle.ld_graph.proofs.MendLemmas.{mended, mended_inverse, moved_ends, moved_once, moved_within}
 use Rattle.ld_graph.proofs.MendLemmas.{row_end, row_first}
 use Rattle.ld_graph.proofs.repair.mend.Goals as goal

@@ -1,6 +1,6 @@
 use Rattle.std.proofs.Common.{◌≡◌, ◌-◌, ℕ, Contains, Some, arith, subst}
 use Rattle.ld_graph.specs.Inner.Levels.{IsLeastAtLevel, level_at}
-use Rattle.ld_lists.specs.Lists.{IsNear}
+use Rattle.ld_graph.specs.Lists.{IsNear}
 use Rattle.ld_graph.proofs.ShownLemmas.{next_there, next_distance, next_shown}
 use Rattle.ld_graph.proofs.shown.show.Goals as goal
 

@@ -1,6 +1,6 @@
 use Rattle.std.proofs.Common.{◌≡◌, ◌+◌, ◌<◌, ◌≤◌, ℕ, List, ◌++◌, length}
 use Rattle.ld_graph.specs.Edges.{ComesBefore}
-use Rattle.ld_lists.specs.Lists.{IsNear}
+use Rattle.ld_graph.specs.Lists.{IsNear}
 use Rattle.ld_graph.specs.Walks.{IsDistance, ShownFrom, IsShownWalk}
 use Rattle.ld_graph.proofs.shown.show.Given as goal
 

@@ -1,5 +1,5 @@
 use Rattle.std.proofs.Common.{◌+◌, ◌-◌, ◌≤◌, Contains, length, arith, get_or, subst}
-use Rattle.ld_lists.specs.Lists.{IsNear}
+use Rattle.ld_graph.specs.Lists.{IsNear}
 use Rattle.ld_graph.proofs.SoughtLemmas.{Contains-read, beyond, sought_few, turn_closed, turn_sought}
 use Rattle.ld_graph.proofs.turns.search_in_turn.Goals as goal
 

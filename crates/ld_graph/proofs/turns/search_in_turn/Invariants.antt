@@ -1,6 +1,6 @@
 use Rattle.std.proofs.Common.{◌≡◌, ◌+◌, ◌-◌, ◌*◌, ◌<◌, length}
 use Rattle.ld_graph.specs.Inner.Repairs.{HasAllNear, IsSought}
-use Rattle.ld_lists.specs.Lists.{IsNear}
+use Rattle.ld_graph.specs.Lists.{IsNear}
 use Rattle.ld_graph.proofs.turns.search_in_turn.Given as goal
 
 abbrev pub invariant-loop-low : goal.invariant-loop-low

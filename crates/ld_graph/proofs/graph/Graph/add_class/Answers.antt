@@ -1,7 +1,7 @@
 use Rattle.std.proofs.Common.{◌<◌, ℕ, List, [], arith, ap, get_or, length, sym, subst, ◌∙◌}
 use Rattle.std.proofs.lemmas.List.{length_push}
 use Rattle.ld_graph.specs.Edges.{IsEdge}
-use Rattle.ld_lists.proofs.NearLemmas.{near_class}
+use Rattle.ld_graph.proofs.NearLemmas.{near_class}
 use Rattle.ld_graph.proofs.KeptLemmas.{rises_class}
 use Rattle.ld_graph.proofs.graph.Graph.add_class.Goals as goal
 

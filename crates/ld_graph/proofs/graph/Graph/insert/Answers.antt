@@ -2,7 +2,7 @@ use Rattle.std.proofs.lemmas.List.{length_push, length-set}
 use Rattle.std.proofs.Common.{◌≡◌, ◌<◌, ◌++◌, ◌∷◌, [], ◌↔◌, arith, length, set, ap}
 use Rattle.std.proofs.Common.{refl, sym, subst, ◌∙◌}
 use Rattle.ld_graph.specs.Edges.{edge, IsEdge}
-use Rattle.ld_lists.specs.Lists.{IsNear, list_at}
+use Rattle.ld_graph.specs.Lists.{IsNear, list_at}
 use Rattle.ld_graph.proofs.EdgeLemmas.{IsEdge-found, insert_key-new, IsNear-edge, IsNear-turned}
 use Rattle.ld_graph.proofs.EdgeLemmas.{ends_push, IsEdge-missing}
 use Rattle.ld_graph.specs.Order.{HasCycle, IsInserted}

@@ -1,6 +1,6 @@
 use Rattle.std.proofs.Common.{◌↔◌, ℕ, subst}
 use Rattle.ld_graph.specs.Edges.{IsEdge}
-use Rattle.ld_lists.specs.Lists.{IsNear}
+use Rattle.ld_graph.specs.Lists.{IsNear}
 use Rattle.ld_graph.proofs.graph.Graph.lists.Goals as goal
 
 pub returns-clause-after : goal.returns-clause-after

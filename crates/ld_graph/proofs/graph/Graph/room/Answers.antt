@@ -2,7 +2,7 @@ use Rattle.std.proofs.Common.{arith, ap, refl, length}
 use Rattle.ld_graph.specs.declared.graph.Graph.TheInside.{Inside}
 use Rattle.ld_graph.specs.Inner.Kept.{IsKept}
 use Rattle.ld_graph.proofs.KeptLemmas.{IsKept-grown, IsKept-spare}
-use Rattle.ld_lists.proofs.NearLemmas.{lists_same}
+use Rattle.ld_graph.proofs.NearLemmas.{lists_same}
 use Rattle.ld_graph.proofs.graph.Graph.room.Goals as goal
 
 pub invariant_of-self : goal.invariant_of-self

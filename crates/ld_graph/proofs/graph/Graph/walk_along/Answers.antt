@@ -1,6 +1,6 @@
 use Rattle.std.proofs.Common.{get_or, None, sym, subst}
 use Rattle.ld_graph.specs.Edges.{ComesBefore, IsEdge}
-use Rattle.ld_lists.specs.Lists.{IsNear}
+use Rattle.ld_graph.specs.Lists.{IsNear}
 use Rattle.ld_graph.specs.Walks.{DistanceIs, IsShownWalk}
 use Rattle.ld_graph.proofs.EdgeLemmas.{DistanceIs-along}
 use Rattle.ld_graph.proofs.KeptLemmas.{after_ends}

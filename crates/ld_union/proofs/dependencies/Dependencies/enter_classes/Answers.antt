@@ -1,7 +1,7 @@
 use Rattle.std.proofs.Common.{rules, ◌≡◌, ◌+◌, ◌∙◌, ap, arith, false, length, sym}
 use Rattle.std.proofs.lemmas.List.{length_push}
 use Rattle.ld_graph.specs.Edges.{PlainGraph}
-use Rattle.ld_reach.specs.Reach.{PlainReach}
+use Rattle.ld_graph.specs.Reach.{PlainReach}
 use Rattle.ld_trace.specs.declared.event.State.TheVariants.{Hard, Soft}
 use Rattle.ld_union.proofs.ReachedLemmas.{have_classes}
 use Rattle.ld_union.proofs.dependencies.Dependencies.enter_classes.Goals as goal

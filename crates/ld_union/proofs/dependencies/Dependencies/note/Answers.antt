@@ -1,7 +1,7 @@
 use Rattle.std.proofs.Common.{◌≡◌, ◌++◌, ◌∷◌, [], ◌<◌, ◌∙◌, refl, ap, subst, sym, take}
 use Rattle.std.proofs.lemmas.List.{get_or_read, map-append}
 use Rattle.ld_graph.specs.Edges.{IsEdge, IsEdgeNumber, PlainGraph, with_edge}
-use Rattle.ld_reach.specs.Reach.{IsReach}
+use Rattle.ld_graph.specs.Reach.{IsReach}
 use Rattle.ld_facts.specs.Union.{earlier}
 use Rattle.ld_union.specs.declared.dependencies.Witnessed.{Witnessed}
 use Rattle.ld_union.specs.Inner.States.{of_state}

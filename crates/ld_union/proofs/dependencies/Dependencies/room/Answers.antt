@@ -1,6 +1,6 @@
 use Rattle.std.proofs.Common.{◌+◌, ◌≤◌, ◌∙◌, ap, length, subst, sym}
 use Rattle.ld_graph.specs.declared.graph.TheConstants.{MOST_GRAPH_CLASSES}
-use Rattle.ld_reach.specs.Reach.{PlainReach}
+use Rattle.ld_graph.specs.Reach.{PlainReach}
 use Rattle.ld_trace.specs.declared.event.State.TheVariants.{Hard, Soft}
 use Rattle.ld_union.proofs.ReachedLemmas.{have_classes}
 use Rattle.ld_union.proofs.dependencies.Dependencies.room.Goals as goal

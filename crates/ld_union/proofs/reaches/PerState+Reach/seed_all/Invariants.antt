@@ -1,6 +1,6 @@
 use Rattle.std.proofs.Common.{List, ℕ, take}
 use Rattle.ld_graph.specs.Edges.{IsEdge}
-use Rattle.ld_reach.specs.Reach.{IsReach}
+use Rattle.ld_graph.specs.Reach.{IsReach}
 use Rattle.ld_trace.specs.declared.event.State.{State}
 use Rattle.ld_union.specs.Inner.Reached.{AreInFront, HaveClasses, IsSeeded}
 use Rattle.ld_union.specs.Inner.States.{of_state}

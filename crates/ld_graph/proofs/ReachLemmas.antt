@@ -1,0 +1,526 @@
+-- A reach that is spread over classes that wait is exact at the end.
+use Rattle.std.proofs.Common.{◌≡◌, ◌≢◌, ◌↔◌, ℕ, zero, suc, ◌+◌, ◌<◌, ◌≤◌, ◌⊎◌, inl, inr, Bool, true, false, true≢false, List, [], ◌∷◌}
+use Rattle.std.proofs.Common.{◌++◌, length, get_or, set, Option, Some, None, is_some, Contains, MatchOption, drop, take, unwrap_or, vec_len}
+use Rattle.std.proofs.Common.{arith, refl, sym, ap, subst, ◌∙◌}
+use Rattle.std.proofs.lemmas.Bool.{cases_eq, cases_lt, cases_order}
+use Rattle.std.proofs.lemmas.List.{get_or-set_same, get_or-set_other, get_or_past, get_or_append_left, get_or_push, get_or_default, length_push, drop_more, drop-append-le, take-append-le}
+use Rattle.std.proofs.lemmas.List.Elements.{Contains-get_or, Contains-append_cases, Contains-append_left, Contains-push, Contains-push_cases}
+use Rattle.ld_graph.specs.Inner.KeptReach.{reach_of, AreReached, IsGiven, IsSpread, all_ahead, none_ahead, ahead_from}
+use Rattle.ld_graph.specs.declared.Edge.{Edge}
+use Rattle.ld_graph.specs.declared.reach.Reach.TheInside.{Inside}
+use Rattle.ld_graph.specs.Edges.{IsEdge, edge}
+use Rattle.ld_graph.specs.Reach.{IsReach, IsSource, PlainReach}
+use Rattle.ld_graph.specs.Walks.{HasWalk}
+use Rattle.ld_graph.proofs.OnceLemmas.{IsDistinct-none, IsDistinct-one_more}
+use Rattle.ld_graph.proofs.SpreadLemmas.{some_same}
+use Rattle.ld_graph.proofs.WalkLemmas.{Far, Far-snoc, IsWalk-Far, HasWalk-Far, IsWalk-same}
+
+abbrev pub is_marked : List Bool → ℕ → Type 0
+is_marked marks x = get_or marks x false ≡ true
+
+abbrev pub has_source : List (Option ℕ) → ℕ → Type 0
+has_source sources x = is_some (get_or sources x None) ≡ true
+
+-- an element is the first one or behind it
+Contains-first : (y : ℕ) (xs : List ℕ) (x : ℕ) → Contains (y ∷ xs) x → Contains xs x ⊎ (y ≡ x)
+Contains-first y xs x c = by (Contains-append_cases (y ∷ []) xs x c)
+  where
+    by : Contains (y ∷ []) x ⊎ Contains xs x → Contains xs x ⊎ (y ≡ x)
+    by (inr h) = inl h
+    by (inl h) = to (Contains-push_cases [] y x h)
+      where
+        to : Contains [] x ⊎ (y ≡ x) → Contains xs x ⊎ (y ≡ x)
+        to (inl n) = absurd (omega (arith, n.1))
+        to (inr same) = inr same
+
+-- a source that is some
+some_source : (o : Option ℕ) → is_some o ≡ true → (s : ℕ) × (o ≡ Some s)
+some_source None h = absurd (true≢false (sym h))
+some_source (Some s) h = (s, refl)
+
+-- one step more at a walk's end
+pub HasWalk-more : (step : ℕ → ℕ → Type 0) (s x y : ℕ) → HasWalk step s x → step x y → HasWalk step s y
+HasWalk-more step s x y w h =
+    let f = IsWalk-Far step s x w.0 w.1 in HasWalk-Far step (suc f.0) s y (Far-snoc step f.0 s x y f.1.1 h)
+
+pub HasWalk-one : (step : ℕ → ℕ → Type 0) (s x : ℕ) → step s x → HasWalk step s x
+HasWalk-one step s x h = HasWalk-Far step zero s x h
+
+module _ (step : ℕ → ℕ → Type 0) (seeds : List ℕ) where
+  -- in an exact reach, what a marked class leads to has a source
+  pub reach-closed : (reach : PlainReach) → IsReach step seeds reach → (x y : ℕ) → is_marked reach.marks x → step x y → has_source reach.sources y
+  reach-closed reach exact x y marked h = by (get_or reach.sources y None) refl ((exact.marked x).0 marked)
+    where
+      none : get_or reach.sources y None ≡ None → Contains seeds x ⊎ (is_some (get_or reach.sources x None) ≡ true) → ⊥
+      none is (inl seed) =
+          subst (λ o. MatchOption o ((s : ℕ) → ¬ IsSource step seeds y s) (IsSource step seeds y)) is (exact.sources y) x (seed, HasWalk-one step x y h)
+      none is (inr some) =
+          let s = some_source (get_or reach.sources x None) some in
+          let source : IsSource step seeds x s.0 = subst (λ o. MatchOption o ((s : ℕ) → ¬ IsSource step seeds x s) (IsSource step seeds x)) s.1 (exact.sources x) in
+          subst (λ o. MatchOption o ((s : ℕ) → ¬ IsSource step seeds y s) (IsSource step seeds y)) is (exact.sources y) s.0 (source.0, HasWalk-more step s.0 x y source.1 h)
+
+      by : (o : Option ℕ) → get_or reach.sources y None ≡ o → Contains seeds x ⊎ (is_some (get_or reach.sources x None) ≡ true) → has_source reach.sources y
+      by None is why = absurd (none is why)
+      by (Some s) is why = ap is_some is
+
+  -- an exact reach is one at which no class waits
+  pub reach-spread : (reach : PlainReach) → IsReach step seeds reach → IsSpread step seeds none_ahead reach.sources reach.marks []
+  reach-spread reach exact = record {
+    sound = λ x s is. subst (λ o. MatchOption o ((s : ℕ) → ¬ IsSource step seeds x s) (IsSource step seeds x)) is (exact.sources x);
+    covered = λ x s is. inl ((exact.marked x).1 (inr (ap is_some is)));
+    seeded = λ x seed. (exact.marked x).1 (inl seed);
+    known = λ x marked. (exact.marked x).0 marked;
+    closed = λ x y marked h. inr (reach-closed reach exact x y marked h);
+  }
+
+  module _ (sources : List (Option ℕ)) (marks : List Bool) (spread : IsSpread step seeds none_ahead sources marks []) where
+    ended : (x : ℕ) → has_source sources x → is_marked marks x
+    ended x has = let s = some_source (get_or sources x None) has in by (spread.covered x s.0 s.1)
+      where
+        by : is_marked marks x ⊎ Contains [] x → is_marked marks x
+        by (inl m) = m
+        by (inr c) = absurd (omega (arith, c.1))
+
+    next : (x y : ℕ) → is_marked marks x → step x y → has_source sources y
+    next x y marked h = by (spread.closed x y marked h)
+      where
+        by : none_ahead x y ⊎ has_source sources y → has_source sources y
+        by (inl n) = absurd n
+        by (inr s) = s
+
+    goes : (n : ℕ) (x y : ℕ) → is_marked marks x → Far step n x y → has_source sources y
+    goes zero x y marked h = next x y marked h
+    goes (suc n) x y marked h = goes n h.0 y (ended h.0 (next x h.0 marked h.1.0)) h.1.1
+
+    -- when no class waits any more, the reach is exact
+    pub spread-reach : (reached : List ℕ) (spare expanded : ℕ) → IsReach step seeds (record { sources = sources; marks = marks; reached = reached; spare = spare; expanded = expanded })
+    spread-reach reached spare expanded = record {
+      sources = λ c. by c (get_or sources c None) refl;
+      marked = λ c. (spread.known c, λ why. back c why);
+    }
+      where
+        by : (c : ℕ) (o : Option ℕ) → get_or sources c None ≡ o → MatchOption o ((s : ℕ) → ¬ IsSource step seeds c s) (IsSource step seeds c)
+        by c None is = λ s source.
+            let f = IsWalk-Far step s c source.1.0 source.1.1 in
+            true≢false (sym (goes f.0 s c (spread.seeded s source.0) f.1.1) ∙ ap is_some is)
+        by c (Some s) is = spread.sound c s is
+
+        back : (c : ℕ) → Contains seeds c ⊎ has_source sources c → is_marked marks c
+        back c (inl seed) = spread.seeded c seed
+        back c (inr has) = ended c has
+
+-- a mark that is on stays on where one is put on, and no other comes on
+pub mark_stays : (marks : List Bool) (c x : ℕ) → is_marked marks x → is_marked (set marks c true) x
+mark_stays marks c x on = by (cases_eq x c) (cases_lt x (length marks))
+  where
+    by : (x ≡ c) ⊎ (x ≢ c) → (x < length marks) ⊎ (length marks ≤ x) → is_marked (set marks c true) x
+    by (inl same) (inl within) = ap (λ k. get_or (set marks c true) k false) same ∙ get_or-set_same marks c true false (omega (arith, same, within))
+    by (inl same) (inr past) = absurd (true≢false (sym on ∙ get_or_past marks x false past))
+    by (inr other) _ = get_or-set_other marks c x true false other ∙ on
+
+pub mark_was : (marks : List Bool) (c x : ℕ) → is_marked (set marks c true) x → (x ≡ c) ⊎ is_marked marks x
+mark_was marks c x on = by (cases_eq x c)
+  where
+    by : (x ≡ c) ⊎ (x ≢ c) → (x ≡ c) ⊎ is_marked marks x
+    by (inl same) = inl same
+    by (inr other) = inr (sym (get_or-set_other marks c x true false other) ∙ on)
+
+pub mark_on : (marks : List Bool) (c : ℕ) → c < length marks → is_marked (set marks c true) c
+mark_on marks c within = get_or-set_same marks c true false within
+
+-- a class that has a source keeps it where one that has none gets one
+source_stays : (sources : List (Option ℕ)) (c from x s : ℕ) → get_or sources c None ≡ None → get_or sources x None ≡ Some s → get_or (set sources c (Some from)) x None ≡ Some s
+source_stays sources c from x s free is = by (cases_eq x c)
+  where
+    by : (x ≡ c) ⊎ (x ≢ c) → get_or (set sources c (Some from)) x None ≡ Some s
+    by (inl same) = let none : get_or sources x None ≡ None = ap (λ k. get_or sources k None) same ∙ free in
+        absurd (true≢false (ap is_some (sym is ∙ none)))
+    by (inr other) = get_or-set_other sources c x (Some from) None other ∙ is
+
+module _ (step : ℕ → ℕ → Type 0) (seeds : List ℕ) where
+  -- one class was given a source: the steps to it are gone
+  module _ (ahead left : ℕ → ℕ → Type 0) (class from : ℕ) (sources : List (Option ℕ)) (marks : List Bool) (waiting : List ℕ)
+      (new : List (Option ℕ)) (more : List ℕ) (spread : IsSpread step seeds ahead sources marks waiting)
+      (source : IsSource step seeds class from) (within : class < length sources)
+      (gone : (x y : ℕ) → ahead x y → left x y ⊎ (y ≡ class)) (given : IsGiven class from sources waiting new more) where
+    pub spread-given : IsSpread step seeds left new marks more
+    spread-given = by (get_or sources class None) refl
+      where
+        -- it had one
+        had : has_source sources class → IsSpread step seeds left new marks more
+        had has =
+            let same = given.had has in
+            rw (same.0, same.1) (record {
+              sound = spread.sound;
+              covered = spread.covered;
+              seeded = spread.seeded;
+              known = spread.known;
+              closed = λ x y marked h. closed x y (spread.closed x y marked h);
+            })
+          where
+            closed : (x y : ℕ) → ahead x y ⊎ has_source sources y → left x y ⊎ has_source sources y
+            closed x y (inl a) = to (gone x y a)
+              where
+                to : left x y ⊎ (y ≡ class) → left x y ⊎ has_source sources y
+                to (inl l) = inl l
+                to (inr same) = inr (ap (λ k. is_some (get_or sources k None)) same ∙ has)
+            closed x y (inr s) = inr s
+
+        -- it gets one
+        gets : get_or sources class None ≡ None → IsSpread step seeds left new marks more
+        gets free = rw (given.gets free, given.waits free) (record {
+          sound = λ x s is. sound x s is (cases_eq x class);
+          covered = λ x s is. covered x s is (cases_eq x class);
+          seeded = spread.seeded;
+          known = λ x marked. known x (spread.known x marked);
+          closed = λ x y marked h. closed x y (spread.closed x y marked h);
+        })
+          where
+            kept : (x : ℕ) → has_source sources x → has_source (set sources class (Some from)) x
+            kept x has = let s = some_source (get_or sources x None) has in ap is_some (source_stays sources class from x s.0 free s.1)
+
+            here : has_source (set sources class (Some from)) class
+            here = ap is_some (get_or-set_same sources class (Some from) None within)
+
+            sound : (x s : ℕ) → get_or (set sources class (Some from)) x None ≡ Some s → (x ≡ class) ⊎ (x ≢ class) → IsSource step seeds x s
+            sound x s is (inl same) =
+                let equal : from ≡ s = some_same from s (sym (get_or-set_same sources class (Some from) None within) ∙ ap (λ k. get_or (set sources class (Some from)) k None) (sym same) ∙ is) in
+                rw (same, sym equal) source
+            sound x s is (inr other) = spread.sound x s (sym (get_or-set_other sources class x (Some from) None other) ∙ is)
+
+            covered : (x s : ℕ) → get_or (set sources class (Some from)) x None ≡ Some s → (x ≡ class) ⊎ (x ≢ class) → is_marked marks x ⊎ Contains (waiting ++ class ∷ []) x
+            covered x s is (inl same) = inr (subst (Contains (waiting ++ class ∷ [])) (sym same) (Contains-push waiting class))
+            covered x s is (inr other) = wait (spread.covered x s (sym (get_or-set_other sources class x (Some from) None other) ∙ is))
+              where
+                wait : is_marked marks x ⊎ Contains waiting x → is_marked marks x ⊎ Contains (waiting ++ class ∷ []) x
+                wait (inl m) = inl m
+                wait (inr c) = inr (Contains-append_left waiting (class ∷ []) x c)
+
+            known : (x : ℕ) → Contains seeds x ⊎ has_source sources x → Contains seeds x ⊎ has_source (set sources class (Some from)) x
+            known x (inl seed) = inl seed
+            known x (inr has) = inr (kept x has)
+
+            closed : (x y : ℕ) → ahead x y ⊎ has_source sources y → left x y ⊎ has_source (set sources class (Some from)) y
+            closed x y (inl a) = to (gone x y a)
+              where
+                to : left x y ⊎ (y ≡ class) → left x y ⊎ has_source (set sources class (Some from)) y
+                to (inl l) = inl l
+                to (inr same) = inr (ap (λ k. is_some (get_or (set sources class (Some from)) k None)) same ∙ here)
+            closed x y (inr has) = inr (kept y has)
+
+        by : (o : Option ℕ) → get_or sources class None ≡ o → IsSpread step seeds left new marks more
+        by None is = gets is
+        by (Some s) is = had (ap is_some is)
+
+  -- fewer steps count as ahead
+  pub spread-ahead : (ahead left : ℕ → ℕ → Type 0) (sources : List (Option ℕ)) (marks : List Bool) (waiting : List ℕ)
+      → ((x y : ℕ) → ahead x y → left x y) → IsSpread step seeds ahead sources marks waiting → IsSpread step seeds left sources marks waiting
+  spread-ahead ahead left sources marks waiting to spread = record {
+    sound = spread.sound;
+    covered = spread.covered;
+    seeded = spread.seeded;
+    known = spread.known;
+    closed = λ x y on h. by x y (spread.closed x y on h);
+  }
+    where
+      by : (x y : ℕ) → ahead x y ⊎ has_source sources y → left x y ⊎ has_source sources y
+      by x y (inl a) = inl (to x y a)
+      by x y (inr s) = inr s
+
+  -- a class that waited comes to be expanded
+  pub spread-popped : (class : ℕ) (sources : List (Option ℕ)) (marks : List Bool) (waiting : List ℕ)
+      → class < length marks → has_source sources class → IsSpread step seeds none_ahead sources marks (class ∷ waiting)
+      → IsSpread step seeds (all_ahead step class) sources (set marks class true) waiting
+  spread-popped class sources marks waiting within has spread = record {
+    sound = spread.sound;
+    covered = λ x s is. covered x (spread.covered x s is);
+    seeded = λ x seed. mark_stays marks class x (spread.seeded x seed);
+    known = λ x on. known x (mark_was marks class x on);
+    closed = λ x y on h. closed x y (mark_was marks class x on) h;
+  }
+    where
+      covered : (x : ℕ) → is_marked marks x ⊎ Contains (class ∷ waiting) x → is_marked (set marks class true) x ⊎ Contains waiting x
+      covered x (inl m) = inl (mark_stays marks class x m)
+      covered x (inr c) = by (Contains-first class waiting x c)
+        where
+          by : Contains waiting x ⊎ (class ≡ x) → is_marked (set marks class true) x ⊎ Contains waiting x
+          by (inl w) = inr w
+          by (inr same) = inl (subst (is_marked (set marks class true)) same (mark_on marks class within))
+
+      known : (x : ℕ) → (x ≡ class) ⊎ is_marked marks x → Contains seeds x ⊎ has_source sources x
+      known x (inl same) = inr (ap (λ k. is_some (get_or sources k None)) same ∙ has)
+      known x (inr m) = spread.known x m
+
+      closed : (x y : ℕ) → (x ≡ class) ⊎ is_marked marks x → step x y → all_ahead step class x y ⊎ has_source sources y
+      closed x y (inl same) h = inl (same, h)
+      closed x y (inr m) h = by (spread.closed x y m h)
+        where
+          by : none_ahead x y ⊎ has_source sources y → all_ahead step class x y ⊎ has_source sources y
+          by (inl n) = absurd n
+          by (inr s) = inr s
+
+  -- one that was expanded before waits no more
+  pub spread-passed : (class : ℕ) (sources : List (Option ℕ)) (marks : List Bool) (waiting : List ℕ) → is_marked marks class
+      → IsSpread step seeds none_ahead sources marks (class ∷ waiting) → IsSpread step seeds none_ahead sources marks waiting
+  spread-passed class sources marks waiting on spread = record {
+    sound = spread.sound;
+    covered = λ x s is. covered x (spread.covered x s is);
+    seeded = spread.seeded;
+    known = spread.known;
+    closed = spread.closed;
+  }
+    where
+      covered : (x : ℕ) → is_marked marks x ⊎ Contains (class ∷ waiting) x → is_marked marks x ⊎ Contains waiting x
+      covered x (inl m) = inl m
+      covered x (inr c) = by (Contains-first class waiting x c)
+        where
+          by : Contains waiting x ⊎ (class ≡ x) → is_marked marks x ⊎ Contains waiting x
+          by (inl w) = inr w
+          by (inr same) = inl (subst (is_marked marks) same on)
+
+  -- a class that was not expanded becomes a seed
+  pub spread-seeded : (class : ℕ) (sources : List (Option ℕ)) (marks : List Bool) → class < length marks
+      → IsSpread step seeds none_ahead sources marks [] → IsSpread step (seeds ++ class ∷ []) (all_ahead step class) sources (set marks class true) []
+  spread-seeded class sources marks within spread = record {
+    sound = λ x s is. let source = spread.sound x s is in (Contains-append_left seeds (class ∷ []) s source.0, source.1);
+    covered = λ x s is. covered x (spread.covered x s is);
+    seeded = λ x seed. seeded x (Contains-push_cases seeds class x seed);
+    known = λ x on. known x (mark_was marks class x on);
+    closed = λ x y on h. closed x y (mark_was marks class x on) h;
+  }
+    where
+      covered : (x : ℕ) → is_marked marks x ⊎ Contains [] x → is_marked (set marks class true) x ⊎ Contains [] x
+      covered x (inl m) = inl (mark_stays marks class x m)
+      covered x (inr c) = inr c
+
+      seeded : (x : ℕ) → Contains seeds x ⊎ (class ≡ x) → is_marked (set marks class true) x
+      seeded x (inl seed) = mark_stays marks class x (spread.seeded x seed)
+      seeded x (inr same) = subst (is_marked (set marks class true)) same (mark_on marks class within)
+
+      known : (x : ℕ) → (x ≡ class) ⊎ is_marked marks x → Contains (seeds ++ class ∷ []) x ⊎ has_source sources x
+      known x (inl same) = inl (subst (Contains (seeds ++ class ∷ [])) (sym same) (Contains-push seeds class))
+      known x (inr m) = by (spread.known x m)
+        where
+          by : Contains seeds x ⊎ has_source sources x → Contains (seeds ++ class ∷ []) x ⊎ has_source sources x
+          by (inl seed) = inl (Contains-append_left seeds (class ∷ []) x seed)
+          by (inr has) = inr has
+
+      closed : (x y : ℕ) → (x ≡ class) ⊎ is_marked marks x → step x y → all_ahead step class x y ⊎ has_source sources y
+      closed x y (inl same) h = inl (same, h)
+      closed x y (inr m) h = by (spread.closed x y m h)
+        where
+          by : none_ahead x y ⊎ has_source sources y → all_ahead step class x y ⊎ has_source sources y
+          by (inl n) = absurd n
+          by (inr s) = inr s
+
+  -- so does one that was
+  pub spread-seeded_again : (class : ℕ) (sources : List (Option ℕ)) (marks : List Bool) → is_marked marks class
+      → IsSpread step seeds none_ahead sources marks [] → IsSpread step (seeds ++ class ∷ []) none_ahead sources marks []
+  spread-seeded_again class sources marks on spread = record {
+    sound = λ x s is. let source = spread.sound x s is in (Contains-append_left seeds (class ∷ []) s source.0, source.1);
+    covered = spread.covered;
+    seeded = λ x seed. seeded x (Contains-push_cases seeds class x seed);
+    known = λ x m. known x (spread.known x m);
+    closed = spread.closed;
+  }
+    where
+      seeded : (x : ℕ) → Contains seeds x ⊎ (class ≡ x) → is_marked marks x
+      seeded x (inl seed) = spread.seeded x seed
+      seeded x (inr same) = subst (is_marked marks) same on
+
+      known : (x : ℕ) → Contains seeds x ⊎ has_source sources x → Contains (seeds ++ class ∷ []) x ⊎ has_source sources x
+      known x (inl seed) = inl (Contains-append_left seeds (class ∷ []) x seed)
+      known x (inr has) = inr has
+
+-- with further steps, some of which are ahead
+pub spread-longer : (step longer : ℕ → ℕ → Type 0) (seeds : List ℕ) (ahead : ℕ → ℕ → Type 0) (sources : List (Option ℕ)) (marks : List Bool)
+    → ((x y : ℕ) → step x y → longer x y) → ((x y : ℕ) → is_marked marks x → longer x y → step x y ⊎ ahead x y)
+    → IsSpread step seeds none_ahead sources marks [] → IsSpread longer seeds ahead sources marks []
+spread-longer step longer seeds ahead sources marks to back spread = record {
+  sound = λ x s is. let source = spread.sound x s is in (source.0, (source.1.0, IsWalk-same step longer to s x source.1.0 source.1.1));
+  covered = spread.covered;
+  seeded = spread.seeded;
+  known = spread.known;
+  closed = λ x y on h. closed x y on (back x y on h);
+}
+  where
+    closed : (x y : ℕ) → is_marked marks x → step x y ⊎ ahead x y → ahead x y ⊎ has_source sources y
+    closed x y on (inr a) = inl a
+    closed x y on (inl h) = by (spread.closed x y on h)
+      where
+        by : none_ahead x y ⊎ has_source sources y → ahead x y ⊎ has_source sources y
+        by (inl n) = absurd n
+        by (inr s) = inr s
+
+-- all steps of a class are ahead at first, and none when its neighbours are gone
+pub ahead-all : (near : List ℕ) (class x y : ℕ) → (x ≡ class) × Contains near y → ahead_from near class 0 x y
+ahead-all near class x y h = (h.0, (h.1.0, (omega arith, h.1.1, get_or_default near h.1.0 0 y h.1.1 ∙ h.1.2)))
+
+pub ahead-next : (near : List ℕ) (class k x y : ℕ) → ahead_from near class k x y → ahead_from near class (k + 1) x y ⊎ (y ≡ get_or near k 0)
+ahead-next near class k x y h = by (cases_eq h.1.0 k)
+  where
+    by : (h.1.0 ≡ k) ⊎ (h.1.0 ≢ k) → ahead_from near class (k + 1) x y ⊎ (y ≡ get_or near k 0)
+    by (inl same) = inr (sym h.1.1.2 ∙ ap (λ i. get_or near i 0) same)
+    by (inr other) = inl (h.0, (h.1.0, (omega (arith, h.1.1.0, other), h.1.1.1, h.1.1.2)))
+
+pub ahead-none : (near : List ℕ) (class k x y : ℕ) → length near ≤ k → ahead_from near class k x y → none_ahead x y
+ahead-none near class k x y past h = absurd (omega (arith, past, h.1.1.0, h.1.1.1))
+
+-- a class that gets its source on the way of the one that is expanded
+pub IsSource-next : (step : ℕ → ℕ → Type 0) (seeds : List ℕ) (class from next : ℕ) → Contains seeds from × ((from ≡ class) ⊎ HasWalk step from class) → step class next
+    → IsSource step seeds next from
+IsSource-next step seeds class from next why h = (why.0, by why.1)
+  where
+    by : (from ≡ class) ⊎ HasWalk step from class → HasWalk step from next
+    by (inl same) = HasWalk-one step from next (subst (λ x. step x next) (sym same) h)
+    by (inr walk) = HasWalk-more step from class next walk h
+
+-- the source that a marked class hands on along a step
+pub IsSource-along : (step : ℕ → ℕ → Type 0) (seeds : List ℕ) (ahead : ℕ → ℕ → Type 0) (sources : List (Option ℕ)) (marks : List Bool) (waiting : List ℕ) (a b : ℕ)
+    → IsSpread step seeds ahead sources marks waiting → is_marked marks a → step a b → IsSource step seeds b (unwrap_or (get_or sources a None) a)
+IsSource-along step seeds ahead sources marks waiting a b spread on h = by (get_or sources a None) refl
+  where
+    by : (o : Option ℕ) → get_or sources a None ≡ o → IsSource step seeds b (unwrap_or o a)
+    by None is = seed (spread.known a on)
+      where
+        seed : Contains seeds a ⊎ has_source sources a → IsSource step seeds b a
+        seed (inl s) = (s, HasWalk-one step a b h)
+        seed (inr has) = absurd (true≢false (sym has ∙ ap is_some is))
+    by (Some s) is = let source = spread.sound a s is in (source.0, HasWalk-more step s a b source.1 h)
+
+-- an edge of a list with one more is one of the list or that one
+pub IsEdge-cases : (before : List Edge) (a b x y : ℕ) → IsEdge (before ++ edge a b ∷ []) x y → IsEdge before x y ⊎ ((x ≡ a) × (y ≡ b))
+IsEdge-cases before a b x y h = by (Contains-push_cases before (edge a b) (edge x y) h)
+  where
+    by : IsEdge before x y ⊎ (edge a b ≡ edge x y) → IsEdge before x y ⊎ ((x ≡ a) × (y ≡ b))
+    by (inl old) = inl old
+    by (inr same) = inr (ap (λ (e : Edge). e.from) (sym same), ap (λ (e : Edge). e.to) (sym same))
+
+-- as many marks are seen as there are
+pub marks_len : (r : Inside) (reach : PlainReach) → reach_of r ≡ reach → vec_len r.marks ≡ length reach.marks
+marks_len r reach is = r.marks.ok.0 ∙ ap (λ (s : PlainReach). length s.marks) is
+
+-- with one edge more, from a class that was not expanded, nothing is ahead
+pub spread-unmarked : (before : List Edge) (seeds : List ℕ) (reach : PlainReach) (a b : ℕ) → get_or reach.marks a false ≡ false
+    → IsReach (IsEdge before) seeds reach → IsSpread (IsEdge (before ++ edge a b ∷ [])) seeds none_ahead reach.sources reach.marks []
+spread-unmarked before seeds reach a b off exact =
+    spread-longer (IsEdge before) (IsEdge (before ++ edge a b ∷ [])) seeds none_ahead reach.sources reach.marks
+    (λ x y h. Contains-append_left before (edge a b ∷ []) (edge x y) h) (λ x y on h. by x y on (IsEdge-cases before a b x y h)) (reach-spread (IsEdge before) seeds reach exact)
+  where
+    by : (x y : ℕ) → is_marked reach.marks x → IsEdge before x y ⊎ ((x ≡ a) × (y ≡ b)) → IsEdge before x y ⊎ none_ahead x y
+    by x y on (inl old) = inl old
+    by x y on (inr new) = absurd (true≢false (sym on ∙ ap (λ k. get_or reach.marks k false) new.0 ∙ off))
+
+-- with one edge more that step is ahead
+pub spread-edge : (before : List Edge) (seeds : List ℕ) (reach : PlainReach) (a b : ℕ) → IsReach (IsEdge before) seeds reach
+    → IsSpread (IsEdge (before ++ edge a b ∷ [])) seeds (λ x y. (x ≡ a) × (y ≡ b)) reach.sources reach.marks []
+spread-edge before seeds reach a b exact =
+    spread-longer (IsEdge before) (IsEdge (before ++ edge a b ∷ [])) seeds (λ x y. (x ≡ a) × (y ≡ b)) reach.sources reach.marks
+    (λ x y h. Contains-append_left before (edge a b ∷ []) (edge x y) h) (λ x y on h. IsEdge-cases before a b x y h) (reach-spread (IsEdge before) seeds reach exact)
+
+-- the same steps by another relation
+pub spread-same : (step other : ℕ → ℕ → Type 0) (seeds : List ℕ) (ahead : ℕ → ℕ → Type 0) (sources : List (Option ℕ)) (marks : List Bool) (waiting : List ℕ)
+    → ((x y : ℕ) → other x y ↔ step x y) → IsSpread step seeds ahead sources marks waiting → IsSpread other seeds ahead sources marks waiting
+spread-same step other seeds ahead sources marks waiting same spread = record {
+  sound = λ x s is. let source = spread.sound x s is in (source.0, (source.1.0, IsWalk-same step other (λ p q h. (same p q).1 h) s x source.1.0 source.1.1));
+  covered = spread.covered;
+  seeded = spread.seeded;
+  known = spread.known;
+  closed = λ x y on h. spread.closed x y on ((same x y).0 h);
+}
+
+-- a default at the end changes no answer
+get_or-push_default : {X : Type 0} → (xs : List X) (d : X) (k : ℕ) → get_or (xs ++ d ∷ []) k d ≡ get_or xs k d
+get_or-push_default xs d k = by (cases_order k (length xs))
+  where
+    by : (k ≡ length xs) ⊎ ((k < length xs) ⊎ (length xs < k)) → get_or (xs ++ d ∷ []) k d ≡ get_or xs k d
+    by (inl same) = get_or_push xs d d k (sym same) ∙ sym (get_or_past xs k d (omega (arith, same)))
+    by (inr (inl within)) = get_or_append_left xs (d ∷ []) d k within
+    by (inr (inr past)) = get_or_past (xs ++ d ∷ []) k d (omega (arith, past, length_push xs d)) ∙ sym (get_or_past xs k d (omega (arith, past)))
+
+-- a class more, without source or mark, leaves a reach exact
+pub IsReach-added : (step : ℕ → ℕ → Type 0) (seeds : List ℕ) (reach : PlainReach) (spare : ℕ) → IsReach step seeds reach
+    → IsReach step seeds (record { sources = reach.sources ++ None ∷ []; marks = reach.marks ++ false ∷ []; reached = reach.reached; spare = spare; expanded = reach.expanded })
+IsReach-added step seeds reach spare exact = record {
+  sources = λ c. rw (get_or-push_default reach.sources None c) (exact.sources c);
+  marked = λ c. rw (get_or-push_default reach.marks false c, get_or-push_default reach.sources None c) (exact.marked c);
+}
+
+-- what is given is given to the part of the list from a place on
+pub IsGiven-drop : (class from : ℕ) (sources : List (Option ℕ)) (reached : List ℕ) (new : List (Option ℕ)) (more : List ℕ) (done : ℕ) → done ≤ length reached
+    → IsGiven class from sources reached new more → IsGiven class from sources (drop done reached) new (drop done more)
+IsGiven-drop class from sources reached new more done within given = record {
+  had = λ has. let same = given.had has in (same.0, ap (drop done) same.1);
+  gets = given.gets;
+  waits = λ none. ap (drop done) (given.waits none) ∙ drop-append-le done reached (class ∷ []) within;
+}
+
+-- and the front of the list stays
+pub IsGiven-front : (class from : ℕ) (sources : List (Option ℕ)) (reached : List ℕ) (new : List (Option ℕ)) (more : List ℕ) (n : ℕ) → n ≤ length reached
+    → IsGiven class from sources reached new more → (take n more ≡ take n reached) × (length reached ≤ length more)
+IsGiven-front class from sources reached new more n within given = by (get_or sources class None) refl
+  where
+    by : (o : Option ℕ) → get_or sources class None ≡ o → (take n more ≡ take n reached) × (length reached ≤ length more)
+    by (Some s) is = let same = (given.had (ap is_some is)).1 in (ap (take n) same, omega (arith, ap length same))
+    by None is = let same = given.waits is in
+        (ap (take n) same ∙ take-append-le n reached (class ∷ []) within, omega (arith, ap length same, length_push reached class))
+
+-- a class of the list is one of the classes, and has a source
+pub AreReached-has : (sources : List (Option ℕ)) (reached : List ℕ) → AreReached sources reached → (k d : ℕ) → k < length reached
+    → has_source sources (get_or reached k d) × (get_or reached k d < length sources)
+AreReached-has sources reached are k d within = (has, by (cases_lt (get_or reached k d) (length sources)))
+  where
+    has : has_source sources (get_or reached k d)
+    has = (are.each (get_or reached k d)).0 (Contains-get_or reached k d within)
+
+    by : (get_or reached k d < length sources) ⊎ (length sources ≤ get_or reached k d) → get_or reached k d < length sources
+    by (inl l) = l
+    by (inr past) = absurd (true≢false (sym has ∙ ap is_some (get_or_past sources (get_or reached k d) None past)))
+
+-- the list is the same where a class is added
+pub AreReached-added : (sources : List (Option ℕ)) (reached : List ℕ) → AreReached sources reached → AreReached (sources ++ None ∷ []) reached
+AreReached-added sources reached are = record { once = are.once; each = λ c. rw (get_or-push_default sources None c) (are.each c) }
+
+-- what waits is the class at the place, and what waits behind it
+pub drop-next : (reached : List ℕ) (done class : ℕ) → done < length reached → class ≡ get_or reached done class → drop done reached ≡ class ∷ drop (done + 1) reached
+drop-next reached done class within is = drop_more reached done class within ∙ ap (λ x. x ∷ drop (done + 1) reached) (sym is)
+
+-- one more class in the list, which had no source and gets one
+pub AreReached-given : (sources : List (Option ℕ)) (reached : List ℕ) (class from : ℕ) → AreReached sources reached → class < length sources
+    → is_some (get_or sources class None) ≡ false → AreReached (set sources class (Some from)) (reached ++ class ∷ [])
+AreReached-given sources reached class from are within free = record {
+  once = IsDistinct-one_more reached class are.once (λ there. true≢false (sym ((are.each class).0 there) ∙ free));
+  each = λ c. (λ there. to c (Contains-push_cases reached class c there), λ has. back c (cases_eq c class) has);
+}
+  where
+    here : has_source (set sources class (Some from)) class
+    here = ap is_some (get_or-set_same sources class (Some from) None within)
+
+    to : (c : ℕ) → Contains reached c ⊎ (class ≡ c) → has_source (set sources class (Some from)) c
+    to c (inr same) = subst (has_source (set sources class (Some from))) same here
+    to c (inl there) = by (cases_eq c class)
+      where
+        by : (c ≡ class) ⊎ (c ≢ class) → has_source (set sources class (Some from)) c
+        by (inl same) = subst (has_source (set sources class (Some from))) (sym same) here
+        by (inr other) = ap is_some (get_or-set_other sources class c (Some from) None other) ∙ (are.each c).0 there
+
+    back : (c : ℕ) → (c ≡ class) ⊎ (c ≢ class) → has_source (set sources class (Some from)) c → Contains (reached ++ class ∷ []) c
+    back c (inl same) _ = subst (Contains (reached ++ class ∷ [])) (sym same) (Contains-push reached class)
+    back c (inr other) has = Contains-append_left reached (class ∷ []) c
+        ((are.each c).1 (sym (ap is_some (get_or-set_other sources class c (Some from) None other)) ∙ has))
+
+-- no class has a source where there is none
+pub AreReached-none : AreReached [] []
+AreReached-none = record {
+  once = IsDistinct-none;
+  each = λ c. (
+    λ there. absurd (omega (arith, there.1)),
+    λ has. absurd (true≢false (sym has ∙ past c)),
+  );
+}
+  where
+    empty : List (Option ℕ)
+    empty = []
+
+    past : (c : ℕ) → is_some (get_or empty c None) ≡ false
+    past c = ap is_some (get_or_past empty c None (omega arith))

@@ -1,5 +1,0 @@
-use Rattle.ld_lists.proofs.RunLemmas.{AreRuns-class}
-use Rattle.ld_lists.proofs.neighbours.Neighbours.add_class.Goals as goal
-
-pub invariant_of-self : goal.invariant_of-self
-invariant_of-self c = rw c.in-Ok.ensures.items (AreRuns-class _ _ _ c.self.invariant)

@@ -1,3 +1,0 @@
--- What only invariants, private functions and proofs cite: a reader of the promises needs none of it.
-pub mod Runs
-pub mod Sides
