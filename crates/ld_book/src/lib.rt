@@ -7,7 +7,7 @@ mod totals;
 mod traces;
 
 pub use book::{BatchRefusal, Book, Refusal, TakeRefusal};
-pub use ld_batch::Batch;
+pub use ld_facts::Batch;
 pub use ld_class::ClassName;
 pub use ld_find::{Alarms, ConflictRow, CycleRow, Findings, ForbiddenRow, Rows};
 pub use ld_union::UsageRow;

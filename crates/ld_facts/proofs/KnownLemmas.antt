@@ -15,17 +15,17 @@ use Rattle.ld_trace.specs.Events.{PlainEvent, Position, Said, plain_event, posit
 use Rattle.ld_tables.specs.declared.edges.EdgeFact.{EdgeFact}
 use Rattle.ld_rules.specs.declared.fault.TraceFault.{TraceFault}
 use Rattle.ld_rules.specs.declared.outcome.Outcome.TheVariants.{Read, Refused}
-use Rattle.ld_scan.specs.declared.scan.Scan.{Scan}
+use Rattle.ld_facts.specs.declared.scan.Scan.{Scan}
 use Rattle.ld_rules.specs.Outcome.{each_once, classes, event_fault, events, faulty_lines, outcome, outcome_by, of_line, said_fault}
 use Rattle.ld_rules.specs.Held.{class_acquired}
 use Rattle.ld_rules.specs.Dependency.{Dependency, Seen, dependencies_at, least_line, same_dependency, seen}
 use Rattle.ld_rules.specs.Union.{if_read}
-use Rattle.ld_scan.specs.Named.{named_dependency, named_use}
+use Rattle.ld_facts.specs.Named.{named_dependency, named_use}
 use Rattle.ld_facts.specs.Facts.{IsKnown}
 use Rattle.ld_rules.specs.Usage.{Use, bit_of, same_use, uses_at}
 use Rattle.ld_rules.specs.Inner.Scanned.{same_dependency_seen, same_use_seen}
 use Rattle.ld_tables.specs.declared.uses.UsageFact.{UsageFact}
-use Rattle.ld_scan.specs.Inner.Scan.{IsAt, Start, fresh_scan, happens, no_start}
+use Rattle.ld_facts.specs.Inner.Scan.{IsAt, Start, fresh_scan, happens, no_start}
 use Rattle.ld_facts.specs.Inner.Reading.{IsReadTo, positions_from}
 use Rattle.ld_rules.proofs.OutcomeLemmas.{first_fault}
 use Rattle.ld_rules.proofs.PlaceLemmas.{alike_from_decides, by_pushes, each_once-append, each_once-more}

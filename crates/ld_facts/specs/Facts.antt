@@ -10,7 +10,7 @@ use Rattle.ld_rules.specs.Outcome.{outcome}
 use Rattle.ld_rules.specs.Dependency.{Dependency, least_line, same_dependency}
 use Rattle.ld_rules.specs.Usage.{Use, same_use}
 use Rattle.ld_rules.specs.Union.{classes_of, dependencies_of, uses_of}
-use Rattle.ld_scan.specs.Named.{IsUse, named_dependency, named_use}
+use Rattle.ld_facts.specs.Named.{IsUse, named_dependency, named_use}
 
 pub record PlainFacts : Type 0 where
   pub source : PlainSource

@@ -1,6 +1,6 @@
-pub mod Facts
+pub mod Named
 pub mod Inner
--- what the clauses here cite of the crates below
+pub mod Facts
 pub use Rattle.ld_rules.specs.Open
 pub use Rattle.ld_rules.specs.Frames
 pub use Rattle.ld_rules.specs.Held
@@ -9,4 +9,4 @@ pub use Rattle.ld_rules.specs.Outcome
 pub use Rattle.ld_rules.specs.Dependency
 pub use Rattle.ld_rules.specs.Usage
 pub use Rattle.ld_rules.specs.Union
-pub use Rattle.ld_scan.specs.Named
+pub mod Batch

@@ -1,13 +1,29 @@
-//! The facts of one trace: its outcome, its classes, the dependencies between them, and how they
-//! met interrupt handlers.
+//! The facts of a trace, and of a batch of a few traces: the scan of events, and what it tells.
 #![tactic(auto)]
 
+mod batch;
+mod batch_reading;
+mod bounds;
+mod edges;
+mod guesses;
 mod known;
+mod names;
 mod reading;
+mod scan;
+mod shown;
+mod stop;
+mod taking;
+mod uses;
 
+pub use batch::Batch;
+pub use bounds::MOST_KNOWN;
+pub use edges::WitnessedEdge;
+pub use guesses::Guesses;
 pub use known::Facts;
-pub use ld_tables::EdgeFact;
 pub use ld_rules::{Listed, MOST_CLASSES, MOST_HELD, MOST_TASKS, Outcome, TraceFault, Witness};
-pub use ld_scan::{MOST_KNOWN, Scan};
-pub use ld_tables::UsageFact;
+pub use ld_tables::{EdgeFact, UsageFact};
+pub use names::intern_all;
 pub use reading::{facts, read_into};
+pub use scan::Scan;
+pub use stop::Stop;
+pub use uses::WitnessedUse;

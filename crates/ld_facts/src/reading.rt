@@ -5,12 +5,13 @@ ghost use Rattle.ld_trace.specs.Events.{answer_seen, positions};
 ghost use Rattle.ld_trace.specs.First.{IsFirstSaid};
 ghost use Rattle.ld_rules.specs.Outcome.{outcome};
 ghost use Rattle.ld_rules.specs.declared.outcome.Outcome.TheVariants.{Read, Refused};
-ghost use Rattle.ld_scan.specs.Inner.Scan.{AreMany, IsAt, StandsOn, Start};
+ghost use Rattle.ld_facts.specs.Inner.Scan.{AreMany, IsAt, StandsOn, Start};
 
 use crate::known::Facts;
 use ld_class::Classes;
 use ld_rules::{Outcome, TraceFault};
-use ld_scan::{Scan, Stop};
+use crate::scan::Scan;
+use crate::stop::Stop;
 use ld_trace::{Event, LineFault, Source, next_event, next_line, read_event, text};
 use ld_tables::Uses;
 use std::alloc::{AllocError, Global};

@@ -1,7 +1,6 @@
 //! Batches, compared with what `facts` says of each trace alone.
-use ld_batch::{Batch, WitnessedEdge, WitnessedUse};
+use ld_facts::{Batch, Facts, Outcome, TraceFault, Witness, WitnessedEdge, WitnessedUse, facts};
 use ld_class::{ClassName, Usage};
-use ld_facts::{Facts, Outcome, TraceFault, Witness, facts};
 use ld_trace::{Source, split};
 use std::alloc::AllocError;
 use std::process::Abort;

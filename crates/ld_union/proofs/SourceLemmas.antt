@@ -9,10 +9,10 @@ use Rattle.ld_facts.specs.Outcome.{each_once}
 use Rattle.ld_facts.specs.Union.{classes_of, dependencies_of, dependency_witness, first_witness, use_witness, uses_of}
 use Rattle.ld_facts.specs.Usage.{Use, same_use}
 use Rattle.ld_rules.proofs.PlaceLemmas.{by_pushes, flat_map-append}
-use Rattle.ld_batch.specs.Batch.{IsBatch, PlainBatch}
-use Rattle.ld_batch.specs.Inner.Names.{IsLonger, with_names}
-use Rattle.ld_batch.proofs.NameLemmas.{with_names-both_once}
-use Rattle.ld_batch.proofs.SourceLemmas.{earlier_of-none, shown_in, witness-push}
+use Rattle.ld_facts.specs.Batch.{IsBatch, PlainBatch}
+use Rattle.ld_facts.specs.Inner.Names.{IsLonger, with_names}
+use Rattle.ld_facts.proofs.NameLemmas.{with_names-both_once}
+use Rattle.ld_facts.proofs.SourceLemmas.{earlier_of-none, shown_in, witness-push}
 use Rattle.ld_union.specs.Inner.Union.{Adds, AreBetween, AreUsed, AreWitnessed, PlainUnion, earlier_of, with_first}
 use Rattle.ld_union.proofs.EarlierLemmas.{earlier_of-assoc}
 

@@ -13,8 +13,8 @@ ghost use Rattle.ld_graph.specs.Edges.{empty_graph, with_spares};
 ghost use Rattle.ld_facts.specs.Dependency.{Dependency};
 ghost use Rattle.ld_facts.specs.Usage.{IsBit};
 ghost use Rattle.ld_facts.specs.Union.{dependency_witness};
-ghost use Rattle.ld_batch.specs.Batch.{IsBatch};
-ghost use Rattle.ld_batch.specs.Inner.Names.{ArePlaces};
+ghost use Rattle.ld_facts.specs.Batch.{IsBatch};
+ghost use Rattle.ld_facts.specs.Inner.Names.{ArePlaces};
 ghost use Rattle.ld_graph.specs.Edges.{PlainGraph};
 ghost use Rattle.ld_graph.specs.Order.{IsInserted};
 ghost use Rattle.ld_union.specs.Inner.Union.{AreBetween, AreWitnessed, IsCycleEdge, edges_of, named_edge};
@@ -22,8 +22,7 @@ ghost use Rattle.ld_union.specs.Inner.Union.{with_first, with_seen};
 
 use crate::news::NewBit;
 use crate::states::PerState;
-use ld_batch::{Batch, Guesses};
-use ld_facts::Witness;
+use ld_facts::{Batch, Guesses, Witness};
 use ld_graph::{Edge, Graph, Insert, Reach};
 use std::alloc::{AllocError, Global};
 

@@ -7,15 +7,14 @@ ghost use Rattle.ld_class.specs.Names.{AreDistinct, PlainClass, no_class};
 ghost use Rattle.ld_class.specs.Usage.{either, has_bit};
 ghost use Rattle.ld_facts.specs.Union.{use_witness};
 ghost use Rattle.ld_facts.specs.Usage.{Bit, IsBit, Use, bit_of, same_bit};
-ghost use Rattle.ld_batch.specs.Inner.Names.{ArePlaces};
+ghost use Rattle.ld_facts.specs.Inner.Names.{ArePlaces};
 ghost use Rattle.ld_union.specs.Inner.News.{TellsBits};
 ghost use Rattle.ld_union.specs.Inner.Union.{AreUsed, with_bit, with_first, with_first_use};
 ghost use Rattle.ld_union.specs.Usage.{bits, bits_of, row_of};
 
 use crate::news::NewBit;
 use bitflags::Flags;
-use ld_batch::Batch;
-use ld_facts::Witness;
+use ld_facts::{Batch, Witness};
 use ld_class::Usage;
 
 /// The usage of a class, over all traces.

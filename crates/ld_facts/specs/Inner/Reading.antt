@@ -4,8 +4,8 @@ use Rattle.std.specs.List.{filter_map, enumerate_from}
 use Rattle.ld_trace.specs.Lines.{lines, text_of}
 use Rattle.ld_trace.specs.Sources.{PlainSource}
 use Rattle.ld_trace.specs.Events.{Position, position_of, positions, said_by}
-use Rattle.ld_scan.specs.declared.scan.Scan.{Scan}
-use Rattle.ld_scan.specs.Inner.Scan.{IsAt, Start}
+use Rattle.ld_facts.specs.declared.scan.Scan.{Scan}
+use Rattle.ld_facts.specs.Inner.Scan.{IsAt, Start}
 
 -- the positions of lines, the first of which has this number
 abbrev pub positions_from : ℕ → List ℕ → List Position

@@ -3,8 +3,8 @@ use Rattle.std.specs.Prelude.{◌≡◌, ◌≢◌, ℕ, ◌<◌, ◌≤◌, ◌
 use Rattle.std.specs.Option.{is_some}
 use Rattle.ld_class.specs.declared.names.TheConstants.{MOST_NAMES}
 use Rattle.ld_class.specs.Names.{AreDistinct, PlainClass, no_class, place_of}
-use Rattle.ld_batch.specs.Inner.Names.{IsLonger}
-pub use Rattle.ld_batch.specs.Inner.Rows.{earlier_of, seen_in}
+use Rattle.ld_facts.specs.Inner.Names.{IsLonger}
+pub use Rattle.ld_facts.specs.Inner.Rows.{earlier_of, seen_in}
 use Rattle.ld_trace.specs.declared.event.State.{State}
 use Rattle.ld_trace.specs.Sources.{PlainSource}
 use Rattle.ld_graph.specs.declared.Edge.{Edge}

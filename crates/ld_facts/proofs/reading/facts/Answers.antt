@@ -3,7 +3,7 @@ use Rattle.std.proofs.Common.{Ok, ap, sym, subst, ◌∙◌}
 use Rattle.ld_trace.specs.Sources.{plain}
 use Rattle.ld_rules.specs.declared.outcome.Outcome.TheVariants.{Read}
 use Rattle.ld_facts.specs.Facts.{IsKnown}
-use Rattle.ld_scan.specs.Inner.Scan.{no_start}
+use Rattle.ld_facts.specs.Inner.Scan.{no_start}
 use Rattle.ld_facts.proofs.KnownLemmas.{none-at, read-known}
 use Rattle.ld_facts.proofs.reading.facts.Goals as goal
 

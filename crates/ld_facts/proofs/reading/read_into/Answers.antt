@@ -4,9 +4,9 @@ use Rattle.ld_trace.specs.Lines.{text_of}
 use Rattle.ld_trace.specs.Sources.{plain}
 use Rattle.ld_trace.specs.Events.{answer_seen, plain_event, said_by}
 use Rattle.ld_rules.specs.declared.outcome.Outcome.TheVariants.{Refused}
-use Rattle.ld_scan.specs.Inner.Scan.{StandsOn}
+use Rattle.ld_facts.specs.Inner.Scan.{StandsOn}
 use Rattle.ld_facts.proofs.KnownLemmas.{moved, read-at, read-none, read-outcome, read-nothing, read-event, refused-event, refused-line}
-use Rattle.ld_scan.proofs.StandsLemmas.{stands-further, stands-same}
+use Rattle.ld_facts.proofs.StandsLemmas.{stands-further, stands-same}
 use Rattle.ld_facts.proofs.reading.read_into.Goals as goal
 use Rattle.ld_facts.proofs.reading.read_into.Goals.{in-Ok-None, in-Ok-Some+in-Ok}
 

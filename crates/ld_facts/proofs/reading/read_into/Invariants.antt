@@ -1,6 +1,6 @@
 use Rattle.std.proofs.Common.{◌+◌, ◌≤◌, length}
 use Rattle.ld_trace.specs.Sources.{plain}
-use Rattle.ld_scan.specs.Inner.Scan.{AreMany, StandsOn}
+use Rattle.ld_facts.specs.Inner.Scan.{AreMany, StandsOn}
 use Rattle.ld_facts.specs.Inner.Reading.{IsReadTo}
 use Rattle.ld_facts.proofs.reading.read_into.Given as goal
 

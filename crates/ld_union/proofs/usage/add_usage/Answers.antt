@@ -1,8 +1,8 @@
 use Rattle.std.proofs.Common.{rules, ◌≡◌, ◌+◌, ◌-◌, ◌<◌, ◌≤◌, ◌∙◌, List, ap, arith, get_or, length, subst, sym}
 use Rattle.ld_class.specs.Names.{no_class}
 use Rattle.ld_class.specs.Usage.{no_bits}
-use Rattle.ld_batch.specs.declared.uses.WitnessedUse.{WitnessedUse}
-use Rattle.ld_batch.specs.Batch.{named_use}
+use Rattle.ld_facts.specs.declared.uses.WitnessedUse.{WitnessedUse}
+use Rattle.ld_facts.specs.Batch.{named_use}
 use Rattle.ld_facts.specs.Usage.{Use, bit_of, same_use}
 use Rattle.ld_union.specs.Inner.Union.{AreUsed, earlier_of}
 use Rattle.ld_union.specs.Usage.{bits_of}

@@ -1,6 +1,6 @@
 use Rattle.std.proofs.Common.{◌≢◌, ◌*◌, ◌≤◌, ◌++◌, ◌∙◌, All, AllPairs, arith, length, subst, sym}
 use Rattle.ld_trace.specs.Sources.{Fits}
-use Rattle.ld_batch.proofs.BatchLemmas.{few_sources}
+use Rattle.ld_facts.proofs.BatchLemmas.{few_sources}
 use Rattle.ld_book.specs.Book.{is_any_listed}
 use Rattle.ld_book.specs.Inner.Kept.{IsKept}
 use Rattle.ld_book.proofs.BookLemmas.{apart_from_rise, kept-added}

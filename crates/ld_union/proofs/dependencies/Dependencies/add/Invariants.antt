@@ -2,8 +2,8 @@ use Rattle.std.proofs.Common.{◌≡◌, ◌+◌, ◌-◌, ◌≤◌, List, Opti
 use Rattle.ld_class.specs.Names.{PlainClass}
 use Rattle.ld_rules.specs.declared.outcome.Witness.{Witness}
 use Rattle.ld_facts.specs.Dependency.{Dependency, same_dependency}
-use Rattle.ld_batch.specs.Batch.{named_dependency, witness_of}
-use Rattle.ld_batch.specs.Inner.Names.{ArePlaces}
+use Rattle.ld_facts.specs.Batch.{named_dependency, witness_of}
+use Rattle.ld_facts.specs.Inner.Names.{ArePlaces}
 use Rattle.ld_union.specs.Inner.Reached.{AreInFront, HaveClasses, StayExact}
 use Rattle.ld_union.specs.Inner.Union.{AreBetween, AreWitnessed, IsCycleEdge, edges_of, with_first}
 use Rattle.ld_union.proofs.dependencies.Dependencies.add.Given as goal

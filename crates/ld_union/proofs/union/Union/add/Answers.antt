@@ -10,7 +10,7 @@ use Rattle.ld_facts.specs.Union.{use_witness}
 use Rattle.ld_union.specs.declared.dependencies.Witnessed.{Witnessed}
 use Rattle.ld_union.specs.declared.news.NewBit.{NewBit}
 use Rattle.ld_union.specs.declared.usage.UsageRow.{UsageRow}
-use Rattle.ld_batch.specs.Inner.Names.{ArePlaces, IsLonger, with_names}
+use Rattle.ld_facts.specs.Inner.Names.{ArePlaces, IsLonger, with_names}
 use Rattle.ld_union.specs.Inner.News.{Tells, TellsBits}
 use Rattle.ld_union.specs.Inner.Reached.{AreInFront, IsReachOf, IsSeeded, reached_by}
 use Rattle.ld_union.specs.Inner.States.{of_state}

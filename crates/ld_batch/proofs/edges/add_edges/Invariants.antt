@@ -1,9 +1,0 @@
-use Rattle.std.proofs.Common.{◌≡◌, ◌+◌, ◌-◌, ◌≤◌, ◌++◌, length, map, take, vec_len, vec_capacity}
-use Rattle.ld_batch.specs.Inner.Rows.{edge_of}
-use Rattle.ld_batch.proofs.edges.add_edges.Given as goal
-
-abbrev pub invariant-loop-fact : goal.invariant-loop-fact
-invariant-loop-fact l = record {
-  rows : l.rows.items ≡ l.fn.rows.items ++ map (edge_of l.numbers l.number) (take l.fact-index l.facts);
-  spare : vec_len l.rows + (length l.facts - l.fact-index) ≤ vec_capacity l.rows;
-}

@@ -1,0 +1,18 @@
+use Rattle.std.proofs.Common.{ap, sym, subst, ◌∙◌}
+use Rattle.ld_class.specs.Names.{place_of, with_name}
+use Rattle.ld_facts.specs.Inner.Kept.{AreNames}
+use Rattle.ld_facts.proofs.RowLemmas.{named-known, named-push, named-then}
+use Rattle.ld_facts.proofs.names.add_one.Goals as goal
+
+pub returns-then-has-clause-names : goal.returns-then-has-clause-names
+returns-then-has-clause-names c =
+    named-known c.args.known.now c.args.numbers.now c.args.names.now c.requires.names c.args.number c.requires.within (sym c.has.ensures ∙ c.if-has.true)
+
+pub returns-clause-same : goal.returns-clause-same
+returns-clause-same c =
+    let name = ap (λ n. place_of c.args.known.now n) (sym c.name.ensures.name) ∙ c.name.ensures.place in
+    let added = c.in_ok-intern.ensures.names ∙ ap (with_name c.args.names.now) c.name.ensures.name in
+    named-then c.add.result c.args.known.now c.args.numbers.now c.add.new.self c.intern.new.self c.args.number
+    (subst (AreNames c.args.known.now _) (sym added)
+    (named-push c.args.known.now c.args.numbers.now c.args.names.now c.requires.names c.args.number c.requires.within c.requires.distinct name (sym c.has.ensures ∙ c.if-has.false)))
+    c.add.ensures.added

@@ -1,0 +1,39 @@
+use Rattle.std.proofs.Common.{◌≡◌, ◌++◌, ◌∷◌, [], Some, Err, ap, sym, subst, ◌∙◌}
+use Rattle.std.proofs.lemmas.Result.{err_from_is_err_and}
+use Rattle.ld_trace.specs.Events.{plain_lock}
+use Rattle.ld_trace.specs.Events.PlainEvent.{Release}
+use Rattle.ld_rules.specs.declared.fault.TraceFault.TheVariants.{NotHeld}
+use Rattle.ld_facts.specs.declared.stop.Stop.TheVariants.{Fault}
+use Rattle.ld_tables.specs.Inner.Locks.{HeldByTasks}
+use Rattle.ld_facts.specs.Inner.Scan.{IsAt, happens}
+use Rattle.ld_facts.proofs.TaskLemmas.{scan_too_many_tasks}
+use Rattle.ld_facts.proofs.ReleaseLemmas.{release-not_held, release-at}
+use Rattle.ld_facts.proofs.scan.Scan.release.Goals as goal
+
+pub returns-in_err-task-clause-fault : goal.returns-in_err-task-clause-fault
+returns-in_err-task-clause-fault c fault is start all is_at =
+    let h = c.in_err-task.ensures.fault fault in
+    let p = err_from_is_err_and c.from_residual.result c.from_residual.ensures.1 in
+    let same : c.in_err-task.field-0.0 ≡ Fault fault = cc (p.1, p.2, is) in
+    let at = h (ap Err same) in
+    scan_too_many_tasks all c.args.self.now (Release c.args.task.now (plain_lock c.args.lock)) is_at at.1 at.2 ∙ ap Some (sym at.0)
+
+pub returns-else-branch-clause-fault : goal.returns-else-branch-clause-fault
+returns-else-branch-clause-fault c fault is start all is_at =
+    let same : NotHeld ≡ fault = cc in
+    release-not_held all c.args.self.now is_at c.args.task.now (plain_lock c.args.lock) c.in_ok-task.task c.task.new.self c.in_ok-task.ensures.task
+    (sym c.in_ok-let_go.ensures.held ∙ c.if-branch.false) ∙ ap Some same
+
+pub returns-then-branch-clause-ok : goal.returns-then-branch-clause-ok
+returns-then-branch-clause-ok c start all line is_at =
+    subst (λ (locks : HeldByTasks). IsAt start (all ++ happens line (Release c.args.task.now (plain_lock c.args.lock)) ∷ [])
+    (record {
+      tasks = c.task.new.self.tasks;
+      classes = c.task.new.self.classes;
+      own = c.task.new.self.own;
+      locks = locks;
+      uses = c.task.new.self.uses;
+      before = c.task.new.self.before;
+    })) (sym c.in_ok-let_go.ensures.stacks)
+    (release-at all c.args.self.now is_at c.args.task.now (plain_lock c.args.lock) c.in_ok-task.task c.task.new.self c.in_ok-task.ensures.task line
+    (sym c.in_ok-let_go.ensures.held ∙ c.if-branch.true))

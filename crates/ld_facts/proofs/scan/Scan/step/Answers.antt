@@ -1,0 +1,62 @@
+use Rattle.std.proofs.Common.{◌++◌, ◌∷◌, [], ap, subst, sym, ◌∙◌}
+use Rattle.std.proofs.lemmas.Result.{on_ok_weaker}
+use Rattle.ld_trace.specs.Events.{plain_event}
+use Rattle.ld_rules.specs.Outcome.{event_fault, events}
+use Rattle.ld_facts.specs.Inner.Scan.{IsAt, happens}
+use Rattle.ld_facts.proofs.scan.Scan.step.Goals as goal
+
+pub returns-in-Acquire-clause-fault : goal.returns-in-Acquire-clause-fault
+returns-in-Acquire-clause-fault c fault is start all is_at =
+    ap (λ e. event_fault (events all) (plain_event e)) c.in-Acquire.is ∙ c.acquire.ensures.fault fault is start all is_at
+
+pub returns-in-Try-clause-fault : goal.returns-in-Try-clause-fault
+returns-in-Try-clause-fault c fault is start all is_at =
+    ap (λ e. event_fault (events all) (plain_event e)) c.in-Try.is ∙ c.acquire-in-Try.ensures.fault fault is start all is_at
+
+pub returns-in-Nested-clause-fault : goal.returns-in-Nested-clause-fault
+returns-in-Nested-clause-fault c fault is start all is_at =
+    ap (λ e. event_fault (events all) (plain_event e)) c.in-Nested.is ∙ c.acquire-in-Nested.ensures.fault fault is start all is_at
+
+pub returns-in-Release-clause-ok : goal.returns-in-Release-clause-ok
+returns-in-Release-clause-ok c = on_ok_weaker c.release.result
+    (λ h start all is_at. subst (λ e. IsAt start (all ++ happens c.args.line (plain_event e) ∷ []) c.release.new.self) (sym c.in-Release.is) (h start all c.args.line is_at))
+    c.release.ensures.ok
+
+pub returns-in-Release-clause-fault : goal.returns-in-Release-clause-fault
+returns-in-Release-clause-fault c fault is start all is_at =
+    ap (λ e. event_fault (events all) (plain_event e)) c.in-Release.is ∙ c.release.ensures.fault fault is start all is_at
+
+pub returns-in-Enter-clause-fault : goal.returns-in-Enter-clause-fault
+returns-in-Enter-clause-fault c fault is start all is_at =
+    ap (λ e. event_fault (events all) (plain_event e)) c.in-Enter.is ∙ c.enter.ensures.fault fault is start all is_at
+
+pub returns-in-Exit-clause-fault : goal.returns-in-Exit-clause-fault
+returns-in-Exit-clause-fault c fault is start all is_at =
+    ap (λ e. event_fault (events all) (plain_event e)) c.in-Exit.is ∙ c.exit.ensures.fault fault is start all is_at
+
+pub returns-in-Enter-clause-ok : goal.returns-in-Enter-clause-ok
+returns-in-Enter-clause-ok c = on_ok_weaker c.enter.result
+    (λ h start all is_at. subst (λ e. IsAt start (all ++ happens c.args.line (plain_event e) ∷ []) c.enter.new.self) (sym c.in-Enter.is) (h start all c.args.line is_at))
+    c.enter.ensures.ok
+
+pub returns-in-Enable-clause-fault : goal.returns-in-Enable-clause-fault
+returns-in-Enable-clause-fault c fault is start all is_at =
+    ap (λ e. event_fault (events all) (plain_event e)) c.in-Enable.is ∙ c.enable.ensures.fault fault is start all is_at
+
+pub returns-in-Disable-clause-ok : goal.returns-in-Disable-clause-ok
+returns-in-Disable-clause-ok c = on_ok_weaker c.disable.result
+    (λ h start all is_at. subst (λ e. IsAt start (all ++ happens c.args.line (plain_event e) ∷ []) c.disable.new.self) (sym c.in-Disable.is) (h start all c.args.line is_at))
+    c.disable.ensures.ok
+
+pub returns-in-Disable-clause-fault : goal.returns-in-Disable-clause-fault
+returns-in-Disable-clause-fault c fault is start all is_at =
+    ap (λ e. event_fault (events all) (plain_event e)) c.in-Disable.is ∙ c.disable.ensures.fault fault is start all is_at
+
+pub returns-in-Begin-clause-ok : goal.returns-in-Begin-clause-ok
+returns-in-Begin-clause-ok c = on_ok_weaker c.begin_task.result
+    (λ h start all is_at. subst (λ e. IsAt start (all ++ happens c.args.line (plain_event e) ∷ []) c.begin_task.new.self) (sym c.in-Begin.is) (h start all c.args.line is_at))
+    c.begin_task.ensures.ok
+
+pub returns-in-Begin-clause-fault : goal.returns-in-Begin-clause-fault
+returns-in-Begin-clause-fault c fault is start all is_at =
+    ap (λ e. event_fault (events all) (plain_event e)) c.in-Begin.is ∙ c.begin_task.ensures.fault fault is start all is_at
