@@ -4,7 +4,7 @@ use Rattle.ld_trace.specs.Sources.{PlainSource}
 use Rattle.ld_rules.specs.declared.outcome.TheConstants.{MOST_CLASSES}
 use Rattle.ld_facts.specs.Batch.{AreRising, IsBatch, PlainBatch}
 use Rattle.ld_book.specs.Inner.Kept.{Fields, IsKept}
-use Rattle.ld_find.specs.Inner.Numbers.{AreFound}
+use Rattle.ld_union.specs.Inner.Numbers.{AreFound}
 use Rattle.ld_union.specs.Usage.{bits_of}
 use Rattle.ld_union.specs.Inner.Union.{Adds, Shows, edges_of}
 

@@ -20,14 +20,14 @@ use Rattle.ld_facts.specs.Usage.{Bit, Use, same_use}
 use Rattle.ld_facts.specs.Usage.Bit.{In, On}
 use Rattle.ld_rules.proofs.PlaceLemmas.{alike_from_decides, any_each_once}
 use Rattle.ld_rules.proofs.StepLemmas.{Decides-same_dependency}
-use Rattle.ld_find.specs.Findings.{AreFindings, AreRows, InTurn, IsBefore, IsConflictRow, IsCycleRow, IsForbiddenRow, IsHarder, IsPairBefore}
-use Rattle.ld_find.specs.Findings.{PlainConflictRow, PlainCycleRow, PlainFindings, PlainForbiddenRow, conflict_key, cycle_key, forbidden_key}
-use Rattle.ld_find.specs.Findings.{shown_marks}
+use Rattle.ld_union.specs.Findings.{AreFindings, AreRows, InTurn, IsBefore, IsConflictRow, IsCycleRow, IsForbiddenRow, IsHarder, IsPairBefore}
+use Rattle.ld_union.specs.Findings.{PlainConflictRow, PlainCycleRow, PlainFindings, PlainForbiddenRow, conflict_key, cycle_key, forbidden_key}
+use Rattle.ld_union.specs.Findings.{shown_marks}
 use Rattle.ld_book.specs.Totals.{events_read, is_refused, totals}
 use Rattle.ld_union.specs.Inner.Union.{seen_in}
 use Rattle.ld_union.specs.Usage.{witnessed_bits}
-use Rattle.ld_find.specs.Violations.{Depends, HasBit, HasViolation, IsConflict, IsCycle, IsForbidden, IsViolation, Violation}
-use Rattle.ld_find.specs.Violations.Violation.{Conflict, Cycle, Forbidden}
+use Rattle.ld_union.specs.Violations.{Depends, HasBit, HasViolation, IsConflict, IsCycle, IsForbidden, IsViolation, Violation}
+use Rattle.ld_union.specs.Violations.Violation.{Conflict, Cycle, Forbidden}
 use Rattle.ld_union.proofs.EachOnceLemmas.{IsDistinct-each_once, IsEquivalence-from_decides}
 use Rattle.ld_union.proofs.EarlierLemmas.{by-earlier, is_by, same_from_bounds}
 

@@ -3,8 +3,8 @@ ghost use Rattle.std.specs.Prelude.{◌≡◌, ◌≢◌, ◌++◌, ◌∷◌, [
 ghost use Rattle.std.specs.Prelude.{true, false};
 ghost use Rattle.ld_class.specs.Names.{plain_class};
 ghost use Rattle.ld_facts.specs.Union.{dependency_witness};
-ghost use Rattle.ld_find.specs.Alarms.{AreExact, plain_alarms};
-ghost use Rattle.ld_find.specs.Findings.{AreFindings, plain_findings};
+ghost use Rattle.ld_union.specs.Alarms.{AreExact, plain_alarms};
+ghost use Rattle.ld_union.specs.Findings.{AreFindings, plain_findings};
 ghost use Rattle.ld_facts.specs.Batch.{AreOutcomes, empty_batch, sources_of};
 ghost use Rattle.ld_book.specs.Book.{is_any_listed, is_listed};
 ghost use Rattle.ld_trace.specs.Sources.{Fits};
@@ -15,8 +15,7 @@ use crate::listing::Listing;
 use crate::totals::Totals;
 use ld_facts::{Batch, Facts, Guesses, Listed, Witness};
 use ld_class::ClassName;
-use ld_find::{Alarms, Findings, Found, findings_of};
-use ld_union::{News, Union, UsageRow};
+use ld_union::{Alarms, Findings, Found, News, Union, UsageRow, findings_of};
 use std::alloc::{AllocError, Global};
 use std::marker::Model;
 

@@ -7,3 +7,16 @@ pub mod SeenLemmas
 pub mod SourceLemmas
 pub mod UnionLemmas
 pub mod UsageLemmas
+pub mod CycleLemmas
+pub mod ForbiddenLemmas
+pub mod FoundLemmas
+pub mod NameOrderLemmas
+pub mod BitLemmas
+pub mod NumberLemmas
+pub mod ByNameLemmas
+pub mod PassedLemmas
+pub mod RowLemmas
+pub mod ShownLemmas
+pub mod SortedLemmas
+pub mod UniqueLemmas
+pub mod WitnessLemmas

@@ -1,7 +1,10 @@
--- What only invariants and proofs cite, and what the crates that make up a book say to one another: a
--- reader of the promises needs none of it.
+-- What invariants and proofs cite, and what the calls of ld_union say to the crates above: a reader of the
+-- promises needs none of it.
 pub mod States
 pub mod Bits
 pub mod Reached
 pub mod Union
 pub mod News
+pub mod ByName
+pub mod Numbers
+pub mod Rows

@@ -1,2 +1,5 @@
 pub mod Inner
 pub mod Usage
+pub mod Violations
+pub mod Alarms
+pub mod Findings

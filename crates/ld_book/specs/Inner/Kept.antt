@@ -2,8 +2,8 @@
 use Rattle.std.specs.Prelude.{◌*◌, ◌≤◌, List, length}
 use Rattle.ld_trace.specs.Sources.{PlainSource}
 use Rattle.ld_rules.specs.declared.outcome.TheConstants.{MOST_CLASSES}
-use Rattle.ld_find.specs.declared.alarms.Found.{Found}
-use Rattle.ld_find.specs.Inner.Numbers.{AreFound}
+use Rattle.ld_union.specs.declared.alarms.Found.{Found}
+use Rattle.ld_union.specs.Inner.Numbers.{AreFound}
 use Rattle.ld_union.specs.Usage.{bits_of}
 use Rattle.ld_union.specs.Inner.Union.{PlainUnion, Shows, edges_of}
 

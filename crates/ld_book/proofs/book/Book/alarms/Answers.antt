@@ -1,9 +1,9 @@
 use Rattle.std.proofs.Common.{◌∙◌, ap, length, subst, sym}
-use Rattle.ld_find.specs.Alarms.{AreExact}
-use Rattle.ld_find.specs.Inner.Numbers.{AreWithin, named_alarms}
+use Rattle.ld_union.specs.Alarms.{AreExact}
+use Rattle.ld_union.specs.Inner.Numbers.{AreWithin, named_alarms}
 use Rattle.ld_union.specs.Usage.{bits_of}
-use Rattle.ld_find.proofs.BitLemmas.{bits_from_used}
-use Rattle.ld_find.proofs.NumberLemmas.{exact_from_found, within_from_found}
+use Rattle.ld_union.proofs.BitLemmas.{bits_from_used}
+use Rattle.ld_union.proofs.NumberLemmas.{exact_from_found, within_from_found}
 use Rattle.ld_book.proofs.book.Book.alarms.Goals as goal
 
 pub named-requires : goal.named-requires

@@ -1,10 +1,10 @@
 use Rattle.std.proofs.Common.{subst}
 use Rattle.std.proofs.lemmas.Result.{IfOk-weaker}
-use Rattle.ld_find.specs.Findings.{AreFindings, plain_findings}
+use Rattle.ld_union.specs.Findings.{AreFindings, plain_findings}
 use Rattle.ld_union.specs.Usage.{bits_of}
-use Rattle.ld_find.proofs.FoundLemmas.{of_each_from_exact}
-use Rattle.ld_find.proofs.BitLemmas.{bits_from_used}
-use Rattle.ld_find.proofs.NumberLemmas.{exact_from_found}
+use Rattle.ld_union.proofs.FoundLemmas.{of_each_from_exact}
+use Rattle.ld_union.proofs.BitLemmas.{bits_from_used}
+use Rattle.ld_union.proofs.NumberLemmas.{exact_from_found}
 use Rattle.ld_book.proofs.book.Book.findings.Goals as goal
 
 pub returns : goal.returns

@@ -1,0 +1,10 @@
+use Rattle.std.proofs.Common.{List, map}
+use Rattle.ld_trace.specs.Sources.{PlainSource}
+use Rattle.ld_union.specs.Inner.Rows.{AreCycleRowsOf, IsPassed}
+use Rattle.ld_union.specs.Findings.{plain_cycle_row}
+use Rattle.ld_union.specs.Inner.Union.{Shows}
+use Rattle.ld_union.proofs.findings.cycles.cycle_rows.Given as goal
+
+abbrev pub invariant-loop-from : goal.invariant-loop-from
+invariant-loop-from l = (sources : List PlainSource) → Shows sources l.union
+    → AreCycleRowsOf sources (λ p. IsPassed l.union.classes l.order.numbers.items l.from-index p.0) (map plain_cycle_row l.rows.items)

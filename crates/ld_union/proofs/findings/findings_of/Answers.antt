@@ -1,0 +1,31 @@
+use Rattle.std.proofs.Common.{◌∙◌, ap, map, subst, sym}
+use Rattle.ld_union.specs.Findings.{AreConflictRows, AreCycleRows, AreForbiddenRows, InTurn, IsBefore, IsConflictRow, IsCycleRow, IsForbiddenRow}
+use Rattle.ld_union.specs.Findings.{IsHarder, IsPairBefore, conflict_key, cycle_key, forbidden_key, plain_conflict_row, plain_cycle_row}
+use Rattle.ld_union.specs.Findings.{plain_forbidden_row}
+use Rattle.ld_union.specs.Violations.{IsConflict, IsCycle, IsForbidden}
+use Rattle.ld_union.proofs.RowLemmas.{rows-absent}
+use Rattle.ld_union.proofs.findings.findings_of.Goals as goal
+
+pub returns-then-is_nothing : goal.returns-then-is_nothing
+returns-then-is_nothing c sources shows found =
+    let nothing = c.is_nothing.ensures c.if-is_nothing.true in
+    record {
+      cycles =
+          subst (AreCycleRows sources) (sym (ap (map plain_cycle_row) (c.from.ensures ∙ c.new.ensures.items)))
+          (rows-absent cycle_key (IsCycleRow sources) (λ p. IsCycle sources p.0 p.1) IsPairBefore (λ p. found.cycle nothing.cycle p.0 p.1));
+      conflicts =
+          subst (AreConflictRows sources) (sym (ap (map plain_conflict_row) (c.from-then-is_nothing.ensures ∙ c.new-then-is_nothing.ensures.items)))
+          (rows-absent conflict_key (IsConflictRow sources) (λ p. IsConflict sources p.0 p.1) (InTurn IsHarder IsBefore) (λ p. found.conflict p.0 (nothing.conflict p.0) p.1));
+      forbidden =
+          subst (AreForbiddenRows sources) (sym (ap (map plain_forbidden_row) (c.from-then-is_nothing-2.ensures ∙ c.new-then-is_nothing-2.ensures.items)))
+          (rows-absent forbidden_key (IsForbiddenRow sources) (λ p. IsForbidden sources p.0 p.1.0 p.1.1) (InTurn IsHarder IsPairBefore) (λ p. found.forbidden p.0 (nothing.forbidden p.0) p.1.0 p.1.1));
+    }
+
+pub returns : goal.returns
+returns c sources shows found = record {
+  cycles =
+      subst (AreCycleRows sources) (sym (ap (map plain_cycle_row) c.from-2.ensures))
+      (c.in_ok-cycles.ensures sources shows found);
+  conflicts = subst (AreConflictRows sources) (sym (ap (map plain_conflict_row) c.from-3.ensures)) (c.in_ok-conflicts.ensures sources shows);
+  forbidden = subst (AreForbiddenRows sources) (sym (ap (map plain_forbidden_row) c.from-4.ensures)) (c.in_ok-forbidden.ensures sources shows found);
+}

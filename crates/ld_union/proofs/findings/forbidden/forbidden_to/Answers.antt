@@ -1,0 +1,80 @@
+use Rattle.std.proofs.Common.{◌≡◌, ◌<◌, ◌≤◌, ◌+◌, ℕ, ◌∙◌, ◌∷◌, ◌++◌, [], List, Vec, get_or, length, map, subst, sym, ap}
+use Rattle.std.proofs.lemmas.List.{append-nil, map-append}
+use Rattle.std.proofs.lemmas.Option.{MatchOption-at_none, MatchOption-at_some}
+use Rattle.ld_class.specs.Names.{PlainClass, plain_class}
+use Rattle.ld_facts.specs.Union.{use_witness}
+use Rattle.ld_facts.specs.Usage.Bit.{In, On}
+use Rattle.ld_union.specs.Findings.{IsBefore, IsPairBefore, plain_forbidden_row}
+use Rattle.ld_union.specs.Inner.ByName.{class_name}
+use Rattle.ld_union.specs.Inner.Rows.{AreTurnedRowsOf, IsNoted, IsPassed, IsRowIn, IsTurnedRowOf, turned_key}
+use Rattle.ld_union.specs.Violations.{IsForbidden}
+use Rattle.ld_union.proofs.PassedLemmas.{name_at, passed_all, rows-more}
+use Rattle.ld_union.proofs.RowLemmas.{rows-not, rows-one, rows-same}
+use Rattle.ld_union.proofs.UsageLemmas.{number_of}
+use Rattle.ld_union.proofs.WitnessLemmas.{bit_of-usage_of}
+use Rattle.ld_union.proofs.findings.forbidden.forbidden_to.Goals as goal
+use Rattle.ld_union.proofs.findings.forbidden.forbidden_to.Goals.{in-Some-2+in_ok-push, in_default-2}
+
+pub forbidden_row-requires-clause-held : goal.forbidden_row-requires-clause-held
+forbidden_row-requires-clause-held c sources shows =
+    let classes = c.args.union.now.classes in
+    let held = c.in-Some.held in
+    subst (λ class. IsNoted sources (class_name classes class) (On c.args.state) (plain_class held.name) held.marks held.at) (sym c.in_ok-target.ensures.class)
+    (subst (λ bit. IsNoted sources (class_name classes c.args.to) bit (plain_class held.name) held.marks held.at)
+    (bit_of-usage_of (On c.args.state) c.on_bit.result c.on_bit.ensures) (c.in-Some.ensures sources shows))
+
+pub loop-from-preserved : goal.loop-from-preserved
+loop-from-preserved c sources shows =
+    let classes = c.args.union.now.classes in
+    let numbers = c.args.order.now.numbers.items in
+    let state = c.args.state in
+    let to = class_name classes c.args.to in
+    let class = c.in_ok-target.target.class in
+    let same : class_name classes class ≡ to = ap (class_name classes) c.in_ok-target.ensures.class in
+    let i = c.loop-from.from-index in
+    let from = get_or c.deref-from-items.result.now i 0 in
+    let name : class_name classes from ≡ name_at classes numbers i = ap (λ ns. class_name classes (get_or ns i 0)) c.deref-from-items.ensures.value in
+    let within : i < length numbers = subst (λ ns. i < length ns) c.deref-from-items.ensures.value c.loop-from-test.true in
+    let before = map plain_forbidden_row c.loop-from.rows.items in
+    let owed = λ (p : PlainClass × PlainClass). IsForbidden sources state p.1 p.0 in
+    elim c.match-branch-3.branch [
+      | in-Some-2+in_ok-push w ↦
+          let row = plain_forbidden_row w.in-Some-2.row in
+          let told = MatchOption-at_some (¬ IsForbidden sources state (class_name classes from) (class_name classes class))
+          (λ r. IsTurnedRowOf sources state (class_name classes class) (class_name classes from) (plain_forbidden_row r)) w.in-Some-2.row w.in-Some-2.is (c.in_ok-row.ensures sources shows) in
+          let is : IsTurnedRowOf sources state to (name_at classes numbers i) row = subst (λ n. IsTurnedRowOf sources state to n row) name
+          (subst (λ n. IsTurnedRowOf sources state n (class_name classes from) row) same told) in
+          let items : map plain_forbidden_row c.match-branch-3.rows.items ≡ before ++ row ∷ [] = ap
+          (λ (rows : Vec _ _). map plain_forbidden_row rows.items) w.rows-is ∙ ap (map plain_forbidden_row) w.in_ok-push.ensures.items ∙
+          map-append plain_forbidden_row c.loop-from.rows.items (w.in-Some-2.row ∷ []) in
+          subst (AreTurnedRowsOf sources state (λ p. (p.0 ≡ to) × IsPassed classes numbers (i + 1) p.1)) (sym items)
+          (rows-more classes numbers c.args.order.now.places.items c.requires.order turned_key (IsRowIn sources state) owed IsBefore to i before
+          (row ∷ []) within (c.loop-from.invariant sources shows)
+          (rows-one turned_key (IsRowIn sources state) owed IsPairBefore (to, name_at classes numbers i) row is.0 is.1))
+      | in_default-2 w ↦
+          let told = MatchOption-at_none (¬ IsForbidden sources state (class_name classes from) (class_name classes class))
+          (λ r. IsTurnedRowOf sources state (class_name classes class) (class_name classes from) (plain_forbidden_row r)) w.in_default-2.is (c.in_ok-row.ensures sources shows) in
+          let none : ¬ IsForbidden sources state (name_at classes numbers i) to = subst (λ n. ¬ IsForbidden sources state n to) name
+          (subst (λ n. ¬ IsForbidden sources state (class_name classes from) n) same told) in
+          let items : map plain_forbidden_row c.match-branch-3.rows.items ≡ before ++ [] = ap (λ (rows : Vec _ _). map plain_forbidden_row rows.items) w.rows-is ∙ sym (append-nil before) in
+          subst (AreTurnedRowsOf sources state (λ p. (p.0 ≡ to) × IsPassed classes numbers (i + 1) p.1)) (sym items)
+          (rows-more classes numbers c.args.order.now.places.items c.requires.order turned_key (IsRowIn sources state) owed IsBefore to i before []
+          within (c.loop-from.invariant sources shows)
+          (rows-not turned_key (IsRowIn sources state) owed IsPairBefore (to, name_at classes numbers i) none))
+    ]
+
+pub returns : goal.returns
+returns c sources shows =
+    let union = c.args.union.now in
+    let numbers = c.args.order.now.numbers.items in
+    let state = c.args.state in
+    let to = class_name union.classes c.args.to in
+    let i = c.loop-from.from-index in
+    let past : length numbers ≤ i = subst (λ ns. length ns ≤ i) c.deref-from-items.ensures.value c.loop-from-test.false in
+    rows-same turned_key (IsRowIn sources state) (λ p. IsForbidden sources state p.1 p.0) IsPairBefore
+    (λ p. (p.0 ≡ to) × IsPassed union.classes numbers i p.1) (λ p. p.0 ≡ to) (map plain_forbidden_row c.loop-from.rows.items)
+    (λ p here. here.0)
+    (λ p owed here.
+    let at = number_of union.classes union.usage (use_witness sources) shows.used (record { class = p.1; bit = In state }) owed.0 in
+    (here, passed_all union.classes numbers c.args.order.now.places.items c.requires.order at.0 i p.1 past at.1))
+    (c.loop-from.invariant sources shows)

@@ -1,0 +1,22 @@
+-- The numbers of the classes in the order of their names. No public contract cites this file.
+use Rattle.std.specs.Prelude.{◌≡◌, ℕ, ◌<◌, List, length, All, Contains, slice_index_or}
+use Rattle.ld_class.specs.Names.{PlainClass, no_class}
+use Rattle.ld_union.specs.Findings.{IsBefore}
+
+-- the name of a class
+abbrev pub class_name : List PlainClass → ℕ → PlainClass
+class_name classes class = slice_index_or classes class no_class
+
+-- the class at a place of the order
+abbrev pub class_at : List ℕ → ℕ → ℕ
+class_at numbers i = slice_index_or numbers i 0
+
+-- each number once, in the order of the names, and for each class its place there
+pub record AreByName (classes : List PlainClass) (numbers places : List ℕ) : Type 0 where
+  pub count : length numbers ≡ length classes
+  pub within : All (λ c. c < length classes) numbers
+  pub every : (c : ℕ) → c < length classes → Contains numbers c
+  pub rising : (i j : ℕ) → i < j → j < length numbers
+      → IsBefore (class_name classes (class_at numbers i)) (class_name classes (class_at numbers j))
+  pub placed : length places ≡ length classes
+  pub place : (i : ℕ) → i < length numbers → slice_index_or places (class_at numbers i) 0 ≡ i

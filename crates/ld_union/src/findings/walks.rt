@@ -1,0 +1,86 @@
+//! The walks that rows show.
+ghost use Rattle.std.specs.Prelude.{◌≡◌, ◌<◌, All, IfOk, List, MatchOption, length, map};
+ghost use Rattle.ld_graph.specs.Edges.{IsEdge};
+ghost use Rattle.ld_graph.specs.Walks.{HasWalk};
+ghost use Rattle.ld_trace.specs.Sources.{PlainSource};
+ghost use Rattle.ld_facts.specs.Union.{dependency_witness};
+ghost use Rattle.ld_union.specs.Findings.{IsShown, plain_names};
+ghost use Rattle.ld_union.specs.Inner.ByName.{AreByName, class_name};
+ghost use Rattle.ld_union.specs.Inner.Rows.{AreDistances};
+ghost use Rattle.ld_union.specs.Inner.Union.{Shows, edges_of};
+
+use crate::by_name::ByName;
+use crate::rows::Rows;
+use ld_class::{ClassName, Classes};
+use crate::union::Union;
+use std::alloc::{AllocError, Global};
+
+/// A class, and the *Distance* of each class to it.
+#[derive(Drop)]
+pub(crate) struct Target {
+    pub(crate) class: u32,
+    pub(crate) distances: Vec<Option<u64>>,
+}
+
+impl Target {
+    /// Searches for the walks to the class.
+    pub(crate) fn new(alloc: Global, union: &Union<'_>, class: u32) -> Result<Target, AllocError>
+        requires { class < length union.now.classes }
+        ensures class { IfOk result (λ target. target.class ≡ class) }
+        ensures distances { IfOk result (λ target.
+            AreDistances union.now class target.distances.items) }
+    {
+        let distances = union.graph().distances(alloc, class)?;
+        Ok(Target { class, distances })
+    }
+}
+
+/// The names of the shown walk from the class to the target's, or `None` where no walk leads there.
+pub(crate) fn walk_names<'a>(
+    alloc: Global,
+    union: &Union<'a>,
+    order: &ByName,
+    target: &Target,
+    from: u32,
+) -> Result<Option<Rows<ClassName<'a>>>, AllocError>
+    requires order { AreByName union.now.classes order.now.numbers.items order.now.places.items }
+    requires class { target.now.class < length union.now.classes }
+    requires distances { AreDistances union.now target.now.class target.now.distances.items }
+    requires from { from < length union.now.classes }
+    ensures { IfOk result (λ via. MatchOption via
+        (¬ HasWalk (IsEdge (edges_of union.now.dependencies)) from target.now.class)
+        (λ names. (sources : List PlainSource)
+        → Shows sources union.now
+        → IsShown sources (class_name union.now.classes from)
+        (class_name union.now.classes target.now.class) (plain_names names))) }
+{
+    let walk = union.graph().walk_along(
+        alloc,
+        from,
+        target.class,
+        &target.distances,
+        &order.places,
+    )?;
+    let Some(walk) = walk else {
+        return Ok(None);
+    };
+    let names = names_of(alloc, union.classes(), &walk)?;
+    Ok(Some(Rows::from(names)))
+}
+
+/// The names of the classes.
+fn names_of<'a>(
+    alloc: Global,
+    classes: &Classes<'a>,
+    numbers: &[u32],
+) -> Result<Vec<ClassName<'a>>, AllocError>
+    requires { All (λ c. c < length classes.now) numbers.now }
+    ensures { IfOk result (λ names. plain_names names.items
+        ≡ map (class_name classes.now) numbers.now) }
+{
+    let mut names = Vec::with_capacity(alloc, numbers.len())?;
+    for class in numbers {
+        names.push(classes.name(*class))?;
+    }
+    Ok(names)
+}
