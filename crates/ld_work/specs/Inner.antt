@@ -1,2 +1,3 @@
--- What only private functions and proofs cite: a reader of the promises needs none of it.
+-- What invariants and proofs cite, and what the calls of ld_work say to the crates above: a reader of the
+-- promises needs none of it.
 pub mod Uneven

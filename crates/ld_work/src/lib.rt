@@ -1,11 +1,15 @@
-//! Reads many traces at once, by workers that feed one book.
+//! Several workers at once: a desk with a book behind a lock, and the workers that feed it.
 #![tactic(auto)]
 
+mod desk;
 mod even;
+mod feeder;
 mod gate;
+mod sums;
 mod workers;
 
+pub use desk::{Back, Desk, Gathered, Look};
+pub use feeder::{Feeder, MOST_FEEDERS, Tally};
 pub use gate::{Gate, NoGate};
-pub use ld_desk::{Back, Desk, Feeder, Gathered, Look, MOST_FEEDERS, Tally};
 pub use ld_tickets::{DrawSeat, Drawn, Tickets};
 pub use workers::{WorkFault, work};

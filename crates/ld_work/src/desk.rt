@@ -4,7 +4,7 @@ ghost use Rattle.std.specs.Prelude.{IfErr, IfOk, IsErr, OnErr, OnOk};
 ghost use Rattle.ld_facts.specs.Batch.{empty_batch};
 ghost use Rattle.ld_book.specs.Book.{is_any_listed, is_listed};
 ghost use Rattle.ld_book.specs.Totals.{event_count};
-ghost use Rattle.ld_desk.specs.Desk.{IsEvent, IsSubmitted, sum_of, tally_of};
+ghost use Rattle.ld_work.specs.Desk.{IsEvent, IsSubmitted, sum_of, tally_of};
 
 use crate::feeder::{Feeder, MOST_FEEDERS, Tally};
 use crate::sums::{added_since, audited, count, joined};

@@ -1,6 +1,6 @@
 use Rattle.std.specs.Prelude.{◌≡◌, length}
 use Rattle.std.specs.List.{sum_by}
-use Rattle.ld_desk.proofs.sums.joined.Given as goal
+use Rattle.ld_work.proofs.sums.joined.Given as goal
 
 abbrev pub invariant-loop-feeder : goal.invariant-loop-feeder
 invariant-loop-feeder g l =

@@ -4,7 +4,7 @@ use Rattle.std.specs.List.{sum_by}
 use Rattle.ld_trace.specs.Sources.{PlainSource}
 use Rattle.ld_book.specs.Book.{is_any_listed}
 use Rattle.ld_book.specs.Totals.{event_count}
-use Rattle.ld_desk.specs.declared.feeder.Tally.{Tally}
+use Rattle.ld_work.specs.declared.feeder.Tally.{Tally}
 
 -- the traces and the events of some sources
 abbrev pub tally_of : List PlainSource → Tally

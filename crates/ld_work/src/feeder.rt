@@ -29,7 +29,7 @@ pub struct Feeder<T: Ledger, E: Ledger> {
 
 impl<T: Ledger, E: Ledger> Model for Feeder<T, E> {
     ghost use Rattle.std.specs.Prelude.{◌≡◌};
-    ghost use Rattle.ld_desk.specs.declared.feeder.Tally.{Tally};
+    ghost use Rattle.ld_work.specs.declared.feeder.Tally.{Tally};
 
     ghost Value = { Tally };
 

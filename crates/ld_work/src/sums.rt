@@ -1,7 +1,7 @@
 //! What feeders add, and the sums of it.
 ghost use Rattle.std.specs.Prelude.{◌≡◌, ◌≤◌, ◌<◌, ◌+◌, ◌^◌, length};
 ghost use Rattle.ld_book.specs.Totals.{event_count};
-ghost use Rattle.ld_desk.specs.Desk.{plus, sum_of, tally_of};
+ghost use Rattle.ld_work.specs.Desk.{plus, sum_of, tally_of};
 
 use crate::feeder::{Feeder, Tally};
 use ld_book::{Book, Totals};
