@@ -1,6 +1,8 @@
 pub mod Named
 pub mod Inner
 pub mod Facts
+pub mod Batch
+-- what the clauses here cite of the crates below
 pub use Rattle.ld_rules.specs.Open
 pub use Rattle.ld_rules.specs.Frames
 pub use Rattle.ld_rules.specs.Held
@@ -9,4 +11,3 @@ pub use Rattle.ld_rules.specs.Outcome
 pub use Rattle.ld_rules.specs.Dependency
 pub use Rattle.ld_rules.specs.Usage
 pub use Rattle.ld_rules.specs.Union
-pub mod Batch

@@ -1,4 +1,5 @@
-//! A graph between numbered classes: its lists, distances and shown walks, an order that is kept by repairs, and what is\nreached from some classes.
+//! A graph between numbered classes: its lists of neighbours, distances and shown walks, an order that is kept
+//! by repairs, and what walks lead to from some classes.
 #![tactic(auto)]
 
 mod graph;

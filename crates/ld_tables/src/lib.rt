@@ -1,4 +1,5 @@
-//! What a scan keeps of tasks and of classes, by numbers: stacks, frames, flags, chains, dependencies, usage bits.
+//! What a scan keeps of tasks and of classes, by numbers: stacks of held locks, open frames, flags, chains,
+//! dependencies and usage bits.
 #![tactic(auto)]
 
 mod chains;

@@ -1,4 +1,5 @@
-//! What some traces show together: their classes, numbered, the dependencies and the usage of these, and every\nviolation among them.
+//! What some traces show together: their classes, numbered, the dependencies and the usage of these, each with
+//! the place where it was first seen, and every violation among them.
 #![tactic(auto)]
 
 mod alarms;

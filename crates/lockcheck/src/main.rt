@@ -6,20 +6,10 @@ ghost use Rattle.std.specs.Process.{exit_status};
 ghost use Rattle.clap.specs.Values.{kind_of};
 ghost use Rattle.clap.specs.declared.error.kind.ErrorKind.{ErrorKind};
 
-pub mod check;
-#[cfg(test)]
-mod fakes;
-pub mod report;
-pub mod run;
-#[cfg(test)]
-mod streams;
-
-use crate::devices::Std;
-use crate::report::Verdict;
-use crate::run::{RunFault, run};
-use crate::words::workers;
-pub use ld_device as devices;
-pub use ld_words as words;
+use ld_check::{MOST_WORKERS, RunFault, run};
+use ld_device::Std;
+use ld_report::Verdict;
+use ld_words::workers;
 use std::fmt::Display;
 use std::process::ExitCode;
 use std::rt::Env;
@@ -29,6 +19,9 @@ use std::{env, io};
 const NO_REPORT: u8 = 2;
 
 const _: () = prove!(NO_REPORT == 1 + 1);
+
+// The words of the command line ask for no more workers than a run takes.
+const _: () = prove!(ld_words::MOST_WORKERS == MOST_WORKERS);
 
 fn main(rt: HostRuntime) -> ExitCode {
     let words = match given_words(&rt) {

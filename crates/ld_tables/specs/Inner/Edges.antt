@@ -1,5 +1,4 @@
--- Dependencies between numbered classes. The calls of ld_held cite it, and nothing that
--- a caller of ld_batch sees.
+-- Dependencies between numbered classes. No contract of a `Batch` cites this file.
 use Rattle.std.specs.Prelude.{◌≡◌, ◌≢◌, ◌<◌, ◌≤◌, ℕ, Bool, ◌&&◌, ◌==◌, List, [], ◌∷◌, ◌++◌, All}
 use Rattle.std.specs.Prelude.{length, map, slice_index_or, if◌then◌else◌}
 use Rattle.std.specs.List.{list_any, AllPairs}

@@ -1,5 +1,5 @@
 -- What the scan keeps of a task's frames and flags, read as lists: the innermost frame first.
--- The calls of ld_frames cite this, and nothing that a caller of ld_batch sees.
+-- No contract of a `Batch` cites this file.
 use Rattle.std.specs.Prelude.{◌≡◌, ℕ, Bool, true, false, ◌&&◌, not, List, [], ◌∷◌, ◌++◌, map, drop}
 use Rattle.std.specs.Prelude.{slice_index_or, Option, Some, None, if◌then◌else◌}
 use Rattle.std.specs.List.{list_any}

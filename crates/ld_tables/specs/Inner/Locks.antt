@@ -1,5 +1,5 @@
 -- What tasks hold and which dependencies were told, and what ties the cache of chains to them.
--- The calls of ld_held cite this, and nothing that a caller of ld_batch sees.
+-- No contract of a `Batch` cites this file.
 use Rattle.std.specs.Prelude.{◌≡◌, ◌<◌, ◌≤◌, ◌+◌, ℕ, Bool, true, List, [], ◌∷◌, ◌++◌, map, length, take}
 use Rattle.std.specs.Prelude.{drop, slice_index_or, Option, None, IfSome}
 use Rattle.std.specs.List.{last_or, list_all, list_any, All}

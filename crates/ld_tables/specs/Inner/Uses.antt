@@ -1,5 +1,4 @@
--- The usage bits of numbered classes, as the scan keeps them. The calls of ld_uses cite it, and nothing that
--- a caller of ld_batch sees.
+-- The usage bits of numbered classes, as the scan keeps them. No contract of a `Batch` cites this file.
 use Rattle.std.specs.Prelude.{ℕ, Bool, false, ◌&&◌, ◌==◌, List, [], ◌∷◌, ◌++◌, ◌≡◌, ◌<◌, length, map, take}
 use Rattle.std.specs.Prelude.{reverse, slice_index_or, if◌then◌else◌}
 use Rattle.std.specs.List.{list_any}

@@ -1,0 +1,15 @@
+//! The check of a stream, its report, and a whole run: what a program does with a stream, from its bytes to
+//! the text of the report.
+#![tactic(auto)]
+
+mod checked;
+#[cfg(test)]
+mod fakes;
+mod report;
+mod runs;
+#[cfg(test)]
+mod streams;
+
+pub use checked::{CheckFault, Checked, MOST_WORKERS, check};
+pub use report::{Report, report_of};
+pub use runs::{RunFault, run};
