@@ -2,7 +2,7 @@
 use Rattle.std.proofs.Common.{◌≡◌, ◌≢◌, ◌*◌, ◌≤◌, ◌++◌, AllPairs, List, length, sym, ap, subst, arith, length-append}
 use Rattle.ld_trace.specs.Sources.{PlainSource}
 use Rattle.ld_rules.specs.declared.outcome.TheConstants.{MOST_CLASSES}
-use Rattle.ld_facts.specs.Batch.{AreRising, IsBatch, PlainBatch}
+use Rattle.ld_shown.specs.Batch.{AreRising, IsBatch, PlainBatch}
 use Rattle.ld_book.specs.Inner.Kept.{Fields, IsKept}
 use Rattle.ld_union.specs.Inner.Numbers.{AreFound}
 use Rattle.ld_union.specs.Usage.{bits_of}

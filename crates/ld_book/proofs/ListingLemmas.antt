@@ -9,8 +9,8 @@ use Rattle.ld_class.proofs.Mapped.{list_any-map}
 use Rattle.ld_trace.specs.Sources.{PlainSource, plain}
 use Rattle.ld_rules.specs.declared.outcome.Listed.{Listed}
 use Rattle.ld_facts.specs.Outcome.{outcome}
-use Rattle.ld_facts.proofs.MetLemmas.{fails_at}
-use Rattle.ld_facts.specs.Batch.{sources_of}
+use Rattle.ld_shown.proofs.MetLemmas.{fails_at}
+use Rattle.ld_shown.specs.Batch.{sources_of}
 use Rattle.ld_book.specs.Book.{is_any_listed, is_listed}
 use Rattle.ld_book.specs.Totals.{event_count, events_read, is_refused, refused_count}
 

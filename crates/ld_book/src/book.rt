@@ -5,7 +5,7 @@ ghost use Rattle.ld_class.specs.Names.{plain_class};
 ghost use Rattle.ld_facts.specs.Union.{dependency_witness};
 ghost use Rattle.ld_union.specs.Alarms.{AreExact, plain_alarms};
 ghost use Rattle.ld_union.specs.Findings.{AreFindings, plain_findings};
-ghost use Rattle.ld_facts.specs.Batch.{AreOutcomes, empty_batch, sources_of};
+ghost use Rattle.ld_shown.specs.Batch.{AreOutcomes, empty_batch, sources_of};
 ghost use Rattle.ld_book.specs.Book.{is_any_listed, is_listed};
 ghost use Rattle.ld_trace.specs.Sources.{Fits};
 ghost use Rattle.ld_book.specs.Totals.{totals};
@@ -13,8 +13,8 @@ ghost use Rattle.ld_union.specs.Usage.{usage_row};
 
 use crate::listing::Listing;
 use crate::totals::Totals;
-use ld_facts::{Batch, Facts, Guesses, Listed, Witness};
 use ld_class::ClassName;
+use ld_facts::{Batch, Facts, Guesses, Listed, Witness};
 use ld_union::{Alarms, Findings, Found, News, Union, UsageRow, findings_of};
 use std::alloc::{AllocError, Global};
 use std::marker::Model;
@@ -193,7 +193,7 @@ impl<'a> Book<'a> {
     {
         let traces = batch.listed();
         self.listing.room(traces.len())?;
-        self.union.add(batch, guesses, &mut self.news)?;
+        self.union.add(&batch.shown(), guesses, &mut self.news)?;
         // From here on nothing is refused.
         self.found.note(&self.union, &self.news);
         self.listing.add_all(traces);

@@ -7,9 +7,8 @@ mod totals;
 mod traces;
 
 pub use book::{BatchRefusal, Book, Refusal, TakeRefusal};
-pub use ld_facts::Batch;
 pub use ld_class::ClassName;
-pub use ld_union::{Alarms, ConflictRow, CycleRow, Findings, ForbiddenRow, Rows};
-pub use ld_union::UsageRow;
+pub use ld_facts::Batch;
+pub use ld_union::{Alarms, ConflictRow, CycleRow, Findings, ForbiddenRow, Rows, UsageRow};
 pub use totals::Totals;
 pub use traces::Traces;

@@ -1,7 +1,7 @@
 //! The traces of a book, in the order of their numbers.
 ghost use Rattle.std.specs.Prelude.{◌≡◌, IfOk};
 ghost use Rattle.std.specs.List.Sorted.{IsPermutation};
-ghost use Rattle.ld_facts.specs.Batch.{AreOutcomes, AreRising, sources_of};
+ghost use Rattle.ld_shown.specs.Batch.{AreOutcomes, AreRising, sources_of};
 
 use crate::book::Book;
 use ld_facts::Listed;
@@ -20,7 +20,7 @@ impl<'a> Model for Traces<'a> {
 
     ghost Value = { List PlainSource };
 
-    ghost use Rattle.ld_facts.specs.Batch.{AreOutcomes, AreRising, sources_of};
+    ghost use Rattle.ld_shown.specs.Batch.{AreOutcomes, AreRising, sources_of};
 
     ghost view = { λ t. sources_of t.listed.items };
 

@@ -12,9 +12,6 @@ pub mod StandsLemmas
 pub mod StartLemmas
 pub mod KnownLemmas
 pub mod BatchLemmas
-pub mod MetLemmas
-pub mod NameLemmas
-pub mod SourceLemmas
 pub mod TraceLemmas
 pub mod ShownLemmas
 pub mod RowLemmas

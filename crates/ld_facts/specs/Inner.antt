@@ -3,5 +3,4 @@
 pub mod Scan
 pub mod Reading
 pub mod Kept
-pub mod Names
 pub mod Rows

@@ -1,7 +1,6 @@
 pub mod Named
 pub mod Inner
 pub mod Facts
-pub mod Batch
 -- what the clauses here cite of the crates below
 pub use Rattle.ld_rules.specs.Open
 pub use Rattle.ld_rules.specs.Frames

@@ -5,17 +5,15 @@ ghost use Rattle.ld_rules.specs.declared.outcome.Listed.{Listed};
 ghost use Rattle.std.specs.List.{last_or};
 ghost use Rattle.ld_trace.specs.Sources.{Fits, plain};
 ghost use Rattle.ld_rules.specs.declared.outcome.TheConstants.{MOST_CLASSES};
-ghost use Rattle.ld_facts.specs.Batch.{AreOutcomes, IsBatch, empty_batch, sources_of};
+ghost use Rattle.ld_shown.specs.Batch.{AreOutcomes, IsBatch, empty_batch, sources_of};
 
-use crate::edges::WitnessedEdge;
-use crate::guesses::Guesses;
 use crate::batch_reading::read;
-use crate::shown::Shown;
-use crate::uses::WitnessedUse;
-use ld_class::Classes;
+use crate::batch_rows::BatchRows;
 use crate::known::Facts;
-use ld_rules::Listed;
 use crate::scan::Scan;
+use ld_class::Classes;
+use ld_rules::Listed;
+use ld_shown::{Guesses, Shown, WitnessedEdge, WitnessedUse};
 use ld_trace::Source;
 use std::alloc::{AllocError, Global};
 use std::marker::Model;
@@ -31,12 +29,12 @@ pub struct Batch<'a> {
     /// It scans each trace on top of what the ones before it show, and is ready for the next one. It may
     /// know more classes than those of the batch, which were met before the batch was emptied.
     scan: Scan<'a>,
-    shown: Shown<'a>,
+    rows: BatchRows<'a>,
     guesses: Guesses,
 }
 
 impl<'a> Model for Batch<'a> {
-    ghost use Rattle.ld_facts.specs.Batch.{PlainBatch};
+    ghost use Rattle.ld_shown.specs.Batch.{PlainBatch};
     ghost use Rattle.ld_facts.specs.Inner.Kept.{IsKept, batch_of};
 
     ghost Value = { PlainBatch };
@@ -44,19 +42,19 @@ impl<'a> Model for Batch<'a> {
     ghost view = { λ b. batch_of (record {
       listed = b.listed.items;
       scan = b.scan;
-      classes = b.shown.classes;
-      numbers = b.shown.numbers;
-      edges = b.shown.edges.items;
-      usage = b.shown.usage.items;
+      classes = b.rows.classes;
+      numbers = b.rows.numbers;
+      edges = b.rows.edges.items;
+      usage = b.rows.usage.items;
     }) };
 
     ghost invariant = { λ b. IsKept (record {
       listed = b.listed.items;
       scan = b.scan;
-      classes = b.shown.classes;
-      numbers = b.shown.numbers;
-      edges = b.shown.edges.items;
-      usage = b.shown.usage.items;
+      classes = b.rows.classes;
+      numbers = b.rows.numbers;
+      edges = b.rows.edges.items;
+      usage = b.rows.usage.items;
     }) };
 }
 
@@ -68,7 +66,7 @@ impl<'a> Batch<'a> {
         Batch {
             listed: Vec::new(alloc),
             scan: Scan::new(alloc),
-            shown: Shown::new(alloc),
+            rows: BatchRows::new(alloc),
             guesses: Guesses::new(alloc),
         }
     }
@@ -80,7 +78,7 @@ impl<'a> Batch<'a> {
     {
         self.listed.clear();
         self.scan.clear();
-        self.shown.clear();
+        self.rows.clear();
     }
 
     /// A batch of the one trace that these facts are of.
@@ -115,7 +113,7 @@ impl<'a> Batch<'a> {
         ensures refused { OnErr result (self.new ≡ self.old) }
     {
         self.listed.reserve(1)?;
-        let outcome = read(&mut self.scan, &mut self.shown, source)?;
+        let outcome = read(&mut self.scan, &mut self.rows, source)?;
         // From here on nothing is refused.
         self.listed.push_reserved(Listed { source, outcome });
         Ok(())
@@ -137,7 +135,7 @@ impl<'a> Batch<'a> {
     pub fn classes(&self) -> &Classes<'a>
         ensures { result.now ≡ self.now.classes }
     {
-        &self.shown.classes
+        &self.rows.classes
     }
 
     /// The dependencies, each once with its first witness, in no promised order. Takes no memory.
@@ -145,7 +143,7 @@ impl<'a> Batch<'a> {
         ensures same { result.now ≡ self.now.edges }
         ensures exact { IsBatch self.now }
     {
-        &self.shown.edges
+        &self.rows.edges
     }
 
     /// The usage bits, each of each class once with its first witness, in no promised order. Takes no
@@ -154,19 +152,22 @@ impl<'a> Batch<'a> {
         ensures same { result.now ≡ self.now.usage }
         ensures exact { IsBatch self.now }
     {
-        &self.shown.usage
+        &self.rows.usage
     }
 
-    /// The numbers that the scan has for the classes, in their order: guesses are kept by them. Takes no
-    /// memory.
-    pub fn class_numbers(&self) -> &[u32] {
-        self.shown.numbers.as_slice()
-    }
-
-    /// The numbers that the scan has for the pairs of classes of the dependencies, in their order: guesses
-    /// are kept by them. Takes no memory.
-    pub fn pair_numbers(&self) -> &[u32] {
-        self.scan.locks.pairs()
+    /// What the traces show, with the numbers that the scan has for their classes and for the pairs of these:
+    /// guesses are kept by them. Takes no memory.
+    pub fn shown(&self) -> Shown<'_, 'a>
+        ensures { result ≡ self.now }
+    {
+        Shown::new(
+            self.listed(),
+            self.classes(),
+            self.edges(),
+            self.usage(),
+            self.rows.numbers.as_slice(),
+            self.scan.locks.pairs(),
+        )
     }
 
     /// Puts these guesses in the place of those that were kept, and answers those. Takes no memory.

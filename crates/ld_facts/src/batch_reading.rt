@@ -7,13 +7,13 @@ ghost use Rattle.ld_rules.specs.Outcome.{outcome};
 ghost use Rattle.ld_rules.specs.Union.{classes_of};
 ghost use Rattle.ld_facts.specs.Inner.Scan.{IsAt, StandsOn, start_of};
 ghost use Rattle.ld_facts.specs.Inner.Kept.{AreNames, HasOwn, IsRead, IsReady};
-ghost use Rattle.ld_facts.specs.Inner.Names.{with_names};
+ghost use Rattle.ld_shown.specs.Inner.Names.{with_names};
 ghost use Rattle.ld_facts.specs.Inner.Rows.{IsOwnEdge, IsOwnUse, edge_of, use_of};
 
-use crate::shown::Shown;
-use ld_rules::Outcome;
+use crate::batch_rows::BatchRows;
 use crate::reading::read_into;
 use crate::scan::Scan;
+use ld_rules::Outcome;
 use ld_trace::Source;
 use std::alloc::AllocError;
 
@@ -23,42 +23,42 @@ use std::alloc::AllocError;
 /// `AllocError` where memory was refused. Nothing has changed then but spare memory.
 pub(crate) fn read<'a>(
     scan: &mut Scan<'a>,
-    shown: &mut Shown<'a>,
+    rows: &mut BatchRows<'a>,
     source: Source<'a>,
 ) -> Result<Outcome, AllocError>
     requires fits { Fits (plain source) }
     requires ready { IsReady scan.old }
     requires begun { IsAt (start_of scan.old) [] scan.old }
     requires room { length scan.old.classes + 2 * MOST_CLASSES ≤ MOST_NAMES }
-    requires few { length shown.old.classes + MOST_CLASSES ≤ MOST_NAMES }
-    requires names { AreNames scan.old.classes shown.old.numbers shown.old.classes }
-    requires edges { length shown.old.edges.items ≡ length scan.old.locks.edges }
-    requires usage { length shown.old.usage.items ≡ length scan.old.uses }
+    requires few { length rows.old.classes + MOST_CLASSES ≤ MOST_NAMES }
+    requires names { AreNames scan.old.classes rows.old.numbers rows.old.classes }
+    requires edges { length rows.old.edges.items ≡ length scan.old.locks.edges }
+    requires usage { length rows.old.usage.items ≡ length scan.old.uses }
     ensures outcome { IfOk result (λ what. what ≡ outcome (plain source.entry)) }
     ensures shows { OnOk result (IsRead scan.old (plain source.entry) scan.new) }
     ensures ready { OnOk result (IsReady scan.new) }
     ensures begun { OnOk result (IsAt (start_of scan.new) [] scan.new) }
     ensures classes { OnOk result
-        (shown.new.classes ≡ with_names shown.old.classes (classes_of (plain source.entry))) }
-    ensures names { OnOk result (AreNames scan.new.classes shown.new.numbers shown.new.classes) }
-    ensures edges { OnOk result (shown.new.edges.items ≡ shown.old.edges.items
-        ++ map (edge_of shown.new.numbers source.entry.number)
-        (drop (length shown.old.edges.items) scan.new.locks.edges)) }
-    ensures usage { OnOk result (shown.new.usage.items ≡ shown.old.usage.items
-        ++ map (use_of shown.new.numbers source.entry.number)
-        (drop (length shown.old.usage.items) scan.new.uses)) }
-    ensures own_edges { OnOk result (All (IsOwnEdge shown.new.numbers)
-        (drop (length shown.old.edges.items) scan.new.locks.edges)) }
-    ensures own_uses { OnOk result (All (IsOwnUse shown.new.numbers)
-        (drop (length shown.old.usage.items) scan.new.uses)) }
+        (rows.new.classes ≡ with_names rows.old.classes (classes_of (plain source.entry))) }
+    ensures names { OnOk result (AreNames scan.new.classes rows.new.numbers rows.new.classes) }
+    ensures edges { OnOk result (rows.new.edges.items ≡ rows.old.edges.items
+        ++ map (edge_of rows.new.numbers source.entry.number)
+        (drop (length rows.old.edges.items) scan.new.locks.edges)) }
+    ensures usage { OnOk result (rows.new.usage.items ≡ rows.old.usage.items
+        ++ map (use_of rows.new.numbers source.entry.number)
+        (drop (length rows.old.usage.items) scan.new.uses)) }
+    ensures own_edges { OnOk result (All (IsOwnEdge rows.new.numbers)
+        (drop (length rows.old.edges.items) scan.new.locks.edges)) }
+    ensures own_uses { OnOk result (All (IsOwnUse rows.new.numbers)
+        (drop (length rows.old.usage.items) scan.new.uses)) }
     ensures refused { OnErr result ((scan.new ≡ scan.old)
-        × (shown.new.classes ≡ shown.old.classes)
-        × (shown.new.numbers ≡ shown.old.numbers)
-        × (shown.new.edges.items ≡ shown.old.edges.items)
-        × (shown.new.usage.items ≡ shown.old.usage.items)) }
+        × (rows.new.classes ≡ rows.old.classes)
+        × (rows.new.numbers ≡ rows.old.numbers)
+        × (rows.new.edges.items ≡ rows.old.edges.items)
+        × (rows.new.usage.items ≡ rows.old.usage.items)) }
 {
     let outcome = scan_source(scan, source)?;
-    if shown.add(scan, source.number).is_err() {
+    if rows.add(scan, source.number).is_err() {
         scan.undo();
         return Err(AllocError);
     }

@@ -1,22 +1,11 @@
-//! The dependencies of a batch, by the places of its classes.
+//! Adds dependencies to the rows of a batch.
 ghost use Rattle.std.specs.Prelude.{◌≡◌, ◌+◌, ◌++◌, ◌≤◌, All, length, map, vec_len, vec_capacity};
 ghost use Rattle.ld_class.specs.declared.names.TheConstants.{MOST_NAMES};
 ghost use Rattle.ld_facts.specs.Inner.Rows.{IsOwnEdge, edge_of};
 
 use ld_rules::Witness;
-use ld_tables::EdgeFact;
-use ld_tables::Numbers;
-
-/// A dependency, and where it was first seen.
-#[derive(Clone, Copy, Debug, PartialEq, Eq)]
-pub struct WitnessedEdge {
-    /// The place among the batch's classes of the one that was held.
-    pub from: u32,
-    /// The place of the one that was acquired under it.
-    pub to: u32,
-    /// The trace, and the line in the stream.
-    pub witness: Witness,
-}
+use ld_shown::WitnessedEdge;
+use ld_tables::{EdgeFact, Numbers};
 
 /// Adds the dependencies that the trace of this number told first, by the places that their classes have
 /// among the numbers.

@@ -4,8 +4,8 @@ ghost use Rattle.ld_trace.specs.Sources.{plain};
 ghost use Rattle.ld_facts.specs.Facts.{IsKnown};
 
 use ld_class::Classes;
-use ld_tables::{EdgeFact, UsageFact, Uses};
 use ld_rules::Outcome;
+use ld_tables::{EdgeFact, UsageFact, Uses};
 use ld_trace::Source;
 use std::marker::Model;
 

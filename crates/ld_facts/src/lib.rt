@@ -3,27 +3,23 @@
 
 mod batch;
 mod batch_reading;
+mod batch_rows;
 mod bounds;
 mod edges;
-mod guesses;
 mod known;
 mod names;
 mod reading;
 mod scan;
-mod shown;
 mod stop;
 mod taking;
 mod uses;
 
 pub use batch::Batch;
 pub use bounds::MOST_KNOWN;
-pub use edges::WitnessedEdge;
-pub use guesses::Guesses;
 pub use known::Facts;
 pub use ld_rules::{Listed, MOST_CLASSES, MOST_HELD, MOST_TASKS, Outcome, TraceFault, Witness};
+pub use ld_shown::{Guesses, WitnessedEdge, WitnessedUse};
 pub use ld_tables::{EdgeFact, UsageFact};
-pub use names::intern_all;
 pub use reading::{facts, read_into};
 pub use scan::Scan;
 pub use stop::Stop;
-pub use uses::WitnessedUse;

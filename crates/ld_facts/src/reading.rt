@@ -8,12 +8,12 @@ ghost use Rattle.ld_rules.specs.declared.outcome.Outcome.TheVariants.{Read, Refu
 ghost use Rattle.ld_facts.specs.Inner.Scan.{AreMany, IsAt, StandsOn, Start};
 
 use crate::known::Facts;
-use ld_class::Classes;
-use ld_rules::{Outcome, TraceFault};
 use crate::scan::Scan;
 use crate::stop::Stop;
-use ld_trace::{Event, LineFault, Source, next_event, next_line, read_event, text};
+use ld_class::Classes;
+use ld_rules::{Outcome, TraceFault};
 use ld_tables::Uses;
+use ld_trace::{Event, LineFault, Source, next_event, next_line, read_event, text};
 use std::alloc::{AllocError, Global};
 
 /// The facts of a trace: what became of it and, where it was read to its end, what it shows. A

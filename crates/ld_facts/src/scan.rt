@@ -16,8 +16,8 @@ ghost use Rattle.ld_rules.specs.declared.outcome.TheConstants.{MOST_CLASSES, MOS
 use crate::stop::Stop;
 use crate::taking::Taking;
 use ld_class::{ClassName, Classes, RecentNames};
-use ld_tables::{Flag, Locks, Marked, Uses};
 use ld_rules::{MOST_CLASSES, MOST_HELD, MOST_TASKS, TraceFault};
+use ld_tables::{Flag, Locks, Marked, Uses};
 use ld_trace::{Event, Lock, State};
 use std::alloc::{AllocError, Global};
 

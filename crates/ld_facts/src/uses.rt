@@ -1,23 +1,11 @@
-//! The usage bits of a batch, by the places of its classes.
+//! Adds usage bits to the rows of a batch.
 ghost use Rattle.std.specs.Prelude.{◌≡◌, ◌+◌, ◌++◌, ◌≤◌, All, length, map, vec_len, vec_capacity};
 ghost use Rattle.ld_class.specs.declared.names.TheConstants.{MOST_NAMES};
 ghost use Rattle.ld_facts.specs.Inner.Rows.{IsOwnUse, use_of};
 
 use ld_rules::Witness;
-use ld_tables::UsageFact;
-use ld_tables::Numbers;
-use ld_class::Usage;
-
-/// A usage bit of a class, and where it was first seen.
-#[derive(Clone, Copy, Debug, PartialEq, Eq)]
-pub struct WitnessedUse {
-    /// The place of the class among the batch's.
-    pub class: u32,
-    /// The one bit.
-    pub bit: Usage,
-    /// The trace, and the line in the stream.
-    pub witness: Witness,
-}
+use ld_shown::WitnessedUse;
+use ld_tables::{Numbers, UsageFact};
 
 /// Adds the usage bits that the trace of this number told first, by the places that their classes have
 /// among the numbers.

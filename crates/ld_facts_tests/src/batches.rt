@@ -1,6 +1,6 @@
 //! Batches, compared with what `facts` says of each trace alone.
-use ld_facts::{Batch, Facts, Outcome, TraceFault, Witness, WitnessedEdge, WitnessedUse, facts};
 use ld_class::{ClassName, Usage};
+use ld_facts::{Batch, Facts, Outcome, TraceFault, Witness, WitnessedEdge, WitnessedUse, facts};
 use ld_trace::{Source, split};
 use std::alloc::AllocError;
 use std::process::Abort;

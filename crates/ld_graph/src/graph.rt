@@ -11,11 +11,11 @@ ghost use Rattle.ld_graph.specs.Walks.{DistanceIs, HasWalk, IsShownWalk};
 
 use crate::Edge;
 use crate::levels::measure;
+use crate::lists::{Lists, Steps};
 use crate::placed::{Insert, place};
 use crate::ranks::Ranks;
 use crate::shown::show;
 use indexmap::IndexSet;
-use crate::lists::{Lists, Steps};
 use std::alloc::{AllocError, Global};
 use std::marker::Model;
 

@@ -4,8 +4,8 @@ ghost use Rattle.std.specs.Prelude.{◌≡◌, ◌↔◌, ℕ, ◌<◌, false, l
 ghost use Rattle.ld_graph.specs.Inner.Placed.{IsPlaced, TellsSteps};
 ghost use Rattle.ld_graph.specs.Lists.{IsNear};
 
-use crate::ranks::Ranks;
 use crate::lists::{Lists, Steps};
+use crate::ranks::Ranks;
 
 /// What an insert has done.
 #[derive(Clone, Copy, PartialEq, Eq, Debug)]

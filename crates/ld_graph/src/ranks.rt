@@ -6,9 +6,9 @@ ghost use Rattle.ld_graph.specs.declared.graph.TheConstants.{MOST_GRAPH_CLASSES}
 ghost use Rattle.ld_graph.specs.Inner.Repairs.{AreInverse, IsRepaired, IsOrReaches};
 ghost use Rattle.ld_graph.specs.Lists.{IsNear};
 
+use crate::lists::{Lists, Steps};
 use crate::repair::{Space, mend};
 use crate::search::Search;
-use crate::lists::{Lists, Steps};
 use std::alloc::{AllocError, Global};
 use std::marker::Model;
 

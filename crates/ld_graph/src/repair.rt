@@ -9,9 +9,9 @@ ghost use Rattle.ld_graph.specs.Inner.Repairs.{IsRow, IsOrReaches};
 ghost use Rattle.ld_graph.specs.Inner.Repairs.{count, in_front, is_part, other, picked, split};
 ghost use Rattle.ld_graph.specs.Lists.{IsNear};
 
+use crate::lists::{Lists, Steps};
 use crate::search::Search;
 use crate::turns::{Side, search_in_turn};
-use crate::lists::{Lists, Steps};
 
 /// Room for a repair.
 #[derive(Drop)]

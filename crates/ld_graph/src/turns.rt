@@ -6,8 +6,8 @@ ghost use Rattle.ld_graph.specs.declared.graph.TheConstants.{MOST_GRAPH_CLASSES}
 ghost use Rattle.ld_graph.specs.Inner.Repairs.{HasEnded, IsGrown, IsInside, IsRow, IsSought};
 ghost use Rattle.ld_graph.specs.Lists.{IsNear};
 
-use crate::search::Search;
 use crate::lists::{Lists, Steps};
+use crate::search::Search;
 
 /// One of the two searches, by the neighbours that it follows.
 #[derive(Clone, Copy)]

@@ -5,8 +5,8 @@ ghost use Rattle.std.specs.Bool.{OnTrue};
 ghost use Rattle.std.specs.List.{list_any};
 ghost use Rattle.ld_tables.specs.Inner.Chains.{KeptChains, chain_before, chains_of, same_link};
 
-use indexmap::IndexSet;
 use crate::numbers::as_number;
+use indexmap::IndexSet;
 use std::alloc::{AllocError, Global};
 use std::marker::Model;
 

@@ -6,9 +6,9 @@ ghost use Rattle.ld_tables.specs.Inner.Edges.{AreMore, AreNumbers, edge_at, edge
 ghost use Rattle.ld_tables.specs.Inner.Edges.{with_edge_fact};
 
 use crate::held::Held;
-use indexmap::IndexSet;
 use crate::marked::Marked;
 use crate::numbers::as_number;
+use indexmap::IndexSet;
 use std::alloc::{AllocError, Global};
 use std::marker::Model;
 

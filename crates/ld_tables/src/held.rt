@@ -9,8 +9,8 @@ ghost use Rattle.ld_tables.specs.Inner.Stacks.{empty_stack, holds, inner, plain_
 ghost use Rattle.ld_rules.specs.Inner.Scanned.{remove_last};
 ghost use Rattle.ld_rules.specs.declared.outcome.TheConstants.{MOST_HELD};
 
-use arrayvec::ArrayVec;
 use crate::interrupts::Interrupts;
+use arrayvec::ArrayVec;
 use ld_rules::MOST_HELD;
 use ld_trace::Lock;
 use std::alloc::{AllocError, Global};

@@ -5,11 +5,11 @@ ghost use Rattle.ld_class.specs.Usage.{no_bits};
 ghost use Rattle.ld_rules.specs.Usage.{IsBit};
 ghost use Rattle.ld_tables.specs.Inner.Uses.{in_facts, on_facts, use_at, with_use};
 
-use bitflags::Flags;
-use crate::interrupts::Interrupts;
 use crate::held::Held;
-use ld_trace::State;
+use crate::interrupts::Interrupts;
+use bitflags::Flags;
 use ld_class::Usage;
+use ld_trace::State;
 use std::alloc::{AllocError, Global};
 use std::marker::Model;
 

@@ -6,9 +6,9 @@ ghost use Rattle.ld_trace.specs.Lines.{lines, says_nothing};
 ghost use Rattle.ld_trace.specs.Sources.{AreNumbered, Fits, fields_of, headers_before, is_header, is_other, label_of, line_faults, opened_at, plain, sections, sources, stream_fault};
 ghost use Rattle.ld_trace.specs.Inner.Splitting.{IsCutAt, given_from};
 
+use crate::line::{begins_comment, first_field_byte, is_word, next_field, next_line, text};
 use crate::others::{Rest, skip_others};
 use crate::source::{LONGEST_STREAM, MOST_TRACES, Source, StreamFault};
-use crate::line::{begins_comment, first_field_byte, is_word, next_field, next_line, text};
 use std::alloc::Global;
 
 /// Whether a line is a header, well formed or not.

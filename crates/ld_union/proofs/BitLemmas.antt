@@ -5,8 +5,8 @@ use Rattle.ld_class.specs.Names.{PlainClass, no_class}
 use Rattle.ld_class.specs.Usage.{has_bit, no_bits}
 use Rattle.ld_trace.specs.Sources.{PlainSource}
 use Rattle.ld_rules.specs.declared.outcome.Witness.{Witness}
-use Rattle.ld_facts.specs.Union.{use_witness}
-use Rattle.ld_facts.specs.Usage.{Bit, Use, usage_of}
+use Rattle.ld_rules.specs.Union.{use_witness}
+use Rattle.ld_rules.specs.Usage.{Bit, Use, usage_of}
 use Rattle.ld_union.specs.declared.usage.UsageRow.{UsageRow}
 use Rattle.ld_union.specs.Inner.Numbers.{AreBitsOf}
 use Rattle.ld_union.specs.Usage.{bits_of}

@@ -6,7 +6,7 @@ use Rattle.ld_graph.specs.Edges.{IsEdge}
 use Rattle.ld_graph.specs.Walks.{DistanceIs, HasWalk, IsShownWalk}
 use Rattle.ld_graph.proofs.WalkLemmas.{HasWalk-Far, IsWalk-Far}
 use Rattle.ld_trace.specs.Sources.{PlainSource}
-use Rattle.ld_facts.specs.Union.{dependency_witness}
+use Rattle.ld_rules.specs.Union.{dependency_witness}
 use Rattle.ld_union.specs.declared.dependencies.Witnessed.{Witnessed}
 use Rattle.ld_union.specs.Findings.{IsBefore, IsShown, PlainCycleRow}
 use Rattle.ld_union.specs.Inner.ByName.{class_name}

@@ -6,9 +6,9 @@ use Rattle.ld_graph.specs.Walks.{HasWalk}
 use Rattle.ld_trace.specs.declared.event.State.{State}
 use Rattle.ld_trace.specs.Sources.{PlainSource}
 use Rattle.ld_rules.specs.declared.outcome.Witness.{Witness}
-use Rattle.ld_facts.specs.Union.{dependency_witness, use_witness}
-use Rattle.ld_facts.specs.Usage.{Bit}
-use Rattle.ld_facts.specs.Usage.Bit.{In, On}
+use Rattle.ld_rules.specs.Union.{dependency_witness, use_witness}
+use Rattle.ld_rules.specs.Usage.{Bit}
+use Rattle.ld_rules.specs.Usage.Bit.{In, On}
 use Rattle.ld_union.specs.declared.dependencies.Witnessed.{Witnessed}
 use Rattle.ld_union.specs.Findings.{IsBefore, IsShown, PlainForbiddenRow, shown_marks}
 use Rattle.ld_union.specs.Inner.ByName.{class_name}

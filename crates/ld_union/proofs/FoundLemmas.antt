@@ -10,8 +10,8 @@ use Rattle.ld_graph.specs.Edges.{IsEdge, edge}
 use Rattle.ld_graph.specs.Walks.{HasWalk}
 use Rattle.ld_graph.proofs.WalkLemmas.{IsWalk-same}
 use Rattle.ld_trace.specs.declared.event.State.{State}
-use Rattle.ld_facts.specs.Usage.{Bit, usage_of}
-use Rattle.ld_facts.specs.Usage.Bit.{In, On}
+use Rattle.ld_rules.specs.Usage.{Bit, usage_of}
+use Rattle.ld_rules.specs.Usage.Bit.{In, On}
 use Rattle.ld_union.specs.declared.alarms.Forbidden.{Forbidden}
 use Rattle.ld_union.specs.declared.alarms.Found.{Found}
 use Rattle.ld_union.specs.Alarms.{AreExact, IsExact}

@@ -9,8 +9,8 @@ use Rattle.ld_class.specs.declared.usage.Usage.{Usage}
 use Rattle.ld_class.specs.Usage.{either, has_bit, no_bits}
 use Rattle.ld_class.proofs.UsageLemmas.{has_bit-either}
 use Rattle.ld_trace.specs.declared.event.State.TheVariants.{Hard, Soft}
-use Rattle.ld_facts.specs.Usage.{Bit, IsBit, bit_of, usage_of}
-use Rattle.ld_facts.specs.Usage.Bit.{In, On}
+use Rattle.ld_rules.specs.Usage.{Bit, IsBit, bit_of, usage_of}
+use Rattle.ld_rules.specs.Usage.Bit.{In, On}
 use Rattle.ld_rules.proofs.UsageLemmas.{no_bit}
 use Rattle.ld_union.specs.declared.news.NewBit.{NewBit}
 use Rattle.ld_union.specs.declared.usage.UsageRow.{UsageRow}

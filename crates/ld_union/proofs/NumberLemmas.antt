@@ -10,10 +10,10 @@ use Rattle.ld_graph.specs.Walks.{HasWalk}
 use Rattle.ld_graph.proofs.WalkLemmas.{Far, HasWalk-Far, IsWalk-Far}
 use Rattle.ld_trace.specs.declared.event.State.{State}
 use Rattle.ld_trace.specs.Sources.{PlainSource}
-use Rattle.ld_facts.specs.Dependency.{Dependency}
-use Rattle.ld_facts.specs.Union.{dependency_witness}
-use Rattle.ld_facts.specs.Usage.{Bit}
-use Rattle.ld_facts.specs.Usage.Bit.{In, On}
+use Rattle.ld_rules.specs.Dependency.{Dependency}
+use Rattle.ld_rules.specs.Union.{dependency_witness}
+use Rattle.ld_rules.specs.Usage.{Bit}
+use Rattle.ld_rules.specs.Usage.Bit.{In, On}
 use Rattle.ld_union.specs.declared.alarms.Forbidden.{Forbidden}
 use Rattle.ld_union.specs.declared.alarms.Found.{Found}
 use Rattle.ld_union.specs.declared.dependencies.Witnessed.{Witnessed}

@@ -13,8 +13,8 @@ use Rattle.ld_graph.specs.Edges.{IsEdge, PlainGraph, with_spares}
 use Rattle.ld_graph.specs.Reach.{IsReach, IsSource, PlainReach, source_of}
 use Rattle.ld_trace.specs.declared.event.State.{State}
 use Rattle.ld_trace.specs.declared.event.State.TheVariants.{Hard, Soft}
-use Rattle.ld_facts.specs.Usage.{Bit, bit_of, usage_of}
-use Rattle.ld_facts.specs.Usage.Bit.{In}
+use Rattle.ld_rules.specs.Usage.{Bit, bit_of, usage_of}
+use Rattle.ld_rules.specs.Usage.Bit.{In}
 use Rattle.ld_union.specs.declared.news.NewBit.{NewBit}
 use Rattle.ld_union.specs.declared.dependencies.Witnessed.{Witnessed}
 use Rattle.ld_union.specs.declared.states.PerState.{PerState}

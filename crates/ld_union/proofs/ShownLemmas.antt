@@ -6,7 +6,7 @@ use Rattle.ld_class.specs.Names.{PlainClass}
 use Rattle.ld_graph.specs.Edges.{ComesBefore, IsEdge}
 use Rattle.ld_graph.specs.Walks.{IsDistance, IsNext, IsShownWalk, IsWalk, LeadsTo, ShownFrom}
 use Rattle.ld_trace.specs.Sources.{PlainSource}
-use Rattle.ld_facts.specs.Union.{dependency_witness}
+use Rattle.ld_rules.specs.Union.{dependency_witness}
 use Rattle.ld_union.specs.declared.dependencies.Witnessed.{Witnessed}
 use Rattle.ld_union.specs.Findings.{IsBefore, IsShown}
 use Rattle.ld_union.specs.Inner.ByName.{AreByName, class_name}

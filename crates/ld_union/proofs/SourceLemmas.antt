@@ -4,15 +4,15 @@ use Rattle.std.proofs.lemmas.List.{append-nil}
 use Rattle.ld_class.specs.Names.{same_class}
 use Rattle.ld_trace.specs.Sources.{PlainSource}
 use Rattle.ld_rules.specs.declared.outcome.Witness.{Witness}
-use Rattle.ld_facts.specs.Dependency.{Dependency, Seen, same_dependency}
-use Rattle.ld_facts.specs.Outcome.{each_once}
-use Rattle.ld_facts.specs.Union.{classes_of, dependencies_of, dependency_witness, first_witness, use_witness, uses_of}
-use Rattle.ld_facts.specs.Usage.{Use, same_use}
+use Rattle.ld_rules.specs.Dependency.{Dependency, Seen, same_dependency}
+use Rattle.ld_rules.specs.Outcome.{each_once}
+use Rattle.ld_rules.specs.Union.{classes_of, dependencies_of, dependency_witness, first_witness, use_witness, uses_of}
+use Rattle.ld_rules.specs.Usage.{Use, same_use}
 use Rattle.ld_rules.proofs.PlaceLemmas.{by_pushes, flat_map-append}
-use Rattle.ld_facts.specs.Batch.{IsBatch, PlainBatch}
-use Rattle.ld_facts.specs.Inner.Names.{IsLonger, with_names}
-use Rattle.ld_facts.proofs.NameLemmas.{with_names-both_once}
-use Rattle.ld_facts.proofs.SourceLemmas.{earlier_of-none, shown_in, witness-push}
+use Rattle.ld_shown.specs.Batch.{IsBatch, PlainBatch}
+use Rattle.ld_shown.specs.Inner.Names.{IsLonger, with_names}
+use Rattle.ld_shown.proofs.NameLemmas.{with_names-both_once}
+use Rattle.ld_shown.proofs.SourceLemmas.{earlier_of-none, shown_in, witness-push}
 use Rattle.ld_union.specs.Inner.Union.{Adds, AreBetween, AreUsed, AreWitnessed, PlainUnion, earlier_of, with_first}
 use Rattle.ld_union.proofs.EarlierLemmas.{earlier_of-assoc}
 

@@ -12,11 +12,11 @@ use Rattle.ld_class.proofs.NameLemmas.{place_of-None, same_class-Decides}
 use Rattle.ld_graph.specs.declared.Edge.{Edge}
 use Rattle.ld_graph.specs.Edges.{IsEdge, IsEdgeNumber, edge}
 use Rattle.ld_rules.specs.declared.outcome.Witness.{Witness}
-use Rattle.ld_facts.specs.Dependency.{Dependency, same_dependency}
-use Rattle.ld_facts.specs.Union.{earlier}
+use Rattle.ld_rules.specs.Dependency.{Dependency, same_dependency}
+use Rattle.ld_rules.specs.Union.{earlier}
 use Rattle.ld_union.specs.declared.dependencies.Witnessed.{Witnessed}
-use Rattle.ld_facts.specs.Inner.Names.{IsLonger}
-use Rattle.ld_facts.proofs.SourceLemmas.{earlier_of-none}
+use Rattle.ld_shown.specs.Inner.Names.{IsLonger}
+use Rattle.ld_shown.proofs.SourceLemmas.{earlier_of-none}
 use Rattle.ld_union.specs.Inner.Union.{AreBetween, AreWitnessed, earlier_of, edges_of, named_edge}
 
 -- equal dependencies have equal names

@@ -8,8 +8,8 @@ use Rattle.ld_class.proofs.NameLemmas.{same_class-Decides}
 use Rattle.ld_trace.specs.declared.event.State.{State}
 use Rattle.ld_trace.specs.Sources.{PlainSource}
 use Rattle.ld_graph.specs.Walks.{IsDistance, IsShownWalk, ShownFrom}
-use Rattle.ld_facts.specs.Union.{dependency_witness, use_witness}
-use Rattle.ld_facts.specs.Usage.Bit.{In, On}
+use Rattle.ld_rules.specs.Union.{dependency_witness, use_witness}
+use Rattle.ld_rules.specs.Usage.Bit.{In, On}
 use Rattle.ld_union.specs.Findings.{AreFindings, AreRows, InTurn, IsBefore, IsConflictRow, IsCycleRow, IsForbiddenRow, IsHarder, IsPairBefore, IsShown}
 use Rattle.ld_union.specs.Findings.{PlainConflictRow, PlainCycleRow, PlainFindings, PlainForbiddenRow, conflict_key, cycle_key, forbidden_key}
 use Rattle.ld_union.specs.Findings.{shown_marks}

@@ -12,13 +12,13 @@ use Rattle.ld_class.specs.Usage.{either, has_bit, in_hard, in_soft, no_bits, on_
 use Rattle.ld_class.proofs.NameLemmas.{place_of-at, place_of-Some, same_class-Decides}
 use Rattle.ld_trace.specs.declared.event.State.TheVariants.{Hard, Soft}
 use Rattle.ld_rules.specs.declared.outcome.Witness.{Witness}
-use Rattle.ld_facts.specs.Usage.{Bit, Use, same_bit, same_use, usage_of}
-use Rattle.ld_facts.specs.Usage.Bit.{In, On}
+use Rattle.ld_rules.specs.Usage.{Bit, Use, same_bit, same_use, usage_of}
+use Rattle.ld_rules.specs.Usage.Bit.{In, On}
 use Rattle.ld_union.specs.declared.usage.UsageRow.{UsageRow}
-use Rattle.ld_facts.specs.Inner.Names.{IsLonger}
+use Rattle.ld_shown.specs.Inner.Names.{IsLonger}
 use Rattle.ld_union.specs.Inner.Union.{AreUsed, earlier_of, of_class, with_bit, with_first_use}
 use Rattle.ld_union.specs.Usage.{bits, row_of, witnessed_bits}
-use Rattle.ld_facts.proofs.SourceLemmas.{earlier_of-none}
+use Rattle.ld_shown.proofs.SourceLemmas.{earlier_of-none}
 use Rattle.ld_union.proofs.UnionLemmas.{seen_cases}
 
 -- the one 1 of a bit's number stands at the bit's place

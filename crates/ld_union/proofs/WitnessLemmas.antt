@@ -2,7 +2,7 @@
 use Rattle.std.proofs.Common.{◌≡◌, true, None, Option, is_some, refl, sym, ap, ◌∙◌}
 use Rattle.std.proofs.lemmas.Bool.{true≢false}
 use Rattle.ld_class.specs.declared.usage.Usage.{Usage}
-use Rattle.ld_facts.specs.Usage.{Bit, bit_of, usage_of}
+use Rattle.ld_rules.specs.Usage.{Bit, bit_of, usage_of}
 use Rattle.ld_rules.proofs.UsageLemmas.{bit_of-usage}
 
 -- the bit of a set that has this one alone

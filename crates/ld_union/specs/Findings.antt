@@ -10,8 +10,8 @@ use Rattle.ld_trace.specs.declared.event.State.{State}
 use Rattle.ld_trace.specs.Sources.{PlainSource}
 use Rattle.ld_graph.specs.Walks.{IsShownWalk}
 use Rattle.ld_rules.specs.declared.outcome.Witness.{Witness}
-use Rattle.ld_facts.specs.Union.{dependency_witness, use_witness}
-use Rattle.ld_facts.specs.Usage.Bit.{In, On}
+use Rattle.ld_rules.specs.Union.{dependency_witness, use_witness}
+use Rattle.ld_rules.specs.Usage.Bit.{In, On}
 use Rattle.ld_union.specs.declared.findings.conflicts.ConflictRow.{ConflictRow}
 use Rattle.ld_union.specs.declared.findings.cycles.CycleRow.{CycleRow}
 use Rattle.ld_union.specs.declared.findings.Findings.{Findings}

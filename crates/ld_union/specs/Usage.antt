@@ -7,9 +7,9 @@ use Rattle.ld_class.specs.Usage.{either, no_bits}
 use Rattle.ld_trace.specs.declared.event.State.TheVariants.{Hard, Soft}
 use Rattle.ld_trace.specs.Sources.{PlainSource}
 use Rattle.ld_rules.specs.declared.outcome.Witness.{Witness}
-use Rattle.ld_facts.specs.Usage.{Bit, usage_of}
-use Rattle.ld_facts.specs.Usage.Bit.{In, On}
-use Rattle.ld_facts.specs.Union.{union_classes, use_witness}
+use Rattle.ld_rules.specs.Usage.{Bit, usage_of}
+use Rattle.ld_rules.specs.Usage.Bit.{In, On}
+use Rattle.ld_rules.specs.Union.{union_classes, use_witness}
 use Rattle.ld_union.specs.declared.usage.UsageRow.{UsageRow}
 
 -- the four bits, in the order of their witnesses in a row

@@ -4,9 +4,9 @@ use Rattle.ld_class.specs.Names.{PlainClass}
 use Rattle.ld_trace.specs.declared.event.State.{State}
 use Rattle.ld_trace.specs.Sources.{PlainSource}
 use Rattle.ld_graph.specs.Walks.{HasWalk}
-use Rattle.ld_facts.specs.Usage.{Bit}
-use Rattle.ld_facts.specs.Usage.Bit.{In, On}
-use Rattle.ld_facts.specs.Union.{dependency_witness, use_witness}
+use Rattle.ld_rules.specs.Usage.{Bit}
+use Rattle.ld_rules.specs.Usage.Bit.{In, On}
+use Rattle.ld_rules.specs.Union.{dependency_witness, use_witness}
 
 -- (a, b) is a dependency of the union of these sources: it has a first witness
 abbrev pub Depends : List PlainSource → PlainClass → PlainClass → Type 0

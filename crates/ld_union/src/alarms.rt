@@ -3,8 +3,8 @@ ghost use Rattle.std.specs.Prelude.{◌≡◌, ◌↔◌, ℕ, ◌<◌, true, le
 ghost use Rattle.std.specs.Prelude.{[], List, IfSome, option_map, slice_index_or};
 ghost use Rattle.ld_class.specs.Names.{PlainClass, no_class, plain_class};
 ghost use Rattle.ld_class.specs.Usage.{has_bit, no_bits};
-ghost use Rattle.ld_facts.specs.Usage.{usage_of};
-ghost use Rattle.ld_facts.specs.Usage.Bit.{In, On};
+ghost use Rattle.ld_rules.specs.Usage.{usage_of};
+ghost use Rattle.ld_rules.specs.Usage.Bit.{In, On};
 ghost use Rattle.ld_union.specs.Alarms.{IsExact, plain_alarms};
 ghost use Rattle.ld_union.specs.Inner.Numbers.{AreFound, AreWithin, IsConflictAt, IsForbiddenAt};
 ghost use Rattle.ld_union.specs.Inner.Numbers.{IsNothing, IsTold, named_alarms, named_pair};
@@ -12,14 +12,14 @@ ghost use Rattle.ld_union.specs.Inner.News.{Tells, TellsBits};
 ghost use Rattle.ld_union.specs.Inner.Union.{PlainUnion, edges_of};
 ghost use Rattle.ld_union.specs.Usage.{bits_of};
 
-use bitflags::Flags;
-use ld_class::{ClassName, Classes, Usage};
-use ld_graph::Edge;
-use ld_trace::State;
 use crate::news::{NewBit, News};
 use crate::states::PerState;
 use crate::union::Union;
 use crate::usage::UsageRow;
+use bitflags::Flags;
+use ld_class::{ClassName, Classes, Usage};
+use ld_graph::Edge;
+use ld_trace::State;
 
 /// For each kind of violation one that the traces show, or none where they show none of the kind.
 /// Where there are two states, the hard one comes first.

@@ -10,11 +10,11 @@ ghost use Rattle.ld_graph.specs.Reach.{IsReach, no_reach};
 ghost use Rattle.ld_union.specs.Inner.Reached.{AreInFront, HaveClasses, IsSeeded, StayExact};
 ghost use Rattle.ld_union.specs.Inner.States.{of_state};
 ghost use Rattle.ld_graph.specs.Edges.{empty_graph, with_spares};
-ghost use Rattle.ld_facts.specs.Dependency.{Dependency};
-ghost use Rattle.ld_facts.specs.Usage.{IsBit};
-ghost use Rattle.ld_facts.specs.Union.{dependency_witness};
-ghost use Rattle.ld_facts.specs.Batch.{IsBatch};
-ghost use Rattle.ld_facts.specs.Inner.Names.{ArePlaces};
+ghost use Rattle.ld_rules.specs.Dependency.{Dependency};
+ghost use Rattle.ld_rules.specs.Usage.{IsBit};
+ghost use Rattle.ld_rules.specs.Union.{dependency_witness};
+ghost use Rattle.ld_shown.specs.Batch.{IsBatch};
+ghost use Rattle.ld_shown.specs.Inner.Names.{ArePlaces};
 ghost use Rattle.ld_graph.specs.Edges.{PlainGraph};
 ghost use Rattle.ld_graph.specs.Order.{IsInserted};
 ghost use Rattle.ld_union.specs.Inner.Union.{AreBetween, AreWitnessed, IsCycleEdge, edges_of, named_edge};
@@ -22,8 +22,9 @@ ghost use Rattle.ld_union.specs.Inner.Union.{with_first, with_seen};
 
 use crate::news::NewBit;
 use crate::states::PerState;
-use ld_facts::{Batch, Guesses, Witness};
 use ld_graph::{Edge, Graph, Insert, Reach};
+use ld_rules::Witness;
+use ld_shown::{Guesses, Shown};
 use std::alloc::{AllocError, Global};
 
 /// An edge of the graph, and where its dependency was first seen.
@@ -120,7 +121,7 @@ impl Dependencies {
 
     /// Notes the dependencies of a batch whose classes have these numbers, each where it was seen
     /// first.
-    pub(crate) fn add(&mut self, batch: &Batch<'_>, places: &[u32], guesses: &mut Guesses)
+    pub(crate) fn add(&mut self, batch: &Shown<'_, '_>, places: &[u32], guesses: &mut Guesses)
         requires edges { self.old.graph.edges ≡ edges_of self.old.rows.items }
         requires count { length places.now ≡ length batch.now.classes }
         requires within { All (λ place. place < self.old.graph.classes) places.now }

@@ -1,7 +1,7 @@
 //! Every violation, in the order of the report.
 ghost use Rattle.std.specs.Prelude.{IfOk, List};
 ghost use Rattle.ld_trace.specs.Sources.{PlainSource};
-ghost use Rattle.ld_facts.specs.Union.{dependency_witness, use_witness};
+ghost use Rattle.ld_rules.specs.Union.{dependency_witness, use_witness};
 ghost use Rattle.ld_union.specs.Findings.{AreFindings, plain_findings};
 ghost use Rattle.ld_union.specs.Inner.Rows.{IsOfEach};
 ghost use Rattle.ld_union.specs.Inner.Union.{Shows};
@@ -18,10 +18,10 @@ use crate::findings::conflicts::conflict_rows;
 use crate::findings::cycles::cycle_rows;
 use crate::findings::forbidden::forbidden_rows;
 use crate::rows::Rows;
+use crate::union::Union;
 pub use conflicts::ConflictRow;
 pub use cycles::CycleRow;
 pub use forbidden::ForbiddenRow;
-use crate::union::Union;
 use std::alloc::{AllocError, Global};
 
 /// Every violation that some traces show, in the order of the report.

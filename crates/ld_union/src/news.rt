@@ -3,8 +3,8 @@ ghost use Rattle.std.specs.Prelude.{◌≡◌, [], OnErr, OnOk, vec_len, vec_cap
 ghost use Rattle.ld_union.specs.Inner.States.{of_state};
 
 use crate::states::PerState;
-use ld_trace::State;
 use ld_class::Usage;
+use ld_trace::State;
 use std::alloc::{AllocError, Global};
 use std::marker::Model;
 

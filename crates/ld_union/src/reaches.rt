@@ -4,15 +4,15 @@ ghost use Rattle.std.specs.Prelude.{All, Contains, IsSome, OnOk, length};
 ghost use Rattle.ld_graph.specs.Edges.{IsEdge};
 ghost use Rattle.ld_graph.specs.declared.graph.TheConstants.{MOST_GRAPH_CLASSES};
 ghost use Rattle.ld_graph.specs.Reach.{IsReach, no_reach, source_of, with_unreached};
-ghost use Rattle.ld_facts.specs.Usage.{IsBit};
+ghost use Rattle.ld_rules.specs.Usage.{IsBit};
 ghost use Rattle.ld_union.specs.Inner.Reached.{AreInFront, HaveClasses, IsSeeded, StayExact};
 ghost use Rattle.ld_union.specs.Inner.States.{of_state};
 
 use crate::news::NewBit;
 use crate::states::PerState;
+use ld_class::Usage;
 use ld_graph::{Edge, Graph, Reach};
 use ld_trace::State;
-use ld_class::Usage;
 use std::alloc::{AllocError, Global};
 
 impl PerState<Reach> {

@@ -3,8 +3,8 @@ ghost use Rattle.std.specs.Prelude.{◌≡◌, ◌↔◌, ℕ, ◌+◌, ◌<◌,
 ghost use Rattle.std.specs.Prelude.{length, All, Contains, MatchOption, OnErr, OnOk};
 ghost use Rattle.ld_class.specs.declared.names.TheConstants.{MOST_NAMES};
 ghost use Rattle.ld_class.specs.Names.{plain_class};
-ghost use Rattle.ld_facts.specs.Dependency.{Dependency};
-ghost use Rattle.ld_facts.specs.Usage.{Use};
+ghost use Rattle.ld_rules.specs.Dependency.{Dependency};
+ghost use Rattle.ld_rules.specs.Usage.{Use};
 ghost use Rattle.ld_union.specs.Inner.News.{Tells};
 ghost use Rattle.ld_union.specs.Inner.Reached.{IsSourceAt};
 ghost use Rattle.ld_union.specs.Inner.States.{of_state};
@@ -15,9 +15,10 @@ ghost use Rattle.ld_union.specs.Usage.{bits_of};
 use crate::dependencies::{Dependencies, Witnessed};
 use crate::news::News;
 use crate::usage::{UsageRow, add_usage};
-use ld_facts::{Batch, Guesses, Witness, intern_all};
 use ld_class::{ClassName, Classes};
 use ld_graph::{Edge, Graph};
+use ld_rules::Witness;
+use ld_shown::{Guesses, Shown, intern_all};
 use ld_trace::State;
 use std::alloc::{AllocError, Global};
 use std::marker::Model;
@@ -78,7 +79,7 @@ impl<'a> Union<'a> {
     /// and `news`.
     pub fn add(
         &mut self,
-        batch: &Batch<'a>,
+        batch: &Shown<'_, 'a>,
         guesses: &mut Guesses,
         news: &mut News,
     ) -> Result<(), AllocError>

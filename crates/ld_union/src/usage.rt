@@ -5,17 +5,18 @@ ghost use Rattle.std.specs.Bool.{OnFalse, OnTrue};
 ghost use Rattle.std.specs.List.{position_or_len};
 ghost use Rattle.ld_class.specs.Names.{AreDistinct, PlainClass, no_class};
 ghost use Rattle.ld_class.specs.Usage.{either, has_bit};
-ghost use Rattle.ld_facts.specs.Union.{use_witness};
-ghost use Rattle.ld_facts.specs.Usage.{Bit, IsBit, Use, bit_of, same_bit};
-ghost use Rattle.ld_facts.specs.Inner.Names.{ArePlaces};
+ghost use Rattle.ld_rules.specs.Union.{use_witness};
+ghost use Rattle.ld_rules.specs.Usage.{Bit, IsBit, Use, bit_of, same_bit};
+ghost use Rattle.ld_shown.specs.Inner.Names.{ArePlaces};
 ghost use Rattle.ld_union.specs.Inner.News.{TellsBits};
 ghost use Rattle.ld_union.specs.Inner.Union.{AreUsed, with_bit, with_first, with_first_use};
 ghost use Rattle.ld_union.specs.Usage.{bits, bits_of, row_of};
 
 use crate::news::NewBit;
 use bitflags::Flags;
-use ld_facts::{Batch, Witness};
 use ld_class::Usage;
+use ld_rules::Witness;
+use ld_shown::Shown;
 
 /// The usage of a class, over all traces.
 #[derive(Clone, Copy, Debug, PartialEq, Eq)]
@@ -79,7 +80,7 @@ fn place_of(bit: Usage) -> usize
 /// first, and tells the bits that are new.
 pub(crate) fn add_usage(
     rows: &mut [UsageRow],
-    batch: &Batch<'_>,
+    batch: &Shown<'_, '_>,
     places: &[u32],
     bits: &mut Vec<NewBit>,
 )

@@ -1,7 +1,7 @@
 //! A book behind a lock, which several threads feed.
 ghost use Rattle.std.specs.Prelude.{◌≡◌, ◌≢◌, ◌≤◌, ◌<◌, ◌+◌, ◌^◌, ◌↔◌, ◌∷◌, [], true, false, length, All, Err};
 ghost use Rattle.std.specs.Prelude.{IfErr, IfOk, IsErr, OnErr, OnOk};
-ghost use Rattle.ld_facts.specs.Batch.{empty_batch};
+ghost use Rattle.ld_shown.specs.Batch.{empty_batch};
 ghost use Rattle.ld_book.specs.Book.{is_any_listed, is_listed};
 ghost use Rattle.ld_book.specs.Totals.{event_count};
 ghost use Rattle.ld_work.specs.Desk.{IsEvent, IsSubmitted, sum_of, tally_of};

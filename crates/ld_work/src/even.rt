@@ -1,7 +1,7 @@
 //! Compares what a book lists with the sources that it is to list.
 ghost use Rattle.std.specs.Prelude.{◌≡◌, ◌↔◌, IfNone, IfOk, IfSome, IsTrue, map};
 ghost use Rattle.ld_trace.specs.Sources.{AreNumbered, plain};
-ghost use Rattle.ld_facts.specs.Batch.{AreRising, sources_of};
+ghost use Rattle.ld_shown.specs.Batch.{AreRising, sources_of};
 ghost use Rattle.ld_work.specs.Inner.Uneven.{IsUneven};
 ghost use Rattle.ld_work.specs.Work.{ListsEachOnce};
 

@@ -6,11 +6,11 @@ ghost use Rattle.ld_tickets.specs.Draw.{IsSeatOf};
 ghost use Rattle.ld_work.specs.Inner.Uneven.{IsUneven};
 ghost use Rattle.ld_work.specs.Work.{ListsEachOnce};
 
+use crate::desk::Desk;
 use crate::even::uneven;
+use crate::feeder::{Feeder, MOST_FEEDERS};
 use crate::gate::Gate;
 use ld_book::{Batch, Book, TakeRefusal};
-use crate::desk::Desk;
-use crate::feeder::{Feeder, MOST_FEEDERS};
 use ld_tickets::{DrawSeat, Tickets};
 use ld_trace::{MOST_TRACES, Source};
 use std::alloc::{AllocError, Global};

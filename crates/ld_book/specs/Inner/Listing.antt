@@ -4,7 +4,7 @@ use Rattle.std.specs.List.{IsDistinct}
 use Rattle.indexmap.specs.IndexSet.{spare}
 use Rattle.ld_trace.specs.Sources.{Fits, PlainSource, plain}
 use Rattle.ld_book.specs.declared.listing.Listing.TheInside.{Inside}
-use Rattle.ld_facts.specs.Batch.{AreOutcomes, sources_of}
+use Rattle.ld_shown.specs.Batch.{AreOutcomes, sources_of}
 use Rattle.ld_book.specs.Totals.{event_count, refused_count}
 
 -- the traces in order of arrival, and for how many further ones there is memory

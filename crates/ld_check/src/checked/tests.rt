@@ -2,9 +2,9 @@
 
 use super::{CheckFault, Checked, check};
 use crate::fakes::Meeting;
-use ld_report::report;
 use crate::streams::{INVERSION, INVERSION_REPORT, THREE_TRACES, THREE_TRACES_REPORT};
 use ld_book::Book;
+use ld_report::report;
 use ld_trace::StreamFault;
 use ld_work::NoGate;
 use std::alloc::{AllocError, Global};

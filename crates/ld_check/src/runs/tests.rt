@@ -4,13 +4,13 @@ ghost use Rattle.std.specs.Prelude.{◌≤◌};
 
 use super::{RunFault, run};
 use crate::checked::MOST_WORKERS;
-use ld_device::{Input, Output, Std};
 use crate::fakes::{FakeReader, FakeWriter, Mishap};
-use ld_report::Verdict;
 use crate::streams::{
     FORBIDDEN_THROUGH, FORBIDDEN_THROUGH_REPORT, INVERSION, INVERSION_REPORT, TWENTY_EQUAL,
     TWENTY_EQUAL_REPORT,
 };
+use ld_device::{Input, Output, Std};
+use ld_report::Verdict;
 use ld_trace::StreamFault;
 use std::alloc::Global;
 use std::io;

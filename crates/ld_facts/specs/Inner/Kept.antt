@@ -11,11 +11,12 @@ use Rattle.ld_facts.specs.Named as scans
 use Rattle.ld_facts.specs.Inner.Scan as scanned
 use Rattle.ld_facts.specs.Inner.Scan.{IsAt, begun, names_at, start_of}
 use Rattle.ld_facts.specs.declared.bounds.TheConstants.{MOST_KNOWN}
-use Rattle.ld_facts.specs.declared.edges.WitnessedEdge.{WitnessedEdge}
-use Rattle.ld_facts.specs.declared.uses.WitnessedUse.{WitnessedUse}
-use Rattle.ld_facts.specs.Batch.{AreOutcomes, IsBatch, PlainBatch, named_dependency, named_use, sources_of}
-use Rattle.ld_facts.specs.Inner.Names.{with_names}
-use Rattle.ld_facts.specs.Inner.Rows.{AreMet, IsOwnEdge, IsOwnUse}
+use Rattle.ld_shown.specs.declared.rows.WitnessedEdge.{WitnessedEdge}
+use Rattle.ld_shown.specs.declared.rows.WitnessedUse.{WitnessedUse}
+use Rattle.ld_shown.specs.Batch.{AreOutcomes, IsBatch, PlainBatch, named_dependency, named_use, sources_of}
+use Rattle.ld_shown.specs.Inner.Names.{with_names}
+use Rattle.ld_shown.specs.Inner.Rows.{AreMet}
+use Rattle.ld_facts.specs.Inner.Rows.{IsOwnEdge, IsOwnUse}
 
 -- the fields, as they are seen
 pub record Fields : Type 0 where

@@ -2,7 +2,7 @@
 use Rattle.std.specs.Prelude.{◌≡◌, ℕ, List, length, take, All, Contains}
 use Rattle.ld_class.specs.declared.usage.Usage.{Usage}
 use Rattle.ld_trace.specs.declared.event.State.{State}
-use Rattle.ld_facts.specs.Usage.{Bit, IsBit, bit_of}
+use Rattle.ld_rules.specs.Usage.{Bit, IsBit, bit_of}
 use Rattle.ld_union.specs.declared.news.NewBit.{NewBit}
 use Rattle.ld_union.specs.declared.states.PerState.{PerState}
 use Rattle.ld_union.specs.Inner.Bits.{HasBitAt, new_bit}

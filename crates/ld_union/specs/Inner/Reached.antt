@@ -7,7 +7,7 @@ use Rattle.ld_graph.specs.Edges.{IsEdge}
 use Rattle.ld_graph.specs.Walks.{HasWalk}
 use Rattle.ld_graph.specs.Reach.{IsReach, PlainReach}
 use Rattle.ld_trace.specs.declared.event.State.{State}
-use Rattle.ld_facts.specs.Usage.Bit.{In}
+use Rattle.ld_rules.specs.Usage.Bit.{In}
 use Rattle.ld_union.specs.declared.news.NewBit.{NewBit}
 use Rattle.ld_union.specs.declared.states.PerState.{PerState}
 use Rattle.ld_union.specs.Inner.Bits.{HasBitAt, new_bit}

@@ -6,8 +6,8 @@ use Rattle.ld_graph.specs.Walks.{DistanceIs}
 use Rattle.ld_trace.specs.declared.event.State.{State}
 use Rattle.ld_trace.specs.Sources.{PlainSource}
 use Rattle.ld_rules.specs.declared.outcome.Witness.{Witness}
-use Rattle.ld_facts.specs.Union.{use_witness}
-use Rattle.ld_facts.specs.Usage.{Bit}
+use Rattle.ld_rules.specs.Union.{use_witness}
+use Rattle.ld_rules.specs.Usage.{Bit}
 use Rattle.ld_union.specs.declared.alarms.Found.{Found}
 use Rattle.ld_union.specs.Inner.States.{of_state}
 use Rattle.ld_union.specs.Inner.Union.{PlainUnion, edges_of}

@@ -3,8 +3,8 @@ use Rattle.std.specs.Prelude.{◌≡◌, ◌≢◌, ℕ, ◌<◌, ◌≤◌, ◌
 use Rattle.std.specs.Option.{is_some}
 use Rattle.ld_class.specs.declared.names.TheConstants.{MOST_NAMES}
 use Rattle.ld_class.specs.Names.{AreDistinct, PlainClass, no_class, place_of}
-use Rattle.ld_facts.specs.Inner.Names.{IsLonger}
-pub use Rattle.ld_facts.specs.Inner.Rows.{earlier_of, seen_in}
+use Rattle.ld_shown.specs.Inner.Names.{IsLonger}
+pub use Rattle.ld_shown.specs.Inner.Rows.{earlier_of, seen_in}
 use Rattle.ld_trace.specs.declared.event.State.{State}
 use Rattle.ld_trace.specs.Sources.{PlainSource}
 use Rattle.ld_graph.specs.declared.Edge.{Edge}
@@ -12,9 +12,9 @@ use Rattle.ld_graph.specs.Edges as graphs
 use Rattle.ld_graph.specs.Walks.{HasWalk}
 use Rattle.ld_graph.specs.Reach.{PlainReach}
 use Rattle.ld_rules.specs.declared.outcome.Witness.{Witness}
-use Rattle.ld_facts.specs.Dependency.{Dependency, same_dependency}
-use Rattle.ld_facts.specs.Union.{dependency_witness, union_classes, use_witness}
-use Rattle.ld_facts.specs.Usage.{Bit, Use, same_bit, same_use}
+use Rattle.ld_rules.specs.Dependency.{Dependency, same_dependency}
+use Rattle.ld_rules.specs.Union.{dependency_witness, union_classes, use_witness}
+use Rattle.ld_rules.specs.Usage.{Bit, Use, same_bit, same_use}
 use Rattle.ld_union.specs.declared.dependencies.Witnessed.{Witnessed}
 use Rattle.ld_union.specs.declared.states.PerState.{PerState}
 use Rattle.ld_union.specs.declared.usage.UsageRow.{UsageRow}

@@ -1,7 +1,7 @@
 //! The conflicts: classes that handlers acquire and that are held where these can interrupt.
 ghost use Rattle.std.specs.Prelude.{◌≡◌, ◌<◌, IfOk, List, MatchOption, length, map};
 ghost use Rattle.ld_trace.specs.Sources.{PlainSource};
-ghost use Rattle.ld_facts.specs.Union.{use_witness};
+ghost use Rattle.ld_rules.specs.Union.{use_witness};
 ghost use Rattle.ld_union.specs.Findings.{AreConflictRows, plain_conflict_row};
 ghost use Rattle.ld_union.specs.Inner.ByName.{AreByName, class_name};
 ghost use Rattle.ld_union.specs.Inner.Rows.{AreConflictRowsOf, IsConflictRowOf};
@@ -11,10 +11,10 @@ ghost use Rattle.ld_union.specs.Violations.{IsConflict};
 use crate::alarms::{in_bit, on_bit};
 use crate::by_name::ByName;
 use crate::findings::used::noted;
-use ld_class::ClassName;
-use ld_facts::Witness;
-use ld_trace::State;
 use crate::union::Union;
+use ld_class::ClassName;
+use ld_rules::Witness;
+use ld_trace::State;
 use std::alloc::{AllocError, Global};
 
 /// A class that handlers of the state acquire (IN), and that is held where they can interrupt (ON).

@@ -1,7 +1,7 @@
 //! The dependencies that are on cycles.
 ghost use Rattle.std.specs.Prelude.{◌≡◌, ◌<◌, IfOk, List, MatchOption, length, map};
 ghost use Rattle.ld_trace.specs.Sources.{PlainSource};
-ghost use Rattle.ld_facts.specs.Union.{dependency_witness};
+ghost use Rattle.ld_rules.specs.Union.{dependency_witness};
 ghost use Rattle.ld_union.specs.Findings.{AreCycleRows, plain_cycle_row};
 ghost use Rattle.ld_union.specs.Inner.ByName.{AreByName, class_name};
 ghost use Rattle.ld_union.specs.Inner.Rows.{AreCycleRowsOf, AreDistances, IsCycleRowOf, IsOfEach};
@@ -12,9 +12,9 @@ use crate::alarms::Found;
 use crate::by_name::ByName;
 use crate::findings::walks::{Target, walk_names};
 use crate::rows::Rows;
-use ld_class::ClassName;
-use ld_facts::Witness;
 use crate::union::Union;
+use ld_class::ClassName;
+use ld_rules::Witness;
 use std::alloc::{AllocError, Global};
 
 /// A dependency on a cycle.

@@ -2,8 +2,8 @@
 ghost use Rattle.std.specs.Prelude.{◌≡◌, ◌<◌, IfOk, List, MatchOption, length, map};
 ghost use Rattle.ld_class.specs.Names.{plain_class};
 ghost use Rattle.ld_trace.specs.Sources.{PlainSource};
-ghost use Rattle.ld_facts.specs.Union.{dependency_witness, use_witness};
-ghost use Rattle.ld_facts.specs.Usage.Bit.{On};
+ghost use Rattle.ld_rules.specs.Union.{dependency_witness, use_witness};
+ghost use Rattle.ld_rules.specs.Usage.Bit.{On};
 ghost use Rattle.ld_union.specs.Findings.{AreForbiddenRows, plain_forbidden_row};
 ghost use Rattle.ld_union.specs.Inner.ByName.{AreByName, class_name};
 ghost use Rattle.ld_union.specs.Inner.Rows.{AreDistances, AreForbiddenRowsOf, AreTurnedRows};
@@ -16,10 +16,10 @@ use crate::by_name::ByName;
 use crate::findings::used::{UsedClass, noted};
 use crate::findings::walks::{Target, walk_names};
 use crate::rows::Rows;
-use ld_class::ClassName;
-use ld_facts::Witness;
-use ld_trace::State;
 use crate::union::Union;
+use ld_class::ClassName;
+use ld_rules::Witness;
+use ld_trace::State;
 use std::alloc::{AllocError, Global};
 
 /// A walk from a class that handlers of the state acquire to one that is held where they can

@@ -2,16 +2,16 @@
 ghost use Rattle.std.specs.Prelude.{◌≡◌, ◌<◌, List, MatchOption, length};
 ghost use Rattle.ld_class.specs.Names.{plain_class};
 ghost use Rattle.ld_trace.specs.Sources.{PlainSource};
-ghost use Rattle.ld_facts.specs.Union.{use_witness};
-ghost use Rattle.ld_facts.specs.Usage.{Bit, IsBit, bit_of};
+ghost use Rattle.ld_rules.specs.Union.{use_witness};
+ghost use Rattle.ld_rules.specs.Usage.{Bit, IsBit, bit_of};
 ghost use Rattle.ld_union.specs.Inner.ByName.{class_name};
 ghost use Rattle.ld_union.specs.Inner.Rows.{IsNoted};
 ghost use Rattle.ld_union.specs.Inner.Union.{Shows};
 ghost use Rattle.ld_union.specs.Violations.{HasBit};
 
-use ld_class::{ClassName, Usage};
-use ld_facts::Witness;
 use crate::union::Union;
+use ld_class::{ClassName, Usage};
+use ld_rules::Witness;
 
 /// What the rows say of a class that has a bit.
 #[derive(Clone, Copy)]

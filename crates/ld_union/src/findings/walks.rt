@@ -3,7 +3,7 @@ ghost use Rattle.std.specs.Prelude.{◌≡◌, ◌<◌, All, IfOk, List, MatchOp
 ghost use Rattle.ld_graph.specs.Edges.{IsEdge};
 ghost use Rattle.ld_graph.specs.Walks.{HasWalk};
 ghost use Rattle.ld_trace.specs.Sources.{PlainSource};
-ghost use Rattle.ld_facts.specs.Union.{dependency_witness};
+ghost use Rattle.ld_rules.specs.Union.{dependency_witness};
 ghost use Rattle.ld_union.specs.Findings.{IsShown, plain_names};
 ghost use Rattle.ld_union.specs.Inner.ByName.{AreByName, class_name};
 ghost use Rattle.ld_union.specs.Inner.Rows.{AreDistances};
@@ -11,8 +11,8 @@ ghost use Rattle.ld_union.specs.Inner.Union.{Shows, edges_of};
 
 use crate::by_name::ByName;
 use crate::rows::Rows;
-use ld_class::{ClassName, Classes};
 use crate::union::Union;
+use ld_class::{ClassName, Classes};
 use std::alloc::{AllocError, Global};
 
 /// A class, and the *Distance* of each class to it.

@@ -2,9 +2,9 @@
 
 use super::EMPTY_REPORT;
 use crate::fakes::{FakeReader, FakeWriter, Mishap};
-use ld_report::Verdict;
 use crate::runs::{RunFault, run};
 use crate::streams::{FORBIDDEN, FORBIDDEN_THROUGH, INVERSION};
+use ld_report::Verdict;
 use ld_trace::StreamFault;
 use std::alloc::Global;
 use std::process::Abort;

@@ -1,10 +1,10 @@
 use Rattle.std.proofs.Common.{rules, ◌≤◌, arith, length, subst, sym}
 use Rattle.ld_trace.specs.Sources.{plain}
 use Rattle.ld_rules.specs.Union.{classes_of}
-use Rattle.ld_facts.specs.Inner.Names.{IsLonger}
+use Rattle.ld_shown.specs.Inner.Names.{IsLonger}
 use Rattle.ld_facts.specs.Inner.Kept.{IsRead, IsReady}
 use Rattle.ld_facts.proofs.BatchLemmas.{begins, more-edges, room-left}
-use Rattle.ld_facts.proofs.NameLemmas.{longer_all}
+use Rattle.ld_shown.proofs.NameLemmas.{longer_all}
 use Rattle.ld_facts.proofs.RowLemmas.{names_longer}
 use Rattle.ld_facts.proofs.batch_reading.read.Goals as goal
 
@@ -25,7 +25,7 @@ add-requires-clause-names c =
     let shows = c.in_ok-outcome.ensures.shows in
     names_longer c.args.scan.now.classes c.scan_source.new.scan.classes (length (classes_of (plain c.args.source)))
     (subst (λ all. IsLonger c.args.scan.now.classes all (length (classes_of (plain c.args.source)))) (sym shows.names) (longer_all c.args.scan.now.classes (classes_of (plain c.args.source))))
-    c.args.shown.now.numbers c.args.shown.now.classes c.requires.names
+    c.args.rows.now.numbers c.args.rows.now.classes c.requires.names
 
 pub add-requires-clause-more_edges : goal.add-requires-clause-more_edges
 add-requires-clause-more_edges c =

@@ -5,7 +5,7 @@ use Rattle.std.specs.List.{list_any}
 use Rattle.ld_class.specs.Names.{no_class}
 use Rattle.ld_facts.specs.Inner.Scan.{names_at}
 use Rattle.ld_facts.proofs.StandsLemmas.{take-first}
-use Rattle.ld_facts.proofs.NameLemmas.{longer_all}
+use Rattle.ld_shown.proofs.NameLemmas.{longer_all}
 use Rattle.ld_facts.proofs.RowLemmas.{first_there, with_names-more}
 use Rattle.ld_facts.proofs.names.add_named.Goals as goal
 

@@ -2,8 +2,8 @@ use Rattle.std.proofs.Common.{rules, ◌≡◌, ◌≢◌, All, ℕ, arith, get_
 use Rattle.std.proofs.lemmas.List.{take_all}
 use Rattle.std.proofs.lemmas.List.Elements.{All-more}
 use Rattle.ld_class.specs.Usage.{no_bits}
-use Rattle.ld_facts.specs.Usage.{usage_of}
-use Rattle.ld_facts.specs.Usage.Bit.{On}
+use Rattle.ld_rules.specs.Usage.{usage_of}
+use Rattle.ld_rules.specs.Usage.Bit.{On}
 use Rattle.ld_union.specs.Inner.Numbers.{IsForbiddenAt}
 use Rattle.ld_union.specs.declared.news.NewBit.{NewBit}
 use Rattle.ld_union.specs.Inner.Union.{edges_of}

@@ -1,6 +1,6 @@
 use Rattle.std.proofs.Common.{◌≡◌, All, ℕ, take}
-use Rattle.ld_facts.specs.Usage.{usage_of}
-use Rattle.ld_facts.specs.Usage.Bit.{On}
+use Rattle.ld_rules.specs.Usage.{usage_of}
+use Rattle.ld_rules.specs.Usage.Bit.{On}
 use Rattle.ld_union.specs.Inner.Numbers.{IsForbiddenAt}
 use Rattle.ld_union.specs.declared.news.NewBit.{NewBit}
 use Rattle.ld_union.specs.Inner.Union.{edges_of}

@@ -1,9 +1,9 @@
 use Rattle.std.proofs.Common.{◌≡◌, ◌-◌, ◌≤◌, ◌+◌, List, Option, length, map, take, vec_len, vec_capacity}
 use Rattle.ld_class.specs.Names.{AreDistinct, PlainClass}
 use Rattle.ld_rules.specs.declared.outcome.Witness.{Witness}
-use Rattle.ld_facts.specs.Usage.{Use, same_use}
-use Rattle.ld_facts.specs.Batch.{named_use, witness_of}
-use Rattle.ld_facts.specs.Inner.Names.{ArePlaces}
+use Rattle.ld_rules.specs.Usage.{Use, same_use}
+use Rattle.ld_shown.specs.Batch.{named_use, witness_of}
+use Rattle.ld_shown.specs.Inner.Names.{ArePlaces}
 use Rattle.ld_union.specs.Inner.News.{TellsBits}
 use Rattle.ld_union.specs.Inner.Union.{AreUsed, with_first}
 use Rattle.ld_union.specs.Usage.{bits_of}

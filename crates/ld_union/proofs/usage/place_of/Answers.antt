@@ -1,7 +1,7 @@
 use Rattle.std.proofs.Common.{◌∙◌, ap, w8}
 use Rattle.std.specs.Int.{trailing_zeros}
 use Rattle.ld_class.specs.declared.usage.Usage.{Usage}
-use Rattle.ld_facts.specs.Usage.{bit_of}
+use Rattle.ld_rules.specs.Usage.{bit_of}
 use Rattle.ld_union.proofs.UsageLemmas.{place_of-bit}
 use Rattle.ld_union.proofs.usage.place_of.Goals as goal
 

@@ -2,7 +2,7 @@ use Rattle.std.proofs.Common.{rules, ◌≡◌, ◌<◌, ◌≤◌, ◌∙◌, a
 use Rattle.std.proofs.lemmas.Bool.{true≢false}
 use Rattle.std.proofs.lemmas.List.{get_or-map, length-map, take_more_same}
 use Rattle.ld_trace.specs.Sources.{PlainSource, plain}
-use Rattle.ld_facts.specs.Batch.{sources_of}
+use Rattle.ld_shown.specs.Batch.{sources_of}
 use Rattle.ld_work.specs.Inner.Uneven.{IsUneven}
 use Rattle.ld_work.proofs.EvenLemmas.{any, listed_at, uneven_from_more, uneven_from_other}
 use Rattle.ld_work.proofs.even.first_uneven.Goals as goal

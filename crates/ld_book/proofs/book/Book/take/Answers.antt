@@ -1,6 +1,6 @@
 use Rattle.std.proofs.Common.{◌∙◌, ap, sym}
 use Rattle.std.proofs.lemmas.Bool.{true≢false}
-use Rattle.ld_facts.specs.Batch.{PlainBatch}
+use Rattle.ld_shown.specs.Batch.{PlainBatch}
 use Rattle.ld_book.specs.Book.{is_any_listed}
 use Rattle.ld_book.proofs.book.Book.take.Goals as goal
 

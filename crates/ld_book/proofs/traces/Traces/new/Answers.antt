@@ -2,7 +2,7 @@ use Rattle.std.proofs.Common.{rules, ◌≡◌, ◌∙◌, ap, sym, subst, IsPer
 use Rattle.std.proofs.lemmas.List.Sorted.{All-permutation, IsNonDecreasingBy-from_sort, IsPermutation-map, answers_always}
 use Rattle.ld_trace.specs.Sources.{plain}
 use Rattle.ld_facts.specs.Outcome.{outcome}
-use Rattle.ld_facts.specs.Batch.{AreOutcomes, AreRising, sources_of}
+use Rattle.ld_shown.specs.Batch.{AreOutcomes, AreRising, sources_of}
 use Rattle.ld_book.proofs.RisingLemmas.{rising_from_sorted}
 use Rattle.ld_book.proofs.traces.Traces.new.Goals as goal
 

@@ -1,6 +1,6 @@
 use Rattle.std.proofs.Common.{ap, sym, ◌∙◌, None}
 use Rattle.std.specs.List.{last_or}
-use Rattle.ld_facts.specs.Batch.{PlainBatch, sources_of}
+use Rattle.ld_shown.specs.Batch.{PlainBatch, sources_of}
 use Rattle.ld_facts.proofs.ListedLemmas.{last_source}
 use Rattle.ld_facts.proofs.batch.Batch.listed.Goals as goal
 

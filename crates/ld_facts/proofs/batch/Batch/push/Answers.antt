@@ -3,7 +3,7 @@ use Rattle.std.proofs.lemmas.List.{length-map}
 use Rattle.std.specs.List.{last_or}
 use Rattle.ld_trace.specs.Sources.{PlainSource, plain}
 use Rattle.ld_rules.specs.declared.outcome.Listed.{Listed}
-use Rattle.ld_facts.specs.Batch.{PlainBatch, sources_of}
+use Rattle.ld_shown.specs.Batch.{PlainBatch, sources_of}
 use Rattle.ld_facts.proofs.BatchLemmas.{above_all, few_below, kept-added, many-edges, many-uses}
 use Rattle.ld_facts.proofs.batch.Batch.push.Goals as goal
 
@@ -33,7 +33,7 @@ read-requires-clause-few c =
     let few = few_below sources number rise low in
     let listed = length-map c.self.inside.listed.items (λ (l : Listed). plain l.source) in
     let traces : number < 65535 = c.requires.fits.number in
-    let classes : length c.self.inside.shown.classes ≤ length c.self.inside.listed.items * 8191 = c.self.invariant.few in
+    let classes : length c.self.inside.rows.classes ≤ length c.self.inside.listed.items * 8191 = c.self.invariant.few in
     omega (arith, few, listed, traces, classes)
 
 pub read-requires-clause-edges : goal.read-requires-clause-edges

@@ -2,9 +2,9 @@ use Rattle.std.proofs.Common.{rules, ◌≡◌, ◌+◌, ◌-◌, ◌<◌, ◌�
 use Rattle.std.proofs.lemmas.List.{length-take}
 use Rattle.std.proofs.Math.Seq.{take-length}
 use Rattle.ld_class.specs.Names.{no_class}
-use Rattle.ld_facts.specs.declared.edges.WitnessedEdge.{WitnessedEdge}
-use Rattle.ld_facts.specs.Batch.{named_dependency}
-use Rattle.ld_facts.specs.Dependency.{Dependency, same_dependency}
+use Rattle.ld_shown.specs.declared.rows.WitnessedEdge.{WitnessedEdge}
+use Rattle.ld_shown.specs.Batch.{named_dependency}
+use Rattle.ld_rules.specs.Dependency.{Dependency, same_dependency}
 use Rattle.ld_union.specs.Inner.Union.{AreWitnessed, earlier_of, edges_of, named_edge}
 use Rattle.ld_union.proofs.ReachedLemmas.{in_front-same, in_front-then}
 use Rattle.ld_union.proofs.SeenLemmas.{all_noted, dependencies_once, none_noted, one_noted}

@@ -1,9 +1,9 @@
 use Rattle.std.proofs.Common.{◌≡◌, ◌+◌, ◌-◌, ◌≤◌, List, Option, length, map, take, vec_len, vec_capacity}
 use Rattle.ld_class.specs.Names.{PlainClass}
 use Rattle.ld_rules.specs.declared.outcome.Witness.{Witness}
-use Rattle.ld_facts.specs.Dependency.{Dependency, same_dependency}
-use Rattle.ld_facts.specs.Batch.{named_dependency, witness_of}
-use Rattle.ld_facts.specs.Inner.Names.{ArePlaces}
+use Rattle.ld_rules.specs.Dependency.{Dependency, same_dependency}
+use Rattle.ld_shown.specs.Batch.{named_dependency, witness_of}
+use Rattle.ld_shown.specs.Inner.Names.{ArePlaces}
 use Rattle.ld_union.specs.Inner.Reached.{AreInFront, HaveClasses, StayExact}
 use Rattle.ld_union.specs.Inner.Union.{AreBetween, AreWitnessed, IsCycleEdge, edges_of, with_first}
 use Rattle.ld_union.proofs.dependencies.Dependencies.add.Given as goal

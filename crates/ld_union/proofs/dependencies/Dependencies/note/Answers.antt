@@ -2,7 +2,7 @@ use Rattle.std.proofs.Common.{◌≡◌, ◌++◌, ◌∷◌, [], ◌<◌, ◌�
 use Rattle.std.proofs.lemmas.List.{get_or_read, map-append}
 use Rattle.ld_graph.specs.Edges.{IsEdge, IsEdgeNumber, PlainGraph, with_edge}
 use Rattle.ld_graph.specs.Reach.{IsReach}
-use Rattle.ld_facts.specs.Union.{earlier}
+use Rattle.ld_rules.specs.Union.{earlier}
 use Rattle.ld_union.specs.declared.dependencies.Witnessed.{Witnessed}
 use Rattle.ld_union.specs.Inner.States.{of_state}
 use Rattle.ld_union.specs.Inner.Union.{IsCycleEdge, edges_of}

@@ -2,8 +2,8 @@ use Rattle.std.proofs.Common.{◌≡◌, ◌<◌, ◌≤◌, ◌+◌, ℕ, ◌�
 use Rattle.std.proofs.lemmas.List.{append-nil, map-append}
 use Rattle.ld_class.specs.Names.{PlainClass}
 use Rattle.ld_trace.specs.declared.event.State.{State}
-use Rattle.ld_facts.specs.Union.{use_witness}
-use Rattle.ld_facts.specs.Usage.Bit.{In}
+use Rattle.ld_rules.specs.Union.{use_witness}
+use Rattle.ld_rules.specs.Usage.Bit.{In}
 use Rattle.ld_union.specs.Findings.{InTurn, IsBefore, IsConflictRow, IsHarder, conflict_key, plain_conflict_row}
 use Rattle.ld_union.specs.Inner.ByName.{class_name}
 use Rattle.ld_union.specs.Inner.Rows.{AreConflictRowsOf, IsConflictRowOf, IsPassed}

@@ -2,8 +2,8 @@ use Rattle.std.proofs.Common.{◌≡◌, ◌≢◌, ◌<◌, ◌∙◌, [], None
 use Rattle.std.proofs.lemmas.List.{get_or_default}
 use Rattle.std.proofs.lemmas.Option.{MatchOption-at_none, MatchOption-at_some}
 use Rattle.ld_graph.specs.Edges.{IsEdge, IsEdgeNumber, edge}
-use Rattle.ld_facts.specs.Union.{dependency_witness}
-use Rattle.ld_facts.specs.Dependency.{Dependency}
+use Rattle.ld_rules.specs.Union.{dependency_witness}
+use Rattle.ld_rules.specs.Dependency.{Dependency}
 use Rattle.ld_union.specs.declared.dependencies.Witnessed.{Witnessed}
 use Rattle.ld_union.specs.Findings.{IsShown, plain_cycle_row, plain_names}
 use Rattle.ld_union.specs.Inner.ByName.{class_name}

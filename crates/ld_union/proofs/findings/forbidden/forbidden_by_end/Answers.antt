@@ -1,7 +1,7 @@
 use Rattle.std.proofs.Common.{◌≡◌, ◌<◌, ◌≤◌, ◌+◌, ◌∙◌, ◌++◌, get_or, length, map, subst, sym, ap}
 use Rattle.std.proofs.lemmas.List.{map-append}
-use Rattle.ld_facts.specs.Union.{use_witness}
-use Rattle.ld_facts.specs.Usage.Bit.{On}
+use Rattle.ld_rules.specs.Union.{use_witness}
+use Rattle.ld_rules.specs.Usage.Bit.{On}
 use Rattle.ld_union.specs.Findings.{IsBefore, IsPairBefore, plain_forbidden_row}
 use Rattle.ld_union.specs.Inner.ByName.{class_name}
 use Rattle.ld_union.specs.Inner.Rows.{AreTurnedRowsOf, IsPassed, IsRowIn, turned_key}

@@ -1,7 +1,7 @@
 use Rattle.std.proofs.Common.{subst}
 use Rattle.std.proofs.lemmas.Option.{MatchOption-at_none, MatchOption-at_some}
 use Rattle.ld_class.specs.Names.{plain_class}
-use Rattle.ld_facts.specs.Usage.Bit.{In}
+use Rattle.ld_rules.specs.Usage.Bit.{In}
 use Rattle.ld_union.specs.Inner.ByName.{class_name}
 use Rattle.ld_union.specs.Inner.Rows.{IsNoted}
 use Rattle.ld_union.specs.Findings.{plain_forbidden_row}

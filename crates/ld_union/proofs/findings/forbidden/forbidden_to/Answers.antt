@@ -2,8 +2,8 @@ use Rattle.std.proofs.Common.{◌≡◌, ◌<◌, ◌≤◌, ◌+◌, ℕ, ◌�
 use Rattle.std.proofs.lemmas.List.{append-nil, map-append}
 use Rattle.std.proofs.lemmas.Option.{MatchOption-at_none, MatchOption-at_some}
 use Rattle.ld_class.specs.Names.{PlainClass, plain_class}
-use Rattle.ld_facts.specs.Union.{use_witness}
-use Rattle.ld_facts.specs.Usage.Bit.{In, On}
+use Rattle.ld_rules.specs.Union.{use_witness}
+use Rattle.ld_rules.specs.Usage.Bit.{In, On}
 use Rattle.ld_union.specs.Findings.{IsBefore, IsPairBefore, plain_forbidden_row}
 use Rattle.ld_union.specs.Inner.ByName.{class_name}
 use Rattle.ld_union.specs.Inner.Rows.{AreTurnedRowsOf, IsNoted, IsPassed, IsRowIn, IsTurnedRowOf, turned_key}

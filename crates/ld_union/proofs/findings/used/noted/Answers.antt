@@ -1,8 +1,8 @@
 use Rattle.std.proofs.Common.{rules, ◌≡◌, ◌∙◌, MatchOption, None, ap, get_or, subst, sym}
 use Rattle.ld_class.specs.Names.{plain_class}
 use Rattle.ld_class.specs.Usage.{marks_of}
-use Rattle.ld_facts.specs.Union.{use_witness}
-use Rattle.ld_facts.specs.Usage.{bit_of}
+use Rattle.ld_rules.specs.Union.{use_witness}
+use Rattle.ld_rules.specs.Usage.{bit_of}
 use Rattle.ld_union.specs.declared.usage.UsageRow.{UsageRow}
 use Rattle.ld_union.specs.Inner.ByName.{class_name}
 use Rattle.ld_union.specs.Inner.Rows.{IsNoted}

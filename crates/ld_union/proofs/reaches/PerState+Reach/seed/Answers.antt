@@ -1,7 +1,7 @@
 use Rattle.std.proofs.Common.{rules, ◌≡◌, ◌∙◌}
 use Rattle.ld_trace.specs.declared.event.State.TheVariants.{Hard, Soft}
-use Rattle.ld_facts.specs.Usage.{usage_of}
-use Rattle.ld_facts.specs.Usage.Bit.{In}
+use Rattle.ld_rules.specs.Usage.{usage_of}
+use Rattle.ld_rules.specs.Usage.Bit.{In}
 use Rattle.ld_union.proofs.ReachedLemmas.{hard≢soft, seeded-other, seeded-seed}
 use Rattle.ld_union.proofs.reaches.PerState+Reach.seed.Goals as goal
 

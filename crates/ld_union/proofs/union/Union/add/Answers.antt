@@ -6,11 +6,11 @@ use Rattle.ld_graph.specs.Edges.{IsEdge}
 use Rattle.ld_graph.specs.Reach.{IsReach, PlainReach}
 use Rattle.ld_trace.specs.declared.event.State.{State}
 use Rattle.ld_trace.specs.declared.event.State.TheVariants.{Hard, Soft}
-use Rattle.ld_facts.specs.Union.{use_witness}
+use Rattle.ld_rules.specs.Union.{use_witness}
 use Rattle.ld_union.specs.declared.dependencies.Witnessed.{Witnessed}
 use Rattle.ld_union.specs.declared.news.NewBit.{NewBit}
 use Rattle.ld_union.specs.declared.usage.UsageRow.{UsageRow}
-use Rattle.ld_facts.specs.Inner.Names.{ArePlaces, IsLonger, with_names}
+use Rattle.ld_shown.specs.Inner.Names.{ArePlaces, IsLonger, with_names}
 use Rattle.ld_union.specs.Inner.News.{Tells, TellsBits}
 use Rattle.ld_union.specs.Inner.Reached.{AreInFront, IsReachOf, IsSeeded, reached_by}
 use Rattle.ld_union.specs.Inner.States.{of_state}

@@ -1,7 +1,7 @@
 use Rattle.std.proofs.Common.{rules, ◌≡◌, ◌<◌, ◌∙◌, None, Some, ap, refl, subst, sym}
 use Rattle.ld_class.specs.Names.{plain_class}
 use Rattle.ld_graph.specs.Edges.{IsEdge, IsEdgeNumber}
-use Rattle.ld_facts.specs.Dependency.{Dependency}
+use Rattle.ld_rules.specs.Dependency.{Dependency}
 use Rattle.ld_union.specs.declared.dependencies.Witnessed.{Witnessed}
 use Rattle.ld_union.proofs.UnionLemmas.{first_at, found_row, none_edge, none_from, none_to}
 use Rattle.ld_union.proofs.union.Union.witness.Goals as goal

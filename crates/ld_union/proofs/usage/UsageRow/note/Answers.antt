@@ -1,6 +1,6 @@
 use Rattle.std.proofs.Common.{◌≡◌, ◌∙◌, None, Some, ap, get_or, set, sym}
 use Rattle.ld_class.specs.Usage.{either}
-use Rattle.ld_facts.specs.Usage.{bit_of}
+use Rattle.ld_rules.specs.Usage.{bit_of}
 use Rattle.ld_union.specs.Inner.Union.{earlier_of}
 use Rattle.ld_union.proofs.UsageLemmas.{row_then}
 use Rattle.ld_union.proofs.usage.UsageRow.note.Goals as goal

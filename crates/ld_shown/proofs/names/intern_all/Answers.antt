@@ -2,9 +2,9 @@ use Rattle.std.proofs.Common.{rules, ◌≡◌, ◌+◌, ◌++◌, ◌∷◌, �
 use Rattle.std.proofs.lemmas.List.{take_all, take_more}
 use Rattle.std.proofs.lemmas.List.Sums.{fold_more}
 use Rattle.ld_class.specs.Names.{no_class, plain_class, with_name}
-use Rattle.ld_facts.specs.Inner.Names.{ArePlaces, IsLonger}
-use Rattle.ld_facts.proofs.NameLemmas.{longer_more, places_more}
-use Rattle.ld_facts.proofs.names.intern_all.Goals as goal
+use Rattle.ld_shown.specs.Inner.Names.{ArePlaces, IsLonger}
+use Rattle.ld_shown.proofs.NameLemmas.{longer_more, places_more}
+use Rattle.ld_shown.proofs.names.intern_all.Goals as goal
 
 pub loop-id-preserved : goal.loop-id-preserved
 loop-id-preserved c =

@@ -1,22 +1,23 @@
-//! What the traces of a batch show, by the places of its classes.
+//! What a batch keeps of what its traces show, by the places of its classes.
 ghost use Rattle.std.specs.Prelude.{◌≡◌, ◌+◌, ◌<◌, ◌≤◌, ◌++◌, [], All, List, OnErr, OnOk, drop, length, map};
 ghost use Rattle.ld_class.specs.Names.{AreDistinct, PlainClass};
 ghost use Rattle.ld_class.specs.declared.names.TheConstants.{MOST_NAMES};
 ghost use Rattle.ld_facts.specs.Inner.Kept.{AreNames};
-ghost use Rattle.ld_facts.specs.Inner.Names.{with_names};
+ghost use Rattle.ld_shown.specs.Inner.Names.{with_names};
 ghost use Rattle.ld_facts.specs.Inner.Rows.{IsOwnEdge, IsOwnUse, edge_of, use_of};
 
-use crate::edges::{WitnessedEdge, add_edges};
+use crate::edges::add_edges;
 use crate::names::add_named;
-use crate::uses::{WitnessedUse, add_uses};
-use ld_class::Classes;
-use ld_tables::Numbers;
 use crate::scan::Scan;
+use crate::uses::add_uses;
+use ld_class::Classes;
+use ld_shown::{WitnessedEdge, WitnessedUse};
+use ld_tables::Numbers;
 use std::alloc::{AllocError, Global};
 
-/// What the traces of a batch show.
+/// What the traces of a batch show, with the numbers that its scan has for their classes.
 #[derive(Drop)]
-pub(crate) struct Shown<'a> {
+pub(crate) struct BatchRows<'a> {
     /// The classes, in order of first acquisition.
     pub(crate) classes: Classes<'a>,
     /// The numbers that the scan has for them, in the same order.
@@ -28,15 +29,15 @@ pub(crate) struct Shown<'a> {
     pub(crate) usage: Vec<WitnessedUse>,
 }
 
-impl<'a> Shown<'a> {
+impl<'a> BatchRows<'a> {
     /// Nothing. Takes no memory.
-    pub(crate) fn new(alloc: Global) -> Shown<'a>
+    pub(crate) fn new(alloc: Global) -> BatchRows<'a>
         ensures classes { result.classes ≡ [] }
         ensures numbers { result.numbers ≡ [] }
         ensures edges { result.edges.items ≡ [] }
         ensures usage { result.usage.items ≡ [] }
     {
-        Shown {
+        BatchRows {
             classes: Classes::new(alloc),
             numbers: Numbers::new(alloc),
             edges: Vec::new(alloc),

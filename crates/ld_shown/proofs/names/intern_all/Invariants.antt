@@ -1,6 +1,6 @@
 use Rattle.std.proofs.Common.{◌≡◌, ◌≤◌, length, take, vec_capacity}
-use Rattle.ld_facts.specs.Inner.Names.{ArePlaces, IsLonger, with_names}
-use Rattle.ld_facts.proofs.names.intern_all.Given as goal
+use Rattle.ld_shown.specs.Inner.Names.{ArePlaces, IsLonger, with_names}
+use Rattle.ld_shown.proofs.names.intern_all.Given as goal
 
 abbrev pub invariant-loop-id : goal.invariant-loop-id
 invariant-loop-id l = record {

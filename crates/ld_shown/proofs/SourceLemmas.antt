@@ -15,9 +15,9 @@ use Rattle.ld_rules.specs.Dependency.{Seen, least_line}
 use Rattle.ld_rules.specs.Inner.Scanned.{with_new}
 use Rattle.ld_rules.specs.Union.{classes_of, earlier, first_of, first_witness, is_before}
 use Rattle.ld_rules.proofs.LeastLemmas.{Ascend}
-use Rattle.ld_facts.specs.Batch.{Met, witness_of}
-use Rattle.ld_facts.specs.Inner.Rows.{AreMet, earlier_of, seen_in, seen_of}
-use Rattle.ld_facts.proofs.MetLemmas.{come_added, joined, met, met_seen, once_all, same_seen, same_met, seen_added}
+use Rattle.ld_shown.specs.Batch.{Met, witness_of}
+use Rattle.ld_shown.specs.Inner.Rows.{AreMet, earlier_of, seen_in, seen_of}
+use Rattle.ld_shown.proofs.MetLemmas.{come_added, joined, met, met_seen, once_all, same_seen, same_met, seen_added}
 
 -- the classes that some sources and one more show
 pub shown-push : (sources : List PlainSource) (source : PlainSource) → flat_map classes_of (sources ++ source ∷ []) ≡ flat_map classes_of sources ++ classes_of source

@@ -11,7 +11,7 @@ use Rattle.ld_class.specs.Names.{IsNameAt, PlainClass, no_class, place_of, same_
 use Rattle.ld_class.proofs.NameLemmas.{list_any-known, list_any-new, same_class-Decides}
 use Rattle.ld_rules.specs.Outcome.{each_once}
 use Rattle.ld_rules.proofs.PlaceLemmas.{alike_from_decides, any_each_once, by_pushes, each_once-more}
-use Rattle.ld_facts.specs.Inner.Names.{ArePlaces, IsLonger, with_names}
+use Rattle.ld_shown.specs.Inner.Names.{ArePlaces, IsLonger, with_names}
 
 -- one more name makes the list longer by at most one
 pub length-with_name : (names : List PlainClass) (name : PlainClass) → (length names ≤ length (with_name names name)) × (length (with_name names name) ≤ length names + 1)

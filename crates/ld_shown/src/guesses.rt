@@ -1,6 +1,5 @@
 //! Where a book had what the batches of a worker showed before.
 
-use ld_tables::as_number;
 use std::alloc::Global;
 
 /// Where a book may have the classes and dependencies of a batch, by the numbers that the batch's scan
@@ -40,7 +39,7 @@ impl Guesses {
 
     /// The dependency between the classes of this pair is there.
     pub fn keep_pair(&mut self, number: u32, place: usize) {
-        if let Ok(place) = as_number(place) {
+        if let Ok(place) = u32::try_from(place) {
             keep(&mut self.pairs, number, place);
         }
     }

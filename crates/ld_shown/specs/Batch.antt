@@ -10,8 +10,8 @@ use Rattle.ld_rules.specs.Dependency.{Dependency, same_dependency}
 use Rattle.ld_rules.specs.Outcome.{outcome}
 use Rattle.ld_rules.specs.Union.{dependency_witness, union_classes, use_witness}
 use Rattle.ld_rules.specs.Usage.{IsBit, Use, bit_of, same_use}
-use Rattle.ld_facts.specs.declared.edges.WitnessedEdge.{WitnessedEdge}
-use Rattle.ld_facts.specs.declared.uses.WitnessedUse.{WitnessedUse}
+use Rattle.ld_shown.specs.declared.rows.WitnessedEdge.{WitnessedEdge}
+use Rattle.ld_shown.specs.declared.rows.WitnessedUse.{WitnessedUse}
 
 pub record PlainBatch : Type 0 where
   pub sources : List PlainSource

@@ -13,8 +13,8 @@ use Rattle.std.specs.Option.{option_or}
 use Rattle.ld_rules.specs.Dependency.{Seen, least_line}
 use Rattle.ld_rules.specs.Inner.Scanned.{with_new}
 use Rattle.ld_rules.proofs.LeastLemmas.{Ascend, first_line, least_is_first}
-use Rattle.ld_facts.specs.Batch.{Met, witness_of}
-use Rattle.ld_facts.specs.Inner.Rows.{seen_in, seen_of}
+use Rattle.ld_shown.specs.Batch.{Met, witness_of}
+use Rattle.ld_shown.specs.Inner.Rows.{seen_in, seen_of}
 
 -- no element passes where none is found
 none_passes : {X : Type 0} (p : X → Bool) (xs : List X) → find p xs ≡ None → list_any p xs ≡ false

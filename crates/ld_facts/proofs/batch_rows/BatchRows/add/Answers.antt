@@ -3,9 +3,9 @@ use Rattle.std.proofs.lemmas.List.{length-map}
 use Rattle.ld_class.specs.Names.{no_class}
 use Rattle.ld_facts.specs.Inner.Scan.{names_at}
 use Rattle.ld_facts.specs.Inner.Rows.{IsOwnEdge, IsOwnUse}
-use Rattle.ld_facts.proofs.NameLemmas.{longer_all}
+use Rattle.ld_shown.proofs.NameLemmas.{longer_all}
 use Rattle.ld_facts.proofs.RowLemmas.{as_many, edges_too, slice_is, uses_too}
-use Rattle.ld_facts.proofs.shown.Shown.add.Goals as goal
+use Rattle.ld_facts.proofs.batch_rows.BatchRows.add.Goals as goal
 
 pub add_edges-requires-clause-few : goal.add_edges-requires-clause-few
 add_edges-requires-clause-few c =

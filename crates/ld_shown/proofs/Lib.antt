@@ -1,0 +1,3 @@
+pub mod MetLemmas
+pub mod NameLemmas
+pub mod SourceLemmas
