@@ -11,7 +11,7 @@ ghost use Rattle.ld_report.specs.Report.{summary_line, via};
 
 use crate::labels::label;
 use ld_book::{ClassName, ConflictRow, CycleRow, ForbiddenRow, Totals, Traces};
-use ld_facts::{TraceFault, Witness};
+use ld_rules::{TraceFault, Witness};
 use ld_trace::State;
 use std::alloc::AllocError;
 use std::io::Write;

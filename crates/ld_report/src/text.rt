@@ -12,7 +12,7 @@ use crate::lines::{
     write_conflict, write_cycle, write_forbidden, write_last, write_refused, write_summary,
 };
 use ld_book::{Book, ConflictRow, CycleRow, Findings, ForbiddenRow, Totals, Traces};
-use ld_facts::{Listed, Outcome};
+use ld_rules::{Listed, Outcome};
 use std::alloc::{AllocError, Global};
 
 /// The report of the traces that a book lists, in whatever order they came.

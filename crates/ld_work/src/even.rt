@@ -6,7 +6,7 @@ ghost use Rattle.ld_work.specs.Inner.Uneven.{IsUneven};
 ghost use Rattle.ld_work.specs.Work.{ListsEachOnce};
 
 use ld_book::{Book, Traces};
-use ld_facts::Listed;
+use ld_rules::Listed;
 use ld_trace::Source;
 use std::alloc::{AllocError, Global};
 
