@@ -124,6 +124,10 @@ fn forbidden_to<'a>(
     let Some(held) = noted(union, to, on_bit(state)) else {
         return Ok(rows);
     };
+    // Where no walk leads here from a class that handlers acquire, none is searched for.
+    if union.source(state, to).is_none() {
+        return Ok(rows);
+    }
     let target = Target::new(alloc, union, to)?;
     for from in &order.numbers {
         if let Some(row) = forbidden_row(alloc, union, order, &target, held, state, *from)? {

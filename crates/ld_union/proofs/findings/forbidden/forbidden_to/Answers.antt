@@ -1,4 +1,4 @@
-use Rattle.std.proofs.Common.{◌≡◌, ◌<◌, ◌≤◌, ◌+◌, ℕ, ◌∙◌, ◌∷◌, ◌++◌, [], List, Vec, get_or, length, map, subst, sym, ap}
+use Rattle.std.proofs.Common.{rules, ◌≡◌, ◌<◌, ◌≤◌, ◌+◌, ℕ, ◌∙◌, ◌∷◌, ◌++◌, [], List, Vec, get_or, length, map, subst, sym, ap}
 use Rattle.std.proofs.lemmas.List.{append-nil, map-append}
 use Rattle.std.proofs.lemmas.Option.{MatchOption-at_none, MatchOption-at_some}
 use Rattle.ld_class.specs.Names.{PlainClass, plain_class}
@@ -7,9 +7,15 @@ use Rattle.ld_rules.specs.Usage.Bit.{In, On}
 use Rattle.ld_union.specs.Findings.{IsBefore, IsPairBefore, plain_forbidden_row}
 use Rattle.ld_union.specs.Inner.ByName.{class_name}
 use Rattle.ld_union.specs.Inner.Rows.{AreTurnedRowsOf, IsNoted, IsPassed, IsRowIn, IsTurnedRowOf, turned_key}
-use Rattle.ld_union.specs.Violations.{IsForbidden}
+use Rattle.ld_union.specs.Inner.Bits.{HasBitAt}
+use Rattle.ld_union.specs.Inner.Reached.{IsSourceAt}
+use Rattle.ld_union.specs.Inner.Union.{edges_of}
+use Rattle.ld_union.specs.Usage.{bits_of}
+use Rattle.ld_union.specs.Violations.{HasBit, IsForbidden}
 use Rattle.ld_union.proofs.PassedLemmas.{name_at, passed_all, rows-more}
-use Rattle.ld_union.proofs.RowLemmas.{rows-not, rows-one, rows-same}
+use Rattle.ld_union.proofs.BitLemmas.{bits_from_used}
+use Rattle.ld_union.proofs.NumberLemmas.{walk_from_leads}
+use Rattle.ld_union.proofs.RowLemmas.{None_from_is_some, rows-none, rows-not, rows-one, rows-same}
 use Rattle.ld_union.proofs.UsageLemmas.{number_of}
 use Rattle.ld_union.proofs.WitnessLemmas.{bit_of-usage_of}
 use Rattle.ld_union.proofs.findings.forbidden.forbidden_to.Goals as goal
@@ -78,3 +84,18 @@ returns c sources shows =
     let at = number_of union.classes union.usage (use_witness sources) shows.used (record { class = p.1; bit = In state }) owed.0 in
     (here, passed_all union.classes numbers c.args.order.now.places.items c.requires.order at.0 i p.1 past at.1))
     (c.loop-from.invariant sources shows)
+
+pub returns-then-is_none : goal.returns-then-is_none
+returns-then-is_none c sources shows =
+    let union = c.args.union.now in
+    let state = c.args.state in
+    let to = class_name union.classes c.args.to in
+    let none : (from : ℕ) → ¬ IsSourceAt (edges_of union.dependencies) (bits_of union.usage) state c.args.to from = search rules in
+    subst (AreTurnedRowsOf sources state (λ p. p.0 ≡ to)) (sym (ap (map plain_forbidden_row) c.new-rows.ensures.items))
+    (rows-none turned_key (IsRowIn sources state) (λ p. IsForbidden sources state p.1 p.0) IsPairBefore (λ p. p.0 ≡ to)
+    (λ p owed here.
+    let at = number_of union.classes union.usage (use_witness sources) shows.used (record { class = p.1; bit = In state }) owed.0 in
+    let bit : HasBitAt (bits_of union.usage) at.0 (In state) =
+    ((bits_from_used union.classes union.usage sources shows.used).each at.0 (In state) at.1.0).1
+    (subst (λ n. HasBit sources n (In state)) (sym at.1.1) owed.0) in
+    none at.0 (bit, walk_from_leads union.classes union.dependencies shows.numbered sources shows.witnesses at.0 c.args.to p.1 p.0 at.1 (c.requires.to, sym here) owed.2)))
