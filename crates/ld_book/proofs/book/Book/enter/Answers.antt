@@ -1,6 +1,8 @@
 use Rattle.std.proofs.Common.{◌≢◌, ◌*◌, ◌≤◌, ◌++◌, ◌∙◌, All, AllPairs, arith, length, subst, sym}
 use Rattle.ld_trace.specs.Sources.{Fits}
+use Rattle.ld_shown.specs.Batch.{PlainBatch}
 use Rattle.ld_facts.proofs.BatchLemmas.{few_sources}
+use Rattle.ld_union.specs.Inner.Union.{Adds}
 use Rattle.ld_book.specs.Book.{is_any_listed}
 use Rattle.ld_book.specs.Inner.Kept.{IsKept}
 use Rattle.ld_book.proofs.BookLemmas.{apart_from_rise, kept-added}
@@ -12,7 +14,8 @@ add-requires c =
     let told = c.listed-traces.ensures in
     let traces : length c.self.inside.listing.sources ≤ 65535 = c.room.ensures.few in
     let classes : length c.self.inside.union.classes ≤ length c.self.inside.listing.sources * 8191 = c.self.invariant.few in
-    let more : length batch.classes ≤ length batch.sources * 8191 = told.few in
+    let more : length c.shown.result.classes ≤ length batch.sources * 8191 =
+    subst (λ (shown : PlainBatch). length shown.classes ≤ length batch.sources * 8191) (sym c.shown.ensures) told.few in
     let sources : length batch.sources ≤ 65535 = few_sources batch.sources told.exact.fit told.exact.rise in
     omega arith
 
@@ -43,7 +46,9 @@ invariant_of-self-in_err-add c =
 pub invariant_of-self-2 : goal.invariant_of-self-2
 invariant_of-self-2 c =
     let told = c.listed-traces.ensures in
-    kept-added _ _ c.args.batch.now c.self.invariant told.exact told.few c.in_ok-add.ensures.added
+    let added : Adds c.args.batch.now.sources c.self.inside.union c.add.new.self =
+    subst (λ (shown : PlainBatch). Adds shown.sources c.self.inside.union c.add.new.self) c.shown.ensures c.in_ok-add.ensures.added in
+    kept-added _ _ c.args.batch.now c.self.invariant told.exact told.few added
     (c.add_all.ensures ∙ (λ i. c.room.ensures.sources i ++ told.sources i))
     (c.note.ensures c.self.inside.union c.in_ok-add.ensures.told c.self.invariant.exact)
 
