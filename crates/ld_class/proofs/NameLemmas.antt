@@ -42,9 +42,6 @@ module _ (names : List PlainClass) (name : PlainClass) where
   pub with_name-known : (id : ℕ) → place_of names name ≡ Some id → with_name names name ≡ names
   with_name-known = any.with_one-known same_class no_class same_class-Decides names name
 
-  pub with_name-new : place_of names name ≡ None → with_name names name ≡ names ++ name ∷ []
-  with_name-new = any.with_one-new same_class no_class same_class-Decides names name
-
   pub list_any-known : (id : ℕ) → place_of names name ≡ Some id
       → list_any (same_class name) names ≡ true
   list_any-known = any.list_any-known same_class no_class same_class-Decides names name
@@ -97,13 +94,6 @@ tasks_of classes = map (λ class. class.name) classes
 pub tasks_of-classes : (tasks : List (List ℕ)) → tasks_of (map class_of_task tasks) ≡ tasks
 tasks_of-classes [] = refl
 tasks_of-classes (task ∷ tasks) = ap (λ others. task ∷ others) (tasks_of-classes tasks)
-
-pub IsTaskAt-of : (classes : List PlainClass) (id : ℕ) (class : PlainClass)
-    → IsNameAt classes id class → IsTaskAt (tasks_of classes) id class.name
-IsTaskAt-of classes id class at = (
-  omega (arith, at.0, length-map classes (λ c. c.name)),
-  get_or-map (λ c. c.name) classes id no_class ∙ ap (λ c. c.name) at.1,
-)
 
 -- where classes are named as tasks are, the place of a task is that of its class
 pub place_of-task : (classes : List PlainClass) (tasks : List (List ℕ)) (task : List ℕ)

@@ -149,31 +149,6 @@ pub record IsPushed (old new : Fields) (last : Listed) : Type 0 where
 pub begins : (old new : Scan) (source : PlainSource) → IsReady new → IsRead old source new → length new.classes ≤ 1073733633 → IsAt (start_of new) [] new
 begins old new source is shows room = subst (IsAt (start_of new) []) (sym is) (begun-at new shows.distinct shows.within shows.used (omega (arith, room)))
 
--- a batch without a trace
-pub kept-none : (scan : Scan) → scan ≡ fresh_scan scan.classes → AreDistinct scan.classes → length scan.classes ≤ 65536 →
-    IsKept (record { listed = []; scan = scan; classes = []; numbers = []; edges = []; usage = [] })
-kept-none scan new distinct few = subst (λ s. IsKept (record { listed = []; scan = s; classes = []; numbers = []; edges = []; usage = [] })) (sym new) (record {
-  exact = record {
-    fit = All-nil Fits;
-    rise = λ i j d before within. absurd (omega (arith, within));
-    classes = refl;
-    within = All-nil (IsBetween []);
-    once = λ i j d before within. absurd (omega (arith, within));
-    edges = λ what. refl;
-    used_within = All-nil (IsUse []);
-    used_once = λ i j d before within. absurd (omega (arith, within));
-    usage = λ what. refl;
-  };
-  outcomes = All-nil (λ (l : Listed). l.outcome ≡ outcome (plain l.source));
-  few = omega arith;
-  known = omega (arith, few);
-  names = record { within = All-nil (λ n. n < length scan.classes); same = refl };
-  ready = refl;
-  begun = begun-at (fresh_scan scan.classes) distinct (All-nil (scanned.IsBetween scan.classes)) (All-nil (scans.IsUse scan.classes)) (omega (arith, few));
-  edges = record { same = refl; apart = λ i j d before within. absurd (omega (arith, within)) };
-  usage = record { same = refl; apart = λ i j d before within. absurd (omega (arith, within)) };
-})
-
 -- what a scan has where it read the source to its end
 pub shows-read : (old new : Scan) (source : PlainSource) (count : ℕ) → outcome source ≡ Read count → IsAt (start_of old) (positions source) new → IsRead old source new
 shows-read old new source count is at =

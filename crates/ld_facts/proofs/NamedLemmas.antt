@@ -22,12 +22,6 @@ use Rattle.ld_facts.specs.Named.{named_dependency}
 use Rattle.ld_rules.proofs.PlaceLemmas.{by_pushes}
 use Rattle.ld_rules.proofs.StepLemmas.{names-more}
 
--- two tests that pass together are one
-same_test : (a b : Bool) → (a ≡ true → b ≡ true) → (b ≡ true → a ≡ true) → a ≡ b
-same_test true b there back = sym (there refl)
-same_test false true there back = back refl
-same_test false false there back = refl
-
 -- dependencies of which the names are told apart, and one more
 module _ (names : List PlainClass) (distinct : AreDistinct names) where
   numbers_by_name : (i j : ℕ) → i < length names → j < length names → same_class (slice_index_or names i no_class) (slice_index_or names j no_class) ≡ (i == j)
@@ -118,16 +112,6 @@ named-more names name (x ∷ xs) within =
 pub within-more : (names : List PlainClass) (name : PlainClass) (edges : List EdgeFact) → All (IsBetween names) edges → All (IsBetween (with_name names name)) edges
 within-more names name edges within =
     All-weaker (IsBetween names) (IsBetween (with_name names name)) (λ x here. (number-more names name x.from here.0, number-more names name x.to here.1)) edges within
-
-pub distinct-each_once : (names : List PlainClass) → AreDistinct (each_once same_class names)
-distinct-each_once names = by_pushes (λ ns. AreDistinct (each_once same_class ns)) none
-    (λ ns n h. subst AreDistinct (sym (names-more ns n)) (apart-with_one same_class no_class same_class-Decides (each_once same_class ns) n h)) names
-  where
-    none : AreDistinct []
-    none i j other at_i at_j = absurd (omega (arith, at_i.0))
-
-pub distinct-classes : (past : List PlainEvent) → AreDistinct (classes past)
-distinct-classes past = distinct-each_once (filter_map class_acquired past)
 
 -- the classes of the locks of a stack, by number
 pub holds-classes : (names : List PlainClass) (stack : List Hold) → map (λ from. slice_index_or names from no_class) (map (λ hold. hold.class) stack) ≡

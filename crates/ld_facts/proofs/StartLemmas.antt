@@ -27,14 +27,3 @@ begun-at scan distinct within used room = record {
   uses = refl;
   used = used;
 }
-
--- what stands on it is it again, once it is taken back
-pub undone-is : (old new : Scan) → StandsOn (begun old) new → undone new ≡ begun old
-undone-is old new on = λ i. record {
-  tasks = [];
-  classes = (ap (λ (before : Before). take before.classes new.classes) on.before ∙ on.classes) i;
-  own = [];
-  locks = record { stacks = []; interrupts = []; edges = on.edges i; before = on.edges i };
-  uses = (ap (λ (before : Before). take before.uses new.uses) on.before ∙ on.uses) i;
-  before = on.before i;
-}

@@ -270,12 +270,6 @@ module _ (step : ℕ → ℕ → Type 0) (ranks classes : List ℕ) (h : AreInve
   pub row_length : length row ≡ high + 1 - low
   row_length = length-row ranks classes low (high + 1 - low) h plan_within
 
-  pub row_some : 0 < length row
-  row_some = let l = row_length in omega (arith, l, against)
-
-  pub row_is : IsRow ranks low row
-  row_is = IsRow-of ranks classes low (high + 1 - low) h plan_within
-
   pub row_first : get_or row 0 0 ≡ b
   row_first =
       row_read ranks classes low (high + 1 - low) h plan_within 0 (omega (arith, against))

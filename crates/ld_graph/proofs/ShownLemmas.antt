@@ -52,11 +52,6 @@ module _ {A : Type 0} (step : A → A → Type 0) where
       → IsDistance step a b n
   distance_at a b o n h e = subst (λ z. DistanceIs step a b z) e h
 
-  pub distance_some : (a b : A) (n : ℕ) → IsDistance step a b n → 1 ≤ n
-  distance_some a b n h =
-      let r = h.reached in let f = IsWalk-Far step a b r.0 r.1.0 in
-      let u = r.1.1 in let v = f.1.0 in omega arith
-
   -- where it is more than 1, some successor is one nearer
   pub distance_next : (a b : A) (n : ℕ) → IsDistance step a b (n + 2) → (x : A) × (step a x
       × IsDistance step x b (n + 1))

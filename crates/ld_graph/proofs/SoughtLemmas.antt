@@ -27,13 +27,6 @@ added_keeps old new offset k (inr h) n =
     subst (λ l. Contains l k) (sym h.1) (Contains-append_left old (offset ∷ []) k n)
 
 module _ (near : ℕ → Type 0) (rank : ℕ → ℕ) (low len : ℕ) where
-  pub IsGrown-none : (found : List ℕ) → IsGrown near rank low len found found
-  IsGrown-none found = record {
-    longer = omega arith;
-    front = λ i l. refl;
-    fresh = λ k n. inl n;
-  }
-
   pub IsGrown-added : (old mid new : List ℕ) (x offset : ℕ) → IsGrown near rank low len old mid
       → near x → rank x ≡ low + offset → offset < len → IsAdded mid offset new
       → IsGrown near rank low len old new
@@ -81,25 +74,6 @@ module _ (near : ℕ → ℕ → Type 0) (ranks : List ℕ) (low : ℕ) (row : L
       let inside : IsInside low (length row) (rank_at x) = (omega (arith, e), omega (arith, e, b)) in
       let s : rank_at x - low ≡ k = omega (arith, e) in
       ap (λ z. get_or row z 0) (sym s) ∙ r.back x l inside
-
-  pub IsSought-begun : (start : ℕ) (new : List ℕ) → start < length row → IsAdded [] start new
-      → IsSought near row start new
-  IsSought-begun start new l a = record {
-    begun = added_has [] new start a;
-    within = λ k n. subst (λ z. z < length row) (only k a n) l;
-    reached = λ k n. inl (ap (λ z. get_or row z 0) (only k a n));
-  }
-    where
-      none : (k : ℕ) → ¬ Contains {X = ℕ} [] k
-      none k n = let b = n.1 in absurd (omega (arith, b))
-
-      last : (k : ℕ) → Contains [] k ⊎ (start ≡ k) → start ≡ k
-      last k (inl n) = absurd (none k n)
-      last k (inr e) = e
-
-      only : (k : ℕ) → IsAdded [] start new → Contains new k → start ≡ k
-      only k (inl h) n = absurd (none start h.0)
-      only k (inr h) n = last k (Contains-push_cases [] start k (subst (λ f. Contains f k) h.1 n))
 
   pub IsSought-more : (start x : ℕ) (old new : List ℕ) → IsSought near row start old
       → IsOrReaches near (get_or row start 0) x
@@ -183,9 +157,6 @@ module _ (lists : List (List ℕ)) (ranks : List ℕ) (low : ℕ) (row : List �
       old new
   grown = IsGrown-near (IsNear lists (get_or row offset 0)) list (λ x. get_or ranks x 0) low (length
       row) old new (λ x n. subst (λ l. Contains l x) read n) g
-
-  pub turn_ends : (x : ℕ) → Contains list x → x < length ranks
-  turn_ends x n = ends (get_or row offset 0) x (subst (λ l. Contains l x) read n)
 
   pub turn_sought : (start : ℕ) → IsSought (IsNear lists) row start old
       → IsSought (IsNear lists) row start new

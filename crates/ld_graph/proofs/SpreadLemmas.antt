@@ -32,16 +32,6 @@ kept_marked levels y level free x k e = by (cases_eq x y)
     by (inr p) = get_or-set_other levels y x (Some level) None p ∙ e
 
 module _ (near : ℕ → Type 0) (level : ℕ) where
-  pub Spreads-none : (levels : List (Option ℕ)) (queue : List ℕ)
-      → Spreads near level levels queue levels queue
-  Spreads-none levels queue = record {
-    kept = λ x k h. h;
-    fresh = λ x k h. inl h;
-    front = λ i l. refl;
-    longer = omega arith;
-    added = λ i a b. absurd (omega arith);
-  }
-
   module _ (old : List (Option ℕ)) (before : List ℕ) (now : List (Option ℕ)) (queue : List ℕ) (h :
       Spreads near level old before now queue)
       (y : ℕ) (ny : near y) (within : y < length now) (free : level_at now y ≡ None) where

@@ -120,10 +120,6 @@ module _ {A : Type 0} (same : A → A → Bool) where
       by true rest = ap Some (none_lesser s.line all what (first_pairs (λ t u. t.line ≤ u.line) s all ascend))
       by false rest = rest
 
-  -- So it is among what each source shows.
-  pub least_seen : (at : List PlainEvent → PlainEvent → List A) (source : PlainSource) (what : A) → least_line same (seen at (positions source)) what ≡ first_line (seen at (positions source)) what
-  least_seen at source = least_is_first (seen at (positions source)) (seen-Ascend at (positions source) (positions-ascend source))
-
   -- of the same thing, at whatever line
   abbrev same_seen : Seen A → Seen A → Bool
   same_seen s t = same s.what t.what
@@ -145,18 +141,3 @@ module _ {A : Type 0} (same : A → A → Bool) where
           → reduce min (map (λ t. t.line) (cond b (s ∷ filter (λ t. same what t.what) all) (filter (λ t. same what t.what) all))) ≡ None
       by true found rest = cc
       by false found rest = rest found
-
-  -- one more, which stood nowhere before
-  pub least_line-push : (all : List (Seen A)) (last : Seen A) (what : A) → (same what last.what ≡ true → least_line same all what ≡ None)
-      → least_line same (all ++ last ∷ []) what ≡ option_or (least_line same all what) (if same what last.what then Some last.line else None)
-  least_line-push all last what new =
-      ap (λ seen. reduce min (map (λ s. s.line) seen)) (filter-append (λ s. same what s.what) all (last ∷ []))
-      ∙ ap (reduce min) (map-append (λ s. s.line) (filter (λ s. same what s.what) all) (filter (λ s. same what s.what) (last ∷ [])))
-      ∙ by (lines_of all what) (same what last.what) new
-    where
-      by : (known : List ℕ) (b : Bool) → (b ≡ true → reduce min known ≡ None) → reduce min (known ++ map (λ s. s.line) (cond b (last ∷ []) [])) ≡
-          option_or (reduce min known) (if b then Some last.line else None)
-      by [] true none = refl
-      by [] false none = refl
-      by (line ∷ known) true none = let found : Some (fold min line known) ≡ None = none refl in cc
-      by (line ∷ known) false none = ap (λ ls. Some (fold min line ls)) (append-nil known)

@@ -127,12 +127,5 @@ chain_last links link = ap (λ cs. get_or cs (length links) []) (chains-push lin
 
 -- a chain that isn't there yet is put last
 module _ (links : List Link) (link : Link) (none : list_any (same_link link) links ≡ false) where
-  pub new_place : position_or_len (same_link link) links ≡ length links
-  new_place = position_or_len_is (same_link link) links (length links) link (omega arith) (λ k within. by k within (same_link link (get_or links k link)) refl) (λ past. absurd (omega (arith, past)))
-    where
-      by : (k : ℕ) → k < length links → (b : Bool) → same_link link (get_or links k link) ≡ b → b ≡ false
-      by k within true same = absurd (true≢false (sym (list_any_at (same_link link) links k link within same) ∙ none))
-      by k within false _ = refl
-
   pub new_keys : (after : List Link) → after ≡ (if list_any (same_link link) links then links else links ++ link ∷ []) → after ≡ links ++ link ∷ []
   new_keys after is = is ∙ ap (λ (b : Bool). if b then links else links ++ link ∷ []) none

@@ -15,10 +15,6 @@ marked_reached order marks more are kept = record {
   distinct = are.distinct;
 }
 
--- a number without a mark isn't there
-pub none_unmarked : (order : List ℕ) (marks : List Bool) → AreMarked order marks → (n : ℕ) → length marks ≤ n → false ≡ list_any (nat_eq n) order
-none_unmarked order marks are n past = sym (get_or_past marks n false past) ∙ are.noted n
-
 or_off : (b : Bool) → (b || false) ≡ b
 or_off true = refl
 or_off false = refl

@@ -111,24 +111,12 @@ all_kept numbers more (run ∷ runs) are =
 
 -- and are themselves those of a run
 module _ (numbers more : List ℕ) (run : Run) (start : run.start ≡ length numbers) (end : run.end ≡ length numbers + length more) where
-  new_run : IsRun (numbers ++ more) run
-  new_run = record {
-    order = omega (arith, start, end);
-    within = omega (arith, end, length-append numbers more);
-  }
-
   new_numbers : 0 < length more → numbers_in (numbers ++ more) run ≡ Some more
   new_numbers some =
       ap (λ (t : Bool). if t then None else Some (take (run.end - run.start) (drop run.start (numbers ++ more)))) (ne_eqb run.start run.end (λ same. omega (arith, some, start, end, same)))
       ∙ ap Some (ap (λ k. take (run.end - run.start) (drop k (numbers ++ more))) start
       ∙ ap (take (run.end - run.start)) (drop-append_seam numbers more)
       ∙ take_all (run.end - run.start) more (omega (arith, start, end)))
-
-  -- so they can be kept with a chain
-  pub runs_set : (runs : List Run) (chain : ℕ) → All (IsRun numbers) runs → All (IsRun (numbers ++ more)) (set runs chain run)
-  runs_set runs chain are = All-set (IsRun (numbers ++ more)) runs chain run new_run
-      (All-weaker (IsRun numbers) (IsRun (numbers ++ more))
-      (λ r is. record { order = is.order; within = omega (arith, is.within, length-append numbers more) }) runs are)
 
   pub numbers_set : (runs : List Run) (chain : ℕ) → 0 < length more → All (IsRun numbers) runs → map (numbers_in (numbers ++ more)) (set runs chain run)
       ≡ set (map (numbers_in numbers) runs) chain (Some more)
@@ -157,7 +145,3 @@ pub numbered_kept : {U E : Type 0} (old new : KeptChains) (pairs : List Pair) (n
 numbered_kept old new pairs numbers (Ok u) _ are links is _ =
     subst (λ ls. HasItsNumbers (chains_of ls) new.numbers pairs) (sym links) (subst (λ ns. HasItsNumbers (chains_of old.links) ns pairs) (sym is) are)
 numbered_kept old new pairs numbers (Err e) are _ _ _ refused = subst (λ (k : KeptChains). HasItsNumbers (chains_of k.links) k.numbers pairs) (sym refused) are
-
--- there are as many as classes that they are of
-pub numbers-many : (pairs : List Pair) (class : ℕ) (froms numbers : List ℕ) → AreNumbers pairs class froms numbers → length numbers ≡ length froms
-numbers-many pairs class froms numbers are = sym (length-map numbers (pair_at pairs)) ∙ ap length are.same ∙ length-map froms (pair_to class)

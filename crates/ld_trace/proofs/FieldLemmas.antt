@@ -5,10 +5,6 @@ use Rattle.std.specs.Prelude.{slice_get}
 use Rattle.std.specs.List.{filter, prefix_len, position_or_len, slice_split}
 use Rattle.ld_trace.specs.Lines.{first_field_byte, is_blank, is_empty, fields}
 
--- a blank before a field belongs to none
-fields-blank : (b : ℕ) (text : List ℕ) → is_blank b ≡ true → fields (b ∷ text) ≡ fields text
-fields-blank b text blank = rw blank refl
-
 -- nor do several
 pub fields-blanks : (text : List ℕ) → fields text ≡ fields (drop (prefix_len is_blank text) text)
 fields-blanks [] = refl

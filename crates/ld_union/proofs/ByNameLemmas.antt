@@ -50,14 +50,6 @@ module _ (classes : List PlainClass) (numbers places : List ℕ) (is : AreByName
       by (inr (inl lower)) = lower
       by (inr (inr higher)) = absurd (not_before_both (class_name classes c) (class_name classes d) before (before_from_place d c at_d at_c higher))
 
-  -- so the graph's order of classes is that of their names
-  pub before_from_comes_before : (c d : ℕ) → c < length classes → d < length classes → ComesBefore places c d → IsBefore (class_name classes c) (class_name classes d)
-  before_from_comes_before c d at_c at_d (inl lower) = before_from_place c d at_c at_d lower
-  before_from_comes_before c d at_c at_d (inr both) =
-      let same : c ≡ d = place-once c d at_c at_d both.0 in
-      let lower : c < d = both.1 in
-      absurd (omega (arith, same, lower))
-
   pub comes_before_from_before : (c d : ℕ) → c < length classes → d < length classes → IsBefore (class_name classes c) (class_name classes d) → ComesBefore places c d
   comes_before_from_before c d at_c at_d before = inl (place_from_before c d at_c at_d before)
 

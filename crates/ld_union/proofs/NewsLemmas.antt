@@ -32,9 +32,6 @@ row_within rows c bit has = subst (λ n. c < n) (length-map rows (λ (row : Usag
 pub told_within : (before : List Usage) (rows : List UsageRow) (told : List NewBit) → TellsBits before (bits_of rows) told → All (λ (t : NewBit). t.class < length rows) told
 told_within before rows told tells k d within = row_within rows (get_or told k d).class (bit_of (get_or told k d).bit) (tells.each k d within).now
 
-pub told_one : (before after : List Usage) (told : List NewBit) → TellsBits before after told → All (λ (t : NewBit). IsBit t.bit) told
-told_one before after told tells k d within = (tells.each k d within).one
-
 -- whether two bits are the same
 same_set : (a b : Bit) → (a ≡ b) ⊎ (has_bit (usage_of a) (usage_of b) ≡ false)
 same_set (In Hard) (In Hard) = inl refl

@@ -110,10 +110,6 @@ module _ (classes : List PlainClass) (rows : List Witnessed) (is : AreBetween cl
       let b = found.1.0 in
       (edge a b, (found.1.1.2, walk_from_leads b a y x found.1.1.1 found.1.1.0 cycle.1))
 
--- what is said of the value that is there
-pub at_some : {A : Type 0} (P : A → Type 0) (o : Option A) (x : A) → o ≡ Some x → IfSome o P → P x
-at_some P o x is h = subst (λ r. IfSome r P) is h
-
 module _ (classes : List PlainClass) (usage : List Usage) (sources : List PlainSource) (used : AreBitsOf classes usage sources) where
   -- a bit by number is one by name
   bit_named : (c : ℕ) (bit : Bit) → HasBitAt usage c bit → HasBit sources (get_or classes c no_class) bit

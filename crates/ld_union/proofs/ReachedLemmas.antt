@@ -26,13 +26,6 @@ use Rattle.ld_union.specs.Inner.States.{of_state}
 use Rattle.ld_union.specs.Inner.Union.{IsUnion, edges_of}
 use Rattle.ld_union.specs.Usage.{bits_of}
 
--- of three lists the first stands in front of the third
-front-then : (old mid new : List ℕ) → take (length old) mid ≡ old → take (length mid) new ≡ mid → take (length old) new ≡ old
-front-then old mid new first next =
-    sym (take-take (length old) (length mid) new (omega (arith, ap length first, length-take (length old) mid)))
-    ∙ ap (take (length old)) next
-    ∙ first
-
 pub in_front-same : (reach : PerState PlainReach) → AreInFront reach reach
 in_front-same reach state = take-length (of_state reach state).reached
 
@@ -118,18 +111,6 @@ module _ (edges : List Edge) (before : List ℕ) (state : State) (told : List Ne
           by : Contains told (new_bit c (In state)) ⊎ (last ≡ new_bit c (In state)) → Contains is.seeds c
           by (inl old) = (is.each c).1 (inr old)
           by (inr same) = absurd (other (ap (λ (b : NewBit). b.bit) same))
-
--- nothing is told yet
-pub seeded-none : (edges : List Edge) (seeds : List ℕ) (state : State) (reach : PlainReach) → IsReach (IsEdge edges) seeds reach → IsSeeded edges seeds state [] reach
-seeded-none edges seeds state reach exact = record {
-  seeds = seeds;
-  each = λ c. ((λ there. inl there), (λ there. by c there));
-  exact = exact;
-}
-  where
-    by : (c : ℕ) → Contains seeds c ⊎ Contains [] (new_bit c (In state)) → Contains seeds c
-    by c (inl there) = there
-    by c (inr there) = let past = there.1 in absurd (omega (arith, past))
 
 -- the bits that handlers acquire a class are told apart by the state
 pub hard≢soft : (bit : Usage) → bit ≡ usage_of (In Hard) → bit ≢ usage_of (In Soft)

@@ -33,12 +33,6 @@ same_dependency-refl a =
     let to = (same_class-Decides a.to a.to).1 refl in
     λ i. from i && to i
 
--- what was seen before is still seen
-pub earlier_of-some : (before more : Option Witness) → is_some before ≡ true → is_some (earlier_of before more) ≡ true
-earlier_of-some None more h = absurd (true≢false (sym h))
-earlier_of-some (Some w) None h = refl
-earlier_of-some (Some w) (Some v) h = refl
-
 -- what is seen, or was seen before
 pub seen_cases : (before : Option Witness) (witness : Witness) (b : Bool) → is_some (earlier_of before (if b then Some witness else None)) ≡ true → (b ≡ true) ⊎ (is_some before ≡ true)
 seen_cases before witness true h = inl refl

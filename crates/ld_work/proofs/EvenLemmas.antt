@@ -99,10 +99,6 @@ module _ (sources listed : List PlainSource) (n : ℕ) (numbered : AreNumbered s
           by (inr (inl less)) = let rise = rising n p d less below in omega (arith, rise, number)
           by (inr (inr more)) = absurd (let up = place_above p d (omega (arith, number, all, high)) in omega (arith, up, more))
 
-  -- where all sources are listed and nothing stands next, these are all
-  pub same_from_all : n ≡ length sources → length listed ≤ n → listed ≡ sources
-  same_from_all all short = sym (take_all n listed short) ∙ same ∙ take_all n sources (omega (arith, all))
-
 -- of a list in another order the same number tells
 pub uneven_moved : (sources old new : List PlainSource) (n : ℕ) → IsPermutation old new → IsUneven sources old n → IsUneven sources new n
 uneven_moved sources old new n moved uneven = by uneven
