@@ -98,6 +98,3 @@ impl From<AllocError> for CheckFault {
         CheckFault::Memory
     }
 }
-
-#[cfg(test)]
-mod tests;

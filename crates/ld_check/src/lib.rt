@@ -3,12 +3,8 @@
 #![tactic(auto)]
 
 mod checked;
-#[cfg(test)]
-mod fakes;
 mod report;
 mod runs;
-#[cfg(test)]
-mod streams;
 
 pub use checked::{CheckFault, Checked, MOST_WORKERS, check};
 pub use report::{Report, report_of};

@@ -63,6 +63,3 @@ fn report_on(alloc: Global, book: &Book<'_>) -> Result<Report, CheckFault>
     let verdict = verdict_of(book);
     Ok(Report { text, verdict })
 }
-
-#[cfg(test)]
-mod tests;

@@ -123,6 +123,3 @@ impl From<CheckFault> for RunFault {
         }
     }
 }
-
-#[cfg(test)]
-mod tests;

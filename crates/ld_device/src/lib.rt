@@ -2,8 +2,6 @@
 #![tactic(auto)]
 
 mod devices;
-#[cfg(test)]
-mod fakes;
 mod transfer;
 
 pub use devices::{DeviceFault, Input, Output, Std};

@@ -125,6 +125,3 @@ pub fn send<O: Output>(output: &mut O, text: &[u8]) -> Result<(), DeviceFault>
     }
     output.flush()
 }
-
-#[cfg(test)]
-mod tests;

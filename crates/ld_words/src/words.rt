@@ -71,6 +71,3 @@ fn count_of_workers<'a>(alloc: Global) -> Arg<'a>
         .default_value("4")
         .value_parser(value_parser!(usize).range(1..=MOST_WORKERS as i64))
 }
-
-#[cfg(test)]
-mod tests;
