@@ -1,5 +1,5 @@
 //! Plain events, which have to be read without the way round by lines and fields: a `next_event` that always
-//! answered `None` would meet every contract.
+//! answered `None`, or does at some of them, would meet every contract.
 
 use ld_trace::{Event, Lock, next_event};
 use std::alloc::Global;
@@ -9,9 +9,9 @@ fn lock<'a>(class: &'a [u8], instance: Option<&'a [u8]>) -> Lock<'a> {
     Lock { class, instance }
 }
 
-/// Whether the one line is this event.
-fn gives(bytes: &[u8], event: Event<'_>) -> bool {
-    next_event(bytes) == Some((event, b""))
+/// Whether the first line is this event, and these bytes follow it.
+fn gives(bytes: &[u8], event: Event<'_>, rest: &[u8]) -> bool {
+    next_event(bytes) == Some((event, rest))
 }
 
 /// Bytes `a`, so many, between two texts.
@@ -25,6 +25,39 @@ fn with_letters(alloc: Global, front: &[u8], count: usize, end: &[u8]) -> Result
 }
 
 #[test]
+fn plain_events_are_read(rt: HostRuntime) {
+    let task = b"t".as_slice();
+    let class = lock(b"A", None);
+    let one = lock(b"A", Some(b"7"));
+    assert!(rt; gives(b"acquire t A\n", Event::Acquire { task, lock: class }, b""));
+    assert!(rt; gives(b"acquire t A@7\n", Event::Acquire { task, lock: one }, b""));
+    assert!(rt; gives(b"try t A\n", Event::Try { task, lock: class }, b""));
+    assert!(rt; gives(b"try t A@7\n", Event::Try { task, lock: one }, b""));
+    assert!(rt; gives(b"release t A\n", Event::Release { task, lock: class }, b""));
+    assert!(rt; gives(b"release t A@7\n", Event::Release { task, lock: one }, b""));
+}
+
+#[test]
+fn plain_events_before_others_are_read(rt: HostRuntime) {
+    let task = b"t".as_slice();
+    let rest = b"acquire t B\n# and a comment of more than thirty-two bytes\n".as_slice();
+    let bytes =
+        b"acquire t A\nacquire t B\n# and a comment of more than thirty-two bytes\n".as_slice();
+    let event = Event::Acquire {
+        task,
+        lock: lock(b"A", None),
+    };
+    assert!(rt; gives(bytes, event, rest));
+    let bytes =
+        b"release t A@7\nacquire t B\n# and a comment of more than thirty-two bytes\n".as_slice();
+    let event = Event::Release {
+        task,
+        lock: lock(b"A", Some(b"7")),
+    };
+    assert!(rt; gives(bytes, event, rest));
+}
+
+#[test]
 fn words_of_64_bytes_are_read(rt: HostRuntime) -> Result<(), Fail> {
     let alloc = rt.alloc();
     let word = with_letters(alloc, b"", 64, b"")?;
@@ -34,18 +67,18 @@ fn words_of_64_bytes_are_read(rt: HostRuntime) -> Result<(), Fail> {
         task: word,
         lock: lock(b"A", None),
     };
-    assert!(rt; gives(line.as_slice(), event));
+    assert!(rt; gives(line.as_slice(), event, b""));
     let line = with_letters(alloc, b"acquire t ", 64, b"\n")?;
     let event = Event::Acquire {
         task: b"t",
         lock: lock(word, None),
     };
-    assert!(rt; gives(line.as_slice(), event));
+    assert!(rt; gives(line.as_slice(), event, b""));
     let line = with_letters(alloc, b"acquire t A@", 64, b"\n")?;
     let event = Event::Acquire {
         task: b"t",
         lock: lock(b"A", Some(word)),
     };
-    assert!(rt; gives(line.as_slice(), event));
+    assert!(rt; gives(line.as_slice(), event, b""));
     Ok(())
 }
