@@ -58,6 +58,15 @@ fn plain_events_before_others_are_read(rt: HostRuntime) {
 }
 
 #[test]
+fn each_byte_of_words_is_read(rt: HostRuntime) {
+    let task = b"!\"#$%&'()*+,-./0:;<=>?@AZ[\\]^_`az{|}~".as_slice();
+    let class = lock(b"!\"#$%&'()*+,-.0:;<=>?AZ[\\]^_`az{|}~", None);
+    let line =
+        b"try !\"#$%&'()*+,-./0:;<=>?@AZ[\\]^_`az{|}~ !\"#$%&'()*+,-.0:;<=>?AZ[\\]^_`az{|}~\n";
+    assert!(rt; gives(line, Event::Try { task, lock: class }, b""));
+}
+
+#[test]
 fn words_of_64_bytes_are_read(rt: HostRuntime) -> Result<(), Fail> {
     let alloc = rt.alloc();
     let word = with_letters(alloc, b"", 64, b"")?;
