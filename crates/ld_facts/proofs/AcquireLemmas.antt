@@ -148,6 +148,26 @@ module _ {start : Start} (all : List Position) (old : Scan) (is : IsAt start all
   pub length-held : length (held_by (events all) name) ≡ length held_now
   length-held = sym (length-is new.classes held_now frames_now (events all) name now)
 
+  names-now : new.classes ≡ classes_after start (events all ++ event ∷ [])
+  names-now =
+      enters.classes
+      ∙ ap (λ ns. with_name ns class) is.names
+      ∙ sym (added_names-more start.classes (classes (events all)) class)
+      ∙ ap (fold with_name start.classes) (sym (classes-acquires (events all) event class (class-acquired name lock how)))
+
+  own-now : own_names new ≡ classes (events all ++ event ∷ [])
+  own-now = enters.own ∙ ap (λ ns. with_name ns class) is.own ∙ sym (classes-acquires (events all) event class (class-acquired name lock how))
+
+  few-now : length new.own ≤ MOST_CLASSES
+  few-now = omega (
+    arith,
+    length-map new.own (λ n. slice_index_or new.classes n no_class),
+    ap length enters.own,
+    with_one-few same_class no_class same_class-Decides MOST_CLASSES (own_names old) class
+        (λ fresh. let low = enters.few_classes fresh in omega (arith, low, length-map old.own (λ n. slice_index_or old.classes n no_class)))
+        (omega (arith, is.few_classes, length-map old.own (λ n. slice_index_or old.classes n no_class))),
+  )
+
   distinct : AreDistinct new.classes
   distinct = subst AreDistinct (sym enters.classes) (apart-with_one same_class no_class same_class-Decides old.classes class is.distinct)
 
@@ -303,6 +323,34 @@ module _ {start : Start} (all : List Position) (old : Scan) (is : IsAt start all
 
   same : slice_index_or (slice_set new.locks.stacks id (held_now ++ top ∷ [])) id [] ≡ held_now ++ top ∷ []
   same = get_or-set_same new.locks.stacks id (held_now ++ top ∷ []) [] inside
+
+  acquired-by : (edges : List EdgeFact) (uses : List UsageFact) → length held_now < MOST_HELD → map (named_dependency new.classes) edges ≡
+      edges_after start (all ++ happens line event ∷ []) → All (IsBetween new.classes) edges → map
+      (named_use new.classes) uses ≡ uses_after start (all ++ happens line event ∷ []) → All
+      (IsUse new.classes) uses → IsAt start (all ++ happens line event ∷ []) (with_top edges uses)
+  acquired-by edges uses room shown within counted used =
+      moved-at all old event line id (with_top edges uses) is (record {
+        fault = fault-none all old is how name lock enters.fits enters.few_classes (omega (arith, room, length-held));
+        tasks = enters.tasks ∙ ap (with_task old.tasks) (sym own_task);
+        place = subst (IsTaskAt new.tasks id) (sym own_task) enters.place;
+        fits = subst (λ task. place_of_task old.tasks task ≡ None → length old.tasks < MOST_TASKS) (sym own_task) enters.fits;
+        many = (length-set new.locks.stacks id (held_now ++ top ∷ []) ∙ enters.many.0, enters.many.1, enters.many.2, enters.many.3);
+        names = names-now;
+        distinct = distinct;
+        own = own-now;
+        few_classes = few-now;
+        stays = stays;
+        stacks = λ k apart. get_or-set_other new.locks.stacks id k (held_now ++ top ∷ []) [] apart ∙ enters.stacks k;
+        interrupts = λ k apart. enters.interrupts k;
+        task =
+            subst (λ held. IsTask new.classes held frames_now (events all ++ event ∷ []) (task_of event)) (sym same)
+            (subst (IsTask new.classes (held_now ++ top ∷ []) frames_now (events all ++ event ∷ [])) (sym own_task) task);
+        shallow = omega (arith, ap length same, length-append held_now (top ∷ []), room);
+        edges = shown;
+        within = within;
+        uses = counted;
+        used = used;
+      })
 
   pub tried-at : waits how ≡ false → length held_now < MOST_HELD → IsAt start (all ++ happens line event ∷ []) (with_top new.locks.edges (fold with_use new.uses ons))
   tried-at tries room =

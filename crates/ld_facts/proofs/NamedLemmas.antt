@@ -22,6 +22,12 @@ use Rattle.ld_facts.specs.Named.{named_dependency}
 use Rattle.ld_rules.proofs.PlaceLemmas.{by_pushes}
 use Rattle.ld_rules.proofs.StepLemmas.{names-more}
 
+-- two tests that pass together are one
+same_test : (a b : Bool) → (a ≡ true → b ≡ true) → (b ≡ true → a ≡ true) → a ≡ b
+same_test true b there back = sym (there refl)
+same_test false true there back = back refl
+same_test false false there back = refl
+
 -- dependencies of which the names are told apart, and one more
 module _ (names : List PlainClass) (distinct : AreDistinct names) where
   numbers_by_name : (i j : ℕ) → i < length names → j < length names → same_class (slice_index_or names i no_class) (slice_index_or names j no_class) ≡ (i == j)

@@ -21,6 +21,13 @@ module _ (names : List PlainClass) (name : PlainClass) where
   with-new : list_any (same_class name) names ≡ false → with_name names name ≡ names ++ name ∷ []
   with-new is = sym (with_new-names names name) ∙ ap (λ (b : Bool). names ++ (if b then [] else name ∷ [])) is
 
+  place-new : list_any (same_class name) names ≡ false → place_of names name ≡ None
+  place-new is = by (place_of names name) refl
+    where
+      by : (r : Option ℕ) → place_of names name ≡ r → r ≡ None
+      by None h = refl
+      by (Some id) h = absurd (true≢false (sym (list_any-known names name id h) ∙ is))
+
 -- one more name at most
 pub length-more : (names : List PlainClass) (name : PlainClass) → length (with_name names name) ≤ length names + 1
 length-more names name = by (is_some (place_of names name))

@@ -162,6 +162,11 @@ module _ (names : List PlainClass) (stack : List Hold) (interrupts : Interrupts)
       start : start_now interrupts ≡ at
       start = start-is names stack interrupts past task is
 
+-- the fault of a release by a task that isn't one too many
+release_fault : (past : List PlainEvent) (name : List ℕ) (lock : PlainLock) → is_one_too_many bytes_eq MOST_TASKS (tasks past) name ≡ false → event_fault past
+    (Release name lock) ≡ (if is_not_held past (Release name lock) then Some NotHeld else None)
+release_fault past name lock fits = rw fits refl
+
 -- the uses of an event that counts nothing newly
 none_counted : (state : State) (b : Bool) → map (on_use state) (if b then [] else []) ≡ []
 none_counted state true = refl

@@ -62,6 +62,10 @@ module _ {A : Type 0} (same : A → A → Bool) (none : A) (decides : (a b : A) 
       by None new = let low = fits new in omega (arith, ap length (with_one-new same none decides names name new), length-append names (name ∷ []))
       by (Some id) known = omega (arith, ap length (with_one-known same none decides names name id known))
 
+-- the fault of an event of one task too many
+pub too_many_tasks : (past : List PlainEvent) (e : PlainEvent) → is_one_too_many bytes_eq MOST_TASKS (tasks past) (task_of e) ≡ true → event_fault past e ≡ Some TooManyTasks
+too_many_tasks past e is = rw is refl
+
 -- the tasks of a trace are distinct
 pub tasks-AreDistinct : (past : List PlainEvent) → AreDistinctTasks (tasks past)
 tasks-AreDistinct past = by_pushes (λ xs. AreDistinctTasks (tasks xs)) (λ i j name at_i at_j. absurd (omega (arith, at_i.0)))

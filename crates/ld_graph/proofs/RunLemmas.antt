@@ -125,6 +125,14 @@ part-append xs ys s n l =
     ap (take n) (drop-append-le s xs ys (omega arith)) ∙ take-append-le n (drop s xs) ys (omega
     arith)
 
+pub part-set : (xs : List ℕ) (p x s n : ℕ) → (p < s) ⊎ (s + n ≤ p)
+    → take n (drop s (set xs p x)) ≡ take n (drop s xs)
+part-set xs p x s n (inl l) = ap (take n) (drop-set-lt s xs p x l)
+part-set xs p x s n (inr l) =
+    let e : p ≡ s + (p - s) = omega arith in
+    ap (λ q. take n (drop s (set xs q x))) e ∙ ap (take n) (drop-set-add s xs (p - s) x)
+    ∙ take-set-le n (drop s xs) (p - s) x (omega arith)
+
 pub part-more : (xs : List ℕ) (x s n : ℕ) → s + n < length xs
     → take (n + 1) (drop s (set xs (s + n) x)) ≡ take n (drop s xs) ++ x ∷ []
 part-more xs x s n l =

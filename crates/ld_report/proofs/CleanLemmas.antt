@@ -20,6 +20,10 @@ use Rattle.ld_report.specs.Report.{IsReport, SaysClean, last_line, refused_line,
 abbrev EndsLine : List ℕ → Type 0
 EndsLine text = (before : List ℕ) × (text ≡ before ++ codes "\n")
 
+-- so does what ends with them
+ends_after : (before text : List ℕ) → EndsLine text → EndsLine (before ++ text)
+ends_after before text ends = (before ++ ends.0, ap (λ t. before ++ t) ends.1 ∙ sym (append_assoc before ends.0 (codes "\n")))
+
 -- the summary does
 summary_ends : (t : Totals) → EndsLine (summary_line t)
 summary_ends t = (
@@ -47,6 +51,14 @@ refused_lines_end before (s ∷ others) ends =
 abbrev last_glyph : ℕ → ℕ
 last_glyph n = digit_glyph false (n % 10)
 
+-- it is no letter
+glyph_small : (n : ℕ) → last_glyph n < 97
+glyph_small n = by (nat_lt (n % 10) 10)
+  where
+    by : (b : Bool) → (if b then 48 + n % 10 else 87 + n % 10) < 97
+    by true = omega (arith, mod_below n 10 (omega arith))
+    by false = omega (arith, mod_below n 10 (omega arith))
+
 -- these end with the last digit of n, and the rest behind it
 abbrev EndsWithDigit : ℕ → List ℕ → List ℕ → Type 0
 EndsWithDigit n rest text = (before : List ℕ) × (text ≡ before ++ last_glyph n ∷ rest)
@@ -63,6 +75,34 @@ digits_end (suc k) n rest =
     let front = digits_end k (n / 10) (last_glyph n ∷ rest) in
     ends_if n rest (digits_onto (suc k) 10 false (n / 10) (last_glyph n ∷ rest))
     (front.0 ++ last_glyph (n / 10) ∷ [], front.1 ∙ sym (append_assoc front.0 (last_glyph (n / 10) ∷ []) (last_glyph n ∷ rest))) (n / 10 == 0)
+
+-- so a number ends with its last digit, whatever its length
+decimal_ends : (n : ℕ) → EndsWithDigit n [] (decimal n)
+unfolding digits
+decimal_ends n = digits_end 63 n []
+
+-- the last byte but one
+last_but_one : (xs : List ℕ) (d : ℕ) → get_or (reverse (xs ++ d ∷ 10 ∷ [])) 1 0 ≡ d
+last_but_one xs d = ap (λ t. get_or t 1 0) (reverse-append xs (d ∷ 10 ∷ []))
+
+-- where there are rows, the last line isn't `clean`
+not_clean : (text : List ℕ) (n : ℕ) → 0 < n → ¬ SaysClean (text ++ last_line n)
+not_clean text n some clean = omega (arith, glyph_small n, same)
+  where
+    digits_of : EndsWithDigit n [] (decimal n)
+    digits_of = decimal_ends n
+
+    front : List ℕ
+    front = text ++ (codes "violations " ++ digits_of.0)
+
+    line : last_line n ≡ codes "violations " ++ (digits_of.0 ++ last_glyph n ∷ []) ++ codes "\n"
+    line = rw (ne_eqb n 0 (λ none. omega arith)) (ap (λ t. codes "violations " ++ t ++ codes "\n") digits_of.1)
+
+    texts : (clean.0 ++ codes "\nclea") ++ 110 ∷ 10 ∷ [] ≡ front ++ last_glyph n ∷ 10 ∷ []
+    texts = append_assoc clean.0 (codes "\nclea") (110 ∷ 10 ∷ []) ∙ sym clean.1 ∙ ap (λ t. text ++ t) line ∙ simp append_assoc
+
+    same : 110 ≡ last_glyph n
+    same = sym (last_but_one (clean.0 ++ codes "\nclea") 110) ∙ ap (λ t. get_or (reverse t) 1 0) texts ∙ last_but_one front (last_glyph n)
 
 -- where there is nothing of a kind, a list of that kind is empty
 none_in : {Row : Type 0} {IsRow : Row → Type 0} (rows : List Row) → All IsRow rows → ((row : Row) → ¬ IsRow row) → rows ≡ []

@@ -12,6 +12,10 @@ use Rattle.ld_rules.specs.Frames.{task_of}
 use Rattle.ld_rules.specs.Flags.{flag_begun, flag_for, says_begun}
 use Rattle.ld_rules.proofs.PlaceLemmas.{last_or-push}
 
+flag_begun-push : (past : List PlainEvent) (e : PlainEvent) (task : List ℕ) (state : State) → flag_begun (past ++ e ∷ []) task state ≡
+    unwrap_or (last_or None (filter_map (says_begun task state) past ++ cons_option (says_begun task state e) [])) true
+flag_begun-push past e task state = ap (λ bs. unwrap_or (last_or None bs) true) (filter_map-append (says_begun task state) past (e ∷ []))
+
 pub flag_begun-none : (past : List PlainEvent) (e : PlainEvent) (task : List ℕ) (state : State) → says_begun task state e ≡ None → flag_begun (past ++ e ∷ []) task state ≡ flag_begun past task state
 flag_begun-none past e task state none =
     flag_begun-push past e task state

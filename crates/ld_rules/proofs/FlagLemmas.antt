@@ -142,6 +142,13 @@ stack_falls task past =
 abbrev placed_last : List PlainEvent → PlainEvent → Placed
 placed_last past e = record { event = e; frame = frame_of (past ++ e ∷ []) (task_of e) }
 
+-- what was said last, after one more event
+last_said-push : (past : List PlainEvent) (e : PlainEvent) (task : List ℕ) (state : State) (frame : Option ℕ) → last_said (past ++ e ∷ []) task state
+    frame ≡ last_or None (filter_map (says_flag_in task state frame) (placed past) ++ cons_option (says_flag_in task state frame (placed_last past e)) [])
+last_said-push past e task state frame =
+    ap (λ xs. last_or None (filter_map (says_flag_in task state frame) xs)) (placed-push past e)
+    ∙ ap (last_or None) (filter_map-append (says_flag_in task state frame) (placed past) (placed_last past e ∷ []))
+
 last_said-none : (past : List PlainEvent) (e : PlainEvent) (task : List ℕ) (state : State) (frame : Option ℕ) → says_flag_in task state frame
     (placed_last past e) ≡ None → last_said (past ++ e ∷ []) task state frame ≡ last_said past task state frame
 last_said-none past e task state frame none =

@@ -288,6 +288,29 @@ module _ {X K : Type 0} (same : K → K → Bool) (opened closed : X → Option 
           rw (sum_by_push (λ y. cond (closes same opened closed key y) 1 0) later x, sum_by_push (λ y. cond (opens same opened closed key y) 1 0) later x, shut) (le-leb _ _ (omega arith))
       by false is = refl
 
+  -- one under which x closes stays where it was opened again meanwhile
+  stays_where_again : (key : K) (n : ℕ) (later : List X) (x : X) → closes same opened closed key x ≡ true → opens same opened closed key x ≡ false →
+      stays (opens same opened closed key) (closes same opened closed key) (later ++ x ∷ []) ≡
+      (stays (opens same opened closed key) (closes same opened closed key) later && list_any (has same opened closed key) (openings_from same opened closed n later))
+  stays_where_again key n later x shut not_opened = stays-push (opens same opened closed key) (closes same opened closed key) later x ∙ by
+      (stays (opens same opened closed key) (closes same opened closed key) later) refl
+    where
+      by : (b : Bool) → stays (opens same opened closed key) (closes same opened closed key) later ≡ b →
+          (b && is_even (opens same opened closed key) (closes same opened closed key) (later ++ x ∷ [])) ≡ (b && list_any (has same opened closed key) (openings_from same opened closed n later))
+      by true is =
+          let all = counted key n later in
+          let none : deficit (opens same opened closed key) (closes same opened closed key) later ≡ 0 = eqb-true _ _
+          (sym (stays_is (opens same opened closed key) (closes same opened closed key) later (opens_apart key)) ∙ is) in
+          rw (
+            sum_by_push (λ y. cond (closes same opened closed key y) 1 0) later x,
+            sum_by_push (λ y. cond (opens same opened closed key y) 1 0)
+                later x,
+            shut,
+            not_opened,
+            any_is_count (has same opened closed key) (openings_from same opened closed n later),
+          ) (grind (arith, nat_tests))
+      by false is = refl
+
   opening_kept : (n : ℕ) (x : X) (later : List X) (e : X) (key : Option K) → closed e ≡ None → opening_before same opened closed n x (later ++ e ∷ [])
       key ≡ opening_before same opened closed n x later key
   opening_kept n x later e None shut = refl

@@ -13,9 +13,28 @@ use Rattle.ld_trace.specs.Sources.{AreNumbered, Fits, PlainSource, headers_befor
 abbrev opened_from : List (List ℕ) → ℕ → List (List ℕ) → List PlainSource
 opened_from all n rest = filter_map (λ p. opened_at all p.0 p.1) (enumerate_from n rest)
 
+-- one more element counts as one, or not
+count_by-push : {X : Type 0} (p : X → Bool) (xs : List X) (x : X) (b : Bool) → p x ≡ b → count_by p (xs ++ x ∷ []) ≡ count_by p xs + (if b then 1 else 0)
+count_by-push p xs x b is = fold_push (λ a y. a + cond (p y) 1 0) 0 xs x ∙ ap (λ (c : Bool). count_by p xs + cond c 1 0) is
+
 -- that the sections which lines from place n on open are numbered on from so many
 abbrev AreFrom : List (List ℕ) → ℕ → List (List ℕ) → ℕ → Type 0
 AreFrom all n rest count = (k : ℕ) (d : PlainSource) → k < length (opened_from all n rest) → (get_or (opened_from all n rest) k d).number ≡ count + k
+
+-- one line before others
+numbered_at : (all front : List (List ℕ)) (line : List ℕ) (rest : List (List ℕ)) → all ≡ front ++ line ∷ rest → AreFrom all (length front + 1) rest
+    (count_by is_header (front ++ line ∷ [])) → AreFrom all (length front) (line ∷ rest) (count_by is_header front)
+numbered_at all front line rest is more = by (is_header line) refl
+  where
+    by : (b : Bool) → is_header line ≡ b → (k : ℕ) (d : PlainSource) → k < length
+        (cons_option (if b then Some (section_at all (length front)) else None) (opened_from all (length front + 1) rest)) →
+        (get_or (cons_option (if b then Some (section_at all (length front)) else None) (opened_from all (length front + 1) rest)) k d).number ≡ count_by is_header front + k
+    by true head zero d below =
+        let here : headers_before all (length front) ≡ count_by is_header front = ap (λ xs. count_by is_header (take (length front) xs)) is ∙ ap
+        (count_by is_header) (take_at front (line ∷ rest) (length front) refl) in
+        omega (arith, here)
+    by true head (suc k) d below = let others = more k d (omega arith) in omega (arith, others, count_by-push is_header front line true head)
+    by false head k d below = let others = more k d below in omega (arith, others, count_by-push is_header front line false head)
 
 -- sections are numbered on from the headers before them
 numbered_from : (all front rest : List (List ℕ)) → all ≡ front ++ rest → AreFrom all (length front) rest (count_by is_header front)

@@ -64,9 +64,24 @@ headers_before-skip all k (suc m) within = by (drop (k + m) all) refl (headers_b
     by [] is before = absurd (omega (arith, ap length is, length-drop (k + m) all, length-drop k all, prefix_len-le-length is_other (drop k all)))
     by (x ∷ others) is before = ap (headers_before all) (omega arith) ∙ headers_before-next all (k + m) x others is ∙ rw (other-line all k m x others (omega arith) is) (omega (arith, before))
 
+not-zero : (n : ℕ) → 0 < n → (n == 0) ≡ false
+not-zero n some = ⊎_elim (λ (zeroed : (eqb n 0 ≡ true) × (n ≡ 0)). absurd (let is = zeroed.1 in omega arith)) (λ p. p.0) (eqb_tells n 0)
+
 -- they open no section
 pub sections-skip : (all : List (List ℕ)) (k m : ℕ) → m ≤ prefix_len is_other (drop k all) → given_from (opened_at all) all k ≡ given_from (opened_at all) all (k + m)
 sections-skip all k m within = given_from-skip (opened_at all) all k m (λ j x others below is. rw (other-line all k j x others (omega arith) is) refl)
+
+-- and behind a header they have no fault
+pub faults-skip : (all : List (List ℕ)) (k m : ℕ) → m ≤ prefix_len is_other (drop k all) → 0 < headers_before all k → given_from (fault_at all) all k ≡ given_from (fault_at all) all (k + m)
+faults-skip all k m within some = given_from-skip (fault_at all) all k m (λ j x others below is. no-fault (k + j) x
+    (other-line all k j x others (omega arith) is) (headers_before-skip all k j (omega arith)))
+  where
+    no-fault : (i : ℕ) (x : List ℕ) → is_header x ≡ false → headers_before all i ≡ headers_before all k → fault_at all i x ≡ None
+    no-fault i x other same = by (says_nothing (fields_of x)) refl
+      where
+        by : (test : Bool) → says_nothing (fields_of x) ≡ test → fault_at all i x ≡ None
+        by true silent = rw silent refl
+        by false says = rw (says, other, not-zero (headers_before all i) (omega (arith, same))) refl
 
 not-most : (n : ℕ) → (n ≡ MOST_TRACES → ⊥) → (n == MOST_TRACES) ≡ false
 not-most n few = ⊎_elim (λ (most : (eqb n MOST_TRACES ≡ true) × (n ≡ MOST_TRACES)). absurd (few most.1)) (λ p. p.0) (eqb_tells n MOST_TRACES)

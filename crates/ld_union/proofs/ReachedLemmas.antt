@@ -26,6 +26,13 @@ use Rattle.ld_union.specs.Inner.States.{of_state}
 use Rattle.ld_union.specs.Inner.Union.{IsUnion, edges_of}
 use Rattle.ld_union.specs.Usage.{bits_of}
 
+-- of three lists the first stands in front of the third
+front-then : (old mid new : List ℕ) → take (length old) mid ≡ old → take (length mid) new ≡ mid → take (length old) new ≡ old
+front-then old mid new first next =
+    sym (take-take (length old) (length mid) new (omega (arith, ap length first, length-take (length old) mid)))
+    ∙ ap (take (length old)) next
+    ∙ first
+
 pub in_front-same : (reach : PerState PlainReach) → AreInFront reach reach
 in_front-same reach state = take-length (of_state reach state).reached
 

@@ -35,6 +35,12 @@ joined before None last false new = sym (earlier_of-none (earlier_of before None
 joined before (Some m) last true new = let none : Some m ≡ None = new refl in cc
 joined before (Some m) last false new = sym (earlier_of-none (earlier_of before (Some m.witness)))
 
+-- the classes of a batch are distinct
+batch_distinct : (batch : PlainBatch) → IsBatch batch → AreDistinct batch.classes
+batch_distinct batch is =
+    subst AreDistinct (sym is.classes) (apart-from_IsDistinct same_class no_class same_class-Decides
+    (union_classes batch.sources) (IsDistinct-each_once same_class same_class-Decides (flat_map classes_of batch.sources)))
+
 -- Rows, no two of which are of the same thing.
 module _ {R A : Type 0} (same : A → A → Bool) (equal : (a b : A) → same a b ≡ true → a ≡ b) (name : R → Met A) (rows : List R) where
   -- where the first of them tell that this was seen

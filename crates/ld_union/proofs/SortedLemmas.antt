@@ -31,6 +31,11 @@ AllPairs-from_map R f xs all i j d before within =
     subst (λ a. R a (f (get_or xs j d))) (get_or-map f xs i d (f d) at_i)
     (subst (λ b. R (get_or (map f xs) i (f d)) b) (get_or-map f xs j d (f d) within) (all i j (f d) before (subst (λ n. j < n) (sym (length-map xs f)) within)))
 
+Any-permutation : {X : Type 0} (P : X → Type 0) (xs ys : List X) → IsPermutation xs ys → Any P xs → Any P ys
+Any-permutation P xs ys moved h =
+    let there = Contains-permutation xs ys h.1 moved (h.0, h.2, h.3) in
+    (there.0, h.1, there.1, there.2, h.4)
+
 module _ {Key : Type 0} (cmp : Key → Key → Ordering) (total : IsTotalOrder cmp) (exact : (k l : Key) → Decides (is_eq (cmp k l)) (k ≡ l)) where
   -- keys that differ still do so after a sort, so each comes before those after it
   module _ {X : Type 0} (key : X → Key) (xs ys : List X) (moved : IsPermutation xs ys) (apart : AllPairs (λ x y. key x ≢ key y) xs) where
@@ -86,6 +91,10 @@ pair_before_from_less p q is = by (class_cmp p.0 q.0) refl is
     by Less first h = inl (before_from_less p.0 q.0 first)
     by Equal first h = inr (same_from_equal p.0 q.0 first, before_from_less p.1 q.1 h)
     by Greater first h = absurd (true≢false (sym (ap is_lt h)))
+
+not_pair_before_itself : (p : PlainClass × PlainClass) → ¬ IsPairBefore p p
+not_pair_before_itself p (inl first) = not_before_itself p.0 first
+not_pair_before_itself p (inr second) = not_before_itself p.1 second.1
 
 -- the ends of a forbidden walk
 abbrev pub ends_of : PlainForbiddenRow → PlainClass × PlainClass

@@ -117,6 +117,11 @@ module _ {A : Type 0} (step before : A → A → Type 0) (compare : (x y : A) �
       first : x ≡ y
       first = by (compare x y)
 
+  pub shown-same : (a b : A) (v w : List A) → IsShownWalk step before a b v → IsShownWalk step before a b w → v ≡ w
+  shown-same a b [] w p q = absurd p
+  shown-same a b (x ∷ v) [] p q = absurd q
+  shown-same a b (x ∷ v) (y ∷ w) p q = λ i. (p.0 ∙ sym q.0) i ∷ shown_from-same a b v w p.1 q.1 i
+
 -- what stands in a `Some`
 some-same : {A : Type 0} {o : Option A} {a b : A} → o ≡ Some a → o ≡ Some b → a ≡ b
 some-same {a = a} p q = ap (λ o. unwrap_or o a) (sym p ∙ q)
