@@ -1,0 +1,218 @@
+"""The edits of a crate that the prover has to refuse: where they stand, which functions they change, and
+what a check of some of them together says of each."""
+import os
+import re
+
+ROOT = os.path.dirname(os.path.dirname(os.path.abspath(__file__)))
+FOLDER = "must-fail-proofs"
+FUNCTION = re.compile(r"( *)(?:pub(?:\([^)]*\))? )?(?:const )?fn (\w+)")
+OPEN = re.compile(r"note: (src/\S+?):(\d+):\d+: (it is not proved .*)")
+ERROR = re.compile(r"(?:\./)?(proofs|specs|src)/(\S+?):(\d+):\d+: error: (.*)")
+# What is said where a proof file names what an edit took away.
+NAMES = re.compile(r"has no field|is not in scope|has no `|was not admitted")
+# A goal of such a function may be open for the sake of another one.
+RESTS = re.compile(r"it calls `|which antt refuses")
+
+
+class Wrong(Exception):
+    """Why nothing can be said of an edit, or of all."""
+
+
+def read(file):
+    with open(file, encoding="utf-8") as text:
+        return text.read()
+
+
+class Function:
+    """A function: its name, what the checker's names have before it, and where it stands in its file, by
+    numbers of lines from 0."""
+
+    def __init__(self, file, name, owner, lines):
+        self.file, self.name, self.owner = file, name, owner
+        self.first, self.head, self.last = lines
+
+    def has(self, file, line):
+        return file == self.file and self.first <= line <= self.last
+
+    def has_proofs(self, path):
+        """Whether a file of proofs/ is this function's: it is MODULE/TYPE/FUNCTION/FILE."""
+        *_, owner, name, _ = ["", "", *path.split("/")]
+        return name == self.name and owner.startswith(self.owner)
+
+
+def end_of(lines, first, indent):
+    """The lines at which the head and the body of a function end."""
+    head = None
+    for at in range(first, len(lines)):
+        line = lines[at]
+        if head is not None:
+            if line == f"{indent}}}":
+                return head, at
+            continue
+        closes = at == first or line.startswith(f"{indent})")
+        if closes and line.endswith("}") or line.endswith(";") and lines[at + 1].strip() in ("", "}"):
+            return at, at
+        if closes and line.endswith("{") or line == f"{indent}{{":
+            head = at
+    raise Wrong(f"no end was found of the function in the line '{lines[first]}'")
+
+
+def owner_of(file, lines, first, indent):
+    """What the checker's names have before the name of a function: its type and trait, or its module."""
+    if not indent:
+        stem = os.path.basename(file).removesuffix(".rt")
+        return "" if stem in ("lib", "main") else stem
+    head = next(it for it in reversed(lines[:first]) if re.match(r"(impl|(pub )?(trait|mod))\b", it))
+    head = re.sub(r"^(impl(<.*?>)? |(pub )?(trait|mod) )|'\w+|[{&]", "", head)
+    trait, _, owner = head.rpartition(" for ")
+    # As `StopFromAllocError` is `impl From<AllocError> for Stop`.
+    return owner.partition("<")[0].strip() + "".join(re.findall(r"\w+", trait.rpartition("::")[2]))
+
+
+def functions_of(file):
+    """The functions of a file that is laid out as `rt fmt` does it."""
+    lines, found, at = read(file).split("\n"), [], 0
+    while at < len(lines):
+        begins = FUNCTION.match(lines[at])
+        if begins:
+            head, last = end_of(lines, at, begins[1])
+            owner = owner_of(file, lines, at, begins[1])
+            found.append(Function(file, begins[2], owner, (at, head, last)))
+            at = last
+        at += 1
+    return found
+
+
+class Edit:
+    """An edit: the lines that it changes, by file and number, and the functions whose bodies they stand in;
+    none, where it changes something else."""
+
+    def __init__(self, crate, name):
+        self.crate, self.label = crate, f"{crate}/{name}"
+        self.folder = f"{ROOT}/crates/{crate}"
+        self.text = read(f"{self.folder}/{FOLDER}/{name}")
+        self.changed, self.functions = {}, []
+        file = old = None
+        texts = {}
+        for line in self.text.splitlines():
+            word, _, rest = line.partition(":")
+            rest = rest.removeprefix(" ")
+            if word == "file":
+                file = rest.strip()
+                texts[file] = texts.get(file) or self.unedited(file)
+            elif word == "old":
+                old = rest
+            elif word == "new":
+                if not old or texts[file].count(old) != 1:
+                    raise Wrong(f"{self.label}: BAD EDIT: an 'old:' text is not in its file just once")
+                texts[file], old = texts[file].replace(old, rest), None
+        for file, text in texts.items():
+            lines = zip(self.unedited(file).split("\n"), text.split("\n"))
+            self.changed.update({(file, at): new for at, (was, new) in enumerate(lines) if was != new})
+        if not self.changed:
+            raise Wrong(f"{self.label}: BAD EDIT: it changes nothing")
+        found = [self.function(file, at, new) for (file, at), new in self.changed.items()]
+        self.functions = found if all(found) else []
+
+    def unedited(self, file):
+        try:
+            return read(f"{self.folder}/{file}")
+        except OSError as why:
+            raise Wrong(f"{self.label}: BAD EDIT: {why}") from why
+
+    def function(self, file, at, new):
+        """The function whose body has this line, if the line is a body's."""
+        was = self.unedited(file).split("\n")[at]
+        found = functions_of(f"{self.folder}/{file}") if file.startswith("src/") else []
+        for it in found:
+            it.file = file
+            if it.has(file, at):
+                is_body = at > it.head or at == it.head and new.startswith(was)
+                return it if is_body else None
+        # A function more, before the comment of another one.
+        added = FUNCTION.match(new)
+        if added and was.strip().startswith("///") and new.endswith(was.strip()):
+            return Function(file, added[2], "", (at, at, at))
+        return None
+
+    def places(self):
+        return {(it.file, it.first) for it in self.functions}
+
+    def has(self, file, line):
+        return any(it.has(file, line) for it in self.functions)
+
+    def has_proofs(self, path):
+        return any(it.has_proofs(path) for it in self.functions)
+
+
+def edits_of(crate):
+    """The edits of a crate, and why others can't be applied."""
+    folder, found, bad = f"{ROOT}/crates/{crate}/{FOLDER}", [], []
+    for name in sorted(os.listdir(folder)) if os.path.isdir(folder) else []:
+        try:
+            found.append(Edit(crate, name))
+        except Wrong as why:
+            bad.append(str(why))
+    return found, bad
+
+
+def rounds_of(edits):
+    """Rounds of edits no two of which change one function. What changes more than bodies is alone."""
+    rounds = []
+    for edit in edits:
+        fits = [it for it in rounds if it[0].functions and not any(edit.places() & other.places() for other in it)]
+        if edit.functions and fits:
+            fits[0].append(edit)
+        else:
+            rounds.append([edit])
+    return rounds
+
+
+def edited(edits):
+    """The texts of the files that some edits change, by their path in the crate."""
+    texts = {}
+    for edit in edits:
+        for (file, at), new in edit.changed.items():
+            texts.setdefault(file, edit.unedited(file).split("\n"))[at] = new
+    return {file: "\n".join(lines) for file, lines in texts.items()}
+
+
+class Said:
+    """What `rt check --allow-holes` said of some edits: the goals that each left open in its own functions,
+    what is wrong by a name alone, and the goals of functions that none of them changes."""
+
+    def __init__(self, edits, status, text):
+        self.edits, self.text = edits, text
+        self.goals, self.names, self.strange = {it: [] for it in edits}, {it: [] for it in edits}, []
+        self.has_ended = bool(re.search(r"(?m)^holes=\d+$", text))
+        self.is_proved = self.has_ended and status == 0
+        self.is_refused_by_compiler = not self.has_ended and bool(re.search(r"\berror\[[\w-]+\]", text))
+        notes, errors = [], []
+        for line in text.splitlines():
+            if note := OPEN.match(line):
+                notes.append(note.groups())
+            elif error := ERROR.match(line):
+                errors.append(error.groups())
+            elif function := re.match(r"fn (\S+): (.*)", line):
+                self.add_notes(notes, function[2])
+                notes = []
+        for error in errors:
+            self.add_error(*error)
+
+    def add_notes(self, notes, verdict):
+        for file, line, why in notes:
+            owners = [it for it in self.edits if it.has(file, int(line) - 1)]
+            self.add(owners, self.goals, f"{file}:{line}: {why}", RESTS.search(verdict))
+
+    def add_error(self, part, path, line, why):
+        owners = [it for it in self.edits if part == "proofs" and it.has_proofs(path)]
+        is_name = NAMES.search(why)
+        self.add(owners, self.names if is_name else self.goals, f"{part}/{path}:{line}: {why}", is_name)
+
+    def add(self, owners, to, goal, is_expected):
+        if len(self.edits) == 1:
+            owners = self.edits
+        for it in owners:
+            to[it].append(goal)
+        if not owners and not is_expected:
+            self.strange.append(goal)
