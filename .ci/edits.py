@@ -3,11 +3,11 @@ what a check of some of them together says of each."""
 import os
 import re
 
-ROOT = os.path.dirname(os.path.dirname(os.path.abspath(__file__)))
 FOLDER = "must-fail-proofs"
 FUNCTION = re.compile(r"( *)(?:pub(?:\([^)]*\))? )?(?:const )?fn (\w+)")
 OPEN = re.compile(r"note: (src/\S+?):(\d+):\d+: (it is not proved .*)")
 ERROR = re.compile(r"(?:\./)?(proofs|specs|src)/(\S+?):(\d+):\d+: error: (.*)")
+UNCOMPILED = re.compile(r"(?m)^(src/\S+?):(\d+):\d+: error\[")
 # What is said where a proof file names what an edit took away.
 NAMES = re.compile(r"has no field|is not in scope|has no `|was not admitted")
 # A goal of such a function may be open for the sake of another one.
@@ -87,9 +87,8 @@ class Edit:
     """An edit: the lines that it changes, by file and number, and the functions whose bodies they stand in;
     none, where it changes something else."""
 
-    def __init__(self, crate, name):
-        self.crate, self.label = crate, f"{crate}/{name}"
-        self.folder = f"{ROOT}/crates/{crate}"
+    def __init__(self, folder, crate, name):
+        self.folder, self.crate, self.label = folder, crate, f"{crate}/{name}"
         self.text = read(f"{self.folder}/{FOLDER}/{name}")
         self.changed, self.functions = {}, []
         file = old = None
@@ -145,12 +144,12 @@ class Edit:
         return any(it.has_proofs(path) for it in self.functions)
 
 
-def edits_of(crate):
-    """The edits of a crate, and why others can't be applied."""
-    folder, found, bad = f"{ROOT}/crates/{crate}/{FOLDER}", [], []
-    for name in sorted(os.listdir(folder)) if os.path.isdir(folder) else []:
+def edits_of(folder, crate):
+    """The edits of a crate in a folder, and why others can't be applied."""
+    found, bad = [], []
+    for name in sorted(os.listdir(f"{folder}/{FOLDER}")) if os.path.isdir(f"{folder}/{FOLDER}") else []:
         try:
-            found.append(Edit(crate, name))
+            found.append(Edit(folder, crate, name))
         except Wrong as why:
             bad.append(str(why))
     return found, bad
@@ -186,7 +185,9 @@ class Said:
         self.goals, self.names, self.strange = {it: [] for it in edits}, {it: [] for it in edits}, []
         self.has_ended = bool(re.search(r"(?m)^holes=\d+$", text))
         self.is_proved = self.has_ended and status == 0
-        self.is_refused_by_compiler = not self.has_ended and bool(re.search(r"\berror\[[\w-]+\]", text))
+        uncompiled = [] if self.has_ended else UNCOMPILED.findall(text)
+        self.is_uncompiled = bool(uncompiled)
+        self.uncompiled = [it for it in edits if any(it.has(file, int(line) - 1) for file, line in uncompiled)]
         notes, errors = [], []
         for line in text.splitlines():
             if note := OPEN.match(line):
