@@ -8,6 +8,8 @@ FUNCTION = re.compile(r"( *)(?:pub(?:\([^)]*\))? )?(?:const )?fn (\w+)")
 OPEN = re.compile(r"note: (src/\S+?):(\d+):\d+: (it is not proved .*)")
 ERROR = re.compile(r"(?:\./)?(proofs|specs|src)/(\S+?):(\d+):\d+: error: (.*)")
 UNCOMPILED = re.compile(r"(?m)^(src/\S+?):(\d+):\d+: error\[")
+# The most edits of a round: one with more gains little, and others would wait for its end.
+MOST = 16
 # What is said where a proof file names what an edit took away.
 NAMES = re.compile(r"has no field|is not in scope|has no `|was not admitted")
 # A goal of such a function may be open for the sake of another one.
@@ -37,7 +39,7 @@ class Function:
     def has_proofs(self, path):
         """Whether a file of proofs/ is this function's: it is MODULE/TYPE/FUNCTION/FILE."""
         *_, owner, name, _ = ["", "", *path.split("/")]
-        return name == self.name and owner.startswith(self.owner)
+        return name == self.name and (owner.startswith(self.owner) if self.owner else not owner)
 
 
 def end_of(lines, first, indent):
@@ -157,14 +159,17 @@ def edits_of(folder, crate):
 
 def rounds_of(edits):
     """Rounds of edits no two of which change one function. What changes more than bodies is alone."""
-    rounds = []
-    for edit in edits:
-        fits = [it for it in rounds if it[0].functions and not any(edit.places() & other.places() for other in it)]
+    places = [place for edit in edits for place in edit.places()]
+    rounds, alone = [], [[it] for it in edits if not it.functions]
+    # Those of a function with many edits first, each into the round that has the fewest.
+    for edit in sorted(edits, key=lambda it: -max(map(places.count, it.places()), default=0)):
+        taken = [set().union(*(it.places() for it in some)) for some in rounds]
+        fits = [some for some, of in zip(rounds, taken) if len(some) < MOST and not of & edit.places()]
         if edit.functions and fits:
-            fits[0].append(edit)
-        else:
+            min(fits, key=len).append(edit)
+        elif edit.functions:
             rounds.append([edit])
-    return rounds
+    return rounds + alone
 
 
 def edited(edits):
