@@ -20,6 +20,4 @@ pub use known::Facts;
 pub use ld_rules::{Listed, MOST_CLASSES, MOST_HELD, MOST_TASKS, Outcome, TraceFault, Witness};
 pub use ld_shown::{Guesses, WitnessedEdge, WitnessedUse};
 pub use ld_tables::{EdgeFact, UsageFact};
-pub use reading::{facts, read_into};
-pub use scan::Scan;
-pub use stop::Stop;
+pub use reading::facts;

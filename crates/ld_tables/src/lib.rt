@@ -16,5 +16,5 @@ pub use held::Held;
 pub use interrupts::{Flag, Interrupts};
 pub use locks::Locks;
 pub use marked::Marked;
-pub use numbers::{Numbers, as_number};
+pub use numbers::Numbers;
 pub use uses::{UsageFact, Uses};

@@ -12,8 +12,5 @@ mod source;
 pub use cut::split;
 pub use event::{Event, LineFault, Lock, State, read_event};
 pub use fast::next_event;
-pub use front::{next_name, next_word};
-pub use line::{
-    LONGEST_WORD, begins_comment, first_field_byte, is_name, is_word, next_field, next_line, text,
-};
+pub use line::{LONGEST_WORD, next_line, text};
 pub use source::{LONGEST_STREAM, MOST_TRACES, Source, StreamFault};
