@@ -202,6 +202,7 @@ class Said:
             elif function := re.match(r"fn (\S+): (.*)", line):
                 self.add_notes(notes, function[2])
                 notes = []
+        self.add_notes(notes, "")
         for error in errors:
             self.add_error(*error)
 
