@@ -25,7 +25,6 @@
 
 struct life *life;
 __thread struct self self __attribute__((tls_model("initial-exec")));
-unsigned depth = 2;
 
 static char directory[2048];
 /* These two live on in a child of a fork, and say whose child it is. */
@@ -48,12 +47,9 @@ static bool make_life(void)
 static bool read_settings(void)
 {
     const char *where = getenv("LOCKCHECK_RECORD_DIRECTORY");
-    const char *how_deep = getenv("LOCKCHECK_RECORD_DEPTH");
     if (!where || strlen(where) >= sizeof directory)
         return false;
     strcpy(directory, where);
-    if (how_deep && atoi(how_deep) >= 1 && atoi(how_deep) <= MOST_DEPTH)
-        depth = (unsigned)atoi(how_deep);
     return true;
 }
 

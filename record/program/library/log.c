@@ -72,12 +72,12 @@ static void write_module(uint64_t address)
    initialised by a call, is named by itself. */
 static void write_place(enum operation operation, uint64_t lock)
 {
-    uint64_t places[MOST_DEPTH + 1] = {0};
+    uint64_t places[MOST_CALLS + 1] = {0};
     unsigned count = 0;
     if (operation == RECORD_FIRST && is_in_module(lock))
         write_module(lock);
     else
-        count = callers(places, depth);
+        count = callers(places, MOST_CALLS);
     for (unsigned caller = 0; caller < count; caller++)
         write_module(places[caller]);
     unsigned following = (count + 1) / 2;

@@ -9,8 +9,8 @@
 
 #define EXPORTED __attribute__((visibility("default")))
 
-/* The most callers that a class can be told by. */
-#define MOST_DEPTH 8
+/* The most calls that are kept of those that led to the begin of a lock. */
+#define MOST_CALLS 8
 
 /*
  * What this process has of its own. It lies in a page that the kernel clears in a child of a fork,
@@ -39,7 +39,6 @@ struct self {
 
 extern struct life *life;
 extern __thread struct self self __attribute__((tls_model("initial-exec")));
-extern unsigned depth;
 
 /* begin.c */
 bool begin(void);

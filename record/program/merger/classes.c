@@ -1,4 +1,4 @@
-/* Modules, and the classes of locks that are named by places in them. */
+/* The classes of locks, which are named by source lines, by places in modules and by variables. */
 #define _GNU_SOURCE
 #include <stdlib.h>
 #include <string.h>
@@ -11,29 +11,6 @@ static struct class **classes;
 static size_t count, room;
 static uint32_t *slots;
 static size_t slot_count;
-
-/* A module that is loaded where another one was takes its place from here on. */
-void add_module(struct modules *modules, const struct unit *first, unsigned following)
-{
-    if (following < 2)
-        return;
-    struct module module = {.start = first->value, .last = first[1].head, .load = first[1].value};
-    const char *path = (const char *)&first[2];
-    module.path = must(strndup(path, (following - 1) * sizeof(struct unit)));
-    module.symbols = symbols_of(module.path);
-    modules->all = grown(modules->all, modules->count, &modules->room, sizeof module);
-    modules->all[modules->count++] = module;
-}
-
-static const struct module *module_at(const struct modules *modules, uint64_t address)
-{
-    for (size_t number = modules->count; number > 0; number--) {
-        const struct module *module = &modules->all[number - 1];
-        if (address >= module->start && address <= module->last)
-            return module;
-    }
-    return NULL;
-}
 
 static void grow_slots(void)
 {
@@ -48,7 +25,7 @@ static void grow_slots(void)
     }
 }
 
-static struct class *class_named(const char *name, const char *places)
+static struct class *class_named(const char *name, const char *places, enum telling telling)
 {
     if (2 * count >= slot_count)
         grow_slots();
@@ -59,6 +36,7 @@ static struct class *class_named(const char *name, const char *places)
     struct class *class = must(calloc(1, sizeof *class));
     class->name = must(strdup(name));
     class->places = must(strdup(places));
+    class->telling = telling;
     classes = grown(classes, count, &room, sizeof(struct class *));
     classes[count++] = class;
     slots[slot] = (uint32_t)count;
@@ -78,58 +56,87 @@ static void append_offset(char *text, uint64_t offset)
     append(text, number);
 }
 
-/* Appends an address to a class's name: its symbol and the offset there, or where there is none the
-   offset in the module. The module stands before it, where it isn't that of the place before. `back`
-   is 1 for a return address, which may be the first after the end of the function that called. */
-static void append_place(char *name, const struct module *module, const struct module *before,
-                         uint64_t address, unsigned back)
+static const char *base_of(const char *path)
 {
-    const char *base = strrchr(module->path, '/');
-    uint64_t offset;
-    const char *symbol = symbol_at(module->symbols, address - module->load - back, &offset);
-    if (module != before) {
-        append_clean(name, TEXT_BYTES, base ? base + 1 : module->path, "@/");
-        append(name, ":");
-    }
+    const char *base = strrchr(path, '/');
+    return base ? base + 1 : path;
+}
+
+/* Appends an address to a class's name: its module, and its symbol with the offset there, or where there
+   is none the offset in the module. `back` is 1 for a place in a call, whose name has the address of the
+   return: that may be the first after the end of the function that called. */
+static void append_place(char *name, const struct module *module, uint64_t offset, unsigned back)
+{
+    uint64_t into;
+    const char *symbol = symbol_at(module->binary, offset, &into);
+    append_clean(name, TEXT_BYTES, base_of(module->path), "@/");
+    append(name, ":");
     if (symbol)
         append_clean(name, TEXT_BYTES, symbol, "@/");
     else
-        append_offset(name, address - module->load);
-    if (symbol && offset + back > 0)
         append_offset(name, offset + back);
+    if (symbol && into + back > 0)
+        append_offset(name, into + back);
 }
 
-static void append_file(char *places, const struct module *module, uint64_t address)
+static void append_file(char *places, const struct module *module, uint64_t offset)
 {
     append(places, " ");
     append_clean(places, TEXT_BYTES, module->path, "");
-    append_offset(places, address - module->load);
+    append_offset(places, offset);
+}
+
+/* Appends a source line: its function, where it is known, its file and its number. Of a function whose
+   name is too long the end is left out, and a checksum stands for the whole. */
+static void append_line(char *name, const struct frame *frame)
+{
+    char function[TEXT_BYTES] = "", line[TEXT_BYTES] = "", number[16], short_name[1024];
+    snprintf(number, sizeof number, ":%u", frame->line);
+    append_clean(line, sizeof line, base_of(frame->file), "@/");
+    append(line, number);
+    short_function(short_name, sizeof short_name, function_of(frame));
+    append_clean(function, sizeof function, short_name, "@/");
+    if (strlen(line) + 16 < MOST_NAME)
+        cut_name(function, MOST_NAME - 1 - strlen(line));
+    append(name, function);
+    append(name, function[0] ? ":" : "");
+    append(name, line);
+}
+
+static void append_source(char *places, const struct frame *frame)
+{
+    char number[16];
+    snprintf(number, sizeof number, ":%u", frame->line);
+    append(places, " ");
+    append_clean(places, TEXT_BYTES, function_of(frame) ? function_of(frame) : "?", "");
+    append(places, " ");
+    append_clean(places, TEXT_BYTES, frame->file, "");
+    append(places, number);
 }
 
 struct class *class_of_calls(const struct modules *modules, const char *how,
                              const struct unit *first, unsigned following)
 {
     static char name[TEXT_BYTES], places[TEXT_BYTES];
-    const uint64_t *calls = (const uint64_t *)&first[1];
-    const struct module *before = NULL;
+    struct call call;
+    enum telling telling = TOLD_BY_ADDRESS;
     name[0] = 0;
     snprintf(places, sizeof places, "%s", how);
-    for (unsigned call = 0; call < 2 * following && calls[call]; call++) {
-        const struct module *module = module_at(modules, calls[call]);
-        append(name, call ? "<" : "");
-        if (!module) {
-            append(name, "?");
-            append(places, " ?");
-            continue;
-        }
-        append_place(name, module, before, calls[call], 1);
-        append_file(places, module, calls[call] - 1);
-        before = module;
-    }
-    if (!name[0])
+    if (!telling_call(modules, (const uint64_t *)&first[1], 2 * following, &call)) {
         append(name, "?");
+        append(places, " ?");
+    } else {
+        append_file(places, call.module, call.offset);
+        if (call.frame.line) {
+            telling = strcmp(how, "first") == 0 ? TOLD_BY_FIRST : TOLD_BY_LINE;
+            append_line(name, &call.frame);
+            append_source(places, &call.frame);
+        } else {
+            append_place(name, call.module, call.offset, 1);
+        }
+    }
     cut_name(name, MOST_NAME);
-    return class_named(name, places);
+    return class_named(name, places, telling);
 }
 
 /* Gives the class of a lock that stands in a module, or none where it stands in no module. */
@@ -141,10 +148,10 @@ struct class *class_of_static(const struct modules *modules, uint64_t address)
         return NULL;
     name[0] = 0;
     strcpy(places, "static");
-    append_place(name, module, NULL, address, 0);
-    append_file(places, module, address);
+    append_place(name, module, address - module->load, 0);
+    append_file(places, module, address - module->load);
     cut_name(name, MOST_NAME);
-    return class_named(name, places);
+    return class_named(name, places, TOLD_BY_STATIC);
 }
 
 /* Counts the classes that stand in a trace: some locks are initialised and never taken. */
@@ -153,6 +160,14 @@ size_t class_count(void)
     size_t used = 0;
     for (size_t number = 0; number < count; number++)
         used += classes[number]->trace != 0;
+    return used;
+}
+
+size_t classes_told(enum telling telling)
+{
+    size_t used = 0;
+    for (size_t number = 0; number < count; number++)
+        used += classes[number]->trace != 0 && classes[number]->telling == telling;
     return used;
 }
 

@@ -117,6 +117,7 @@ static void place_chunk(struct recording *recording, size_t at)
    there are no more numbers than units. */
 void place_records(struct recording *recording)
 {
+    recording->place_count = 0;
     for (size_t at = CHUNK_BYTES; at + CHUNK_BYTES <= recording->length; at += CHUNK_BYTES)
         recording->place_count += UNITS_OF_CHUNK;
     recording->places = must(calloc(recording->place_count + 1, sizeof *recording->places));

@@ -1,6 +1,7 @@
 /*
- * merge DIRECTORY STREAM LABEL: puts the files of a recording together as one stream of traces, and
- * says on standard error how much it was. The status is 0 where the stream was written.
+ * merge DIRECTORY STREAM LABEL [FUNCTION ..]: puts the files of a recording together as one stream of
+ * traces, and says on standard error how much it was. The functions are those through which the program
+ * makes its locks. The status is 0 where the stream was written.
  */
 #define _GNU_SOURCE
 #include <errno.h>
@@ -61,6 +62,23 @@ static void say_limits(int64_t bytes)
         say("the stream has more than 2147483648 bytes, and lockcheck reads no more");
 }
 
+static void say_classes(void)
+{
+    size_t by_address = classes_told(TOLD_BY_ADDRESS), by_first = classes_told(TOLD_BY_FIRST);
+    if (by_address)
+        say("%zu of %zu classes go by the address of a call, for want of %s: one line may be several "
+            "classes, and orders are missed",
+            by_address, class_count(),
+            has_addr2line ? "debug information (compile with -g)" : "addr2line (install binutils)");
+    if (by_first)
+        say("%zu of %zu classes go by the line that took a lock first, since no call initialised it: "
+            "locks of a kind may be several classes, and orders are missed",
+            by_first, class_count());
+    for (size_t number = 0; number < through_count; number++)
+        if (!through_met[number])
+            say("no lock was made through %s", through[number]);
+}
+
 static void replay_all(struct recording *all, size_t count, const char *label)
 {
     char clean[256] = "";
@@ -77,8 +95,11 @@ static void replay_all(struct recording *all, size_t count, const char *label)
 int main(int argument_count, char **arguments)
 {
     struct recording *all;
-    if (argument_count != 4)
+    if (argument_count < 4)
         return 2;
+    through = arguments + 4;
+    through_count = (size_t)argument_count - 4;
+    through_met = must(calloc(through_count + 1, sizeof *through_met));
     size_t count = read_recordings(arguments[1], &all);
     if (count == 0) {
         say("no process was recorded");
@@ -90,6 +111,8 @@ int main(int argument_count, char **arguments)
         return 2;
     }
     setvbuf(stream, NULL, _IOFBF, 1 << 20);
+    survey(all, count);
+    find_frames();
     replay_all(all, count, arguments[3]);
     int64_t bytes = ftello(stream);
     bool whole = !ferror(stream);
@@ -99,6 +122,7 @@ int main(int argument_count, char **arguments)
     }
     say_ends(all, count);
     say_limits(bytes);
+    say_classes();
     say("%s: %" PRIu64 " events, %zu classes, %zu processes, %" PRIu64 " traces", arguments[2],
         totals.events, class_count(), count, totals.traces);
     return 0;

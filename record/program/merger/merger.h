@@ -19,11 +19,54 @@ enum {
 };
 #define MOST_STREAM_BYTES INT64_C(2147483648)
 
+/* What tells the class of a lock. */
+enum telling {
+    TOLD_BY_LINE,    /* the source line that initialised it */
+    TOLD_BY_FIRST,   /* no call initialised it: the source line that took it first */
+    TOLD_BY_ADDRESS, /* the address of such a call, for want of debug information */
+    TOLD_BY_STATIC,  /* the variable that it is */
+};
+
 struct class {
     char *name;
     char *places; /* how and where its locks came to be, for a reader */
+    enum telling telling;
     uint64_t instances;
     uint64_t trace; /* the latest trace that it is in */
+};
+
+struct bytes {
+    const unsigned char *at;
+    const unsigned char *end;
+};
+
+/* A function in which a place in code is, by the source: of a place in a function that the compiler put
+   into others there are several. */
+struct frame {
+    const char *function; /* NULL where it isn't known */
+    const char *file;
+    unsigned line; /* 0 where it isn't known */
+};
+
+/* A place in the code of a file, and its frames, the innermost first. */
+struct site {
+    uint64_t offset;
+    struct frame *frames;
+    size_t frame_count;
+    const char *file; /* as the table of lines has it */
+    unsigned line;    /* likewise, or 0 */
+};
+
+struct binary {
+    char *path;
+    const char *bytes; /* NULL where it can't be read */
+    uint64_t length;
+    struct symbol *symbols;
+    size_t symbol_count;
+    size_t symbol_room;
+    struct site *sites;
+    size_t site_count;
+    size_t site_room;
 };
 
 struct module {
@@ -31,7 +74,7 @@ struct module {
     uint64_t last;
     uint64_t load;
     char *path;
-    const struct symbols *symbols;
+    struct binary *binary;
 };
 
 struct modules {
@@ -109,16 +152,52 @@ size_t read_recordings(const char *directory, struct recording **recordings);
 void place_records(struct recording *recording);
 const struct unit *unit_at(const struct recording *recording, uint32_t unit);
 
-/* symbols.c */
-const struct symbols *symbols_of(const char *path);
-const char *symbol_at(const struct symbols *symbols, uint64_t address, uint64_t *offset);
+/* binaries.c */
+extern struct binary **binaries;
+extern size_t binary_count;
+struct binary *binary_of(const char *path);
+struct bytes section_of(const struct binary *binary, const char *name);
+uint64_t called_before(const struct binary *binary, uint64_t address);
+const char *symbol_at(const struct binary *binary, uint64_t address, uint64_t *offset);
+
+/* lines.c */
+void find_lines(struct binary *binary);
+
+/* frames.c */
+extern bool has_addr2line;
+void ask_for(struct binary *binary, uint64_t offset);
+void find_frames(void);
+const struct site *site_at(const struct binary *binary, uint64_t offset);
+
+/* functions.c */
+void short_function(char *text, size_t size, const char *function);
+void know_function(const struct frame *frame);
+const char *function_of(const struct frame *frame);
+bool is_maker(const struct frame *frame);
+extern char **through;
+extern size_t through_count;
+extern bool *through_met;
+
+/* modules.c */
+void add_module(struct modules *modules, const struct unit *first, unsigned following);
+const struct module *module_at(const struct modules *modules, uint64_t address);
+
+/* calls.c */
+struct call {
+    const struct module *module; /* NULL where the place is in none */
+    uint64_t offset;             /* in the file */
+    struct frame frame;
+};
+void ask_for_calls(const struct modules *modules, const uint64_t *calls, unsigned count);
+bool telling_call(const struct modules *modules, const uint64_t *calls, unsigned count,
+                  struct call *call);
 
 /* classes.c */
-void add_module(struct modules *modules, const struct unit *first, unsigned following);
 struct class *class_of_calls(const struct modules *modules, const char *how,
                              const struct unit *first, unsigned following);
 struct class *class_of_static(const struct modules *modules, uint64_t address);
 size_t class_count(void);
+size_t classes_told(enum telling telling);
 void write_classes(void);
 
 /* locks.c */
@@ -135,6 +214,7 @@ void write_released(struct lock *lock, struct locks *locks);
 size_t held_by(uint32_t task, const uint32_t **held);
 
 /* replay.c */
+void survey(struct recording *all, size_t count);
 void replay(struct recording *all, size_t count, size_t which, const char *label);
 
 #endif

@@ -112,6 +112,18 @@ static void step(const struct unit *first, uint32_t task)
     }
 }
 
+/* Takes what the places of a recording need to be asked for. */
+static void survey_step(const struct unit *first, uint32_t task)
+{
+    unsigned following = HEAD_FOLLOWING(first->head);
+    enum operation operation = HEAD_OPERATION(first->head);
+    (void)task;
+    if (operation == RECORD_MODULE)
+        add_module(&modules, first, following);
+    if (operation == RECORD_INIT || operation == RECORD_FIRST)
+        ask_for_calls(&modules, (const uint64_t *)&first[1], 2 * following);
+}
+
 /* Keeps what a child of a fork begins with. */
 static void keep_start(struct recording *child)
 {
@@ -170,11 +182,11 @@ static void begin_replay(struct start *start)
     free(start->held);
 }
 
-void replay(struct recording *all, size_t count, size_t which, const char *label)
+static void go_over(struct recording *all, size_t count, size_t which,
+                    void (*see)(const struct unit *, uint32_t))
 {
     struct recording *recording = &all[which];
     bool *is_kept = must(calloc(count, sizeof *is_kept));
-    begin_writer(label, which + 1);
     begin_replay(&recording->start);
     place_records(recording);
     uint64_t fork = next_fork(all, count, which, is_kept);
@@ -185,7 +197,7 @@ void replay(struct recording *all, size_t count, size_t which, const char *label
             fork = next_fork(all, count, which, is_kept);
         }
         if (place.unit)
-            step(unit_at(recording, place.unit), place.task);
+            see(unit_at(recording, place.unit), place.task);
     }
     keep_starts(all, count, which, UINT64_MAX, is_kept);
     end_writer();
@@ -193,4 +205,19 @@ void replay(struct recording *all, size_t count, size_t which, const char *label
     free(modules.all);
     free(recording->places);
     free(is_kept);
+    recording->start = (struct start){.held = NULL};
+}
+
+/* Asks for all places in code that tell a class, before the traces are written. */
+void survey(struct recording *all, size_t count)
+{
+    for (size_t which = 0; which < count; which++)
+        go_over(all, count, which, survey_step);
+    totals = (struct totals){0};
+}
+
+void replay(struct recording *all, size_t count, size_t which, const char *label)
+{
+    begin_writer(label, which + 1);
+    go_over(all, count, which, step);
 }

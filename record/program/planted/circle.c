@@ -3,9 +3,9 @@
  *
  * Report:
  * traces 1 refused 0 events 12 classes 3 dependencies 3
- * inversion circle:A -> circle:B at circle-1:4 via circle:B -> circle:main+0x.. -> circle:A
- * inversion circle:B -> circle:main+0x.. at circle-1:8 via circle:main+0x.. -> circle:A -> circle:B
- * inversion circle:main+0x.. -> circle:A at circle-1:12 via circle:A -> circle:B -> circle:main+0x..
+ * inversion circle:A -> circle:B at circle-1:4 via circle:B -> main:circle.c:46 -> circle:A
+ * inversion circle:B -> main:circle.c:46 at circle-1:8 via main:circle.c:46 -> circle:A -> circle:B
+ * inversion main:circle.c:46 -> circle:A at circle-1:12 via circle:A -> circle:B -> main:circle.c:46
  * violations 3
  */
 #include "planted.h"

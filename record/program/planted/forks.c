@@ -4,8 +4,8 @@
  *
  * Report:
  * traces 2 refused 0 events 10 classes 2 dependencies 2
- * inversion forks:A -> forks:new_lock+0x..<main+0x.. at forks-2:12 via forks:new_lock+0x..<main+0x.. -> forks:A
- * inversion forks:new_lock+0x..<main+0x.. -> forks:A at forks-1:6 via forks:A -> forks:new_lock+0x..<main+0x..
+ * inversion forks:A -> new_lock:forks.c:21 at forks-2:12 via new_lock:forks.c:21 -> forks:A
+ * inversion new_lock:forks.c:21 -> forks:A at forks-1:6 via forks:A -> new_lock:forks.c:21
  * violations 2
  */
 #include <sys/wait.h>

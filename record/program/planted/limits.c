@@ -8,7 +8,7 @@
  * clean
  *
  * Says: 1 locks were left out: their task held 96 already
- * Class: limits:a_function_with_a_name_that_is_longer_than_a_cla~
+ * Class: a_function_with_a_name_that_is_longer_than_~..:limits.c:39
  */
 #include "planted.h"
 
