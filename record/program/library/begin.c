@@ -47,8 +47,10 @@ static bool make_life(void)
 static bool read_settings(void)
 {
     const char *where = getenv("LOCKCHECK_RECORD_DIRECTORY");
+    const char *places = getenv("LOCKCHECK_RECORD_PLACES");
     if (!where || strlen(where) >= sizeof directory)
         return false;
+    wants_places = places && strcmp(places, "1") == 0;
     strcpy(directory, where);
     return true;
 }

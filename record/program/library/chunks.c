@@ -66,7 +66,7 @@ static bool change_chunk(struct chunk *full)
     if (chunk) {
         uint64_t first = __atomic_fetch_add(&chunk->used, 1, __ATOMIC_RELAXED);
         chunk->units[first].value = self.task;
-        __atomic_store_n(&chunk->units[first].head, HEAD_OF(RECORD_TASK, 0, 0), __ATOMIC_RELEASE);
+        __atomic_store_n(&chunk->units[first].head, HEAD_OF(RECORD_TASK, 0, 0, 0), __ATOMIC_RELEASE);
         self.chunk = chunk;
         if (has_key)
             pthread_setspecific(ending, &self);

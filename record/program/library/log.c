@@ -40,12 +40,18 @@ static void leave(void)
     self.inside--;
 }
 
-static void finish(struct unit *first, enum operation operation, unsigned following, uint64_t value)
+static void finish_at(struct unit *first, enum operation operation, unsigned following,
+                      unsigned place, uint64_t value)
 {
     uint64_t number = __atomic_fetch_add(&life->numbers, 1, __ATOMIC_ACQ_REL);
     self.last_number = number + 1;
     first->value = value;
-    __atomic_store_n(&first->head, HEAD_OF(operation, following, number), __ATOMIC_RELEASE);
+    __atomic_store_n(&first->head, HEAD_OF(operation, following, place, number), __ATOMIC_RELEASE);
+}
+
+static void finish(struct unit *first, enum operation operation, unsigned following, uint64_t value)
+{
+    finish_at(first, operation, following, 0, value);
 }
 
 static void write_module(uint64_t address)
@@ -88,18 +94,29 @@ static void write_place(enum operation operation, uint64_t lock)
     finish(first, operation, following, lock);
 }
 
-static void write_one(enum operation operation, uint64_t lock)
+/* Tells a place of the program, with its module. */
+void tell_place(uint64_t address, struct told_place place)
+{
+    write_module(address);
+    struct unit *first = take_units(2);
+    if (!first)
+        return;
+    first[1] = (struct unit){place.number, place.inside};
+    finish(first, RECORD_PLACE, 1, address);
+}
+
+static void write_one(enum operation operation, uint64_t lock, unsigned place)
 {
     struct unit *unit = take_units(1);
     if (unit)
-        finish(unit, operation, 0, lock);
+        finish_at(unit, operation, 0, place, lock);
 }
 
 void record(enum operation operation, const void *lock)
 {
     if (!enter())
         return;
-    write_one(operation, (uint64_t)lock);
+    write_one(operation, (uint64_t)lock, 0);
     leave();
 }
 
@@ -118,11 +135,11 @@ void record_destroy(const void *lock)
         return;
     uint64_t told = (uint64_t)lock;
     __atomic_compare_exchange_n(place_of(told), &told, 0, false, __ATOMIC_RELAXED, __ATOMIC_RELAXED);
-    write_one(RECORD_DESTROY, (uint64_t)lock);
+    write_one(RECORD_DESTROY, (uint64_t)lock, 0);
     leave();
 }
 
-void record_got(enum operation operation, const void *lock)
+void record_got(enum operation operation, const void *lock, const struct frame *frame)
 {
     if (!enter())
         return;
@@ -131,6 +148,6 @@ void record_got(enum operation operation, const void *lock)
         write_place(RECORD_FIRST, (uint64_t)lock);
         __atomic_store_n(place, (uint64_t)lock, __ATOMIC_RELAXED);
     }
-    write_one(operation, (uint64_t)lock);
+    write_one(operation, (uint64_t)lock, wants_places ? place_of_frame(frame) : 0);
     leave();
 }

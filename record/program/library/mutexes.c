@@ -8,10 +8,11 @@
 #include "recorder.h"
 
 /* A robust mutex whose owner died is held all the same. */
-static int got(enum operation operation, const void *lock, int answer)
+static int got(enum operation operation, const void *lock, int answer,
+               const struct frame *frame)
 {
     if (answer == 0 || answer == EOWNERDEAD)
-        record_got(operation, lock);
+        record_got(operation, lock, frame);
     return answer;
 }
 
@@ -33,23 +34,23 @@ EXPORTED int pthread_mutex_destroy(pthread_mutex_t *mutex)
 
 EXPORTED int pthread_mutex_lock(pthread_mutex_t *mutex)
 {
-    return got(RECORD_ACQUIRE, mutex, NEXT(pthread_mutex_lock)(mutex));
+    return got(RECORD_ACQUIRE, mutex, NEXT(pthread_mutex_lock)(mutex), HERE);
 }
 
 EXPORTED int pthread_mutex_trylock(pthread_mutex_t *mutex)
 {
-    return got(RECORD_TRY, mutex, NEXT(pthread_mutex_trylock)(mutex));
+    return got(RECORD_TRY, mutex, NEXT(pthread_mutex_trylock)(mutex), HERE);
 }
 
 EXPORTED int pthread_mutex_timedlock(pthread_mutex_t *mutex, const struct timespec *until)
 {
-    return got(RECORD_ACQUIRE, mutex, NEXT(pthread_mutex_timedlock)(mutex, until));
+    return got(RECORD_ACQUIRE, mutex, NEXT(pthread_mutex_timedlock)(mutex, until), HERE);
 }
 
 EXPORTED int pthread_mutex_clocklock(pthread_mutex_t *mutex, clockid_t clock,
                                      const struct timespec *until)
 {
-    return got(RECORD_ACQUIRE, mutex, NEXT(pthread_mutex_clocklock)(mutex, clock, until));
+    return got(RECORD_ACQUIRE, mutex, NEXT(pthread_mutex_clocklock)(mutex, clock, until), HERE);
 }
 
 EXPORTED int pthread_mutex_unlock(pthread_mutex_t *mutex)
@@ -64,17 +65,17 @@ EXPORTED int pthread_mutex_unlock(pthread_mutex_t *mutex)
 /* A thread that is cancelled while it waits has the mutex again when its cleanup begins. */
 static void cancelled(void *mutex)
 {
-    record_got(RECORD_ACQUIRE, mutex);
+    record_got(RECORD_ACQUIRE, mutex, NULL);
 }
 
 /* After a wait, in whatever way it ended, the mutex is held again, unless it can't be recovered; where
    the call was refused it never was given back. */
-static int waited(const void *mutex, int answer)
+static int waited(const void *mutex, int answer, const struct frame *frame)
 {
     if (answer == EPERM || answer == EINVAL)
         record(RECORD_UNDO, mutex);
     else if (answer != ENOTRECOVERABLE)
-        record_got(RECORD_ACQUIRE, mutex);
+        record_got(RECORD_ACQUIRE, mutex, frame);
     return answer;
 }
 
@@ -85,7 +86,7 @@ EXPORTED int pthread_cond_wait(pthread_cond_t *condition, pthread_mutex_t *mutex
     pthread_cleanup_push(cancelled, mutex);
     answer = NEXT(pthread_cond_wait)(condition, mutex);
     pthread_cleanup_pop(0);
-    return waited(mutex, answer);
+    return waited(mutex, answer, HERE);
 }
 
 EXPORTED int pthread_cond_timedwait(pthread_cond_t *condition, pthread_mutex_t *mutex,
@@ -96,7 +97,7 @@ EXPORTED int pthread_cond_timedwait(pthread_cond_t *condition, pthread_mutex_t *
     pthread_cleanup_push(cancelled, mutex);
     answer = NEXT(pthread_cond_timedwait)(condition, mutex, until);
     pthread_cleanup_pop(0);
-    return waited(mutex, answer);
+    return waited(mutex, answer, HERE);
 }
 
 EXPORTED int pthread_cond_clockwait(pthread_cond_t *condition, pthread_mutex_t *mutex,
@@ -107,7 +108,7 @@ EXPORTED int pthread_cond_clockwait(pthread_cond_t *condition, pthread_mutex_t *
     pthread_cleanup_push(cancelled, mutex);
     answer = NEXT(pthread_cond_clockwait)(condition, mutex, clock, until);
     pthread_cleanup_pop(0);
-    return waited(mutex, answer);
+    return waited(mutex, answer, HERE);
 }
 
 EXPORTED int mtx_init(mtx_t *mutex, int type)
@@ -124,26 +125,27 @@ EXPORTED void mtx_destroy(mtx_t *mutex)
     record_destroy(mutex);
 }
 
-static int got_c11(enum operation operation, const void *mutex, int answer)
+static int got_c11(enum operation operation, const void *mutex, int answer,
+               const struct frame *frame)
 {
     if (answer == thrd_success)
-        record_got(operation, mutex);
+        record_got(operation, mutex, frame);
     return answer;
 }
 
 EXPORTED int mtx_lock(mtx_t *mutex)
 {
-    return got_c11(RECORD_ACQUIRE, mutex, NEXT(mtx_lock)(mutex));
+    return got_c11(RECORD_ACQUIRE, mutex, NEXT(mtx_lock)(mutex), HERE);
 }
 
 EXPORTED int mtx_trylock(mtx_t *mutex)
 {
-    return got_c11(RECORD_TRY, mutex, NEXT(mtx_trylock)(mutex));
+    return got_c11(RECORD_TRY, mutex, NEXT(mtx_trylock)(mutex), HERE);
 }
 
 EXPORTED int mtx_timedlock(mtx_t *restrict mutex, const struct timespec *restrict until)
 {
-    return got_c11(RECORD_ACQUIRE, mutex, NEXT(mtx_timedlock)(mutex, until));
+    return got_c11(RECORD_ACQUIRE, mutex, NEXT(mtx_timedlock)(mutex, until), HERE);
 }
 
 EXPORTED int mtx_unlock(mtx_t *mutex)
@@ -155,10 +157,10 @@ EXPORTED int mtx_unlock(mtx_t *mutex)
     return answer;
 }
 
-static int waited_c11(const void *mutex, int answer)
+static int waited_c11(const void *mutex, int answer, const struct frame *frame)
 {
     if (answer == thrd_success || answer == thrd_timedout)
-        record_got(RECORD_ACQUIRE, mutex);
+        record_got(RECORD_ACQUIRE, mutex, frame);
     else
         record(RECORD_UNDO, mutex);
     return answer;
@@ -171,7 +173,7 @@ EXPORTED int cnd_wait(cnd_t *condition, mtx_t *mutex)
     pthread_cleanup_push(cancelled, mutex);
     answer = NEXT(cnd_wait)(condition, mutex);
     pthread_cleanup_pop(0);
-    return waited_c11(mutex, answer);
+    return waited_c11(mutex, answer, HERE);
 }
 
 EXPORTED int cnd_timedwait(cnd_t *restrict condition, mtx_t *restrict mutex,
@@ -182,5 +184,5 @@ EXPORTED int cnd_timedwait(cnd_t *restrict condition, mtx_t *restrict mutex,
     pthread_cleanup_push(cancelled, mutex);
     answer = NEXT(cnd_timedwait)(condition, mutex, until);
     pthread_cleanup_pop(0);
-    return waited_c11(mutex, answer);
+    return waited_c11(mutex, answer, HERE);
 }

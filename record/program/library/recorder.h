@@ -12,6 +12,15 @@
 /* The most calls that are kept of those that led to the begin of a lock. */
 #define MOST_CALLS 8
 
+/* A place that was told: the rest holds once `state` says so. */
+struct place {
+    uint64_t address;
+    uint16_t inside;
+    uint16_t number;
+    uint8_t state; /* enum place_state */
+    bool goes_on;  /* the place around it is wanted too */
+};
+
 /*
  * What this process has of its own. It lies in a page that the kernel clears in a child of a fork,
  * however that child was made, so a child finds out by its first look that it has no recording yet.
@@ -23,7 +32,17 @@ struct life {
     struct process *process;
     /* The counter of events is on a line of the cache of its own: all threads write it. */
     _Alignas(64) uint64_t numbers;
+    _Alignas(64) struct place places[PLACE_NUMBERS];
 };
+
+/* What stands at the address of a frame, where the code keeps one. */
+struct frame {
+    const struct frame *outer;
+    uint64_t address;
+};
+
+/* The frame of a call of the library, whose return address is a place of the program. */
+#define HERE ((const struct frame *)__builtin_frame_address(0))
 
 enum state { STATE_NEW, STATE_BEGINNING, STATE_RECORDING, STATE_OFF };
 
@@ -53,7 +72,14 @@ struct unit *take_units(unsigned count);
 void record(enum operation operation, const void *lock);
 void record_init(const void *lock);
 void record_destroy(const void *lock);
-void record_got(enum operation operation, const void *lock);
+void record_got(enum operation operation, const void *lock, const struct frame *frame);
+
+/* frames.c */
+extern bool wants_places;
+unsigned place_of_frame(const struct frame *frame);
+
+/* log.c, for the places */
+void tell_place(uint64_t address, struct told_place place);
 
 /* places.c */
 void find_own_place(void);

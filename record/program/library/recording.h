@@ -27,19 +27,34 @@ enum operation {
     RECORD_TRY,     /* [lock] was got by a call that couldn't wait */
     RECORD_RELEASE, /* [lock] is about to be given back */
     RECORD_UNDO,    /* [lock] wasn't given back: the call for it failed */
+    RECORD_PLACE,   /* [address] is a place of the program; `struct told_place` follows */
 };
 
-/* In `head`: the operation (8 bits), the number of units that follow (8), the event's number (48). */
+/* In `head`: the operation (4 bits), the number of units that follow (8), the place (16), which is 0
+   where there is none, and the event's number (36). */
 struct unit {
     uint64_t head;
     uint64_t value;
 };
 
-#define HEAD_OPERATION(head) ((enum operation)((head) & 0xff))
-#define HEAD_FOLLOWING(head) ((unsigned)((head) >> 8 & 0xff))
-#define HEAD_NUMBER(head) ((head) >> 16)
-#define HEAD_OF(operation, following, number) \
-    ((uint64_t)(number) << 16 | (uint64_t)(following) << 8 | (uint64_t)(operation))
+#define HEAD_OPERATION(head) ((enum operation)((head) & 0xf))
+#define HEAD_FOLLOWING(head) ((unsigned)((head) >> 4 & 0xff))
+#define HEAD_PLACE(head) ((unsigned)((head) >> 12 & 0xffff))
+#define HEAD_NUMBER(head) ((head) >> 28)
+#define HEAD_OF(operation, following, place, number)                                      \
+    ((uint64_t)(number) << 28 | (uint64_t)(place) << 12 | (uint64_t)(following) << 4 | \
+     (uint64_t)(operation))
+
+/* A place is the return address of a call. The place inside it, if there is one, is that of the call
+   which led from there to the recorder. */
+struct told_place {
+    uint64_t number;
+    uint64_t inside; /* the number of that place, or 0 */
+};
+
+#define PLACE_NUMBERS 65536
+/* The most places that are one inside the other. */
+#define MOST_INSIDE 6
 
 struct chunk {
     uint64_t used; /* units that were asked for, maybe more than there are */
@@ -68,6 +83,7 @@ struct process {
 #define PROCESS_BYTES 4096
 
 _Static_assert(sizeof(struct unit) == 16, "a unit is 16 bytes");
+_Static_assert(sizeof(struct told_place) == sizeof(struct unit), "a place is told by one more unit");
 _Static_assert(sizeof(struct chunk) == CHUNK_BYTES, "a chunk is whole");
 _Static_assert(sizeof(struct process) <= PROCESS_BYTES, "the first page holds the process");
 

@@ -21,21 +21,22 @@ EXPORTED int pthread_spin_destroy(pthread_spinlock_t *lock)
     return answer;
 }
 
-static int got(enum operation operation, const volatile void *lock, int answer)
+static int got(enum operation operation, const volatile void *lock, int answer,
+               const struct frame *frame)
 {
     if (answer == 0)
-        record_got(operation, (const void *)lock);
+        record_got(operation, (const void *)lock, frame);
     return answer;
 }
 
 EXPORTED int pthread_spin_lock(pthread_spinlock_t *lock)
 {
-    return got(RECORD_ACQUIRE, lock, NEXT(pthread_spin_lock)(lock));
+    return got(RECORD_ACQUIRE, lock, NEXT(pthread_spin_lock)(lock), HERE);
 }
 
 EXPORTED int pthread_spin_trylock(pthread_spinlock_t *lock)
 {
-    return got(RECORD_TRY, lock, NEXT(pthread_spin_trylock)(lock));
+    return got(RECORD_TRY, lock, NEXT(pthread_spin_trylock)(lock), HERE);
 }
 
 EXPORTED int pthread_spin_unlock(pthread_spinlock_t *lock)
@@ -65,32 +66,33 @@ EXPORTED int pthread_rwlock_destroy(pthread_rwlock_t *lock)
    release what nobody holds exclusively, and are no event to the merger. */
 static __thread bool took_write_lock __attribute__((tls_model("initial-exec")));
 
-static int wrote(enum operation operation, pthread_rwlock_t *lock, int answer)
+static int wrote(enum operation operation, pthread_rwlock_t *lock, int answer,
+               const struct frame *frame)
 {
     if (answer == 0)
         took_write_lock = true;
-    return got(operation, lock, answer);
+    return got(operation, lock, answer, frame);
 }
 
 EXPORTED int pthread_rwlock_wrlock(pthread_rwlock_t *lock)
 {
-    return wrote(RECORD_ACQUIRE, lock, NEXT(pthread_rwlock_wrlock)(lock));
+    return wrote(RECORD_ACQUIRE, lock, NEXT(pthread_rwlock_wrlock)(lock), HERE);
 }
 
 EXPORTED int pthread_rwlock_trywrlock(pthread_rwlock_t *lock)
 {
-    return wrote(RECORD_TRY, lock, NEXT(pthread_rwlock_trywrlock)(lock));
+    return wrote(RECORD_TRY, lock, NEXT(pthread_rwlock_trywrlock)(lock), HERE);
 }
 
 EXPORTED int pthread_rwlock_timedwrlock(pthread_rwlock_t *lock, const struct timespec *until)
 {
-    return wrote(RECORD_ACQUIRE, lock, NEXT(pthread_rwlock_timedwrlock)(lock, until));
+    return wrote(RECORD_ACQUIRE, lock, NEXT(pthread_rwlock_timedwrlock)(lock, until), HERE);
 }
 
 EXPORTED int pthread_rwlock_clockwrlock(pthread_rwlock_t *lock, clockid_t clock,
                                         const struct timespec *until)
 {
-    return wrote(RECORD_ACQUIRE, lock, NEXT(pthread_rwlock_clockwrlock)(lock, clock, until));
+    return wrote(RECORD_ACQUIRE, lock, NEXT(pthread_rwlock_clockwrlock)(lock, clock, until), HERE);
 }
 
 EXPORTED int pthread_rwlock_unlock(pthread_rwlock_t *lock)

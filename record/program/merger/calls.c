@@ -1,4 +1,5 @@
 /* The calls that led to a lock's beginning, and which of them tells its class. */
+#include <inttypes.h>
 #include <stdlib.h>
 #include <string.h>
 
@@ -12,44 +13,42 @@ struct frames {
     size_t count;
 };
 
-static uint64_t start_of(const struct binary *binary, uint64_t offset)
+/* Answers whether a function begins at `start` and a place is in it. Where there is no symbol for the
+   place it may be. */
+static bool may_hold(const struct module *module, uint64_t start, const struct module *inner,
+                     uint64_t offset)
 {
     uint64_t into;
-    return symbol_at(binary, offset, &into) ? offset - into : 0;
+    if (inner != module || start > offset)
+        return false;
+    return !symbol_at(module->binary, offset, &into) || offset - into == start;
 }
 
-/* A function that ends in a call leaves that to its own caller, and isn't on the stack any more. Where a
-   call names another function than the one that it led to, that one stood in between: this gives its
-   start, or 0. */
-static uint64_t left_out(const struct module *module, uint64_t address, uint64_t inner_start)
-{
-    uint64_t called = called_before(module->binary, address - module->load);
-    return called != inner_start ? called : 0;
-}
-
-/* Goes over the calls from the innermost on. For each that is in a module it gives the function that was
-   left out before it, if any, and then its own place. */
+/* Goes over the calls from the innermost on, and gives the place of each. A function that ends in a call
+   may leave that to its own caller, and isn't on the stack any more then. So where a call names another
+   function than the one that it led to, that one stood in between, and its begin is given first. */
 static void each_place(const struct modules *modules, const uint64_t *calls, unsigned count,
                        void (*see)(const struct module *, uint64_t, void *), void *argument)
 {
-    uint64_t inner_start = 0;
+    const struct module *inner = NULL;
+    uint64_t offset = 0;
     for (unsigned number = 0; number < count && calls[number]; number++) {
         const struct module *module = module_at(modules, calls[number]);
         if (!module) {
             see(NULL, 0, argument);
-            inner_start = 0;
+            inner = NULL;
             continue;
         }
-        uint64_t between = left_out(module, calls[number], inner_start);
-        if (between)
-            see(module, between, argument);
-        uint64_t offset = calls[number] - module->load - 1;
+        uint64_t called = called_before(module->binary, calls[number] - module->load);
+        if (called && !may_hold(module, called, inner, offset))
+            see(module, called, argument);
+        offset = calls[number] - module->load - 1;
         see(module, offset, argument);
-        inner_start = start_of(module->binary, offset);
+        inner = module;
     }
 }
 
-static void ask_for_place(const struct module *module, uint64_t offset, void *nothing)
+static void ask_for_one(const struct module *module, uint64_t offset, void *nothing)
 {
     (void)nothing;
     if (module)
@@ -58,7 +57,7 @@ static void ask_for_place(const struct module *module, uint64_t offset, void *no
 
 void ask_for_calls(const struct modules *modules, const uint64_t *calls, unsigned count)
 {
-    each_place(modules, calls, count, ask_for_place, NULL);
+    each_place(modules, calls, count, ask_for_one, NULL);
 }
 
 static void add_frames(const struct module *module, uint64_t offset, void *argument)
@@ -74,13 +73,21 @@ static void add_frames(const struct module *module, uint64_t offset, void *argum
     }
 }
 
-static bool is_through(const struct frame *frame)
+/* A function that has no name is said by a place in it, as a class has that. */
+static bool is_through(const struct call *call)
 {
     char name[256];
     bool is_any = false;
-    short_function(name, sizeof name, frame->function ? frame->function : "");
-    for (size_t number = 0; frame->function && number < through_count; number++)
-        if (strcmp(through[number], name) == 0 || strcmp(through[number], frame->function) == 0)
+    const char *function = call->frame.function;
+    if (!function && !call->module)
+        return false;
+    if (function)
+        short_function(name, sizeof name, function);
+    else
+        snprintf(name, sizeof name, "%s:+0x%" PRIx64, base_of(call->module->path), call->offset + 1);
+    for (size_t number = 0; number < through_count; number++)
+        if (strcmp(through[number], name) == 0 ||
+            (function && strcmp(through[number], function) == 0))
             is_any = through_met[number] = true;
     return is_any;
 }
@@ -107,7 +114,7 @@ bool telling_call(const struct modules *modules, const uint64_t *calls, unsigned
     size_t start = 0;
     each_place(modules, calls, count, add_frames, &frames);
     for (size_t number = 0; number < frames.count; number++)
-        if (is_through(&frames.all[number].frame))
+        if (is_through(&frames.all[number]))
             start = number + 1;
     start = behind_makers(&frames, start);
     if (start >= frames.count)

@@ -56,12 +56,6 @@ static void append_offset(char *text, uint64_t offset)
     append(text, number);
 }
 
-static const char *base_of(const char *path)
-{
-    const char *base = strrchr(path, '/');
-    return base ? base + 1 : path;
-}
-
 /* Appends an address to a class's name: its module, and its symbol with the offset there, or where there
    is none the offset in the module. `back` is 1 for a place in a call, whose name has the address of the
    return: that may be the first after the end of the function that called. */
@@ -175,6 +169,8 @@ size_t classes_told(enum telling telling)
 void write_classes(void)
 {
     for (size_t number = 0; number < count; number++)
-        if (classes[number]->trace)
+        if (classes[number]->trace) {
             fprintf(stream, "# class %s %s\n", classes[number]->name, classes[number]->places);
+            end_line(0, NULL);
+        }
 }

@@ -138,12 +138,6 @@ static void ask(struct binary *binary)
         has_addr2line = false;
 }
 
-static bool ends_alike(const char *path, const char *other)
-{
-    const char *base = strrchr(path, '/'), *other_base = strrchr(other, '/');
-    return strcmp(base ? base + 1 : path, other_base ? other_base + 1 : other) == 0;
-}
-
 /* The innermost frame's line is that of the table of lines. Its function can't be trusted where it is
    also the outermost: that is what `addr2line` says of a C function in the middle of C++. Where there is
    no line the function is the nearest symbol, maybe of other code: there the symbols are asked. */
@@ -156,7 +150,7 @@ static void mend(const struct binary *binary, struct site *site)
         return;
     struct frame *first = &site->frames[0];
     if (site->line) {
-        if (!first->file || !ends_alike(first->file, site->file))
+        if (!first->file || strcmp(base_of(first->file), base_of(site->file)) != 0)
             first->file = site->file;
         first->line = site->line;
     }

@@ -22,6 +22,13 @@ void *grown(void *all, size_t count, size_t *room, size_t size)
     return must(realloc(all, *room * size));
 }
 
+/* Gives a path without its directories. */
+const char *base_of(const char *path)
+{
+    const char *base = strrchr(path, '/');
+    return base ? base + 1 : path;
+}
+
 /* FNV-1a of 32 bits. */
 uint32_t checksum(const char *text)
 {

@@ -1,6 +1,7 @@
 /*
- * merge DIRECTORY STREAM LABEL [FUNCTION ..]: puts the files of a recording together as one stream of
- * traces, and says on standard error how much it was. The functions are those through which the program
+ * merge DIRECTORY STREAM LABEL PLACES [FUNCTION ..]: puts the files of a recording together as one stream of
+ * traces, and says on standard error how much it was. With 1 for PLACES the places at which locks were
+ * taken go to STREAM.places. The functions are those through which the program
  * makes its locks. The status is 0 where the stream was written.
  */
 #define _GNU_SOURCE
@@ -87,6 +88,7 @@ static void replay_all(struct recording *all, size_t count, const char *label)
         char program[4096] = "";
         append_clean(program, sizeof program, all[number].process->program, "");
         fprintf(stream, "# process %zu %s\n", number + 1, program);
+        end_line(0, NULL);
         replay(all, count, number, clean);
     }
     write_classes();
@@ -95,10 +97,10 @@ static void replay_all(struct recording *all, size_t count, const char *label)
 int main(int argument_count, char **arguments)
 {
     struct recording *all;
-    if (argument_count < 4)
+    if (argument_count < 5)
         return 2;
-    through = arguments + 4;
-    through_count = (size_t)argument_count - 4;
+    through = arguments + 5;
+    through_count = (size_t)argument_count - 5;
     through_met = must(calloc(through_count + 1, sizeof *through_met));
     size_t count = read_recordings(arguments[1], &all);
     if (count == 0) {
@@ -111,8 +113,10 @@ int main(int argument_count, char **arguments)
         return 2;
     }
     setvbuf(stream, NULL, _IOFBF, 1 << 20);
+    bool wants_places = strcmp(arguments[4], "1") == 0;
     survey(all, count);
     find_frames();
+    bool has_places = wants_places && open_places(arguments[1]);
     replay_all(all, count, arguments[3]);
     int64_t bytes = ftello(stream);
     bool whole = !ferror(stream);
@@ -120,6 +124,8 @@ int main(int argument_count, char **arguments)
         say("%s: the stream couldn't be written", arguments[2]);
         return 2;
     }
+    if (wants_places && !(has_places && close_places(arguments[2])))
+        say("%s.places couldn't be written", arguments[2]);
     say_ends(all, count);
     say_limits(bytes);
     say_classes();

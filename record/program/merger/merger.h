@@ -91,6 +91,7 @@ struct lock {
     uint64_t address;
     struct class *class; /* none where there is no lock now */
     uint64_t instance;
+    uint32_t place;  /* of the program, where it was taken */
     uint32_t holder; /* a task, or 0 */
     uint32_t last_holder;
     uint32_t level;
@@ -143,6 +144,7 @@ extern struct totals totals;
 /* helpers.c */
 void *must(void *memory);
 void *grown(void *all, size_t count, size_t *room, size_t size);
+const char *base_of(const char *path);
 uint32_t checksum(const char *text);
 void append_clean(char *text, size_t size, const char *bytes, const char *without);
 void cut_name(char *text, size_t most);
@@ -204,6 +206,15 @@ void write_classes(void);
 struct lock *find_lock(struct locks *locks, uint64_t address, bool make);
 void copy_locks(struct locks *to, const struct locks *from);
 void free_locks(struct locks *locks);
+
+/* places.c */
+bool open_places(const char *directory);
+void begin_places(void);
+void ask_for_place(const struct modules *modules, const struct unit *first);
+void add_place(const struct modules *modules, const struct unit *first);
+uint32_t place_numbered(unsigned number);
+void end_line(uint32_t place, const struct class *class);
+bool close_places(const char *stream_path);
 
 /* trace.c */
 void begin_writer(const char *label, size_t process);

@@ -29,8 +29,9 @@ static void on_first(uint64_t address, const struct unit *first, unsigned follow
 
 /* A lock that someone else is seen to get was given back by a call that wasn't seen, or by the end of
    its holder. Inner levels of a recursive mutex aren't written. */
-static void on_got(const char *verb, uint32_t task, uint64_t address, const struct unit *first)
+static void on_got(const char *verb, uint32_t task, const struct unit *first)
 {
+    uint64_t address = first->value;
     struct lock *lock = find_lock(&locks, address, true);
     if (!lock->class)
         begin_lock(lock, class_of_calls(&modules, "first", first, 0));
@@ -40,6 +41,7 @@ static void on_got(const char *verb, uint32_t task, uint64_t address, const stru
     }
     if (lock->holder)
         write_released(lock, &locks);
+    lock->place = place_numbered(HEAD_PLACE(first->head));
     write_got(verb, task, &locks, lock);
 }
 
@@ -92,14 +94,18 @@ static void step(const struct unit *first, uint32_t task)
     case RECORD_FIRST:
         on_first(value, first, following);
         break;
+    case RECORD_PLACE:
+        if (following)
+            add_place(&modules, first);
+        break;
     case RECORD_DESTROY:
         on_destroy(value);
         break;
     case RECORD_ACQUIRE:
-        on_got("acquire", task, value, first);
+        on_got("acquire", task, first);
         break;
     case RECORD_TRY:
-        on_got("try", task, value, first);
+        on_got("try", task, first);
         break;
     case RECORD_RELEASE:
         on_release(value);
@@ -122,6 +128,8 @@ static void survey_step(const struct unit *first, uint32_t task)
         add_module(&modules, first, following);
     if (operation == RECORD_INIT || operation == RECORD_FIRST)
         ask_for_calls(&modules, (const uint64_t *)&first[1], 2 * following);
+    if (operation == RECORD_PLACE && following)
+        ask_for_place(&modules, first);
 }
 
 /* Keeps what a child of a fork begins with. */
@@ -188,6 +196,7 @@ static void go_over(struct recording *all, size_t count, size_t which,
     struct recording *recording = &all[which];
     bool *is_kept = must(calloc(count, sizeof *is_kept));
     begin_replay(&recording->start);
+    begin_places();
     place_records(recording);
     uint64_t fork = next_fork(all, count, which, is_kept);
     for (uint64_t number = 0; number < recording->place_count; number++) {

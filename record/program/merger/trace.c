@@ -51,7 +51,7 @@ size_t held_by(uint32_t task, const uint32_t **held)
     return task_at(task)->held_count;
 }
 
-static void write_event(const char *verb, uint32_t task, const struct lock *lock)
+static void write_event(const char *verb, uint32_t task, const struct lock *lock, uint32_t place)
 {
     if (task_at(task)->trace != totals.traces) {
         task_at(task)->trace = totals.traces;
@@ -63,6 +63,7 @@ static void write_event(const char *verb, uint32_t task, const struct lock *lock
     }
     fprintf(stream, "%s t%" PRIu32 " %s@%" PRIu64 "\n", verb, task, lock->class->name,
             lock->instance);
+    end_line(place, lock->class);
     totals.events++;
 }
 
@@ -76,6 +77,7 @@ static void write_header(void)
     snprintf(text, sizeof text, "%s", label);
     cut_name(text, MOST_NAME - strlen(end));
     fprintf(stream, "trace %s%s\n", text, end);
+    end_line(0, NULL);
     totals.traces++;
     tasks_of_trace = 0;
     classes_of_trace = 0;
@@ -95,7 +97,7 @@ static void open_trace(const struct locks *locks)
                             classes_of_trace < MOST_CLASSES - 1;
             if (lock->written) {
                 task->written++;
-                write_event("try", number, lock);
+                write_event("try", number, lock, lock->place);
             } else {
                 totals.not_taken_up++;
             }
@@ -135,7 +137,7 @@ void write_got(const char *verb, uint32_t number, struct locks *locks, struct lo
     push(task, (uint32_t)(lock - locks->all));
     if (lock->written) {
         task->written++;
-        write_event(verb, number, lock);
+        write_event(verb, number, lock, lock->place);
     } else {
         totals.too_deep++;
     }
@@ -156,7 +158,7 @@ void write_released(struct lock *lock, struct locks *locks)
     }
     if (lock->written) {
         task->written--;
-        write_event("release", lock->holder, lock);
+        write_event("release", lock->holder, lock, 0);
     }
     lock->last_holder = lock->holder;
     lock->holder = 0;

@@ -12,9 +12,16 @@
  *
  * Report:
  * traces 1 refused 0 events 16 classes 2 dependencies 2
- * inversion Pair::open:pairs.cc:37 -> Pair::open:pairs.cc:41 at pairs-1:12 via Pair::open:pairs.cc:41 -> Pair::open:pairs.cc:37
- * inversion Pair::open:pairs.cc:41 -> Pair::open:pairs.cc:37 at pairs-1:16 via Pair::open:pairs.cc:37 -> Pair::open:pairs.cc:41
+ * inversion Pair::open:pairs.cc:44 -> Pair::open:pairs.cc:48 at pairs-1:12 via Pair::open:pairs.cc:48 -> Pair::open:pairs.cc:44
+ * inversion Pair::open:pairs.cc:48 -> Pair::open:pairs.cc:44 at pairs-1:16 via Pair::open:pairs.cc:44 -> Pair::open:pairs.cc:48
  * violations 2
+ *
+ * Taken: 2 Pair::open:pairs.cc:44 Pair::open(int) pairs.cc:44
+ * Taken: 2 Pair::open:pairs.cc:48 Pair::open(int) pairs.cc:48
+ * Taken: 1 Pair::open:pairs.cc:44 Pair::forth() pairs.cc:55
+ * Taken: 1 Pair::open:pairs.cc:48 Pair::forth() pairs.cc:56
+ * Taken: 1 Pair::open:pairs.cc:48 Pair::back() pairs.cc:61
+ * Taken: 1 Pair::open:pairs.cc:44 Pair::back() pairs.cc:62
  *
  * Says: 2 of 2 classes go by the line that took a lock first, since no call initialised it: locks of a kind may be several classes, and orders are missed
  */

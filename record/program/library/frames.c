@@ -1,0 +1,101 @@
+/*
+ * The places of the program from which locks are taken. Each is told once, and then an event has its
+ * number. All threads share the table, and none waits: a place that is about to be told by another
+ * thread, or by the code that a signal handler interrupted, is told again under another number.
+ */
+#define _GNU_SOURCE
+#include <dlfcn.h>
+#include <string.h>
+
+#include "recorder.h"
+
+/* Slots that are looked at for a place. Where all of them hold others it has no number. */
+#define MOST_TRIES 16
+/* How far one frame is from the next, at most, where the next one's place is wanted. */
+#define MOST_FRAME_BYTES 512
+/* How far into a function the call is after which the place around it is wanted. */
+#define MOST_INTO 256
+
+enum place_state { PLACE_NONE, PLACE_BEGUN, PLACE_TOLD };
+
+bool wants_places;
+
+static const struct frame *outer_of(const struct frame *frame)
+{
+    uint64_t distance = (uint64_t)frame->outer - (uint64_t)frame;
+    bool is_near = distance > 0 && distance <= MOST_FRAME_BYTES;
+    return is_near && (uint64_t)frame->outer % sizeof(uint64_t) == 0 ? frame->outer : NULL;
+}
+
+/* Answers whether the place around a call is known and may be wanted: where a call that stands there
+   leads to the begin of the function which the inner place is in, near its begin. That is how the inline
+   functions of headers look which aren't inlined. In code that keeps no frames what looks like one may
+   be anything, and this isn't so. */
+static bool goes_on(const struct frame *frame)
+{
+#ifdef __x86_64__
+    const struct frame *outer = outer_of(frame);
+    struct dl_find_object object;
+    int32_t distance;
+    if (!outer || _dl_find_object((void *)outer->address, &object) != 0 ||
+        outer->address - (uint64_t)object.dlfo_map_start < 5)
+        return false;
+    const unsigned char *call = (const unsigned char *)outer->address - 5;
+    memcpy(&distance, call + 1, sizeof distance);
+    uint64_t called = outer->address + (uint64_t)(int64_t)distance;
+    return call[0] == 0xe8 && frame->address - called < MOST_INTO;
+#else
+    (void)frame;
+    return false;
+#endif
+}
+
+static struct place *slot_of(uint64_t address, uint16_t inside, unsigned turn)
+{
+    uint64_t sum = (address + inside) * UINT64_C(0x9e3779b97f4a7c15) >> 48;
+    return &life->places[(sum + turn) % PLACE_NUMBERS];
+}
+
+static bool tell(struct place *place, const struct frame *frame, uint16_t inside)
+{
+    uint8_t none = PLACE_NONE;
+    if (!__atomic_compare_exchange_n(&place->state, &none, PLACE_BEGUN, false, __ATOMIC_ACQUIRE,
+                                     __ATOMIC_RELAXED))
+        return false;
+    place->address = frame->address;
+    place->inside = inside;
+    place->number = (uint16_t)(place - life->places);
+    place->goes_on = goes_on(frame);
+    tell_place(frame->address, (struct told_place){place->number, inside});
+    __atomic_store_n(&place->state, PLACE_TOLD, __ATOMIC_RELEASE);
+    return true;
+}
+
+static const struct place *find(const struct frame *frame, uint16_t inside)
+{
+    for (unsigned turn = 0; turn < MOST_TRIES; turn++) {
+        struct place *place = slot_of(frame->address, inside, turn);
+        if (place == life->places)
+            continue;
+        uint8_t state = __atomic_load_n(&place->state, __ATOMIC_ACQUIRE);
+        if (state == PLACE_TOLD && place->address == frame->address && place->inside == inside)
+            return place;
+        if (state == PLACE_NONE && tell(place, frame, inside))
+            return place;
+    }
+    return NULL;
+}
+
+/* Gives the number of the place that a call of the library came from, or 0. */
+unsigned place_of_frame(const struct frame *frame)
+{
+    uint16_t number = 0;
+    for (unsigned count = 0; frame && count < MOST_INSIDE; count++) {
+        const struct place *place = find(frame, number);
+        if (!place)
+            break;
+        number = place->number;
+        frame = place->goes_on ? outer_of(frame) : NULL;
+    }
+    return number;
+}

@@ -1,0 +1,232 @@
+/*
+ * The places of the program from which locks were taken, as a file beside the stream (docs/RECORD.md):
+ * what each place is, how often each class was taken there, and the place of each line of the stream.
+ */
+#define _GNU_SOURCE
+#include <errno.h>
+#include <inttypes.h>
+#include <stdlib.h>
+#include <string.h>
+
+#include "merger.h"
+
+#define TEXT_BYTES 16384
+
+struct told {
+    uint64_t address;
+    uint32_t inside;
+};
+
+/* How often a class was taken at a place. */
+struct taken {
+    const struct class *class;
+    uint32_t place;
+    uint64_t count;
+};
+
+/* The places of the process that is gone over, by their numbers there. */
+static struct told told[PLACE_NUMBERS];
+static uint32_t numbered[PLACE_NUMBERS];
+static size_t told_count;
+
+static char **places; /* place 1 is the first */
+static size_t place_count, place_room;
+static uint32_t *place_slots;
+static size_t place_slot_count;
+
+static struct taken *taken; /* by a checksum; without a class where there is none */
+static size_t taken_count, taken_room;
+
+static FILE *numbers; /* of the lines so far; none where places aren't wanted */
+static unsigned number_bytes;
+static uint64_t line_count;
+
+void begin_places(void)
+{
+    memset(told, 0, sizeof told);
+    memset(numbered, 0, sizeof numbered);
+}
+
+/* Takes up a place that is told, and gives the addresses of it and of those inside, the innermost
+   first. */
+static unsigned take_up(const struct unit *first, uint64_t calls[MOST_INSIDE])
+{
+    const struct told_place *place = (const struct told_place *)&first[1];
+    uint64_t outwards[MOST_INSIDE];
+    unsigned count = 0;
+    uint64_t number = place->number % PLACE_NUMBERS;
+    told[number] = (struct told){first->value, (uint32_t)(place->inside % PLACE_NUMBERS)};
+    for (; number && count < MOST_INSIDE; number = told[number].inside)
+        outwards[count++] = told[number].address;
+    for (unsigned call = 0; call < count; call++)
+        calls[call] = outwards[count - 1 - call];
+    return count;
+}
+
+void ask_for_place(const struct modules *modules, const struct unit *first)
+{
+    uint64_t calls[MOST_INSIDE];
+    unsigned count = take_up(first, calls);
+    ask_for_calls(modules, calls, count);
+    told_count++;
+}
+
+static uint32_t *slot_of_place(const char *text)
+{
+    size_t slot = checksum(text) % place_slot_count;
+    while (place_slots[slot] && strcmp(places[place_slots[slot] - 1], text) != 0)
+        slot = (slot + 1) % place_slot_count;
+    return &place_slots[slot];
+}
+
+static uint32_t number_of_text(const char *text)
+{
+    if (2 * place_count >= place_slot_count) {
+        place_slot_count = place_slot_count ? 2 * place_slot_count : 256;
+        free(place_slots);
+        place_slots = must(calloc(place_slot_count, sizeof *place_slots));
+        for (size_t number = 0; number < place_count; number++)
+            *slot_of_place(places[number]) = (uint32_t)number + 1;
+    }
+    uint32_t *slot = slot_of_place(text);
+    if (*slot == 0) {
+        places = grown(places, place_count, &place_room, sizeof *places);
+        places[place_count++] = must(strdup(text));
+        *slot = (uint32_t)place_count;
+    }
+    return *slot;
+}
+
+void add_place(const struct modules *modules, const struct unit *first)
+{
+    static char text[TEXT_BYTES];
+    uint64_t calls[MOST_INSIDE];
+    struct call call;
+    unsigned count = take_up(first, calls);
+    if (!telling_call(modules, calls, count, &call))
+        return;
+    const char *function = function_of(&call.frame);
+    char end[32];
+    text[0] = 0;
+    append_clean(text, sizeof text, function ? function : "?", "");
+    strcat(text, " ");
+    append_clean(text, sizeof text - sizeof end,
+                 call.frame.line ? call.frame.file : call.module->path, "");
+    if (call.frame.line)
+        snprintf(end, sizeof end, ":%u", call.frame.line);
+    else
+        snprintf(end, sizeof end, "+0x%" PRIx64, call.offset);
+    strcat(text, end);
+    const struct told_place *place = (const struct told_place *)&first[1];
+    numbered[place->number % PLACE_NUMBERS] = number_of_text(text);
+}
+
+/* Gives the number that the file has for a place of the process, or 0. */
+uint32_t place_numbered(unsigned number)
+{
+    return numbered[number % PLACE_NUMBERS];
+}
+
+static struct taken *slot_of_taken(struct taken *all, size_t room, const struct class *class,
+                                   uint32_t place)
+{
+    size_t slot = ((uintptr_t)class / 16 * 31 + place) * UINT64_C(0x9e3779b97f4a7c15) >> 20;
+    for (slot %= room; all[slot].class; slot = (slot + 1) % room)
+        if (all[slot].class == class && all[slot].place == place)
+            break;
+    return &all[slot];
+}
+
+static void grow_taken(void)
+{
+    size_t room = taken_room ? 2 * taken_room : 1024;
+    struct taken *all = must(calloc(room, sizeof *all));
+    for (size_t slot = 0; slot < taken_room; slot++)
+        if (taken[slot].class)
+            *slot_of_taken(all, room, taken[slot].class, taken[slot].place) = taken[slot];
+    free(taken);
+    taken = all;
+    taken_room = room;
+}
+
+/* Says that a line of the stream was written, and the place at which it takes a lock of a class. */
+void end_line(uint32_t place, const struct class *class)
+{
+    line_count++;
+    if (!numbers)
+        return;
+    unsigned char bytes[4] = {(unsigned char)place, (unsigned char)(place >> 8),
+                              (unsigned char)(place >> 16), (unsigned char)(place >> 24)};
+    fwrite(bytes, 1, number_bytes, numbers);
+    if (!place || !class)
+        return;
+    if (2 * taken_count >= taken_room)
+        grow_taken();
+    struct taken *slot = slot_of_taken(taken, taken_room, class, place);
+    taken_count += slot->class == NULL;
+    *slot = (struct taken){class, place, slot->count + 1};
+}
+
+/* Begins the file, after all places were asked for. The numbers of the lines come last in it, so they
+   stand elsewhere until the stream has ended. */
+bool open_places(const char *directory)
+{
+    char path[4096];
+    snprintf(path, sizeof path, "%s/numbers", directory);
+    numbers = fopen(path, "w+e");
+    number_bytes = told_count < 65535 ? 2 : 4;
+    return numbers != NULL;
+}
+
+static int by_class_and_count(const void *left, const void *right)
+{
+    const struct taken *a = left, *b = right;
+    int order = strcmp(a->class->name, b->class->name);
+    if (order)
+        return order;
+    if (a->count != b->count)
+        return a->count > b->count ? -1 : 1;
+    return a->place < b->place ? -1 : a->place > b->place;
+}
+
+static void write_text(FILE *file)
+{
+    size_t kept = 0;
+    bool *is_used = must(calloc(place_count + 1, sizeof *is_used));
+    fprintf(file, "places 1\nlines %" PRIu64 " bytes %u\n", line_count, number_bytes);
+    for (size_t slot = 0; slot < taken_room; slot++) {
+        if (!taken[slot].class)
+            continue;
+        is_used[taken[slot].place] = true;
+        taken[kept++] = taken[slot];
+    }
+    for (size_t number = 0; number < place_count; number++)
+        if (is_used[number + 1])
+            fprintf(file, "place %zu %s\n", number + 1, places[number]);
+    if (kept)
+        qsort(taken, kept, sizeof *taken, by_class_and_count);
+    for (size_t number = 0; number < kept; number++)
+        fprintf(file, "taken %s %" PRIu32 " %" PRIu64 "\n", taken[number].class->name,
+                taken[number].place, taken[number].count);
+    fprintf(file, "numbers\n");
+    free(is_used);
+}
+
+/* Writes the file beside the stream. */
+bool close_places(const char *stream_path)
+{
+    static char bytes[1 << 16];
+    char path[4096];
+    size_t count;
+    snprintf(path, sizeof path, "%s.places", stream_path);
+    FILE *file = fopen(path, "we");
+    if (!file)
+        return false;
+    write_text(file);
+    rewind(numbers);
+    while ((count = fread(bytes, 1, sizeof bytes, numbers)) > 0)
+        fwrite(bytes, 1, count, file);
+    bool whole = !ferror(file) && !ferror(numbers);
+    fclose(numbers);
+    return fclose(file) == 0 && whole;
+}
