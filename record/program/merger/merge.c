@@ -11,7 +11,7 @@
 #include <stdarg.h>
 #include <stdlib.h>
 #include <string.h>
-#include <sys/mman.h>
+#include <sys/stat.h>
 
 #include "merger.h"
 
@@ -94,6 +94,12 @@ static void replay_all(struct recording *all, size_t count, const char *label)
     write_classes();
 }
 
+static bool is_file(FILE *file)
+{
+    struct stat status;
+    return fstat(fileno(file), &status) == 0 && S_ISREG(status.st_mode);
+}
+
 int main(int argument_count, char **arguments)
 {
     struct recording *all;
@@ -113,7 +119,7 @@ int main(int argument_count, char **arguments)
         return 2;
     }
     setvbuf(stream, NULL, _IOFBF, 1 << 20);
-    bool wants_places = strcmp(arguments[4], "1") == 0;
+    bool wants_places = strcmp(arguments[4], "1") == 0 && is_file(stream);
     survey(all, count);
     find_frames();
     bool has_places = wants_places && open_places(arguments[1]);
@@ -124,8 +130,8 @@ int main(int argument_count, char **arguments)
         say("%s: the stream couldn't be written", arguments[2]);
         return 2;
     }
-    if (wants_places && !(has_places && close_places(arguments[2])))
-        say("%s.places couldn't be written", arguments[2]);
+    if (!(wants_places ? has_places && close_places(arguments[2]) : remove_places(arguments[2])))
+        say("%s.places couldn't be %s", arguments[2], wants_places ? "written" : "removed");
     say_ends(all, count);
     say_limits(bytes);
     say_classes();

@@ -215,6 +215,7 @@ void add_place(const struct modules *modules, const struct unit *first);
 uint32_t place_numbered(unsigned number);
 void end_line(uint32_t place, const struct class *class);
 bool close_places(const char *stream_path);
+bool remove_places(const char *stream_path);
 
 /* trace.c */
 void begin_writer(const char *label, size_t process);

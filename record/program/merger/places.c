@@ -7,6 +7,7 @@
 #include <inttypes.h>
 #include <stdlib.h>
 #include <string.h>
+#include <unistd.h>
 
 #include "merger.h"
 
@@ -210,6 +211,14 @@ static void write_text(FILE *file)
                 taken[number].place, taken[number].count);
     fprintf(file, "numbers\n");
     free(is_used);
+}
+
+/* Removes the file of an earlier recording, which would tell of other lines. */
+bool remove_places(const char *stream_path)
+{
+    char path[4096];
+    snprintf(path, sizeof path, "%s.places", stream_path);
+    return unlink(path) == 0 || errno == ENOENT || errno == ENOTDIR;
 }
 
 /* Writes the file beside the stream. */

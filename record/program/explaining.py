@@ -1,0 +1,105 @@
+"""What `explain` has to say of planted programs and other reports."""
+
+import os
+import re
+import signal
+import subprocess
+
+from planting import EXPLAIN, Planted, call, lockcheck, must, record
+
+def witness(line, lock, place, since, held, place_of_held):
+    """What `explain` says of a witness of the pairs."""
+    return (f"    pairs-1:{line} takes {lock} in {place}\n"
+            f"        and holds {held} since line {since}, taken in {place_of_held}\n")
+
+
+def both_ways(forth, back, lock, other):
+    """What `explain` says of the two violations of the pairs, by the places of the first and the second
+    lock where one is taken after the other."""
+    return (f"inversion {lock} -> {other} at pairs-1:12 via {other} -> {lock}\n"
+            + witness(12, other, forth[1], 11, lock, forth[0])
+            + f"inversion {other} -> {lock} at pairs-1:16 via {lock} -> {other}\n"
+            + witness(16, lock, back[1], 15, other, back[0]))
+
+
+SOURCE = "../planted"
+# The symbol of Pair::open(int), and a place in the program, whose path has an address behind it.
+OPEN = "pairs:_ZN4Pair4openEi+HEX"
+EXPLAINED = [
+    ("recursion.c", None, f"""\
+recursion new_lock:recursion.c:18 at recursion-1:4
+    recursion-1:4 takes new_lock:recursion.c:18 in take_both at {SOURCE}/planted.h:21
+        and holds new_lock:recursion.c:18 since line 3, taken in take_both at {SOURCE}/planted.h:20
+new_lock:recursion.c:18
+    initialised in new_lock at {SOURCE}/recursion.c:18
+"""),
+    ("pairs.cc", None,
+     both_ways((f"Pair::forth() at {SOURCE}/pairs.cc:55", f"Pair::forth() at {SOURCE}/pairs.cc:56"),
+               (f"Pair::back() at {SOURCE}/pairs.cc:61", f"Pair::back() at {SOURCE}/pairs.cc:62"),
+               "Pair::open:pairs.cc:44", "Pair::open:pairs.cc:48") + f"""\
+Pair::open:pairs.cc:44
+    first locked in Pair::open(int) at {SOURCE}/pairs.cc:44
+Pair::open:pairs.cc:48
+    first locked in Pair::open(int) at {SOURCE}/pairs.cc:48
+"""),
+    # Without debug information there are functions where there are symbols, and no lines.
+    ("pairs.cc", ["-O0", "-g0"],
+     both_ways(("Pair::forth() at ../pairs+HEX",) * 2, ("Pair::back() at ../pairs+HEX",) * 2,
+               OPEN, OPEN)
+     + f"{OPEN}\n    first locked in Pair::open(int) at ../pairs+HEX\n" * 2),
+]
+
+
+def explained(directory, name, flags=None):
+    """Gives what `explain` says of a planted program's report, compiled anew where there are flags."""
+    planted = Planted(name)
+    program = os.path.join(directory, f"{planted.name}-0", planted.name)
+    if flags:
+        program = os.path.join(directory, "explained", planted.name)
+        os.makedirs(os.path.dirname(program), exist_ok=True)
+        planted.compile(flags, program)
+        record(program + ".trace", planted.name, [program])
+    with open(program + ".trace", encoding="ascii") as stream, \
+            open(program + ".report", "w", encoding="ascii") as report:
+        report.write(lockcheck(stream.read()).stdout)
+    return call([EXPLAIN, program + ".report"])
+
+
+def check_explain(directory):
+    """Functions and lines are those that the source has, or none; also in C++."""
+    for name, flags, expected in EXPLAINED:
+        answer = explained(directory, name, flags)
+        expected = re.escape(expected).replace(r"\.\.", r"\S*").replace("HEX", "0x[0-9a-f]+")
+        must(re.fullmatch(expected, answer.stdout),
+             f"explain {name} {flags}: {answer.stdout}{answer.stderr}")
+
+
+def check_explain_nameless(directory):
+    """Where there are no symbols no function is said: the nearest ones never ran."""
+    answer = explained(directory, "pairs.cc", ["-O0", "-g0", "-s"])
+    functions = set(re.findall(r" in (.*) at \S*/pairs\+0x[0-9a-f]+$", answer.stdout, re.M))
+    must(functions == {"?"}, f"explain without symbols: {answer.stdout}{answer.stderr}")
+
+
+def check_explain_ends(directory):
+    """A name of which there is no more is there once, a file that isn't there is named, and who reads
+    may stop early."""
+    report = os.path.join(directory, "kernel.report")
+    with open(report, "w", encoding="ascii") as lines:
+        lines.write("traces 1 refused 0 events 8 classes 2 dependencies 2\n"
+                    "inversion &a->lock -> &b at k:4 via &b -> &a->lock\n"
+                    "inversion &b -> &a->lock at k:8 via &a->lock -> &b\nviolations 2\n")
+    answer = call([EXPLAIN, report])
+    must(answer.stdout == "&a->lock\n&b\n", f"explain of a kernel's report: {answer.stdout}")
+    none = os.path.join(directory, "none.report")
+    answer = call([EXPLAIN, none])
+    must((answer.returncode, answer.stderr) ==
+         (2, f"record/program/explain: {none}: No such file or directory\n"),
+         f"explain of no file: {answer.returncode} {answer.stderr}")
+    reader, writer = os.pipe()
+    os.close(reader)
+    answer = subprocess.run([EXPLAIN, report, report], stdout=writer, stderr=subprocess.PIPE,
+                            timeout=120, check=False)
+    os.close(writer)
+    must((answer.returncode, answer.stderr) == (-signal.SIGPIPE, b""),
+         f"explain to nobody: {answer.returncode} {answer.stderr}")
