@@ -25,6 +25,7 @@ def both_ways(forth, back, lock, other):
 SOURCE = "../planted"
 # The symbol of Pair::open(int), and a place in the program, whose path has an address behind it.
 OPEN = "pairs:_ZN4Pair4openEi+HEX"
+TAKE_BOTH = "take_both(pthread_mutex_t*, pthread_mutex_t*)"
 EXPLAINED = [
     ("recursion.c", None, f"""\
 recursion new_lock:recursion.c:18 at recursion-1:4
@@ -41,6 +42,19 @@ Pair::open:pairs.cc:44
     first locked in Pair::open(int) at {SOURCE}/pairs.cc:44
 Pair::open:pairs.cc:48
     first locked in Pair::open(int) at {SOURCE}/pairs.cc:48
+"""),
+    # A variable, whose symbol isn't its name.
+    ("links.cc", ["-O0"], f"""\
+inversion conn_init:links.cc:28 -> links:_ZL5table at links-1:8 via links:_ZL5table -> conn_init:links.cc:28
+    links-1:8 takes links:_ZL5table in {TAKE_BOTH} at {SOURCE}/planted.h:21
+        and holds conn_init:links.cc:28 since line 7, taken in {TAKE_BOTH} at {SOURCE}/planted.h:20
+inversion links:_ZL5table -> conn_init:links.cc:28 at links-1:4 via conn_init:links.cc:28 -> links:_ZL5table
+    links-1:4 takes conn_init:links.cc:28 in {TAKE_BOTH} at {SOURCE}/planted.h:21
+        and holds links:_ZL5table since line 3, taken in {TAKE_BOTH} at {SOURCE}/planted.h:20
+conn_init:links.cc:28
+    initialised in conn_init at {SOURCE}/links.cc:28
+links:_ZL5table
+    is the variable table of ../links
 """),
     # Without debug information there are functions where there are symbols, and no lines.
     ("pairs.cc", ["-O0", "-g0"],

@@ -138,12 +138,20 @@ struct class *class_of_static(const struct modules *modules, uint64_t address)
 {
     static char name[TEXT_BYTES], places[TEXT_BYTES];
     const struct module *module = module_at(modules, address);
+    uint64_t into;
     if (!module)
         return NULL;
     name[0] = 0;
     strcpy(places, "static");
     append_place(name, module, address - module->load, 0);
     append_file(places, module, address - module->load);
+    const char *symbol = symbol_at(module->binary, address - module->load, &into);
+    if (symbol) {
+        append(places, " ");
+        append_clean(places, TEXT_BYTES, symbol, "");
+        if (into)
+            append_offset(places, into);
+    }
     cut_name(name, MOST_NAME);
     return class_named(name, places, TOLD_BY_STATIC);
 }
