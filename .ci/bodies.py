@@ -1,0 +1,154 @@
+"""Wrong bodies that meet every contract, side by side with the right one in a copy of a crate, and what such
+a copy calls."""
+import os
+import re
+
+from edits import Wrong, functions_of, read
+
+FOLDER = "must-fail-tests"
+# What the copy of the tests and of the functions with wrong bodies calls.
+TRIAL = """\
+#![tactic(auto)]
+use std::alloc::Global;
+use std::process::Abort;
+
+unsafe extern "C" {
+    safe fn trial_choose(body: u32);
+    safe fn trial_body() -> u32;
+    safe fn trial_each(last: u32) -> u32;
+}
+
+pub fn is_body(body: u32) -> bool {
+    trial_body() == body
+}
+
+fn takes(alloc: Global, count: u32) -> bool {
+    (0..count).all(|_| std::boxed::Box::new(alloc, 0u8).is_ok())
+}
+
+/// Lets the allocation pass that is refused, and chooses a body.
+pub fn choose<R: Abort>(rt: &R, alloc: Global, count: u32, body: u32) {
+    if count > 0 {
+        assert!(rt; takes(alloc, count - 1), "an allocation was refused too early");
+        assert!(rt; !takes(alloc, 1), "an allocation was not counted");
+    }
+    trial_choose(body);
+}
+
+/// In a process of its own for each number from 1 to the last, that number, with so many allocations left
+/// that the last of them is refused; then 0 here, with nothing refused. If a process fails, so does this one.
+pub fn refuse_each<R: Abort>(rt: &R, alloc: Global, count: u32, last: u32) -> u32 {
+    let number = trial_each(last);
+    if number == 0 {
+        choose(rt, alloc, count, 0);
+    } else {
+        assert!(rt; takes(alloc, count - number), "an allocation was refused too early");
+    }
+    number
+}
+
+/// Sees that the test took fewer allocations than the last number.
+pub fn end<R: Abort>(rt: &R, alloc: Global, number: u32, last: u32) {
+    assert!(rt; number < last || !takes(alloc, last), "it takes too many allocations");
+}
+"""
+TRIAL_C = """\
+#include <fcntl.h>
+#include <stdint.h>
+#include <stdio.h>
+#include <sys/wait.h>
+#include <unistd.h>
+
+static uint32_t chosen;
+
+void trial_choose(uint32_t body) { chosen = body; }
+
+uint32_t trial_body(void) { return chosen; }
+
+uint32_t trial_each(uint32_t last) {
+    int failed = 0;
+    for (uint32_t number = 1; number <= last; number++) {
+        int status = -1;
+        pid_t child = fork();
+        if (child == 0) {
+            dup2(open("/dev/null", O_WRONLY), 1);
+            return number;
+        }
+        if (child < 0 || waitpid(child, &status, 0) != child || status != 0) {
+            dprintf(2, "with allocation %u refused\\n", number);
+            failed = 1;
+        }
+    }
+    if (failed) _exit(1);
+    return 0;
+}
+"""
+
+
+class Body:
+    """A wrong body: the files that it changes, by their path in its crate, and the tests that have to fail."""
+
+    def __init__(self, root, edit):
+        self.edit = os.path.relpath(edit, root)
+        self.crate = self.edit.split(os.sep)[1]
+        self.changed, self.wanted, tested = {}, set(), set()
+        file = old = None
+        for line in read(edit).splitlines():
+            word, _, rest = line.partition(": ")
+            if word == "file":
+                file = rest
+                self.changed.setdefault(file, read(f"{root}/crates/{self.crate}/{file}"))
+            elif word == "old":
+                old = rest
+            elif word == "new":
+                if self.changed[file].count(old) != 1:
+                    raise Wrong(f"{self.edit}: an 'old:' text is not in its file just once")
+                self.changed[file] = self.changed[file].replace(old, rest)
+            elif word == "fails":
+                crate, test = rest.split()
+                tested.add(crate)
+                self.wanted.add(test)
+        if not self.changed or len(tested) != 1:
+            raise Wrong(f"{self.edit}: it needs a pair of 'old:' and 'new:', and 'fails:' lines of one crate")
+        [self.tested] = tested
+
+    def bodies(self, path, lines, functions):
+        """The bodies of functions that it changes in a file, by the numbers of their first line and of the line
+        after their last."""
+        found = {}
+        changed = self.changed[path].splitlines()
+        for number in (it for it, line in enumerate(lines) if changed[it] != line):
+            where = next(((it.head + 1, it.last) for it in functions if it.head < number < it.last), None)
+            if where is None:
+                raise Wrong(f"{self.edit}: it changes more than the bodies of functions")
+            found[where] = changed[slice(*where)]
+        return found
+
+
+def with_bodies(file, path, bodies):
+    """A file in which each function that has wrong bodies has a branch for each."""
+    lines = read(file).splitlines()
+    functions = functions_of(file) if bodies else []
+    branches = {}
+    for number, body in bodies:
+        for where, changed in body.bodies(path, lines, functions).items():
+            branches.setdefault(where, []).append((number, changed))
+    for (start, end), wrong in sorted(branches.items(), reverse=True):
+        branched = []
+        for number, changed in wrong:
+            branched += [f"if ld_trial::is_body({number}) {{", *changed, "} else"]
+        lines[start:end] = [*branched, "{", *lines[start:end], "}"]
+    return "\n".join(lines) + "\n"
+
+
+def number_at(text, line):
+    """The number of the body that has this line in such a file, or None."""
+    begins = [it for it in text.splitlines()[:line] if it == "} else" or it.startswith("if ld_trial::is_body(")]
+    number = re.search(r"\((\d+)\)", begins[-1]) if begins else None
+    return int(number[1]) if number else None
+
+
+def all_edits(root):
+    for at, _, names in sorted(os.walk(f"{root}/crates")):
+        if os.path.basename(at) == FOLDER:
+            yield from (f"{at}/{name}" for name in sorted(names))
