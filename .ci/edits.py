@@ -181,6 +181,11 @@ def edited(edits):
     return {file: "\n".join(lines) for file, lines in texts.items()}
 
 
+def weight(goal):
+    """What a goal shows: most, that values make it false; then, that an answer to it doesn't fit any more."""
+    return 0 if "values at which this goal is false" in goal else 1 if goal.startswith("proofs/") else 2
+
+
 class Said:
     """What `rt check --allow-holes` said of some edits: the goals that each left open in its own functions,
     what is wrong by a name alone, and the goals of functions that none of them changes."""
@@ -215,6 +220,13 @@ class Said:
         owners = [it for it in self.edits if part == "proofs" and it.has_proofs(path)]
         is_name = NAMES.search(why)
         self.add(owners, self.names if is_name else self.goals, f"{part}/{path}:{line}: {why}", is_name)
+
+    def shown(self, edit):
+        """The goal that tells most of an edit, and whether it may be open for want of an answer alone, since
+        goals of its function have other names than before."""
+        goal = min(self.goals[edit], key=weight)
+        is_anew = self.names[edit] and weight(goal) == 2
+        return f"{goal} (goals of this function are named anew)" if is_anew else goal
 
     def add(self, owners, to, goal, is_expected):
         if len(self.edits) == 1:
