@@ -13,6 +13,16 @@ EVENT = re.compile(
 NO_NAME = re.compile(r'.{16}-\d+ .*\[\d{3,}\] (\S{5}) +\d+(?:\.\d+)?: .*\n').fullmatch
 NO_FLAGS = re.compile(r'.{16}-\d+ .*\[\d{3,}\] +\d+(?:\.\d+)?: .*\n').fullmatch
 OTHER_WIDTH = re.compile(r'.{16}-\d+ .*\[\d{3,}\] (\S+) +\d+(?:\.\d+)?: .*\n').fullmatch
+# The texts of two programs that read the same events. `trace-cmd report` begins with a line of its own,
+# and has two blanks or more behind an event's name; `perf script` has the system before that name.
+TRACE_CMD = re.compile(
+    r'(?:cpus=\d+|version = \d+|.{0,30}-\d+ +(?:\[\d{3,}\]|\d+[.dX][.N][.hsH]\S*) +\d+\.\d+: '
+    r'[^\s:]+: {2,}.*)\n').fullmatch
+PERF = re.compile(
+    r' *\S.{0,30} \d+(?:/\d+)? +(?:\[\d{3,}\]|\d+) +\d+\.\d+: +(?:\d+ +)?[^\s:]+:[^\s:]+: .*\n'
+    ).fullmatch
+NO_SOFTIRQS = ('the text of `%s`, which does not tell whether softirqs are disabled: record with '
+               '`record start` and `record stop`, or give %s')
 # The end of one line's columns. Inside another line it shows that bytes between them are missing.
 COLUMNS_INSIDE = re.compile(r'\[\d{3,}\] \S{5} +\d+(?:\.\d+)?: ').search
 LOSS = re.compile(r'CPU:\d+ \[LOST (?:\d+ )?EVENTS\]\n|##### CPU \d+ buffer started ####\n').fullmatch
@@ -68,6 +78,11 @@ def fault(line):
     """Why a line is none of a recording's."""
     if not line.strip():
         return 'an empty line'
+    if TRACE_CMD(line):
+        return NO_SOFTIRQS % ('trace-cmd report', 'what `trace-cmd show` prints after '
+                              '`trace-cmd start` and `trace-cmd stop`')
+    if PERF(line):
+        return NO_SOFTIRQS % ('perf script', "tracefs' file `trace`")
     if NO_NAME(line):
         return 'no name of an event: the text of another tracer than nop? ' + quote(line.strip())
     if NO_FLAGS(line):

@@ -8,6 +8,26 @@ from texts import FOLDER, HEADER, acquire, file_with, irq, line, release, run, s
 
 A, B = 0x1000, 0x2000
 CONVERT = os.path.join(FOLDER, 'convert')
+# What `trace-cmd report` and `trace-cmd report -l` of trace-cmd 3.1.6 print of a lock that is acquired
+# with softirqs disabled, and then with both kinds of interrupts disabled: the flags don't tell the first.
+TRACE_CMD = '''\
+cpus=1
+              sh-28    [000]     0.580005: lock_acquire:         0xffff888003d7d600 &p->pi_lock
+              sh-28    [000]     0.580006: lock_release:         0xffff888003d7d600 &p->pi_lock
+              sh-28    [000]     0.580007: lock_acquire:         0xffff888003d7d600 &p->pi_lock
+'''
+TRACE_CMD_LATENCY = '''\
+cpus=1
+      sh-28      0...11     0.580005: lock_acquire:         0xffff888003d7d600 &p->pi_lock
+      sh-28      0...1.     0.580006: lock_release:         0xffff888003d7d600 &p->pi_lock
+      sh-28      0d..11     0.580007: lock_acquire:         0xffff888003d7d600 &p->pi_lock
+'''
+# What `perf script`, `perf script -L` and `perf script --ns` of perf 6.1 print of the same: no flags.
+PERF = '''\
+              sh    28 [000]     0.580002: lock:lock_acquire: 0xffff888003d7d600 &p->pi_lock
+      sh    28   0     0.580002: lock:lock_acquire: 0xffff888003d7d600 &p->pi_lock
+              sh    28 [000]     0.580002000: lock:lock_acquire: 0xffff888003d7d600 &p->pi_lock
+'''
 GOOD = HEADER + acquire('a', A)  # the header has 12 lines
 
 
@@ -63,6 +83,15 @@ class Refused(unittest.TestCase):
         self.refused(line('schedule <-worker_thread'), 1, 'another tracer')
         self.refused(' 0)   1.250 us    |  schedule();\n', 1, 'no line of a recording')
         self.refused(GOOD + "t-1       0d.... 1us : schedule\n", 14, 'no line of a recording')
+
+    def test_the_texts_of_other_programs(self):
+        for text in TRACE_CMD, TRACE_CMD_LATENCY:
+            self.refused(text, 1, 'the text of `trace-cmd report`')
+            self.refused(text, 1, 'trace-cmd show')
+            self.refused(text.partition('\n')[2], 1, 'the text of `trace-cmd report`')
+        for text in PERF.splitlines(keepends=True):
+            self.refused(text, 1, 'the text of `perf script`')
+            self.refused(HEADER + text, 13, "tracefs' file `trace`")
 
     def test_no_column_of_flags(self):
         self.refused(acquire('a', A).replace('] ..... ', '] '), 1, 'irq-info')

@@ -334,9 +334,10 @@ static bool read_head(struct reader *reader, struct unit_lines *unit, const unsi
 void find_lines(struct binary *binary)
 {
     struct reader reader = {.binary = binary};
-    struct bytes all = section_of(binary, ".debug_line");
-    reader.strings = section_of(binary, ".debug_str");
-    reader.line_strings = section_of(binary, ".debug_line_str");
+    const struct binary *debug = debug_file_of(binary);
+    struct bytes all = section_of(debug, ".debug_line");
+    reader.strings = section_of(debug, ".debug_str");
+    reader.line_strings = section_of(debug, ".debug_line_str");
     while (all.at && all.end - all.at > 4) {
         struct unit_lines unit = {.offset_bytes = 4};
         const unsigned char *steps = NULL;

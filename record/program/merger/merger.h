@@ -162,6 +162,9 @@ struct bytes section_of(const struct binary *binary, const char *name);
 uint64_t called_before(const struct binary *binary, uint64_t address);
 const char *symbol_at(const struct binary *binary, uint64_t address, uint64_t *offset);
 
+/* debug.c */
+const struct binary *debug_file_of(const struct binary *binary);
+
 /* lines.c */
 void find_lines(struct binary *binary);
 
