@@ -88,6 +88,45 @@ def check_explain(directory):
              f"explain {name} {flags}: {answer.stdout}{answer.stderr}")
 
 
+JOINED = f"""\
+inversion two-runs:A -> two-runs:B at two-runs-1:4 via two-runs:B -> two-runs:A
+    two-runs-1:4 takes two-runs:B in take_both at {SOURCE}/planted.h:21
+        and holds two-runs:A since line 3, taken in take_both at {SOURCE}/planted.h:20
+inversion two-runs:B -> two-runs:A at two-runs.2-1:12 via two-runs:A -> two-runs:B
+    two-runs.2-1:12 takes two-runs:A in take_both at {SOURCE}/planted.h:21
+        and holds two-runs:B since line 11, taken in take_both at {SOURCE}/planted.h:20
+two-runs:A
+    is the variable A of ../two-runs
+two-runs:B
+    is the variable B of ../two-runs
+"""
+
+
+def check_explain_joined(directory):
+    """Of streams that were put together each has its own places. A file of these that was cut off is
+    named, and the places of its stream are left out."""
+    program = os.path.join(directory, "two-runs-0", "two-runs")
+    streams = [os.path.join(directory, f"joined.{number}") for number in (1, 2)]
+    text = ""
+    for stream, label, word in zip(streams, ("two-runs", "two-runs.2"), ("forth", "back")):
+        record(stream, label, [program, word])
+        with open(stream, encoding="ascii") as lines:
+            text += lines.read()
+    report = os.path.join(directory, "joined.report")
+    with open(report, "w", encoding="ascii") as lines:
+        lines.write(lockcheck(text).stdout)
+    answer = call([EXPLAIN, report, *streams])
+    expected = re.escape(JOINED).replace(r"\.\./", r"\S*/")
+    must(re.fullmatch(expected, answer.stdout), f"explain of two streams: {answer.stdout}")
+    places = streams[0] + ".places"
+    os.truncate(places, os.path.getsize(places) - 1)
+    answer = call([EXPLAIN, report, *streams])
+    must(answer.stderr == f"record/program/explain: {places}: no such file as record/program/run "
+         "writes, or cut off\n", f"explain with places that were cut: {answer.stderr}")
+    rest = re.escape("\n".join(JOINED.splitlines()[3:]) + "\n").replace(r"\.\./", r"\S*/")
+    must(re.fullmatch(rest, answer.stdout), f"explain with places that were cut: {answer.stdout}")
+
+
 def check_explain_nameless(directory):
     """Where there are no symbols no function is said: the nearest ones never ran."""
     answer = explained(directory, "pairs.cc", ["-O0", "-g0", "-s"])
