@@ -52,7 +52,7 @@ inversion links:_ZL5table -> conn_init:links.cc:28 at links-1:4 via conn_init:li
     links-1:4 takes conn_init:links.cc:28 in {TAKE_BOTH} at {SOURCE}/planted.h:21
         and holds links:_ZL5table since line 3, taken in {TAKE_BOTH} at {SOURCE}/planted.h:20
 conn_init:links.cc:28
-    initialised in conn_init at {SOURCE}/links.cc:28
+    initialised in conn_init.. at {SOURCE}/links.cc:28
 links:_ZL5table
     is the variable table of ../links
 """),
