@@ -85,6 +85,7 @@ impl Reach {
         ensures classes { OnOk result (classes ≤ self.new.spare) }
         ensures kept { self.old.spare ≤ self.new.spare }
         ensures same { self.new ≡ record self.old { spare = self.new.spare } }
+        ensures each_once { self.new.expanded ≡ count_by (λ mark. mark) self.new.marks }
         ensures exact { (edges : List Edge) (seeds : List ℕ) → IsReach (IsEdge edges) seeds self.old
             → IsReach (IsEdge edges) seeds self.new }
     {
@@ -100,6 +101,8 @@ impl Reach {
     pub fn add_class(&mut self)
         requires { 0 < self.old.spare }
         ensures class { self.new ≡ with_unreached self.old }
+        ensures each_once { self.new.expanded ≡ count_by (λ mark. mark) self.new.marks }
+        ensures stays { (x : ℕ) → mark_of self.old x ≡ true → mark_of self.new x ≡ true }
         ensures exact { (edges : List Edge) (seeds : List ℕ) → IsReach (IsEdge edges) seeds self.old
             → IsReach (IsEdge edges) seeds self.new }
     {
@@ -119,6 +122,7 @@ impl Reach {
         ensures spare { self.new.spare ≡ self.old.spare }
         ensures front { take (length self.old.reached) self.new.reached ≡ self.old.reached }
         ensures stays { (x : ℕ) → mark_of self.old x ≡ true → mark_of self.new x ≡ true }
+        ensures each_once { self.new.expanded ≡ count_by (λ mark. mark) self.new.marks }
     {
         if self.marks[c as usize] {
             return;
@@ -157,6 +161,7 @@ impl Reach {
         ensures spare { self.new.spare ≡ self.old.spare }
         ensures front { take (length self.old.reached) self.new.reached ≡ self.old.reached }
         ensures stays { (x : ℕ) → mark_of self.old x ≡ true → mark_of self.new x ≡ true }
+        ensures each_once { self.new.expanded ≡ count_by (λ mark. mark) self.new.marks }
     {
         if !self.marks[a as usize] {
             return;

@@ -1,8 +1,8 @@
 -- What is reached, as edges, classes and bits come.
-use Rattle.std.proofs.Common.{◌≡◌, ◌≢◌, ◌↔◌, ◌⊎◌, inl, inr, ◌++◌, ◌∷◌, ◌∙◌, [], List, ℕ, Bool, true, false, Option, None, Some, is_some, MatchOption, Contains}
+use Rattle.std.proofs.Common.{◌≡◌, ◌≢◌, ◌↔◌, ◌⊎◌, inl, inr, ◌+◌, ◌++◌, ◌∷◌, ◌∙◌, [], List, ℕ, Bool, true, false, count_by, Option, None, Some, is_some, MatchOption, Contains}
 use Rattle.std.proofs.Common.{length, take, get_or, refl, sym, ap, subst, arith}
 use Rattle.std.proofs.lemmas.Bool.{true≢false}
-use Rattle.std.proofs.lemmas.List.{length-take, take-take}
+use Rattle.std.proofs.lemmas.List.{length-take, length_push, take-take}
 use Rattle.std.proofs.lemmas.List.Elements.{Contains-append_left, Contains-push, Contains-push_cases}
 use Rattle.std.proofs.Math.Seq.{take-length}
 use Rattle.ld_class.specs.Names.{PlainClass}
@@ -10,7 +10,7 @@ use Rattle.ld_class.specs.declared.usage.Usage.{Usage}
 use Rattle.ld_class.specs.Usage.{has_bit, no_bits}
 use Rattle.ld_graph.specs.declared.Edge.{Edge}
 use Rattle.ld_graph.specs.Edges.{IsEdge, PlainGraph, with_spares}
-use Rattle.ld_graph.specs.Reach.{IsReach, IsSource, PlainReach, source_of}
+use Rattle.ld_graph.specs.Reach.{IsReach, IsSource, PlainReach, mark_of, source_of, with_unreached}
 use Rattle.ld_trace.specs.declared.event.State.{State}
 use Rattle.ld_trace.specs.declared.event.State.TheVariants.{Hard, Soft}
 use Rattle.ld_rules.specs.Usage.{Bit, bit_of, usage_of}
@@ -21,7 +21,7 @@ use Rattle.ld_union.specs.declared.states.PerState.{PerState}
 use Rattle.ld_union.specs.declared.usage.UsageRow.{UsageRow}
 use Rattle.ld_union.specs.Inner.Bits.{HasBitAt, new_bit}
 use Rattle.ld_union.specs.Inner.News.{TellsBits}
-use Rattle.ld_union.specs.Inner.Reached.{AreInFront, HaveClasses, IsReachOf, IsSeeded, IsSourceAt, StayExact, reached_by}
+use Rattle.ld_union.specs.Inner.Reached.{AreFurther, ExpandsOnce, HaveClasses, IsFurther, IsReachOf, IsSeeded, IsSourceAt, StayExact, expanded_by, marks_by, reached_by}
 use Rattle.ld_union.specs.Inner.States.{of_state}
 use Rattle.ld_union.specs.Inner.Union.{IsUnion, edges_of}
 use Rattle.ld_union.specs.Usage.{bits_of}
@@ -33,25 +33,62 @@ front-then old mid new first next =
     ∙ ap (take (length old)) next
     ∙ first
 
-pub in_front-same : (reach : PerState PlainReach) → AreInFront reach reach
-in_front-same reach state = take-length (of_state reach state).reached
+pub further-same : (reach : PerState PlainReach) → AreFurther reach reach
+further-same reach state = record { front = take-length (of_state reach state).reached; stays = λ class on. on }
 
-pub in_front-equal : (old new : PerState PlainReach) → new.hard.reached ≡ old.hard.reached → new.soft.reached ≡ old.soft.reached → AreInFront old new
-in_front-equal old new hard soft Hard = ap (take (length old.hard.reached)) hard ∙ take-length old.hard.reached
-in_front-equal old new hard soft Soft = ap (take (length old.soft.reached)) soft ∙ take-length old.soft.reached
+-- of one state
+further-spare : (old new : PlainReach) → new ≡ record old { spare = new.spare } → IsFurther old new
+further-spare old new same = record {
+  front = ap (λ (r : PlainReach). take (length old.reached) r.reached) same ∙ take-length old.reached;
+  stays = λ class on. ap (λ (r : PlainReach). mark_of r class) same ∙ on;
+}
 
-pub in_front-then : (old mid new : PerState PlainReach) → AreInFront old mid → AreInFront mid new → AreInFront old new
-in_front-then old mid new first next state =
-    front-then (of_state old state).reached (of_state mid state).reached (of_state new state).reached (first state) (next state)
+further-unreached : (old new : PlainReach) → new ≡ with_unreached old → ((x : ℕ) → mark_of old x ≡ true → mark_of new x ≡ true) → IsFurther old new
+further-unreached old new same stays = record {
+  front = ap (λ (r : PlainReach). take (length old.reached) r.reached) same ∙ take-length old.reached;
+  stays = stays;
+}
+
+-- other spares alone
+pub further-spares : (old new : PerState PlainReach) → new.hard ≡ record old.hard { spare = new.hard.spare } → new.soft ≡ record old.soft { spare = new.soft.spare } → AreFurther old new
+further-spares old new hard soft Hard = further-spare old.hard new.hard hard
+further-spares old new hard soft Soft = further-spare old.soft new.soft soft
+
+-- one more class
+pub further-class : (old new : PerState PlainReach) → new.hard ≡ with_unreached old.hard → new.soft ≡ with_unreached old.soft
+    → ((x : ℕ) → mark_of old.hard x ≡ true → mark_of new.hard x ≡ true) → ((x : ℕ) → mark_of old.soft x ≡ true → mark_of new.soft x ≡ true) → AreFurther old new
+further-class old new hard soft hard_stays soft_stays Hard = further-unreached old.hard new.hard hard hard_stays
+further-class old new hard soft hard_stays soft_stays Soft = further-unreached old.soft new.soft soft soft_stays
+
+pub further-then : (old mid new : PerState PlainReach) → AreFurther old mid → AreFurther mid new → AreFurther old new
+further-then old mid new first next state = record {
+  front = front-then (of_state old state).reached (of_state mid state).reached (of_state new state).reached (first state).front (next state).front;
+  stays = λ class on. (next state).stays class ((first state).stays class on);
+}
+
+-- the marks of a state, by both ways to say it
+pub marks_at : (reach : PerState PlainReach) (state : State) → of_state (marks_by reach) state ≡ (of_state reach state).marks
+marks_at reach Hard = refl
+marks_at reach Soft = refl
+
+pub expanded_at : (reach : PerState PlainReach) (state : State) → of_state (expanded_by reach) state ≡ (of_state reach state).expanded
+expanded_at reach Hard = refl
+expanded_at reach Soft = refl
 
 -- what a state has reached, by both ways to say it
 pub reached_at : (reach : PerState PlainReach) (state : State) → of_state (reached_by reach) state ≡ (of_state reach state).reached
 reached_at reach Hard = refl
 reached_at reach Soft = refl
 
-pub have_classes : (count : ℕ) (reach : PerState PlainReach) → length reach.hard.marks ≡ count → length reach.soft.marks ≡ count → HaveClasses count reach
-have_classes count reach hard soft Hard = hard
-have_classes count reach hard soft Soft = soft
+-- other spares, and one more class, of one state
+pub once-spare : (count : ℕ) (old new : PlainReach) → new ≡ record old { spare = new.spare } → new.expanded ≡ count_by (λ mark. mark) new.marks → ExpandsOnce count old → ExpandsOnce count new
+once-spare count old new same each is = record { count = ap (λ (r : PlainReach). length r.marks) same ∙ is.count; each = each }
+
+pub once-unreached : (count : ℕ) (old new : PlainReach) → new ≡ with_unreached old → new.expanded ≡ count_by (λ mark. mark) new.marks → ExpandsOnce count old → ExpandsOnce (count + 1) new
+once-unreached count old new same each is = record {
+  count = ap (λ (r : PlainReach). length r.marks) same ∙ length_push old.marks false ∙ ap (λ n. n + 1) is.count;
+  each = each;
+}
 
 -- whether a class has a bit
 pub bit_cases : (usage : List Usage) (c : ℕ) (bit : Bit) → HasBitAt usage c bit ⊎ (¬ HasBitAt usage c bit)
@@ -126,9 +163,9 @@ hard≢soft bit hard soft = true≢false (ap (λ u. has_bit u (usage_of (In Hard
 -- a reach whose seeds grew by the bits that came
 pub reach-seeded : (edges : List Edge) (usage more : List Usage) (told : List NewBit) → TellsBits usage more told
     → (state : State) (classes : ℕ) (seeds : List ℕ) → ((c : ℕ) → Contains seeds c ↔ HasBitAt usage c (In state))
-    → (reach : PlainReach) → length reach.marks ≡ classes → IsSeeded edges seeds state told reach → IsReachOf classes edges more state reach
-reach-seeded edges usage more told tells state classes seeds seeded reach count is = record {
-  count = count;
+    → (reach : PlainReach) → ExpandsOnce classes reach → IsSeeded edges seeds state told reach → IsReachOf classes edges more state reach
+reach-seeded edges usage more told tells state classes seeds seeded reach once is = record {
+  once = once;
   seeds = is.seeds;
   seeded = λ c. ((λ there. now c ((is.each c).0 there)), (λ has. (is.each c).1 (was c has (bit_cases usage c (In state)))));
   exact = is.exact;
@@ -147,22 +184,22 @@ reach-seeded edges usage more told tells state classes seeds seeded reach count 
 
 -- a reach that stays exact
 pub reach-kept : (classes : ℕ) (edges : List Edge) (usage : List Usage) (state : State) (old new : PlainReach) → IsReachOf classes edges usage state old
-    → length new.marks ≡ classes → ((seeds : List ℕ) → IsReach (IsEdge edges) seeds old → IsReach (IsEdge edges) seeds new) → IsReachOf classes edges usage state new
-reach-kept classes edges usage state old new is count exact = record { count = count; seeds = is.seeds; seeded = is.seeded; exact = exact is.seeds is.exact }
+    → ExpandsOnce classes new → ((seeds : List ℕ) → IsReach (IsEdge edges) seeds old → IsReach (IsEdge edges) seeds new) → IsReachOf classes edges usage state new
+reach-kept classes edges usage state old new is once exact = record { once = once; seeds = is.seeds; seeded = is.seeded; exact = exact is.seeds is.exact }
 
 -- a union whose graph and reaches got other spares
 pub union-kept : {classes : List PlainClass} {graph : PlainGraph} {rows : List Witnessed} {usage : List UsageRow}
     {closing : Option Edge} {reach : PerState PlainReach} {spare_classes spare_edges : ℕ} (more : PerState PlainReach)
     → IsUnion classes graph rows usage closing reach → HaveClasses graph.classes more → StayExact (edges_of rows) (edges_of rows) reach more
     → IsUnion classes (with_spares graph spare_classes spare_edges) rows usage closing more
-union-kept {classes} {graph} {rows} {usage} {closing} {reach} more is count exact = record {
+union-kept {classes} {graph} {rows} {usage} {closing} {reach} more is once exact = record {
   numbered = is.numbered;
   few = is.few;
   count = is.count;
   edges = is.edges;
   rows = is.rows;
   closing = is.closing;
-  reached = λ state. reach-kept (length classes) (edges_of rows) (bits_of usage) state (of_state reach state) (of_state more state) (is.reached state) (count state ∙ is.count) (exact state);
+  reached = λ state. reach-kept (length classes) (edges_of rows) (bits_of usage) state (of_state reach state) (of_state more state) (is.reached state) (subst (λ n. ExpandsOnce n (of_state more state)) is.count (once state)) (exact state);
 }
 
 module _ (classes : ℕ) (edges : List Edge) (usage : List Usage) (state : State) (reach : PlainReach) (is : IsReachOf classes edges usage state reach) where

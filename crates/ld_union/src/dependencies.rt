@@ -7,7 +7,7 @@ ghost use Rattle.ld_graph.specs.declared.graph.TheConstants.{MOST_GRAPH_CLASSES}
 ghost use Rattle.ld_trace.specs.declared.event.State.{State};
 ghost use Rattle.ld_graph.specs.Edges.{IsEdge, IsEdgeNumber};
 ghost use Rattle.ld_graph.specs.Reach.{IsReach, no_reach};
-ghost use Rattle.ld_union.specs.Inner.Reached.{AreInFront, HaveClasses, IsSeeded, StayExact};
+ghost use Rattle.ld_union.specs.Inner.Reached.{AreFurther, HaveClasses, IsSeeded, StayExact};
 ghost use Rattle.ld_union.specs.Inner.States.{of_state};
 ghost use Rattle.ld_graph.specs.Edges.{empty_graph, with_spares};
 ghost use Rattle.ld_rules.specs.Dependency.{Dependency};
@@ -108,8 +108,7 @@ impl Dependencies {
         ensures rows { self.new.rows ≡ self.old.rows }
         ensures closing { self.new.closing ≡ self.old.closing }
         ensures reach { HaveClasses count self.new.reach }
-        ensures hard { self.new.reach.hard.reached ≡ self.old.reach.hard.reached }
-        ensures soft { self.new.reach.soft.reached ≡ self.old.reach.soft.reached }
+        ensures further { AreFurther self.old.reach self.new.reach }
         ensures exact { (edges : List Edge)
             → StayExact edges edges self.old.reach self.new.reach }
     {
@@ -135,7 +134,7 @@ impl Dependencies {
         ensures front { take (length self.old.rows.items) (edges_of self.new.rows.items)
             ≡ edges_of self.old.rows.items }
         ensures reach { HaveClasses self.new.graph.classes self.new.reach }
-        ensures reached { AreInFront self.old.reach self.new.reach }
+        ensures further { AreFurther self.old.reach self.new.reach }
         ensures exact { StayExact (edges_of self.old.rows.items) (edges_of self.new.rows.items)
             self.old.reach self.new.reach }
         ensures closing { IsCycleEdge (edges_of self.old.rows.items) self.old.closing
@@ -183,7 +182,7 @@ impl Dependencies {
         ensures front { (n : ℕ) → n ≤ length self.old.rows.items
             → take n (edges_of self.new.rows.items) ≡ take n (edges_of self.old.rows.items) }
         ensures reach { HaveClasses self.new.graph.classes self.new.reach }
-        ensures reached { AreInFront self.old.reach self.new.reach }
+        ensures further { AreFurther self.old.reach self.new.reach }
         ensures exact { StayExact (edges_of self.old.rows.items) (edges_of self.new.rows.items)
             self.old.reach self.new.reach }
         ensures closing { IsCycleEdge (edges_of self.old.rows.items) self.old.closing
@@ -239,7 +238,7 @@ impl Dependencies {
         ensures rows { self.new.rows ≡ self.old.rows }
         ensures closing { self.new.closing ≡ self.old.closing }
         ensures reach { HaveClasses self.old.graph.classes self.new.reach }
-        ensures reached { AreInFront self.old.reach self.new.reach }
+        ensures further { AreFurther self.old.reach self.new.reach }
         ensures exact { (state : State) (seeds : List ℕ)
             → IsReach (IsEdge self.old.graph.edges) seeds (of_state self.old.reach state)
             → IsSeeded self.old.graph.edges seeds state bits.now

@@ -5,7 +5,7 @@ ghost use Rattle.ld_graph.specs.Edges.{IsEdge};
 ghost use Rattle.ld_graph.specs.declared.graph.TheConstants.{MOST_GRAPH_CLASSES};
 ghost use Rattle.ld_graph.specs.Reach.{IsReach, no_reach, source_of, with_unreached};
 ghost use Rattle.ld_rules.specs.Usage.{IsBit};
-ghost use Rattle.ld_union.specs.Inner.Reached.{AreInFront, HaveClasses, IsSeeded, StayExact};
+ghost use Rattle.ld_union.specs.Inner.Reached.{AreFurther, HaveClasses, IsSeeded, StayExact};
 ghost use Rattle.ld_union.specs.Inner.States.{of_state};
 
 use crate::news::NewBit;
@@ -36,6 +36,7 @@ impl PerState<Reach> {
         requires soft { length self.old.soft.marks + classes ≤ MOST_GRAPH_CLASSES }
         ensures hard { self.new.hard ≡ record self.old.hard { spare = self.new.hard.spare } }
         ensures soft { self.new.soft ≡ record self.old.soft { spare = self.new.soft.spare } }
+        ensures classes { (count : ℕ) → HaveClasses count self.old → HaveClasses count self.new }
         ensures spare_hard { OnOk result (classes ≤ self.new.hard.spare) }
         ensures spare_soft { OnOk result (classes ≤ self.new.soft.spare) }
         ensures exact { (edges : List Edge) → StayExact edges edges self.old self.new }
@@ -50,6 +51,9 @@ impl PerState<Reach> {
         requires soft { 0 < self.old.soft.spare }
         ensures hard { self.new.hard ≡ with_unreached self.old.hard }
         ensures soft { self.new.soft ≡ with_unreached self.old.soft }
+        ensures classes { (count : ℕ) → HaveClasses count self.old
+            → HaveClasses (count + 1) self.new }
+        ensures further { AreFurther self.old self.new }
         ensures exact { (edges : List Edge) → StayExact edges edges self.old self.new }
     {
         self.hard.add_class();
@@ -65,7 +69,7 @@ impl PerState<Reach> {
         ensures exact { (before : List Edge)
             → graph.now.edges ≡ before ++ edge ∷ []
             → StayExact before graph.now.edges self.old self.new }
-        ensures front { AreInFront self.old self.new }
+        ensures further { AreFurther self.old self.new }
     {
         self.hard.along(graph, edge.from, edge.to);
         self.soft.along(graph, edge.from, edge.to);
@@ -80,7 +84,7 @@ impl PerState<Reach> {
         ensures exact { (state : State) (seeds : List ℕ)
             → IsReach (IsEdge graph.now.edges) seeds (of_state self.old state)
             → IsSeeded graph.now.edges seeds state bits.now (of_state self.new state) }
-        ensures front { AreInFront self.old self.new }
+        ensures further { AreFurther self.old self.new }
     {
         for told in bits {
             self.seed(graph, *told);
@@ -97,7 +101,7 @@ impl PerState<Reach> {
             → IsSeeded graph.now.edges seeds state before (of_state self.old state)
             → IsSeeded graph.now.edges seeds state (before ++ told ∷ [])
             (of_state self.new state) }
-        ensures front { AreInFront self.old self.new }
+        ensures further { AreFurther self.old self.new }
     {
         if told.bit == Usage::IN_HARD {
             self.hard.seed(graph, told.class);

@@ -36,7 +36,7 @@ pub struct Union<'a> {
 }
 
 impl<'a> Model for Union<'a> {
-    ghost use Rattle.ld_union.specs.Inner.Reached.{reached_by};
+    ghost use Rattle.ld_union.specs.Inner.Reached.{expanded_by, marks_by, reached_by};
     ghost use Rattle.ld_union.specs.Inner.Union.{IsUnion, PlainUnion};
 
     ghost Value = { PlainUnion };
@@ -46,6 +46,8 @@ impl<'a> Model for Union<'a> {
       dependencies = u.dependencies.rows.items;
       usage = u.usage.items;
       reached = reached_by u.dependencies.reach;
+      marks = marks_by u.dependencies.reach;
+      expanded = expanded_by u.dependencies.reach;
     } };
 
     ghost invariant = { λ u. IsUnion u.classes u.dependencies.graph u.dependencies.rows.items
@@ -61,6 +63,8 @@ impl<'a> Union<'a> {
               dependencies = [];
               usage = [];
               reached = record { hard = []; soft = [] };
+              marks = record { hard = []; soft = [] };
+              expanded = record { hard = 0; soft = 0 };
             } }
     {
         Union {

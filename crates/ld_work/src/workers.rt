@@ -1,5 +1,5 @@
 //! Reads traces by several workers at once.
-ghost use Rattle.std.specs.Prelude.{◌≡◌, ◌≤◌, ◌<◌, ℕ, [], None, All, Err, IfOk, IfSome, OnOk, length, map};
+ghost use Rattle.std.specs.Prelude.{◌≡◌, ◌≤◌, ◌<◌, ℕ, [], None, All, Err, IfOk, IfSome, OnOk, false, length, map};
 ghost use Rattle.std.specs.List.{last_or};
 ghost use Rattle.ld_trace.specs.Sources.{AreNumbered, Fits, plain};
 ghost use Rattle.ld_tickets.specs.Draw.{IsSeatOf};
@@ -323,7 +323,8 @@ fn feeders_of<T: Ledger, E: Ledger>(
     alloc: Global,
     done: Vec<Done<T, E>>,
 ) -> Result<Vec<Feeder<T, E>>, AllocError>
-    ensures { IfOk result (λ feeders. length feeders.items ≡ length done.items) }
+    ensures count { IfOk result (λ feeders. length feeders.items ≡ length done.items) }
+    ensures none { OnOk result (All (λ d. d.refused ≡ false) done.items) }
 {
     let mut feeders = Vec::new(alloc);
     let mut any_refused = false;

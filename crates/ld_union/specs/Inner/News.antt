@@ -1,5 +1,5 @@
 -- What the batch that was added last showed for the first time. No contract of a `Book` cites this file.
-use Rattle.std.specs.Prelude.{◌≡◌, ℕ, List, length, take, All, Contains}
+use Rattle.std.specs.Prelude.{◌≡◌, ℕ, true, false, List, length, take, count_by, slice_index_or, All, Contains}
 use Rattle.ld_class.specs.declared.usage.Usage.{Usage}
 use Rattle.ld_trace.specs.declared.event.State.{State}
 use Rattle.ld_rules.specs.Usage.{Bit, IsBit, bit_of}
@@ -30,7 +30,8 @@ pub record PlainNews : Type 0 where
   pub first_reached : PerState ℕ
 
 -- The edges that there were stand in front, just the new bits are told, the classes in front of the place are
--- those that were reached before, and each of these had a source before.
+-- those that were reached before, and each of these had a source before. A class that was expanded stays so, and
+-- as often as there are such classes one was expanded, over all that was ever added: no class twice.
 pub record Tells (old new : PlainUnion) (news : PlainNews) : Type 0 where
   pub front : take (length old.dependencies) (edges_of new.dependencies) ≡ edges_of old.dependencies
   pub bits : TellsBits (bits_of old.usage) (bits_of new.usage) news.bits
@@ -38,3 +39,6 @@ pub record Tells (old new : PlainUnion) (news : PlainNews) : Type 0 where
   pub still : (state : State) → take (of_state news.first_reached state) (of_state new.reached state) ≡ of_state old.reached state
   pub from : (state : State) (class : ℕ) → Contains (of_state old.reached state) class
       → (from : ℕ) × IsSourceAt (edges_of old.dependencies) (bits_of old.usage) state class from
+  pub stays : (state : State) (class : ℕ) → slice_index_or (of_state old.marks state) class false ≡ true
+      → slice_index_or (of_state new.marks state) class false ≡ true
+  pub once : (state : State) → of_state new.expanded state ≡ count_by (λ mark. mark) (of_state new.marks state)

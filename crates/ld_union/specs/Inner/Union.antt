@@ -1,5 +1,5 @@
 -- What is kept of some traces, with numbers for their classes. No contract of a `Book` cites this file.
-use Rattle.std.specs.Prelude.{◌≡◌, ◌≢◌, ℕ, ◌<◌, ◌≤◌, ◌++◌, List, length, map, slice_index_or, All, AllPairs, Any, Option, Some, None, IsSome, MatchOption, if◌then◌else◌}
+use Rattle.std.specs.Prelude.{◌≡◌, ◌≢◌, ℕ, ◌<◌, ◌≤◌, ◌++◌, Bool, List, length, map, slice_index_or, All, AllPairs, Any, Option, Some, None, IsSome, MatchOption, if◌then◌else◌}
 use Rattle.std.specs.Option.{is_some}
 use Rattle.ld_class.specs.declared.names.TheConstants.{MOST_NAMES}
 use Rattle.ld_class.specs.Names.{AreDistinct, PlainClass, no_class, place_of}
@@ -72,12 +72,15 @@ with_bit first bit witness b = earlier_of (first b) (if same_bit b bit then Some
 
 -- A union, without where its names lie in memory: the classes and the edges between them, each in the order
 -- of their numbers, for each class its usage, and for each state the classes to which a walk leads from one
--- that handlers of the state acquire, in the order in which they were reached.
+-- that handlers of the state acquire, in the order in which they were reached; which classes were expanded for
+-- that, and how often one was so far.
 pub record PlainUnion : Type 0 where
   pub classes : List PlainClass
   pub dependencies : List Witnessed
   pub usage : List UsageRow
   pub reached : PerState (List ℕ)
+  pub marks : PerState (List Bool)
+  pub expanded : PerState ℕ
 
 -- the edge is there, and a walk leads back from its second class to its first
 abbrev pub IsCycleAt : List Edge → Edge → Type 0

@@ -6,7 +6,7 @@ use Rattle.ld_shown.specs.declared.rows.WitnessedEdge.{WitnessedEdge}
 use Rattle.ld_shown.specs.Batch.{named_dependency}
 use Rattle.ld_rules.specs.Dependency.{Dependency, same_dependency}
 use Rattle.ld_union.specs.Inner.Union.{AreWitnessed, earlier_of, edges_of, named_edge}
-use Rattle.ld_union.proofs.ReachedLemmas.{in_front-same, in_front-then}
+use Rattle.ld_union.proofs.ReachedLemmas.{further-same, further-then}
 use Rattle.ld_union.proofs.SeenLemmas.{all_noted, dependencies_once, none_noted, one_noted}
 use Rattle.ld_union.proofs.UnionLemmas.{length_rows, same_dependency-true}
 use Rattle.ld_union.proofs.dependencies.Dependencies.add.Goals as goal
@@ -22,7 +22,7 @@ loop-seen-init c = record {
   spare_rows = search rules;
   front = let rows = c.args.self.now.rows.items in ap (λ n. take n (edges_of rows)) (length_rows rows) ∙ take-length (edges_of rows);
   reach = search rules;
-  reached = in_front-same c.args.self.now.reach;
+  further = further-same c.args.self.now.reach;
   exact = λ state seeds is. is;
   closing = λ was. was;
   numbered = λ classes same numbered. numbered;
@@ -53,7 +53,7 @@ loop-seen-preserved c =
           (omega (arith, ap length c.loop-seen.invariant.front, length-take (length old) (edges_of c.loop-seen.self.rows.items), length_rows old, length_rows c.loop-seen.self.rows.items))
           ∙ c.loop-seen.invariant.front;
       reach = c.note-number.ensures.reach;
-      reached = in_front-then c.args.self.now.reach c.loop-seen.self.reach c.note-number.new.self.reach c.loop-seen.invariant.reached c.note-number.ensures.reached;
+      further = further-then c.args.self.now.reach c.loop-seen.self.reach c.note-number.new.self.reach c.loop-seen.invariant.further c.note-number.ensures.further;
       exact = λ state seeds is. c.note-number.ensures.exact state seeds (c.loop-seen.invariant.exact state seeds is);
       closing = λ was. c.note-number.ensures.closing (c.loop-seen.invariant.closing was);
       numbered = λ classes same numbered. c.note-number.ensures.numbered classes (same ∙ sym c.loop-seen.invariant.count) (c.loop-seen.invariant.numbered classes same numbered);

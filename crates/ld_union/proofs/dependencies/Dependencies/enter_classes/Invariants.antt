@@ -1,6 +1,6 @@
 use Rattle.std.proofs.Common.{◌≡◌, ◌+◌, ◌≤◌, List}
 use Rattle.ld_graph.specs.declared.Edge.{Edge}
-use Rattle.ld_union.specs.Inner.Reached.{HaveClasses, StayExact}
+use Rattle.ld_union.specs.Inner.Reached.{AreFurther, HaveClasses, StayExact}
 use Rattle.ld_union.proofs.dependencies.Dependencies.enter_classes.Given as goal
 
 abbrev pub invariant-loop : goal.invariant-loop
@@ -14,7 +14,6 @@ invariant-loop l = record {
   reach : HaveClasses l.self.graph.classes l.self.reach;
   room_hard : l.count ≤ l.self.graph.classes + l.self.reach.hard.spare;
   room_soft : l.count ≤ l.self.graph.classes + l.self.reach.soft.spare;
-  hard : l.self.reach.hard.reached ≡ l.fn.self.reach.hard.reached;
-  soft : l.self.reach.soft.reached ≡ l.fn.self.reach.soft.reached;
+  further : AreFurther l.fn.self.reach l.self.reach;
   exact : (edges : List Edge) → StayExact edges edges l.fn.self.reach l.self.reach;
 }

@@ -6,13 +6,13 @@ use Rattle.ld_union.proofs.ReachedLemmas.{hard≢soft, seeded-other, seeded-seed
 use Rattle.ld_union.proofs.reaches.PerState+Reach.seed.Goals as goal
 
 pub seed-requires-clause-same : goal.seed-requires-clause-same
-seed-requires-clause-same c = c.requires.classes Hard
+seed-requires-clause-same c = (c.requires.classes Hard).count
 
 pub seed-requires-then-eq-2-clause-same : goal.seed-requires-then-eq-2-clause-same
-seed-requires-then-eq-2-clause-same c = c.requires.classes Soft
+seed-requires-then-eq-2-clause-same c = (c.requires.classes Soft).count
 
 pub returns-then-eq-clause-classes : goal.returns-then-eq-clause-classes
-returns-then-eq-clause-classes c Hard = c.seed.ensures.len ∙ c.requires.classes Hard
+returns-then-eq-clause-classes c Hard = record { count = c.seed.ensures.len ∙ (c.requires.classes Hard).count; each = c.seed.ensures.each_once }
 returns-then-eq-clause-classes c Soft = c.requires.classes Soft
 
 pub returns-then-eq-clause-exact : goal.returns-then-eq-clause-exact
@@ -25,7 +25,7 @@ returns-then-eq-clause-exact c Soft seeds before is =
 
 pub returns-then-eq-2-clause-classes : goal.returns-then-eq-2-clause-classes
 returns-then-eq-2-clause-classes c Hard = c.requires.classes Hard
-returns-then-eq-2-clause-classes c Soft = c.seed-then-eq-2.ensures.len ∙ c.requires.classes Soft
+returns-then-eq-2-clause-classes c Soft = record { count = c.seed-then-eq-2.ensures.len ∙ (c.requires.classes Soft).count; each = c.seed-then-eq-2.ensures.each_once }
 
 pub returns-then-eq-2-clause-exact : goal.returns-then-eq-2-clause-exact
 returns-then-eq-2-clause-exact c Hard seeds before is =

@@ -1,9 +1,9 @@
-use Rattle.std.proofs.Common.{rules, All, Contains, ◌<◌, ◌≡◌, ◌-◌, ◌++◌, ◌∙◌, [], None, List, ℕ, ap, arith, length, replicate, subst, sym, take}
+use Rattle.std.proofs.Common.{rules, All, Contains, ◌<◌, ◌≡◌, ◌-◌, ◌++◌, ◌∙◌, [], None, List, ℕ, ap, arith, count_by, false, get_or, length, replicate, subst, sym, take}
 use Rattle.std.proofs.lemmas.List.{take_all, with_items_is}
 use Rattle.std.specs.Vec.{with_items}
 use Rattle.ld_class.specs.Names.{PlainClass}
 use Rattle.ld_graph.specs.Edges.{IsEdge}
-use Rattle.ld_graph.specs.Reach.{IsReach, PlainReach}
+use Rattle.ld_graph.specs.Reach.{IsReach}
 use Rattle.ld_trace.specs.declared.event.State.{State}
 use Rattle.ld_trace.specs.declared.event.State.TheVariants.{Hard, Soft}
 use Rattle.ld_rules.specs.Union.{use_witness}
@@ -12,12 +12,12 @@ use Rattle.ld_union.specs.declared.news.NewBit.{NewBit}
 use Rattle.ld_union.specs.declared.usage.UsageRow.{UsageRow}
 use Rattle.ld_shown.specs.Inner.Names.{ArePlaces, IsLonger, with_names}
 use Rattle.ld_union.specs.Inner.News.{Tells, TellsBits}
-use Rattle.ld_union.specs.Inner.Reached.{AreInFront, IsReachOf, IsSeeded, reached_by}
+use Rattle.ld_union.specs.Inner.Reached.{AreFurther, ExpandsOnce, IsReachOf, IsSeeded, expanded_by, marks_by, reached_by}
 use Rattle.ld_union.specs.Inner.States.{of_state}
 use Rattle.ld_union.specs.Inner.Union.{Adds, AreBetween, AreUsed, AreWitnessed, IsCycleEdge, PlainUnion, edges_of, with_first}
 use Rattle.ld_union.specs.Usage.{bits_of, row_of}
 use Rattle.ld_union.proofs.NewsLemmas.{tells-longer, tells-then, told_within}
-use Rattle.ld_union.proofs.ReachedLemmas.{in_front-equal, in_front-then, reach-seeded, reached_at, source_some, union-kept}
+use Rattle.ld_union.proofs.ReachedLemmas.{expanded_at, further-spares, further-then, marks_at, reach-seeded, reached_at, source_some, union-kept}
 use Rattle.ld_union.proofs.SourceLemmas.{adds-batch}
 use Rattle.ld_union.proofs.UnionLemmas.{numbered-longer, witnessed-longer}
 use Rattle.ld_union.proofs.UsageLemmas.{used-longer}
@@ -69,7 +69,7 @@ module _ (c : goal.After-seed_all) where
 
   -- the union before and after
   abbrev before : PlainUnion
-  before = record { classes = c.self.inside.classes; dependencies = old_rows; usage = old_usage; reached = reached_by c.self.inside.dependencies.reach }
+  before = record { classes = c.self.inside.classes; dependencies = old_rows; usage = old_usage; reached = reached_by c.self.inside.dependencies.reach; marks = marks_by c.self.inside.dependencies.reach; expanded = expanded_by c.self.inside.dependencies.reach }
 
   abbrev with_rows : List Witnessed → PlainUnion
   with_rows all = record {
@@ -77,6 +77,8 @@ module _ (c : goal.After-seed_all) where
     dependencies = all;
     usage = (with_items c.resize.new.self c.add_usage.new.rows).items;
     reached = reached_by c.seed_all.new.self.reach;
+    marks = marks_by c.seed_all.new.self.reach;
+    expanded = expanded_by c.seed_all.new.self.reach;
   }
 
   abbrev after : PlainUnion
@@ -97,14 +99,17 @@ module _ (c : goal.After-seed_all) where
   told : TellsBits (bits_of old_usage) (bits_of (with_items c.resize.new.self c.add_usage.new.rows).items) c.add_usage.new.bits.items
   told = subst (λ all. TellsBits (bits_of old_usage) (bits_of all) c.add_usage.new.bits.items) (sym written) tells
 
-  -- what was reached stands in front
-  in_front : AreInFront c.self.inside.dependencies.reach c.seed_all.new.self.reach
-  in_front =
-      in_front-then c.self.inside.dependencies.reach c.enter_classes.new.self.reach c.seed_all.new.self.reach
-      (in_front-equal c.self.inside.dependencies.reach c.enter_classes.new.self.reach
-      (c.enter_classes.ensures.hard ∙ ap (λ (r : PlainReach). r.reached) c.in_ok-room.ensures.hard)
-      (c.enter_classes.ensures.soft ∙ ap (λ (r : PlainReach). r.reached) c.in_ok-room.ensures.soft))
-      (in_front-then c.enter_classes.new.self.reach c.add.new.self.reach c.seed_all.new.self.reach c.add.ensures.reached c.seed_all.ensures.reached)
+  -- what was reached stands in front, and what was expanded stays so
+  further : AreFurther c.self.inside.dependencies.reach c.seed_all.new.self.reach
+  further =
+      further-then c.self.inside.dependencies.reach c.room.new.self.reach c.seed_all.new.self.reach
+      (further-spares c.self.inside.dependencies.reach c.room.new.self.reach c.in_ok-room.ensures.hard c.in_ok-room.ensures.soft)
+      (further-then c.room.new.self.reach c.enter_classes.new.self.reach c.seed_all.new.self.reach c.enter_classes.ensures.further
+      (further-then c.enter_classes.new.self.reach c.add.new.self.reach c.seed_all.new.self.reach c.add.ensures.further c.seed_all.ensures.further))
+
+  -- no class was expanded twice
+  once : (state : State) → ExpandsOnce (length classes) (of_state c.seed_all.new.self.reach state)
+  once state = subst (λ n. ExpandsOnce n (of_state c.seed_all.new.self.reach state)) (c.add.ensures.classes ∙ sym entered) (c.seed_all.ensures.reach state)
 
   counted : (state : State) → of_state c.counts-news-inside.result state ≡ length (of_state (reached_by c.self.inside.dependencies.reach) state)
   counted Hard = c.counts-news-inside.ensures.hard
@@ -120,7 +125,7 @@ module _ (c : goal.After-seed_all) where
       (subst {A = List Witnessed} (λ all. IsReach (IsEdge (edges_of all)) was.seeds (of_state c.enter_classes.new.self.reach state)) (sym rows) entered_exact) in
       reach-seeded (edges_of c.add.new.self.rows.items) (bits_of old_usage) (bits_of (with_items c.resize.new.self c.add_usage.new.rows).items)
       c.add_usage.new.bits.items told state (length classes) was.seeds was.seeded (of_state c.seed_all.new.self.reach state)
-      (c.seed_all.ensures.reach state ∙ c.add.ensures.classes ∙ sym entered)
+      (once state)
       (subst (λ edges. IsSeeded edges was.seeds state c.add_usage.new.bits.items (of_state c.seed_all.new.self.reach state)) c.add.ensures.edges
       (rw (← c.deref-3.ensures.value) (c.seed_all.ensures.exact state was.seeds
       (subst (λ edges. IsReach (IsEdge edges) was.seeds (of_state c.add.new.self.reach state)) (sym c.add.ensures.edges) added))))
@@ -155,11 +160,15 @@ returns-clause-told c =
       reached = counted c;
       still = λ state.
           (λ i. take ((counted c state ∙ ap length (reached_at reach state)) i) (reached_at more state i))
-          ∙ in_front c state
+          ∙ (further c state).front
           ∙ sym (reached_at reach state);
       from = λ state class there.
           source_some (length union.classes) (edges_of (old_rows c)) (bits_of (old_usage c)) state (of_state reach state) (c.self.invariant.reached state) class
           (c.counts-news-inside.ensures.sources state class (subst (λ all. Contains all class) (reached_at reach state) there));
+      stays = λ state class on.
+          ap (λ marks. get_or marks class false) (marks_at more state)
+          ∙ (further c state).stays class (sym (ap (λ marks. get_or marks class false) (marks_at reach state)) ∙ on);
+      once = λ state. expanded_at more state ∙ (once c state).each ∙ ap (count_by (λ mark. mark)) (sym (marks_at more state));
     })
 
 pub enter_classes-requires-clause-reach : goal.enter_classes-requires-clause-reach

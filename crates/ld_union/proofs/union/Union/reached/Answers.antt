@@ -7,7 +7,7 @@ use Rattle.ld_union.proofs.union.Union.reached.Goals as goal
 
 pub returns-in-Hard-clause-within : goal.returns-in-Hard-clause-within
 returns-in-Hard-clause-within c = rw (← c.self.view_is, c.in-Hard.is)
-    (subst (λ n. All (λ class. class < n) c.self.inside.dependencies.reach.hard.reached) (c.self.invariant.reached Hard).count c.reached.ensures.within)
+    (subst (λ n. All (λ class. class < n) c.self.inside.dependencies.reach.hard.reached) (c.self.invariant.reached Hard).once.count c.reached.ensures.within)
 
 pub returns-in-Hard-clause-each : goal.returns-in-Hard-clause-each
 returns-in-Hard-clause-each c = rw (← c.self.view_is, c.in-Hard.is) (λ class.
@@ -21,7 +21,7 @@ returns-in-Hard-clause-each c = rw (← c.self.view_is, c.in-Hard.is) (λ class.
 
 pub returns-in-Soft-clause-within : goal.returns-in-Soft-clause-within
 returns-in-Soft-clause-within c = rw (← c.self.view_is, c.in-Soft.is)
-    (subst (λ n. All (λ class. class < n) c.self.inside.dependencies.reach.soft.reached) (c.self.invariant.reached Soft).count c.reached-in-Soft.ensures.within)
+    (subst (λ n. All (λ class. class < n) c.self.inside.dependencies.reach.soft.reached) (c.self.invariant.reached Soft).once.count c.reached-in-Soft.ensures.within)
 
 pub returns-in-Soft-clause-each : goal.returns-in-Soft-clause-each
 returns-in-Soft-clause-each c = rw (← c.self.view_is, c.in-Soft.is) (λ class.

@@ -6,10 +6,10 @@ use Rattle.ld_union.proofs.ReachedLemmas.{source_at}
 use Rattle.ld_union.proofs.union.Union.source.Goals as goal
 
 pub source-requires : goal.source-requires
-source-requires c = subst (λ n. c.args.class < n) (ap (λ (union : PlainUnion). length union.classes) (sym c.self.view_is) ∙ sym (c.self.invariant.reached Hard).count) c.requires
+source-requires c = subst (λ n. c.args.class < n) (ap (λ (union : PlainUnion). length union.classes) (sym c.self.view_is) ∙ sym (c.self.invariant.reached Hard).once.count) c.requires
 
 pub source-requires-in-Soft : goal.source-requires-in-Soft
-source-requires-in-Soft c = subst (λ n. c.args.class < n) (ap (λ (union : PlainUnion). length union.classes) (sym c.self.view_is) ∙ sym (c.self.invariant.reached Soft).count) c.requires
+source-requires-in-Soft c = subst (λ n. c.args.class < n) (ap (λ (union : PlainUnion). length union.classes) (sym c.self.view_is) ∙ sym (c.self.invariant.reached Soft).once.count) c.requires
 
 pub returns-in-Hard : goal.returns-in-Hard
 returns-in-Hard c = rw (← c.self.view_is, c.in-Hard.is)
