@@ -1,5 +1,6 @@
 pub mod MarkLemmas
 pub mod NumberLemmas
+pub mod TaskLemmas
 pub mod StackLemmas
 pub mod ChainLemmas
 pub mod EdgeLemmas

@@ -1,5 +1,5 @@
-//! What a scan keeps of tasks and of classes, by numbers: stacks of held locks, open frames, flags, chains,
-//! dependencies and usage bits.
+//! What a scan keeps of tasks and of classes: the names of tasks, and by numbers stacks of held locks, open
+//! frames, flags, chains, dependencies and usage bits.
 #![tactic(auto)]
 
 mod chains;
@@ -9,6 +9,7 @@ mod interrupts;
 mod locks;
 mod marked;
 mod numbers;
+mod tasks;
 mod uses;
 
 pub use edges::EdgeFact;
@@ -17,4 +18,5 @@ pub use interrupts::{Flag, Interrupts};
 pub use locks::Locks;
 pub use marked::Marked;
 pub use numbers::Numbers;
+pub use tasks::{MOST_KNOWN_TASKS, TaskNames};
 pub use uses::{UsageFact, Uses};
