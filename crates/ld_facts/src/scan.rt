@@ -15,9 +15,9 @@ ghost use Rattle.ld_rules.specs.declared.outcome.TheConstants.{MOST_CLASSES, MOS
 
 use crate::stop::Stop;
 use crate::taking::Taking;
-use ld_class::{ClassName, Classes, RecentNames};
+use ld_class::{ClassName, Classes};
 use ld_rules::{MOST_CLASSES, MOST_HELD, MOST_TASKS, TraceFault};
-use ld_tables::{Flag, Locks, Marked, Uses};
+use ld_tables::{Flag, Locks, Marked, TaskNames, Uses};
 use ld_trace::{Event, Lock, State};
 use std::alloc::{AllocError, Global};
 
@@ -32,7 +32,7 @@ pub struct Before {
 #[derive(Drop)]
 pub struct Scan<'a> {
     /// The tasks, in order of first event.
-    pub tasks: RecentNames<'a>,
+    pub tasks: TaskNames<'a>,
     /// The classes: those that were there before the trace, then those that it adds, in order of
     /// first acquisition.
     pub classes: Classes<'a>,
@@ -51,7 +51,7 @@ impl<'a> Scan<'a> {
         ensures { result ≡ fresh_scan [] }
     {
         Scan {
-            tasks: RecentNames::new(alloc),
+            tasks: TaskNames::new(alloc),
             classes: Classes::new(alloc),
             own: Marked::new(alloc),
             locks: Locks::new(alloc),
