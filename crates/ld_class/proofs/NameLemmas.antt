@@ -1,15 +1,14 @@
 -- What follows for the names of classes and of tasks, for this crate and for those above it.
 use Rattle.std.proofs.Common.{◌≡◌, ◌&&◌, ◌↔◌, ◌++◌, ◌∙◌, eqb, Bool, true, false, ℕ, List, [], ◌∷◌}
 use Rattle.std.proofs.Common.{Option, Some, None, if◌then◌else◌, is_some, map, refl, ap}
-use Rattle.std.proofs.Common.{sym, arith}
-use Rattle.std.proofs.Math.ListN.{get_or-map}
+use Rattle.std.proofs.Common.{sym}
 use Rattle.std.proofs.lemmas.Bool.Decides.{Decides-and, Decides-eqb, Decides-like}
-use Rattle.std.proofs.lemmas.List.{length-map, map-append}
+use Rattle.std.proofs.lemmas.List.{map-append}
 use Rattle.std.proofs.lemmas.Slice.Eq.{bytes_eq-Decides}
 use Rattle.std.specs.Bool.{Decides}
 use Rattle.std.specs.List.{list_any, position}
 use Rattle.std.specs.Str.{bytes_eq}
-use Rattle.ld_class.specs.Names.{AreDistinct, AreDistinctTasks, IsNameAt, IsTaskAt, PlainClass}
+use Rattle.ld_class.specs.Names.{AreDistinct, IsNameAt, PlainClass}
 use Rattle.ld_class.specs.Names.{class_of_task, no_class, place_of, place_of_task, same_class}
 use Rattle.ld_class.specs.Names.{with_name, with_task}
 use Rattle.ld_class.proofs.AnyNames as any
@@ -56,7 +55,7 @@ and_true true = refl
 and_true false = refl
 
 module _ (tasks : List (List ℕ)) where
-  pub place_of-classes : (task : List ℕ)
+  place_of-classes : (task : List ℕ)
       → place_of (map class_of_task tasks) (class_of_task task) ≡ place_of_task tasks task
   place_of-classes task =
       position-map class_of_task (same_class (class_of_task task)) tasks
@@ -76,17 +75,6 @@ module _ (tasks : List (List ℕ)) where
       by true = refl
       by false = sym (map-append class_of_task tasks (task ∷ []))
 
-  pub AreDistinctTasks-of : AreDistinct (map class_of_task tasks) → AreDistinctTasks tasks
-  AreDistinctTasks-of distinct i j task at_i at_j =
-      distinct i j (class_of_task task) (at i at_i) (at j at_j)
-    where
-      at : (id : ℕ) → IsTaskAt tasks id task
-          → IsNameAt (map class_of_task tasks) id (class_of_task task)
-      at id h = (
-        omega (arith, h.0, length-map tasks class_of_task),
-        get_or-map class_of_task tasks id [] ∙ ap class_of_task h.1,
-      )
-
 abbrev pub tasks_of : List PlainClass → List (List ℕ)
 tasks_of classes = map (λ class. class.name) classes
 
@@ -94,11 +82,3 @@ tasks_of classes = map (λ class. class.name) classes
 pub tasks_of-classes : (tasks : List (List ℕ)) → tasks_of (map class_of_task tasks) ≡ tasks
 tasks_of-classes [] = refl
 tasks_of-classes (task ∷ tasks) = ap (λ others. task ∷ others) (tasks_of-classes tasks)
-
--- where classes are named as tasks are, the place of a task is that of its class
-pub place_of-task : (classes : List PlainClass) (tasks : List (List ℕ)) (task : List ℕ)
-    → classes ≡ map class_of_task (tasks_of classes) → tasks_of classes ≡ tasks
-    → place_of classes (class_of_task task) ≡ place_of_task tasks task
-place_of-task classes tasks task named is =
-    ap (λ names. place_of names (class_of_task task)) (named ∙ ap (map class_of_task) is)
-    ∙ place_of-classes tasks task

@@ -152,15 +152,15 @@ module _ (most : ℕ) (known : List PlainClass) (here : List ℕ) (are : AreTask
           let rest = by ns (All-tail (λ n. n < length known) n ns within) in
           λ i. first i ∷ rest i
 
+  as_tasks : more ≡ map class_of_task (with_task (tasks_of known) name)
+  as_tasks =
+      learned ∙ ap (λ names. with_name names (class_of_task name)) are.named
+      ∙ with_name-classes (tasks_of known) name
+
   -- and they are among those that are known, of which there may be one more
   pub among : AreTasksAmong (1 + most) more here
   among = record {
-    named = learned ∙ ap (λ names. with_name names (class_of_task name)) are.named
-        ∙ with_name-classes (tasks_of known) name
-        ∙ ap (map class_of_task) (sym (tasks_of-classes (with_task (tasks_of known) name))
-        ∙ ap tasks_of (sym (with_name-classes (tasks_of known) name))
-        ∙ ap (λ names. tasks_of (with_name names (class_of_task name))) (sym are.named)
-        ∙ ap tasks_of (sym learned));
+    named = as_tasks ∙ ap (map class_of_task) (sym (tasks_of-classes (with_task (tasks_of known) name)) ∙ ap tasks_of (sym as_tasks));
     distinct = subst AreDistinct (sym learned)
         (apart-with_one same_class no_class same_class-Decides known (class_of_task name) are.distinct);
     within = λ k d inside. let was = are.within k d inside in let longer = keeps.longer in omega arith;

@@ -70,9 +70,9 @@ impl<'a> TaskNames<'a> {
         ensures place { result ≡ place_of_task self.old name.now }
         ensures here { IfSome result (λ id. IsTaskAt self.old id name.now) }
     {
-        let number = number_of(&self.known, self.last, name)?;
-        self.last = number;
-        place_of_number(&self.here, number)
+        let known = number_of(&self.known, self.last, name)?;
+        self.last = known;
+        place_of_number(&self.here, known)
     }
 
     /// The place of `name`, which is put last where it is new.
@@ -141,9 +141,9 @@ fn learn<'a>(known: &mut Classes<'a>, last: u32, name: &'a [u8]) -> Result<u32, 
     ensures refused { OnErr result (known.new ≡ known.old) }
     ensures place { IfOk result (λ id. IsNameAt known.new id (class_of_task name.entry.now)) }
 {
-    let name = ClassName { name, sub: 0 };
-    if known.is_at(last, name) {
+    let task = ClassName { name, sub: 0 };
+    if known.is_at(last, task) {
         return Ok(last);
     }
-    known.intern(name)
+    known.intern(task)
 }

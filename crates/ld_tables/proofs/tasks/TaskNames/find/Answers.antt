@@ -8,9 +8,9 @@ use Rattle.ld_tables.specs.declared.tasks.TheConstants.{MOST_KNOWN_TASKS}
 use Rattle.ld_tables.proofs.TaskLemmas.{place-known, place-unknown}
 use Rattle.ld_tables.proofs.tasks.TaskNames.find.Goals as goal
 
-pub returns-in_err-number-clause-place : goal.returns-in_err-number-clause-place
-returns-in_err-number-clause-place c =
-    let unknown = sym c.number_of.ensures ∙ c.in_err-number.was in
+pub returns-in_err-known-clause-place : goal.returns-in_err-known-clause-place
+returns-in_err-known-clause-place c =
+    let unknown = sym c.number_of.ensures ∙ c.in_err-known.was in
     c.from_residual.ensures
     ∙ sym (place-unknown MOST_KNOWN_TASKS c.self.inside.known c.self.inside.here c.self.invariant c.args.name.now unknown)
     ∙ ap (λ tasks. place_of_task tasks c.args.name.now) c.self.view_is
@@ -19,7 +19,7 @@ pub returns-clause-place : goal.returns-clause-place
 returns-clause-place c =
     c.place_of_number.ensures.place
     ∙ sym (place-known MOST_KNOWN_TASKS c.self.inside.known c.self.inside.here c.self.invariant c.args.name.now
-    c.in_ok-number.number (sym c.number_of.ensures ∙ c.in_ok-number.was))
+    c.in_ok-known.known (sym c.number_of.ensures ∙ c.in_ok-known.was))
     ∙ ap (λ tasks. place_of_task tasks c.args.name.now) c.self.view_is
 
 pub returns-clause-here : goal.returns-clause-here
