@@ -1,5 +1,5 @@
-//! What a batch of a few traces shows, as it is handed to what puts it together with others: the rows of its
-//! classes, dependencies and usage, each with its first witness, and guesses of where these were had before.
+//! What a batch of a few traces shows, as it is handed to what puts it together with others: its classes, its
+//! dependencies and usage, each with its first witness, and guesses of where these were had before.
 #![tactic(auto)]
 
 mod guesses;

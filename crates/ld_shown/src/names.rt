@@ -10,7 +10,8 @@ use ld_class::{ClassName, Classes};
 use std::alloc::AllocError;
 
 /// Interns all of `more`, and writes their places among the names over `places`. Each is looked
-/// for where the guesses say first, which know the names by `numbers`; the guesses then have their places.
+/// for where the guesses say first, which know the names by `numbers`; the guesses then have their places,
+/// as far as there is memory for them.
 ///
 /// # Errors
 ///

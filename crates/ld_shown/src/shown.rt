@@ -10,6 +10,7 @@ use std::marker::Model;
 /// What a few traces show together: their union, with the first witnesses. It is lent by what read them.
 #[derive(Drop)]
 pub struct Shown<'b, 'a> {
+    /// What the rows are of: read by the view alone.
     traces: &'b [Listed<'a>],
     classes: &'b Classes<'a>,
     edges: &'b [WitnessedEdge],

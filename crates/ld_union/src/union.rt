@@ -75,12 +75,13 @@ impl<'a> Union<'a> {
     }
 
     /// Adds what the traces of a batch show, and writes over `news` what of it is new. Classes and
-    /// dependencies are looked for where the guesses say first; the guesses then have their places.
+    /// dependencies are looked for where the guesses say first; the guesses then have their places, as far as
+    /// there is memory for them.
     ///
     /// # Errors
     ///
-    /// `AllocError` where a growth of memory was refused. Nothing has changed then but spare memory
-    /// and `news`.
+    /// `AllocError` where a growth of memory was refused. Nothing has changed then but spare memory,
+    /// `news` and the guesses.
     pub fn add(
         &mut self,
         batch: &Shown<'_, 'a>,

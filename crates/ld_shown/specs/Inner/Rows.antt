@@ -19,7 +19,7 @@ seen_in number line = option_map (λ l. record { number = number; line = l }) li
 abbrev pub seen_of : {A : Type 0} → Met A → Seen A
 seen_of met = record { what = met.what; line = met.witness.line }
 
--- these are the things that were seen, each once, with their witnesses
+-- these are the things that were seen, each once, with the lines of their witnesses
 pub record AreMet {A : Type 0} (seen : List (Seen A)) (met : List (Met A)) : Type 0 where
   pub same : map seen_of met ≡ seen
   pub apart : AllPairs (λ m n. m.what ≢ n.what) met

@@ -31,7 +31,7 @@ pub record PlainNews : Type 0 where
 
 -- The edges that there were stand in front, just the new bits are told, the classes in front of the place are
 -- those that were reached before, and each of these had a source before. A class that was expanded stays so, and
--- as often as there are such classes one was expanded, over all that was ever added: no class twice.
+-- each reach has read as many lists as there are such classes, in all its life.
 pub record Tells (old new : PlainUnion) (news : PlainNews) : Type 0 where
   pub front : take (length old.dependencies) (edges_of new.dependencies) ≡ edges_of old.dependencies
   pub bits : TellsBits (bits_of old.usage) (bits_of new.usage) news.bits

@@ -17,12 +17,12 @@ use Rattle.ld_union.specs.Inner.States.{of_state}
 abbrev pub IsSourceAt : List Edge → List Usage → State → ℕ → ℕ → Type 0
 IsSourceAt edges usage state class from = HasBitAt usage from (In state) × HasWalk (IsEdge edges) from class
 
--- The reach has so many classes, and expanded each of those that have a mark once.
+-- The reach has so many classes, and expanded one as often as there are marks that are on.
 pub record ExpandsOnce (classes : ℕ) (reach : PlainReach) : Type 0 where
   pub count : length reach.marks ≡ classes
   pub each : reach.expanded ≡ count_by (λ mark. mark) reach.marks
 
--- What a union keeps true of the reach of a state: it has each class, of which it expanded none twice, and is
+-- What a union keeps true of the reach of a state: it has each class, expanded as many as have a mark, and is
 -- exact for the edges and for some seeds, which are the classes that handlers of the state acquire.
 pub record IsReachOf (classes : ℕ) (edges : List Edge) (usage : List Usage) (state : State) (reach : PlainReach) : Type 0 where
   pub once : ExpandsOnce classes reach
@@ -37,7 +37,7 @@ pub record IsSeeded (edges : List Edge) (before : List ℕ) (state : State) (tol
   pub each : (c : ℕ) → Contains seeds c ↔ (Contains before c ⊎ Contains told (new_bit c (In state)))
   pub exact : IsReach (IsEdge edges) seeds reach
 
--- both have so many classes, and expanded none twice
+-- both have so many classes, and expanded as many as have a mark
 abbrev pub HaveClasses : ℕ → PerState PlainReach → Type 0
 HaveClasses count reach = (state : State) → ExpandsOnce count (of_state reach state)
 

@@ -90,8 +90,9 @@ IsCycleAt edges e = graphs.IsEdge edges e.from e.to × HasWalk (graphs.IsEdge ed
 abbrev pub IsCycleEdge : List Edge → Option Edge → Type 0
 IsCycleEdge edges closing = MatchOption closing (¬ ((e : Edge) × IsCycleAt edges e)) (IsCycleAt edges)
 
--- What a union keeps true of its fields: the graph has the classes and the edges, each class has a row of
--- usage, and for each state it is known what is reached.
+-- What a union keeps true of its fields: there aren't too many classes, the graph has them and the edges, each
+-- class has a row of usage, an edge on a cycle is noted where there is one, and for each state it is known what
+-- is reached.
 pub record IsUnion (classes : List PlainClass) (graph : graphs.PlainGraph) (dependencies : List Witnessed)
     (usage : List UsageRow) (closed_by : Option Edge) (reach : PerState PlainReach) : Type 0 where
   pub numbered : AreBetween classes dependencies
