@@ -1,20 +1,26 @@
 -- Usage bits as a list and as sets.
 use Rattle.std.proofs.Common.{◌≡◌, ◌≢◌, ◌<◌, ◌≤◌, ◌-◌, ◌^◌, ◌∷◌, [], ◌++◌, ◌⊎◌, inl, inr, ◌&&◌, ◌||◌, ◌==◌, not, ℕ, List, Bool, true, false, true≢false}
-use Rattle.std.proofs.Common.{length, get_or, set, take, bit_and, bit_or, refl, ap, sym, subst, ◌∙◌, arith, eqb}
+use Rattle.std.proofs.Common.{length, get_or, set, take, bit_and, bit_or, refl, ap, sym, subst, ◌∙◌, arith, eqb, fold, map, reverse, if◌then◌else◌, Option, Some, None}
 use Rattle.std.proofs.lemmas.Bool.{and_from, eq-eqb, eqb-true, ne_eqb, or_right, cases_eq, cases_lt}
 use Rattle.std.proofs.lemmas.List.{get_or_push, get_or_append_left, get_or_past, get_or-set_same, get_or-set_other, length_push, take-append-le, take_all}
 use Rattle.std.proofs.lemmas.List.Folds.{list_any-append, list_any_at}
 use Rattle.std.proofs.lemmas.Nat.{and_assoc, and_or_apart, and_or_self}
 use Rattle.std.specs.Int.Bits.{and_zero_r}
-use Rattle.std.specs.List.{list_any}
+use Rattle.std.specs.List.{list_all, list_any}
 use Rattle.ld_class.specs.declared.usage.Usage.{Usage}
 use Rattle.ld_class.specs.Usage.{has_bit, no_bits}
+use Rattle.ld_trace.specs.declared.event.State.{State}
 use Rattle.ld_trace.specs.declared.event.State.TheVariants.{Hard, Soft}
+use Rattle.ld_rules.specs.Flags.{same_state}
 use Rattle.ld_rules.specs.Usage.{Bit, IsBit, bit_of, usage_of}
 use Rattle.ld_rules.specs.Usage.Bit.{In, On}
+use Rattle.ld_rules.proofs.PlaceLemmas.{all_known}
 use Rattle.ld_rules.proofs.UsageLemmas.{no_bit}
 use Rattle.ld_tables.specs.declared.uses.UsageFact.{UsageFact}
-use Rattle.ld_tables.specs.Inner.Uses.{AreNoted, fact, same_fact}
+use Rattle.ld_tables.specs.declared.interrupts.Interrupts.{Interrupts}
+use Rattle.ld_tables.specs.declared.interrupts.OpenFrame.{OpenFrame}
+use Rattle.ld_tables.specs.Inner.Interrupts.{enabled_now, states_of, with_frame}
+use Rattle.ld_tables.specs.Inner.Uses.{AreNoted, fact, in_facts, on_facts, same_fact, with_use}
 
 -- two sets of one bit each, by their numbers: the same
 record AreSame (x y : ℕ) : Type 0 where
@@ -204,3 +210,57 @@ module _ (facts : List UsageFact) (known : List Usage) (f : UsageFact) where
         bits = λ i d inside. subst (λ (g : UsageFact). IsBit g.bit) (before i d inside) (are.bits i d (omega (arith, end)));
         once = λ i d inside. sym (λ k. list_any (same_fact (before i d inside k)) (front i (omega arith) k)) ∙ are.once i d (omega (arith, end));
       }
+
+-- Where all bits of a set are there, what shows no others adds nothing.
+module _ (facts : List UsageFact) (class : ℕ) where
+  abbrev is_there : Bit → Type 0
+  is_there bit = list_any (same_fact (fact bit 0 class)) facts ≡ true
+
+  pub each-there : (known : List Usage) → AreNoted facts known → (bits : Usage)
+      → has_bit (get_or known class no_bits) bits ≡ true → (bit : Bit) → has_bit bits (usage_of bit) ≡ true → is_there bit
+  each-there known are bits all bit one =
+      let k = (get_or known class no_bits).0 in
+      let b = (usage_of bit).0 in
+      let outer : bit_and k bits.0 ≡ bits.0 = eqb-true (bit_and k bits.0) bits.0 all in
+      let inner : bit_and bits.0 b ≡ b = eqb-true (bit_and bits.0 b) b one in
+      let both : bit_and k b ≡ b = ap (bit_and k) (sym inner) ∙ sym (and_assoc b k bits.0) ∙ ap (λ n. bit_and n b) outer ∙ inner in
+      sym (are.noted class bit) ∙ eq-eqb (bit_and k b) b both
+
+  module _ (line : ℕ) where
+    abbrev AreAll : List State → Type 0
+    AreAll states = list_all (λ one. list_any (same_fact one) facts) (map (λ state. fact (In state) line class) (reverse states)) ≡ true
+
+    abbrev among : Option OpenFrame → Option OpenFrame → List State
+    among hard soft = map (λ f. f.state) (with_frame Hard hard (with_frame Soft soft []))
+
+    pub in-known : (interrupts : Interrupts)
+        → ((state : State) → list_any (same_state state) (states_of interrupts) ≡ true → is_there (In state))
+        → fold with_use facts (in_facts interrupts line class) ≡ facts
+    in-known interrupts there = all_known same_fact facts (in_facts interrupts line class) (by interrupts.hard interrupts.soft refl refl)
+      where
+        opened : (hard soft : Option OpenFrame) → interrupts.hard ≡ hard → interrupts.soft ≡ soft → among hard soft ≡ states_of interrupts
+        opened hard soft h s = λ i. among (sym h i) (sym s i)
+
+        here : (hard soft : Option OpenFrame) → interrupts.hard ≡ hard → interrupts.soft ≡ soft → (state : State)
+            → list_any (same_state state) (among hard soft) ≡ true → is_there (In state)
+        here hard soft h s state is = there state (sym (ap (list_any (same_state state)) (opened hard soft h s)) ∙ is)
+
+        by : (hard soft : Option OpenFrame) → interrupts.hard ≡ hard → interrupts.soft ≡ soft → AreAll (states_of interrupts)
+        by None None h s = subst AreAll (opened None None h s) refl
+        by (Some f) None h s = subst AreAll (opened (Some f) None h s) (ap (λ b. b && true) (here (Some f) None h s Hard refl))
+        by None (Some g) h s = subst AreAll (opened None (Some g) h s) (ap (λ b. b && true) (here None (Some g) h s Soft refl))
+        by (Some f) (Some g) h s = subst AreAll (opened (Some f) (Some g) h s)
+            (λ i. here (Some f) (Some g) h s Soft refl i && (here (Some f) (Some g) h s Hard refl i && true))
+
+    pub on-known : (interrupts : Interrupts) → ((state : State) → enabled_now state interrupts ≡ true → is_there (On state))
+        → fold with_use facts (on_facts interrupts line (class ∷ [])) ≡ facts
+    on-known interrupts there =
+        all_known same_fact facts (on_facts interrupts line (class ∷ [])) (by (enabled_now Hard interrupts) (enabled_now Soft interrupts) refl refl)
+      where
+        by : (hard soft : Bool) → enabled_now Hard interrupts ≡ hard → enabled_now Soft interrupts ≡ soft
+            → list_all (λ one. list_any (same_fact one) facts)
+            (map (fact (On Hard) line) (if hard then class ∷ [] else []) ++ map (fact (On Soft) line) (if soft then class ∷ [] else [])) ≡ true
+        by false false h s = refl
+        by true false h s = ap (λ b. b && true) (there Hard h)
+        by false true h s = ap (λ b. b && true) (there Soft s)
+        by true true h s = λ i. there Hard h i && (there Soft s i && true)

@@ -2,11 +2,16 @@
 ghost use Rattle.std.specs.Prelude.{◌≡◌, ◌<◌, true, length, slice_get};
 ghost use Rattle.std.specs.List.{list_any};
 ghost use Rattle.ld_trace.specs.declared.event.State.{State};
+ghost use Rattle.ld_class.specs.Usage.{has_bit};
 ghost use Rattle.ld_rules.specs.Flags.{same_state};
+ghost use Rattle.ld_rules.specs.Usage.{usage_of};
+ghost use Rattle.ld_rules.specs.Usage.Bit.{In, On};
 ghost use Rattle.ld_rules.specs.Open.{is_some_and};
 ghost use Rattle.ld_tables.specs.Inner.Interrupts.{IsEntered, IsLeft, IsSet, enabled_now, flag_now, fresh};
 ghost use Rattle.ld_tables.specs.Inner.Interrupts.{is_on, nests_in, start_now, states_of};
 
+use bitflags::Flags as _;
+use ld_class::Usage;
 use ld_trace::State;
 
 /// What a flag is set to.
@@ -137,6 +142,31 @@ impl Interrupts {
         match (self.hard, self.soft) {
             (Some(frame), _) | (None, Some(frame)) => frame.flags,
             (None, None) => self.outside,
+        }
+    }
+
+    /// The IN bits of a class that is waited for here: those of the states of which a frame is open.
+    pub fn in_bits(&self) -> Usage
+        ensures { (state : State) → has_bit result (usage_of (In state))
+            ≡ list_any (same_state state) (states_of self.now) }
+    {
+        match (self.hard.is_some(), self.soft.is_some()) {
+            (false, false) => Usage::empty(),
+            (true, false) => Usage::IN_HARD,
+            (false, true) => Usage::IN_SOFT,
+            (true, true) => Usage::IN_HARD | Usage::IN_SOFT,
+        }
+    }
+
+    /// The ON bits of a class that is held here: those of the states whose interrupts are enabled.
+    pub fn on_bits(&self) -> Usage
+        ensures { (state : State) → has_bit result (usage_of (On state)) ≡ enabled_now state self.now }
+    {
+        let flags = self.flags();
+        match (flags.hard, flags.soft) {
+            (false, _) => Usage::empty(),
+            (true, false) => Usage::ON_HARD,
+            (true, true) => Usage::ON_HARD | Usage::ON_SOFT,
         }
     }
 

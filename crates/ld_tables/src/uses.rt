@@ -1,9 +1,11 @@
 //! The usage bits of the numbered classes of some traces.
 ghost use Rattle.std.specs.Prelude.{◌≡◌, ◌<◌, ◌-◌, ℕ, [], ◌∷◌, fold, length, map, slice_index_or, take};
-ghost use Rattle.std.specs.Prelude.{vec_len, OnErr, OnOk};
-ghost use Rattle.ld_class.specs.Usage.{no_bits};
-ghost use Rattle.ld_rules.specs.Usage.{IsBit};
-ghost use Rattle.ld_tables.specs.Inner.Uses.{in_facts, on_facts, use_at, with_use};
+ghost use Rattle.std.specs.Prelude.{true, vec_len, OnErr, OnOk};
+ghost use Rattle.std.specs.Bool.{OnTrue};
+ghost use Rattle.std.specs.List.{list_any};
+ghost use Rattle.ld_class.specs.Usage.{has_bit, no_bits};
+ghost use Rattle.ld_rules.specs.Usage.{Bit, IsBit, usage_of};
+ghost use Rattle.ld_tables.specs.Inner.Uses.{fact, in_facts, on_facts, same_fact, use_at, with_use};
 
 use crate::held::Held;
 use crate::interrupts::Interrupts;
@@ -77,6 +79,9 @@ impl Uses {
             (self.new ≡ fold with_use self.old (in_facts interrupts line class)) }
         ensures first { take (length self.old) self.new ≡ self.old }
     {
+        if self.has_all(class, interrupts.in_bits()) {
+            return Ok(());
+        }
         // The outermost frame first: a hard one lies over a soft one.
         if interrupts.has(State::Soft) {
             let bit = Usage::IN_SOFT;
@@ -101,6 +106,9 @@ impl Uses {
             (self.new ≡ fold with_use self.old (on_facts interrupts line (class ∷ []))) }
         ensures first { take (length self.old) self.new ≡ self.old }
     {
+        if self.has_all(class, interrupts.on_bits()) {
+            return Ok(());
+        }
         if interrupts.is_enabled(State::Hard) {
             let bit = Usage::ON_HARD;
             self.add(UsageFact { class, bit, line })?;
@@ -131,6 +139,18 @@ impl Uses {
             self.add_each(stack, Usage::ON_SOFT, line)?;
         }
         Ok(())
+    }
+
+    /// Whether all these bits of the class are there. Most acquisitions show none that isn't.
+    fn has_all(&self, class: u32, bits: Usage) -> bool
+        ensures { OnTrue result ((bit : Bit) → has_bit bits (usage_of bit) ≡ true
+            → list_any (same_fact (fact bit 0 class)) self.now ≡ true) }
+    {
+        let index = class as usize;
+        if self.known.len() <= index {
+            return false;
+        }
+        self.known[index].contains(bits)
     }
 
     /// Keeps the first `count` of the bits.
