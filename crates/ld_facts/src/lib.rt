@@ -12,6 +12,7 @@ mod reading;
 mod scan;
 mod stop;
 mod taking;
+mod tasks;
 mod uses;
 
 pub use batch::Batch;

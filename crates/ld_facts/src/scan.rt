@@ -1,22 +1,22 @@
 //! The scan of a trace: what its events so far leave, one event at a time.
 ghost use Rattle.std.specs.Prelude.{◌≡◌, ◌<◌, ◌≤◌, ◌++◌, ◌∷◌, ℕ, List, [], None, Some, Err, fold};
 ghost use Rattle.std.specs.Prelude.{length, map, slice_index_or, IfOk, OnOk};
-ghost use Rattle.ld_class.specs.Names.{place_of, place_of_task, plain_class, with_name, IsNameAt};
+ghost use Rattle.ld_class.specs.Names.{place_of, plain_class, with_name, IsNameAt};
 ghost use Rattle.ld_class.specs.declared.names.TheConstants.{MOST_NAMES};
 ghost use Rattle.ld_trace.specs.Events.{Position, plain_event, plain_lock};
 ghost use Rattle.ld_trace.specs.Events.PlainEvent.{Begin, Disable, Enable, Enter, Exit, Release};
 ghost use Rattle.ld_tables.specs.Inner.Interrupts.{fresh};
 ghost use Rattle.ld_rules.specs.Outcome.{event_fault, events};
-ghost use Rattle.ld_facts.specs.Inner.Scan.{AreMany, HasTask, IsAt, Start, acquisition, happens};
+ghost use Rattle.ld_facts.specs.Inner.Scan.{AreMany, IsAt, Start, acquisition, happens};
 ghost use Rattle.ld_facts.specs.Inner.Scan.{StandsOn, fresh_scan, own_names, taken, waited};
 ghost use Rattle.ld_tables.specs.Inner.Uses.{on_facts, with_use};
 ghost use Rattle.ld_rules.specs.declared.fault.TraceFault.{TraceFault};
-ghost use Rattle.ld_rules.specs.declared.outcome.TheConstants.{MOST_CLASSES, MOST_HELD, MOST_TASKS};
+ghost use Rattle.ld_rules.specs.declared.outcome.TheConstants.{MOST_CLASSES, MOST_HELD};
 
 use crate::stop::Stop;
 use crate::taking::Taking;
 use ld_class::{ClassName, Classes};
-use ld_rules::{MOST_CLASSES, MOST_HELD, MOST_TASKS, TraceFault};
+use ld_rules::{MOST_CLASSES, MOST_HELD, TraceFault};
 use ld_tables::{Flag, Locks, Marked, TaskNames, Uses};
 use ld_trace::{Event, Lock, State};
 use std::alloc::{AllocError, Global};
@@ -287,26 +287,6 @@ impl<'a> Scan<'a> {
     {
         let interrupts = self.locks.interrupts(task);
         self.uses.held(self.locks.held(task), interrupts, line)
-    }
-
-    /// The number of the task, which may be new.
-    fn task(&mut self, name: &'a [u8]) -> Result<u32, Stop>
-        requires many { AreMany self.old }
-        ensures task { IfOk result (λ id. HasTask self.old name.entry.now id self.new) }
-        ensures fault { (fault : TraceFault) → result ≡ Err (Stop.Fault fault) →
-            (fault ≡ TraceFault.TooManyTasks)
-            × (place_of_task self.old.tasks name.entry.now ≡ None)
-            × (MOST_TASKS ≤ length self.old.tasks) }
-        ensures first { StandsOn self.old self.new }
-    {
-        if let Some(task) = self.tasks.find(name) {
-            return Ok(task);
-        }
-        if self.tasks.len() >= MOST_TASKS {
-            return Err(Stop::Fault(TraceFault::TooManyTasks));
-        }
-        self.locks.grow()?;
-        Ok(self.tasks.intern(name)?)
     }
 
     /// The number of the class, which may be new, or new to the trace.

@@ -1,7 +1,7 @@
 //! Names of tasks, which are met once for many traces.
-ghost use Rattle.std.specs.Prelude.{◌≡◌, ◌<◌, ◌+◌, [], false, length, nat_eq, IfNone, IfOk, IfSome, OnOk, OnErr, Some};
+ghost use Rattle.std.specs.Prelude.{◌≡◌, ◌<◌, ◌+◌, [], false, length, nat_eq, IfNone, IfOk, IfSome, OnOk, OnErr};
 ghost use Rattle.std.specs.List.{list_any, position};
-ghost use Rattle.ld_class.specs.Names.{AreDistinctTasks, IsNameAt, IsTaskAt, class_of_task, place_of};
+ghost use Rattle.ld_class.specs.Names.{AreDistinctTasks, IsNameAt, IsTaskAt, class_of_task};
 ghost use Rattle.ld_class.specs.Names.{place_of_task, with_name, with_task};
 ghost use Rattle.ld_class.specs.declared.names.TheConstants.{MOST_NAMES};
 ghost use Rattle.ld_tables.specs.declared.tasks.TheConstants.{MOST_KNOWN_TASKS};
@@ -65,12 +65,27 @@ impl<'a> TaskNames<'a> {
     }
 
     /// The place of `name`, or `None` where it is not there.
+    // Most names are that of the call before, and are compared where this is called.
+    #[inline(always)]
     pub fn find(&mut self, name: &[u8]) -> Option<u32>
         ensures same { self.new ≡ self.old }
         ensures place { result ≡ place_of_task self.old name.now }
         ensures here { IfSome result (λ id. IsTaskAt self.old id name.now) }
     {
-        let known = number_of(&self.known, self.last, name)?;
+        if self.known.is_at(self.last, ClassName { name, sub: 0 }) {
+            return place_of_number(&self.here, self.last);
+        }
+        self.look_up(name)
+    }
+
+    /// The same, of a name that isn't that of the call before.
+    #[inline(never)]
+    fn look_up(&mut self, name: &[u8]) -> Option<u32>
+        ensures same { self.new ≡ self.old }
+        ensures place { result ≡ place_of_task self.old name.now }
+        ensures here { IfSome result (λ id. IsTaskAt self.old id name.now) }
+    {
+        let known = self.known.find(ClassName { name, sub: 0 })?;
         self.last = known;
         place_of_number(&self.here, known)
     }
@@ -114,25 +129,14 @@ fn place_of_number(here: &Numbers, number: u32) -> Option<u32>
     ensures place { result ≡ position (nat_eq number) here.now }
     ensures absent { IfNone result (list_any (nat_eq number) here.now ≡ false) }
 {
-    if here.has(number) {
-        Some(here.place(number))
-    } else {
-        None
+    if !here.has(number) {
+        return None;
     }
+    Some(here.place(number))
 }
 
-/// The place of a task among those that are known, of which the one at `last` is asked first.
-fn number_of(known: &Classes<'_>, last: u32, name: &[u8]) -> Option<u32>
-    ensures { result ≡ place_of known.now (class_of_task name.now) }
-{
-    let name = ClassName { name, sub: 0 };
-    if known.is_at(last, name) {
-        return Some(last);
-    }
-    known.find(name)
-}
-
-/// The same, of a task that is put last where it is new.
+/// The place of a task among those that are known, which is put last where it is new. The one at `last` is
+/// asked first.
 ///
 /// `AllocError` where it is new and the memory for it was refused.
 fn learn<'a>(known: &mut Classes<'a>, last: u32, name: &'a [u8]) -> Result<u32, AllocError>

@@ -1,7 +1,8 @@
 //! Names and their numbers, where memory is refused. Under `rt try --test --fail-alloc N` one allocation is
 //! refused, another for each N: the answers are then as before, and the call made again answers `Ok`.
 
-use ld_class::{ClassName, Classes, MOST_NAMES, RecentNames};
+use ld_class::{ClassName, Classes, MOST_NAMES};
+use ld_tables::{MOST_KNOWN_TASKS, TaskNames};
 
 /// The class of this name, and not one of its subclasses.
 fn class(name: &[u8]) -> ClassName<'_> {
@@ -33,14 +34,14 @@ fn a_refused_growth_changes_nothing(rt: HostRuntime) {
     drop(classes);
 }
 
-// Names of tasks.
+// Names of tasks. A name that an earlier trace had takes no memory, wherever it stands among those of this one.
 #[test]
 fn a_refused_growth_loses_no_task(rt: HostRuntime) {
     let text = [b'x'; 200];
-    let mut tasks = RecentNames::new(rt.alloc());
+    let mut tasks = TaskNames::new(rt.alloc());
     for id in 0..200u32 {
         let name = &text[..=id as usize];
-        assert!(rt; tasks.len() < MOST_NAMES);
+        assert!(rt; tasks.len() < MOST_NAMES - MOST_KNOWN_TASKS);
         let mut answer = tasks.intern(name);
         if answer.is_err() {
             assert_eq!(rt; tasks.find(name), None);
@@ -53,5 +54,12 @@ fn a_refused_growth_loses_no_task(rt: HostRuntime) {
         assert_eq!(rt; answer, Ok(id));
     }
     assert_eq!(rt; tasks.len(), 200);
+    tasks.clear();
+    for id in 0..200u32 {
+        let name = &text[id as usize..];
+        assert_eq!(rt; tasks.find(name), None);
+        assert!(rt; tasks.len() < MOST_NAMES - MOST_KNOWN_TASKS);
+        assert_eq!(rt; tasks.intern(name), Ok(id));
+    }
     drop(tasks);
 }
