@@ -15,3 +15,8 @@ pub mod EndedLemmas
 pub mod ShownLemmas
 pub mod PlacedLemmas
 pub mod ReachLemmas
+pub mod TrailLemmas
+pub mod LowerLemmas
+pub mod KnownLemmas
+pub mod WorkLemmas
+pub mod StepLemmas

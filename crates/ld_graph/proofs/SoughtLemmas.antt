@@ -1,7 +1,7 @@
 -- What a search finds, and when it has ended.
 use Rattle.std.proofs.Common.{◌↔◌, Bool, true, false, true≢false}
 use Rattle.std.proofs.Common.{◌≡◌, ◌≢◌, ◌⊎◌, inl, inr, ℕ, suc, ◌+◌, ◌-◌, ◌<◌, ◌≤◌, List, []}
-use Rattle.std.proofs.Common.{◌∷◌, length, get_or, nat_eq, Contains, arith, refl, sym, ap}
+use Rattle.std.proofs.Common.{◌∷◌, length, get_or, nat_eq, Contains, arith, sym, ap}
 use Rattle.std.proofs.Common.{subst, ◌∙◌}
 use Rattle.std.specs.List.{IsDistinct}
 use Rattle.std.proofs.lemmas.Bool.{cases_eq, cases_lt, eqb-true}

@@ -9,3 +9,4 @@ pub mod Ranks
 pub mod Placed
 pub mod Kept
 pub mod KeptReach
+pub mod Trails

@@ -4,3 +4,4 @@ pub mod Walks
 pub mod Edges
 pub mod Order
 pub mod Reach
+pub mod Components

@@ -3,6 +3,7 @@
 ghost use Rattle.std.specs.Prelude.{◌≡◌, ◌≢◌, ℕ, ◌+◌, ◌<◌, ◌≤◌, ◌↔◌, length, slice_get};
 ghost use Rattle.std.specs.Prelude.{slice_index_or, None, Some, IfOk};
 ghost use Rattle.std.specs.Prelude.{OnOk, MatchOption};
+ghost use Rattle.ld_graph.specs.Components.{AreComponents};
 ghost use Rattle.ld_graph.specs.Edges.{ComesBefore, IsEdge, IsEdgeNumber};
 ghost use Rattle.ld_graph.specs.Edges.{empty_graph, with_class, with_edge, with_spares};
 ghost use Rattle.ld_graph.specs.Lists.{IsNear};
@@ -10,6 +11,7 @@ ghost use Rattle.ld_graph.specs.Order.{HasCycle, IsInserted, IsOrder};
 ghost use Rattle.ld_graph.specs.Walks.{DistanceIs, HasWalk, IsShownWalk};
 
 use crate::Edge;
+use crate::components::components_of;
 use crate::levels::measure;
 use crate::lists::{Lists, Steps};
 use crate::placed::{Insert, place};
@@ -201,6 +203,21 @@ impl Graph {
             return None;
         }
         Some(self.ranks.ranks())
+    }
+
+    /// For each class a class of its component, the same one for all of a component: two classes have the
+    /// same exactly where they are one, or walks lead both ways between them. In time linear in the
+    /// classes and edges.
+    ///
+    /// # Errors
+    ///
+    /// `AllocError` where memory was refused.
+    pub fn components(&self, alloc: Global) -> Result<Vec<u32>, AllocError>
+        ensures { IfOk result (λ components.
+            AreComponents (IsEdge self.now.edges) self.now.classes components.items) }
+    {
+        let components = components_of(alloc, &self.lists, self.len())?;
+        Ok(components)
     }
 
     /// For each class the least number of edges, at least one, of a walk from it to `to`, or `None`

@@ -2,6 +2,7 @@
 //! by repairs, and what walks lead to from some classes.
 #![tactic(auto)]
 
+mod components;
 mod graph;
 mod levels;
 mod lists;
@@ -12,6 +13,7 @@ mod reach;
 mod repair;
 mod search;
 mod shown;
+mod trail;
 mod turns;
 
 pub use graph::{Graph, MOST_GRAPH_CLASSES};
