@@ -1,10 +1,11 @@
 -- Dependencies on cycles, by the numbers of their classes, and the walks that their rows show.
-use Rattle.std.proofs.Common.{◌≡◌, ◌≢◌, ◌⊎◌, inl, inr, ◌<◌, List, ℕ, suc, false, [], ◌∷◌, Option, None, Some, is_some, length, refl, sym, ap, subst, ◌∙◌}
+use Rattle.std.proofs.Common.{◌≡◌, ◌≢◌, ◌⊎◌, inl, inr, ◌<◌, List, ℕ, false, [], ◌∷◌, Option, None, Some, is_some, get_or, length, refl, sym, ap, subst, ◌∙◌}
 use Rattle.std.proofs.lemmas.Bool.{true≢false, cases_eq}
 use Rattle.ld_class.specs.Names.{PlainClass}
 use Rattle.ld_graph.specs.Edges.{IsEdge}
+use Rattle.ld_graph.specs.Components.{AreComponents, AreTogether}
 use Rattle.ld_graph.specs.Walks.{DistanceIs, HasWalk, IsShownWalk}
-use Rattle.ld_graph.proofs.WalkLemmas.{HasWalk-Far, IsWalk-Far}
+use Rattle.ld_graph.proofs.WalkLemmas.{HasWalk-Far}
 use Rattle.ld_trace.specs.Sources.{PlainSource}
 use Rattle.ld_rules.specs.Union.{dependency_witness}
 use Rattle.ld_union.specs.declared.dependencies.Witnessed.{Witnessed}
@@ -13,7 +14,7 @@ use Rattle.ld_union.specs.Inner.ByName.{class_name}
 use Rattle.ld_union.specs.Inner.Rows.{IsCycleRowOf}
 use Rattle.ld_union.specs.Inner.Union.{AreBetween, AreWitnessed, edges_of}
 use Rattle.ld_union.specs.Violations.{Depends, IsCycle, Leads}
-use Rattle.ld_union.proofs.NumberLemmas.{depends_from_edge, edge_from_named, walk_from_leads}
+use Rattle.ld_union.proofs.NumberLemmas.{depends_from_edge, edge_from_depends, edge_from_named, walk_from_leads}
 
 module _ {A : Type 0} (step before : A → A → Type 0) where
   -- a shown walk is a walk
@@ -40,12 +41,15 @@ module _ (classes : List PlainClass) (rows : List Witnessed) (is : AreBetween cl
   no_cycle-walk a b at_a at_b none cycle =
       none (walk_from_leads classes rows is sources witnessed b a (class_name classes b) (class_name classes a) (at_b, refl) (at_a, refl) cycle.1)
 
-  -- a class to which no walk leads from itself has no dependency on a cycle
-  pub no_cycle-from : (a : ℕ) (to : PlainClass) → a < length classes → ¬ HasWalk (IsEdge (edges_of rows)) a a → ¬ IsCycle sources (class_name classes a) to
-  no_cycle-from a to at_a none cycle =
-      let far = IsWalk-Far (Depends sources) to (class_name classes a) cycle.1.0 cycle.1.1 in
-      none (walk_from_leads classes rows is sources witnessed a a (class_name classes a) (class_name classes a) (at_a, refl) (at_a, refl)
-      (HasWalk-Far (Depends sources) (suc far.0) (class_name classes a) (class_name classes a) (to, (cycle.0, far.1.1))))
+  -- a class has no dependency on a cycle where none of its edges has a walk back
+  pub no_cycle-out : (a : ℕ) (to : PlainClass) → a < length classes
+      → ((b : ℕ) → IsEdge (edges_of rows) a b → ¬ HasWalk (IsEdge (edges_of rows)) b a) → ¬ IsCycle sources (class_name classes a) to
+  no_cycle-out a to at_a none cycle =
+      let found = edge_from_depends classes rows is sources witnessed (class_name classes a) to cycle.0 in
+      let b = found.1.0 in
+      let same : found.0 ≡ a = is.distinct found.0 a (class_name classes a) found.1.1.0 (at_a, refl) in
+      none b (subst (λ q. IsEdge (edges_of rows) q b) same found.1.1.2)
+      (walk_from_leads classes rows is sources witnessed b a to (class_name classes a) found.1.1.1 (at_a, refl) cycle.1)
 
   -- the row of an edge from a class to itself, or with a shown walk back
   pub cycle-row : (a b : ℕ) (row : PlainCycleRow) → a < length classes → b < length classes → IsEdge (edges_of rows) a b
@@ -70,3 +74,16 @@ module _ (classes : List PlainClass) (rows : List Witnessed) (is : AreBetween cl
       back (inl same) = HasWalk-Far (Depends sources) 0 (class_name classes b) (class_name classes a)
           (subst {A = PlainClass × PlainClass} (λ p. Depends sources p.0 p.1) (λ i. (class_name classes (sym same i), class_name classes (same i))) depends)
       back (inr differs) = HasWalk-shown (Depends sources) IsBefore (class_name classes b) (class_name classes a) row.via (shown differs)
+
+-- an edge has a walk back exactly where it stays in a component
+module _ (step : ℕ → ℕ → Type 0) (n : ℕ) (components : List ℕ) (are : AreComponents step n components) (a b : ℕ) (at_a : a < n) (at_b : b < n)
+    (there : step a b) where
+  pub back-together : get_or components b 0 ≡ get_or components a 0 → HasWalk step b a
+  back-together same = by ((are.each b a at_b at_a).0 same)
+    where
+      by : AreTogether step b a → HasWalk step b a
+      by (inl e) = HasWalk-Far step 0 b a (subst (λ x. step b x) e (subst (λ x. step x b) (sym e) there))
+      by (inr w) = w.0
+
+  pub together-back : HasWalk step b a → get_or components b 0 ≡ get_or components a 0
+  together-back walk = (are.each b a at_b at_a).1 (inr (walk, HasWalk-Far step 0 a b there))

@@ -1,5 +1,5 @@
 -- Rows that are put in order by their keys.
-use Rattle.std.proofs.Common.{◌≡◌, ◌≢◌, inl, inr, ◌<◌, List, ℕ, true, false, [], ◌∷◌, All, AllPairs, Any, Decides, IsPermutation, IsSortedByKey, Less}
+use Rattle.std.proofs.Common.{◌≡◌, ◌≢◌, inl, inr, ◌<◌, List, true, false, [], ◌∷◌, All, AllPairs, Any, Decides, IsPermutation, IsSortedByKey, Less}
 use Rattle.std.proofs.Common.{Equal, Greater, Ordering, is_eq, is_lt, length, map, get_or, refl, sym, ap, subst, ◌∙◌, arith}
 use Rattle.std.proofs.lemmas.Bool.{true≢false}
 use Rattle.std.proofs.lemmas.Cmp.{on_total, then_total, tied_itself}

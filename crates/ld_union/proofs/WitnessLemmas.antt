@@ -1,5 +1,5 @@
 -- Where a bit was first seen.
-use Rattle.std.proofs.Common.{◌≡◌, true, None, Option, is_some, refl, sym, ap, ◌∙◌}
+use Rattle.std.proofs.Common.{◌≡◌, true, None, Option, is_some, sym, ap, ◌∙◌}
 use Rattle.std.proofs.lemmas.Bool.{true≢false}
 use Rattle.ld_class.specs.declared.usage.Usage.{Usage}
 use Rattle.ld_rules.specs.Usage.{Bit, bit_of, usage_of}

@@ -2,7 +2,8 @@
 use Rattle.std.specs.Prelude.{◌≡◌, ◌<◌, ℕ, List, length, slice_index_or, Option, None, Some}
 use Rattle.ld_class.specs.Names.{PlainClass}
 use Rattle.ld_graph.specs.Edges.{IsEdge}
-use Rattle.ld_graph.specs.Walks.{DistanceIs}
+use Rattle.ld_graph.specs.Components.{AreComponents}
+use Rattle.ld_graph.specs.Walks.{DistanceIs, HasWalk}
 use Rattle.ld_trace.specs.declared.event.State.{State}
 use Rattle.ld_trace.specs.Sources.{PlainSource}
 use Rattle.ld_rules.specs.declared.outcome.Witness.{Witness}
@@ -84,6 +85,14 @@ pub record IsNoted (sources : List PlainSource) (class : PlainClass) (bit : Bit)
 pub record AreDistances (union : PlainUnion) (to : ℕ) (distances : List (Option ℕ)) : Type 0 where
   pub len : length distances ≡ length union.classes
   pub each : (c : ℕ) → DistanceIs (IsEdge (edges_of union.dependencies)) c to (slice_index_or distances c None)
+
+-- which classes of a union are in one component
+abbrev pub AreComponentsOf : PlainUnion → List ℕ → Type 0
+AreComponentsOf union components = AreComponents (IsEdge (edges_of union.dependencies)) (length union.classes) components
+
+-- an edge from a to b, with a walk back
+abbrev pub IsBackEdge : PlainUnion → (a b : ℕ) → Type 0
+IsBackEdge union a b = IsEdge (edges_of union.dependencies) a b × HasWalk (IsEdge (edges_of union.dependencies)) b a
 
 -- the name is one of the first of these classes, which are so many
 abbrev pub IsPassed : List PlainClass → List ℕ → ℕ → PlainClass → Type 0

@@ -1,10 +1,10 @@
 //! The dependencies that are on cycles.
-ghost use Rattle.std.specs.Prelude.{◌≡◌, ◌<◌, IfOk, List, MatchOption, length, map};
+ghost use Rattle.std.specs.Prelude.{◌≡◌, ◌↔◌, ◌<◌, ℕ, IfOk, IsTrue, List, MatchOption, length, map};
 ghost use Rattle.ld_trace.specs.Sources.{PlainSource};
 ghost use Rattle.ld_rules.specs.Union.{dependency_witness};
 ghost use Rattle.ld_union.specs.Findings.{AreCycleRows, plain_cycle_row};
 ghost use Rattle.ld_union.specs.Inner.ByName.{AreByName, class_name};
-ghost use Rattle.ld_union.specs.Inner.Rows.{AreCycleRowsOf, AreDistances, IsCycleRowOf, IsOfEach};
+ghost use Rattle.ld_union.specs.Inner.Rows.{AreComponentsOf, AreCycleRowsOf, AreDistances, IsBackEdge, IsCycleRowOf, IsOfEach};
 ghost use Rattle.ld_union.specs.Inner.Union.{Shows};
 ghost use Rattle.ld_union.specs.Violations.{IsCycle};
 
@@ -14,6 +14,7 @@ use crate::findings::walks::{Target, walk_names};
 use crate::rows::Rows;
 use crate::union::Union;
 use ld_class::ClassName;
+use ld_graph::Steps;
 use ld_rules::Witness;
 use std::alloc::{AllocError, Global};
 
@@ -48,21 +49,25 @@ pub(crate) fn cycle_rows<'a>(
     if found.cycle.is_none() {
         return Ok(rows);
     }
+    let components = union.graph().components(alloc)?;
     for from in &order.numbers {
-        let mut more = cycles_from(alloc, union, order, *from)?;
+        let mut more = cycles_from(alloc, union, order, &components, *from)?;
         rows.append(&mut more)?;
     }
     Ok(rows)
 }
 
-/// Those that leave this class, by the name of the other one.
+/// Those that leave this class, by the name of the other one. Where there is none, nothing is searched
+/// for.
 fn cycles_from<'a>(
     alloc: Global,
     union: &Union<'a>,
     order: &ByName,
+    components: &[u32],
     from: u32,
 ) -> Result<Vec<CycleRow<'a>>, AllocError>
     requires order { AreByName union.now.classes order.now.numbers.items order.now.places.items }
+    requires components { AreComponentsOf union.now components.now }
     requires from { from < length union.now.classes }
     ensures { IfOk result (λ rows. (sources : List PlainSource)
         → Shows sources union.now
@@ -70,16 +75,31 @@ fn cycles_from<'a>(
         (map plain_cycle_row rows.items)) }
 {
     let mut rows = Vec::new(alloc);
-    let target = Target::new(alloc, union, from)?;
-    if target.distances[from as usize].is_none() {
+    if !leaves_on_cycle(union, components, from) {
         return Ok(rows);
     }
+    let target = Target::new(alloc, union, from)?;
     for to in &order.numbers {
         if let Some(row) = cycle_row(alloc, union, order, &target, *to)? {
             rows.push(row)?;
         }
     }
     Ok(rows)
+}
+
+/// Whether a dependency that leaves this class is on a cycle, which is to stay in the component. Takes no
+/// memory.
+fn leaves_on_cycle(union: &Union<'_>, components: &[u32], from: u32) -> bool
+    requires components { AreComponentsOf union.now components.now }
+    requires from { from < length union.now.classes }
+    ensures { IsTrue result ↔ ((to : ℕ) × IsBackEdge union.now from to) }
+{
+    for &to in union.graph().lists().after(from, &mut Steps::new()) {
+        if components[to as usize] == components[from as usize] {
+            return true;
+        }
+    }
+    false
 }
 
 /// The row of the dependency from the target's class to another, or `None` where there is none on a

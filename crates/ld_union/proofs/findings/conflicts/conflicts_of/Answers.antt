@@ -1,4 +1,4 @@
-use Rattle.std.proofs.Common.{◌≡◌, ◌<◌, ◌≤◌, ◌+◌, ℕ, ◌∙◌, ◌∷◌, ◌++◌, [], List, Vec, length, get_or, map, subst, sym, ap}
+use Rattle.std.proofs.Common.{◌≡◌, ◌<◌, ◌≤◌, ◌+◌, ◌∙◌, ◌∷◌, ◌++◌, [], Vec, length, get_or, map, subst, sym, ap}
 use Rattle.std.proofs.lemmas.List.{append-nil, map-append}
 use Rattle.ld_class.specs.Names.{PlainClass}
 use Rattle.ld_trace.specs.declared.event.State.{State}

@@ -1,34 +1,27 @@
-use Rattle.std.proofs.Common.{◌≡◌, ◌<◌, ◌≤◌, ◌+◌, ℕ, ◌∙◌, ◌∷◌, ◌++◌, [], List, None, Vec, false, get_or, is_some, length, map, subst, sym, ap}
-use Rattle.std.proofs.lemmas.List.{append-nil, get_or_default, map-append}
+use Rattle.std.proofs.Common.{◌≡◌, ◌<◌, ◌≤◌, ◌+◌, ◌∙◌, ◌∷◌, ◌++◌, [], Vec, get_or, length, map, subst, sym, ap}
+use Rattle.std.proofs.lemmas.Bool.{true≢false}
+use Rattle.std.proofs.lemmas.List.{append-nil, map-append}
 use Rattle.std.proofs.lemmas.Option.{MatchOption-at_none, MatchOption-at_some}
 use Rattle.ld_class.specs.Names.{PlainClass}
-use Rattle.ld_graph.specs.Edges.{IsEdge}
-use Rattle.ld_graph.specs.Walks.{HasWalk}
 use Rattle.ld_union.specs.Findings.{IsBefore, IsCycleRow, IsPairBefore, cycle_key, plain_cycle_row}
 use Rattle.ld_union.specs.Inner.ByName.{class_name}
 use Rattle.ld_union.specs.Inner.Rows.{AreCycleRowsOf, IsCycleRowOf, IsPassed}
 use Rattle.ld_union.specs.Violations.{IsCycle}
-use Rattle.ld_union.specs.Inner.Union.{edges_of}
-use Rattle.ld_union.proofs.CycleLemmas.{no_cycle-from, no_walk}
+use Rattle.ld_union.proofs.CycleLemmas.{no_cycle-out}
 use Rattle.ld_union.proofs.NumberLemmas.{edge_from_depends}
 use Rattle.ld_union.proofs.PassedLemmas.{name_at, passed_all, rows-more}
 use Rattle.ld_union.proofs.RowLemmas.{rows-none, rows-not, rows-one, rows-same}
 use Rattle.ld_union.proofs.findings.cycles.cycles_from.Goals as goal
 use Rattle.ld_union.proofs.findings.cycles.cycles_from.Goals.{in-Some+in_ok-push, in_default}
 
-pub returns-then-is_none : goal.returns-then-is_none
-returns-then-is_none c sources shows =
+pub returns-then-not-leaves_on_cycle : goal.returns-then-not-leaves_on_cycle
+returns-then-not-leaves_on_cycle c sources shows =
     let union = c.args.union.now in
     let a = c.args.from in
-    let distances = c.in_ok-target.target.distances.items in
-    let are = c.in_ok-target.ensures.distances in
-    let within : a < length distances = subst (λ n. a < n) (sym are.len) c.requires.from in
-    let none : is_some (get_or distances a None) ≡ false = ap is_some (get_or_default distances a None c.index.result.now within ∙ sym c.index.ensures) ∙ c.if-is_none.ensures in
-    let no_walk_back : ¬ HasWalk (IsEdge (edges_of union.dependencies)) a a = no_walk (IsEdge (edges_of union.dependencies)) a a (get_or distances a None) (are.each a) none in
     subst (AreCycleRowsOf sources (λ p. p.0 ≡ class_name union.classes a)) (sym (ap (map plain_cycle_row) c.new-rows.ensures.items))
     (rows-none cycle_key (IsCycleRow sources) (λ p. IsCycle sources p.0 p.1) IsPairBefore (λ p. p.0 ≡ class_name union.classes a)
-    (λ p cycle from. no_cycle-from union.classes union.dependencies shows.numbered sources shows.witnesses a p.1 c.requires.from
-    no_walk_back (subst (λ n. IsCycle sources n p.1) from cycle)))
+    (λ p cycle from. no_cycle-out union.classes union.dependencies shows.numbered sources shows.witnesses a p.1 c.requires.from
+    (λ b there walk. true≢false (sym (c.leaves_on_cycle.ensures.1 (b, (there, walk))) ∙ c.if-not-leaves_on_cycle.true)) (subst (λ n. IsCycle sources n p.1) from cycle)))
 
 pub loop-to-preserved : goal.loop-to-preserved
 loop-to-preserved c sources shows =

@@ -1,4 +1,4 @@
-use Rattle.std.proofs.Common.{rules, ◌≡◌, ◌<◌, ◌≤◌, ◌+◌, ℕ, ◌∙◌, ◌∷◌, ◌++◌, [], List, Vec, get_or, length, map, subst, sym, ap}
+use Rattle.std.proofs.Common.{rules, ◌≡◌, ◌<◌, ◌≤◌, ◌+◌, ℕ, ◌∙◌, ◌∷◌, ◌++◌, [], Vec, get_or, length, map, subst, sym, ap}
 use Rattle.std.proofs.lemmas.List.{append-nil, map-append}
 use Rattle.std.proofs.lemmas.Option.{MatchOption-at_none, MatchOption-at_some}
 use Rattle.ld_class.specs.Names.{PlainClass, plain_class}
@@ -15,7 +15,7 @@ use Rattle.ld_union.specs.Violations.{HasBit, IsForbidden}
 use Rattle.ld_union.proofs.PassedLemmas.{name_at, passed_all, rows-more}
 use Rattle.ld_union.proofs.BitLemmas.{bits_from_used}
 use Rattle.ld_union.proofs.NumberLemmas.{walk_from_leads}
-use Rattle.ld_union.proofs.RowLemmas.{None_from_is_some, rows-none, rows-not, rows-one, rows-same}
+use Rattle.ld_union.proofs.RowLemmas.{rows-none, rows-not, rows-one, rows-same}
 use Rattle.ld_union.proofs.UsageLemmas.{number_of}
 use Rattle.ld_union.proofs.WitnessLemmas.{bit_of-usage_of}
 use Rattle.ld_union.proofs.findings.forbidden.forbidden_to.Goals as goal
