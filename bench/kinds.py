@@ -2,7 +2,7 @@
 
 A stream depends on its kind, size and seed alone. Nothing is written that a trace may not have, so no
 trace is refused. Classes have numbers, and a task acquires them in rising order: so all kinds but
-`cycles` have no violation. Handlers acquire the greatest numbers alone, and what leads to those is
+`cycles` and the two `lone` ones have no violation. Handlers acquire the greatest numbers alone, and what leads to those is
 held where the handlers can't interrupt.
 """
 import random
@@ -336,6 +336,44 @@ def cycles(draws, size):
     return shown(draws, size, Locks(draws, classes), again(draws, pairs), 50)
 
 
+def inversion(task, locks):
+    return dependency(task, locks, (0, 1)) + dependency(task, locks, (1, 0))
+
+
+def unsafe_walk(task, locks):
+    """Class 0 is acquired by a handler, and class 1, which is held where handlers can interrupt, under it."""
+    safe = locks.lock(0)
+    return (b'enter %b hard\nacquire %b %b\nrelease %b %b\nexit %b hard\n' % (task, task, safe, task, safe, task)
+            + b'disable %b hard\n%benable %b hard\n' % (task, dependency(task, locks, (0, 1)), task))
+
+
+def lone(draws, size, violation):
+    """Up to 100,000 classes that no dependency leaves or enters, and one violation of two others."""
+    count = min(100_000, size // BYTES_EACH)
+    locks, names = Locks(draws, count), task_names()
+    others = again(draws, list(range(1, count)))
+    each = max(100, size // MOST_TRACES // 60)
+    number = 0
+    while True:
+        task = names[draws.below(len(names))]
+        pieces = [b'trace run-%d\n' % number]
+        if number == 0:
+            pieces.append(violation(task, locks))
+        for _ in range(each):
+            lock = locks.lock(next(others))
+            pieces.append(b'acquire %b %b\nrelease %b %b\n' % (task, lock, task, lock))
+        yield b''.join(pieces)
+        number += 1
+
+
+def lone_cycle(draws, size):
+    return lone(draws, size, inversion)
+
+
+def lone_walk(draws, size):
+    return lone(draws, size, unsafe_walk)
+
+
 Kind = namedtuple('Kind', 'traces is_clean what')
 KINDS = {
     'wide': Kind(wide, True, '300 classes, up to 6 tasks in turn, up to 6 locks held'),
@@ -345,6 +383,8 @@ KINDS = {
     'layers': Kind(layers, True, '8,000 classes, up to 60,000 dependencies, the deepest first'),
     'layers-small': Kind(layers_small, True, 'the same in up to 60,000 small traces'),
     'layers-handlers': Kind(layers_handlers, True, 'the same, and handlers that acquire deep classes'),
+    'lone-cycle': Kind(lone_cycle, False, 'up to 100,000 classes without a dependency, and one inversion'),
+    'lone-walk': Kind(lone_walk, False, 'the same, and one forbidden walk'),
     'cycles': Kind(cycles, False, 'up to 12,000 dependencies of 2,000 classes, all of them inversions'),
 }
 LEAST, MOST = 20_000, 2_100 * MB  # bytes of a stream

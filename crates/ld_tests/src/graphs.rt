@@ -89,6 +89,17 @@ fn distances<R: Abort>(rt: &R, alloc: Global, graph: &Graph, to: u32) -> Vec<Opt
     }
 }
 
+fn components<R: Abort>(rt: &R, alloc: Global, graph: &Graph) -> Vec<u32>
+    ensures { length result.items ≡ graph.now.classes }
+{
+    match graph.components(alloc) {
+        Ok(components) => components,
+        Err(_) => graph
+            .components(alloc)
+            .expect(rt, "components found again"),
+    }
+}
+
 fn walk<R: Abort>(
     rt: &R,
     alloc: Global,
@@ -155,6 +166,11 @@ fn expect_circle<R: Abort>(rt: &R, alloc: Global, graph: &Graph) {
     expect_edge(rt, graph, 1, 2, Some(2));
     expect_edge(rt, graph, 3, 3, Some(3));
     expect_edge(rt, graph, 0, 2, None);
+    let components = components(rt, alloc, graph);
+    assert!(rt; components.len() == 4);
+    assert_eq!(rt; components[0], components[1]);
+    assert_eq!(rt; components[0], components[2]);
+    assert!(rt; components[0] != components[3]);
     let wanted = [Some(2), Some(1), Some(3), None];
     assert_eq!(rt;
         distances(rt, alloc, graph, 2).as_slice(),
@@ -217,6 +233,7 @@ fn a_long_way(rt: HostRuntime) {
     for a in 0..1_999 {
         insert_new(&rt, &mut graph, a, a + 1);
     }
+    assert!(rt; components(&rt, alloc, &graph).len() == 2_000);
     let distances = distances(&rt, alloc, &graph, 1_999);
     assert!(rt; !distances.is_empty());
     assert_eq!(rt; distances[0], Some(1_999));
