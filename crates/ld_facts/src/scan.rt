@@ -160,7 +160,7 @@ impl<'a> Scan<'a> {
         ensures first { StandsOn self.old self.new }
     {
         let task = self.task(task)?;
-        if self.locks.let_go(task, lock)? {
+        if self.locks.let_go(task, lock) {
             Ok(())
         } else {
             Err(Stop::Fault(TraceFault::NotHeld))

@@ -5,9 +5,8 @@ use Rattle.std.proofs.lemmas.Bool.{eqb-true, and_parts, cases_lt}
 use Rattle.std.proofs.lemmas.List.{get_or_push, get_or_append_left, length_push}
 use Rattle.std.proofs.lemmas.List.Quantifiers.{position-Some}
 use Rattle.std.specs.Option.{option_eq}
-use Rattle.std.proofs.lemmas.List.Folds.{list_any_at}
-use Rattle.std.proofs.lemmas.List.Sums.{fold_push, position_or_len_is}
-use Rattle.std.specs.List.{list_any, position, position_or_len}
+use Rattle.std.proofs.lemmas.List.Sums.{fold_push}
+use Rattle.std.specs.List.{list_any, position}
 use Rattle.ld_tables.specs.declared.chains.Link.{Link}
 use Rattle.ld_tables.specs.Inner.Chains.{chain_before, chains_of, IsTree, same_link}
 use Rattle.ld_rules.proofs.PlaceLemmas.{by_pushes}

@@ -5,6 +5,7 @@ pub mod StackLemmas
 pub mod ChainLemmas
 pub mod EdgeLemmas
 pub mod LockLemmas
+pub mod TopLemmas
 pub mod FirstLemmas
 pub mod BeforeLemmas
 pub mod NumberedLemmas

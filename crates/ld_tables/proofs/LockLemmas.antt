@@ -1,6 +1,6 @@
 -- Stacks, chains and what was told.
 use Rattle.std.proofs.Common.{◌≡◌, ◌<◌, ◌≤◌, ◌+◌, ◌-◌, ◌||◌, ◌++◌, ◌∷◌, [], List, ℕ, zero, suc, Bool, true, false, map, length, take, drop, remove}
-use Rattle.std.proofs.Common.{get_or, set, fold, Some, None, IfSome, Result, Ok, Err, OnOk, OnErr, refl, ap, sym, subst, ◌∙◌, ◌⊎◌, inl, inr}
+use Rattle.std.proofs.Common.{get_or, set, fold, Option, Some, None, IfSome, option_map, Result, Ok, Err, OnOk, OnErr, refl, ap, sym, subst, ◌∙◌, ◌⊎◌, inl, inr}
 use Rattle.std.proofs.Common.{arith, if◌then◌else◌, eqb, nat_eq}
 use Rattle.std.proofs.lemmas.Bool.{and_parts, and_from, or_left, or_right, eq-eqb, eqb-true, cases_lt, cases_eq}
 use Rattle.std.proofs.Math.ListN.{get_or-map}
@@ -12,7 +12,7 @@ use Rattle.std.proofs.lemmas.List.{get_or-set_same, get_or-set_other}
 use Rattle.std.proofs.lemmas.List.Folds.{list_any-append, Any-from_list_any}
 use Rattle.std.proofs.lemmas.List.Elements.{All-push, All-weaker}
 use Rattle.std.proofs.lemmas.Simd.{map-map}
-use Rattle.std.specs.List.{last_or, list_all, list_any}
+use Rattle.std.specs.List.{list_all, list_any}
 use Rattle.ld_class.proofs.Mapped.{list_any-map}
 use Rattle.ld_tables.specs.declared.edges.EdgeFact.{EdgeFact}
 use Rattle.ld_tables.specs.Inner.Chains.{chain_before}
@@ -25,7 +25,7 @@ use Rattle.ld_tables.specs.Inner.Interrupts.{IsEntered, IsLeft, fresh, start_now
 use Rattle.ld_tables.specs.Inner.Stacks.{PlainHeld, PlainStack, empty_stack, inner, plain_held, holds}
 use Rattle.ld_rules.specs.Inner.Scanned.{remove_last}
 use Rattle.ld_tables.specs.Inner.Locks.{Hold, HeldByTasks, ChangesInterrupts, is_of, hold_of, holds_of, held_by_tasks, classes_held}
-use Rattle.ld_tables.specs.Inner.Locks.{chain_of, IsChain, AreChainedBelow, AreChained, AreChainedIn, IsExtended, HasItsEdges, AreTied}
+use Rattle.ld_tables.specs.Inner.Locks.{chain_of, chain_up_to, IsChain, IsChainIfAny, IsNumbered, AreChainedBelow, AreChained, AreChainedIn, IsExtended, HasItsEdges, AreTied}
 use Rattle.ld_rules.proofs.OpenLemmas.{remove_last-none}
 use Rattle.ld_rules.proofs.RemoveLemmas.{map-remove_last}
 use Rattle.ld_rules.proofs.PlaceLemmas.{by_pushes, last_or-push}
@@ -77,8 +77,12 @@ none_new class line edges (from ∷ froms) all =
 pub IsChain-kept : (a b : List (List ℕ)) (n : ℕ) (chain : List ℕ) → IsExtended a b → IsChain a n chain → IsChain b n chain
 IsChain-kept a b n chain h is = (let x = h.more in let y = is.0 in omega arith, h.kept n is.0 ∙ is.1)
 
+if_any-kept : (a b : List (List ℕ)) (number : Option ℕ) (chain : List ℕ) → IsExtended a b → IsChainIfAny a number chain → IsChainIfAny b number chain
+if_any-kept a b None chain h is = tt
+if_any-kept a b (Some n) chain h is = IsChain-kept a b n chain h is
+
 pub AreChainedBelow-kept : (a b : List (List ℕ)) (stack : List PlainHeld) (n : ℕ) → IsExtended a b → AreChainedBelow a stack n → AreChainedBelow b stack n
-AreChainedBelow-kept a b stack n h are i d below within = IsChain-kept a b (get_or stack i d).chain (take (i + 1) (classes_held stack)) h (are i d below within)
+AreChainedBelow-kept a b stack n h are i d below within = if_any-kept a b (get_or stack i d).chain (take (i + 1) (classes_held stack)) h (are i d below within)
 
 pub HasItsEdges-kept : (a b : List (List ℕ)) (edges : List EdgeFact) (number : ℕ) → IsExtended a b → HasItsEdges a edges number → HasItsEdges b edges number
 HasItsEdges-kept a b edges number h is = record {
@@ -88,41 +92,45 @@ HasItsEdges-kept a b edges number h is = record {
 
 -- the chain of a stack
 
-chain_of-push : (stack : List PlainHeld) (held : PlainHeld) → chain_of (stack ++ held ∷ []) ≡ Some held.chain
-chain_of-push stack held = ap (last_or None) (map-append (λ h. h.chain) stack (held ∷ [])) ∙ last_or-push None (map (λ h. h.chain) stack) held.chain
-
--- the number of the chain of a stack is that of the list of its classes
-pub record IsNumbered (chains : List (List ℕ)) (stack : List PlainHeld) : Type 0 where
-  pub known : IfSome (chain_of stack) (λ n. n < length chains)
-  pub chain : chain_before chains (chain_of stack) ≡ classes_held stack
+chain_of-push : (stack : List PlainHeld) (held : PlainHeld) → chain_of (stack ++ held ∷ []) ≡ option_map Some held.chain
+chain_of-push stack held = ap chain_up_to (last_or-push None stack held)
 
 pub chain_of_is : (chains : List (List ℕ)) (stack : List PlainHeld) → AreChained chains stack → IsNumbered chains stack
 chain_of_is chains stack = by_pushes (λ xs. AreChained chains xs → IsNumbered chains xs) (λ _. record { known = tt; chain = refl }) step stack
   where
+    known_of : (number : Option ℕ) (chain : List ℕ) → IsChainIfAny chains number chain → IfSome (option_map Some number) (λ before. IfSome before (λ n. n < length chains))
+    known_of None chain is = tt
+    known_of (Some n) chain is = is.0
+
+    chain_is : (number : Option ℕ) (chain : List ℕ) → IsChainIfAny chains number chain → IfSome (option_map Some number) (λ before. chain_before chains before ≡ chain)
+    chain_is None chain is = tt
+    chain_is (Some n) chain is = is.1
+
     step : (xs : List PlainHeld) (x : PlainHeld) → (AreChained chains xs → IsNumbered chains xs) → AreChained chains (xs ++ x ∷ []) → IsNumbered chains (xs ++ x ∷ [])
     step xs x _ are =
         let longer : length xs < length (xs ++ x ∷ []) = omega (arith, length_push xs x) in
         let here : get_or (xs ++ x ∷ []) (length xs) x ≡ x = get_or_push xs x x (length xs) refl in
         let whole : take (length xs + 1) (classes_held (xs ++ x ∷ [])) ≡ classes_held (xs ++ x ∷ []) = take_all (length xs + 1)
         (classes_held (xs ++ x ∷ [])) (omega (arith, length-map (xs ++ x ∷ []) (λ (h : PlainHeld). h.class), length_push xs x)) in
-        let at = are (length xs) x longer longer in
+        let at : IsChainIfAny chains x.chain (classes_held (xs ++ x ∷ [])) = subst (IsChainIfAny chains x.chain) whole
+        (subst (λ (h : PlainHeld). IsChainIfAny chains h.chain (take (length xs + 1) (classes_held (xs ++ x ∷ [])))) here (are (length xs) x longer longer)) in
         record {
-          known = subst (λ o. IfSome o (λ n. n < length chains)) (sym (chain_of-push xs x)) (subst (λ (h : PlainHeld). h.chain < length chains) here at.0);
-          chain = ap (chain_before chains) (chain_of-push xs x) ∙ ap (λ (h : PlainHeld). get_or chains h.chain []) (sym here) ∙ at.1 ∙ whole;
+          known = subst (λ o. IfSome o (λ before. IfSome before (λ n. n < length chains))) (sym (chain_of-push xs x)) (known_of x.chain (classes_held (xs ++ x ∷ [])) at);
+          chain = subst (λ o. IfSome o (λ before. chain_before chains before ≡ classes_held (xs ++ x ∷ []))) (sym (chain_of-push xs x)) (chain_is x.chain (classes_held (xs ++ x ∷ [])) at);
         }
 
 -- the chain of a stack, as its last lock shows it
-pub chain_of_last : (d : Held) (stack : List Held) → 0 < length stack → Some (get_or stack (length stack - 1) d).chain ≡ chain_of (map plain_held stack)
-chain_of_last d stack = by_pushes (λ xs. 0 < length xs → Some (get_or xs (length xs - 1) d).chain ≡ chain_of (map plain_held xs)) (λ some. absurd (omega arith)) step stack
+pub chain_of_last : (d : Held) (stack : List Held) → 0 < length stack → option_map Some (get_or stack (length stack - 1) d).chain ≡ chain_of (map plain_held stack)
+chain_of_last d stack = by_pushes (λ xs. 0 < length xs → option_map Some (get_or xs (length xs - 1) d).chain ≡ chain_of (map plain_held xs)) (λ some. absurd (omega arith)) step stack
   where
-    step : (xs : List Held) (x : Held) → (0 < length xs → Some (get_or xs (length xs - 1) d).chain ≡ chain_of (map plain_held xs)) → 0 < length
-        (xs ++ x ∷ []) → Some (get_or (xs ++ x ∷ []) (length (xs ++ x ∷ []) - 1) d).chain ≡ chain_of (map plain_held (xs ++ x ∷ []))
+    step : (xs : List Held) (x : Held) → (0 < length xs → option_map Some (get_or xs (length xs - 1) d).chain ≡ chain_of (map plain_held xs)) → 0 < length
+        (xs ++ x ∷ []) → option_map Some (get_or (xs ++ x ∷ []) (length (xs ++ x ∷ []) - 1) d).chain ≡ chain_of (map plain_held (xs ++ x ∷ []))
     step xs x _ _ =
         let here : get_or (xs ++ x ∷ []) (length (xs ++ x ∷ []) - 1) d ≡ x = get_or_push xs x d (length (xs ++ x ∷ []) - 1) (omega (arith, length_push xs x)) in
-        ap (λ (h : Held). Some h.chain) here ∙ sym (ap chain_of (map-append plain_held xs (x ∷ [])) ∙ chain_of-push (map plain_held xs) (plain_held x))
+        ap (λ (h : Held). option_map Some h.chain) here ∙ sym (ap chain_of (map-append plain_held xs (x ∷ [])) ∙ chain_of-push (map plain_held xs) (plain_held x))
 
 -- a lock with the chain of the stack and its class
-pub AreChained-push : (chains : List (List ℕ)) (stack : List PlainHeld) (held : PlainHeld) → AreChained chains stack → IsChain chains held.chain
+pub AreChained-push : (chains : List (List ℕ)) (stack : List PlainHeld) (held : PlainHeld) → AreChained chains stack → IsChainIfAny chains held.chain
     (classes_held stack ++ held.class ∷ []) → AreChained chains (stack ++ held ∷ [])
 AreChained-push chains stack held are is i d below within = by (cases_lt i (length stack))
   where
@@ -132,18 +140,18 @@ AreChained-push chains stack held are is i d below within = by (cases_lt i (leng
     many : length (classes_held stack) ≡ length stack
     many = length-map stack (λ (h : PlainHeld). h.class)
 
-    by : (i < length stack) ⊎ (length stack ≤ i) → IsChain chains (get_or (stack ++ held ∷ []) i d).chain (take (i + 1) (classes_held (stack ++ held ∷ [])))
+    by : (i < length stack) ⊎ (length stack ≤ i) → IsChainIfAny chains (get_or (stack ++ held ∷ []) i d).chain (take (i + 1) (classes_held (stack ++ held ∷ [])))
     by (inl before) =
         let here : get_or stack i d ≡ get_or (stack ++ held ∷ []) i d = sym (get_or_append_left stack (held ∷ []) d i before) in
         let front : take (i + 1) (classes_held stack) ≡ take (i + 1) (classes_held (stack ++ held ∷ [])) = sym
         (ap (take (i + 1)) classes_push ∙ take-append-le (i + 1) (classes_held stack) (held.class ∷ []) (omega (arith, many))) in
-        subst (λ (h : PlainHeld). IsChain chains h.chain (take (i + 1) (classes_held (stack ++ held ∷ [])))) here (subst (λ c. IsChain chains (get_or stack i d).chain c) front (are i d before before))
+        subst (λ (h : PlainHeld). IsChainIfAny chains h.chain (take (i + 1) (classes_held (stack ++ held ∷ [])))) here (subst (λ c. IsChainIfAny chains (get_or stack i d).chain c) front (are i d before before))
     by (inr last) =
         let end : length stack ≡ i = omega (arith, within, last, length_push stack held) in
         let here : held ≡ get_or (stack ++ held ∷ []) i d = sym (get_or_push stack held d i end) in
         let whole : classes_held stack ++ held.class ∷ [] ≡ take (i + 1) (classes_held (stack ++ held ∷ [])) = sym
         (ap (take (i + 1)) classes_push ∙ take_all (i + 1) (classes_held stack ++ held.class ∷ []) (omega (arith, many, end, length_push (classes_held stack) held.class))) in
-        subst (λ (h : PlainHeld). IsChain chains h.chain (take (i + 1) (classes_held (stack ++ held ∷ [])))) here (subst (λ c. IsChain chains held.chain c) whole is)
+        subst (λ (h : PlainHeld). IsChainIfAny chains h.chain (take (i + 1) (classes_held (stack ++ held ∷ [])))) here (subst (λ c. IsChainIfAny chains held.chain c) whole is)
 
 -- the bottom of a stack keeps its chains
 AreChained-front : (chains : List (List ℕ)) (stack : List PlainHeld) (place : ℕ) → place ≤ length stack → AreChained chains stack → AreChained chains (take place stack)
@@ -152,8 +160,8 @@ AreChained-front chains stack place short are i d below within =
     let here : get_or (take place stack) i d ≡ get_or stack i d = get_or-take place stack i d inside in
     let classes : take (i + 1) (classes_held (take place stack)) ≡ take (i + 1) (classes_held stack) =
     ap (take (i + 1)) (sym (take-map (λ (h : PlainHeld). h.class) place stack)) ∙ take-take (i + 1) place (classes_held stack) (omega arith) in
-    subst (λ c. IsChain chains (get_or (take place stack) i d).chain c) (sym classes)
-    (subst (λ (h : PlainHeld). IsChain chains h.chain (take (i + 1) (classes_held stack))) (sym here) (are i d (omega arith) (omega arith)))
+    subst (λ c. IsChainIfAny chains (get_or (take place stack) i d).chain c) (sym classes)
+    (subst (λ (h : PlainHeld). IsChainIfAny chains h.chain (take (i + 1) (classes_held stack))) (sym here) (are i d (omega arith) (omega arith)))
 
 -- the chains of frames
 
@@ -177,7 +185,7 @@ AreChainedIn-kept a b stack (start ∷ starts) h are = (
 )
 
 AreChainedIn-push : (chains : List (List ℕ)) (stack : List PlainHeld) (held : PlainHeld) (starts : List ℕ) → AreChainedIn chains stack starts →
-    IsChain chains held.chain (classes_held (drop (first_start starts) stack) ++ held.class ∷ []) → AreChainedIn chains (stack ++ held ∷ []) starts
+    IsChainIfAny chains held.chain (classes_held (drop (first_start starts) stack) ++ held.class ∷ []) → AreChainedIn chains (stack ++ held ∷ []) starts
 AreChainedIn-push chains stack held [] are is = AreChained-push chains stack held are is
 AreChainedIn-push chains stack held (start ∷ starts) are is =
     let short : start ≤ length stack = are.0 in
@@ -351,13 +359,13 @@ module _ (stacks : List PlainStack) (chains : List (List ℕ)) (told : List ℕ)
 
 -- the task holds one more lock, whose chain is that of the innermost frame with its class
 pub tied_push : (stacks : List PlainStack) (chains : List (List ℕ)) (told : List ℕ) (edges : List EdgeFact) → AreTied stacks chains told edges →
-    (task : ℕ) (held : PlainHeld) → task < length stacks → (more : List (List ℕ)) → IsExtended chains more → held.chain < length more →
-    get_or more held.chain [] ≡ classes_held (inner (get_or stacks task empty_stack)) ++ held.class ∷ [] →
+    (task : ℕ) (held : PlainHeld) → task < length stacks → (more : List (List ℕ)) → IsExtended chains more →
+    IsChainIfAny more held.chain (classes_held (inner (get_or stacks task empty_stack)) ++ held.class ∷ []) →
     AreTied (set stacks task (record (get_or stacks task empty_stack) { held = (get_or stacks task empty_stack).held ++ held ∷ [] })) more told edges
-tied_push stacks chains told edges tied task held within more extended known is =
+tied_push stacks chains told edges tied task held within more extended is =
     let tied_more : AreTied stacks more told edges = tied_extended stacks chains told edges tied more extended in
     tied_set stacks more told edges tied_more task (record (get_or stacks task empty_stack) { held = (get_or stacks task empty_stack).held ++ held ∷ [] }) within
-    (AreChainedIn-push more (get_or stacks task empty_stack).held held (starts_of (get_or stacks task empty_stack).interrupts) (tied_more.chained task) (known, is))
+    (AreChainedIn-push more (get_or stacks task empty_stack).held held (starts_of (get_or stacks task empty_stack).interrupts) (tied_more.chained task) is)
 
 -- a waiting acquisition that tells its dependencies, as callers see it
 pub told_shown : {E : Type 0} {before after : List EdgeFact} (r : Result (Unit {0}) E) (stacks : List PlainStack) (edges : List EdgeFact) (known : HeldByTasks) (task class line : ℕ)
@@ -574,8 +582,5 @@ pub classes_shown : (stack : PlainStack) (held : List Held) → map plain_held h
 classes_shown stack held same = sym (map-map (λ (h : PlainHeld). h.class) plain_held held) ∙ ap classes_held same
 
 pub numbered_as : (chains : List (List ℕ)) (stack : PlainStack) (held : List Held) → map plain_held held ≡ inner stack → IsNumbered chains (inner stack) →
-    IfSome (chain_of (map plain_held held)) (λ n. n < length chains) × (chain_before chains (chain_of (map plain_held held)) ≡ map (λ (h : Held). h.class) held)
-numbered_as chains stack held same is = (
-  subst (λ hs. IfSome (chain_of hs) (λ n. n < length chains)) (sym same) is.known,
-  ap (λ hs. chain_before chains (chain_of hs)) same ∙ is.chain ∙ sym (classes_shown stack held same),
-)
+    IsNumbered chains (map plain_held held)
+numbered_as chains stack held same is = subst (IsNumbered chains) (sym same) is

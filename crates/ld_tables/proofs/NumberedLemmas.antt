@@ -4,15 +4,18 @@ use Rattle.std.proofs.Common.{◌≢◌, ◌+◌, ◌-◌, ◌==◌, All, ap, sy
 use Rattle.std.proofs.Math.Seq.{drop-append_seam}
 use Rattle.std.proofs.lemmas.Bool.{cases_eq, cases_lt, ne_eqb}
 use Rattle.std.proofs.lemmas.Grind.{get_or-set_at}
-use Rattle.std.proofs.lemmas.List.{drop-append-le, get_or-set_other, get_or_append_left, get_or_push, length-append, length-drop, length-map, length_push, map-set}
+use Rattle.std.proofs.lemmas.List.{drop-append-le, get_or-set_other, get_or_append_left, get_or_push, length-drop, length_push, map-set}
 use Rattle.std.proofs.lemmas.List.{same_from_push, take-append-le, take_all}
-use Rattle.std.proofs.lemmas.List.Elements.{All-head, All-set, All-tail, All-weaker}
+use Rattle.std.proofs.lemmas.List.Elements.{All-head, All-tail}
 use Rattle.ld_tables.specs.declared.chains.Link.{Link}
 use Rattle.ld_tables.specs.declared.edges.Pair.{Pair}
 use Rattle.ld_tables.specs.declared.chains.Run.{Run}
-use Rattle.ld_tables.specs.Inner.Chains.{IsRun, KeptChains, chain_before, chains_of, numbers_in}
-use Rattle.ld_tables.specs.Inner.Edges.{AreMore, AreNumbers, pair_at, pair_to}
-use Rattle.ld_tables.specs.Inner.Locks.{HasItsNumbers, IsExtended}
+use Rattle.ld_tables.specs.Inner.Chains.{IsRun, KeptChains, chain_before, chains_of, link_with, numbers_in}
+use Rattle.ld_tables.specs.Inner.Edges.{AreMore, AreNumbers}
+use Rattle.ld_tables.specs.Inner.Locks.{HasItsNumbers, IsExtended, IsNumbered, chain_of, classes_held}
+use Rattle.ld_tables.specs.Inner.Stacks.{PlainHeld, plain_held}
+use Rattle.ld_tables.specs.declared.held.Held.{Held}
+use Rattle.std.proofs.lemmas.Simd.{map-map}
 use Rattle.ld_tables.proofs.ChainLemmas.{chain_last, chains_kept, length-chains_of}
 use Rattle.ld_tables.proofs.EdgeLemmas.{AreNumbers-kept}
 
@@ -77,6 +80,26 @@ module _ {E : Type 0} (old new : KeptChains) (link : Link) (froms : List ℕ) (b
   chain_then (Ok n) is links = (λ i. get_or (chains_of (links i)) (is i) []) ∙ last_is old.links link froms before
   chain_then (Err e) is links = tt
 
+-- the link of a stack whose chain is known
+module _ (chains : List (List ℕ)) (stack : List Held) (class : ℕ) (link : Link) (is : Some link ≡ option_map (link_with class) (chain_of (map plain_held stack)))
+    (numbered : IsNumbered chains (map plain_held stack)) where
+  link_known : (o : Option (Option ℕ)) → Some link ≡ option_map (link_with class) o → (P : Option ℕ → Type 0) → IfSome o P → P link.before × (link.class ≡ class)
+  link_known None same P holds = absurd (cc)
+  link_known (Some before) same P holds =
+      let at : link ≡ link_with class before = cc in
+      (subst (λ (l : Link). P l.before) (sym at) holds, ap (λ (l : Link). l.class) at)
+
+  pub link_before : IfSome link.before (λ n. n < length chains)
+  link_before = (link_known (chain_of (map plain_held stack)) is (λ before. IfSome before (λ n. n < length chains)) numbered.known).0
+
+  pub link_froms : chain_before chains link.before ≡ map (λ (h : Held). h.class) stack
+  link_froms =
+      (link_known (chain_of (map plain_held stack)) is (λ before. chain_before chains before ≡ classes_held (map plain_held stack)) numbered.chain).0
+      ∙ map-map (λ (h : PlainHeld). h.class) plain_held stack
+
+  pub link_class : link.class ≡ class
+  link_class = (link_known (chain_of (map plain_held stack)) is (λ before. IfSome before (λ n. n < length chains)) numbered.known).1
+
 -- the numbers that are kept with a chain, where they lie in memory
 pub known_numbers : (pairs : List Pair) (class : ℕ) (froms : List ℕ) (kept : Option (List ℕ)) → IfSome kept (AreNumbers pairs class froms) → (o : Option (Bor (List ℕ))) →
     option_map (λ (numbers : Bor (List ℕ)). numbers.now) o ≡ kept → IfSome o (λ (numbers : Bor (List ℕ)). AreNumbers pairs class froms numbers.now)
@@ -84,7 +107,7 @@ known_numbers pairs class froms kept are None is = tt
 known_numbers pairs class froms kept are (Some numbers) is = subst (λ k. IfSome k (AreNumbers pairs class froms)) (sym is) are
 
 -- a chain has its place among the runs
-pub kept_within : (links : List Link) (numbers : List ℕ) (runs : List Run) (known : KeptChains) (chain : ℕ) → record { links = links; numbers = map (numbers_in numbers) runs } ≡ known →
+pub kept_within : (links : List Link) (numbers : List ℕ) (runs : List Run) (known : KeptChains) (chain : ℕ) → record { links = links; numbers = map (numbers_in numbers) runs; kept = length numbers } ≡ known →
     length runs ≡ length links → chain < length (chains_of known.links) → chain < length runs
 kept_within links numbers runs known chain is many within = omega (arith, within, many, ap (λ (k : KeptChains). length (chains_of k.links)) is, length-chains_of links)
 

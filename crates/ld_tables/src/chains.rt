@@ -1,11 +1,13 @@
 //! Chains of classes: the lists of the classes that a task holds in a frame, in order of acquisition.
-ghost use Rattle.std.specs.Prelude.{◌≡◌, ◌<◌, ℕ, [], ◌∷◌, ◌++◌, false, length, slice_index_or, IfNone};
-ghost use Rattle.std.specs.Prelude.{IfOk, IfSome, None, Some, OnErr, OnOk, option_map, slice_set};
-ghost use Rattle.std.specs.Bool.{OnTrue};
+ghost use Rattle.std.specs.Prelude.{◌≡◌, ◌<◌, ◌≤◌, ◌+◌, ℕ, [], ◌∷◌, ◌++◌, false, length, slice_index_or};
+ghost use Rattle.std.specs.Prelude.{true, IfNone, IfOk, IfSome, None, Some, OnErr, OnOk, option_map, slice_set};
+ghost use Rattle.std.specs.Bool.{OnFalse, OnTrue};
 ghost use Rattle.std.specs.List.{list_any};
-ghost use Rattle.ld_tables.specs.Inner.Chains.{KeptChains, chain_before, chains_of, same_link};
+ghost use Rattle.ld_tables.specs.Inner.Chains.{HasRoom, KeptChains, chain_before, chains_of, no_chains};
+ghost use Rattle.ld_tables.specs.Inner.Chains.{same_link};
+ghost use Rattle.ld_tables.specs.declared.chains.TheConstants.{MOST_CHAINS, MOST_KEPT};
+ghost use Rattle.ld_rules.specs.declared.outcome.TheConstants.{MOST_HELD};
 
-use crate::numbers::as_number;
 use indexmap::IndexSet;
 use std::alloc::{AllocError, Global};
 use std::marker::Model;
@@ -18,13 +20,13 @@ pub struct Link {
     pub class: u32,
 }
 
-/// How many numbers of pairs are kept with the chains at most, but for those of one chain.
-const MOST_KEPT: usize = 1 << 19;
+/// Once so many numbers of pairs are kept with the chains, those of no further chain are.
+pub const MOST_KEPT: usize = 1 << 19;
 
-/// How many chains are kept at most when all is taken away.
-const MOST_CHAINS: usize = 1 << 18;
+/// How many chains there are at most.
+pub const MOST_CHAINS: usize = 1 << 18;
 
-// No clause says how many are kept.
+// Clauses cite the constants, so they would hold with any other numbers that fit.
 const _: () = prove!(MOST_KEPT == 524_288 && MOST_CHAINS == 262_144);
 
 /// Where the numbers of a chain's pairs stand among those of all chains; from a place to itself where they
@@ -50,7 +52,7 @@ pub struct Chains {
 }
 
 impl Model for Chains {
-    ghost use Rattle.std.specs.Prelude.{map};
+    ghost use Rattle.std.specs.Prelude.{length, map};
     ghost use Rattle.ld_tables.specs.Inner.Chains.{AreKept, KeptChains, numbers_in};
 
     ghost Value = { KeptChains };
@@ -58,6 +60,7 @@ impl Model for Chains {
     ghost view = { λ c. record {
       links = c.links.keys;
       numbers = map (numbers_in c.numbers.items) c.runs.items;
+      kept = length c.numbers.items;
     } };
 
     ghost invariant = { λ c. AreKept c.links.keys c.numbers.items c.runs.items };
@@ -65,7 +68,7 @@ impl Model for Chains {
 
 impl Chains {
     pub fn new(alloc: Global) -> Chains
-        ensures { result ≡ record { links = []; numbers = [] } }
+        ensures { result ≡ no_chains }
     {
         Chains {
             links: IndexSet::new(alloc),
@@ -77,7 +80,7 @@ impl Chains {
 
     /// Takes all chains away. The memory stays.
     pub fn clear(&mut self)
-        ensures { self.new ≡ record { links = []; numbers = [] } }
+        ensures { self.new ≡ no_chains }
     {
         self.links.truncate(0);
         self.runs.clear();
@@ -91,8 +94,19 @@ impl Chains {
         self.links.len()
     }
 
-    /// Whether there is room to keep more chains and numbers of pairs.
-    pub fn has_room(&self) -> bool {
+    /// Whether there are as many chains as there may be.
+    pub fn is_full(&self) -> bool
+        ensures full { OnTrue result (MOST_CHAINS ≤ length self.now.links) }
+        ensures room { OnFalse result (length self.now.links < MOST_CHAINS) }
+    {
+        self.links.len() >= MOST_CHAINS
+    }
+
+    /// Whether there is room for one more chain, and to keep more numbers of pairs.
+    pub fn has_room(&self) -> bool
+        ensures room { OnTrue result (HasRoom self.now) }
+        ensures full { HasRoom self.now → result ≡ true }
+    {
         self.numbers.len() < MOST_KEPT && self.links.len() < MOST_CHAINS
     }
 
@@ -115,17 +129,18 @@ impl Chains {
         Some(place as u32)
     }
 
-    /// Adds a chain that wasn't met, and answers its number. `AllocError` too where there are as many as
-    /// have numbers.
+    /// Adds a chain that wasn't met, where there is room for it, and answers its number.
     pub fn add(&mut self, link: Link) -> Result<u32, AllocError>
         requires before { IfSome link.before (λ n. n < length (chains_of self.old.links)) }
         requires new { list_any (same_link link) self.old.links ≡ false }
+        requires room { length self.old.links < MOST_CHAINS }
         ensures number { IfOk result (λ n. n ≡ length self.old.links) }
         ensures links { OnOk result (self.new.links ≡ self.old.links ++ link ∷ []) }
         ensures numbers { OnOk result (self.new.numbers ≡ self.old.numbers ++ None ∷ []) }
+        ensures kept { self.new.kept ≡ self.old.kept }
         ensures refused { OnErr result (self.new ≡ self.old) }
     {
-        let number = as_number(self.links.len())?;
+        let number = self.links.len() as u32;
         self.runs.reserve(1)?;
         self.links.insert(link)?;
         self.runs.push_reserved(Run { start: 0, end: 0 });
@@ -138,14 +153,17 @@ impl Chains {
     pub fn keep(&mut self, chain: u32, numbers: &[u32]) -> Result<(), AllocError>
         requires chain { chain < length (chains_of self.old.links) }
         requires some { 0 < length numbers.now }
+        requires few { length numbers.now ≤ MOST_HELD }
+        requires room { self.old.kept < MOST_KEPT }
         ensures links { self.new.links ≡ self.old.links }
         ensures numbers { OnOk result (self.new.numbers
             ≡ slice_set self.old.numbers chain (Some numbers.now)) }
+        ensures kept { OnOk result (self.new.kept ≡ self.old.kept + length numbers.now) }
         ensures refused { OnErr result (self.new ≡ self.old) }
     {
-        let start = as_number(self.numbers.len())?;
-        let end = as_number(self.numbers.len() + numbers.len())?;
+        let start = self.numbers.len() as u32;
         self.numbers.extend_from_slice(numbers)?;
+        let end = self.numbers.len() as u32;
         self.runs[chain as usize] = Run { start, end };
         Ok(())
     }

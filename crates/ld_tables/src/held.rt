@@ -23,8 +23,8 @@ pub struct Held<'a> {
     /// The number of the lock's class.
     pub class: u32,
     /// The number of the chain of the classes that the task holds in the frame of this lock, up to
-    /// this one.
-    pub chain: u32,
+    /// this one. `None` where it isn't known: it wasn't looked for yet, or there was no room for it.
+    pub chain: Option<u32>,
 }
 
 impl<'a> Default for Held<'a> {
@@ -36,7 +36,7 @@ impl<'a> Default for Held<'a> {
         Held {
             lock,
             class: 0,
-            chain: 0,
+            chain: None,
         }
     }
 }

@@ -6,6 +6,7 @@ mod chains;
 mod edges;
 mod held;
 mod interrupts;
+mod linking;
 mod locks;
 mod marked;
 mod numbers;

@@ -3,24 +3,22 @@
 //! Locks of outer frames stay held, but an acquisition and a release see those of the innermost
 //! frame alone.
 ghost use Rattle.std.specs.Prelude.{◌≡◌, ◌<◌, ◌≤◌, ◌+◌, true, [], ◌∷◌, ◌++◌, drop, fold, length};
-ghost use Rattle.std.specs.Prelude.{List, map, take, slice_index_or, slice_set, IfOk, IfSome, OnOk};
+ghost use Rattle.std.specs.Prelude.{map, take, slice_index_or, slice_set, OnOk};
+ghost use Rattle.std.specs.Bool.{OnTrue};
 ghost use Rattle.std.specs.List.{list_any};
 ghost use Rattle.ld_trace.specs.Events.{plain_lock};
-ghost use Rattle.ld_tables.specs.declared.edges.Pair.{Pair};
 ghost use Rattle.ld_tables.specs.Inner.Edges.{edge_to, with_edge_fact};
 ghost use Rattle.ld_tables.specs.Inner.Interrupts.{IsEntered, IsLeft, IsSet, fresh, nests_in, start_now};
 ghost use Rattle.ld_tables.specs.Inner.Interrupts.{is_on, states_of};
-ghost use Rattle.ld_tables.specs.Inner.Chains.{chain_before, chains_of};
-ghost use Rattle.ld_tables.specs.Inner.Locks.{ChangesInterrupts, HasItsNumbers, IsExtended, chain_of};
-ghost use Rattle.ld_tables.specs.Inner.Locks.{holds_of, inner_of, is_of, outer_of};
-ghost use Rattle.ld_tables.specs.Inner.Stacks.{plain_held};
+ghost use Rattle.ld_tables.specs.Inner.Locks.{ChangesInterrupts, holds_of, inner_of, is_of, outer_of};
 ghost use Rattle.ld_rules.specs.Inner.Scanned.{remove_last};
 ghost use Rattle.ld_rules.specs.declared.outcome.TheConstants.{MOST_HELD};
 
-use crate::chains::{Chains, Link};
+use crate::chains::Chains;
 use crate::edges::{EdgeFact, Edges};
 use crate::held::{Held, Stacks, latest};
 use crate::interrupts::{Flag, Interrupts};
+use crate::linking::{is_unlinked, learn, linked, make_room};
 use crate::marked::Marked;
 use ld_rules::MOST_HELD;
 use ld_trace::{Lock, State};
@@ -123,10 +121,7 @@ impl<'a> Locks<'a> {
         self.stacks.begin();
         self.told.cut(0);
         self.edges.cut(0);
-        if !self.chains.has_room() {
-            self.chains.clear();
-            self.edges.clear();
-        }
+        make_room(&mut self.chains, &mut self.edges);
         self.before = Before { edges: 0, told: 0 };
     }
 
@@ -167,9 +162,26 @@ impl<'a> Locks<'a> {
               (map (edge_to class line) (map (λ hold. hold.class) (inner_of self.old task)));
         }) }
     {
+        if self.is_unlinked(task) {
+            self.relink(task)?;
+        }
+        self.tell_linked(task, class, line)
+    }
+
+    /// Does the same, by the chain of the task's stack where that is known, and else by look-ups.
+    fn tell_linked(&mut self, task: u32, class: u32, line: u64) -> Result<(), AllocError>
+        requires { task < length self.old.stacks }
+        ensures before { self.new.before ≡ self.old.before }
+        ensures told { OnOk result (self.new ≡ record self.old {
+          edges = fold with_edge_fact self.old.edges
+              (map (edge_to class line) (map (λ hold. hold.class) (inner_of self.old task)));
+        }) }
+    {
         let stack = self.stacks.innermost(task);
         let met = self.chains.len();
-        let chain = linked(&mut self.chains, stack, class)?;
+        let Some(chain) = linked(&mut self.chains, stack, class)? else {
+            return self.edges.tell_to(self.alloc, None, stack, class, line);
+        };
         if self.told.has(chain) {
             return Ok(());
         }
@@ -185,6 +197,35 @@ impl<'a> Locks<'a> {
         let known = self.chains.numbers(chain);
         self.edges.tell_to(self.alloc, known, stack, class, line)?;
         self.told.add(chain)
+    }
+
+    /// Whether the chain of the last lock of the task's innermost frame isn't known.
+    fn is_unlinked(&self, task: u32) -> bool
+        requires { task < length self.now.stacks }
+        ensures { OnTrue result (start_now (slice_index_or self.now.interrupts task fresh)
+            < length (slice_index_or self.now.stacks task [])) }
+    {
+        let start = self.stacks.interrupts(task).start();
+        is_unlinked(self.stacks.held(task), start)
+    }
+
+    /// Looks for the chain of the last lock of the task's innermost frame, and before it for those of the
+    /// locks below: each is let go, from the top down, and held again on the way back.
+    fn relink(&mut self, task: u32) -> Result<(), AllocError>
+        requires task { task < length self.old.stacks }
+        requires inner { start_now (slice_index_or self.old.interrupts task fresh)
+            < length (slice_index_or self.old.stacks task []) }
+        ensures before { self.new.before ≡ self.old.before }
+        ensures same { OnOk result (self.new ≡ self.old) }
+    {
+        let held = self.stacks.held(task);
+        let top = held.len() - 1;
+        let last = held[top];
+        self.stacks.truncate(task, top);
+        if self.is_unlinked(task) {
+            self.relink(task)?;
+        }
+        self.hold(task, last.lock, last.class)
     }
 
     /// The task acquired the lock.
@@ -203,50 +244,64 @@ impl<'a> Locks<'a> {
         Ok(())
     }
 
+    /// The task holds the lock, whose chain isn't looked for before it is asked for.
+    fn put(&mut self, task: u32, lock: Lock<'a>, class: u32)
+        requires task { task < length self.old.stacks }
+        requires room { length (slice_index_or self.old.stacks task []) < MOST_HELD }
+        ensures { self.new ≡ record self.old {
+          stacks = slice_set self.old.stacks task (slice_index_or self.old.stacks task []
+              ++ record { lock = plain_lock lock.entry; class = class } ∷ []);
+        } }
+    {
+        let held = Held {
+            lock,
+            class,
+            chain: None,
+        };
+        self.stacks.push(task, held);
+    }
+
     /// The task released the lock: its latest acquisition in the innermost frame ends. Tells
-    /// whether there was one.
-    pub fn let_go(&mut self, task: u32, lock: Lock<'a>) -> Result<bool, AllocError>
+    /// whether there was one. Takes no memory.
+    pub fn let_go(&mut self, task: u32, lock: Lock<'a>) -> bool
         requires { task < length self.old.stacks }
-        ensures before { self.new.before ≡ self.old.before }
-        ensures held { IfOk result (λ was.
-            was ≡ list_any (is_of (plain_lock lock.entry)) (inner_of self.old task)) }
-        ensures stacks { OnOk result (self.new ≡ record self.old {
+        ensures held { result ≡ list_any (is_of (plain_lock lock.entry)) (inner_of self.old task) }
+        ensures stacks { self.new ≡ record self.old {
           stacks = slice_set self.old.stacks task (outer_of self.old task
               ++ remove_last (is_of (plain_lock lock.entry)) (inner_of self.old task));
-        }) }
+        } }
     {
         let start = self.stacks.interrupts(task).start();
         let held = self.stacks.held(task);
         let Some(place) = latest(&held[start..], lock) else {
-            return Ok(false);
+            return false;
         };
-        self.take_out(task, start + place)?;
-        Ok(true)
+        self.take_out(task, start + place);
+        true
     }
 
-    /// Takes a lock of the innermost frame out from under later ones, which get the chains that they
-    /// have without it: each is let go, from the top down, and held again on the way back.
-    fn take_out(&mut self, task: u32, place: usize) -> Result<(), AllocError>
+    /// Takes a lock of the innermost frame out from under later ones, whose chains aren't known then: each
+    /// is let go, from the top down, and held again on the way back.
+    fn take_out(&mut self, task: u32, place: usize)
         requires task { task < length self.old.stacks }
         requires inner { start_now (slice_index_or self.old.interrupts task fresh) ≤ place }
         requires held { place < length (slice_index_or self.old.stacks task []) }
-        ensures before { self.new.before ≡ self.old.before }
-        ensures stacks { OnOk result (self.new ≡ record self.old {
+        ensures { self.new ≡ record self.old {
           stacks = slice_set self.old.stacks task
               (take place (slice_index_or self.old.stacks task [])
               ++ drop (place + 1) (slice_index_or self.old.stacks task []));
-        }) }
+        } }
     {
         let held = self.stacks.held(task);
         let top = held.len() - 1;
         if place == top {
             self.stacks.truncate(task, top);
-            return Ok(());
+            return;
         }
         let last = held[top];
         self.stacks.truncate(task, top);
-        self.take_out(task, place)?;
-        self.hold(task, last.lock, last.class)
+        self.take_out(task, place);
+        self.put(task, last.lock, last.class);
     }
 
     /// A frame of the state opens over what the task holds.
@@ -311,67 +366,5 @@ impl<'a> Locks<'a> {
         ensures { result.items ≡ self.entry.edges }
     {
         self.edges.into_vec()
-    }
-}
-
-/// The number of the chain of a stack's classes and one more, which may be new.
-fn linked(chains: &mut Chains, stack: &[Held<'_>], class: u32) -> Result<u32, AllocError>
-    requires before { IfSome (chain_of (map plain_held stack.now))
-        (λ n. n < length (chains_of chains.old.links)) }
-    requires classes { chain_before (chains_of chains.old.links) (chain_of (map plain_held stack.now))
-        ≡ map (λ held. held.class) stack.now }
-    ensures numbered { (pairs : List Pair)
-        → HasItsNumbers (chains_of chains.old.links) chains.old.numbers pairs
-        → HasItsNumbers (chains_of chains.new.links) chains.new.numbers pairs }
-    ensures more { IsExtended (chains_of chains.old.links) (chains_of chains.new.links) }
-    ensures within { IfOk result (λ n. n < length (chains_of chains.new.links)) }
-    ensures chain { IfOk result (λ n. slice_index_or (chains_of chains.new.links) n []
-        ≡ map (λ held. held.class) stack.now ++ class ∷ []) }
-{
-    let before = last_chain(stack);
-    let link = Link { before, class };
-    if let Some(chain) = chains.find(link) {
-        return Ok(chain);
-    }
-    chains.add(link)
-}
-
-/// Keeps the numbers of the pairs of a chain, those from the classes of a stack to one more, where it is one
-/// of the chains `met` before, there is room for them and they aren't kept. Most chains are told once and
-/// never again.
-fn learn(
-    chains: &mut Chains,
-    edges: &mut Edges,
-    alloc: Global,
-    met: usize,
-    chain: u32,
-    stack: &[Held<'_>],
-    class: u32,
-) -> Result<(), AllocError>
-    requires within { chain < length (chains_of chains.old.links) }
-    requires is { slice_index_or (chains_of chains.old.links) chain []
-        ≡ map (λ held. held.class) stack.now ++ class ∷ [] }
-    requires numbered { HasItsNumbers (chains_of chains.old.links) chains.old.numbers edges.old.pairs }
-    ensures numbered { HasItsNumbers (chains_of chains.new.links) chains.new.numbers edges.new.pairs }
-    ensures links { chains.new.links ≡ chains.old.links }
-    ensures edges { edges.new.edges ≡ edges.old.edges }
-{
-    if stack.is_empty() || chain as usize >= met || chains.numbers(chain).is_some() {
-        return Ok(());
-    }
-    if !chains.has_room() {
-        return Ok(());
-    }
-    let numbers = edges.numbers(alloc, stack, class)?;
-    chains.keep(chain, &numbers)
-}
-
-/// The chain of the classes of a stack; `None` where it is empty.
-fn last_chain(stack: &[Held<'_>]) -> Option<u32>
-    ensures { result ≡ chain_of (map plain_held stack.now) }
-{
-    match stack.last() {
-        Some(held) => Some(held.chain),
-        None => None,
     }
 }

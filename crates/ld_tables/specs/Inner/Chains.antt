@@ -1,9 +1,11 @@
 -- Chains of classes as the nodes of a tree. No public contract cites this file.
-use Rattle.std.specs.Prelude.{◌≡◌, ◌<◌, ◌≤◌, ◌-◌, ◌^◌, ℕ, Bool, ◌&&◌, ◌==◌, nat_eq, List, [], ◌∷◌, ◌++◌, All, Option}
+use Rattle.std.specs.Prelude.{◌≡◌, ◌<◌, ◌≤◌, ◌+◌, ◌-◌, ℕ, Bool, ◌&&◌, ◌==◌, nat_eq, List, [], ◌∷◌, ◌++◌, All, Option}
 use Rattle.std.specs.Prelude.{Some, None, drop, fold, if◌then◌else◌, length, slice_index_or, take, IfSome}
 use Rattle.std.specs.Option.{option_eq}
 use Rattle.ld_tables.specs.declared.chains.Link.{Link}
 use Rattle.ld_tables.specs.declared.chains.Run.{Run}
+use Rattle.ld_tables.specs.declared.chains.TheConstants.{MOST_CHAINS, MOST_KEPT}
+use Rattle.ld_rules.specs.declared.outcome.TheConstants.{MOST_HELD}
 
 -- the chain of this number, or the empty one
 abbrev pub chain_before : List (List ℕ) → Option ℕ → List ℕ
@@ -16,6 +18,10 @@ chains_of links =
     fold (λ chains link. chains ++ (chain_before chains link.before ++ link.class ∷ []) ∷ []) []
     links
 
+-- the link of a chain with one more class
+abbrev pub link_with : ℕ → Option ℕ → Link
+link_with class before = record { before = before; class = class }
+
 -- each chain stands after the one before it
 abbrev pub IsTree : List Link → Type 0
 IsTree links =
@@ -26,10 +32,19 @@ abbrev pub same_link : Link → Link → Bool
 same_link a b = option_eq nat_eq a.before b.before && a.class == b.class
 
 -- the chains, and of each, where they are kept, the numbers of the pairs from each class before its
--- last one to that
+-- last one to that; and for how many numbers there is memory in use
 pub record KeptChains : Type 0 where
   pub links : List Link
   pub numbers : List (Option (List ℕ))
+  pub kept : ℕ
+
+abbrev pub no_chains : KeptChains
+no_chains = record { links = []; numbers = []; kept = 0 }
+
+-- there may be one more chain, and the numbers of one more may be kept
+pub record HasRoom (chains : KeptChains) : Type 0 where
+  pub links : length chains.links < MOST_CHAINS
+  pub kept : chains.kept < MOST_KEPT
 
 -- the numbers from a run's start to its end, where there are some
 abbrev pub numbers_in : List ℕ → Run → Option (List ℕ)
@@ -41,9 +56,11 @@ pub record IsRun (numbers : List ℕ) (run : Run) : Type 0 where
   pub order : run.start ≤ run.end
   pub within : run.end ≤ length numbers
 
--- each chain stands after the one before it, and has its run among the numbers
+-- each chain stands after the one before it, and has its run among the numbers; and there are so many
+-- chains and numbers at most
 pub record AreKept (links : List Link) (numbers : List ℕ) (runs : List Run) : Type 0 where
   pub tree : IsTree links
   pub many : length runs ≡ length links
-  pub few : length links ≤ 2 ^ 32
+  pub few : length links ≤ MOST_CHAINS
+  pub short : length numbers ≤ MOST_KEPT + MOST_HELD
   pub within : All (IsRun numbers) runs

@@ -1,12 +1,12 @@
 -- What tasks hold and which dependencies were told, and what ties the cache of chains to them.
 -- No contract of a `Batch` cites this file.
 use Rattle.std.specs.Prelude.{◌≡◌, ◌<◌, ◌≤◌, ◌+◌, ℕ, Bool, true, List, [], ◌∷◌, ◌++◌, map, length, take}
-use Rattle.std.specs.Prelude.{drop, slice_index_or, Option, None, IfSome}
+use Rattle.std.specs.Prelude.{drop, slice_index_or, Option, None, Some, IfSome, option_map}
 use Rattle.std.specs.List.{last_or, list_all, list_any, All}
 use Rattle.ld_trace.specs.Events.{PlainLock}
 use Rattle.ld_tables.specs.declared.edges.EdgeFact.{EdgeFact}
 use Rattle.ld_tables.specs.declared.edges.Pair.{Pair}
-use Rattle.ld_tables.specs.Inner.Chains.{KeptChains, chains_of}
+use Rattle.ld_tables.specs.Inner.Chains.{KeptChains, chain_before, chains_of}
 use Rattle.ld_tables.specs.Inner.Edges.{AreNumbers, KeptEdges, edge_to, same_pair}
 use Rattle.ld_rules.specs.Held.{same_lock}
 use Rattle.ld_tables.specs.Inner.Interrupts.{fresh, start_now, starts_of}
@@ -62,22 +62,36 @@ pub record ChangesInterrupts (old new : HeldByTasks) (task : ℕ) : Type 0 where
 abbrev pub classes_held : List PlainHeld → List ℕ
 classes_held stack = map (λ held. held.class) stack
 
--- the chain of a stack is that of its last lock
-abbrev pub chain_of : List PlainHeld → Option ℕ
-chain_of stack = last_or None (map (λ held. held.chain) stack)
+-- the chain of a stack, where it is known, is that of its last lock; that of an empty one is the empty
+-- one
+abbrev pub chain_up_to : Option PlainHeld → Option (Option ℕ)
+chain_up_to None = Some None
+chain_up_to (Some held) = option_map Some held.chain
+
+abbrev pub chain_of : List PlainHeld → Option (Option ℕ)
+chain_of stack = chain_up_to (last_or None stack)
 
 -- this number is that of the chain
 abbrev pub IsChain : List (List ℕ) → ℕ → List ℕ → Type 0
 IsChain chains number chain = (number < length chains) × (slice_index_or chains number [] ≡ chain)
 
--- each of the first n locks carries the chain of the classes up to it
+-- this number, if there is one, is that of the chain
+abbrev pub IsChainIfAny : List (List ℕ) → Option ℕ → List ℕ → Type 0
+IsChainIfAny chains number chain = IfSome number (λ n. IsChain chains n chain)
+
+-- each of the first n locks carries the chain of the classes up to it, or none
 abbrev pub AreChainedBelow : List (List ℕ) → List PlainHeld → ℕ → Type 0
 AreChainedBelow chains stack n =
     (i : ℕ) (d : PlainHeld) → i < n → i < length stack
-    → IsChain chains (slice_index_or stack i d).chain (take (i + 1) (classes_held stack))
+    → IsChainIfAny chains (slice_index_or stack i d).chain (take (i + 1) (classes_held stack))
 
 abbrev pub AreChained : List (List ℕ) → List PlainHeld → Type 0
 AreChained chains stack = AreChainedBelow chains stack (length stack)
+
+-- the chain of a stack, where it is known, is the list of its classes
+pub record IsNumbered (chains : List (List ℕ)) (stack : List PlainHeld) : Type 0 where
+  pub known : IfSome (chain_of stack) (λ before. IfSome before (λ n. n < length chains))
+  pub chain : IfSome (chain_of stack) (λ before. chain_before chains before ≡ classes_held stack)
 
 -- the locks of each frame are chained by themselves, where the frames' locks begin at these places
 -- of the stack, innermost first

@@ -1,5 +1,5 @@
 -- What the parts of the scan keep, as plain data. No public contract cites this file.
-use Rattle.std.specs.Prelude.{ℕ, Bool, List, [], drop}
+use Rattle.std.specs.Prelude.{ℕ, Bool, List, [], Option, drop}
 use Rattle.ld_trace.specs.Events.{PlainLock, plain_lock}
 use Rattle.ld_rules.specs.Held.{same_lock}
 use Rattle.ld_tables.specs.declared.held.Held.{Held}
@@ -7,11 +7,12 @@ use Rattle.ld_tables.specs.declared.interrupts.Interrupts.{Interrupts}
 use Rattle.ld_tables.specs.Inner.Interrupts.{fresh, start_now}
 
 -- a lock that a task holds, without where its names lie in memory: the lock, the number of its
--- class, and the number of the chain of the classes that the task holds up to it in its frame
+-- class, and, where it is known, the number of the chain of the classes that the task holds up to it
+-- in its frame
 pub record PlainHeld : Type 0 where
   pub lock : PlainLock
   pub class : ℕ
-  pub chain : ℕ
+  pub chain : Option ℕ
 
 abbrev pub plain_held : Held → PlainHeld
 plain_held held = record { lock = plain_lock held.lock; class = held.class; chain = held.chain }

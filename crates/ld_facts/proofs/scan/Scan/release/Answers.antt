@@ -22,7 +22,7 @@ pub returns-else-branch-clause-fault : goal.returns-else-branch-clause-fault
 returns-else-branch-clause-fault c fault is start all is_at =
     let same : NotHeld ≡ fault = cc in
     release-not_held all c.args.self.now is_at c.args.task.now (plain_lock c.args.lock) c.in_ok-task.task c.task.new.self c.in_ok-task.ensures.task
-    (sym c.in_ok-let_go.ensures.held ∙ c.if-branch.false) ∙ ap Some same
+    (sym c.let_go.ensures.held ∙ c.if-branch.false) ∙ ap Some same
 
 pub returns-then-branch-clause-ok : goal.returns-then-branch-clause-ok
 returns-then-branch-clause-ok c start all line is_at =
@@ -34,6 +34,6 @@ returns-then-branch-clause-ok c start all line is_at =
       locks = locks;
       uses = c.task.new.self.uses;
       before = c.task.new.self.before;
-    })) (sym c.in_ok-let_go.ensures.stacks)
+    })) (sym c.let_go.ensures.stacks)
     (release-at all c.args.self.now is_at c.args.task.now (plain_lock c.args.lock) c.in_ok-task.task c.task.new.self c.in_ok-task.ensures.task line
-    (sym c.in_ok-let_go.ensures.held ∙ c.if-branch.true))
+    (sym c.let_go.ensures.held ∙ c.if-branch.true))

@@ -24,13 +24,14 @@ invariant_of-self-2 c =
     record {
       tree = subst IsTree (sym keys) (IsTree-push c.self.inside.links.keys c.args.link c.self.invariant.tree (within_of _ c.args.self.now c.args.link c.self.view_is c.requires.before));
       many = omega (arith, ap length pushed, length_push c.self.inside.runs.items run, ap length keys, length_push c.self.inside.links.keys c.args.link, c.self.invariant.many);
-      few = omega (arith, ap length keys, length_push c.self.inside.links.keys c.args.link, c.len.ensures.len);
+      few = omega (arith, ap length keys, length_push c.self.inside.links.keys c.args.link, c.requires.room, ap (λ (k : KeptChains). length k.links) c.self.view_is);
+      short = c.self.invariant.short;
       within = subst (All (IsRun c.self.inside.numbers.items)) (sym pushed)
           (All-push (IsRun c.self.inside.numbers.items) c.self.inside.runs.items run c.self.invariant.within (record { order = omega arith; within = omega arith }));
     }
 
 pub returns-clause-number : goal.returns-clause-number
-returns-clause-number c = omega (arith, c.in_ok-number.ensures, c.len.ensures.len, ap (λ (k : KeptChains). length k.links) c.self.view_is)
+returns-clause-number c = omega (arith, c.len-number.ensures.len, ap (λ (k : KeptChains). length k.links) c.self.view_is)
 
 pub returns-clause-links : goal.returns-clause-links
 returns-clause-links c =

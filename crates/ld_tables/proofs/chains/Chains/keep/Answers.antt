@@ -1,4 +1,5 @@
 use Rattle.std.proofs.Common.{◌≡◌, ◌+◌, Some, ap, length, map, set, ◌∙◌, arith}
+use Rattle.std.proofs.lemmas.List.{length-append}
 use Rattle.ld_tables.specs.declared.chains.Run.{Run}
 use Rattle.ld_tables.specs.Inner.Chains.{KeptChains, numbers_in}
 use Rattle.ld_tables.proofs.NumberedLemmas.{kept_within, numbers_set}
@@ -12,9 +13,9 @@ index_mut-requires c =
 pub returns-clause-numbers : goal.returns-clause-numbers
 returns-clause-numbers c =
     let more = c.args.numbers.now in
-    let run : Run = record { start = c.in_ok-start.start; end = c.in_ok-end.end } in
-    let start : run.start ≡ length c.self.inside.numbers.items = omega (arith, c.in_ok-start.ensures, c.len.ensures) in
-    let end : run.end ≡ length c.self.inside.numbers.items + length more = omega (arith, c.in_ok-end.ensures, c.len-2.ensures) in
+    let run : Run = record { start = c.len-start.result; end = c.len-end.result } in
+    let start : run.start ≡ length c.self.inside.numbers.items = omega (arith, c.len-start.ensures) in
+    let end : run.end ≡ length c.self.inside.numbers.items + length more = omega (arith, c.len-end.ensures, ap length c.in_ok-extend_from_slice.ensures.items, length-append c.self.inside.numbers.items more) in
     ap (λ ns. map (numbers_in ns) (set c.self.inside.runs.items c.args.chain run)) c.in_ok-extend_from_slice.ensures.items
     ∙ numbers_set c.self.inside.numbers.items more run start end c.self.inside.runs.items c.args.chain c.requires.some c.self.invariant.within
     ∙ ap (λ (k : KeptChains). set k.numbers c.args.chain (Some more)) c.self.view_is

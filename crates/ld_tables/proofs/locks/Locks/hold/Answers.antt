@@ -3,7 +3,7 @@ use Rattle.std.proofs.lemmas.List.{map-append}
 use Rattle.ld_tables.specs.Inner.Stacks.{PlainHeld, empty_stack}
 use Rattle.ld_trace.specs.Events.{plain_lock}
 use Rattle.ld_tables.specs.Inner.Chains.{chains_of}
-use Rattle.ld_tables.specs.Inner.Locks.{AreTied, Hold, hold_of, held_by_tasks}
+use Rattle.ld_tables.specs.Inner.Locks.{AreTied, Hold, IsChainIfAny, hold_of, held_by_tasks}
 use Rattle.ld_tables.proofs.BeforeLemmas.{before_extended}
 use Rattle.ld_tables.proofs.LockLemmas.{classes_shown, holds_at, numbered, numbered_as, start_within, tied_push, shown_held, within_shown}
 use Rattle.ld_tables.proofs.locks.Locks.hold.Goals as goal
@@ -11,15 +11,10 @@ use Rattle.ld_tables.proofs.locks.Locks.hold.Goals as goal
 pub innermost-stack-requires-clause-start : goal.innermost-stack-requires-clause-start
 innermost-stack-requires-clause-start c = start_within c.self.inside.stacks (chains_of c.self.inside.chains.links) c.self.inside.told c.self.inside.edges.edges c.self.invariant.tied c.args.task
 
-pub linked-requires-clause-before : goal.linked-requires-clause-before
-linked-requires-clause-before c =
-    (numbered_as (chains_of c.self.inside.chains.links) (get_or c.self.inside.stacks c.args.task empty_stack) c.innermost-stack.result.now c.innermost-stack.ensures.held
-    (numbered c.self.inside.stacks (chains_of c.self.inside.chains.links) c.self.inside.told c.self.inside.edges.edges c.self.invariant.tied c.args.task)).0
-
-pub linked-requires-clause-classes : goal.linked-requires-clause-classes
-linked-requires-clause-classes c =
-    (numbered_as (chains_of c.self.inside.chains.links) (get_or c.self.inside.stacks c.args.task empty_stack) c.innermost-stack.result.now c.innermost-stack.ensures.held
-    (numbered c.self.inside.stacks (chains_of c.self.inside.chains.links) c.self.inside.told c.self.inside.edges.edges c.self.invariant.tied c.args.task)).1
+pub linked-requires : goal.linked-requires
+linked-requires c =
+    numbered_as (chains_of c.self.inside.chains.links) (get_or c.self.inside.stacks c.args.task empty_stack) c.innermost-stack.result.now c.innermost-stack.ensures.held
+    (numbered c.self.inside.stacks (chains_of c.self.inside.chains.links) c.self.inside.told c.self.inside.edges.edges c.self.invariant.tied c.args.task)
 
 pub invariant_of-self-2 : goal.invariant_of-self-2
 invariant_of-self-2 c = record {
@@ -28,9 +23,9 @@ invariant_of-self-2 c = record {
       subst (λ ss. AreTied ss (chains_of c.linked.new.chains.links) c.self.inside.told c.self.inside.edges.edges) (sym c.push.ensures)
       (tied_push c.self.inside.stacks (chains_of c.self.inside.chains.links) c.self.inside.told c.self.inside.edges.edges c.self.invariant.tied c.args.task held
       (within_shown c.self.inside.stacks c.self.inside.edges.edges c.args.self.now c.args.task c.self.view_is c.requires.task) (chains_of c.linked.new.chains.links)
-      c.linked.ensures.more c.in_ok-chain.ensures.within
-      (c.in_ok-chain.ensures.chain ∙ ap (λ cs. cs ++ c.args.class ∷ [])
-      (classes_shown (get_or c.self.inside.stacks c.args.task empty_stack) c.innermost-stack.result.now c.innermost-stack.ensures.held)));
+      c.linked.ensures.more
+      (subst (λ cs. IsChainIfAny (chains_of c.linked.new.chains.links) c.in_ok-chain.chain (cs ++ c.args.class ∷ []))
+      (classes_shown (get_or c.self.inside.stacks c.args.task empty_stack) c.innermost-stack.result.now c.innermost-stack.ensures.held) c.in_ok-chain.ensures.chain));
   start = before_extended c.self.inside.before (chains_of c.self.inside.chains.links) c.self.inside.told c.self.inside.edges.edges c.self.invariant.start
       (chains_of c.linked.new.chains.links) c.linked.ensures.more;
   numbered = c.linked.ensures.numbered c.self.inside.edges.pairs c.self.invariant.numbered;

@@ -88,7 +88,7 @@ returns-clause-held c =
 
 pub returns-clause-stacks : goal.returns-clause-stacks
 returns-clause-stacks c =
-    c.in_ok-take_out.ensures.stacks
+    c.take_out.ensures
     ∙ ap (λ hs. record c.args.self.now { stacks = set c.args.self.now.stacks c.args.task hs })
     (sym (cut_shown c.self.inside.stacks c.self.inside.edges.edges c.args.self.now c.args.task c.self.view_is (c.start-start.result + c.in-Some.place))
     ∙ gone c.self.inside.stacks c.self.inside.edges.edges c.args.self.now c.args.task (plain_lock c.args.lock) c.held-held.result.now c.start-start.result

@@ -4,7 +4,7 @@ use Rattle.ld_tables.specs.Inner.Chains.{chains_of}
 use Rattle.ld_tables.specs.Inner.Edges.{AreNumbers}
 use Rattle.ld_tables.proofs.ChainLemmas.{length-chains_of}
 use Rattle.ld_tables.proofs.NumberedLemmas.{numbered_kept, numbered_more, numbered_set}
-use Rattle.ld_tables.proofs.locks.learn.Goals as goal
+use Rattle.ld_tables.proofs.linking.learn.Goals as goal
 
 pub returns-in_err-numbers-clause-numbered : goal.returns-in_err-numbers-clause-numbered
 returns-in_err-numbers-clause-numbered c =
