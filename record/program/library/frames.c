@@ -18,6 +18,8 @@
 
 enum place_state { PLACE_NONE, PLACE_BEGUN, PLACE_TOLD };
 
+_Static_assert(PLACE_NUMBERS == 1 << 16, "a number that is too large goes on from 0");
+
 bool wants_places;
 
 static const struct frame *outer_of(const struct frame *frame)
@@ -50,40 +52,42 @@ static bool goes_on(const struct frame *frame)
 #endif
 }
 
-static struct place *slot_of(uint64_t address, uint16_t inside, unsigned turn)
+static uint16_t number_of(uint64_t address, uint16_t inside, unsigned turn)
 {
-    uint64_t sum = (address + inside) * UINT64_C(0x9e3779b97f4a7c15) >> 48;
-    return &life->places[(sum + turn) % PLACE_NUMBERS];
+    return (uint16_t)(((address + inside) * UINT64_C(0x9e3779b97f4a7c15) >> 48) + turn);
 }
 
-static bool tell(struct place *place, const struct frame *frame, uint16_t inside)
+static bool tell(uint16_t number, const struct frame *frame, uint16_t inside)
 {
+    struct place *place = &life->places[number];
     uint8_t none = PLACE_NONE;
     if (!__atomic_compare_exchange_n(&place->state, &none, PLACE_BEGUN, false, __ATOMIC_ACQUIRE,
                                      __ATOMIC_RELAXED))
         return false;
     place->address = frame->address;
     place->inside = inside;
-    place->number = (uint16_t)(place - life->places);
     place->goes_on = goes_on(frame);
-    tell_place(frame->address, (struct told_place){place->number, inside});
+    tell_place(frame->address, (struct told_place){number, inside});
     __atomic_store_n(&place->state, PLACE_TOLD, __ATOMIC_RELEASE);
     return true;
 }
 
-static const struct place *find(const struct frame *frame, uint16_t inside)
+/* Gives the number of a place, or 0. It is where the place stands in the table, so that the look-up of
+   the place around it needn't wait for what stands there. */
+static uint16_t find(const struct frame *frame, uint16_t inside)
 {
     for (unsigned turn = 0; turn < MOST_TRIES; turn++) {
-        struct place *place = slot_of(frame->address, inside, turn);
-        if (place == life->places)
+        uint16_t number = number_of(frame->address, inside, turn);
+        const struct place *place = &life->places[number];
+        if (number == 0)
             continue;
         uint8_t state = __atomic_load_n(&place->state, __ATOMIC_ACQUIRE);
         if (state == PLACE_TOLD && place->address == frame->address && place->inside == inside)
-            return place;
-        if (state == PLACE_NONE && tell(place, frame, inside))
-            return place;
+            return number;
+        if (state == PLACE_NONE && tell(number, frame, inside))
+            return number;
     }
-    return NULL;
+    return 0;
 }
 
 /* Gives the number of the place that a call of the library came from, or 0. */
@@ -91,11 +95,11 @@ unsigned place_of_frame(const struct frame *frame)
 {
     uint16_t number = 0;
     for (unsigned count = 0; frame && count < MOST_INSIDE; count++) {
-        const struct place *place = find(frame, number);
-        if (!place)
+        uint16_t outer = find(frame, number);
+        if (outer == 0)
             break;
-        number = place->number;
-        frame = place->goes_on ? outer_of(frame) : NULL;
+        number = outer;
+        frame = life->places[number].goes_on ? outer_of(frame) : NULL;
     }
     return number;
 }

@@ -16,7 +16,6 @@
 struct place {
     uint64_t address;
     uint16_t inside;
-    uint16_t number;
     uint8_t state; /* enum place_state */
     bool goes_on;  /* the place around it is wanted too */
 };
