@@ -79,7 +79,11 @@ def functions_of(file):
         if begins:
             head, last = end_of(lines, at, begins[1])
             owner = owner_of(file, lines, at, begins[1])
-            found.append(Function(file, begins[2], owner, (at, head, last)))
+            # What is open of a function is said to be at its first attribute, where it has one.
+            first = at
+            while lines[first - 1].startswith(f"{begins[1]}#["):
+                first -= 1
+            found.append(Function(file, begins[2], owner, (first, head, last)))
             at = last
         at += 1
     return found
