@@ -374,6 +374,45 @@ def lone_walk(draws, size):
     return lone(draws, size, unsafe_walk)
 
 
+def hand_over_hand(draws, size):
+    """One trace, in which a task goes up through all classes again and again, and holds 95 of them: from
+    the 95th on it releases the oldest one before it acquires the next."""
+    task, program = task_names()[0], Program(draws, Locks(draws, 1500))
+    pieces, done, number = [b'trace hand\n'], 0, 0
+    while done < size:
+        if number >= 1500:
+            while program.held:
+                program.release()
+            number = 0
+        if len(program.held) == 95:
+            program.release(0)
+        program.acquire(number)
+        number += 1 + draws.below(3)
+        pieces.append(program.text().replace(TASK, task))
+        done += len(pieces[-1])
+        program.lines.clear()
+    yield b''.join(pieces)
+
+
+def conflicts(draws, size):
+    """As many classes as there is room for, up to 400,000: hard handlers acquire each, and so does a task
+    that they can interrupt there."""
+    task, count = task_names()[0], min(400_000, size // 250)
+    numbers, done = list(range(count)), 0
+    draws.shuffle(numbers)
+    for first in range(0, count, 4000):
+        pieces = [b'trace run-%d\n' % first]
+        for number in numbers[first:first + 4000]:
+            taken = b'acquire %b dev%d_lock\nrelease %b dev%d_lock\n' % (task, number, task, number)
+            pieces.append(b'enter %b hard\n%bexit %b hard\n%b' % (task, taken, task, taken))
+        yield b''.join(pieces)
+        done += sum(len(piece) for piece in pieces)
+    while done < size:
+        taken = b'acquire %b dev0_lock\nrelease %b dev0_lock\n' % (task, task)
+        done += len(taken) * 100 + 10
+        yield b'trace more\n' + taken * 100
+
+
 Kind = namedtuple('Kind', 'traces is_clean what')
 KINDS = {
     'wide': Kind(wide, True, '300 classes, up to 6 tasks in turn, up to 6 locks held'),
@@ -385,6 +424,8 @@ KINDS = {
     'layers-handlers': Kind(layers_handlers, True, 'the same, and handlers that acquire deep classes'),
     'lone-cycle': Kind(lone_cycle, False, 'up to 100,000 classes without a dependency, and one inversion'),
     'lone-walk': Kind(lone_walk, False, 'the same, and one forbidden walk'),
+    'hand-over-hand': Kind(hand_over_hand, True, 'one trace of one task, which holds 95 locks and releases the oldest one'),
+    'conflicts': Kind(conflicts, False, 'up to 400,000 classes, each of them a conflict'),
     'cycles': Kind(cycles, False, 'up to 12,000 dependencies of 2,000 classes, all of them inversions'),
 }
 LEAST, MOST = 20_000, 2_100 * MB  # bytes of a stream

@@ -2,6 +2,8 @@
 
 use ld_facts::{EdgeFact, Facts, Outcome, facts};
 use ld_trace::Source;
+use std::alloc::Global;
+use std::io::Write;
 use std::process::Abort;
 use std::test::Fail;
 
@@ -64,6 +66,34 @@ fn a_trace_of_more_than_a_million_bytes_is_read(rt: HostRuntime) -> Result<(), F
     assert!(rt; text.len() > 1_000_000);
     let facts = told(&rt, &text);
     assert_eq!(rt; facts.outcome(), Outcome::Read { events: 84_000 });
+    drop(facts);
+    Ok(())
+}
+
+/// The lines of a task that takes locks of these classes in turn and holds 94 of them: from then on it lets
+/// the oldest one go each time before it takes the next.
+fn hand_over_hand(alloc: Global, classes: &[usize]) -> Result<Vec<u8>, Fail> {
+    let mut text = Vec::new(alloc);
+    for (place, class) in classes.iter().enumerate() {
+        if place >= 94 {
+            if let Some(oldest) = classes.get(place - 94) {
+                writeln!(text, "release t c{oldest}")?;
+            }
+        }
+        writeln!(text, "acquire t c{class}")?;
+    }
+    Ok(text)
+}
+
+// A release takes the chains of 93 locks away, which the next acquisition asks for, so there would be 273,000
+// of them: more than are kept.
+#[test]
+fn a_trace_of_more_chains_than_are_kept_is_read(rt: HostRuntime) -> Result<(), Fail> {
+    let classes: Vec<usize> = (0..3_000).collect(rt.alloc())?;
+    let text = hand_over_hand(rt.alloc(), &classes)?;
+    let facts = told(&rt, &text);
+    assert_eq!(rt; facts.outcome(), Outcome::Read { events: 5_906 });
+    assert_eq!(rt; facts.edges().len(), 274_629);
     drop(facts);
     Ok(())
 }

@@ -27,6 +27,8 @@ mod fakes;
 #[cfg(test)]
 mod graphs;
 #[cfg(test)]
+mod marks;
+#[cfg(test)]
 mod reaches;
 #[cfg(test)]
 mod report;
