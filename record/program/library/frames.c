@@ -90,16 +90,51 @@ static uint16_t find(const struct frame *frame, uint16_t inside)
     return 0;
 }
 
-/* Gives the number of the place that a call of the library came from, or 0. */
+/* Gives the frame around these calls where they are those that led here, or NULL. Each frame is looked
+   for where it was before, so that none has to be waited for. */
+static const struct frame *pass(const struct inner_calls *calls, const struct frame *frame)
+{
+    const char *innermost = (const char *)frame;
+    for (unsigned count = 0; count < calls->count; count++) {
+        const struct frame *outer = (const struct frame *)(innermost + calls->outer[count]);
+        if (frame->address != calls->addresses[count] || frame->outer != outer)
+            return NULL;
+        frame = outer;
+    }
+    return frame;
+}
+
+static unsigned place_through(struct inner_calls *calls, const struct frame *innermost)
+{
+    const struct frame *frame = pass(calls, innermost);
+    if (!frame) {
+        *calls = (struct inner_calls){0};
+        frame = innermost;
+    }
+    uint16_t number = calls->number;
+    for (;;) {
+        uint16_t around = find(frame, number);
+        if (around == 0)
+            return number;
+        number = around;
+        const struct frame *outer = life->places[number].goes_on ? outer_of(frame) : NULL;
+        if (!outer || calls->count == MOST_INNER)
+            return number;
+        calls->addresses[calls->count] = frame->address;
+        calls->outer[calls->count] = (uint16_t)((const char *)outer - (const char *)innermost);
+        calls->count++;
+        calls->number = number;
+        frame = outer;
+    }
+}
+
+/* Gives the number of the place that a call of the library came from, or 0. What a signal handler does
+   in the midst of another call of the recorder leaves the thread's calls as they are. */
 unsigned place_of_frame(const struct frame *frame)
 {
-    uint16_t number = 0;
-    for (unsigned count = 0; frame && count < MOST_INSIDE; count++) {
-        uint16_t outer = find(frame, number);
-        if (outer == 0)
-            break;
-        number = outer;
-        frame = life->places[number].goes_on ? outer_of(frame) : NULL;
-    }
-    return number;
+    struct inner_calls none = {0};
+    if (!frame)
+        return 0;
+    struct inner_calls *calls = &self.calls[(frame->address ^ (uint64_t)frame >> 4) % CALLS_KEPT];
+    return place_through(self.inside == 1 ? calls : &none, frame);
 }

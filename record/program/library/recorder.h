@@ -45,6 +45,18 @@ struct frame {
 
 enum state { STATE_NEW, STATE_BEGINNING, STATE_RECORDING, STATE_OFF };
 
+#define MOST_INNER (MOST_INSIDE - 1)
+#define CALLS_KEPT 8
+
+/* Calls from places that go on, the innermost first, which led to an event of this thread: mostly the next
+   event comes through the same ones, from frames that lie the same. */
+struct inner_calls {
+    uint64_t addresses[MOST_INNER];
+    uint16_t outer[MOST_INNER]; /* how far the frame around each is from the innermost frame */
+    uint16_t count;
+    uint16_t number; /* of the place of the last one */
+};
+
 /* What a thread has of its own. `inside` counts calls of the recorder that run: more than one of
    them where a signal handler that takes locks interrupted another. */
 struct self {
@@ -53,6 +65,7 @@ struct self {
     uint64_t last_number;
     struct chunk *chunk;
     unsigned inside;
+    struct inner_calls calls[CALLS_KEPT];
 };
 
 extern struct life *life;
