@@ -6,7 +6,7 @@ use Rattle.std.proofs.lemmas.List.{drop_all, get_or_push, length-map, length_pus
 use Rattle.std.proofs.lemmas.List.Elements.{All-append, All-drop, All-nil, All-push, All-weaker}
 use Rattle.std.proofs.lemmas.List.Quantifiers.{all_pairs_push}
 use Rattle.std.specs.List.{last_or}
-use Rattle.ld_class.specs.Names.{AreDistinct, PlainClass, no_class, same_class}
+use Rattle.ld_class.specs.Names.{PlainClass, no_class, same_class}
 use Rattle.ld_trace.specs.Events.{PlainEvent, positions}
 use Rattle.ld_trace.specs.Sources.{Fits, PlainSource, plain}
 use Rattle.ld_trace.proofs.PositionLemmas.{positions-ascend}
@@ -25,8 +25,7 @@ use Rattle.ld_rules.proofs.StepLemmas.{Decides-same_dependency}
 use Rattle.ld_rules.proofs.UsageLemmas.{Decides-same_use}
 use Rattle.ld_facts.specs.declared.scan.Scan.{Scan}
 use Rattle.ld_facts.specs.Named as scans
-use Rattle.ld_facts.specs.Inner.Scan as scanned
-use Rattle.ld_facts.specs.Inner.Scan.{IsAt, fresh_scan, start_of, undone}
+use Rattle.ld_facts.specs.Inner.Scan.{IsAt, start_of}
 use Rattle.ld_facts.proofs.StartLemmas.{begun-at}
 use Rattle.ld_shown.specs.Batch.{AreOutcomes, AreRising, IsBatch, IsUse, IsBetween, PlainBatch, named_dependency, named_use, sources_of, witness_of}
 use Rattle.ld_facts.specs.Inner.Kept.{AreNames, Fields, HasOwn, IsKept, IsRead, IsReady}

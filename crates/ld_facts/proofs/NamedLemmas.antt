@@ -1,26 +1,20 @@
 -- Dependencies between numbered classes, read by the names of the classes: distinct names make equal names
 -- equal numbers, so a dependency is new by its numbers where it is new by its names.
 use Rattle.std.proofs.Common.{◌≡◌, ◌<◌, ◌++◌, ◌∷◌, [], ◌||◌, ◌&&◌, ◌==◌, List, ℕ, Bool, true, false, All}
-use Rattle.std.proofs.Common.{length, map, fold, is_some, slice_index_or, refl, ap, sym, subst, ◌∙◌, arith, if◌then◌else◌, length-append}
+use Rattle.std.proofs.Common.{length, map, fold, is_some, slice_index_or, refl, ap, sym, ◌∙◌, arith, if◌then◌else◌, length-append}
 use Rattle.std.proofs.lemmas.Bool.Decides.{Decides-eqb}
 use Rattle.std.proofs.lemmas.List.{get_or_append_left, map-append}
 use Rattle.std.proofs.lemmas.List.Elements.{All-nil, All-cons, All-head, All-tail, All-append, All-map, All-weaker}
 use Rattle.std.proofs.lemmas.Simd.{map-map}
-use Rattle.std.specs.List.{list_any, filter_map}
+use Rattle.std.specs.List.{list_any}
 use Rattle.ld_class.specs.Names.{AreDistinct, IsNameAt, PlainClass, no_class, place_of, same_class, with_name}
-use Rattle.ld_class.proofs.AnyNames.{apart-with_one}
 use Rattle.ld_class.proofs.NameLemmas.{same_class-Decides}
-use Rattle.ld_trace.specs.Events.{PlainEvent}
 use Rattle.ld_tables.specs.declared.edges.EdgeFact.{EdgeFact}
 use Rattle.ld_tables.specs.Inner.Edges.{edge_to, same_pair, with_edge_fact}
 use Rattle.ld_tables.specs.Inner.Locks.{Hold}
-use Rattle.ld_rules.specs.Outcome.{classes, each_once}
-use Rattle.ld_rules.specs.Held.{class_acquired}
 use Rattle.ld_rules.specs.Inner.Scanned.{same_dependency_seen, with_new}
 use Rattle.ld_facts.specs.Inner.Scan.{HeldLock, IsBetween, named_hold}
 use Rattle.ld_facts.specs.Named.{named_dependency}
-use Rattle.ld_rules.proofs.PlaceLemmas.{by_pushes}
-use Rattle.ld_rules.proofs.StepLemmas.{names-more}
 
 -- two tests that pass together are one
 same_test : (a b : Bool) → (a ≡ true → b ≡ true) → (b ≡ true → a ≡ true) → a ≡ b

@@ -2,6 +2,7 @@
 #![tactic(auto)]
 
 mod labels;
+mod lengths;
 mod lines;
 mod text;
 mod verdict;

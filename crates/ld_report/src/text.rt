@@ -8,6 +8,7 @@ ghost use Rattle.ld_report.specs.Report.{IsReport, SaysClean, conflict_line, cyc
 ghost use Rattle.ld_report.specs.Report.{forbidden_line, last_line, refused_lines, summary_line};
 ghost use Rattle.ld_report.specs.Report.{violation_lines, violations};
 
+use crate::lengths::length_of;
 use crate::lines::{
     write_conflict, write_cycle, write_forbidden, write_last, write_refused, write_summary,
 };
@@ -42,6 +43,7 @@ fn text_of(
         ++ last_line (violations (plain_findings findings.now))) }
 {
     let mut text = Vec::new(alloc);
+    text.reserve(length_of(traces, findings, totals.refused))?;
     write_summary(&mut text, totals)?;
     write_all_refused(&mut text, traces.listed())?;
     write_violations(&mut text, traces, findings)?;

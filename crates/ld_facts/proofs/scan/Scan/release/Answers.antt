@@ -18,14 +18,14 @@ returns-in_err-task-clause-fault c fault is start all is_at =
     let at = h (ap Err same) in
     scan_too_many_tasks all c.args.self.now (Release c.args.task.now (plain_lock c.args.lock)) is_at at.1 at.2 ∙ ap Some (sym at.0)
 
-pub returns-else-branch-clause-fault : goal.returns-else-branch-clause-fault
-returns-else-branch-clause-fault c fault is start all is_at =
+pub returns-else-let_go-clause-fault : goal.returns-else-let_go-clause-fault
+returns-else-let_go-clause-fault c fault is start all is_at =
     let same : NotHeld ≡ fault = cc in
     release-not_held all c.args.self.now is_at c.args.task.now (plain_lock c.args.lock) c.in_ok-task.task c.task.new.self c.in_ok-task.ensures.task
-    (sym c.let_go.ensures.held ∙ c.if-branch.false) ∙ ap Some same
+    (sym c.let_go.ensures.held ∙ c.if-let_go.false) ∙ ap Some same
 
-pub returns-then-branch-clause-ok : goal.returns-then-branch-clause-ok
-returns-then-branch-clause-ok c start all line is_at =
+pub returns-then-let_go-clause-ok : goal.returns-then-let_go-clause-ok
+returns-then-let_go-clause-ok c start all line is_at =
     subst (λ (locks : HeldByTasks). IsAt start (all ++ happens line (Release c.args.task.now (plain_lock c.args.lock)) ∷ [])
     (record {
       tasks = c.task.new.self.tasks;
@@ -36,4 +36,4 @@ returns-then-branch-clause-ok c start all line is_at =
       before = c.task.new.self.before;
     })) (sym c.let_go.ensures.stacks)
     (release-at all c.args.self.now is_at c.args.task.now (plain_lock c.args.lock) c.in_ok-task.task c.task.new.self c.in_ok-task.ensures.task line
-    (sym c.let_go.ensures.held ∙ c.if-branch.true))
+    (sym c.let_go.ensures.held ∙ c.if-let_go.true))
