@@ -1,11 +1,13 @@
 -- A search by levels, with those classes first that wait longest, gives exact distances.
 use Rattle.std.proofs.Common.{◌≡◌, ℕ, zero, suc, ◌+◌, ◌<◌, ◌≤◌, ◌⊎◌, inl, inr, List, [], length}
-use Rattle.std.proofs.Common.{get_or, Option, Some, None, arith, refl, sym, ap, subst, ◌∙◌}
+use Rattle.std.proofs.Common.{Contains, get_or, Option, Some, None, arith, refl, sym, ap, subst, ◌∙◌}
 use Rattle.std.proofs.lemmas.Bool.{cases_lt}
 use Rattle.ld_graph.specs.Walks.{IsDistance, DistanceIs}
 use Rattle.ld_graph.specs.Inner.Levels.{level_at, HasLevel, Spreads}
 use Rattle.ld_graph.proofs.WalkLemmas.{Far, IsWalk-Far, IsDistance-Far}
-use Rattle.std.proofs.lemmas.List.{get_or_read}
+use Rattle.std.proofs.lemmas.List.{get_or_default, get_or_read}
+use Rattle.std.proofs.lemmas.List.Elements.{Contains-get_or}
+use Rattle.ld_graph.specs.Inner.Insides.{AreTouched}
 use Rattle.ld_graph.proofs.SpreadLemmas.{some_same, level_within}
 
 -- what a search knows after it has gone on from the start and from the first `done` classes that
@@ -232,6 +234,21 @@ module _ (near : ℕ → ℕ → Type 0) (start : ℕ) where
             (IsDistance-Far (λ a b. near b a) x start s.0 s.1.1
             (λ m f. let c = complete m x f in let t = some_same c.0 k (sym c.1.0 ∙ e)
             in let u = c.1.1 in let v = s.1.0 in omega (arith, t, u, v)))
+
+-- what has a level waits, or has waited
+pub IsPartial-touched : (near : ℕ → ℕ → Type 0) (start done : ℕ) (levels : List (Option ℕ)) (queue : List ℕ)
+    → IsPartial near start done levels queue → AreTouched levels queue
+IsPartial-touched near start done levels queue p = record {
+  within = λ x n.
+      let b = n.1 in
+      let q = p.queued n.0 b in
+      let s = get_or_default queue n.0 0 x b ∙ n.2 in
+      level_within levels x q.0 (ap (λ z. level_at levels z) (sym s) ∙ q.1.0);
+  all = λ x k e.
+      let c = p.covered x k e in
+      let b = c.1.0 in
+      subst (Contains queue) c.1.1 (Contains-get_or queue c.0 0 b);
+}
 
 -- the same facts as the code reads them: x is the class that has waited longest
 module _ (near : ℕ → ℕ → Type 0) (start done : ℕ) (old : List (Option ℕ)) (before : List ℕ) (p :

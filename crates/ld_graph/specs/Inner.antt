@@ -10,3 +10,4 @@ pub mod Placed
 pub mod Kept
 pub mod KeptReach
 pub mod Trails
+pub mod Insides

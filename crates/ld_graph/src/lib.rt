@@ -4,6 +4,7 @@
 
 mod components;
 mod graph;
+mod inside;
 mod levels;
 mod lists;
 mod neighbours;
@@ -16,6 +17,7 @@ mod shown;
 mod trail;
 mod turns;
 
+pub use inside::Distances;
 pub use graph::{Graph, MOST_GRAPH_CLASSES};
 pub use lists::{Lists, Steps};
 pub use placed::Insert;

@@ -1,0 +1,87 @@
+use Rattle.std.proofs.Common.{◌≡◌, ◌∙◌, ap, set, subst, Contains, below_more, ◌<◌, length, arith, Some, None}
+use Rattle.std.proofs.Common.{get_or}
+use Rattle.std.proofs.lemmas.List.{get_or-set_same, get_or_default}
+use Rattle.ld_graph.specs.Inner.Insides.{IsInsideOf}
+use Rattle.ld_graph.specs.Inner.Levels.{level_at, HasLevel}
+use Rattle.ld_graph.proofs.SpreadLemmas.{near_all, near_here, Spreads-more, some_is, none_is}
+use Rattle.ld_graph.proofs.SpreadLemmas.{count_marked, kept_marked}
+use Rattle.ld_graph.proofs.inside.expand_inside.Goals as goal
+use Rattle.ld_graph.proofs.inside.expand_inside.Goals.{then-components-x+then-is_none+in-Ok, then-components-x+else-is_none, else-components-x}
+
+pub bounds-components-x : goal.bounds-components-x
+bounds-components-x c =
+    let n = c.requires.ends (get_or c.args.near.now c.loop-x.x-index 0)
+    (near_here c.args.near.now c.loop-x.x-index c.loop-x-test.true) in
+    omega (arith, n, c.requires.components)
+
+pub bounds-levels-x : goal.bounds-levels-x
+bounds-levels-x c =
+    let n = c.requires.ends (get_or c.args.near.now c.loop-x.x-index 0)
+    (near_here c.args.near.now c.loop-x.x-index c.loop-x-test.true) in
+    let l = c.loop-x.auto.levels in
+    omega (arith, n, l)
+
+pub bounds-levels-x-then-is_none : goal.bounds-levels-x-then-is_none
+bounds-levels-x-then-is_none c =
+    let n = c.requires.ends (get_or c.args.near.now c.loop-x.x-index 0)
+    (near_here c.args.near.now c.loop-x.x-index c.loop-x-test.true) in
+    let l = c.loop-x.auto.levels in
+    omega (arith, n, l)
+
+pub unreachable-requires : goal.unreachable-requires
+unreachable-requires c =
+    let n = c.requires.ends (get_or c.args.near.now c.loop-x.x-index 0)
+    (near_here c.args.near.now c.loop-x.x-index c.loop-x-test.true) in
+    let l = c.loop-x.auto.levels in
+    let free : level_at c.loop-x.levels (get_or c.args.near.now c.loop-x.x-index 0) ≡ None =
+    none_is (level_at c.loop-x.levels (get_or c.args.near.now c.loop-x.x-index 0))
+    c.if-is_none.ensures in
+    let m = count_marked c.loop-x.levels (get_or c.args.near.now c.loop-x.x-index 0)
+    c.args.level (omega (arith, n, l)) free in
+    let i = c.loop-x.invariant in
+    omega (arith, m, i.count, i.capacity, c.requires.room, c.in_default.ensures.full)
+
+pub loop-x-preserved : goal.loop-x-preserved
+loop-x-preserved c =
+    let x = get_or c.args.near.now c.loop-x.x-index 0 in
+    let here = near_here c.args.near.now c.loop-x.x-index c.loop-x-test.true in
+    let n = c.requires.ends x here in
+    let l = c.loop-x.auto.levels in
+    let within : x < length c.loop-x.levels = omega (arith, n, l) in
+    let i = c.loop-x.invariant in
+    elim c.if-components-x.branch [
+      | then-components-x+then-is_none+in-Ok w ↦
+          let free : level_at c.loop-x.levels x ≡ None = none_is (level_at c.loop-x.levels x) w.if-is_none.ensures in
+          rw (w.levels-is, w.queue-is) (record {
+            count = let m = count_marked c.loop-x.levels x c.args.level within free in omega (arith, m, i.count, w.in-Ok.ensures.len);
+            capacity = omega (arith, i.capacity, w.in-Ok.ensures.capacity);
+            spread = rw w.in-Ok.ensures.items (Spreads-more (IsInsideOf c.args.components.now c.args.component c.args.near.now) c.args.level c.args.levels.now c.args.queue.now.items
+                c.loop-x.levels c.loop-x.queue.items i.spread x (here, w.if-components-x.true) within free);
+            reached = below_more (λ k. get_or c.args.components.now (get_or c.args.near.now k 0) 0 ≡ c.args.component
+                → HasLevel (set c.loop-x.levels x (Some c.args.level)) (get_or c.args.near.now k 0)) _
+                (λ k b in_component. let r = i.reached k b in_component in (r.0, kept_marked c.loop-x.levels x c.args.level free (get_or c.args.near.now k 0) r.0 r.1))
+                (λ in_component. (c.args.level, get_or-set_same c.loop-x.levels x (Some c.args.level) None within));
+          })
+      | then-components-x+else-is_none w ↦
+          rw (w.levels-is, w.queue-is) (record {
+            count = i.count;
+            capacity = i.capacity;
+            spread = i.spread;
+            reached = below_more (λ k. get_or c.args.components.now (get_or c.args.near.now k 0) 0 ≡ c.args.component → HasLevel c.loop-x.levels (get_or c.args.near.now k 0)) _
+                i.reached (λ in_component. some_is (level_at c.loop-x.levels x) w.if-is_none.ensures);
+          })
+      | else-components-x w ↦
+          rw (w.levels-is, w.queue-is) (record {
+            count = i.count;
+            capacity = i.capacity;
+            spread = i.spread;
+            reached = below_more (λ k. get_or c.args.components.now (get_or c.args.near.now k 0) 0 ≡ c.args.component → HasLevel c.loop-x.levels (get_or c.args.near.now k 0)) _
+                i.reached (λ in_component. absurd (w.if-components-x.false in_component));
+          })
+    ]
+
+pub returns-clause-reached : goal.returns-clause-reached
+returns-clause-reached c = λ x n.
+    let m = n.0.1 in
+    let s = get_or_default c.args.near.now n.0.0 0 x m ∙ n.0.2 in
+    subst (HasLevel c.loop-x.levels) s (c.loop-x.invariant.reached n.0.0 (omega (arith, m, c.loop-x-test.false)) (ap (λ z. get_or c.args.components.now z 0) s ∙ n.1))

@@ -1,0 +1,15 @@
+use Rattle.std.proofs.Common.{◌≡◌, ◌+◌, ◌<◌, ◌≤◌, ℕ, count_by, get_or, is_none, vec_len}
+use Rattle.std.proofs.Common.{vec_capacity, Contains}
+use Rattle.ld_graph.specs.Inner.Insides.{IsInsideOf}
+use Rattle.ld_graph.specs.Inner.Levels.{HasLevel, Spreads}
+use Rattle.ld_graph.proofs.inside.expand_inside.Given as goal
+
+abbrev pub invariant-loop-x : goal.invariant-loop-x
+invariant-loop-x l = record {
+  count : vec_len l.queue + count_by is_none l.levels ≡ vec_len l.fn.queue + count_by is_none
+      l.fn.levels;
+  capacity : vec_capacity l.fn.queue ≤ vec_capacity l.queue;
+  spread : Spreads (IsInsideOf l.components l.component l.near) l.level l.fn.levels l.fn.queue.items l.levels
+      l.queue.items;
+  reached : (k : ℕ) → k < l.x-index → get_or l.components (get_or l.near k 0) 0 ≡ l.component → HasLevel l.levels (get_or l.near k 0);
+}

@@ -1,0 +1,106 @@
+use Rattle.std.proofs.Common.{◌≡◌, ◌<◌, ◌+◌, ◌∙◌, ℕ, [], Contains, ap, arith, get_or, length, subst}
+use Rattle.ld_graph.specs.Inner.Insides.{IsInsideOf, IsNearInside}
+use Rattle.ld_graph.specs.Inner.Levels.{HasLevel, Spreads}
+use Rattle.ld_graph.proofs.SpreadLemmas.{count_none}
+use Rattle.ld_graph.proofs.SearchLemmas.{IsPartial-begun, IsPartial-next, IsPartial-all, IsPartial-touched}
+use Rattle.ld_graph.proofs.SearchLemmas.{next_within, next_small, next_level}
+use Rattle.ld_graph.proofs.inside.measure_inside.Goals as goal
+
+pub loop-done-init : goal.loop-done-init
+loop-done-init c =
+    let component = get_or c.args.components.now c.args.end 0 in
+    let spreads : Spreads (IsNearInside c.args.lists.now.before.lists c.args.components.now component c.args.end) 1
+    c.args.levels.now [] c.expand_inside.new.levels c.expand_inside.new.queue.items =
+    subst (λ q. Spreads (IsNearInside c.args.lists.now.before.lists c.args.components.now component c.args.end) 1
+    c.args.levels.now q c.expand_inside.new.levels c.expand_inside.new.queue.items) c.requires.empty
+    (subst (λ n. Spreads (IsInsideOf c.args.components.now component n) 1 c.args.levels.now c.args.queue.now.items
+    c.expand_inside.new.levels c.expand_inside.new.queue.items) c.before-2.ensures.near c.expand_inside.ensures.spreads) in
+    let few = count_none c.args.levels.now in
+    let none : length c.args.queue.now.items ≡ 0 = ap length c.requires.empty in
+    record {
+      count = omega (arith, few, none, c.args.queue.now.ok.0, c.expand_inside.ensures.count, c.requires.classes);
+      capacity = omega (arith, c.expand_inside.ensures.capacity);
+      partial = IsPartial-begun (IsNearInside c.args.lists.now.before.lists c.args.components.now (get_or c.args.components.now c.args.end 0)) c.args.end c.args.levels.now
+          c.expand_inside.new.levels c.expand_inside.new.queue.items c.requires.none spreads
+          (subst (λ n. (x : ℕ) → IsInsideOf c.args.components.now component n x → HasLevel c.expand_inside.new.levels x)
+          c.before-2.ensures.near c.expand_inside.ensures.reached);
+      steps = omega arith;
+    }
+
+pub loop-done-preserved : goal.loop-done-preserved
+loop-done-preserved c =
+    record {
+      count = omega (arith, c.expand_inside-in-loop-done.ensures.count, c.loop-done.invariant.count);
+      capacity = omega (
+        arith,
+        c.expand_inside-in-loop-done.ensures.capacity,
+        c.loop-done.invariant.capacity,
+      );
+      partial = IsPartial-next (IsNearInside c.args.lists.now.before.lists c.args.components.now (get_or c.args.components.now c.args.end 0)) c.args.end c.loop-done.done
+          c.loop-done.levels c.loop-done.queue.items c.loop-done.invariant.partial
+          (omega (arith, c.loop-done-test.true, c.len.ensures)) c.index-class.result.now
+          c.index-class.ensures
+          c.expand_inside-in-loop-done.new.levels c.expand_inside-in-loop-done.new.queue.items c.in-Some.level
+          c.in-Some.is
+          (subst (λ n. Spreads (IsInsideOf c.args.components.now (get_or c.args.components.now c.args.end 0) n) (c.in-Some.level + 1) c.loop-done.levels
+          c.loop-done.queue.items c.expand_inside-in-loop-done.new.levels
+          c.expand_inside-in-loop-done.new.queue.items) c.before-in-loop-done.ensures.near
+          c.expand_inside-in-loop-done.ensures.spreads)
+          (subst (λ n. (x : ℕ) → IsInsideOf c.args.components.now (get_or c.args.components.now c.args.end 0) n x → HasLevel c.expand_inside-in-loop-done.new.levels x)
+          c.before-in-loop-done.ensures.near c.expand_inside-in-loop-done.ensures.reached);
+      steps = omega arith;
+    }
+
+pub loop-done-smaller : goal.loop-done-smaller
+loop-done-smaller c = omega (
+  arith,
+  c.expand_inside-in-loop-done.ensures.count,
+  c.loop-done-test.true,
+  c.len.ensures,
+)
+
+pub bounds : goal.bounds
+bounds c =
+    next_within (IsNearInside c.args.lists.now.before.lists c.args.components.now (get_or c.args.components.now c.args.end 0)) c.args.end c.loop-done.done c.loop-done.levels
+    c.loop-done.queue.items c.loop-done.invariant.partial
+    (omega (arith, c.loop-done-test.true, c.len.ensures)) c.index-class.result.now
+    c.index-class.ensures
+
+pub overflow_add-level : goal.overflow_add-level
+overflow_add-level c =
+    let small = next_small (IsNearInside c.args.lists.now.before.lists c.args.components.now (get_or c.args.components.now c.args.end 0)) c.args.end c.loop-done.done
+    c.loop-done.levels c.loop-done.queue.items c.loop-done.invariant.partial
+    (omega (arith, c.loop-done-test.true, c.len.ensures)) c.index-class.result.now
+    c.index-class.ensures c.in-Some.level c.in-Some.is in
+    omega (arith, small)
+
+pub unreachable-requires : goal.unreachable-requires
+unreachable-requires c =
+    let next = next_level (IsNearInside c.args.lists.now.before.lists c.args.components.now (get_or c.args.components.now c.args.end 0)) c.args.end c.loop-done.done
+    c.loop-done.levels c.loop-done.queue.items c.loop-done.invariant.partial
+    (omega (arith, c.loop-done-test.true, c.len.ensures)) c.index-class.result.now
+    c.index-class.ensures in
+    c.in_default.not-Some next.0 next.1.0
+
+pub returns-clause-distances : goal.returns-clause-distances
+returns-clause-distances c =
+    IsPartial-all (IsNearInside c.args.lists.now.before.lists c.args.components.now (get_or c.args.components.now c.args.end 0)) c.args.end c.loop-done.done c.loop-done.levels
+    c.loop-done.queue.items c.loop-done.invariant.partial
+    (omega (arith, c.loop-done-test.false, c.len.ensures))
+
+pub expand_inside-requires-clause-ends : goal.expand_inside-requires-clause-ends
+expand_inside-requires-clause-ends c = λ x n.
+    let e = c.requires.ends c.args.end x (subst (λ l. Contains l x) c.before-2.ensures.near n)
+    in omega (arith, e, c.requires.classes)
+
+pub expand_inside-requires-in-loop-done-clause-ends : goal.expand_inside-requires-in-loop-done-clause-ends
+expand_inside-requires-in-loop-done-clause-ends c = λ x n.
+    let e = c.requires.ends c.index-class.result.now x
+    (subst (λ l. Contains l x) c.before-in-loop-done.ensures.near n)
+    in omega (arith, e, c.requires.classes, c.loop-done.auto.levels)
+
+pub returns-clause-touched : goal.returns-clause-touched
+returns-clause-touched c =
+    let e = IsPartial-touched (IsNearInside c.args.lists.now.before.lists c.args.components.now (get_or c.args.components.now c.args.end 0)) c.args.end c.loop-done.done c.loop-done.levels
+    c.loop-done.queue.items c.loop-done.invariant.partial in
+    e

@@ -1,0 +1,17 @@
+-- What the search within a component says of its working space. No public contract cites this file.
+use Rattle.std.specs.Prelude.{◌≡◌, ℕ, ◌<◌, List, length, slice_index_or, Option, Some, None, Contains}
+use Rattle.ld_graph.specs.Inner.Levels.{level_at}
+use Rattle.ld_graph.specs.Lists.{IsNear, list_at}
+
+-- one of these classes, and of this component
+abbrev pub IsInsideOf : (components : List ℕ) (component : ℕ) (near : List ℕ) → ℕ → Type 0
+IsInsideOf components component near x = Contains near x × (slice_index_or components x 0 ≡ component)
+
+-- b is a neighbour of a, and of this component
+abbrev pub IsNearInside : (lists : List (List ℕ)) (components : List ℕ) (component a b : ℕ) → Type 0
+IsNearInside lists components component a b = IsInsideOf components component (list_at lists a) b
+
+-- what has a level is one of these classes
+pub record AreTouched (levels : List (Option ℕ)) (touched : List ℕ) : Type 0 where
+  pub within : (x : ℕ) → Contains touched x → x < length levels
+  pub all : (x k : ℕ) → level_at levels x ≡ Some k → Contains touched x

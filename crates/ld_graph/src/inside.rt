@@ -1,0 +1,173 @@
+//! Distances within one component, by a search that doesn't leave it, over a list that is made once and is
+//! taken back only where it was touched.
+ghost use Rattle.std.specs.Prelude.{◌≡◌, ◌+◌, ◌<◌, ◌≤◌, ℕ, [], None, Some, IfOk, is_none, count_by};
+ghost use Rattle.std.specs.Prelude.{length, slice_index_or, vec_len, vec_capacity, Contains};
+ghost use Rattle.ld_graph.specs.declared.graph.TheConstants.{MOST_GRAPH_CLASSES};
+ghost use Rattle.ld_graph.specs.Inner.Insides.{AreTouched, IsInsideOf, IsNearInside};
+ghost use Rattle.ld_graph.specs.Inner.Levels.{HasLevel, Spreads, level_at};
+ghost use Rattle.ld_graph.specs.Lists.{IsNear};
+ghost use Rattle.ld_graph.specs.Walks.{DistanceIs};
+
+use crate::lists::{Lists, Steps};
+use std::alloc::{AllocError, Global};
+use std::marker::Model;
+
+/// For the classes of one component their distances to one of them. Made once for many searches.
+#[derive(Drop)]
+pub struct Distances {
+    levels: Vec<Option<u64>>,
+    /// The classes that have a level.
+    touched: Vec<u32>,
+}
+
+impl Model for Distances {
+    ghost use Rattle.std.specs.Prelude.{ℕ, ◌≤◌, List, Option, length, vec_capacity};
+
+    ghost Value = { List (Option ℕ) };
+
+    ghost use Rattle.ld_graph.specs.Inner.Insides.{AreTouched};
+
+    ghost view = { λ d. d.levels.items };
+
+    ghost invariant = { λ d. AreTouched d.levels.items d.touched.items
+        × (length d.levels.items ≤ vec_capacity d.touched) };
+}
+
+impl Distances {
+    /// No distance yet, of so many classes.
+    ///
+    /// # Errors
+    ///
+    /// `AllocError` where memory was refused.
+    pub fn new(alloc: Global, classes: usize) -> Result<Distances, AllocError>
+        ensures { IfOk result (λ distances. length distances ≡ classes) }
+    {
+        let mut levels = Vec::new(alloc);
+        levels.resize(classes, None)?;
+        Ok(Distances {
+            levels,
+            touched: Vec::with_capacity(alloc, classes)?,
+        })
+    }
+
+    /// The distances, by the numbers of the classes. Takes no memory.
+    pub fn levels(&self) -> &[Option<u64>]
+        ensures { result.now ≡ self.now }
+    {
+        let _ = &self.touched;
+        &self.levels
+    }
+
+    /// Gives each class of the component of `end` its distance to `end`, and takes those away that an
+    /// earlier search gave. Takes no memory.
+    pub(crate) fn search(&mut self, lists: &Lists, components: &[u32], end: u32)
+        requires end { end < length lists.now.before.lists }
+        requires few { length lists.now.before.lists ≤ MOST_GRAPH_CLASSES }
+        requires classes { length self.old ≡ length lists.now.before.lists }
+        requires components { length components.now ≡ length lists.now.before.lists }
+        requires ends { (a b : ℕ) → IsNear lists.now.before.lists a b
+            → b < length lists.now.before.lists }
+        ensures len { length self.new ≡ length self.old }
+        ensures distances { (x : ℕ) → DistanceIs
+            (λ a b. IsNearInside lists.now.before.lists components.now (slice_index_or components.now end 0) b a) x end
+            (level_at self.new x) }
+    {
+        forget(&mut self.levels, &self.touched);
+        self.touched.clear();
+        measure_inside(lists, components, end, &mut self.levels, &mut self.touched);
+    }
+}
+
+/// Takes the levels of these classes away, which are all that have one.
+fn forget(levels: &mut [Option<u64>], touched: &[u32])
+    requires { AreTouched levels.old touched.now }
+    ensures { (x : ℕ) → slice_index_or levels.new x None ≡ None }
+{
+    for class in touched {
+        levels[*class as usize] = None;
+    }
+}
+
+/// Gives this level to each of these neighbours in the component that has none, and lets it wait.
+fn expand_inside(
+    near: &[u32],
+    components: &[u32],
+    component: u32,
+    level: u64,
+    levels: &mut [Option<u64>],
+    queue: &mut Vec<u32>,
+)
+    requires ends { (x : ℕ) → Contains near.now x → x < length levels.old }
+    requires components { length components.now ≡ length levels.old }
+    requires room { vec_len queue.old + count_by is_none levels.old ≤ vec_capacity queue.old }
+    // Each class waits once, when it gets its level.
+    ensures count { vec_len queue.new + count_by is_none levels.new
+        ≡ vec_len queue.old + count_by is_none levels.old }
+    ensures capacity { vec_capacity queue.old ≤ vec_capacity queue.new }
+    ensures spreads { Spreads (IsInsideOf components.now component near.now) level
+        levels.old queue.old.items levels.new queue.new.items }
+    ensures reached { (x : ℕ) → IsInsideOf components.now component near.now x → HasLevel levels.new x }
+{
+    for x in near {
+        if components[*x as usize] == component {
+            if levels[*x as usize].is_none() {
+                levels[*x as usize] = Some(level);
+                let Ok(()) = queue.push(*x) else {
+                    unreachable!()
+                };
+            }
+        }
+    }
+}
+
+/// Gives each class of the component the least number of edges of a walk within it to `end`, or none.
+/// Takes no memory.
+fn measure_inside(
+    lists: &Lists,
+    components: &[u32],
+    end: u32,
+    levels: &mut [Option<u64>],
+    queue: &mut Vec<u32>,
+)
+    requires end { end < length lists.now.before.lists }
+    requires few { length lists.now.before.lists ≤ MOST_GRAPH_CLASSES }
+    requires classes { length levels.old ≡ length lists.now.before.lists }
+    requires components { length components.now ≡ length lists.now.before.lists }
+    requires ends { (a b : ℕ) → IsNear lists.now.before.lists a b
+        → b < length lists.now.before.lists }
+    requires room { length lists.now.before.lists ≤ vec_capacity queue.old }
+    requires none { (x : ℕ) → slice_index_or levels.old x None ≡ None }
+    requires empty { queue.old.items ≡ [] }
+    ensures capacity { vec_capacity queue.old ≤ vec_capacity queue.new }
+    ensures touched { AreTouched levels.new queue.new.items }
+    ensures distances { (x : ℕ) → DistanceIs
+        (λ a b. IsNearInside lists.now.before.lists components.now (slice_index_or components.now end 0) b a) x end
+        (slice_index_or levels.new x None) }
+{
+    let component = components[end as usize];
+    let mut steps = Steps::new();
+    expand_inside(
+        lists.before(end, &mut steps),
+        components,
+        component,
+        1,
+        levels,
+        queue,
+    );
+    let mut done = 0;
+    while done < queue.len() {
+        let class = queue[done];
+        let Some(level) = levels[class as usize] else {
+            unreachable!()
+        };
+        expand_inside(
+            lists.before(class, &mut steps),
+            components,
+            component,
+            level + 1,
+            levels,
+            queue,
+        );
+        done += 1;
+    }
+}
