@@ -20,3 +20,4 @@ pub mod LowerLemmas
 pub mod KnownLemmas
 pub mod WorkLemmas
 pub mod StepLemmas
+pub mod InsideLemmas

@@ -70,8 +70,8 @@ module _ {A : Type 0} (step : A → A → Type 0) where
       )
 
 -- one more class of the shown walk
-module _ (lists : List (List ℕ)) (places : List ℕ) (levels : List (Option ℕ)) (b : ℕ)
-    (distances : (x : ℕ) → DistanceIs (IsNear lists) x b (level_at levels x)) (last left : ℕ) (more
+module _ (lists : List (List ℕ)) (places : List ℕ) (levels : List (Option ℕ)) (b last : ℕ)
+    (distances : (x : ℕ) → IsNear lists last x → DistanceIs (IsNear lists) x b (level_at levels x)) (left : ℕ) (more
     : 1 < left)
     (far : IsDistance (IsNear lists) last b left) where
   before_left : left ≡ left - 2 + 2
@@ -88,20 +88,20 @@ module _ (lists : List (List ℕ)) (places : List ℕ) (levels : List (Option �
   next_there none =
       let n = distance_next (IsNear lists) last b (left - 2) far_two in
       none n.0 n.1.0
-      (distance_is (IsNear lists) n.0 b (level_at levels n.0) (left - 1) (distances n.0)
+      (distance_is (IsNear lists) n.0 b (level_at levels n.0) (left - 1) (distances n.0 n.1.0)
       (subst (λ k. IsDistance (IsNear lists) n.0 b k) nearer_left n.1.1))
 
   module _ (near : ℕ) (h : IsLeastAtLevel (IsNear lists last) (left - 1) levels places near) where
     pub next_distance : IsDistance (IsNear lists) near b (left - 1)
     next_distance = distance_at (IsNear lists) near b (level_at levels near) (left - 1) (distances
-        near) h.has_level
+        near h.is_near) h.has_level
 
     is_next : IsNext (IsNear lists) (ComesBefore places) last b (left - 2 + 1) near
     is_next = record {
       successor = h.is_near;
       nearer = subst (λ n. IsDistance (IsNear lists) near b n) (sym nearer_left) next_distance;
       least = λ z e d.
-          h.least z e (distance_is (IsNear lists) z b (level_at levels z) (left - 1) (distances z)
+          h.least z e (distance_is (IsNear lists) z b (level_at levels z) (left - 1) (distances z e)
           (subst (λ n. IsDistance (IsNear lists) z b n) nearer_left d));
     }
 

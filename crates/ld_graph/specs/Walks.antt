@@ -1,6 +1,6 @@
 -- Walks, distances and shown walks, over any type of class and any relation between classes, which
 -- says that there is a step from one class to another.
-use Rattle.std.specs.Prelude.{◌≡◌, ℕ, ◌+◌, ◌≤◌, List, [], ◌∷◌, length, Option, MatchOption}
+use Rattle.std.specs.Prelude.{◌≡◌, ◌⊎◌, ℕ, ◌+◌, ◌≤◌, List, [], ◌∷◌, length, Option, MatchOption}
 
 module _ {A : Type 0} (step : A → A → Type 0) where
   -- what follows the class a on a walk that ends with the class b: at least one class, each a step
@@ -19,6 +19,10 @@ module _ {A : Type 0} (step : A → A → Type 0) where
   -- there is a walk from a to b
   abbrev pub HasWalk : (a b : A) → Type 0
   HasWalk a b = (walk : List A) × IsWalk a b walk
+
+  -- the classes are the same, or there is a walk from a to b
+  abbrev pub Reaches : (a b : A) → Type 0
+  Reaches a b = (a ≡ b) ⊎ HasWalk a b
 
   -- n is the least number of steps of a walk from a to b, which has one more class than steps
   pub record IsDistance (a b : A) (n : ℕ) : Type 0 where

@@ -8,10 +8,11 @@ ghost use Rattle.ld_graph.specs.Edges.{ComesBefore, IsEdge, IsEdgeNumber};
 ghost use Rattle.ld_graph.specs.Edges.{empty_graph, with_class, with_edge, with_spares};
 ghost use Rattle.ld_graph.specs.Lists.{IsNear};
 ghost use Rattle.ld_graph.specs.Order.{HasCycle, IsInserted, IsOrder};
-ghost use Rattle.ld_graph.specs.Walks.{DistanceIs, HasWalk, IsShownWalk};
+ghost use Rattle.ld_graph.specs.Walks.{DistanceIs, HasWalk, IsShownWalk, Reaches};
 
 use crate::Edge;
 use crate::components::components_of;
+use crate::inside::Distances;
 use crate::levels::measure;
 use crate::lists::{Lists, Steps};
 use crate::placed::{Insert, place};
@@ -239,6 +240,19 @@ impl Graph {
         Ok(levels)
     }
 
+    /// For the classes that walks from `to` lead to, and for itself, what `distances` gives, by a search
+    /// that stays in the component of `to`. The list is the same for many searches. Takes no memory.
+    pub fn distances_inside(&self, to: u32, components: &[u32], distances: &mut Distances)
+        requires to { to < self.now.classes }
+        requires components { AreComponents (IsEdge self.now.edges) self.now.classes components.now }
+        requires classes { length distances.old ≡ self.now.classes }
+        ensures len { length distances.new ≡ self.now.classes }
+        ensures each { (c : ℕ) → Reaches (IsEdge self.now.edges) to c →
+            DistanceIs (IsEdge self.now.edges) c to (slice_index_or distances.new c None) }
+    {
+        distances.search(&self.lists, components, to);
+    }
+
     /// A shortest walk from `a` to `b`, or `None` where there is none. Each next class but the last
     /// is, of the successors that are one edge nearer to `b`, the one of least place, and of equal
     /// places that of the lesser number.
@@ -263,8 +277,9 @@ impl Graph {
         self.walk_along(alloc, a, b, &distances, places)
     }
 
-    /// The walk from `a` to `b` that `walk` gives, by the distances to `b` that `distances` gave. So
-    /// one search serves the walks from many classes to one.
+    /// The walk from `a` to `b` that `walk` gives, by the distances to `b` that `distances` gave, or
+    /// `distances_inside` where both are in one component. So one search serves the walks from many
+    /// classes to one.
     ///
     /// # Errors
     ///
@@ -279,8 +294,8 @@ impl Graph {
     ) -> Result<Option<Vec<u32>>, AllocError>
         requires a { a < self.now.classes }
         requires len { length distances.now ≡ self.now.classes }
-        requires each { (c : ℕ) →
-            DistanceIs (IsEdge self.now.edges) c b (slice_index_or distances.now c None) }
+        requires each { (c : ℕ) → Reaches (IsEdge self.now.edges) a c
+            → DistanceIs (IsEdge self.now.edges) c b (slice_index_or distances.now c None) }
         requires places { length places.now ≡ self.now.classes }
         ensures { IfOk result (λ walk. MatchOption walk (¬ HasWalk (IsEdge self.now.edges) a b)
             (λ w. IsShownWalk (IsEdge self.now.edges) (ComesBefore places.now) a b w.items)) }

@@ -1,6 +1,7 @@
 use Rattle.std.proofs.Common.{◌≡◌, ◌-◌, ℕ, Contains, Some, arith, subst}
 use Rattle.ld_graph.specs.Inner.Levels.{IsLeastAtLevel, level_at}
 use Rattle.ld_graph.specs.Lists.{IsNear}
+use Rattle.ld_graph.proofs.SoughtLemmas.{IsOrReaches-next}
 use Rattle.ld_graph.proofs.ShownLemmas.{next_there, next_distance, next_shown}
 use Rattle.ld_graph.proofs.shown.show.Goals as goal
 
@@ -17,7 +18,7 @@ nearest-requires-clause-places c = λ x h.
 pub unreachable-requires : goal.unreachable-requires
 unreachable-requires c =
     next_there c.args.lists.now.after.lists c.args.places.now c.args.levels.now c.args.b
-    c.requires.distances c.loop-left.last c.loop-left.left c.loop-left-test.true
+    c.loop-left.last (λ x n. c.requires.distances x (IsOrReaches-next (IsNear c.args.lists.now.after.lists) c.args.a c.loop-left.last x c.loop-left.invariant.reached n)) c.loop-left.left c.loop-left-test.true
     c.loop-left.invariant.distance
     (subst (λ n. (x : ℕ) → Contains n x → level_at c.args.levels.now x ≡ Some (c.loop-left.left - 1)
     → ⊥) c.after.ensures.near c.in_default.ensures)
@@ -32,12 +33,13 @@ loop-left-preserved c =
       within = c.requires.ends c.loop-left.last c.in-Some.near least.is_near;
       some = omega arith;
       steps = omega arith;
+      reached = IsOrReaches-next (IsNear c.args.lists.now.after.lists) c.args.a c.loop-left.last c.in-Some.near c.loop-left.invariant.reached least.is_near;
       distance = next_distance c.args.lists.now.after.lists c.args.places.now c.args.levels.now c.args.b
-          c.requires.distances c.loop-left.last c.loop-left.left c.loop-left-test.true
+          c.loop-left.last (λ x n. c.requires.distances x (IsOrReaches-next (IsNear c.args.lists.now.after.lists) c.args.a c.loop-left.last x c.loop-left.invariant.reached n)) c.loop-left.left c.loop-left-test.true
           c.loop-left.invariant.distance c.in-Some.near least;
       shown = rw c.in_ok-push-2.ensures.items
           (next_shown c.args.lists.now.after.lists c.args.places.now c.args.levels.now c.args.b
-          c.requires.distances c.loop-left.last c.loop-left.left c.loop-left-test.true
+          c.loop-left.last (λ x n. c.requires.distances x (IsOrReaches-next (IsNear c.args.lists.now.after.lists) c.args.a c.loop-left.last x c.loop-left.invariant.reached n)) c.loop-left.left c.loop-left-test.true
           c.loop-left.invariant.distance c.in-Some.near least c.args.a c.loop-left.walk.items
           c.loop-left.invariant.shown);
     }

@@ -1,7 +1,7 @@
 use Rattle.std.proofs.Common.{◌≡◌, ◌+◌, ◌<◌, ◌≤◌, ℕ, List, ◌++◌, length}
 use Rattle.ld_graph.specs.Edges.{ComesBefore}
 use Rattle.ld_graph.specs.Lists.{IsNear}
-use Rattle.ld_graph.specs.Walks.{IsDistance, ShownFrom, IsShownWalk}
+use Rattle.ld_graph.specs.Walks.{Reaches, IsDistance, ShownFrom, IsShownWalk}
 use Rattle.ld_graph.proofs.shown.show.Given as goal
 
 abbrev pub invariant-loop-left : goal.invariant-loop-left
@@ -9,6 +9,7 @@ invariant-loop-left l = record {
   within : l.last < length l.lists.after.lists;
   some : 1 ≤ l.left;
   steps : l.steps + l.left ≡ l.distance;
+  reached : Reaches (IsNear l.lists.after.lists) l.a l.last;
   distance : IsDistance (IsNear l.lists.after.lists) l.last l.b l.left;
   shown : (rest : List ℕ) → ShownFrom (IsNear l.lists.after.lists) (ComesBefore l.places) l.last l.b rest
       → IsShownWalk (IsNear l.lists.after.lists) (ComesBefore l.places) l.a l.b (l.walk.items ++ rest);

@@ -1,0 +1,47 @@
+-- Walks between classes of a component don't leave it.
+use Rattle.std.proofs.Common.{◌≡◌, ◌⊎◌, ◌↔◌, inl, inr, ℕ, ◌<◌, List, [], ◌∷◌, Option, None, Some, get_or, refl, sym}
+use Rattle.ld_graph.specs.Components.{AreComponents, AreTogether}
+use Rattle.ld_graph.specs.Inner.Insides.{IsInsideOf, IsNearInside}
+use Rattle.ld_graph.specs.Lists.{IsNear}
+use Rattle.ld_graph.specs.Walks.{LeadsTo, IsWalk, HasWalk, Reaches, IsDistance, DistanceIs}
+use Rattle.ld_graph.proofs.SoughtLemmas.{IsOrReaches-next}
+use Rattle.ld_graph.proofs.WalkLemmas.{IsWalk-same}
+
+pub Reaches-same : (s t : ℕ → ℕ → Type 0) → ((a b : ℕ) → s a b → t a b) → (a b : ℕ) → Reaches s a b → Reaches t a b
+Reaches-same s t to a b (inl e) = inl e
+Reaches-same s t to a b (inr w) = inr (w.0, IsWalk-same s t to a b w.0 w.1)
+
+module _ (step : ℕ → ℕ → Type 0) (before : List (List ℕ)) (turned : (x y : ℕ) → IsNear before x y ↔ step y x) (n : ℕ)
+    (ends : (x y : ℕ) → step x y → (x < n) × (y < n)) (components : List ℕ) (are : AreComponents step n components) (end : ℕ) (within : end < n) where
+  abbrev inside : ℕ → ℕ → Type 0
+  inside a b = IsNearInside before components (get_or components end 0) b a
+
+  outer : (a b : ℕ) → inside a b → step a b
+  outer a b h = (turned b a).0 h.0
+
+  together : (a : ℕ) → a < n → Reaches step end a → Reaches step a end → AreTogether step a end
+  together a at (inl e) back = inl (sym e)
+  together a at (inr w) (inl e) = inl e
+  together a at (inr w) (inr v) = inr (v, w)
+
+  inner : (a b : ℕ) → Reaches step end a → HasWalk step a end → step a b → inside a b
+  inner a b reached back s = let at = (ends a b s).0 in ((turned b a).1 s, (are.each a end at within).1 (together a at reached (inr back)))
+
+  leads : (a : ℕ) (w : List ℕ) → Reaches step end a → LeadsTo step a end w → LeadsTo inside a end w
+  leads a [] reached h = absurd h
+  leads a (x ∷ []) reached h = (inner a x reached (a ∷ x ∷ [], (refl, h)) h.0, h.1)
+  leads a (x ∷ y ∷ more) reached h = (
+    inner a x reached (a ∷ x ∷ y ∷ more, (refl, h)) h.0,
+    leads x (y ∷ more) (IsOrReaches-next step end a x reached h.0) h.1,
+  )
+
+  walk : (a : ℕ) (w : List ℕ) → Reaches step end a → IsWalk step a end w → IsWalk inside a end w
+  walk a [] reached h = absurd h
+  walk a (x ∷ more) reached h = (h.0, leads a more reached h.1)
+
+  pub DistanceIs-inside : (a : ℕ) (o : Option ℕ) → Reaches step end a → DistanceIs inside a end o → DistanceIs step a end o
+  DistanceIs-inside a None reached h = λ w. h (w.0, walk a w.0 reached w.1)
+  DistanceIs-inside a (Some k) reached h = record {
+    reached = let r = h.reached in (r.0, (IsWalk-same inside step outer a end r.0 r.1.0, r.1.1));
+    least = λ w i. h.least w (walk a w reached i);
+  }
