@@ -1,9 +1,9 @@
 -- Walks between classes of a component don't leave it.
-use Rattle.std.proofs.Common.{◌≡◌, ◌⊎◌, ◌↔◌, inl, inr, ℕ, ◌<◌, List, [], ◌∷◌, Option, None, Some, get_or, refl, sym}
+use Rattle.std.proofs.Common.{◌↔◌, inl, inr, ℕ, ◌<◌, List, [], ◌∷◌, Option, None, Some, get_or, refl, sym}
 use Rattle.ld_graph.specs.Components.{AreComponents, AreTogether}
-use Rattle.ld_graph.specs.Inner.Insides.{IsInsideOf, IsNearInside}
+use Rattle.ld_graph.specs.Inner.Insides.{IsNearInside}
 use Rattle.ld_graph.specs.Lists.{IsNear}
-use Rattle.ld_graph.specs.Walks.{LeadsTo, IsWalk, HasWalk, Reaches, IsDistance, DistanceIs}
+use Rattle.ld_graph.specs.Walks.{LeadsTo, IsWalk, HasWalk, Reaches, DistanceIs}
 use Rattle.ld_graph.proofs.SoughtLemmas.{IsOrReaches-next}
 use Rattle.ld_graph.proofs.WalkLemmas.{IsWalk-same}
 

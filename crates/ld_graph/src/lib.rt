@@ -17,8 +17,8 @@ mod shown;
 mod trail;
 mod turns;
 
-pub use inside::Distances;
 pub use graph::{Graph, MOST_GRAPH_CLASSES};
+pub use inside::Distances;
 pub use lists::{Lists, Steps};
 pub use placed::Insert;
 pub use reach::Reach;

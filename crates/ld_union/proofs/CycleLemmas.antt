@@ -41,6 +41,13 @@ module _ (classes : List PlainClass) (rows : List Witnessed) (is : AreBetween cl
   no_cycle-walk a b at_a at_b none cycle =
       none (walk_from_leads classes rows is sources witnessed b a (class_name classes b) (class_name classes a) (at_b, refl) (at_a, refl) cycle.1)
 
+  -- nor where an edge has none
+  pub no_cycle-back : (a b : ℕ) → a < length classes → b < length classes → (IsEdge (edges_of rows) a b → ¬ HasWalk (IsEdge (edges_of rows)) b a)
+      → ¬ IsCycle sources (class_name classes a) (class_name classes b)
+  no_cycle-back a b at_a at_b none cycle =
+      none (edge_from_named classes rows is sources witnessed a b (class_name classes a) (class_name classes b) (at_a, refl) (at_b, refl) cycle.0)
+      (walk_from_leads classes rows is sources witnessed b a (class_name classes b) (class_name classes a) (at_b, refl) (at_a, refl) cycle.1)
+
   -- a class has no dependency on a cycle where none of its edges has a walk back
   pub no_cycle-out : (a : ℕ) (to : PlainClass) → a < length classes
       → ((b : ℕ) → IsEdge (edges_of rows) a b → ¬ HasWalk (IsEdge (edges_of rows)) b a) → ¬ IsCycle sources (class_name classes a) to

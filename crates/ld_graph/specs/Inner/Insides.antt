@@ -1,7 +1,7 @@
 -- What the search within a component says of its working space. No public contract cites this file.
-use Rattle.std.specs.Prelude.{◌≡◌, ℕ, ◌<◌, List, length, slice_index_or, Option, Some, None, Contains}
+use Rattle.std.specs.Prelude.{◌≡◌, ℕ, ◌<◌, List, length, slice_index_or, Option, Some, Contains}
 use Rattle.ld_graph.specs.Inner.Levels.{level_at}
-use Rattle.ld_graph.specs.Lists.{IsNear, list_at}
+use Rattle.ld_graph.specs.Lists.{list_at}
 
 -- one of these classes, and of this component
 abbrev pub IsInsideOf : (components : List ℕ) (component : ℕ) (near : List ℕ) → ℕ → Type 0

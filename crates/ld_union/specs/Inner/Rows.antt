@@ -3,7 +3,7 @@ use Rattle.std.specs.Prelude.{◌≡◌, ◌<◌, ℕ, List, length, slice_index
 use Rattle.ld_class.specs.Names.{PlainClass}
 use Rattle.ld_graph.specs.Edges.{IsEdge}
 use Rattle.ld_graph.specs.Components.{AreComponents}
-use Rattle.ld_graph.specs.Walks.{DistanceIs, HasWalk}
+use Rattle.ld_graph.specs.Walks.{DistanceIs, HasWalk, Reaches}
 use Rattle.ld_trace.specs.declared.event.State.{State}
 use Rattle.ld_trace.specs.Sources.{PlainSource}
 use Rattle.ld_rules.specs.declared.outcome.Witness.{Witness}
@@ -85,6 +85,12 @@ pub record IsNoted (sources : List PlainSource) (class : PlainClass) (bit : Bit)
 pub record AreDistances (union : PlainUnion) (to : ℕ) (distances : List (Option ℕ)) : Type 0 where
   pub len : length distances ≡ length union.classes
   pub each : (c : ℕ) → DistanceIs (IsEdge (edges_of union.dependencies)) c to (slice_index_or distances c None)
+
+-- for each class that this one leads to, and for itself, the distance to another one
+pub record AreDistancesFrom (union : PlainUnion) (from to : ℕ) (distances : List (Option ℕ)) : Type 0 where
+  pub len : length distances ≡ length union.classes
+  pub each : (c : ℕ) → Reaches (IsEdge (edges_of union.dependencies)) from c
+      → DistanceIs (IsEdge (edges_of union.dependencies)) c to (slice_index_or distances c None)
 
 -- which classes of a union are in one component
 abbrev pub AreComponentsOf : PlainUnion → List ℕ → Type 0

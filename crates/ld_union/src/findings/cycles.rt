@@ -4,17 +4,17 @@ ghost use Rattle.ld_trace.specs.Sources.{PlainSource};
 ghost use Rattle.ld_rules.specs.Union.{dependency_witness};
 ghost use Rattle.ld_union.specs.Findings.{AreCycleRows, plain_cycle_row};
 ghost use Rattle.ld_union.specs.Inner.ByName.{AreByName, class_name};
-ghost use Rattle.ld_union.specs.Inner.Rows.{AreComponentsOf, AreCycleRowsOf, AreDistances, IsBackEdge, IsCycleRowOf, IsOfEach};
+ghost use Rattle.ld_union.specs.Inner.Rows.{AreComponentsOf, AreCycleRowsOf, AreDistancesFrom, IsBackEdge, IsCycleRowOf, IsOfEach};
 ghost use Rattle.ld_union.specs.Inner.Union.{Shows};
 ghost use Rattle.ld_union.specs.Violations.{IsCycle};
 
 use crate::alarms::Found;
 use crate::by_name::ByName;
-use crate::findings::walks::{Target, walk_names};
+use crate::findings::walks::walk_names;
 use crate::rows::Rows;
 use crate::union::Union;
 use ld_class::ClassName;
-use ld_graph::Steps;
+use ld_graph::{Distances, Steps};
 use ld_rules::Witness;
 use std::alloc::{AllocError, Global};
 
@@ -50,8 +50,9 @@ pub(crate) fn cycle_rows<'a>(
         return Ok(rows);
     }
     let components = union.graph().components(alloc)?;
+    let mut distances = Distances::new(alloc, union.graph().len())?;
     for from in &order.numbers {
-        let mut more = cycles_from(alloc, union, order, &components, *from)?;
+        let mut more = cycles_from(alloc, union, order, &components, &mut distances, *from)?;
         rows.append(&mut more)?;
     }
     Ok(rows)
@@ -64,12 +65,15 @@ fn cycles_from<'a>(
     union: &Union<'a>,
     order: &ByName,
     components: &[u32],
+    distances: &mut Distances,
     from: u32,
 ) -> Result<Vec<CycleRow<'a>>, AllocError>
     requires order { AreByName union.now.classes order.now.numbers.items order.now.places.items }
     requires components { AreComponentsOf union.now components.now }
+    requires distances { length distances.old ≡ length union.now.classes }
     requires from { from < length union.now.classes }
-    ensures { IfOk result (λ rows. (sources : List PlainSource)
+    ensures distances { length distances.new ≡ length union.now.classes }
+    ensures rows { IfOk result (λ rows. (sources : List PlainSource)
         → Shows sources union.now
         → AreCycleRowsOf sources (λ p. p.0 ≡ class_name union.now.classes from)
         (map plain_cycle_row rows.items)) }
@@ -78,9 +82,9 @@ fn cycles_from<'a>(
     if !leaves_on_cycle(union, components, from) {
         return Ok(rows);
     }
-    let target = Target::new(alloc, union, from)?;
+    union.graph().distances_inside(from, components, distances);
     for to in &order.numbers {
-        if let Some(row) = cycle_row(alloc, union, order, &target, *to)? {
+        if let Some(row) = cycle_row(alloc, union, order, distances.levels(), from, *to)? {
             rows.push(row)?;
         }
     }
@@ -102,45 +106,46 @@ fn leaves_on_cycle(union: &Union<'_>, components: &[u32], from: u32) -> bool
     false
 }
 
-/// The row of the dependency from the target's class to another, or `None` where there is none on a
-/// cycle.
+/// The row of the dependency between these classes, by the distances to the first one, or `None` where
+/// there is none on a cycle.
 fn cycle_row<'a>(
     alloc: Global,
     union: &Union<'a>,
     order: &ByName,
-    target: &Target,
+    distances: &[Option<u64>],
+    from: u32,
     to: u32,
 ) -> Result<Option<CycleRow<'a>>, AllocError>
     requires order { AreByName union.now.classes order.now.numbers.items order.now.places.items }
-    requires class { target.now.class < length union.now.classes }
-    requires distances { AreDistances union.now target.now.class target.now.distances.items }
+    requires from { from < length union.now.classes }
+    requires distances { AreDistancesFrom union.now from from distances.now }
     requires to { to < length union.now.classes }
     ensures { IfOk result (λ row. (sources : List PlainSource)
         → Shows sources union.now
         → MatchOption row
-        (¬ IsCycle sources (class_name union.now.classes target.now.class)
+        (¬ IsCycle sources (class_name union.now.classes from)
         (class_name union.now.classes to))
-        (λ r. IsCycleRowOf sources (class_name union.now.classes target.now.class)
+        (λ r. IsCycleRowOf sources (class_name union.now.classes from)
         (class_name union.now.classes to) (plain_cycle_row r))) }
 {
-    if target.distances[to as usize].is_none() {
+    if distances[to as usize].is_none() {
         return Ok(None);
     }
-    let Some(number) = union.graph().edge(target.class, to) else {
+    let Some(number) = union.graph().edge(from, to) else {
         return Ok(None);
     };
     let at = union.dependencies()[number as usize].first;
-    let via = if to == target.class {
+    let via = if to == from {
         // A class that is acquired under itself shows no walk.
         Rows::from(Vec::new(alloc))
     } else {
-        let Some(via) = walk_names(alloc, union, order, target, to)? else {
+        let Some(via) = walk_names(alloc, union, order, distances, to, from)? else {
             return Ok(None);
         };
         via
     };
     Ok(Some(CycleRow {
-        from: union.classes().name(target.class),
+        from: union.classes().name(from),
         to: union.classes().name(to),
         at,
         via,

@@ -167,7 +167,7 @@ fn forbidden_row<'a>(
     let Some(acquired) = noted(union, from, in_bit(state)) else {
         return Ok(None);
     };
-    let Some(via) = walk_names(alloc, union, order, target, from)? else {
+    let Some(via) = walk_names(alloc, union, order, &target.distances, from, target.class)? else {
         return Ok(None);
     };
     Ok(Some(ForbiddenRow {

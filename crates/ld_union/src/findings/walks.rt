@@ -6,7 +6,7 @@ ghost use Rattle.ld_trace.specs.Sources.{PlainSource};
 ghost use Rattle.ld_rules.specs.Union.{dependency_witness};
 ghost use Rattle.ld_union.specs.Findings.{IsShown, plain_names};
 ghost use Rattle.ld_union.specs.Inner.ByName.{AreByName, class_name};
-ghost use Rattle.ld_union.specs.Inner.Rows.{AreDistances};
+ghost use Rattle.ld_union.specs.Inner.Rows.{AreDistances, AreDistancesFrom};
 ghost use Rattle.ld_union.specs.Inner.Union.{Shows, edges_of};
 
 use crate::by_name::ByName;
@@ -35,32 +35,30 @@ impl Target {
     }
 }
 
-/// The names of the shown walk from the class to the target's, or `None` where no walk leads there.
+/// The names of the shown walk between these classes, by the distances to the second one of those that
+/// the first one leads to, or `None` where no walk leads there.
 pub(crate) fn walk_names<'a>(
     alloc: Global,
     union: &Union<'a>,
     order: &ByName,
-    target: &Target,
+    distances: &[Option<u64>],
     from: u32,
+    to: u32,
 ) -> Result<Option<Rows<ClassName<'a>>>, AllocError>
     requires order { AreByName union.now.classes order.now.numbers.items order.now.places.items }
-    requires class { target.now.class < length union.now.classes }
-    requires distances { AreDistances union.now target.now.class target.now.distances.items }
+    requires to { to < length union.now.classes }
+    requires distances { AreDistancesFrom union.now from to distances.now }
     requires from { from < length union.now.classes }
     ensures { IfOk result (λ via. MatchOption via
-        (¬ HasWalk (IsEdge (edges_of union.now.dependencies)) from target.now.class)
+        (¬ HasWalk (IsEdge (edges_of union.now.dependencies)) from to)
         (λ names. (sources : List PlainSource)
         → Shows sources union.now
         → IsShown sources (class_name union.now.classes from)
-        (class_name union.now.classes target.now.class) (plain_names names))) }
+        (class_name union.now.classes to) (plain_names names))) }
 {
-    let walk = union.graph().walk_along(
-        alloc,
-        from,
-        target.class,
-        &target.distances,
-        &order.places,
-    )?;
+    let walk = union
+        .graph()
+        .walk_along(alloc, from, to, distances, &order.places)?;
     let Some(walk) = walk else {
         return Ok(None);
     };

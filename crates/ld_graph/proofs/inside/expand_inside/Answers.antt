@@ -1,9 +1,9 @@
-use Rattle.std.proofs.Common.{◌≡◌, ◌∙◌, ap, set, subst, Contains, below_more, ◌<◌, length, arith, Some, None}
+use Rattle.std.proofs.Common.{◌≡◌, ◌∙◌, ap, set, subst, below_more, ◌<◌, length, arith, Some, None}
 use Rattle.std.proofs.Common.{get_or}
 use Rattle.std.proofs.lemmas.List.{get_or-set_same, get_or_default}
 use Rattle.ld_graph.specs.Inner.Insides.{IsInsideOf}
 use Rattle.ld_graph.specs.Inner.Levels.{level_at, HasLevel}
-use Rattle.ld_graph.proofs.SpreadLemmas.{near_all, near_here, Spreads-more, some_is, none_is}
+use Rattle.ld_graph.proofs.SpreadLemmas.{near_here, Spreads-more, some_is, none_is}
 use Rattle.ld_graph.proofs.SpreadLemmas.{count_marked, kept_marked}
 use Rattle.ld_graph.proofs.inside.expand_inside.Goals as goal
 use Rattle.ld_graph.proofs.inside.expand_inside.Goals.{then-components-x+then-is_none+in-Ok, then-components-x+else-is_none, else-components-x}

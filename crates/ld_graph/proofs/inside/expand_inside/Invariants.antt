@@ -1,5 +1,5 @@
 use Rattle.std.proofs.Common.{◌≡◌, ◌+◌, ◌<◌, ◌≤◌, ℕ, count_by, get_or, is_none, vec_len}
-use Rattle.std.proofs.Common.{vec_capacity, Contains}
+use Rattle.std.proofs.Common.{vec_capacity}
 use Rattle.ld_graph.specs.Inner.Insides.{IsInsideOf}
 use Rattle.ld_graph.specs.Inner.Levels.{HasLevel, Spreads}
 use Rattle.ld_graph.proofs.inside.expand_inside.Given as goal

@@ -1,4 +1,4 @@
-use Rattle.std.proofs.Common.{◌≡◌, ◌<◌, ◌+◌, ◌∙◌, ℕ, [], Contains, ap, arith, get_or, length, subst}
+use Rattle.std.proofs.Common.{◌≡◌, ◌+◌, ℕ, [], Contains, ap, arith, get_or, length, subst}
 use Rattle.ld_graph.specs.Inner.Insides.{IsInsideOf, IsNearInside}
 use Rattle.ld_graph.specs.Inner.Levels.{HasLevel, Spreads}
 use Rattle.ld_graph.proofs.SpreadLemmas.{count_none}

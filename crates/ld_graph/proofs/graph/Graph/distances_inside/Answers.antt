@@ -1,4 +1,4 @@
-use Rattle.std.proofs.Common.{◌≡◌, ◌<◌, get_or, None, length, subst, sym, arith, ap}
+use Rattle.std.proofs.Common.{get_or, None, subst, sym, arith, ap}
 use Rattle.ld_graph.specs.Components.{AreComponents}
 use Rattle.ld_graph.specs.Edges.{IsEdge}
 use Rattle.ld_graph.specs.Walks.{DistanceIs, Reaches}

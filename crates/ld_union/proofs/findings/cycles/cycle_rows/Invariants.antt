@@ -1,4 +1,4 @@
-use Rattle.std.proofs.Common.{List, map}
+use Rattle.std.proofs.Common.{◌≡◌, List, length, map}
 use Rattle.ld_trace.specs.Sources.{PlainSource}
 use Rattle.ld_union.specs.Inner.Rows.{AreCycleRowsOf, IsPassed}
 use Rattle.ld_union.specs.Findings.{plain_cycle_row}
@@ -6,5 +6,8 @@ use Rattle.ld_union.specs.Inner.Union.{Shows}
 use Rattle.ld_union.proofs.findings.cycles.cycle_rows.Given as goal
 
 abbrev pub invariant-loop-from : goal.invariant-loop-from
-invariant-loop-from l = (sources : List PlainSource) → Shows sources l.union
-    → AreCycleRowsOf sources (λ p. IsPassed l.union.classes l.order.numbers.items l.from-index p.0) (map plain_cycle_row l.rows.items)
+invariant-loop-from l = record {
+  len : length l.distances ≡ length l.union.classes;
+  rows : (sources : List PlainSource) → Shows sources l.union
+      → AreCycleRowsOf sources (λ p. IsPassed l.union.classes l.order.numbers.items l.from-index p.0) (map plain_cycle_row l.rows.items);
+}
