@@ -2,8 +2,9 @@
 
 A stream depends on its kind, size and seed alone. Nothing is written that a trace may not have, so no
 trace is refused. Classes have numbers, and a task acquires them in rising order: so all kinds but
-`cycles` and the two `lone` ones have no violation. Handlers acquire the greatest numbers alone, and what leads to those is
-held where the handlers can't interrupt.
+`cycles`, `conflicts` and the two `lone` ones have no violation. But in `conflicts` and `lone-walk`,
+handlers acquire the greatest numbers alone, and what leads to those is held where the handlers can't
+interrupt.
 """
 import random
 from collections import namedtuple
