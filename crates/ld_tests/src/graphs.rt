@@ -94,9 +94,7 @@ fn components<R: Abort>(rt: &R, alloc: Global, graph: &Graph) -> Vec<u32>
 {
     match graph.components(alloc) {
         Ok(components) => components,
-        Err(_) => graph
-            .components(alloc)
-            .expect(rt, "components found again"),
+        Err(_) => graph.components(alloc).expect(rt, "components found again"),
     }
 }
 
