@@ -63,6 +63,17 @@ def lockdep_classes(lines):
     return classes
 
 
+def is_of(lock_class, subclass, text):
+    """Whether lockdep's class can be that of an event, by its subclass and its text.
+
+    An event doesn't show the subclass that a lock has by lockdep_set_subclass(). A name may end as a
+    subclass does.
+    """
+    if subclass == 0 and lock_class.subclass:
+        return not text.endswith(f'/{lock_class.subclass}')
+    return subclass == lock_class.subclass
+
+
 class Classes:
     """One class for each class key, and never one class for two."""
 
@@ -79,8 +90,7 @@ class Classes:
         lock_class = self.by_key.get(key)
         if lock_class is None:
             lock_class = self.lockdep.get(key)
-            # A name may end as a subclass does, and the event tells.
-            if lock_class is None or lock_class.subclass != subclass:
+            if lock_class is None or not is_of(lock_class, subclass, text):
                 lock_class = self.own(key - subclass, subclass, text)
             self.by_key[key] = lock_class
         return lock_class

@@ -153,6 +153,13 @@ all lock classes:
             lines = stream(acquire('a/1', A, key=0x500), acquire('a/8', B, key=0x600), words=('--lockdep', name))
         self.assertEqual(lines, ['acquire t-1 a%2F1@1000', 'acquire t-1 a%2F8@2000'])
 
+    def test_a_subclass_that_is_set_for_the_lock_shows_in_its_class_alone(self):
+        with file_with('0500 FD:    1 BD:    1 ....: a\n0501 FD:    1 BD:    1 ....: a/1\n') as name:
+            text = (acquire('a', A, key=0x500) + acquire('a', B, key=0x501)
+                    + acquire('a', C, key=0x501, subclass=1) + acquire('a', N, key=0x501, trylock=1))
+            lines = run(text, '--lockdep', name).stream[1:]
+        self.assertEqual(lines, ['acquire t-1 a@1000', 'nested t-1 a@2000 1', 'nested t-1 a@3000 1', 'try t-1 a!1@4000'])
+
     def test_tasks(self):
         self.assertEqual(
             stream(acquire('a', A, task='kworker/0:1-8'), release(A, task='renamed-8'),
