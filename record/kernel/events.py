@@ -38,7 +38,7 @@ class Events:
         self.header = Header()
         self.contexts = Contexts()
         self.width = 0          # of what stands before the time in a line
-        self.places = {}        # text before the time to task and context
+        self.places = {}        # text before the time to task, context and processor
         self.tasks = {}         # by pid, or for the idle tasks by processor
         self.sites = {}         # by the text of the event after the lock's address
         self.instances = {}     # address to its shortest form
@@ -70,7 +70,10 @@ class Events:
             if time != self.time:
                 self.proceed(time, line)
             handle = handlers.get(event)
-            task, context = place
+            task, context, processor = place
+            if task.processor != processor:
+                self.move(task, processor, time)
+            task.time = time
             if handle is None:
                 self.other(line)
             elif context is NMI:
@@ -90,7 +93,7 @@ class Events:
         if len(self.places) == MOST_PLACES:
             self.places.clear()
         self.width = match.end(4)
-        self.places[line[:self.width]] = self.task(comm, pid, processor), self.contexts[columns]
+        self.places[line[:self.width]] = self.task(comm, pid, processor), self.contexts[columns], processor
         yield from self.take((line,))
 
     def beside(self, line):
@@ -108,8 +111,14 @@ class Events:
             raise Damaged(fault(line)) from None
         if not seconds >= self.seconds:
             raise Damaged(f'time goes back from {self.time.strip()} to {time.strip()}: lines out of '
-                          'order, or a clock that processors do not share (trace_clock wants global)')
+                          'order, or a clock that processors do not share (trace_clock wants counter or global)')
         self.time, self.seconds = time, seconds
+
+    def move(self, task, processor, time):
+        """A task goes on on another processor: which of its events came first is told by their times alone."""
+        if task.time == time:
+            self.counts['moves at one time'] += 1
+        task.processor = processor
 
     def other(self, line):
         """An event of no interest, unless it is damaged or has the rest of another line in it."""

@@ -37,10 +37,11 @@ class Held:
 
 class Task:
     """One task as the trace has it so far."""
-    __slots__ = ('name', 'trace', 'starts', 'context', 'kinds', 'frames', 'held', 'kept')
+    __slots__ = ('name', 'processor', 'time', 'trace', 'starts', 'context', 'kinds', 'frames', 'held', 'kept')
 
     def __init__(self, name):
         self.name = name
+        self.processor = self.time = None  # of its latest event
         self.trace = 0       # the number of the trace that it was last in
         self.starts = False  # that trace has no line of it yet
         self.forget()

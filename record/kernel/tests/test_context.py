@@ -144,6 +144,35 @@ class Flags(unittest.TestCase):
         self.assertEqual(stream(acquire('b', B, read=1, columns='d....'), acquire('a', A)), ['acquire t-1 a@1000'])
 
 
+class Processors(unittest.TestCase):
+    """What runs on several processors at once, and goes from one to another."""
+
+    def test_each_task_has_its_own_handlers_and_flags(self):
+        self.assertEqual(
+            stream(acquire('a', A, cpu=0), acquire('b', B, task='u-2', columns='d.s..', cpu=1),
+                   acquire('b', C, columns='..s..', cpu=0), release(B, task='u-2', columns='d.s..', cpu=1),
+                   release(C, columns='..s..', cpu=0), release(A, cpu=0)),
+            ['acquire t-1 a@1000', 'enter u-2 soft', 'disable u-2 hard', 'acquire u-2 b@2000', 'enter t-1 soft',
+             'acquire t-1 b@3000', 'release u-2 b@2000', 'release t-1 b@3000', 'exit t-1 soft', 'release t-1 a@1000'])
+
+    def test_a_task_goes_on_on_another_processor(self):
+        result = run(acquire('a', A, cpu=0, time=1.0) + acquire('b', B, cpu=3, time=1.000001)
+                     + release(A, cpu=3, time=1.000001))
+        self.assertEqual(result.stream[1:], ['acquire t-1 a@1000', 'acquire t-1 b@2000', 'release t-1 a@1000'])
+        self.assertNotIn('another processor', result.errors)
+
+    def test_a_task_that_goes_on_at_the_same_time_may_be_out_of_order(self):
+        result = run(acquire('a', A, cpu=0) + acquire('a', B, task='u-2', cpu=2) + release(A, cpu=3))
+        self.assertIn('1 times a task went on on another processor at the same time', result.errors)
+
+    def test_numbers_in_place_of_times(self):
+        text = acquire('a', A, cpu=0) + release(A, cpu=1)
+        text = text.replace('1.000000', '      99', 1).replace('1.000000', '     100', 1)
+        result = run(text)
+        self.assertEqual(result.stream[1:], ['acquire t-1 a@1000', 'release t-1 a@1000'])
+        self.assertNotIn('another processor', result.errors)
+
+
 class IrqEvents(unittest.TestCase):
 
     def test_irq_enable_shows_the_state_before_it(self):

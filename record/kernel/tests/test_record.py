@@ -48,6 +48,23 @@ class Record(unittest.TestCase):
                 if os.path.exists('%s/tracefs/events/%s/enable' % (self.folder, name))
                 and self.read('tracefs/events/%s/enable' % name) == '1\n'}
 
+    def clock(self, *words):
+        self.events(*STOCK)
+        self.write('tracefs/trace_clock', 'old\n')
+        status, _ = self.record('start', '123', *words)
+        return status, self.read('tracefs/trace_clock')
+
+    def test_events_of_several_processors_are_numbered(self):
+        self.write('tracefs/per_cpu/cpu0/stats', '')
+        self.assertEqual(self.clock(), (0, 'global\n'))
+        self.write('tracefs/per_cpu/cpu1/stats', '')
+        self.assertEqual(self.clock(), (0, 'counter\n'))
+
+    def test_a_clock_that_is_asked_for(self):
+        self.write('tracefs/per_cpu/cpu1/stats', '')
+        self.assertEqual(self.clock('global'), (0, 'global\n'))
+        self.assertEqual(self.clock('local'), (2, 'old\n'))
+
     def test_start_prepares_the_ring_and_begins(self):
         self.events(*STOCK, *IRQ)
         status, said = self.record('start', '123')
