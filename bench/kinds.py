@@ -1,10 +1,10 @@
 """The kinds of stream that lockcheck is timed on.
 
 A stream depends on its kind, size and seed alone. Nothing is written that a trace may not have, so no
-trace is refused. Classes have numbers, and a task acquires them in rising order: so all kinds but
-`cycles`, `conflicts` and the two `lone` ones have no violation. But in `conflicts` and `lone-walk`,
-handlers acquire the greatest numbers alone, and what leads to those is held where the handlers can't
-interrupt.
+trace is refused. Classes have numbers, and a task acquires them in rising order (in `hub` and `chain` in
+falling order): so all kinds but `cycles`, `conflicts` and the two `lone` ones have no violation. Handlers,
+except in `conflicts` and `lone-walk`, acquire the greatest numbers alone, and what leads to those is held
+where the handlers can't interrupt.
 """
 import random
 from collections import namedtuple
@@ -348,6 +348,29 @@ def unsafe_walk(task, locks):
             + b'disable %b hard\n%benable %b hard\n' % (task, dependency(task, locks, (0, 1)), task))
 
 
+def chain(draws, size):
+    """A chain of up to 100,000 classes from its end: each new class is held over the one before it."""
+    count = min(100_000, size // BYTES_EACH)
+    pairs = [(number + 1, number) for number in range(count)]
+    return shown(draws, size, Locks(draws, count + 1), again(draws, pairs), 100)
+
+
+def taken_alone(task, locks, number):
+    lock = locks.lock(number)
+    return b'acquire %b %b\nrelease %b %b\n' % (task, lock, task, lock)
+
+
+def hub(draws, size):
+    """Up to 80,000 classes that a task holds alone, and then as many new ones, each held over the first of all."""
+    count = min(80_000, size // 250)
+    locks, task = Locks(draws, 2 * count), task_names()[0]
+    pieces = [taken_alone(task, locks, number) for number in range(count)]
+    pieces += [dependency(task, locks, (number, 0)) for number in range(count, 2 * count)]
+    each = max(100, size // MOST_TRACES // 60)
+    for number, piece in enumerate(again(draws, pieces)):
+        yield piece if number % each else b'trace run-%d\n%b' % (number // each, piece)
+
+
 def lone(draws, size, violation):
     """Up to 100,000 classes that no dependency leaves or enters, and one violation of two others."""
     count = min(100_000, size // BYTES_EACH)
@@ -360,9 +383,7 @@ def lone(draws, size, violation):
         pieces = [b'trace run-%d\n' % number]
         if number == 0:
             pieces.append(violation(task, locks))
-        for _ in range(each):
-            lock = locks.lock(next(others))
-            pieces.append(b'acquire %b %b\nrelease %b %b\n' % (task, lock, task, lock))
+        pieces += [taken_alone(task, locks, next(others)) for _ in range(each)]
         yield b''.join(pieces)
         number += 1
 
@@ -396,9 +417,9 @@ def hand_over_hand(draws, size):
 
 
 def conflicts(draws, size):
-    """As many classes as there is room for, up to 400,000: hard handlers acquire each, and so does a task
+    """As many classes as there is room for, up to a million: hard handlers acquire each, and so does a task
     that they can interrupt there."""
-    task, count = task_names()[0], min(400_000, size // 250)
+    task, count = task_names()[0], min(1_000_000, size // 250)
     numbers, done = list(range(count)), 0
     draws.shuffle(numbers)
     for first in range(0, count, 4000):
@@ -423,10 +444,12 @@ KINDS = {
     'layers': Kind(layers, True, '8,000 classes, up to 60,000 dependencies, the deepest first'),
     'layers-small': Kind(layers_small, True, 'the same in up to 60,000 small traces'),
     'layers-handlers': Kind(layers_handlers, True, 'the same, and handlers that acquire deep classes'),
+    'chain': Kind(chain, True, 'up to 100,000 classes in a chain that grows at its begin'),
+    'hub': Kind(hub, True, 'up to 80,000 classes alone, and as many that are held over one of them'),
     'lone-cycle': Kind(lone_cycle, False, 'up to 100,000 classes without a dependency, and one inversion'),
     'lone-walk': Kind(lone_walk, False, 'the same, and one forbidden walk'),
     'hand-over-hand': Kind(hand_over_hand, True, 'one trace of one task, which holds 95 locks and releases the oldest one'),
-    'conflicts': Kind(conflicts, False, 'up to 400,000 classes, each of them a conflict'),
+    'conflicts': Kind(conflicts, False, 'up to a million classes, each of them a conflict'),
     'cycles': Kind(cycles, False, 'up to 12,000 dependencies of 2,000 classes, all of them inversions'),
 }
 LEAST, MOST = 20_000, 2_100 * MB  # bytes of a stream

@@ -1,42 +1,94 @@
-//! About how long the text of a report is, so that memory for it is asked for once. No clause says how long: a text
-//! that is longer grows, and memory that isn't written to is never taken from the system.
+//! How long the text of a report is, so that the memory for it is asked for once, and no more of it than the text
+//! takes. No clause says so, since a text that is longer than this grows all the same.
 
-use ld_book::{ClassName, Findings, Traces};
+use crate::labels::label;
+use ld_book::{ClassName, ConflictRow, CycleRow, Findings, ForbiddenRow, Totals, Traces};
+use ld_rules::{Listed, Outcome, Witness};
 
-/// What a line has beside labels and names, at most: words, three numbers, and usage characters.
-const REST_OF_LINE: usize = 96;
-
-/// What stands beside the name of a class: an arrow, and a subclass.
-const BESIDE_NAME: usize = 6;
-
-/// As long as the text, or longer. Takes no memory.
-pub fn length_of(traces: &Traces<'_>, findings: &Findings<'_>, refused: u64) -> usize {
-    let label = longest_label(traces);
-    let line = label.saturating_mul(2).saturating_add(REST_OF_LINE);
-    let mut length = line.saturating_mul((refused as usize).saturating_add(2));
+/// The length of all lines. Takes no memory.
+pub fn length_of(totals: &Totals, traces: &Traces<'_>, findings: &Findings<'_>) -> usize {
+    let mut length = summary_length(totals).saturating_add(last_length(findings));
+    for trace in traces.listed() {
+        length = length.saturating_add(refused_length(trace));
+    }
     for row in findings.cycles.items() {
-        let names = names_length(row.via.items());
-        length = length.saturating_add(line_length(line, names, row.from, row.to));
+        length = length.saturating_add(cycle_length(traces, row));
     }
     for row in findings.conflicts.items() {
-        length = length.saturating_add(line_length(line, 0, row.class, row.class));
+        length = length.saturating_add(conflict_length(traces, row));
     }
     for row in findings.forbidden.items() {
-        let names = names_length(row.via.items());
-        length = length.saturating_add(line_length(line, names, row.from, row.to));
+        length = length.saturating_add(forbidden_length(traces, row));
     }
     length
 }
 
-/// The length of a line whose walk has this length, and which begins with these classes.
-fn line_length(line: usize, walk: usize, from: ClassName<'_>, to: ClassName<'_>) -> usize {
-    line.saturating_add(walk)
-        .saturating_add(name_length(from))
-        .saturating_add(name_length(to))
+fn summary_length(totals: &Totals) -> usize {
+    let words = "traces  refused  events  classes  dependencies \n".len();
+    words
+        .saturating_add(number_length(totals.traces))
+        .saturating_add(number_length(totals.refused))
+        .saturating_add(number_length(totals.events))
+        .saturating_add(number_length(totals.classes))
+        .saturating_add(number_length(totals.dependencies))
 }
 
-fn names_length(names: &[ClassName<'_>]) -> usize {
-    let mut length = 0_usize;
+/// The length of the line of a refused trace, and 0 of one that was read.
+fn refused_length(trace: &Listed<'_>) -> usize {
+    match trace.outcome {
+        Outcome::Read { .. } => 0,
+        Outcome::Refused { line, fault } => "refused  line  \n"
+            .len()
+            .saturating_add(trace.source.name.len())
+            .saturating_add(number_length(line))
+            .saturating_add(fault.name().len()),
+    }
+}
+
+fn cycle_length(traces: &Traces<'_>, row: &CycleRow<'_>) -> usize {
+    let beside = name_length(row.from).saturating_add(place_length(traces, row.at));
+    if row.from == row.to {
+        return beside.saturating_add("recursion  at \n".len());
+    }
+    beside
+        .saturating_add("inversion  ->  at  via \n".len())
+        .saturating_add(name_length(row.to))
+        .saturating_add(walk_length(row.via.items()))
+}
+
+fn conflict_length(traces: &Traces<'_>, row: &ConflictRow<'_>) -> usize {
+    "conflict hard  {....} in  on \n"
+        .len()
+        .saturating_add(name_length(row.class))
+        .saturating_add(place_length(traces, row.safe_at))
+        .saturating_add(place_length(traces, row.unsafe_at))
+}
+
+fn forbidden_length(traces: &Traces<'_>, row: &ForbiddenRow<'_>) -> usize {
+    "forbidden hard  {....} in  ->  {....} on  via \n"
+        .len()
+        .saturating_add(name_length(row.from))
+        .saturating_add(place_length(traces, row.safe_at))
+        .saturating_add(name_length(row.to))
+        .saturating_add(place_length(traces, row.unsafe_at))
+        .saturating_add(walk_length(row.via.items()))
+}
+
+fn last_length(findings: &Findings<'_>) -> usize {
+    let cycles = findings.cycles.items().len();
+    let others = findings.conflicts.items().len() + findings.forbidden.items().len();
+    match cycles.saturating_add(others) {
+        0 => "clean\n".len(),
+        count => "violations \n"
+            .len()
+            .saturating_add(number_length(count as u64)),
+    }
+}
+
+/// The length of the names of a walk, with the arrows between them.
+fn walk_length(names: &[ClassName<'_>]) -> usize {
+    let arrows = names.len().saturating_sub(1);
+    let mut length = arrows.saturating_mul(" -> ".len());
     for name in names {
         length = length.saturating_add(name_length(*name));
     }
@@ -44,13 +96,23 @@ fn names_length(names: &[ClassName<'_>]) -> usize {
 }
 
 fn name_length(class: ClassName<'_>) -> usize {
-    class.name.len().saturating_add(BESIDE_NAME)
+    if class.sub == 0 {
+        return class.name.len();
+    }
+    let subclass = number_length(u64::from(class.sub));
+    class.name.len().saturating_add(1).saturating_add(subclass)
 }
 
-fn longest_label(traces: &Traces<'_>) -> usize {
-    let mut longest = 0_usize;
-    for trace in traces.listed() {
-        longest = longest.max(trace.source.name.len());
-    }
-    longest
+fn place_length(traces: &Traces<'_>, at: Witness) -> usize {
+    let label = label(traces, at.number).len();
+    label
+        .saturating_add(1)
+        .saturating_add(number_length(at.line))
+}
+
+/// How many digits a number has.
+fn number_length(number: u64) -> usize {
+    number
+        .checked_ilog10()
+        .map_or(1, |power| power as usize + 1)
 }

@@ -42,8 +42,7 @@ fn text_of(
         ++ violation_lines traces.now (plain_findings findings.now)
         ++ last_line (violations (plain_findings findings.now))) }
 {
-    let mut text = Vec::new(alloc);
-    text.reserve(length_of(traces, findings, totals.refused))?;
+    let mut text = Vec::with_capacity(alloc, length_of(totals, traces, findings))?;
     write_summary(&mut text, totals)?;
     write_all_refused(&mut text, traces.listed())?;
     write_violations(&mut text, traces, findings)?;
