@@ -14,7 +14,7 @@ use Rattle.ld_union.specs.Inner.States.{of_state}
 use Rattle.ld_union.specs.Inner.Union.{PlainUnion, edges_of}
 use Rattle.ld_union.specs.Findings.{AreRows, InTurn, IsBefore, IsConflictRow, IsCycleRow, IsForbiddenRow, IsHarder, IsPairBefore, PlainConflictRow}
 use Rattle.ld_union.specs.Findings.{PlainCycleRow, PlainForbiddenRow, conflict_key, cycle_key, forbidden_key, shown_marks}
-use Rattle.ld_union.specs.Inner.ByName.{class_at, class_name}
+use Rattle.ld_union.specs.Inner.ByName.{class_at}
 use Rattle.ld_union.specs.Violations.{IsConflict, IsCycle, IsForbidden}
 
 -- where none of a kind was found, there is none
@@ -100,6 +100,10 @@ AreComponentsOf union components = AreComponents (IsEdge (edges_of union.depende
 abbrev pub IsBackEdge : PlainUnion → (a b : ℕ) → Type 0
 IsBackEdge union a b = IsEdge (edges_of union.dependencies) a b × HasWalk (IsEdge (edges_of union.dependencies)) b a
 
--- the name is one of the first of these classes, which are so many
-abbrev pub IsPassed : List PlainClass → List ℕ → ℕ → PlainClass → Type 0
-IsPassed classes numbers count name = (j : ℕ) × ((j < count) × (class_name classes (class_at numbers j) ≡ name))
+-- a place of the order at which there is the second class of such an edge from a
+abbrev pub IsBackPlace : PlainUnion → List ℕ → (a p : ℕ) → Type 0
+IsBackPlace union numbers a p = (p < length numbers) × IsBackEdge union a (class_at numbers p)
+
+-- the name is one of the first so many of these
+abbrev pub IsPassed : (ℕ → PlainClass) → ℕ → PlainClass → Type 0
+IsPassed names count name = (j : ℕ) × ((j < count) × (names j ≡ name))

@@ -112,7 +112,7 @@ fn cycle_row<'a>(
     alloc: Global,
     union: &Union<'a>,
     order: &ByName,
-    distances: &[Option<u64>],
+    distances: &[Option<u32>],
     from: u32,
     to: u32,
 ) -> Result<Option<CycleRow<'a>>, AllocError>

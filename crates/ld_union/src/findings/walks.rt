@@ -19,7 +19,7 @@ use std::alloc::{AllocError, Global};
 #[derive(Drop)]
 pub(crate) struct Target {
     pub(crate) class: u32,
-    pub(crate) distances: Vec<Option<u64>>,
+    pub(crate) distances: Vec<Option<u32>>,
 }
 
 impl Target {
@@ -41,7 +41,7 @@ pub(crate) fn walk_names<'a>(
     alloc: Global,
     union: &Union<'a>,
     order: &ByName,
-    distances: &[Option<u64>],
+    distances: &[Option<u32>],
     from: u32,
     to: u32,
 ) -> Result<Option<Rows<ClassName<'a>>>, AllocError>

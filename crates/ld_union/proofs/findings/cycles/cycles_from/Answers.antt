@@ -8,12 +8,12 @@ use Rattle.std.proofs.lemmas.List.{append-nil, map-append}
 use Rattle.std.proofs.lemmas.Option.{MatchOption-at_none, MatchOption-at_some}
 use Rattle.ld_class.specs.Names.{PlainClass}
 use Rattle.ld_union.specs.Findings.{IsBefore, IsCycleRow, IsPairBefore, cycle_key, plain_cycle_row}
-use Rattle.ld_union.specs.Inner.ByName.{class_name}
+use Rattle.ld_union.specs.Inner.ByName.{class_name, name_at}
 use Rattle.ld_union.specs.Inner.Rows.{AreCycleRowsOf, IsCycleRowOf, IsPassed}
 use Rattle.ld_union.specs.Violations.{IsCycle}
 use Rattle.ld_union.proofs.CycleLemmas.{no_cycle-out}
 use Rattle.ld_union.proofs.NumberLemmas.{edge_from_depends}
-use Rattle.ld_union.proofs.PassedLemmas.{name_at, passed_all, rows-more}
+use Rattle.ld_union.proofs.PassedLemmas.{passed_all, rows-more}
 use Rattle.ld_union.proofs.RowLemmas.{rows-none, rows-not, rows-one, rows-same}
 use Rattle.ld_union.proofs.findings.cycles.cycles_from.Goals as goal
 use Rattle.ld_union.proofs.findings.cycles.cycles_from.Goals.{in-Some+in_ok-push, in_default}
@@ -50,16 +50,16 @@ loop-to-preserved c sources shows =
           (subst (λ n. IsCycleRowOf sources n (class_name classes to) row) same told) in
           let items : map plain_cycle_row c.match-branch-2.rows.items ≡ before ++ row ∷ [] = ap (λ (rows : Vec _ _). map plain_cycle_row rows.items)
           w.rows-is ∙ ap (map plain_cycle_row) w.in_ok-push.ensures.items ∙ map-append plain_cycle_row c.loop-to.rows.items (w.in-Some.row ∷ []) in
-          subst (AreCycleRowsOf sources (λ p. (p.0 ≡ from) × IsPassed classes numbers (i + 1) p.1)) (sym items)
-          (rows-more classes numbers c.args.order.now.places.items c.requires.order cycle_key (IsCycleRow sources) owed IsBefore from i before (row ∷ []) within (c.loop-to.invariant sources shows)
+          subst (AreCycleRowsOf sources (λ p. (p.0 ≡ from) × IsPassed (name_at classes numbers) (i + 1) p.1)) (sym items)
+          (rows-more (name_at classes numbers) (length numbers) c.requires.order.rising cycle_key (IsCycleRow sources) owed IsBefore from i before (row ∷ []) within (c.loop-to.invariant sources shows)
           (rows-one cycle_key (IsCycleRow sources) owed IsPairBefore (from, name_at classes numbers i) row is.0 is.1))
       | in_default w ↦
           let told = MatchOption-at_none (¬ IsCycle sources (class_name classes class) (class_name classes to))
           (λ r. IsCycleRowOf sources (class_name classes class) (class_name classes to) (plain_cycle_row r)) w.in_default.is (c.in_ok-row.ensures sources shows) in
           let none : ¬ IsCycle sources from (name_at classes numbers i) = subst (λ n. ¬ IsCycle sources from n) name (subst (λ n. ¬ IsCycle sources n (class_name classes to)) same told) in
           let items : map plain_cycle_row c.match-branch-2.rows.items ≡ before ++ [] = ap (λ (rows : Vec _ _). map plain_cycle_row rows.items) w.rows-is ∙ sym (append-nil before) in
-          subst (AreCycleRowsOf sources (λ p. (p.0 ≡ from) × IsPassed classes numbers (i + 1) p.1)) (sym items)
-          (rows-more classes numbers c.args.order.now.places.items c.requires.order cycle_key (IsCycleRow sources) owed IsBefore from i before [] within (c.loop-to.invariant sources shows)
+          subst (AreCycleRowsOf sources (λ p. (p.0 ≡ from) × IsPassed (name_at classes numbers) (i + 1) p.1)) (sym items)
+          (rows-more (name_at classes numbers) (length numbers) c.requires.order.rising cycle_key (IsCycleRow sources) owed IsBefore from i before [] within (c.loop-to.invariant sources shows)
           (rows-not cycle_key (IsCycleRow sources) owed IsPairBefore (from, name_at classes numbers i) none))
     ]
 
@@ -70,7 +70,7 @@ returns-clause-rows c sources shows =
     let from = class_name union.classes c.args.from in
     let i = c.loop-to.to-index in
     let past : length numbers ≤ i = subst (λ ns. length ns ≤ i) c.deref-to-items.ensures.value c.loop-to-test.false in
-    rows-same cycle_key (IsCycleRow sources) (λ p. IsCycle sources p.0 p.1) IsPairBefore (λ p. (p.0 ≡ from) × IsPassed union.classes numbers i p.1)
+    rows-same cycle_key (IsCycleRow sources) (λ p. IsCycle sources p.0 p.1) IsPairBefore (λ p. (p.0 ≡ from) × IsPassed (name_at union.classes numbers) i p.1)
     (λ p. p.0 ≡ from) (map plain_cycle_row c.loop-to.rows.items)
     (λ p here. here.0)
     (λ p owed here.

@@ -5,14 +5,14 @@ use Rattle.ld_class.specs.Names.{PlainClass, plain_class}
 use Rattle.ld_rules.specs.Union.{use_witness}
 use Rattle.ld_rules.specs.Usage.Bit.{In, On}
 use Rattle.ld_union.specs.Findings.{IsBefore, IsPairBefore, plain_forbidden_row}
-use Rattle.ld_union.specs.Inner.ByName.{class_name}
+use Rattle.ld_union.specs.Inner.ByName.{class_name, name_at}
 use Rattle.ld_union.specs.Inner.Rows.{AreTurnedRowsOf, IsNoted, IsPassed, IsRowIn, IsTurnedRowOf, turned_key}
 use Rattle.ld_union.specs.Inner.Bits.{HasBitAt}
 use Rattle.ld_union.specs.Inner.Reached.{IsSourceAt}
 use Rattle.ld_union.specs.Inner.Union.{edges_of}
 use Rattle.ld_union.specs.Usage.{bits_of}
 use Rattle.ld_union.specs.Violations.{HasBit, IsForbidden}
-use Rattle.ld_union.proofs.PassedLemmas.{name_at, passed_all, rows-more}
+use Rattle.ld_union.proofs.PassedLemmas.{passed_all, rows-more}
 use Rattle.ld_union.proofs.BitLemmas.{bits_from_used}
 use Rattle.ld_union.proofs.NumberLemmas.{walk_from_leads}
 use Rattle.ld_union.proofs.RowLemmas.{rows-none, rows-not, rows-one, rows-same}
@@ -53,8 +53,8 @@ loop-from-preserved c sources shows =
           let items : map plain_forbidden_row c.match-branch-3.rows.items ≡ before ++ row ∷ [] = ap
           (λ (rows : Vec _ _). map plain_forbidden_row rows.items) w.rows-is ∙ ap (map plain_forbidden_row) w.in_ok-push.ensures.items ∙
           map-append plain_forbidden_row c.loop-from.rows.items (w.in-Some-2.row ∷ []) in
-          subst (AreTurnedRowsOf sources state (λ p. (p.0 ≡ to) × IsPassed classes numbers (i + 1) p.1)) (sym items)
-          (rows-more classes numbers c.args.order.now.places.items c.requires.order turned_key (IsRowIn sources state) owed IsBefore to i before
+          subst (AreTurnedRowsOf sources state (λ p. (p.0 ≡ to) × IsPassed (name_at classes numbers) (i + 1) p.1)) (sym items)
+          (rows-more (name_at classes numbers) (length numbers) c.requires.order.rising turned_key (IsRowIn sources state) owed IsBefore to i before
           (row ∷ []) within (c.loop-from.invariant sources shows)
           (rows-one turned_key (IsRowIn sources state) owed IsPairBefore (to, name_at classes numbers i) row is.0 is.1))
       | in_default-2 w ↦
@@ -63,8 +63,8 @@ loop-from-preserved c sources shows =
           let none : ¬ IsForbidden sources state (name_at classes numbers i) to = subst (λ n. ¬ IsForbidden sources state n to) name
           (subst (λ n. ¬ IsForbidden sources state (class_name classes from) n) same told) in
           let items : map plain_forbidden_row c.match-branch-3.rows.items ≡ before ++ [] = ap (λ (rows : Vec _ _). map plain_forbidden_row rows.items) w.rows-is ∙ sym (append-nil before) in
-          subst (AreTurnedRowsOf sources state (λ p. (p.0 ≡ to) × IsPassed classes numbers (i + 1) p.1)) (sym items)
-          (rows-more classes numbers c.args.order.now.places.items c.requires.order turned_key (IsRowIn sources state) owed IsBefore to i before []
+          subst (AreTurnedRowsOf sources state (λ p. (p.0 ≡ to) × IsPassed (name_at classes numbers) (i + 1) p.1)) (sym items)
+          (rows-more (name_at classes numbers) (length numbers) c.requires.order.rising turned_key (IsRowIn sources state) owed IsBefore to i before []
           within (c.loop-from.invariant sources shows)
           (rows-not turned_key (IsRowIn sources state) owed IsPairBefore (to, name_at classes numbers i) none))
     ]
@@ -78,7 +78,7 @@ returns c sources shows =
     let i = c.loop-from.from-index in
     let past : length numbers ≤ i = subst (λ ns. length ns ≤ i) c.deref-from-items.ensures.value c.loop-from-test.false in
     rows-same turned_key (IsRowIn sources state) (λ p. IsForbidden sources state p.1 p.0) IsPairBefore
-    (λ p. (p.0 ≡ to) × IsPassed union.classes numbers i p.1) (λ p. p.0 ≡ to) (map plain_forbidden_row c.loop-from.rows.items)
+    (λ p. (p.0 ≡ to) × IsPassed (name_at union.classes numbers) i p.1) (λ p. p.0 ≡ to) (map plain_forbidden_row c.loop-from.rows.items)
     (λ p here. here.0)
     (λ p owed here.
     let at = number_of union.classes union.usage (use_witness sources) shows.used (record { class = p.1; bit = In state }) owed.0 in
