@@ -18,5 +18,6 @@ pub mod PassedLemmas
 pub mod RowLemmas
 pub mod ShownLemmas
 pub mod SortedLemmas
+pub mod StayingLemmas
 pub mod UniqueLemmas
 pub mod WitnessLemmas
