@@ -12,21 +12,24 @@ use Rattle.ld_union.proofs.UsageLemmas.{number_of}
 use Rattle.ld_union.proofs.findings.forbidden.forbidden_by_end.Goals as goal
 
 pub loop-to-preserved : goal.loop-to-preserved
-loop-to-preserved c sources shows =
-    let classes = c.args.union.now.classes in
-    let numbers = c.args.order.now.numbers.items in
-    let state = c.args.state in
-    let i = c.loop-to.to-index in
-    let name : class_name classes (get_or c.deref-to-items.result.now i 0) ≡ name_at classes numbers i = ap (λ ns. class_name classes (get_or ns i 0)) c.deref-to-items.ensures.value in
-    let within : i < length numbers = subst (λ ns. i < length ns) c.deref-to-items.ensures.value c.loop-to-test.true in
-    let before = map plain_forbidden_row c.loop-to.rows.items in
-    let more = map plain_forbidden_row c.in_ok-more.more.items in
-    let items : map plain_forbidden_row c.append.new.self.items ≡ before ++ more = ap (map plain_forbidden_row) c.in_ok-append.ensures.items ∙
-    map-append plain_forbidden_row c.loop-to.rows.items c.in_ok-more.more.items in
-    subst (AreTurnedRowsOf sources state (λ p. IsPassed (name_at classes numbers) (i + 1) p.0)) (sym items)
-    (rows-next (name_at classes numbers) (length numbers) c.requires.order.rising turned_key (IsRowIn sources state)
-    (λ p. IsForbidden sources state p.1 p.0) IsBefore i before more within (c.loop-to.invariant sources shows)
-    (subst (λ n. AreTurnedRowsOf sources state (λ p. p.0 ≡ n) more) name (c.in_ok-more.ensures sources shows)))
+loop-to-preserved c = record {
+  len = c.in_ok-more.ensures.distances;
+  rows = λ sources shows.
+      let classes = c.args.union.now.classes in
+      let numbers = c.args.order.now.numbers.items in
+      let state = c.args.state in
+      let i = c.loop-to.to-index in
+      let name : class_name classes (get_or c.deref-to-items.result.now i 0) ≡ name_at classes numbers i = ap (λ ns. class_name classes (get_or ns i 0)) c.deref-to-items.ensures.value in
+      let within : i < length numbers = subst (λ ns. i < length ns) c.deref-to-items.ensures.value c.loop-to-test.true in
+      let before = map plain_forbidden_row c.loop-to.rows.items in
+      let more = map plain_forbidden_row c.in_ok-more.more.items in
+      let items : map plain_forbidden_row c.append.new.self.items ≡ before ++ more = ap (map plain_forbidden_row) c.in_ok-append.ensures.items ∙
+      map-append plain_forbidden_row c.loop-to.rows.items c.in_ok-more.more.items in
+      subst (AreTurnedRowsOf sources state (λ p. IsPassed (name_at classes numbers) (i + 1) p.0)) (sym items)
+      (rows-next (name_at classes numbers) (length numbers) c.requires.order.rising turned_key (IsRowIn sources state)
+      (λ p. IsForbidden sources state p.1 p.0) IsBefore i before more within (c.loop-to.invariant.rows sources shows)
+      (subst (λ n. AreTurnedRowsOf sources state (λ p. p.0 ≡ n) more) name (c.in_ok-more.ensures.rows sources shows)));
+}
 
 pub returns : goal.returns
 returns c sources shows =
@@ -39,4 +42,4 @@ returns c sources shows =
     (λ p owed.
     let at = number_of union.classes union.usage (use_witness sources) shows.used (record { class = p.0; bit = On state }) owed.1 in
     passed_all union.classes numbers c.args.order.now.places.items c.requires.order at.0 i p.0 past at.1)
-    (c.loop-to.invariant sources shows)
+    (c.loop-to.invariant.rows sources shows)
