@@ -151,15 +151,6 @@ count_marked levels x k l e =
     0) e in
     omega arith
 
--- what has no level below the list's length has none at all
-pub all_none : (levels : List (Option ℕ)) (n : ℕ) → length levels ≤ n → ((x : ℕ) → x < n
-    → level_at levels x ≡ None) → (x : ℕ) → level_at levels x ≡ None
-all_none levels n l h x = by (cases_lt x n)
-  where
-    by : (x < n) ⊎ (n ≤ x) → level_at levels x ≡ None
-    by (inl b) = h x b
-    by (inr b) = get_or_past levels x None (omega arith)
-
 -- fewer classes wait for a level than there are classes
 pub count_none : (levels : List (Option ℕ)) → count_by is_none levels ≤ length levels
 count_none levels = count_by-le-length is_none levels

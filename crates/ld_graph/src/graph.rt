@@ -13,7 +13,6 @@ ghost use Rattle.ld_graph.specs.Walks.{DistanceIs, HasWalk, IsShownWalk, Reaches
 use crate::Edge;
 use crate::components::components_of;
 use crate::inside::Distances;
-use crate::levels::measure;
 use crate::lists::{Lists, Steps};
 use crate::placed::{Insert, place};
 use crate::ranks::Ranks;
@@ -227,17 +226,26 @@ impl Graph {
     /// # Errors
     ///
     /// `AllocError` where memory was refused.
-    pub fn distances(&self, alloc: Global, to: u32) -> Result<Vec<Option<u64>>, AllocError>
+    pub fn distances(&self, alloc: Global, to: u32) -> Result<Vec<Option<u32>>, AllocError>
         requires { to < self.now.classes }
         ensures len { IfOk result (λ distances. length distances.items ≡ self.now.classes) }
         ensures each { IfOk result (λ distances. (c : ℕ) →
             DistanceIs (IsEdge self.now.edges) c to (slice_index_or distances.items c None)) }
     {
-        let mut levels = Vec::new(alloc);
-        levels.resize(self.len(), None)?;
-        let mut queue = Vec::with_capacity(alloc, self.len())?;
-        measure(&self.lists, to, &mut levels, &mut queue);
-        Ok(levels)
+        let mut distances = Distances::new(alloc, self.len())?;
+        self.distances_to(to, &mut distances);
+        Ok(distances.into_levels())
+    }
+
+    /// What `distances` gives, over a list that is the same for many searches. Takes no memory.
+    pub fn distances_to(&self, to: u32, distances: &mut Distances)
+        requires to { to < self.now.classes }
+        requires classes { length distances.old ≡ self.now.classes }
+        ensures len { length distances.new ≡ self.now.classes }
+        ensures each { (c : ℕ) →
+            DistanceIs (IsEdge self.now.edges) c to (slice_index_or distances.new c None) }
+    {
+        distances.search(&self.lists, to);
     }
 
     /// For the classes that walks from `to` lead to, and for itself, what `distances` gives, by a search
@@ -250,7 +258,7 @@ impl Graph {
         ensures each { (c : ℕ) → Reaches (IsEdge self.now.edges) to c →
             DistanceIs (IsEdge self.now.edges) c to (slice_index_or distances.new c None) }
     {
-        distances.search(&self.lists, components, to);
+        distances.search_inside(&self.lists, components, to);
     }
 
     /// A shortest walk from `a` to `b`, or `None` where there is none. Each next class but the last
@@ -289,7 +297,7 @@ impl Graph {
         alloc: Global,
         a: u32,
         b: u32,
-        distances: &[Option<u64>],
+        distances: &[Option<u32>],
         places: &[u32],
     ) -> Result<Option<Vec<u32>>, AllocError>
         requires a { a < self.now.classes }

@@ -1,5 +1,5 @@
-//! Distances within one component, by a search that doesn't leave it, over a list that is made once and is
-//! taken back only where it was touched.
+//! Distances to one class, by searches over a list that is made once and is taken back only where it was
+//! touched: over the whole graph, or within one component.
 ghost use Rattle.std.specs.Prelude.{◌≡◌, ◌+◌, ◌<◌, ◌≤◌, ℕ, [], None, Some, IfOk, is_none, count_by};
 ghost use Rattle.std.specs.Prelude.{length, slice_index_or, vec_len, vec_capacity, Contains};
 ghost use Rattle.ld_graph.specs.declared.graph.TheConstants.{MOST_GRAPH_CLASSES};
@@ -8,14 +8,16 @@ ghost use Rattle.ld_graph.specs.Inner.Levels.{HasLevel, Spreads, level_at};
 ghost use Rattle.ld_graph.specs.Lists.{IsNear};
 ghost use Rattle.ld_graph.specs.Walks.{DistanceIs};
 
+use crate::levels::measure;
 use crate::lists::{Lists, Steps};
 use std::alloc::{AllocError, Global};
 use std::marker::Model;
 
-/// For the classes of one component their distances to one of them. Made once for many searches.
+/// For each class its distance to one of them, or for the classes of one component alone. Made once for many
+/// searches.
 #[derive(Drop)]
 pub struct Distances {
-    levels: Vec<Option<u64>>,
+    levels: Vec<Option<u32>>,
     /// The classes that have a level.
     touched: Vec<u32>,
 }
@@ -51,16 +53,40 @@ impl Distances {
     }
 
     /// The distances, by the numbers of the classes. Takes no memory.
-    pub fn levels(&self) -> &[Option<u64>]
+    pub fn levels(&self) -> &[Option<u32>]
         ensures { result.now ≡ self.now }
     {
         let _ = &self.touched;
         &self.levels
     }
 
+    /// The distances, as the list that they are kept in. Takes no memory.
+    pub(crate) fn into_levels(self) -> Vec<Option<u32>>
+        ensures { result.items ≡ self }
+    {
+        self.levels
+    }
+
+    /// Gives each class its distance to `end`, and takes those away that an earlier search gave. Takes no
+    /// memory.
+    pub(crate) fn search(&mut self, lists: &Lists, end: u32)
+        requires end { end < length lists.now.before.lists }
+        requires few { length lists.now.before.lists ≤ MOST_GRAPH_CLASSES }
+        requires classes { length self.old ≡ length lists.now.before.lists }
+        requires ends { (a b : ℕ) → IsNear lists.now.before.lists a b
+            → b < length lists.now.before.lists }
+        ensures len { length self.new ≡ length self.old }
+        ensures distances { (x : ℕ) → DistanceIs (λ a b. IsNear lists.now.before.lists b a) x end
+            (level_at self.new x) }
+    {
+        forget(&mut self.levels, &self.touched);
+        self.touched.clear();
+        measure(lists, end, &mut self.levels, &mut self.touched);
+    }
+
     /// Gives each class of the component of `end` its distance to `end`, and takes those away that an
     /// earlier search gave. Takes no memory.
-    pub(crate) fn search(&mut self, lists: &Lists, components: &[u32], end: u32)
+    pub(crate) fn search_inside(&mut self, lists: &Lists, components: &[u32], end: u32)
         requires end { end < length lists.now.before.lists }
         requires few { length lists.now.before.lists ≤ MOST_GRAPH_CLASSES }
         requires classes { length self.old ≡ length lists.now.before.lists }
@@ -79,7 +105,7 @@ impl Distances {
 }
 
 /// Takes the levels of these classes away, which are all that have one.
-fn forget(levels: &mut [Option<u64>], touched: &[u32])
+fn forget(levels: &mut [Option<u32>], touched: &[u32])
     requires { AreTouched levels.old touched.now }
     ensures { (x : ℕ) → slice_index_or levels.new x None ≡ None }
 {
@@ -93,8 +119,8 @@ fn expand_inside(
     near: &[u32],
     components: &[u32],
     component: u32,
-    level: u64,
-    levels: &mut [Option<u64>],
+    level: u32,
+    levels: &mut [Option<u32>],
     queue: &mut Vec<u32>,
 )
     requires ends { (x : ℕ) → Contains near.now x → x < length levels.old }
@@ -109,8 +135,9 @@ fn expand_inside(
     ensures reached { (x : ℕ) → IsInsideOf components.now component near.now x → HasLevel levels.new x }
 {
     for x in near {
-        if components[*x as usize] == component {
-            if levels[*x as usize].is_none() {
+        // Most have a level, so that is asked first.
+        if levels[*x as usize].is_none() {
+            if components[*x as usize] == component {
                 levels[*x as usize] = Some(level);
                 let Ok(()) = queue.push(*x) else {
                     unreachable!()
@@ -126,7 +153,7 @@ fn measure_inside(
     lists: &Lists,
     components: &[u32],
     end: u32,
-    levels: &mut [Option<u64>],
+    levels: &mut [Option<u32>],
     queue: &mut Vec<u32>,
 )
     requires end { end < length lists.now.before.lists }

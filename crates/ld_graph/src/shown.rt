@@ -21,7 +21,7 @@ fn comes_before(x: u32, y: u32, places: &[u32]) -> bool
 }
 
 /// Of the neighbours of this level, the one that comes before the others.
-fn nearest(near: &[u32], level: u64, levels: &[Option<u64>], places: &[u32]) -> Option<u32>
+fn nearest(near: &[u32], level: u32, levels: &[Option<u32>], places: &[u32]) -> Option<u32>
     requires levels { (x : ℕ) → Contains near.now x → x < length levels.now }
     requires places { (x : ℕ) → Contains near.now x → x < length places.now }
     ensures { MatchOption result
@@ -46,8 +46,8 @@ pub fn show(
     lists: &Lists,
     a: u32,
     b: u32,
-    distance: u64,
-    levels: &[Option<u64>],
+    distance: u32,
+    levels: &[Option<u32>],
     places: &[u32],
 ) -> Result<Vec<u32>, AllocError>
     requires a { a < length lists.now.after.lists }

@@ -75,7 +75,7 @@ fn expect_edge<R: Abort>(rt: &R, graph: &Graph, a: u32, b: u32, wanted: Option<u
     assert_eq!(rt; graph.edge(a, b), wanted);
 }
 
-fn distances<R: Abort>(rt: &R, alloc: Global, graph: &Graph, to: u32) -> Vec<Option<u64>>
+fn distances<R: Abort>(rt: &R, alloc: Global, graph: &Graph, to: u32) -> Vec<Option<u32>>
     ensures len { length result.items ≡ graph.now.classes }
     ensures each { (c : ℕ) →
         DistanceIs (IsEdge graph.now.edges) c to (slice_index_or result.items c None) }

@@ -1,7 +1,7 @@
 -- Dependencies on cycles, by the numbers of their classes, and the walks that their rows show.
 use Rattle.std.proofs.Common.{◌≡◌, ◌≢◌, ◌⊎◌, inl, inr, ◌<◌, List, ℕ, false, [], ◌∷◌, Option, None, Some, is_some, get_or, length, refl, sym, ap, subst, ◌∙◌}
 use Rattle.std.proofs.lemmas.Bool.{true≢false, cases_eq}
-use Rattle.ld_class.specs.Names.{PlainClass}
+use Rattle.ld_class.specs.Names.{IsNameAt, PlainClass}
 use Rattle.ld_graph.specs.Edges.{IsEdge}
 use Rattle.ld_graph.specs.Components.{AreComponents, AreTogether}
 use Rattle.ld_graph.specs.Walks.{DistanceIs, HasWalk, IsShownWalk}
@@ -48,15 +48,22 @@ module _ (classes : List PlainClass) (rows : List Witnessed) (is : AreBetween cl
       none (edge_from_named classes rows is sources witnessed a b (class_name classes a) (class_name classes b) (at_a, refl) (at_b, refl) cycle.0)
       (walk_from_leads classes rows is sources witnessed b a (class_name classes b) (class_name classes a) (at_b, refl) (at_a, refl) cycle.1)
 
-  -- a class has no dependency on a cycle where none of its edges has a walk back
-  pub no_cycle-out : (a : ℕ) (to : PlainClass) → a < length classes
-      → ((b : ℕ) → IsEdge (edges_of rows) a b → ¬ HasWalk (IsEdge (edges_of rows)) b a) → ¬ IsCycle sources (class_name classes a) to
-  no_cycle-out a to at_a none cycle =
+  -- a dependency on a cycle that leaves a class is an edge with a walk back
+  pub back-from_cycle : (a : ℕ) (to : PlainClass) → a < length classes → IsCycle sources (class_name classes a) to
+      → (b : ℕ) × (IsNameAt classes b to × (IsEdge (edges_of rows) a b × HasWalk (IsEdge (edges_of rows)) b a))
+  back-from_cycle a to at_a cycle =
       let found = edge_from_depends classes rows is sources witnessed (class_name classes a) to cycle.0 in
       let b = found.1.0 in
-      let same : found.0 ≡ a = is.distinct found.0 a (class_name classes a) found.1.1.0 (at_a, refl) in
-      none b (subst (λ q. IsEdge (edges_of rows) q b) same found.1.1.2)
-      (walk_from_leads classes rows is sources witnessed b a to (class_name classes a) found.1.1.1 (at_a, refl) cycle.1)
+      let same : found.0 ≡ a = is.distinct found.0 a (class_name classes a) found.1.1.0 (at_a, refl) in (
+        b,
+        (
+          found.1.1.1,
+          (
+            subst (λ q. IsEdge (edges_of rows) q b) same found.1.1.2,
+            walk_from_leads classes rows is sources witnessed b a to (class_name classes a) found.1.1.1 (at_a, refl) cycle.1,
+          ),
+        ),
+      )
 
   -- the row of an edge from a class to itself, or with a shown walk back
   pub cycle-row : (a b : ℕ) (row : PlainCycleRow) → a < length classes → b < length classes → IsEdge (edges_of rows) a b

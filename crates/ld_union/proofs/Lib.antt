@@ -2,6 +2,7 @@ pub mod ClosingLemmas
 pub mod EachOnceLemmas
 pub mod EarlierLemmas
 pub mod NewsLemmas
+pub mod AcquiredLemmas
 pub mod ReachedLemmas
 pub mod SeenLemmas
 pub mod SourceLemmas
@@ -18,5 +19,6 @@ pub mod PassedLemmas
 pub mod RowLemmas
 pub mod ShownLemmas
 pub mod SortedLemmas
+pub mod StayingLemmas
 pub mod UniqueLemmas
 pub mod WitnessLemmas

@@ -282,7 +282,7 @@ fn walk_to(union: &Union<'_>, class: u32, state: State) -> Option<Forbidden>
 }
 
 /// Whether the class has the bit.
-fn has(rows: &[UsageRow], class: usize, bit: Usage) -> bool
+pub(crate) fn has(rows: &[UsageRow], class: usize, bit: Usage) -> bool
     requires { class < length rows.now }
     ensures { result ≡ has_bit (slice_index_or (bits_of rows.now) class no_bits) bit }
 {

@@ -11,6 +11,14 @@ class_name classes class = slice_index_or classes class no_class
 abbrev pub class_at : List ℕ → ℕ → ℕ
 class_at numbers i = slice_index_or numbers i 0
 
+-- the name at a place of the order
+abbrev pub name_at : List PlainClass → List ℕ → ℕ → PlainClass
+name_at classes numbers i = class_name classes (class_at numbers i)
+
+-- the names at these places come one after the other
+abbrev pub AreRising : (ℕ → PlainClass) → ℕ → Type 0
+AreRising names count = (i j : ℕ) → i < j → j < count → IsBefore (names i) (names j)
+
 -- each number once, in the order of the names, and for each class its place there
 pub record AreByName (classes : List PlainClass) (numbers places : List ℕ) : Type 0 where
   pub count : length numbers ≡ length classes

@@ -1,5 +1,5 @@
 -- The rows of violations as their makers give them. No contract of a `Book` cites this file.
-use Rattle.std.specs.Prelude.{◌≡◌, ◌<◌, ℕ, List, length, slice_index_or, Option, None, Some}
+use Rattle.std.specs.Prelude.{◌≡◌, ◌↔◌, ◌<◌, ℕ, List, Contains, length, slice_index_or, Option, None, Some}
 use Rattle.ld_class.specs.Names.{PlainClass}
 use Rattle.ld_graph.specs.Edges.{IsEdge}
 use Rattle.ld_graph.specs.Components.{AreComponents}
@@ -9,12 +9,15 @@ use Rattle.ld_trace.specs.Sources.{PlainSource}
 use Rattle.ld_rules.specs.declared.outcome.Witness.{Witness}
 use Rattle.ld_rules.specs.Union.{use_witness}
 use Rattle.ld_rules.specs.Usage.{Bit}
+use Rattle.ld_rules.specs.Usage.Bit.{In}
 use Rattle.ld_union.specs.declared.alarms.Found.{Found}
+use Rattle.ld_union.specs.Inner.Bits.{HasBitAt}
 use Rattle.ld_union.specs.Inner.States.{of_state}
 use Rattle.ld_union.specs.Inner.Union.{PlainUnion, edges_of}
 use Rattle.ld_union.specs.Findings.{AreRows, InTurn, IsBefore, IsConflictRow, IsCycleRow, IsForbiddenRow, IsHarder, IsPairBefore, PlainConflictRow}
 use Rattle.ld_union.specs.Findings.{PlainCycleRow, PlainForbiddenRow, conflict_key, cycle_key, forbidden_key, shown_marks}
-use Rattle.ld_union.specs.Inner.ByName.{class_at, class_name}
+use Rattle.ld_union.specs.Inner.ByName.{AreRising, class_at, name_at}
+use Rattle.ld_union.specs.Usage.{bits_of}
 use Rattle.ld_union.specs.Violations.{IsConflict, IsCycle, IsForbidden}
 
 -- where none of a kind was found, there is none
@@ -81,6 +84,11 @@ pub record IsNoted (sources : List PlainSource) (class : PlainClass) (bit : Bit)
   pub shown : marks ≡ shown_marks sources class
   pub first : use_witness sources (record { class = class; bit = bit }) ≡ Some at
 
+-- the classes of a union that handlers of the state acquire, in the order of their names
+pub record AreAcquired (union : PlainUnion) (state : State) (acquired : List ℕ) : Type 0 where
+  pub each : (c : ℕ) → Contains acquired c ↔ ((c < length union.classes) × HasBitAt (bits_of union.usage) c (In state))
+  pub rising : AreRising (name_at union.classes acquired) (length acquired)
+
 -- for each class of a union its distance to this one
 pub record AreDistances (union : PlainUnion) (to : ℕ) (distances : List (Option ℕ)) : Type 0 where
   pub len : length distances ≡ length union.classes
@@ -100,6 +108,10 @@ AreComponentsOf union components = AreComponents (IsEdge (edges_of union.depende
 abbrev pub IsBackEdge : PlainUnion → (a b : ℕ) → Type 0
 IsBackEdge union a b = IsEdge (edges_of union.dependencies) a b × HasWalk (IsEdge (edges_of union.dependencies)) b a
 
--- the name is one of the first of these classes, which are so many
-abbrev pub IsPassed : List PlainClass → List ℕ → ℕ → PlainClass → Type 0
-IsPassed classes numbers count name = (j : ℕ) × ((j < count) × (class_name classes (class_at numbers j) ≡ name))
+-- a place of the order at which there is the second class of such an edge from a
+abbrev pub IsBackPlace : PlainUnion → List ℕ → (a p : ℕ) → Type 0
+IsBackPlace union numbers a p = (p < length numbers) × IsBackEdge union a (class_at numbers p)
+
+-- the name is one of the first so many of these
+abbrev pub IsPassed : (ℕ → PlainClass) → ℕ → PlainClass → Type 0
+IsPassed names count name = (j : ℕ) × ((j < count) × (names j ≡ name))

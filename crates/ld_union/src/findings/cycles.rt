@@ -1,10 +1,10 @@
 //! The dependencies that are on cycles.
-ghost use Rattle.std.specs.Prelude.{◌≡◌, ◌↔◌, ◌<◌, ℕ, IfOk, IsTrue, List, MatchOption, length, map};
+ghost use Rattle.std.specs.Prelude.{◌≡◌, ◌↔◌, ◌<◌, ℕ, Contains, IfOk, List, MatchOption, length, map};
 ghost use Rattle.ld_trace.specs.Sources.{PlainSource};
 ghost use Rattle.ld_rules.specs.Union.{dependency_witness};
 ghost use Rattle.ld_union.specs.Findings.{AreCycleRows, plain_cycle_row};
-ghost use Rattle.ld_union.specs.Inner.ByName.{AreByName, class_name};
-ghost use Rattle.ld_union.specs.Inner.Rows.{AreComponentsOf, AreCycleRowsOf, AreDistancesFrom, IsBackEdge, IsCycleRowOf, IsOfEach};
+ghost use Rattle.ld_union.specs.Inner.ByName.{AreByName, class_at, class_name};
+ghost use Rattle.ld_union.specs.Inner.Rows.{AreComponentsOf, AreCycleRowsOf, AreDistancesFrom, IsBackPlace, IsCycleRowOf, IsOfEach};
 ghost use Rattle.ld_union.specs.Inner.Union.{Shows};
 ghost use Rattle.ld_union.specs.Violations.{IsCycle};
 
@@ -79,31 +79,45 @@ fn cycles_from<'a>(
         (map plain_cycle_row rows.items)) }
 {
     let mut rows = Vec::new(alloc);
-    if !leaves_on_cycle(union, components, from) {
+    let places = places_on_cycle(alloc, union, order, components, from)?;
+    if places.is_empty() {
         return Ok(rows);
     }
     union.graph().distances_inside(from, components, distances);
-    for to in &order.numbers {
-        if let Some(row) = cycle_row(alloc, union, order, distances.levels(), from, *to)? {
+    for place in &places {
+        let to = order.numbers[*place as usize];
+        if let Some(row) = cycle_row(alloc, union, order, distances.levels(), from, to)? {
             rows.push(row)?;
         }
     }
     Ok(rows)
 }
 
-/// Whether a dependency that leaves this class is on a cycle, which is to stay in the component. Takes no
-/// memory.
-fn leaves_on_cycle(union: &Union<'_>, components: &[u32], from: u32) -> bool
+/// The places of the classes to which dependencies on cycles lead from this class, in order. These are the
+/// dependencies that stay in the component.
+fn places_on_cycle(
+    alloc: Global,
+    union: &Union<'_>,
+    order: &ByName,
+    components: &[u32],
+    from: u32,
+) -> Result<Vec<u32>, AllocError>
+    requires order { AreByName union.now.classes order.now.numbers.items order.now.places.items }
     requires components { AreComponentsOf union.now components.now }
     requires from { from < length union.now.classes }
-    ensures { IsTrue result ↔ ((to : ℕ) × IsBackEdge union.now from to) }
+    ensures exact { IfOk result (λ places. (p : ℕ) →
+        Contains places.items p ↔ IsBackPlace union.now order.now.numbers.items from p) }
+    ensures rising { IfOk result (λ places. (i j : ℕ) → i < j → j < length places.items
+        → class_at places.items i < class_at places.items j) }
 {
+    let mut places = Vec::new(alloc);
     for &to in union.graph().lists().after(from, &mut Steps::new()) {
         if components[to as usize] == components[from as usize] {
-            return true;
+            places.push(order.places[to as usize])?;
         }
     }
-    false
+    places.sort_unstable();
+    Ok(places)
 }
 
 /// The row of the dependency between these classes, by the distances to the first one, or `None` where
@@ -112,7 +126,7 @@ fn cycle_row<'a>(
     alloc: Global,
     union: &Union<'a>,
     order: &ByName,
-    distances: &[Option<u64>],
+    distances: &[Option<u32>],
     from: u32,
     to: u32,
 ) -> Result<Option<CycleRow<'a>>, AllocError>

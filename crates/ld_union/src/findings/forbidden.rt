@@ -6,18 +6,19 @@ ghost use Rattle.ld_rules.specs.Union.{dependency_witness, use_witness};
 ghost use Rattle.ld_rules.specs.Usage.Bit.{On};
 ghost use Rattle.ld_union.specs.Findings.{AreForbiddenRows, plain_forbidden_row};
 ghost use Rattle.ld_union.specs.Inner.ByName.{AreByName, class_name};
-ghost use Rattle.ld_union.specs.Inner.Rows.{AreDistances, AreForbiddenRowsOf, AreTurnedRows};
+ghost use Rattle.ld_union.specs.Inner.Rows.{AreAcquired, AreDistances, AreForbiddenRowsOf, AreTurnedRows};
 ghost use Rattle.ld_union.specs.Inner.Rows.{AreTurnedRowsOf, IsNoted, IsOfEach, IsTurnedRowOf};
 ghost use Rattle.ld_union.specs.Inner.Union.{Shows};
 ghost use Rattle.ld_union.specs.Violations.{IsForbidden};
 
-use crate::alarms::{Found, in_bit, on_bit};
+use crate::alarms::{Found, has, in_bit, on_bit};
 use crate::by_name::ByName;
 use crate::findings::used::{UsedClass, noted};
-use crate::findings::walks::{Target, walk_names};
+use crate::findings::walks::walk_names;
 use crate::rows::Rows;
 use crate::union::Union;
 use ld_class::ClassName;
+use ld_graph::Distances;
 use ld_rules::Witness;
 use ld_trace::State;
 use std::alloc::{AllocError, Global};
@@ -42,6 +43,13 @@ pub struct ForbiddenRow<'a> {
     pub unsafe_at: Witness,
     /// The shown walk from `from` to `to`.
     pub via: Rows<ClassName<'a>>,
+}
+
+/// A class, and the *Distance* of each class to it.
+#[derive(Clone, Copy)]
+struct Target<'d> {
+    class: u32,
+    distances: &'d [Option<u32>],
 }
 
 /// The forbidden walks, by state, then by the names of their ends.
@@ -98,24 +106,51 @@ fn forbidden_by_end<'a>(
         → AreTurnedRows sources state (map plain_forbidden_row rows.items)) }
 {
     let mut rows = Vec::new(alloc);
+    let acquired = acquired_by_name(alloc, union, order, state)?;
+    let mut distances = Distances::new(alloc, union.graph().len())?;
     for to in &order.numbers {
-        let mut more = forbidden_to(alloc, union, order, state, *to)?;
+        let mut more = forbidden_to(alloc, union, order, state, &acquired, &mut distances, *to)?;
         rows.append(&mut more)?;
     }
     Ok(rows)
 }
 
-/// Those that lead to this class, by the name of the other end.
+/// The classes that handlers of the state acquire, by name.
+fn acquired_by_name(
+    alloc: Global,
+    union: &Union<'_>,
+    order: &ByName,
+    state: State,
+) -> Result<Vec<u32>, AllocError>
+    requires order { AreByName union.now.classes order.now.numbers.items order.now.places.items }
+    ensures { IfOk result (λ classes. AreAcquired union.now state classes.items) }
+{
+    let mut classes = Vec::new(alloc);
+    for class in &order.numbers {
+        if has(union.usage(), *class as usize, in_bit(state)) {
+            classes.push(*class)?;
+        }
+    }
+    Ok(classes)
+}
+
+/// Those that lead to this class, by the name of the other end, which is one of these. The list of distances is
+/// the same for all of them.
 fn forbidden_to<'a>(
     alloc: Global,
     union: &Union<'a>,
     order: &ByName,
     state: State,
+    acquired: &[u32],
+    distances: &mut Distances,
     to: u32,
 ) -> Result<Vec<ForbiddenRow<'a>>, AllocError>
     requires order { AreByName union.now.classes order.now.numbers.items order.now.places.items }
+    requires acquired { AreAcquired union.now state acquired.now }
+    requires distances { length distances.old ≡ length union.now.classes }
     requires to { to < length union.now.classes }
-    ensures { IfOk result (λ rows. (sources : List PlainSource)
+    ensures distances { length distances.new ≡ length union.now.classes }
+    ensures rows { IfOk result (λ rows. (sources : List PlainSource)
         → Shows sources union.now
         → AreTurnedRowsOf sources state (λ p. p.0 ≡ class_name union.now.classes to)
         (map plain_forbidden_row rows.items)) }
@@ -128,8 +163,12 @@ fn forbidden_to<'a>(
     if union.source(state, to).is_none() {
         return Ok(rows);
     }
-    let target = Target::new(alloc, union, to)?;
-    for from in &order.numbers {
+    union.graph().distances_to(to, distances);
+    let target = Target {
+        class: to,
+        distances: distances.levels(),
+    };
+    for from in acquired {
         if let Some(row) = forbidden_row(alloc, union, order, &target, held, state, *from)? {
             rows.push(row)?;
         }
@@ -143,14 +182,14 @@ fn forbidden_row<'a>(
     alloc: Global,
     union: &Union<'a>,
     order: &ByName,
-    target: &Target,
+    target: &Target<'_>,
     held: UsedClass<'a>,
     state: State,
     from: u32,
 ) -> Result<Option<ForbiddenRow<'a>>, AllocError>
     requires order { AreByName union.now.classes order.now.numbers.items order.now.places.items }
     requires class { target.now.class < length union.now.classes }
-    requires distances { AreDistances union.now target.now.class target.now.distances.items }
+    requires distances { AreDistances union.now target.now.class target.now.distances.now }
     requires held { (sources : List PlainSource)
         → Shows sources union.now
         → IsNoted sources (class_name union.now.classes target.now.class) (On state)
@@ -167,7 +206,7 @@ fn forbidden_row<'a>(
     let Some(acquired) = noted(union, from, in_bit(state)) else {
         return Ok(None);
     };
-    let Some(via) = walk_names(alloc, union, order, &target.distances, from, target.class)? else {
+    let Some(via) = walk_names(alloc, union, order, target.distances, from, target.class)? else {
         return Ok(None);
     };
     Ok(Some(ForbiddenRow {

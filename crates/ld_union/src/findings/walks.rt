@@ -6,7 +6,7 @@ ghost use Rattle.ld_trace.specs.Sources.{PlainSource};
 ghost use Rattle.ld_rules.specs.Union.{dependency_witness};
 ghost use Rattle.ld_union.specs.Findings.{IsShown, plain_names};
 ghost use Rattle.ld_union.specs.Inner.ByName.{AreByName, class_name};
-ghost use Rattle.ld_union.specs.Inner.Rows.{AreDistances, AreDistancesFrom};
+ghost use Rattle.ld_union.specs.Inner.Rows.{AreDistancesFrom};
 ghost use Rattle.ld_union.specs.Inner.Union.{Shows, edges_of};
 
 use crate::by_name::ByName;
@@ -15,33 +15,13 @@ use crate::union::Union;
 use ld_class::{ClassName, Classes};
 use std::alloc::{AllocError, Global};
 
-/// A class, and the *Distance* of each class to it.
-#[derive(Drop)]
-pub(crate) struct Target {
-    pub(crate) class: u32,
-    pub(crate) distances: Vec<Option<u64>>,
-}
-
-impl Target {
-    /// Searches for the walks to the class.
-    pub(crate) fn new(alloc: Global, union: &Union<'_>, class: u32) -> Result<Target, AllocError>
-        requires { class < length union.now.classes }
-        ensures class { IfOk result (λ target. target.class ≡ class) }
-        ensures distances { IfOk result (λ target.
-            AreDistances union.now class target.distances.items) }
-    {
-        let distances = union.graph().distances(alloc, class)?;
-        Ok(Target { class, distances })
-    }
-}
-
 /// The names of the shown walk between these classes, by the distances to the second one of those that
 /// the first one leads to, or `None` where no walk leads there.
 pub(crate) fn walk_names<'a>(
     alloc: Global,
     union: &Union<'a>,
     order: &ByName,
-    distances: &[Option<u64>],
+    distances: &[Option<u32>],
     from: u32,
     to: u32,
 ) -> Result<Option<Rows<ClassName<'a>>>, AllocError>

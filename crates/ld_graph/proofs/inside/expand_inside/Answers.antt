@@ -6,7 +6,7 @@ use Rattle.ld_graph.specs.Inner.Levels.{level_at, HasLevel}
 use Rattle.ld_graph.proofs.SpreadLemmas.{near_here, Spreads-more, some_is, none_is}
 use Rattle.ld_graph.proofs.SpreadLemmas.{count_marked, kept_marked}
 use Rattle.ld_graph.proofs.inside.expand_inside.Goals as goal
-use Rattle.ld_graph.proofs.inside.expand_inside.Goals.{then-components-x+then-is_none+in-Ok, then-components-x+else-is_none, else-components-x}
+use Rattle.ld_graph.proofs.inside.expand_inside.Goals.{then-is_none+then-components-x+in-Ok, then-is_none+else-components-x, else-is_none}
 
 pub bounds-components-x : goal.bounds-components-x
 bounds-components-x c =
@@ -21,8 +21,8 @@ bounds-levels-x c =
     let l = c.loop-x.auto.levels in
     omega (arith, n, l)
 
-pub bounds-levels-x-then-is_none : goal.bounds-levels-x-then-is_none
-bounds-levels-x-then-is_none c =
+pub bounds-levels-x-then-components-x : goal.bounds-levels-x-then-components-x
+bounds-levels-x-then-components-x c =
     let n = c.requires.ends (get_or c.args.near.now c.loop-x.x-index 0)
     (near_here c.args.near.now c.loop-x.x-index c.loop-x-test.true) in
     let l = c.loop-x.auto.levels in
@@ -49,8 +49,8 @@ loop-x-preserved c =
     let l = c.loop-x.auto.levels in
     let within : x < length c.loop-x.levels = omega (arith, n, l) in
     let i = c.loop-x.invariant in
-    elim c.if-components-x.branch [
-      | then-components-x+then-is_none+in-Ok w ↦
+    elim c.if-is_none.branch [
+      | then-is_none+then-components-x+in-Ok w ↦
           let free : level_at c.loop-x.levels x ≡ None = none_is (level_at c.loop-x.levels x) w.if-is_none.ensures in
           rw (w.levels-is, w.queue-is) (record {
             count = let m = count_marked c.loop-x.levels x c.args.level within free in omega (arith, m, i.count, w.in-Ok.ensures.len);
@@ -62,21 +62,21 @@ loop-x-preserved c =
                 (λ k b in_component. let r = i.reached k b in_component in (r.0, kept_marked c.loop-x.levels x c.args.level free (get_or c.args.near.now k 0) r.0 r.1))
                 (λ in_component. (c.args.level, get_or-set_same c.loop-x.levels x (Some c.args.level) None within));
           })
-      | then-components-x+else-is_none w ↦
-          rw (w.levels-is, w.queue-is) (record {
-            count = i.count;
-            capacity = i.capacity;
-            spread = i.spread;
-            reached = below_more (λ k. get_or c.args.components.now (get_or c.args.near.now k 0) 0 ≡ c.args.component → HasLevel c.loop-x.levels (get_or c.args.near.now k 0)) _
-                i.reached (λ in_component. some_is (level_at c.loop-x.levels x) w.if-is_none.ensures);
-          })
-      | else-components-x w ↦
+      | then-is_none+else-components-x w ↦
           rw (w.levels-is, w.queue-is) (record {
             count = i.count;
             capacity = i.capacity;
             spread = i.spread;
             reached = below_more (λ k. get_or c.args.components.now (get_or c.args.near.now k 0) 0 ≡ c.args.component → HasLevel c.loop-x.levels (get_or c.args.near.now k 0)) _
                 i.reached (λ in_component. absurd (w.if-components-x.false in_component));
+          })
+      | else-is_none w ↦
+          rw (w.levels-is, w.queue-is) (record {
+            count = i.count;
+            capacity = i.capacity;
+            spread = i.spread;
+            reached = below_more (λ k. get_or c.args.components.now (get_or c.args.near.now k 0) 0 ≡ c.args.component → HasLevel c.loop-x.levels (get_or c.args.near.now k 0)) _
+                i.reached (λ in_component. some_is (level_at c.loop-x.levels x) w.if-is_none.ensures);
           })
     ]
 

@@ -1,32 +1,26 @@
-use Rattle.std.proofs.Common.{◌+◌, ℕ, [], Contains, arith, subst}
+use Rattle.std.proofs.Common.{◌≡◌, ◌+◌, ℕ, [], Contains, ap, arith, length, subst}
 use Rattle.ld_graph.specs.Lists.{IsNear}
 use Rattle.ld_graph.specs.Inner.Levels.{HasLevel, Spreads}
 use Rattle.ld_graph.proofs.SpreadLemmas.{count_none}
-use Rattle.ld_graph.proofs.SearchLemmas.{IsPartial-begun, IsPartial-next, IsPartial-all}
+use Rattle.ld_graph.proofs.SearchLemmas.{IsPartial-begun, IsPartial-next, IsPartial-all, IsPartial-touched}
 use Rattle.ld_graph.proofs.SearchLemmas.{next_within, next_small, next_level}
 use Rattle.ld_graph.proofs.levels.measure.Goals as goal
 
 pub loop-done-init : goal.loop-done-init
 loop-done-init c =
     let spreads : Spreads (IsNear c.args.lists.now.before.lists c.args.end) 1
-    c.clear.new.levels [] c.expand.new.levels c.expand.new.queue.items =
+    c.args.levels.now [] c.expand.new.levels c.expand.new.queue.items =
     subst (λ q. Spreads (IsNear c.args.lists.now.before.lists c.args.end) 1
-    c.clear.new.levels q c.expand.new.levels c.expand.new.queue.items) c.clear-2.ensures.items
-    (subst (λ n. Spreads (Contains n) 1 c.clear.new.levels c.clear-2.new.self.items
+    c.args.levels.now q c.expand.new.levels c.expand.new.queue.items) c.requires.empty
+    (subst (λ n. Spreads (Contains n) 1 c.args.levels.now c.args.queue.now.items
     c.expand.new.levels c.expand.new.queue.items) c.before-2.ensures.near c.expand.ensures.spreads) in
-    let few = count_none c.clear.new.levels in
+    let few = count_none c.args.levels.now in
+    let none : length c.args.queue.now.items ≡ 0 = ap length c.requires.empty in
     record {
-      count = omega (
-        arith,
-        few,
-        c.expand.ensures.count,
-        c.clear-2.ensures.len,
-        c.requires.classes,
-        c.clear.auto.levels,
-      );
-      capacity = omega (arith, c.expand.ensures.capacity, c.clear-2.ensures.capacity);
-      partial = IsPartial-begun (IsNear c.args.lists.now.before.lists) c.args.end c.clear.new.levels
-          c.expand.new.levels c.expand.new.queue.items c.clear.ensures spreads
+      count = omega (arith, few, none, c.args.queue.now.ok.0, c.expand.ensures.count, c.requires.classes);
+      capacity = omega (arith, c.expand.ensures.capacity);
+      partial = IsPartial-begun (IsNear c.args.lists.now.before.lists) c.args.end c.args.levels.now
+          c.expand.new.levels c.expand.new.queue.items c.requires.none spreads
           (subst (λ n. (x : ℕ) → Contains n x → HasLevel c.expand.new.levels x)
           c.before-2.ensures.near c.expand.ensures.reached);
       steps = omega arith;
@@ -96,10 +90,15 @@ returns-clause-distances c =
 pub expand-requires-clause-ends : goal.expand-requires-clause-ends
 expand-requires-clause-ends c = λ x n.
     let e = c.requires.ends c.args.end x (subst (λ l. Contains l x) c.before-2.ensures.near n)
-    in omega (arith, e, c.requires.classes, c.clear.auto.levels)
+    in omega (arith, e, c.requires.classes)
 
 pub expand-requires-in-loop-done-clause-ends : goal.expand-requires-in-loop-done-clause-ends
 expand-requires-in-loop-done-clause-ends c = λ x n.
     let e = c.requires.ends c.index-class.result.now x
     (subst (λ l. Contains l x) c.before-in-loop-done.ensures.near n)
     in omega (arith, e, c.requires.classes, c.loop-done.auto.levels)
+
+pub returns-clause-touched : goal.returns-clause-touched
+returns-clause-touched c =
+    IsPartial-touched (IsNear c.args.lists.now.before.lists) c.args.end c.loop-done.done c.loop-done.levels
+    c.loop-done.queue.items c.loop-done.invariant.partial

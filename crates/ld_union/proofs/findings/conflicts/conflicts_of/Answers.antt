@@ -5,10 +5,10 @@ use Rattle.ld_trace.specs.declared.event.State.{State}
 use Rattle.ld_rules.specs.Union.{use_witness}
 use Rattle.ld_rules.specs.Usage.Bit.{In}
 use Rattle.ld_union.specs.Findings.{InTurn, IsBefore, IsConflictRow, IsHarder, conflict_key, plain_conflict_row}
-use Rattle.ld_union.specs.Inner.ByName.{class_name}
+use Rattle.ld_union.specs.Inner.ByName.{class_name, name_at}
 use Rattle.ld_union.specs.Inner.Rows.{AreConflictRowsOf, IsConflictRowOf, IsPassed}
 use Rattle.ld_union.specs.Violations.{IsConflict}
-use Rattle.ld_union.proofs.PassedLemmas.{name_at, passed_all, rows-more}
+use Rattle.ld_union.proofs.PassedLemmas.{passed_all, rows-more}
 use Rattle.ld_union.proofs.RowLemmas.{rows-not, rows-one, rows-same}
 use Rattle.ld_union.proofs.UsageLemmas.{number_of}
 use Rattle.ld_union.proofs.findings.conflicts.conflicts_of.Goals as goal
@@ -30,15 +30,15 @@ loop-class-preserved c sources shows =
           let items : map plain_conflict_row c.match-conflict_row.rows.items ≡ before ++ row ∷ [] = ap
           (λ (rows : Vec _ _). map plain_conflict_row rows.items) w.rows-is ∙ ap (map plain_conflict_row) w.in_ok-push.ensures.items ∙ map-append
           plain_conflict_row c.loop-class.rows.items (w.in-Some.row ∷ []) in
-          subst (AreConflictRowsOf sources (λ p. (p.0 ≡ c.args.state) × IsPassed classes numbers (i + 1) p.1)) (sym items)
-          (rows-more classes numbers c.args.order.now.places.items c.requires.order conflict_key (IsConflictRow sources) owed IsHarder c.args.state i
+          subst (AreConflictRowsOf sources (λ p. (p.0 ≡ c.args.state) × IsPassed (name_at classes numbers) (i + 1) p.1)) (sym items)
+          (rows-more (name_at classes numbers) (length numbers) c.requires.order.rising conflict_key (IsConflictRow sources) owed IsHarder c.args.state i
           before (row ∷ []) within (c.loop-class.invariant sources shows)
           (rows-one conflict_key (IsConflictRow sources) owed (InTurn IsHarder IsBefore) (c.args.state, name_at classes numbers i) row is.0 is.1))
       | in_default w ↦
           let none : ¬ IsConflict sources c.args.state (name_at classes numbers i) = subst (λ n. ¬ IsConflict sources c.args.state n) name (w.in_default.ensures sources shows) in
           let items : map plain_conflict_row c.match-conflict_row.rows.items ≡ before ++ [] = ap (λ (rows : Vec _ _). map plain_conflict_row rows.items) w.rows-is ∙ sym (append-nil before) in
-          subst (AreConflictRowsOf sources (λ p. (p.0 ≡ c.args.state) × IsPassed classes numbers (i + 1) p.1)) (sym items)
-          (rows-more classes numbers c.args.order.now.places.items c.requires.order conflict_key (IsConflictRow sources) owed IsHarder c.args.state i
+          subst (AreConflictRowsOf sources (λ p. (p.0 ≡ c.args.state) × IsPassed (name_at classes numbers) (i + 1) p.1)) (sym items)
+          (rows-more (name_at classes numbers) (length numbers) c.requires.order.rising conflict_key (IsConflictRow sources) owed IsHarder c.args.state i
           before [] within (c.loop-class.invariant sources shows)
           (rows-not conflict_key (IsConflictRow sources) owed (InTurn IsHarder IsBefore) (c.args.state, name_at classes numbers i) none))
     ]
@@ -50,7 +50,7 @@ returns c sources shows =
     let i = c.loop-class.class-index in
     let past : length numbers ≤ i = subst (λ ns. length ns ≤ i) c.deref-class-items.ensures.value c.loop-class-test.false in
     rows-same conflict_key (IsConflictRow sources) (λ p. IsConflict sources p.0 p.1) (InTurn IsHarder IsBefore)
-    (λ p. (p.0 ≡ c.args.state) × IsPassed union.classes numbers i p.1) (λ p. p.0 ≡ c.args.state) (map plain_conflict_row c.loop-class.rows.items)
+    (λ p. (p.0 ≡ c.args.state) × IsPassed (name_at union.classes numbers) i p.1) (λ p. p.0 ≡ c.args.state) (map plain_conflict_row c.loop-class.rows.items)
     (λ p here. here.0)
     (λ p owed here.
     let at = number_of union.classes union.usage (use_witness sources) shows.used (record { class = p.1; bit = In p.0 }) owed.0 in

@@ -1,5 +1,6 @@
 use Rattle.std.proofs.Common.{◌≡◌, List, map}
 use Rattle.ld_trace.specs.Sources.{PlainSource}
+use Rattle.ld_union.specs.Inner.ByName.{name_at}
 use Rattle.ld_union.specs.Inner.Rows.{AreConflictRowsOf, IsPassed}
 use Rattle.ld_union.specs.Findings.{plain_conflict_row}
 use Rattle.ld_union.specs.Inner.Union.{Shows}
@@ -7,4 +8,4 @@ use Rattle.ld_union.proofs.findings.conflicts.conflicts_of.Given as goal
 
 abbrev pub invariant-loop-class : goal.invariant-loop-class
 invariant-loop-class l = (sources : List PlainSource) → Shows sources l.union
-    → AreConflictRowsOf sources (λ p. (p.0 ≡ l.state) × IsPassed l.union.classes l.order.numbers.items l.class-index p.1) (map plain_conflict_row l.rows.items)
+    → AreConflictRowsOf sources (λ p. (p.0 ≡ l.state) × IsPassed (name_at l.union.classes l.order.numbers.items) l.class-index p.1) (map plain_conflict_row l.rows.items)

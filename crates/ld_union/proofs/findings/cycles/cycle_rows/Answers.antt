@@ -1,11 +1,11 @@
 use Rattle.std.proofs.Common.{◌≡◌, ◌<◌, ◌≤◌, ◌+◌, ◌∙◌, ◌++◌, get_or, length, map, subst, sym, ap}
 use Rattle.std.proofs.lemmas.List.{map-append}
 use Rattle.ld_union.specs.Findings.{AreCycleRows, IsBefore, IsCycleRow, IsPairBefore, cycle_key, plain_cycle_row}
-use Rattle.ld_union.specs.Inner.ByName.{class_name}
+use Rattle.ld_union.specs.Inner.ByName.{class_name, name_at}
 use Rattle.ld_union.specs.Inner.Rows.{AreCycleRowsOf, IsPassed}
 use Rattle.ld_union.specs.Violations.{IsCycle}
 use Rattle.ld_union.proofs.NumberLemmas.{edge_from_depends}
-use Rattle.ld_union.proofs.PassedLemmas.{name_at, passed_all, rows-next}
+use Rattle.ld_union.proofs.PassedLemmas.{passed_all, rows-next}
 use Rattle.ld_union.proofs.RowLemmas.{None_from_is_some, rows-absent, rows-all}
 use Rattle.ld_union.proofs.findings.cycles.cycle_rows.Goals as goal
 
@@ -23,8 +23,8 @@ loop-from-preserved c = record {
       let more = map plain_cycle_row c.in_ok-more.more.items in
       let items : map plain_cycle_row c.append.new.self.items ≡ before ++ more = ap (map plain_cycle_row) c.in_ok-append.ensures.items ∙ map-append
       plain_cycle_row c.loop-from.rows.items c.in_ok-more.more.items in
-      subst (AreCycleRowsOf sources (λ p. IsPassed classes numbers (i + 1) p.0)) (sym items)
-      (rows-next classes numbers c.args.order.now.places.items c.requires.order cycle_key (IsCycleRow sources) (λ p. IsCycle sources p.0 p.1) IsBefore i
+      subst (AreCycleRowsOf sources (λ p. IsPassed (name_at classes numbers) (i + 1) p.0)) (sym items)
+      (rows-next (name_at classes numbers) (length numbers) c.requires.order.rising cycle_key (IsCycleRow sources) (λ p. IsCycle sources p.0 p.1) IsBefore i
       before more within (c.loop-from.invariant.rows sources shows)
       (subst (λ n. AreCycleRowsOf sources (λ p. p.0 ≡ n) more) name (c.in_ok-more.ensures.rows sources shows)));
 }
@@ -35,7 +35,7 @@ returns c sources shows found =
     let numbers = c.args.order.now.numbers.items in
     let i = c.loop-from.from-index in
     let past : length numbers ≤ i = subst (λ ns. length ns ≤ i) c.deref-from-items.ensures.value c.loop-from-test.false in
-    rows-all cycle_key (IsCycleRow sources) (λ p. IsCycle sources p.0 p.1) IsPairBefore (λ p. IsPassed union.classes numbers i p.0) (map plain_cycle_row c.loop-from.rows.items)
+    rows-all cycle_key (IsCycleRow sources) (λ p. IsCycle sources p.0 p.1) IsPairBefore (λ p. IsPassed (name_at union.classes numbers) i p.0) (map plain_cycle_row c.loop-from.rows.items)
     (λ p owed.
     let at = edge_from_depends union.classes union.dependencies shows.numbered sources shows.witnesses p.0 p.1 owed.0 in
     passed_all union.classes numbers c.args.order.now.places.items c.requires.order at.0 i p.0 past at.1.1.0)

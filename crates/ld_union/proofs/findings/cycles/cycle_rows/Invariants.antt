@@ -1,5 +1,6 @@
 use Rattle.std.proofs.Common.{◌≡◌, List, length, map}
 use Rattle.ld_trace.specs.Sources.{PlainSource}
+use Rattle.ld_union.specs.Inner.ByName.{name_at}
 use Rattle.ld_union.specs.Inner.Rows.{AreCycleRowsOf, IsPassed}
 use Rattle.ld_union.specs.Findings.{plain_cycle_row}
 use Rattle.ld_union.specs.Inner.Union.{Shows}
@@ -9,5 +10,5 @@ abbrev pub invariant-loop-from : goal.invariant-loop-from
 invariant-loop-from l = record {
   len : length l.distances ≡ length l.union.classes;
   rows : (sources : List PlainSource) → Shows sources l.union
-      → AreCycleRowsOf sources (λ p. IsPassed l.union.classes l.order.numbers.items l.from-index p.0) (map plain_cycle_row l.rows.items);
+      → AreCycleRowsOf sources (λ p. IsPassed (name_at l.union.classes l.order.numbers.items) l.from-index p.0) (map plain_cycle_row l.rows.items);
 }

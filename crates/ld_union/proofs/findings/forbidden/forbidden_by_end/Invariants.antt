@@ -1,10 +1,14 @@
-use Rattle.std.proofs.Common.{List, map}
+use Rattle.std.proofs.Common.{◌≡◌, List, length, map}
 use Rattle.ld_trace.specs.Sources.{PlainSource}
+use Rattle.ld_union.specs.Inner.ByName.{name_at}
 use Rattle.ld_union.specs.Inner.Rows.{AreTurnedRowsOf, IsPassed}
 use Rattle.ld_union.specs.Findings.{plain_forbidden_row}
 use Rattle.ld_union.specs.Inner.Union.{Shows}
 use Rattle.ld_union.proofs.findings.forbidden.forbidden_by_end.Given as goal
 
 abbrev pub invariant-loop-to : goal.invariant-loop-to
-invariant-loop-to l = (sources : List PlainSource) → Shows sources l.union
-    → AreTurnedRowsOf sources l.state (λ p. IsPassed l.union.classes l.order.numbers.items l.to-index p.0) (map plain_forbidden_row l.rows.items)
+invariant-loop-to l = record {
+  len : length l.distances ≡ length l.union.classes;
+  rows : (sources : List PlainSource) → Shows sources l.union
+      → AreTurnedRowsOf sources l.state (λ p. IsPassed (name_at l.union.classes l.order.numbers.items) l.to-index p.0) (map plain_forbidden_row l.rows.items);
+}

@@ -1,6 +1,6 @@
 use Rattle.std.proofs.Common.{◌≡◌, List, map}
 use Rattle.ld_trace.specs.Sources.{PlainSource}
-use Rattle.ld_union.specs.Inner.ByName.{class_name}
+use Rattle.ld_union.specs.Inner.ByName.{class_name, name_at}
 use Rattle.ld_union.specs.Inner.Rows.{AreTurnedRowsOf, IsPassed}
 use Rattle.ld_union.specs.Findings.{plain_forbidden_row}
 use Rattle.ld_union.specs.Inner.Union.{Shows}
@@ -8,4 +8,4 @@ use Rattle.ld_union.proofs.findings.forbidden.forbidden_to.Given as goal
 
 abbrev pub invariant-loop-from : goal.invariant-loop-from
 invariant-loop-from l = (sources : List PlainSource) → Shows sources l.union
-    → AreTurnedRowsOf sources l.state (λ p. (p.0 ≡ class_name l.union.classes l.to) × IsPassed l.union.classes l.order.numbers.items l.from-index p.1) (map plain_forbidden_row l.rows.items)
+    → AreTurnedRowsOf sources l.state (λ p. (p.0 ≡ class_name l.union.classes l.to) × IsPassed (name_at l.union.classes l.acquired) l.from-index p.1) (map plain_forbidden_row l.rows.items)

@@ -1,0 +1,102 @@
+-- The successors of a class that stay in its component, by their places in an order.
+use Rattle.std.proofs.Common.{◌≡◌, ◌≢◌, ◌⊎◌, inl, inr, ◌+◌, ◌<◌, ◌≤◌, ◌∙◌, ◌++◌, ◌∷◌, [], List, ℕ, Contains, IsPermutation, IsSortedByKey, false}
+use Rattle.std.proofs.Common.{arith, ap, length, nat_cmp, nat_eq, subst, sym}
+use Rattle.std.specs.List.{IsDistinct}
+use Rattle.std.proofs.lemmas.Bool.{cases_eq, cases_lt, eq-eqb, true≢false}
+use Rattle.std.proofs.lemmas.List.{get_or_default}
+use Rattle.std.proofs.lemmas.List.Elements.{Contains-append_left, Contains-push, Contains-push_cases}
+use Rattle.std.proofs.lemmas.List.Sorted.{IsNonDecreasingBy-from_sort}
+use Rattle.std.proofs.lemmas.Map.Keys.{IsDistinct-IsPermutation, apart_from_distinct}
+use Rattle.ld_class.specs.Names.{PlainClass}
+use Rattle.ld_graph.proofs.OnceLemmas.{IsDistinct-none, IsDistinct-one_more}
+use Rattle.ld_union.specs.Inner.ByName.{AreByName, AreRising, class_at, name_at}
+
+-- a class stands at its place
+pub place_back : (classes : List PlainClass) (numbers places : List ℕ) → AreByName classes numbers places → (c : ℕ) → c < length classes
+    → (class_at places c < length numbers) × (class_at numbers (class_at places c) ≡ c)
+place_back classes numbers places order c within =
+    let there = order.every c within in
+    let b = there.1 in
+    let at : class_at numbers there.0 ≡ c = get_or_default numbers there.0 0 c b ∙ there.2 in
+    let place : class_at places c ≡ there.0 = sym (ap (class_at places) at) ∙ order.place there.0 b in
+    (subst (λ n. n < length numbers) (sym place) b, ap (class_at numbers) place ∙ at)
+
+-- the places of those of the first so many successors whose component is this one
+pub record AreStaying (near components places : List ℕ) (component count : ℕ) (found : List ℕ) : Type 0 where
+  pub once : IsDistinct nat_eq found
+  pub each : (p : ℕ) → Contains found p
+      → (k : ℕ) × ((k < count) × ((class_at components (class_at near k) ≡ component) × (class_at places (class_at near k) ≡ p)))
+  pub all : (k : ℕ) → k < count → class_at components (class_at near k) ≡ component → Contains found (class_at places (class_at near k))
+
+module _ (near components places : List ℕ) (component : ℕ) where
+  pub AreStaying-none : AreStaying near components places component 0 []
+  AreStaying-none = record {
+    once = IsDistinct-none;
+    each = λ p h. let l = h.1 in absurd (omega (arith, l));
+    all = λ k l. absurd (omega (arith, l));
+  }
+
+  module _ (count : ℕ) (found : List ℕ) (are : AreStaying near components places component count found) where
+    pub AreStaying-other : class_at components (class_at near count) ≢ component → AreStaying near components places component (count + 1) found
+    AreStaying-other other = record {
+      once = are.once;
+      each = λ p h. let e = are.each p h in let l = e.1.0 in (e.0, (omega (arith, l), e.1.1));
+      all = λ k l is. by k (cases_lt k count) l is;
+    }
+      where
+        by : (k : ℕ) → (k < count) ⊎ (count ≤ k) → k < count + 1 → class_at components (class_at near k) ≡ component → Contains found (class_at places (class_at near k))
+        by k (inl less) l is = are.all k less is
+        by k (inr past) l is = let same : k ≡ count = omega (arith, past, l) in absurd (other (ap (λ z. class_at components (class_at near z)) (sym same) ∙ is))
+
+    pub AreStaying-one_more : IsDistinct nat_eq near → count < length near
+        → ((j k : ℕ) → j < length near → k < length near → class_at places (class_at near j) ≡ class_at places (class_at near k) → class_at near j ≡ class_at near k)
+        → class_at components (class_at near count) ≡ component
+        → AreStaying near components places component (count + 1) (found ++ class_at places (class_at near count) ∷ [])
+    AreStaying-one_more once within apart is = record {
+      once = IsDistinct-one_more found (class_at places (class_at near count)) are.once (λ h. fresh (are.each (class_at places (class_at near count)) h));
+      each = λ p h. one p (Contains-push_cases found (class_at places (class_at near count)) p h);
+      all = λ k l of. by k (cases_lt k count) l of;
+    }
+      where
+        fresh : ((k : ℕ) × ((k < count) × ((class_at components (class_at near k) ≡ component) × (class_at places (class_at near k) ≡ class_at places (class_at near count))))) → ⊥
+        fresh e =
+            let l = e.1.0 in
+            let same = apart e.0 count (omega (arith, l, within)) within e.1.1.1 in
+            true≢false (sym (eq-eqb (class_at near e.0) (class_at near count) same) ∙ apart_from_distinct nat_eq near e.0 count 0 once l within)
+
+        one : (p : ℕ) → Contains found p ⊎ (class_at places (class_at near count) ≡ p)
+            → (k : ℕ) × ((k < count + 1) × ((class_at components (class_at near k) ≡ component) × (class_at places (class_at near k) ≡ p)))
+        one p (inl h) = let e = are.each p h in let l = e.1.0 in (e.0, (omega (arith, l), e.1.1))
+        one p (inr e) = (count, (omega arith, (is, e)))
+
+        by : (k : ℕ) → (k < count) ⊎ (count ≤ k) → k < count + 1 → class_at components (class_at near k) ≡ component
+            → Contains (found ++ class_at places (class_at near count) ∷ []) (class_at places (class_at near k))
+        by k (inl less) l of = Contains-append_left found (class_at places (class_at near count) ∷ []) (class_at places (class_at near k)) (are.all k less of)
+        by k (inr past) l of =
+            let same : k ≡ count = omega (arith, past, l) in
+            subst (λ z. Contains (found ++ class_at places (class_at near count) ∷ []) (class_at places (class_at near z))) (sym same) (Contains-push found (class_at places (class_at near count)))
+
+-- distinct numbers that are sorted
+pub increasing_from_sort : (xs ys : List ℕ) → IsDistinct nat_eq xs → IsPermutation xs ys → IsSortedByKey (λ x. x) nat_cmp ys
+    → (i j : ℕ) → i < j → j < length ys → class_at ys i < class_at ys j
+increasing_from_sort xs ys once moved sorted i j less within =
+    let up = IsNonDecreasingBy-from_sort (λ x. x) ys sorted i j 0 (omega (arith, less)) within in
+    let apart = apart_from_distinct nat_eq ys i j 0 (IsDistinct-IsPermutation nat_eq nat_eq_flips xs ys moved once) less within in
+    strict (class_at ys i) (class_at ys j) up apart (cases_eq (class_at ys i) (class_at ys j))
+  where
+    nat_eq_flips : (a b : ℕ) → nat_eq a b ≡ nat_eq b a
+    nat_eq_flips a b = grind arith
+
+    strict : (a b : ℕ) → a ≤ b → nat_eq a b ≡ false → (a ≡ b) ⊎ (a ≢ b) → a < b
+    strict a b up apart (inl same) = absurd (true≢false (sym (eq-eqb a b same) ∙ apart))
+    strict a b up apart (inr other) = omega (arith, up, other)
+
+-- the name at a place of the order that is one of these
+abbrev pub placed_name : List PlainClass → List ℕ → List ℕ → ℕ → PlainClass
+placed_name classes numbers places i = name_at classes numbers (class_at places i)
+
+-- places that rise have names that do
+pub AreRising-placed : (classes : List PlainClass) (numbers places : List ℕ) → AreRising (name_at classes numbers) (length numbers)
+    → ((i j : ℕ) → i < j → j < length places → class_at places i < class_at places j) → ((i : ℕ) → i < length places → class_at places i < length numbers)
+    → AreRising (placed_name classes numbers places) (length places)
+AreRising-placed classes numbers places names rising within i j less low = names (class_at places i) (class_at places j) (rising i j less low) (within j low)
