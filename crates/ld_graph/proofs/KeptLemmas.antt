@@ -1,14 +1,12 @@
 -- A graph keeps its invariant as its memory grows.
 use Rattle.std.proofs.Common.{◌≡◌, ◌↔◌, ℕ, ◌+◌, ◌<◌, ◌≤◌, max, length, arith, sym, ap}
 use Rattle.std.proofs.Common.{subst, ◌∙◌, get_or}
-use Rattle.std.proofs.Common.{List, [], ◌∷◌, ◌++◌}
-use Rattle.std.proofs.lemmas.List.{get_or_append_left}
 use Rattle.indexmap.specs.IndexSet.{spare}
 use Rattle.ld_graph.specs.declared.graph.Graph.TheInside.{Inside}
 use Rattle.ld_graph.specs.declared.graph.TheConstants.{MOST_GRAPH_CLASSES}
 use Rattle.ld_graph.specs.Lists.{IsNear, ListsGrown}
 use Rattle.ld_graph.specs.Edges.{IsEdge}
-use Rattle.ld_graph.specs.Order.{HasCycle}
+use Rattle.ld_graph.specs.Order.{HasCycle, HasStep}
 use Rattle.ld_graph.specs.Inner.Kept.{IsKept}
 
 -- the graph is as before, with at least the memory that it had
@@ -55,6 +53,9 @@ IsKept-grown old new g h =
       ranked = ap length g.ranks ∙ h.ranked ∙ sym g.classes;
       rises = λ f x y e. subst (λ r. get_or r x 0 < get_or r y 0) (sym g.ranks)
           (h.rises (sym g.has_cycle ∙ f) x y (subst (λ k. IsEdge k x y) g.keys e));
+      free = λ f c. subst (λ r. (0 < get_or r c 0) ↔ HasStep (IsEdge new.edges.keys) c) (sym g.ranks)
+          (subst (λ k. (0 < get_or old.ranks.ranks c 0) ↔ HasStep (IsEdge k) c) (sym g.keys)
+          (h.free (sym g.has_cycle ∙ f) c));
       cycle = λ t. subst (λ k. HasCycle (IsEdge k)) (sym g.keys) (h.cycle (sym g.has_cycle ∙ t));
     }
 
@@ -103,6 +104,7 @@ IsKept-spare g classes edges more_classes more_edges h m n e a b c d r f =
       few = omega (arith, m, f, h.few);
       ranked = h.ranked;
       rises = h.rises;
+      free = h.free;
       cycle = h.cycle;
     }
 
@@ -116,12 +118,3 @@ pub before_ends : (g : Inside) → IsKept g → (a b : ℕ) → IsNear g.lists.b
     → b < length g.lists.before.lists
 before_ends g h a b n = let e = (h.ends b a ((h.before_edges a b).0 n)).0
     in omega (arith, e, h.before_classes)
-
--- a class that comes last leaves the ranks of the others
-pub rises_class : (ranks : List ℕ) (x y : ℕ) → x < length ranks → y < length ranks
-    → get_or ranks x 0 < get_or ranks y 0
-    → get_or (ranks ++ length ranks ∷ []) x 0 < get_or (ranks ++ length ranks ∷ []) y 0
-rises_class ranks x y l m h =
-    let a = get_or_append_left ranks (length ranks ∷ []) 0 x l in
-    let b = get_or_append_left ranks (length ranks ∷ []) 0 y m in
-    omega (arith, a, b, h)

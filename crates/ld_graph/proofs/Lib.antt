@@ -11,6 +11,9 @@ pub mod MarkLemmas
 pub mod SoughtLemmas
 pub mod PartLemmas
 pub mod MendLemmas
+pub mod PlanLemmas
+pub mod RankLemmas
+pub mod OrderLemmas
 pub mod EndedLemmas
 pub mod ShownLemmas
 pub mod PlacedLemmas

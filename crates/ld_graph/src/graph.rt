@@ -1,13 +1,13 @@
 //! The graph itself.
 
 ghost use Rattle.std.specs.Prelude.{◌≡◌, ◌≢◌, ℕ, ◌+◌, ◌<◌, ◌≤◌, ◌↔◌, length, slice_get};
-ghost use Rattle.std.specs.Prelude.{slice_index_or, None, Some, IfOk};
-ghost use Rattle.std.specs.Prelude.{OnOk, MatchOption};
+ghost use Rattle.std.specs.Prelude.{slice_index_or, None, IfOk, IsTrue};
+ghost use Rattle.std.specs.Prelude.{OnOk, MatchOption, true, false};
 ghost use Rattle.ld_graph.specs.Components.{AreComponents};
 ghost use Rattle.ld_graph.specs.Edges.{ComesBefore, IsEdge, IsEdgeNumber};
 ghost use Rattle.ld_graph.specs.Edges.{empty_graph, with_class, with_edge, with_spares};
 ghost use Rattle.ld_graph.specs.Lists.{IsNear};
-ghost use Rattle.ld_graph.specs.Order.{HasCycle, IsInserted, IsOrder};
+ghost use Rattle.ld_graph.specs.Order.{HasCycle, IsInserted, IsOrder, rank_of};
 ghost use Rattle.ld_graph.specs.Walks.{DistanceIs, HasWalk, IsShownWalk, Reaches};
 
 use crate::Edge;
@@ -136,7 +136,8 @@ impl Graph {
         Ok(())
     }
 
-    /// Adds a class, which takes a spare one and is ranked last, and answers its number. Takes no memory.
+    /// Adds a class, which takes a spare one and has no rank until its first edge comes, and answers its
+    /// number. Takes no memory.
     pub fn add_class(&mut self) -> u32
         requires { 0 < self.old.spare_classes }
         ensures number { result ≡ self.old.classes }
@@ -160,9 +161,10 @@ impl Graph {
         Some(number as u64)
     }
 
-    /// Inserts the edge from `a` to `b`, which takes a spare one. Where `a` is ranked below `b` all ranks
-    /// stand. Else those from the rank of `b` to that of `a` are repaired, or the edge closes a cycle, and
-    /// from then on there is no order. An edge that is there already changes nothing. Takes no memory.
+    /// Inserts the edge from `a` to `b`, which takes a spare one. A class whose first edge it is gets a
+    /// rank before or behind all others. Where `a` is ranked below `b` then, all ranks stand. Else those
+    /// from the rank of `b` to that of `a` are repaired, or the edge closes a cycle, and from then on there
+    /// is no order. An edge that is there already changes nothing. Takes no memory.
     pub fn insert(&mut self, a: u32, b: u32) -> Insert
         requires a { a < self.old.classes }
         requires b { b < self.old.classes }
@@ -191,18 +193,27 @@ impl Graph {
         answer
     }
 
-    /// The rank of each class, where every edge goes from a lesser to a greater one, or `None` where
-    /// there is a cycle. Takes no memory.
-    pub fn order(&self) -> Option<&[u32]>
-        ensures order { MatchOption result (HasCycle (IsEdge self.now.edges))
-            (λ ranks. IsOrder (IsEdge self.now.edges) self.now.classes ranks.now) }
-        ensures value { MatchOption result (self.now.order ≡ None)
-            (λ ranks. self.now.order ≡ Some ranks.now) }
+    /// Whether there is a cycle. Where there is none, the ranks are an order: every edge goes from a
+    /// lesser to a greater one. Takes no memory.
+    pub fn has_cycle(&self) -> bool
+        ensures cycle { IsTrue result ↔ HasCycle (IsEdge self.now.edges) }
+        ensures order { MatchOption self.now.order (result ≡ true) (λ ranks. (result ≡ false)
+            × IsOrder (IsEdge self.now.edges) self.now.classes ranks) }
+    {
+        // Asked so that what is known of the ranks is at hand.
+        let _ = self.ranks.ranked();
+        self.has_cycle
+    }
+
+    /// The rank of the class, or `None` where it has no edge or there is a cycle. Takes no memory.
+    pub fn rank(&self, class: u32) -> Option<u32>
+        requires { class < self.now.classes }
+        ensures { MatchOption self.now.order (result ≡ None) (λ ranks. result ≡ rank_of ranks class) }
     {
         if self.has_cycle {
             return None;
         }
-        Some(self.ranks.ranks())
+        self.ranks.rank(class)
     }
 
     /// For each class a class of its component, the same one for all of a component: two classes have the

@@ -12,7 +12,7 @@ use crate::ranks::Ranks;
 pub enum Insert {
     /// The edge was there already, and nothing has changed.
     Known,
-    /// The edge was added, and all ranks stand.
+    /// The edge was added, and all ranks that there were stand.
     Kept,
     /// The edge was added, and the ranks were repaired.
     Moved {
@@ -54,15 +54,34 @@ pub fn place(
     if *has_cycle {
         return Insert::AfterCycle;
     }
-    let (from, to) = (ranks.ranks()[a as usize], ranks.ranks()[b as usize]);
-    if from < to {
-        return Insert::Kept;
+    if a == b {
+        *has_cycle = true;
+        return Insert::Closed;
     }
-    if a != b {
-        if let Some(expanded) = ranks.repair(lists, a, b, steps) {
-            return Insert::Moved { expanded };
+    match (ranks.rank(a), ranks.rank(b)) {
+        // A class without a rank has no other edge, so it may stand before or behind all.
+        (None, None) => {
+            ranks.put_last(a);
+            ranks.put_last(b);
+            Insert::Kept
+        }
+        (None, Some(_)) => {
+            ranks.put_first(a);
+            Insert::Kept
+        }
+        (Some(_), None) => {
+            ranks.put_last(b);
+            Insert::Kept
+        }
+        (Some(from), Some(to)) => {
+            if from < to {
+                return Insert::Kept;
+            }
+            let Some(expanded) = ranks.repair(lists, a, b, steps) else {
+                *has_cycle = true;
+                return Insert::Closed;
+            };
+            Insert::Moved { expanded }
         }
     }
-    *has_cycle = true;
-    Insert::Closed
 }

@@ -3,20 +3,26 @@
 ghost use Rattle.std.specs.Prelude.{◌≡◌, ◌↔◌, ℕ, ◌+◌, ◌<◌, ◌≤◌, [], ◌∷◌, ◌++◌, length};
 ghost use Rattle.std.specs.Prelude.{slice_index, IfSome, MatchOption, OnOk};
 ghost use Rattle.ld_graph.specs.declared.graph.TheConstants.{MOST_GRAPH_CLASSES};
-ghost use Rattle.ld_graph.specs.Inner.Repairs.{AreInverse, IsRepaired, IsOrReaches};
+ghost use Rattle.ld_graph.specs.Inner.Repairs.{AreInverse, IsPut, IsRepaired, IsOrReaches, told};
 ghost use Rattle.ld_graph.specs.Lists.{IsNear};
 
 use crate::lists::{Lists, Steps};
 use crate::repair::{Space, mend};
 use crate::search::Search;
 use std::alloc::{AllocError, Global};
+use std::collections::VecDeque;
 use std::marker::Model;
 
-/// The rank of each class, and the class at each rank.
+/// The rank of each class that has one, and the ranked classes in their order.
 #[derive(Drop)]
 pub struct Ranks {
+    /// The rank of each class, or 0 where it has none. No class is ranked 0.
     ranks: Vec<u32>,
-    classes: Vec<u32>,
+    order: VecDeque<u32>,
+    /// The rank of the first class in the order.
+    first: u32,
+    /// The classes of a range, while it is repaired.
+    row: Vec<u32>,
     space: Space,
     /// For how many classes there is memory.
     room: usize,
@@ -47,20 +53,35 @@ impl Ranks {
         };
         Ranks {
             ranks: Vec::new(alloc),
-            classes: Vec::new(alloc),
+            order: VecDeque::new(alloc),
+            // The middle of all numbers, so that there are ranks for all classes on both sides.
+            first: 1 << 31,
+            row: Vec::new(alloc),
             space,
             room: 0,
         }
     }
 
-    /// The rank of each class.
-    pub fn ranks(&self) -> &[u32]
-        ensures ranks { result.now ≡ self.now.ranks }
-        ensures inverse { AreInverse self.now.ranks self.now.classes }
+    /// How many classes have a rank.
+    pub fn ranked(&self) -> usize
+        ensures count { result ≡ length self.now.order }
+        ensures inverse { AreInverse self.now.ranks self.now.order self.now.first }
     {
-        // Read so that the invariant, which speaks of both fields, is at hand.
+        self.order.len()
+    }
+
+    /// The rank of the class, if it has one.
+    pub fn rank(&self, class: u32) -> Option<u32>
+        requires { class < length self.now.ranks }
+        ensures rank { result ≡ told (slice_index self.now.ranks class) }
+        ensures inverse { AreInverse self.now.ranks self.now.order self.now.first }
+    {
+        // Read so that the invariant, which speaks of all fields, is at hand.
         let _ = &self.room;
-        self.ranks.as_slice()
+        match self.ranks[class as usize] {
+            0 => None,
+            rank => Some(rank),
+        }
     }
 
     /// Makes memory for so many classes in all.
@@ -74,7 +95,9 @@ impl Ranks {
             return Ok(());
         }
         self.ranks.reserve(classes - self.ranks.len())?;
-        self.classes.reserve(classes - self.classes.len())?;
+        self.order.reserve(classes - self.order.len())?;
+        self.row.clear();
+        self.row.reserve(classes)?;
         self.space.behind.room(classes)?;
         self.space.ahead.room(classes)?;
         self.space.moved.clear();
@@ -83,17 +106,44 @@ impl Ranks {
         Ok(())
     }
 
-    /// Adds a class, which is ranked last.
+    /// Adds a class, which has no rank.
     pub fn add_class(&mut self)
         requires { length self.old.ranks < self.old.room }
-        ensures ranks { self.new.ranks ≡ self.old.ranks ++ length self.old.ranks ∷ [] }
+        ensures ranks { self.new.ranks ≡ self.old.ranks ++ 0 ∷ [] }
         ensures room { self.new.room ≡ self.old.room }
     {
-        let number = self.ranks.len() as u32;
-        let Ok(()) = self.ranks.push(number) else {
+        let Ok(()) = self.ranks.push(0) else {
             unreachable!()
         };
-        let Ok(()) = self.classes.push(number) else {
+    }
+
+    /// Ranks a class that has no rank before all others.
+    pub fn put_first(&mut self, class: u32)
+        requires class { class < length self.old.ranks }
+        requires free { slice_index self.old.ranks class ≡ 0 }
+        ensures room { self.new.room ≡ self.old.room }
+        ensures put { IsPut class self.old.ranks self.new.ranks }
+        ensures first { (c : ℕ) → 0 < slice_index self.old.ranks c
+            → slice_index self.new.ranks class < slice_index self.old.ranks c }
+    {
+        self.first -= 1;
+        self.ranks[class as usize] = self.first;
+        let Ok(()) = self.order.push_front(class) else {
+            unreachable!()
+        };
+    }
+
+    /// Ranks a class that has no rank behind all others.
+    pub fn put_last(&mut self, class: u32)
+        requires class { class < length self.old.ranks }
+        requires free { slice_index self.old.ranks class ≡ 0 }
+        ensures room { self.new.room ≡ self.old.room }
+        ensures put { IsPut class self.old.ranks self.new.ranks }
+        ensures last { (c : ℕ) → 0 < slice_index self.old.ranks c
+            → slice_index self.old.ranks c < slice_index self.new.ranks class }
+    {
+        self.ranks[class as usize] = self.first + self.order.len() as u32;
+        let Ok(()) = self.order.push_back(class) else {
             unreachable!()
         };
     }
@@ -104,6 +154,7 @@ impl Ranks {
     pub fn repair(&mut self, lists: &Lists, a: u32, b: u32, steps: &mut Steps) -> Option<u64>
         requires a { a < length self.old.ranks }
         requires b { b < length self.old.ranks }
+        requires ranked { 0 < slice_index self.old.ranks b }
         requires against { slice_index self.old.ranks b < slice_index self.old.ranks a }
         requires classes { (length lists.now.after.lists ≡ length self.old.ranks)
             × (length lists.now.before.lists ≡ length self.old.ranks) }
@@ -123,9 +174,11 @@ impl Ranks {
         mend(
             lists,
             &mut self.ranks,
-            &mut self.classes,
+            &mut self.order,
+            self.first,
             a,
             b,
+            &mut self.row,
             &mut self.space,
             steps,
         )

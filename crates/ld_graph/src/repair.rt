@@ -1,7 +1,9 @@
 //! A repair of the ranks from one rank to another.
 
-ghost use Rattle.std.specs.Prelude.{◌≡◌, ◌≢◌, ◌↔◌, ◌⊎◌, ℕ, ◌+◌, ◌-◌, ◌<◌, ◌≤◌, [], ◌++◌, not};
-ghost use Rattle.std.specs.Prelude.{length, slice_index, vec_len, vec_capacity, IfSome, MatchOption};
+ghost use Rattle.std.specs.Prelude.{◌≡◌, ◌≢◌, ◌↔◌, ◌⊎◌, ℕ, ◌+◌, ◌-◌, ◌^◌, ◌<◌, ◌≤◌, [], ◌++◌, not};
+ghost use Rattle.std.specs.Prelude.{length, slice_index, slice_range, vec_len, vec_capacity};
+ghost use Rattle.std.specs.Prelude.{IfSome, MatchOption};
+ghost use Rattle.std.specs.VecDeque.{deque_capacity};
 ghost use Rattle.std.specs.Bool.{OnTrue, OnFalse};
 ghost use Rattle.ld_graph.specs.declared.graph.TheConstants.{MOST_GRAPH_CLASSES};
 ghost use Rattle.ld_graph.specs.Inner.Repairs.{AreInverse, HasMet, AreRanked, IsPlan, IsRepaired};
@@ -12,6 +14,7 @@ ghost use Rattle.ld_graph.specs.Lists.{IsNear};
 use crate::lists::{Lists, Steps};
 use crate::search::Search;
 use crate::turns::{Side, search_in_turn};
+use std::collections::VecDeque;
 
 /// Room for a repair.
 #[derive(Drop)]
@@ -172,42 +175,66 @@ fn plan(
     if apart { Some(steps.count()) } else { None }
 }
 
-/// Gives these classes the ranks from `low` on, in this order.
-fn give_ranks(moved: &[u32], low: u32, ranks: &mut [u32], classes: &mut [u32])
-    requires within { low + length moved.now ≤ length classes.old }
-    requires few { length classes.old ≤ MOST_GRAPH_CLASSES }
+/// Copies the classes at these places of the order.
+fn copy_row(order: &VecDeque<u32>, start: usize, end: usize, row: &mut Vec<u32>)
+    requires range { start ≤ end }
+    requires within { end ≤ length order.now.items }
+    requires room { end - start ≤ vec_capacity row.old }
+    ensures items { row.new.items ≡ slice_range order.now.items start end }
+    ensures capacity { vec_capacity row.old ≤ vec_capacity row.new }
+{
+    row.clear();
+    for class in order.range(start..end) {
+        let Ok(()) = row.push(*class) else {
+            unreachable!()
+        };
+    }
+}
+
+/// Gives these classes the ranks from `low` on, in this order, and the places from `start` on.
+fn give_ranks(moved: &[u32], start: usize, low: u32, ranks: &mut [u32], order: &mut VecDeque<u32>)
+    requires within { start + length moved.now ≤ length order.old.items }
+    requires fits { low + length moved.now < 2 ^ 32 }
     requires ends { (k : ℕ) → k < length moved.now
         → slice_index moved.now k < length ranks.old }
     requires once { (j k : ℕ) → j < k → k < length moved.now
         → slice_index moved.now j ≢ slice_index moved.now k }
-    ensures { AreRanked moved.now low (length moved.now)
-        ranks.old classes.old ranks.new classes.new }
+    ensures given { AreRanked moved.now start low (length moved.now)
+        ranks.old order.old.items ranks.new order.new.items }
+    ensures len { length order.new.items ≡ length order.old.items }
+    ensures capacity { deque_capacity order.new ≡ deque_capacity order.old }
 {
-    let mut rank = low;
+    let (mut rank, mut place) = (low, start);
     for class in moved {
         ranks[*class as usize] = rank;
-        classes[rank as usize] = *class;
+        order[place] = *class;
         rank += 1;
+        place += 1;
     }
 }
 
-/// Repairs the ranks, and the class at each rank, for an edge from `a` to `b` that goes against
-/// them, and answers how many lists were read, which `steps` has counted from 0 on. Answers `None`,
-/// and leaves the ranks, where a walk leads from `b` to `a`.
+/// Repairs the ranks, and the order, for an edge from `a` to `b` that goes against them, and answers
+/// how many lists were read, which `steps` has counted from 0 on. Answers `None`, and leaves the
+/// ranks, where a walk leads from `b` to `a`.
 pub fn mend(
     lists: &Lists,
     ranks: &mut [u32],
-    classes: &mut [u32],
+    order: &mut VecDeque<u32>,
+    first: u32,
     a: u32,
     b: u32,
+    row: &mut Vec<u32>,
     space: &mut Space,
     steps: &mut Steps,
 ) -> Option<u64>
-    requires inverse { AreInverse ranks.old classes.old }
+    requires inverse { AreInverse ranks.old order.old.items first }
+    requires fits { first + length order.old.items < 2 ^ 32 }
     requires a { a < length ranks.old }
     requires b { b < length ranks.old }
+    requires ranked { 0 < slice_index ranks.old b }
     requires against { slice_index ranks.old b < slice_index ranks.old a }
-    requires few { length ranks.old ≤ MOST_GRAPH_CLASSES }
+    requires few { length order.old.items ≤ length ranks.old }
+    requires most { length ranks.old ≤ MOST_GRAPH_CLASSES }
     requires classes { (length lists.now.after.lists ≡ length ranks.old)
         × (length lists.now.before.lists ≡ length ranks.old) }
     requires turned { (x y : ℕ) → IsNear lists.now.after.lists x y
@@ -216,6 +243,7 @@ pub fn mend(
         → (x < length ranks.old) × (y < length ranks.old) }
     requires rises { (x y : ℕ) → IsNear lists.now.after.lists x y
         → slice_index ranks.old x < slice_index ranks.old y }
+    requires row { length ranks.old ≤ vec_capacity row.old }
     requires behind { (space.old.behind.found ≡ [])
         × (length ranks.old ≤ space.old.behind.size) }
     requires ahead { (space.old.ahead.found ≡ []) × (length ranks.old ≤ space.old.ahead.size) }
@@ -225,7 +253,10 @@ pub fn mend(
     ensures ranks { MatchOption result
         ((ranks.new ≡ ranks.old) × IsOrReaches (IsNear lists.now.after.lists) b a)
         (IsRepaired (IsNear lists.now.after.lists) a b ranks.old ranks.new) }
-    ensures inverse { AreInverse ranks.new classes.new }
+    ensures inverse { AreInverse ranks.new order.new.items first }
+    ensures len { length order.new.items ≡ length order.old.items }
+    ensures order_room { deque_capacity order.new ≡ deque_capacity order.old }
+    ensures row { vec_capacity row.old ≤ vec_capacity row.new }
     ensures behind { (space.new.behind.found ≡ [])
         × (space.new.behind.size ≡ space.old.behind.size) }
     ensures ahead { (space.new.ahead.found ≡ [])
@@ -233,9 +264,10 @@ pub fn mend(
     ensures room { vec_capacity space.old.moved ≤ vec_capacity space.new.moved }
 {
     let low = ranks[b as usize];
-    let high = ranks[a as usize];
-    let row = &classes[low as usize..high as usize + 1];
+    let start = (low - first) as usize;
+    let end = (ranks[a as usize] - first) as usize + 1;
+    copy_row(order, start, end, row);
     let expanded = plan(lists, ranks, low, row, space, steps)?;
-    give_ranks(&space.moved, low, ranks, classes);
+    give_ranks(&space.moved, start, low, ranks, order);
     Some(expanded)
 }

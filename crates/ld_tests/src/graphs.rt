@@ -53,20 +53,26 @@ fn insert_moved<R: Abort>(rt: &R, graph: &mut Graph, a: u32, b: u32, most: u64) 
     }
 }
 
-fn rank<R: Abort>(rt: &R, graph: &Graph, class: u32) -> u32 {
-    let order = graph.order().expect(rt, "an order");
-    assert!(rt; (class as usize) < order.len());
-    order[class as usize]
-}
-
-fn expect_rank<R: Abort>(rt: &R, graph: &Graph, class: u32, wanted: u32) {
-    assert_eq!(rt; rank(rt, graph, class), wanted);
+fn rank<R: Abort>(rt: &R, graph: &Graph, class: u32) -> Option<u32> {
+    assert!(rt; (class as usize) < graph.len());
+    graph.rank(class)
 }
 
 /// Asserts the ranks of the first four classes.
-fn expect_ranks<R: Abort>(rt: &R, graph: &Graph, wanted: [u32; 4]) {
+fn expect_ranks<R: Abort>(rt: &R, graph: &Graph, wanted: [Option<u32>; 4]) {
     for class in 0..4 {
-        expect_rank(rt, graph, class, wanted[class as usize]);
+        assert_eq!(rt; rank(rt, graph, class), wanted[class as usize]);
+    }
+}
+
+/// Asserts that there is no cycle, and that the ranks of these classes rise.
+fn expect_rise<R: Abort>(rt: &R, graph: &Graph, classes: &[u32]) {
+    assert!(rt; !graph.has_cycle());
+    let mut last = None;
+    for class in classes {
+        let next = rank(rt, graph, *class);
+        assert!(rt; last < next);
+        last = next;
     }
 }
 
@@ -156,7 +162,8 @@ fn expect_walks_along<R: Abort>(
 /// Asserts the answers of the graph with the edges (0, 1), (2, 0), (1, 2) and (3, 3).
 fn expect_circle<R: Abort>(rt: &R, alloc: Global, graph: &Graph) {
     let places = [0, 1, 2, 3];
-    assert!(rt; graph.order().is_none());
+    assert!(rt; graph.has_cycle());
+    expect_ranks(rt, graph, [None; 4]);
     assert_eq!(rt; graph.len(), 4);
     assert_eq!(rt; graph.edges(), 4);
     expect_edge(rt, graph, 0, 1, Some(0));
@@ -187,18 +194,17 @@ fn circle(rt: HostRuntime) {
     let mut graph = Graph::new(alloc);
     make_room(&rt, &mut graph, 4, 5);
     add_classes(&rt, &mut graph, 4);
-    expect_ranks(&rt, &graph, [0, 1, 2, 3]);
+    expect_ranks(&rt, &graph, [None; 4]);
     expect_insert(&rt, &mut graph, 0, 1, Insert::Kept);
-    insert_moved(&rt, &mut graph, 2, 0, 3);
-    assert!(rt; rank(&rt, &graph, 2) < rank(&rt, &graph, 0));
-    assert!(rt; rank(&rt, &graph, 0) < rank(&rt, &graph, 1));
-    expect_rank(&rt, &graph, 3, 3);
+    expect_insert(&rt, &mut graph, 2, 0, Insert::Kept);
+    expect_rise(&rt, &graph, &[2, 0, 1]);
     let ranks = [
         rank(&rt, &graph, 0),
         rank(&rt, &graph, 1),
         rank(&rt, &graph, 2),
-        rank(&rt, &graph, 3),
+        None,
     ];
+    expect_ranks(&rt, &graph, ranks);
     expect_insert(&rt, &mut graph, 0, 1, Insert::Known);
     expect_ranks(&rt, &graph, ranks);
     // Where a growth of this graph is refused, each answer is as before.
@@ -208,7 +214,7 @@ fn circle(rt: HostRuntime) {
     }
     make_room(&rt, &mut graph, 100, 100);
     expect_insert(&rt, &mut graph, 1, 2, Insert::Closed);
-    assert!(rt; graph.order().is_none());
+    assert!(rt; graph.has_cycle());
     expect_insert(&rt, &mut graph, 3, 3, Insert::AfterCycle);
     expect_insert(&rt, &mut graph, 0, 1, Insert::Known);
     expect_circle(&rt, alloc, &graph);
@@ -218,6 +224,40 @@ fn circle(rt: HostRuntime) {
     }
     make_room(&rt, &mut graph, 1000, 1000);
     expect_circle(&rt, alloc, &graph);
+    drop(graph);
+}
+
+#[test]
+fn repaired(rt: HostRuntime) {
+    let alloc = rt.alloc();
+    let mut graph = Graph::new(alloc);
+    make_room(&rt, &mut graph, 6, 7);
+    add_classes(&rt, &mut graph, 6);
+    expect_insert(&rt, &mut graph, 0, 5, Insert::Kept);
+    expect_insert(&rt, &mut graph, 1, 2, Insert::Kept);
+    expect_insert(&rt, &mut graph, 3, 4, Insert::Kept);
+    expect_rise(&rt, &graph, &[0, 5, 1, 2, 3, 4]);
+    let kept = [rank(&rt, &graph, 0), rank(&rt, &graph, 5)];
+    insert_moved(&rt, &mut graph, 4, 1, 4);
+    expect_rise(&rt, &graph, &[0, 5, 3, 4, 1, 2]);
+    assert_eq!(rt; rank(&rt, &graph, 0), kept[0]);
+    assert_eq!(rt; rank(&rt, &graph, 5), kept[1]);
+    expect_insert(&rt, &mut graph, 1, 4, Insert::Closed);
+    expect_insert(&rt, &mut graph, 5, 0, Insert::AfterCycle);
+    expect_insert(&rt, &mut graph, 0, 5, Insert::Known);
+    drop(graph);
+}
+
+#[test]
+fn a_chain_from_its_end(rt: HostRuntime) {
+    let alloc = rt.alloc();
+    let mut graph = Graph::new(alloc);
+    make_room(&rt, &mut graph, 2_000, 2_000);
+    add_classes(&rt, &mut graph, 2_000);
+    for a in 0..1_999 {
+        expect_insert(&rt, &mut graph, a + 1, a, Insert::Kept);
+    }
+    expect_rise(&rt, &graph, &[1_999, 1_000, 1, 0]);
     drop(graph);
 }
 

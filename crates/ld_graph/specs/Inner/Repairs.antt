@@ -1,5 +1,6 @@
 -- What a repair of the ranks says of its working space. No public contract cites this file.
 use Rattle.std.specs.Prelude.{◌≡◌, ◌≢◌, true, false, nat_eq, ℕ, zero, suc, ◌+◌, ◌<◌, ◌≤◌, Bool, not, if◌then◌else◌, List, []}
+use Rattle.std.specs.Prelude.{Option, None, Some}
 use Rattle.std.specs.Prelude.{◌∷◌, ◌++◌, ◌-◌, ◌⊎◌, length, slice_index, Contains}
 use Rattle.std.specs.List.{list_any}
 use Rattle.ld_graph.specs.declared.repair.Part.{Part}
@@ -7,7 +8,6 @@ use Rattle.ld_graph.specs.declared.repair.Part.TheVariants.{Found, Rest}
 use Rattle.ld_graph.specs.declared.turns.Side.{Side}
 use Rattle.ld_graph.specs.declared.turns.Side.TheVariants.{After, Before}
 use Rattle.ld_graph.specs.Lists.{IsNear, Sides}
-use Rattle.ld_graph.specs.Order.{StaysOutside}
 use Rattle.ld_graph.specs.Walks.{HasWalk}
 
 -- of the first n numbers so many pass the test
@@ -103,22 +103,36 @@ abbrev pub HasMet : Side → (len : ℕ) → (behind ahead : List ℕ) → Type 
 HasMet Before len behind ahead = Contains behind 0
 HasMet After len behind ahead = Contains ahead (len - 1)
 
--- the first n of these classes have the ranks from the least one on, and all else is as before
-pub record AreRanked (moved : List ℕ) (low n : ℕ) (ranks classes new_ranks new_classes : List ℕ) : Type 0 where
+-- the first n of these classes have the ranks from the least one on, and stand in the order from a
+-- place on; all else is as before
+pub record AreRanked (moved : List ℕ) (start low n : ℕ) (ranks order new_ranks new_order : List ℕ) : Type 0 where
   pub rank_at : (k : ℕ) → k < n → slice_index new_ranks (slice_index moved k) ≡ low + k
   pub rank_else : (c : ℕ) → ((k : ℕ) → k < n → slice_index moved k ≢ c)
       → slice_index new_ranks c ≡ slice_index ranks c
-  pub class_at : (k : ℕ) → k < n → slice_index new_classes (low + k) ≡ slice_index moved k
-  pub class_else : (r : ℕ) → (r < low) ⊎ (low + n ≤ r)
-      → slice_index new_classes r ≡ slice_index classes r
+  pub class_at : (k : ℕ) → k < n → slice_index new_order (start + k) ≡ slice_index moved k
+  pub class_else : (i : ℕ) → (i < start) ⊎ (start + n ≤ i)
+      → slice_index new_order i ≡ slice_index order i
 
--- the ranks, and the class at each rank
-pub record AreInverse (ranks classes : List ℕ) : Type 0 where
-  pub len : length classes ≡ length ranks
-  pub rank_below : (c : ℕ) → c < length ranks → slice_index ranks c < length ranks
-  pub class_below : (r : ℕ) → r < length ranks → slice_index classes r < length ranks
-  pub back : (c : ℕ) → c < length ranks → slice_index classes (slice_index ranks c) ≡ c
-  pub forth : (r : ℕ) → r < length ranks → slice_index ranks (slice_index classes r) ≡ r
+-- the rank of each class, 0 being none, and the ranked classes in their order, whose first one has
+-- this rank
+pub record AreInverse (ranks order : List ℕ) (first : ℕ) : Type 0 where
+  pub some : 0 < first
+  pub back : (c : ℕ) → 0 < slice_index ranks c → (first ≤ slice_index ranks c)
+      × ((slice_index ranks c < first + length order)
+      × (slice_index order (slice_index ranks c - first) ≡ c))
+  pub forth : (i : ℕ) → i < length order → (slice_index order i < length ranks)
+      × (slice_index ranks (slice_index order i) ≡ first + i)
+
+-- the rank that a number stands for, 0 being none
+abbrev pub told : ℕ → Option ℕ
+told zero = None
+told (suc r) = Some (suc r)
+
+-- the class, which had no rank, has one, and all others are as before
+pub record IsPut (class : ℕ) (old new : List ℕ) : Type 0 where
+  pub len : length new ≡ length old
+  pub some : 0 < slice_index new class
+  pub others : (c : ℕ) → class ≢ c → slice_index new c ≡ slice_index old c
 
 -- the row has a new order, in which no step goes back and its last class comes before its first
 pub record IsPlan (step : ℕ → ℕ → Type 0) (ranks : List ℕ) (low : ℕ) (row moved : List ℕ)
@@ -133,12 +147,19 @@ pub record IsPlan (step : ℕ → ℕ → Type 0) (ranks : List ℕ) (low : ℕ)
   pub some : 0 < expanded
   pub few : expanded ≤ length row
 
--- what is seen of the ranks: the rank of each class, the class at each rank, and for how many
--- classes there is memory
+-- what is seen of the ranks: the rank of each class, the ranked classes in their order, the rank of
+-- the first of them, and for how many classes there is memory
 pub record Ranked : Type 0 where
   pub ranks : List ℕ
-  pub classes : List ℕ
+  pub order : List ℕ
+  pub first : ℕ
   pub room : ℕ
+
+-- every class whose old rank is outside the range from b's old rank to a's keeps its rank
+abbrev pub StaysOutside : (a b : ℕ) (old new : List ℕ) → Type 0
+StaysOutside a b old new = (x : ℕ) → x < length old
+    → (slice_index old x < slice_index old b) ⊎ (slice_index old a < slice_index old x)
+    → slice_index new x ≡ slice_index old x
 
 -- the ranks were repaired for an edge from a to b
 pub record IsRepaired (step : ℕ → ℕ → Type 0) (a b : ℕ) (old new : List ℕ) (expanded : ℕ) : Type 0 where
@@ -146,5 +167,6 @@ pub record IsRepaired (step : ℕ → ℕ → Type 0) (a b : ℕ) (old new : Lis
   pub rises : (x y : ℕ) → step x y → slice_index new x < slice_index new y
   pub turned : slice_index new a < slice_index new b
   pub outside : StaysOutside a b old new
+  pub ranked : (x : ℕ) → 0 < slice_index old x → 0 < slice_index new x
   pub some : 0 < expanded
   pub few : expanded + slice_index old b ≤ slice_index old a + 1

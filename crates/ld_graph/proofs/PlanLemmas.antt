@@ -1,0 +1,159 @@
+-- A plan for the classes from the one that b has a rank with to the one of a.
+use Rattle.std.proofs.Common.{◌≡◌, ◌≢◌, ◌⊎◌, inl, inr, ℕ, ◌+◌, ◌-◌, ◌<◌, ◌≤◌}
+use Rattle.std.proofs.Common.{List, length, get_or}
+use Rattle.std.proofs.Common.{slice_range, arith, sym, ap, subst, ◌∙◌}
+use Rattle.ld_graph.specs.Inner.Repairs.{AreInverse, AreRanked, IsOrReaches, IsPlan}
+use Rattle.ld_graph.specs.Inner.Repairs.{IsRepaired, split}
+use Rattle.ld_graph.proofs.MendLemmas.{AreInverse-given, length-row, new_outside, ranked_given}
+use Rattle.ld_graph.proofs.MendLemmas.{rises_given, row_of, row_read, split_ends, split_once}
+use Rattle.ld_graph.proofs.MendLemmas.{turned_given}
+use Rattle.ld_graph.proofs.SplitLemmas.{length-split}
+
+module _ (step : ℕ → ℕ → Type 0) (ranks order : List ℕ) (first : ℕ) (h : AreInverse ranks order first)
+    (a b low high start : ℕ) (low_is : low ≡ get_or ranks b 0) (high_is : high ≡ get_or ranks a 0)
+    (start_is : start ≡ low - first) (ranked : 0 < low) (against : low < high)
+    (rises : (x y : ℕ) → step x y → get_or ranks x 0 < get_or ranks y 0)
+    (ends : (x y : ℕ) → step x y → (x < length ranks) × (y < length ranks)) where
+  abbrev row : List ℕ
+  row = row_of order start (high + 1 - low)
+
+  abbrev at_b : (first ≤ get_or ranks b 0) × ((get_or ranks b 0 < first + length order)
+      × (get_or order (get_or ranks b 0 - first) 0 ≡ b))
+  at_b = h.back b (omega (arith, ranked, low_is))
+
+  abbrev at_a : (first ≤ get_or ranks a 0) × ((get_or ranks a 0 < first + length order)
+      × (get_or order (get_or ranks a 0 - first) 0 ≡ a))
+  at_a = h.back a (omega (arith, against, high_is))
+
+  plan_low : low ≡ first + start
+  plan_low = let t = at_b.0 in omega (arith, t, low_is, start_is)
+
+  plan_within : start + (high + 1 - low) ≤ length order
+  plan_within = let t = at_a.1.0 in let u = plan_low in omega (arith, t, u, high_is, against)
+
+  pub row_length : length row ≡ high + 1 - low
+  row_length = length-row ranks order first low start (high + 1 - low) h plan_low plan_within
+
+  pub row_first : get_or row 0 0 ≡ b
+  row_first =
+      row_read ranks order first low start (high + 1 - low) h plan_low plan_within 0 (omega (arith, against))
+      ∙ ap (λ z. get_or order z 0) (let u = at_b.0 in
+      let e : start + 0 ≡ get_or ranks b 0 - first = omega (arith, low_is, start_is)
+      in e) ∙ at_b.1.1
+
+  pub row_last : get_or row (high - low) 0 ≡ a
+  row_last =
+      row_read ranks order first low start (high + 1 - low) h plan_low plan_within (high - low) (omega (arith, against))
+      ∙ ap (λ z. get_or order z 0) (let u = plan_low in
+      let e : start + (high - low) ≡ get_or ranks a 0 - first = omega (
+        arith,
+        high_is,
+        against,
+        u,
+      ) in e) ∙ at_a.1.1
+
+  pub row_end : get_or row (length row - 1) 0 ≡ a
+  row_end =
+      let l = row_length in
+      let e : length row - 1 ≡ high - low = omega (arith, l, against) in
+      ap (λ z. get_or row z 0) e ∙ row_last
+
+  -- the classes that were copied are the row
+  module _ (copy : List ℕ) (copied : copy ≡ slice_range order start (high - first + 1)) where
+    copy_is : copy ≡ row
+    copy_is =
+        let t = at_b.0 in
+        let n : high - first + 1 - start ≡ high + 1 - low = omega (
+          arith,
+          t,
+          low_is,
+          start_is,
+          against,
+        ) in
+        copied ∙ ap (λ m. row_of order start m) n
+
+    pub copy_reaches : IsOrReaches step (get_or copy 0 0) (get_or copy (length copy - 1) 0)
+        → IsOrReaches step b a
+    copy_reaches r =
+        subst (λ z. IsOrReaches step z a) row_first (subst (IsOrReaches step (get_or row 0 0)) row_end
+        (subst (λ z. IsOrReaches step (get_or z 0 0) (get_or z (length z - 1) 0)) copy_is r))
+
+  module _ (copy : List ℕ) (copied : copy ≡ slice_range order start (high - first + 1))
+      (moved : List ℕ) (k : ℕ) (planned : IsPlan step ranks low copy moved k) where
+    plan : IsPlan step ranks low row moved k
+    plan = subst (λ z. IsPlan step ranks low z moved k) (copy_is copy copied) planned
+
+    moved_is : moved ≡ split plan.front (λ i. get_or row i 0) (high + 1 - low)
+    moved_is = plan.in_order ∙ ap (split plan.front (λ i. get_or row i 0)) row_length
+
+    pub moved_length : length moved ≡ high + 1 - low
+    moved_length = ap length moved_is ∙ length-split plan.front (λ i. get_or row i 0) (high + 1 - low)
+
+    pub moved_within : start + length moved ≤ length order
+    moved_within = let l = moved_length in let w = plan_within in omega (arith, l, w)
+
+    pub moved_ends : (i : ℕ) → i < length moved → get_or moved i 0 < length ranks
+    moved_ends i l =
+        let n = moved_length in
+        subst (λ z. get_or z i 0 < length ranks) (sym moved_is)
+        (split_ends ranks order first low start (high + 1 - low) h plan_low plan_within plan.front i
+        (omega (arith, l, n)))
+
+    pub moved_once : (i j : ℕ) → i < j → j < length moved → get_or moved i 0 ≢ get_or moved j 0
+    moved_once i j l u =
+        let n = moved_length in
+        subst (λ z. get_or z i 0 ≢ get_or z j 0) (sym moved_is)
+        (split_once ranks order first low start (high + 1 - low) h plan_low plan_within plan.front i j l
+        (omega (arith, u, n)))
+
+    module _ (new_ranks new_order : List ℕ)
+        (given : AreRanked moved start low (length moved) ranks order new_ranks new_order)
+        (same_ranks : length new_ranks ≡ length ranks)
+        (same_order : length new_order ≡ length order) where
+      given_split : AreRanked (split plan.front (λ i. get_or row i 0) (high + 1 - low)) start low
+          (high + 1 - low) ranks order new_ranks new_order
+      given_split =
+          subst (λ n. AreRanked (split plan.front (λ i. get_or row i 0) (high + 1 - low)) start low n ranks
+          order new_ranks new_order) moved_length
+          (subst (λ z. AreRanked z start low (length moved) ranks order new_ranks new_order) moved_is
+          given)
+
+      pub mended_inverse : AreInverse new_ranks new_order first
+      mended_inverse = AreInverse-given ranks order first low start (high + 1 - low) h plan_low plan_within plan.front
+          new_ranks new_order given_split same_ranks same_order
+
+      pub mended : IsRepaired step a b ranks new_ranks k
+      mended = record {
+        len = same_ranks;
+        rises = λ x y s.
+            let e = ends x y s in
+            rises_given ranks order first low start (high + 1 - low) h plan_low plan_within plan.front new_ranks
+            new_order given_split same_ranks same_order x y e.0 e.1 (rises x y s)
+            (λ i j t.
+            let l = row_length in
+            let i1 = i.0 in let i2 = i.1 in let j1 = j.0 in let j2 = j.1 in
+            plan.closed x y s (i1, omega (arith, i2, l)) (j1, omega (arith, j2, l)) t);
+        turned =
+            let l = row_length in
+            let e : length row - 1 ≡ high - low = omega (arith, l, against) in
+            let t = turned_given ranks order first low start (high + 1 - low) h plan_low plan_within plan.front
+            new_ranks new_order given_split same_ranks same_order (high - low) 0
+            (omega (arith, against)) (omega (arith, against))
+            (ap plan.front (sym e) ∙ plan.last) plan.first in
+            subst (λ z. get_or new_ranks z 0 < get_or new_ranks b 0) row_last
+            (subst (λ z. get_or new_ranks (get_or row (high - low) 0) 0 < get_or new_ranks z 0)
+            row_first t);
+        outside = λ x l o. new_outside ranks order first low start (high + 1 - low) h plan_low plan_within plan.front
+            new_ranks new_order given_split same_ranks same_order x l (out x o);
+        ranked = ranked_given ranks order first low start (high + 1 - low) h plan_low plan_within
+            plan.front new_ranks new_order given_split same_ranks same_order;
+        some = plan.some;
+        few = let f = plan.few in let l = row_length in
+            omega (arith, f, l, low_is, high_is, against);
+      }
+        where
+          out : (x : ℕ) → (get_or ranks x 0 < get_or ranks b 0)
+              ⊎ (get_or ranks a 0 < get_or ranks x 0)
+              → (get_or ranks x 0 < low) ⊎ (low + (high + 1 - low) ≤ get_or ranks x 0)
+          out x (inl o) = inl (omega (arith, o, low_is))
+          out x (inr o) = inr (omega (arith, o, high_is, against))
