@@ -136,12 +136,6 @@ pub DistanceIs-near : (lists : List (List ℕ)) (R : ℕ → ℕ → Type 0) →
 DistanceIs-near lists R same x to o h = DistanceIs-same (λ p q. IsNear lists q p) R (λ p q. (same q
     p).0) (λ p q. (same q p).1) x to o h
 
-pub DistanceIs-along : (lists : List (List ℕ)) (R : ℕ → ℕ → Type 0) → ((x y : ℕ) → IsNear lists x y
-    ↔ R x y) → (x to : ℕ) (o : Option ℕ)
-    → DistanceIs R x to o → DistanceIs (IsNear lists) x to o
-DistanceIs-along lists R same x to o h = DistanceIs-same R (IsNear lists) (λ p q. (same p q).1) (λ p
-    q. (same p q).0) x to o h
-
 -- in a list of distinct edges each stands once
 pub edges_once : (edges : List Edge) → IsDistinct same_edge edges → (i j : ℕ) → i < j
     → j < length edges → slice_get edges i ≢ slice_get edges j

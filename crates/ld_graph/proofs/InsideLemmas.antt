@@ -1,15 +1,13 @@
 -- Walks between classes of a component don't leave it.
 use Rattle.std.proofs.Common.{◌↔◌, inl, inr, ℕ, ◌<◌, List, [], ◌∷◌, Option, None, Some, get_or, refl, sym}
 use Rattle.ld_graph.specs.Components.{AreComponents, AreTogether}
-use Rattle.ld_graph.specs.Inner.Insides.{IsNearInside}
+use Rattle.ld_graph.specs.Inner.Insides.{AreLevelsFor, IsNearInside}
+use Rattle.ld_graph.specs.Inner.Levels.{level_at}
 use Rattle.ld_graph.specs.Lists.{IsNear}
-use Rattle.ld_graph.specs.Walks.{LeadsTo, IsWalk, HasWalk, Reaches, DistanceIs}
+use Rattle.ld_graph.specs.Walks.{AreEnough, LeadsTo, IsDistance, IsWalk, HasWalk, Reaches, DistanceIs}
 use Rattle.ld_graph.proofs.SoughtLemmas.{IsOrReaches-next}
+use Rattle.ld_graph.proofs.TrailLemmas.{reaches-on}
 use Rattle.ld_graph.proofs.WalkLemmas.{IsWalk-same}
-
-pub Reaches-same : (s t : ℕ → ℕ → Type 0) → ((a b : ℕ) → s a b → t a b) → (a b : ℕ) → Reaches s a b → Reaches t a b
-Reaches-same s t to a b (inl e) = inl e
-Reaches-same s t to a b (inr w) = inr (w.0, IsWalk-same s t to a b w.0 w.1)
 
 module _ (step : ℕ → ℕ → Type 0) (before : List (List ℕ)) (turned : (x y : ℕ) → IsNear before x y ↔ step y x) (n : ℕ)
     (ends : (x y : ℕ) → step x y → (x < n) × (y < n)) (components : List ℕ) (are : AreComponents step n components) (end : ℕ) (within : end < n) where
@@ -44,4 +42,20 @@ module _ (step : ℕ → ℕ → Type 0) (before : List (List ℕ)) (turned : (x
   DistanceIs-inside a (Some k) reached h = record {
     reached = let r = h.reached in (r.0, (IsWalk-same inside step outer a end r.0 r.1.0, r.1.1));
     least = λ w i. h.least w (walk a w reached i);
+  }
+
+  -- and as a distance in the component
+  IsDistance-into : (a n : ℕ) → Reaches step end a → IsDistance step a end n → IsDistance inside a end n
+  IsDistance-into a n reached d = record {
+    reached = let r = d.reached in (r.0, (walk a r.0 reached r.1.0, r.1.1));
+    least = λ w i. d.least w (IsWalk-same inside step outer a end w i);
+  }
+
+  -- what is enough within the component is enough
+  pub AreEnough-inside : (w : ℕ) (levels : List (Option ℕ)) → Reaches step end w → AreLevelsFor inside w end levels
+      → AreEnough step w end (level_at levels)
+  AreEnough-inside w levels reached h = record {
+    own = DistanceIs-inside w (level_at levels w) reached h.own;
+    right = λ c n on e. DistanceIs-inside c (Some n) (reaches-on step end w c reached on) (h.right c n e);
+    nearer = λ c m n on d e l. h.nearer c m n (IsDistance-into c m (reaches-on step end w c reached on) d) e l;
   }

@@ -7,7 +7,8 @@ use Rattle.ld_graph.specs.Inner.Levels.{level_at, HasLevel, Spreads}
 use Rattle.ld_graph.proofs.WalkLemmas.{Far, IsWalk-Far, IsDistance-Far}
 use Rattle.std.proofs.lemmas.List.{get_or_default, get_or_read}
 use Rattle.std.proofs.lemmas.List.Elements.{Contains-get_or}
-use Rattle.ld_graph.specs.Inner.Insides.{AreTouched}
+use Rattle.ld_graph.specs.Inner.Insides.{AreLevelsFor, AreTouched}
+use Rattle.ld_graph.proofs.ShownLemmas.{distance_one}
 use Rattle.ld_graph.proofs.SpreadLemmas.{some_same, level_within}
 
 -- what a search knows after it has gone on from the start and from the first `done` classes that
@@ -234,6 +235,82 @@ module _ (near : ℕ → ℕ → Type 0) (start : ℕ) where
             (IsDistance-Far (λ a b. near b a) x start s.0 s.1.1
             (λ m f. let c = complete m x f in let t = some_same c.0 k (sym c.1.0 ∙ e)
             in let u = c.1.1 in let v = s.1.0 in omega (arith, t, u, v)))
+
+-- What a search has found before it ends: the levels are distances, and each class that is nearer than one that
+-- has a level has its own.
+module _ (near : ℕ → ℕ → Type 0) (start done : ℕ) (levels : List (Option ℕ)) (queue : List ℕ)
+    (p : IsPartial near start done levels queue) where
+  -- the class that waits longest has at most this level
+  abbrev waits_at : ℕ → Type 0
+  waits_at n = (done < length queue) × ((k : ℕ) × ((level_at levels (get_or queue done 0) ≡ Some k) × (k ≤ n)))
+
+  found_or_waits : (n x : ℕ) → Far (λ a b. near b a) n x start
+      → ((k : ℕ) × ((level_at levels x ≡ Some k) × (k ≤ n + 1))) ⊎ waits_at n
+  found_or_waits zero x f = inl (1, (p.begun x f, omega arith))
+  found_or_waits (suc n) x f = by (found_or_waits n f.0 f.1.1)
+    where
+      goes_on : (k : ℕ) → level_at levels f.0 ≡ Some k → k ≤ n + 1 → (i : ℕ) → i < length queue
+          → get_or queue i 0 ≡ f.0 → (i < done) ⊎ (done ≤ i)
+          → ((k : ℕ) × ((level_at levels x ≡ Some k) × (k ≤ suc n + 1))) ⊎ waits_at (suc n)
+      goes_on k e a i b at (inl l) =
+          let s = p.closed i x k l (subst (λ z. near z x) (sym at) f.1.0) (ap (λ z. level_at levels z) at ∙ e) in
+          let u = s.1.1 in
+          inl (s.0, (s.1.0, omega (arith, a, u)))
+      goes_on k e a i b at (inr l) =
+          let waits : done < length queue = omega (arith, l, b) in
+          let q = p.queued done waits in
+          let r = p.rising done i q.0 k l b q.1.0 (ap (λ z. level_at levels z) at ∙ e) in
+          inr (waits, (q.0, (q.1.0, omega (arith, r, a))))
+
+      by : ((k : ℕ) × ((level_at levels f.0 ≡ Some k) × (k ≤ n + 1))) ⊎ waits_at n
+          → ((k : ℕ) × ((level_at levels x ≡ Some k) × (k ≤ suc n + 1))) ⊎ waits_at (suc n)
+      by (inl r) =
+          let c = p.covered f.0 r.0 r.1.0 in
+          goes_on r.0 r.1.0 r.1.1 c.0 c.1.0 c.1.1 (cases_lt c.0 done)
+      by (inr w) = let a = w.1.1.1 in inr (w.0, (w.1.0, (w.1.1.0, omega (arith, a))))
+
+  -- each level is at most one above that of the class that waits longest
+  level_near : (x l k : ℕ) → level_at levels x ≡ Some l → done < length queue
+      → level_at levels (get_or queue done 0) ≡ Some k → l ≤ k + 1
+  level_near x l k e waits here =
+      let c = p.covered x l e in
+      let b = c.1.0 in
+      p.narrow done c.0 k l (omega arith) waits b here (ap (λ z. level_at levels z) c.1.1 ∙ e)
+
+  pub IsPartial-right : (x k : ℕ) → level_at levels x ≡ Some k → IsDistance (λ a b. near b a) x start k
+  IsPartial-right x k e =
+      let s = p.sound x k e in
+      let same = s.1.0 in
+      subst (λ z. IsDistance (λ a b. near b a) x start z) (sym same)
+      (IsDistance-Far (λ a b. near b a) x start s.0 s.1.1 (λ m f. least m (found_or_waits m x f) s.0 same))
+    where
+      least : (m : ℕ) → ((l : ℕ) × ((level_at levels x ≡ Some l) × (l ≤ m + 1))) ⊎ waits_at m → (n : ℕ) → k ≡ n + 1 → n ≤ m
+      least m (inl r) n same = let t = some_same r.0 k (sym r.1.0 ∙ e) in let u = r.1.1 in omega (arith, t, u, same)
+      least m (inr w) n same = let r = level_near x k w.1.0 e w.0 w.1.1.0 in let u = w.1.1.1 in omega (arith, r, u, same)
+
+  pub IsPartial-levels : (w : ℕ) → HasLevel levels w ⊎ (length queue ≤ done) → AreLevelsFor (λ a b. near b a) w start levels
+  IsPartial-levels w known = record {
+    own = own known;
+    right = IsPartial-right;
+    nearer = λ c m n d e l.
+        let f = IsWalk-Far (λ a b. near b a) c start d.reached.0 d.reached.1.0 in
+        let u = d.reached.1.1 in
+        let v = f.1.0 in
+        nearer c m n f.0 d e l (omega (arith, u, v)) (found_or_waits f.0 c f.1.1);
+  }
+    where
+      own : HasLevel levels w ⊎ (length queue ≤ done) → DistanceIs (λ a b. near b a) w start (level_at levels w)
+      own (inl h) = subst (DistanceIs (λ a b. near b a) w start) (sym h.1) (IsPartial-right w h.0 h.1)
+      own (inr all) = IsPartial-all near start done levels queue p all w
+
+      nearer : (c m n k : ℕ) → IsDistance (λ a b. near b a) c start m → level_at levels w ≡ Some n → m < n → m ≡ k + 1
+          → ((l : ℕ) × ((level_at levels c ≡ Some l) × (l ≤ k + 1))) ⊎ waits_at k → level_at levels c ≡ Some m
+      nearer c m n k d e l same (inl r) =
+          r.1.0 ∙ ap (λ z. Some z) (distance_one (λ a b. near b a) c start r.0 m (IsPartial-right c r.0 r.1.0) d)
+      nearer c m n k d e l same (inr q) =
+          let r = level_near w n q.1.0 e q.0 q.1.1.0 in
+          let u = q.1.1.1 in
+          absurd (omega (arith, r, u, same, l))
 
 -- what has a level waits, or has waited
 pub IsPartial-touched : (near : ℕ → ℕ → Type 0) (start done : ℕ) (levels : List (Option ℕ)) (queue : List ℕ)

@@ -1,13 +1,13 @@
 -- The least of the near classes, and the shown walk.
-use Rattle.std.proofs.Common.{◌≡◌, ◌≢◌, ℕ, suc, ◌+◌, ◌-◌, ◌<◌, ◌≤◌, List, [], ◌∷◌, ◌++◌, length}
+use Rattle.std.proofs.Common.{inl, inr, ◌≡◌, ◌≢◌, ℕ, suc, ◌+◌, ◌-◌, ◌<◌, ◌≤◌, List, [], ◌∷◌, ◌++◌, length}
 use Rattle.std.proofs.Common.{get_or, Option, Some, None, Contains, ◌↔◌, MatchOption, arith, sym}
 use Rattle.std.proofs.Common.{ap, subst, ◌∙◌}
 use Rattle.std.proofs.lemmas.List.{append_assoc, get_or_default}
 use Rattle.ld_graph.specs.Edges.{ComesBefore}
 use Rattle.ld_graph.specs.Lists.{IsNear}
 use Rattle.ld_graph.specs.Inner.Levels.{level_at, IsLeastAtLevel}
-use Rattle.ld_graph.specs.Walks.{IsDistance, DistanceIs, IsNext, ShownFrom, IsShownWalk}
-use Rattle.ld_graph.proofs.WalkLemmas.{Far, IsWalk-Far, Far-IsWalk, IsDistance-Far, DistanceIs-same}
+use Rattle.ld_graph.specs.Walks.{AreEnough, IsDistance, DistanceIs, IsNext, Reaches, ShownFrom, IsShownWalk}
+use Rattle.ld_graph.proofs.WalkLemmas.{Far, IsWalk-Far, Far-IsWalk, IsDistance-Far, DistanceIs-same, IsWalk-same}
 
 -- what is known of the first n of these classes: the least of this level, if there is one
 abbrev pub IsLeastOf : List ℕ → ℕ → ℕ → List (Option ℕ) → List ℕ → Option ℕ → Type 0
@@ -71,8 +71,9 @@ module _ {A : Type 0} (step : A → A → Type 0) where
 
 -- one more class of the shown walk
 module _ (lists : List (List ℕ)) (places : List ℕ) (levels : List (Option ℕ)) (b last : ℕ)
-    (distances : (x : ℕ) → IsNear lists last x → DistanceIs (IsNear lists) x b (level_at levels x)) (left : ℕ) (more
-    : 1 < left)
+    (left : ℕ) (more : 1 < left)
+    (known : (x : ℕ) → IsNear lists last x → IsDistance (IsNear lists) x b (left - 1) → level_at levels x ≡ Some (left - 1))
+    (right : (x : ℕ) → IsNear lists last x → level_at levels x ≡ Some (left - 1) → IsDistance (IsNear lists) x b (left - 1))
     (far : IsDistance (IsNear lists) last b left) where
   before_left : left ≡ left - 2 + 2
   before_left = omega arith
@@ -88,21 +89,18 @@ module _ (lists : List (List ℕ)) (places : List ℕ) (levels : List (Option �
   next_there none =
       let n = distance_next (IsNear lists) last b (left - 2) far_two in
       none n.0 n.1.0
-      (distance_is (IsNear lists) n.0 b (level_at levels n.0) (left - 1) (distances n.0 n.1.0)
-      (subst (λ k. IsDistance (IsNear lists) n.0 b k) nearer_left n.1.1))
+      (known n.0 n.1.0 (subst (λ k. IsDistance (IsNear lists) n.0 b k) nearer_left n.1.1))
 
   module _ (near : ℕ) (h : IsLeastAtLevel (IsNear lists last) (left - 1) levels places near) where
     pub next_distance : IsDistance (IsNear lists) near b (left - 1)
-    next_distance = distance_at (IsNear lists) near b (level_at levels near) (left - 1) (distances
-        near h.is_near) h.has_level
+    next_distance = right near h.is_near h.has_level
 
     is_next : IsNext (IsNear lists) (ComesBefore places) last b (left - 2 + 1) near
     is_next = record {
       successor = h.is_near;
       nearer = subst (λ n. IsDistance (IsNear lists) near b n) (sym nearer_left) next_distance;
       least = λ z e d.
-          h.least z e (distance_is (IsNear lists) z b (level_at levels z) (left - 1) (distances z e)
-          (subst (λ n. IsDistance (IsNear lists) z b n) nearer_left d));
+          h.least z e (known z e (subst (λ n. IsDistance (IsNear lists) z b n) nearer_left d));
     }
 
     longer : (rest : List ℕ) → ShownFrom (IsNear lists) (ComesBefore places) near b rest
@@ -122,11 +120,11 @@ module _ (lists : List (List ℕ)) (places : List ℕ) (levels : List (Option �
 
 -- a shown walk is one of the same steps
 module _ {A : Type 0} (s t before : A → A → Type 0) (same : (a b : A) → s a b ↔ t a b) where
-  IsDistance-same : (a b : A) (n : ℕ) → IsDistance s a b n → IsDistance t a b n
+  pub IsDistance-same : (a b : A) (n : ℕ) → IsDistance s a b n → IsDistance t a b n
   IsDistance-same a b n h = DistanceIs-same s t (λ a b. (same a b).0) (λ a b. (same a b).1) a b
       (Some n) h
 
-  IsDistance-back : (a b : A) (n : ℕ) → IsDistance t a b n → IsDistance s a b n
+  pub IsDistance-back : (a b : A) (n : ℕ) → IsDistance t a b n → IsDistance s a b n
   IsDistance-back a b n h = DistanceIs-same t s (λ a b. (same a b).1) (λ a b. (same a b).0) a b
       (Some n) h
 
@@ -152,3 +150,24 @@ module _ {A : Type 0} (s t before : A → A → Type 0) (same : (a b : A) → s 
       → IsShownWalk t before a b w
   IsShownWalk-same a b [] h = h
   IsShownWalk-same a b (x ∷ more) h = (h.0, ShownFrom-same a b more h.1)
+
+  -- and enough is known for it by the one as by the other
+  pub AreEnough-same : (a b : A) (distance : A → Option ℕ) → AreEnough s a b distance → AreEnough t a b distance
+  AreEnough-same a b distance h = record {
+    own = DistanceIs-same s t (λ x y. (same x y).0) (λ x y. (same x y).1) a b (distance a) h.own;
+    right = λ c n reached e. IsDistance-same c b n (h.right c n (back a c reached) e);
+    nearer = λ c m n reached d e l. h.nearer c m n (back a c reached) (IsDistance-back c b m d) e l;
+  }
+    where
+      back : (x y : A) → Reaches t x y → Reaches s x y
+      back x y (inl e) = inl e
+      back x y (inr w) = inr (w.0, IsWalk-same t s (λ p q. (same p q).1) x y w.0 w.1)
+
+-- where all distances are known, that is enough
+pub AreEnough-all : {A : Type 0} (step : A → A → Type 0) (a b : A) (distance : A → Option ℕ)
+    → ((c : A) → DistanceIs step c b (distance c)) → AreEnough step a b distance
+AreEnough-all step a b distance each = record {
+  own = each a;
+  right = λ c n reached e. distance_at step c b (distance c) n (each c) e;
+  nearer = λ c m n reached d e l. distance_is step c b (distance c) m (each c) d;
+}

@@ -1,6 +1,6 @@
 -- Walks, distances and shown walks, over any type of class and any relation between classes, which
 -- says that there is a step from one class to another.
-use Rattle.std.specs.Prelude.{◌≡◌, ◌⊎◌, ℕ, ◌+◌, ◌≤◌, List, [], ◌∷◌, length, Option, MatchOption}
+use Rattle.std.specs.Prelude.{◌≡◌, ◌⊎◌, ℕ, ◌+◌, ◌<◌, ◌≤◌, List, [], ◌∷◌, length, Option, Some, MatchOption}
 
 module _ {A : Type 0} (step : A → A → Type 0) where
   -- what follows the class a on a walk that ends with the class b: at least one class, each a step
@@ -32,6 +32,15 @@ module _ {A : Type 0} (step : A → A → Type 0) where
   -- the distance from a to b, or none where there is no walk
   abbrev pub DistanceIs : (a b : A) → Option ℕ → Type 0
   DistanceIs a b found = MatchOption found (¬ HasWalk a b) (IsDistance a b)
+
+  -- Enough is known of the distances to b for the shown walk from a: whether there is a walk, and the
+  -- distance from a; what is known of the classes that a leads to is right, and those of them that are
+  -- nearer to b are known.
+  pub record AreEnough (a b : A) (distance : A → Option ℕ) : Type 0 where
+    pub own : DistanceIs a b (distance a)
+    pub right : (c : A) (n : ℕ) → Reaches a c → distance c ≡ Some n → IsDistance c b n
+    pub nearer : (c : A) (m n : ℕ) → Reaches a c → IsDistance c b m → distance a ≡ Some n → m < n
+        → distance c ≡ Some m
 
 -- Shown walks: which class comes before which is given.
 module _ {A : Type 0} (step before : A → A → Type 0) where

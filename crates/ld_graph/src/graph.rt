@@ -2,13 +2,13 @@
 
 ghost use Rattle.std.specs.Prelude.{◌≡◌, ◌≢◌, ℕ, ◌+◌, ◌<◌, ◌≤◌, ◌↔◌, length, slice_get};
 ghost use Rattle.std.specs.Prelude.{slice_index_or, None, IfOk, IsTrue};
-ghost use Rattle.std.specs.Prelude.{OnOk, MatchOption, true, false};
+ghost use Rattle.std.specs.Prelude.{All, OnOk, MatchOption, true, false};
 ghost use Rattle.ld_graph.specs.Components.{AreComponents};
 ghost use Rattle.ld_graph.specs.Edges.{ComesBefore, IsEdge, IsEdgeNumber};
 ghost use Rattle.ld_graph.specs.Edges.{empty_graph, with_class, with_edge, with_spares};
 ghost use Rattle.ld_graph.specs.Lists.{IsNear};
 ghost use Rattle.ld_graph.specs.Order.{HasCycle, IsInserted, IsOrder, rank_of};
-ghost use Rattle.ld_graph.specs.Walks.{DistanceIs, HasWalk, IsShownWalk, Reaches};
+ghost use Rattle.ld_graph.specs.Walks.{AreEnough, DistanceIs, HasWalk, IsShownWalk, Reaches};
 
 use crate::Edge;
 use crate::components::components_of;
@@ -259,17 +259,25 @@ impl Graph {
         distances.search(&self.lists, to);
     }
 
-    /// For the classes that walks from `to` lead to, and for itself, what `distances` gives, by a search
-    /// that stays in the component of `to`. The list is the same for many searches. Takes no memory.
-    pub fn distances_inside(&self, to: u32, components: &[u32], distances: &mut Distances)
+    /// Of what `distances` gives, for each of the wanted classes that walks from `to` lead to, as much as
+    /// `walk_along` needs for the walk from it, by a search that stays in the component of `to` and ends
+    /// where the last of them was found. The list is the same for many searches. Takes no memory.
+    pub fn distances_inside(
+        &self,
+        to: u32,
+        components: &[u32],
+        wanted: &[u32],
+        distances: &mut Distances,
+    )
         requires to { to < self.now.classes }
         requires components { AreComponents (IsEdge self.now.edges) self.now.classes components.now }
+        requires wanted { All (λ c. c < self.now.classes) wanted.now }
         requires classes { length distances.old ≡ self.now.classes }
         ensures len { length distances.new ≡ self.now.classes }
-        ensures each { (c : ℕ) → Reaches (IsEdge self.now.edges) to c →
-            DistanceIs (IsEdge self.now.edges) c to (slice_index_or distances.new c None) }
+        ensures enough { All (λ c. Reaches (IsEdge self.now.edges) to c
+            → AreEnough (IsEdge self.now.edges) c to (λ x. slice_index_or distances.new x None)) wanted.now }
     {
-        distances.search_inside(&self.lists, components, to);
+        distances.search_inside(&self.lists, components, wanted, to);
     }
 
     /// A shortest walk from `a` to `b`, or `None` where there is none. Each next class but the last
@@ -296,9 +304,9 @@ impl Graph {
         self.walk_along(alloc, a, b, &distances, places)
     }
 
-    /// The walk from `a` to `b` that `walk` gives, by the distances to `b` that `distances` gave, or
-    /// `distances_inside` where both are in one component. So one search serves the walks from many
-    /// classes to one.
+    /// The walk from `a` to `b` that `walk` gives, by the distances to `b` that `distances` or `distances_to`
+    /// gave, or `distances_inside` where `a` was wanted. So one search serves the walks from many classes to
+    /// one.
     ///
     /// # Errors
     ///
@@ -313,8 +321,8 @@ impl Graph {
     ) -> Result<Option<Vec<u32>>, AllocError>
         requires a { a < self.now.classes }
         requires len { length distances.now ≡ self.now.classes }
-        requires each { (c : ℕ) → Reaches (IsEdge self.now.edges) a c
-            → DistanceIs (IsEdge self.now.edges) c b (slice_index_or distances.now c None) }
+        requires enough { AreEnough (IsEdge self.now.edges) a b
+            (λ c. slice_index_or distances.now c None) }
         requires places { length places.now ≡ self.now.classes }
         ensures { IfOk result (λ walk. MatchOption walk (¬ HasWalk (IsEdge self.now.edges) a b)
             (λ w. IsShownWalk (IsEdge self.now.edges) (ComesBefore places.now) a b w.items)) }

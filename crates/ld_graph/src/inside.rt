@@ -1,9 +1,9 @@
 //! Distances to one class, by searches over a list that is made once and is taken back only where it was
 //! touched: over the whole graph, or within one component.
 ghost use Rattle.std.specs.Prelude.{◌≡◌, ◌+◌, ◌<◌, ◌≤◌, ℕ, [], None, Some, IfOk, is_none, count_by};
-ghost use Rattle.std.specs.Prelude.{length, slice_index_or, vec_len, vec_capacity, Contains};
+ghost use Rattle.std.specs.Prelude.{length, slice_index_or, vec_len, vec_capacity, All, Contains};
 ghost use Rattle.ld_graph.specs.declared.graph.TheConstants.{MOST_GRAPH_CLASSES};
-ghost use Rattle.ld_graph.specs.Inner.Insides.{AreTouched, IsInsideOf, IsNearInside};
+ghost use Rattle.ld_graph.specs.Inner.Insides.{AreLevelsFor, AreTouched, IsInsideOf, IsNearInside};
 ghost use Rattle.ld_graph.specs.Inner.Levels.{HasLevel, Spreads, level_at};
 ghost use Rattle.ld_graph.specs.Lists.{IsNear};
 ghost use Rattle.ld_graph.specs.Walks.{DistanceIs};
@@ -84,23 +84,37 @@ impl Distances {
         measure(lists, end, &mut self.levels, &mut self.touched);
     }
 
-    /// Gives each class of the component of `end` its distance to `end`, and takes those away that an
-    /// earlier search gave. Takes no memory.
-    pub(crate) fn search_inside(&mut self, lists: &Lists, components: &[u32], end: u32)
+    /// Gives classes of the component of `end` their distances to `end`, as many as are needed for these, and
+    /// takes those away that an earlier search gave. Takes no memory.
+    pub(crate) fn search_inside(
+        &mut self,
+        lists: &Lists,
+        components: &[u32],
+        wanted: &[u32],
+        end: u32,
+    )
         requires end { end < length lists.now.before.lists }
         requires few { length lists.now.before.lists ≤ MOST_GRAPH_CLASSES }
         requires classes { length self.old ≡ length lists.now.before.lists }
         requires components { length components.now ≡ length lists.now.before.lists }
+        requires wanted { All (λ w. w < length lists.now.before.lists) wanted.now }
         requires ends { (a b : ℕ) → IsNear lists.now.before.lists a b
             → b < length lists.now.before.lists }
         ensures len { length self.new ≡ length self.old }
-        ensures distances { (x : ℕ) → DistanceIs
-            (λ a b. IsNearInside lists.now.before.lists components.now (slice_index_or components.now end 0) b a) x end
-            (level_at self.new x) }
+        ensures levels { All (λ w. AreLevelsFor
+            (λ a b. IsNearInside lists.now.before.lists components.now (slice_index_or components.now end 0) b a) w end
+            self.new) wanted.now }
     {
         forget(&mut self.levels, &self.touched);
         self.touched.clear();
-        measure_inside(lists, components, end, &mut self.levels, &mut self.touched);
+        measure_inside(
+            lists,
+            components,
+            wanted,
+            end,
+            &mut self.levels,
+            &mut self.touched,
+        );
     }
 }
 
@@ -147,11 +161,28 @@ fn expand_inside(
     }
 }
 
-/// Gives each class of the component the least number of edges of a walk within it to `end`, or none.
-/// Takes no memory.
+/// How many of these classes have a level, from the first on, where the first `known` do.
+fn known_front(levels: &[Option<u32>], wanted: &[u32], known: usize) -> usize
+    requires wanted { All (λ w. w < length levels.now) wanted.now }
+    requires known { (i : ℕ) → i < known → HasLevel levels.now (slice_index_or wanted.now i 0) }
+    ensures known { (i : ℕ) → i < result → HasLevel levels.now (slice_index_or wanted.now i 0) }
+{
+    let mut known = known;
+    while known < wanted.len() {
+        if levels[wanted[known] as usize].is_none() {
+            return known;
+        }
+        known += 1;
+    }
+    known
+}
+
+/// Gives classes of the component the least number of edges of a walk within it to `end`, until all that are
+/// wanted have one, or no further class can get one. Takes no memory.
 fn measure_inside(
     lists: &Lists,
     components: &[u32],
+    wanted: &[u32],
     end: u32,
     levels: &mut [Option<u32>],
     queue: &mut Vec<u32>,
@@ -160,6 +191,7 @@ fn measure_inside(
     requires few { length lists.now.before.lists ≤ MOST_GRAPH_CLASSES }
     requires classes { length levels.old ≡ length lists.now.before.lists }
     requires components { length components.now ≡ length lists.now.before.lists }
+    requires wanted { All (λ w. w < length lists.now.before.lists) wanted.now }
     requires ends { (a b : ℕ) → IsNear lists.now.before.lists a b
         → b < length lists.now.before.lists }
     requires room { length lists.now.before.lists ≤ vec_capacity queue.old }
@@ -167,9 +199,9 @@ fn measure_inside(
     requires empty { queue.old.items ≡ [] }
     ensures capacity { vec_capacity queue.old ≤ vec_capacity queue.new }
     ensures touched { AreTouched levels.new queue.new.items }
-    ensures distances { (x : ℕ) → DistanceIs
-        (λ a b. IsNearInside lists.now.before.lists components.now (slice_index_or components.now end 0) b a) x end
-        (slice_index_or levels.new x None) }
+    ensures levels { All (λ w. AreLevelsFor
+        (λ a b. IsNearInside lists.now.before.lists components.now (slice_index_or components.now end 0) b a) w end
+        levels.new) wanted.now }
 {
     let component = components[end as usize];
     let mut steps = Steps::new();
@@ -182,7 +214,12 @@ fn measure_inside(
         queue,
     );
     let mut done = 0;
+    let mut known = 0;
     while done < queue.len() {
+        known = known_front(levels, wanted, known);
+        if known >= wanted.len() {
+            return;
+        }
         let class = queue[done];
         let Some(level) = levels[class as usize] else {
             unreachable!()

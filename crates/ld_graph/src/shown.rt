@@ -5,7 +5,7 @@ ghost use Rattle.std.specs.Prelude.{IsTrue, IfOk, MatchOption};
 ghost use Rattle.ld_graph.specs.Edges.{ComesBefore};
 ghost use Rattle.ld_graph.specs.Inner.Levels.{IsLeastAtLevel, level_at};
 ghost use Rattle.ld_graph.specs.Lists.{IsNear};
-ghost use Rattle.ld_graph.specs.Walks.{DistanceIs, IsShownWalk, Reaches};
+ghost use Rattle.ld_graph.specs.Walks.{AreEnough, IsShownWalk};
 
 use crate::lists::{Lists, Steps};
 use std::alloc::{AllocError, Global};
@@ -40,7 +40,7 @@ fn nearest(near: &[u32], level: u32, levels: &[Option<u32>], places: &[u32]) -> 
     least
 }
 
-/// The shown walk from `a` to `b`, where the level of each class that `a` leads to is its distance to `b`.
+/// The shown walk from `a` to `b`, by levels that are enough of the distances to `b` for it.
 pub fn show(
     alloc: Global,
     lists: &Lists,
@@ -54,13 +54,12 @@ pub fn show(
     requires levels { length levels.now ≡ length lists.now.after.lists }
     requires places { length places.now ≡ length lists.now.after.lists }
     requires ends { (x y : ℕ) → IsNear lists.now.after.lists x y → y < length lists.now.after.lists }
-    requires distances { (x : ℕ) → Reaches (IsNear lists.now.after.lists) a x
-        → DistanceIs (IsNear lists.now.after.lists) x b (level_at levels.now x) }
+    requires distances { AreEnough (IsNear lists.now.after.lists) a b (level_at levels.now) }
     requires distance { level_at levels.now a ≡ Some distance }
     ensures { IfOk result (λ walk.
         IsShownWalk (IsNear lists.now.after.lists) (ComesBefore places.now) a b walk.items) }
 {
-    let mut walk = Vec::new(alloc);
+    let mut walk = Vec::with_capacity(alloc, distance as usize + 1)?;
     walk.push(a)?;
     let mut last = a;
     let mut left = distance;

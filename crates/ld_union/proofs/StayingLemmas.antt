@@ -1,15 +1,16 @@
 -- The successors of a class that stay in its component, by their places in an order.
 use Rattle.std.proofs.Common.{◌≡◌, ◌≢◌, ◌⊎◌, inl, inr, ◌+◌, ◌<◌, ◌≤◌, ◌∙◌, ◌++◌, ◌∷◌, [], List, ℕ, Contains, IsPermutation, IsSortedByKey, false}
-use Rattle.std.proofs.Common.{arith, ap, length, nat_cmp, nat_eq, subst, sym}
+use Rattle.std.proofs.Common.{map, arith, ap, length, nat_cmp, nat_eq, subst, sym}
 use Rattle.std.specs.List.{IsDistinct}
 use Rattle.std.proofs.lemmas.Bool.{cases_eq, cases_lt, eq-eqb, true≢false}
-use Rattle.std.proofs.lemmas.List.{get_or_default}
-use Rattle.std.proofs.lemmas.List.Elements.{Contains-append_left, Contains-push, Contains-push_cases}
+use Rattle.std.proofs.lemmas.List.{get_or-map, get_or_default, length-map}
+use Rattle.std.proofs.lemmas.List.Elements.{Contains-append_left, Contains-get_or, Contains-push, Contains-push_cases}
 use Rattle.std.proofs.lemmas.List.Sorted.{IsNonDecreasingBy-from_sort}
 use Rattle.std.proofs.lemmas.Map.Keys.{IsDistinct-IsPermutation, apart_from_distinct}
 use Rattle.ld_class.specs.Names.{PlainClass}
 use Rattle.ld_graph.proofs.OnceLemmas.{IsDistinct-none, IsDistinct-one_more}
-use Rattle.ld_union.specs.Inner.ByName.{AreByName, AreRising, class_at, name_at}
+use Rattle.ld_union.specs.Findings.{IsBefore}
+use Rattle.ld_union.specs.Inner.ByName.{AreByName, AreRising, class_at, class_name, name_at}
 
 -- a class stands at its place
 pub place_back : (classes : List PlainClass) (numbers places : List ℕ) → AreByName classes numbers places → (c : ℕ) → c < length classes
@@ -91,12 +92,25 @@ increasing_from_sort xs ys once moved sorted i j less within =
     strict a b up apart (inl same) = absurd (true≢false (sym (eq-eqb a b same) ∙ apart))
     strict a b up apart (inr other) = omega (arith, up, other)
 
--- the name at a place of the order that is one of these
-abbrev pub placed_name : List PlainClass → List ℕ → List ℕ → ℕ → PlainClass
-placed_name classes numbers places i = name_at classes numbers (class_at places i)
-
--- places that rise have names that do
+-- the classes at places that rise have names that do
 pub AreRising-placed : (classes : List PlainClass) (numbers places : List ℕ) → AreRising (name_at classes numbers) (length numbers)
     → ((i j : ℕ) → i < j → j < length places → class_at places i < class_at places j) → ((i : ℕ) → i < length places → class_at places i < length numbers)
-    → AreRising (placed_name classes numbers places) (length places)
-AreRising-placed classes numbers places names rising within i j less low = names (class_at places i) (class_at places j) (rising i j less low) (within j low)
+    → AreRising (name_at classes (map (class_at numbers) places)) (length (map (class_at numbers) places))
+AreRising-placed classes numbers places names rising within i j less below =
+    let low : j < length places = subst (λ n. j < n) (length-map places (class_at numbers)) below in
+    let low_i : i < length places = omega (arith, less, low) in
+    subst (λ c. IsBefore (class_name classes c) (name_at classes (map (class_at numbers) places) j)) (sym (get_or-map (class_at numbers) places i 0 0 low_i))
+    (subst (λ c. IsBefore (name_at classes numbers (class_at places i)) (class_name classes c)) (sym (get_or-map (class_at numbers) places j 0 0 low))
+    (names (class_at places i) (class_at places j) (rising i j less low) (within j low)))
+
+-- a class is at one of these places, and where it is not
+pub Contains-from_placed : (numbers places : List ℕ) (c : ℕ) → Contains (map (class_at numbers) places) c → (p : ℕ) × (Contains places p × (class_at numbers p ≡ c))
+Contains-from_placed numbers places c h =
+    let l = h.1 in
+    let low : h.0 < length places = subst (λ n. h.0 < n) (length-map places (class_at numbers)) l in
+    (class_at places h.0, (Contains-get_or places h.0 0 low, sym (get_or-map (class_at numbers) places h.0 0 c low) ∙ h.2))
+
+pub Contains-placed : (numbers places : List ℕ) (p : ℕ) → Contains places p → Contains (map (class_at numbers) places) (class_at numbers p)
+Contains-placed numbers places p h =
+    let l = h.1 in
+    (h.0, subst (λ n. h.0 < n) (sym (length-map places (class_at numbers))) l, get_or-map (class_at numbers) places h.0 p (class_at numbers p) l ∙ ap (class_at numbers) h.2)

@@ -2,6 +2,7 @@
 use Rattle.std.specs.Prelude.{◌≡◌, ℕ, ◌<◌, List, length, slice_index_or, Option, Some, Contains}
 use Rattle.ld_graph.specs.Inner.Levels.{level_at}
 use Rattle.ld_graph.specs.Lists.{list_at}
+use Rattle.ld_graph.specs.Walks.{DistanceIs, IsDistance}
 
 -- one of these classes, and of this component
 abbrev pub IsInsideOf : (components : List ℕ) (component : ℕ) (near : List ℕ) → ℕ → Type 0
@@ -15,3 +16,10 @@ IsNearInside lists components component a b = IsInsideOf components component (l
 pub record AreTouched (levels : List (Option ℕ)) (touched : List ℕ) : Type 0 where
   pub within : (x : ℕ) → Contains touched x → x < length levels
   pub all : (x k : ℕ) → level_at levels x ≡ Some k → Contains touched x
+
+-- the same of the levels that a search gave, over all classes: enough is known for the class w
+pub record AreLevelsFor (step : ℕ → ℕ → Type 0) (w end : ℕ) (levels : List (Option ℕ)) : Type 0 where
+  pub own : DistanceIs step w end (level_at levels w)
+  pub right : (c n : ℕ) → level_at levels c ≡ Some n → IsDistance step c end n
+  pub nearer : (c m n : ℕ) → IsDistance step c end m → level_at levels w ≡ Some n → m < n
+      → level_at levels c ≡ Some m

@@ -3,7 +3,7 @@ use Rattle.std.specs.Prelude.{◌≡◌, ◌↔◌, ◌<◌, ℕ, List, Contains
 use Rattle.ld_class.specs.Names.{PlainClass}
 use Rattle.ld_graph.specs.Edges.{IsEdge}
 use Rattle.ld_graph.specs.Components.{AreComponents}
-use Rattle.ld_graph.specs.Walks.{DistanceIs, HasWalk, Reaches}
+use Rattle.ld_graph.specs.Walks.{AreEnough, DistanceIs, HasWalk}
 use Rattle.ld_trace.specs.declared.event.State.{State}
 use Rattle.ld_trace.specs.Sources.{PlainSource}
 use Rattle.ld_rules.specs.declared.outcome.Witness.{Witness}
@@ -94,11 +94,10 @@ pub record AreDistances (union : PlainUnion) (to : ℕ) (distances : List (Optio
   pub len : length distances ≡ length union.classes
   pub each : (c : ℕ) → DistanceIs (IsEdge (edges_of union.dependencies)) c to (slice_index_or distances c None)
 
--- for each class that this one leads to, and for itself, the distance to another one
+-- enough of the distances to another class for the shown walk from this one
 pub record AreDistancesFrom (union : PlainUnion) (from to : ℕ) (distances : List (Option ℕ)) : Type 0 where
   pub len : length distances ≡ length union.classes
-  pub each : (c : ℕ) → Reaches (IsEdge (edges_of union.dependencies)) from c
-      → DistanceIs (IsEdge (edges_of union.dependencies)) c to (slice_index_or distances c None)
+  pub enough : AreEnough (IsEdge (edges_of union.dependencies)) from to (λ c. slice_index_or distances c None)
 
 -- which classes of a union are in one component
 abbrev pub AreComponentsOf : PlainUnion → List ℕ → Type 0

@@ -3,8 +3,8 @@ ghost use Rattle.std.specs.Prelude.{◌≡◌, ◌↔◌, ◌<◌, ℕ, Contains
 ghost use Rattle.ld_trace.specs.Sources.{PlainSource};
 ghost use Rattle.ld_rules.specs.Union.{dependency_witness};
 ghost use Rattle.ld_union.specs.Findings.{AreCycleRows, plain_cycle_row};
-ghost use Rattle.ld_union.specs.Inner.ByName.{AreByName, class_at, class_name};
-ghost use Rattle.ld_union.specs.Inner.Rows.{AreComponentsOf, AreCycleRowsOf, AreDistancesFrom, IsBackPlace, IsCycleRowOf, IsOfEach};
+ghost use Rattle.ld_union.specs.Inner.ByName.{AreByName, AreRising, class_at, class_name, name_at};
+ghost use Rattle.ld_union.specs.Inner.Rows.{AreComponentsOf, AreCycleRowsOf, AreDistancesFrom, IsBackEdge, IsBackPlace, IsCycleRowOf, IsOfEach};
 ghost use Rattle.ld_union.specs.Inner.Union.{Shows};
 ghost use Rattle.ld_union.specs.Violations.{IsCycle};
 
@@ -79,22 +79,45 @@ fn cycles_from<'a>(
         (map plain_cycle_row rows.items)) }
 {
     let mut rows = Vec::new(alloc);
-    let places = places_on_cycle(alloc, union, order, components, from)?;
-    if places.is_empty() {
+    let ends = ends_on_cycle(alloc, union, order, components, from)?;
+    if ends.is_empty() {
         return Ok(rows);
     }
-    union.graph().distances_inside(from, components, distances);
-    for place in &places {
-        let to = order.numbers[*place as usize];
-        if let Some(row) = cycle_row(alloc, union, order, distances.levels(), from, to)? {
+    union
+        .graph()
+        .distances_inside(from, components, &ends, distances);
+    for to in &ends {
+        if let Some(row) = cycle_row(alloc, union, order, distances.levels(), from, *to)? {
             rows.push(row)?;
         }
     }
     Ok(rows)
 }
 
-/// The places of the classes to which dependencies on cycles lead from this class, in order. These are the
-/// dependencies that stay in the component.
+/// The classes to which dependencies on cycles lead from this class, by name.
+fn ends_on_cycle(
+    alloc: Global,
+    union: &Union<'_>,
+    order: &ByName,
+    components: &[u32],
+    from: u32,
+) -> Result<Vec<u32>, AllocError>
+    requires order { AreByName union.now.classes order.now.numbers.items order.now.places.items }
+    requires components { AreComponentsOf union.now components.now }
+    requires from { from < length union.now.classes }
+    ensures exact { IfOk result (λ ends. (to : ℕ) → Contains ends.items to ↔ IsBackEdge union.now from to) }
+    ensures rising { IfOk result (λ ends. AreRising (name_at union.now.classes ends.items) (length ends.items)) }
+{
+    let places = places_on_cycle(alloc, union, order, components, from)?;
+    let mut ends = Vec::with_capacity(alloc, places.len())?;
+    for place in &places {
+        ends.push(order.numbers[*place as usize])?;
+    }
+    Ok(ends)
+}
+
+/// The places of these classes in the order of names, from the least on. The dependencies on cycles are those
+/// that stay in the component.
 fn places_on_cycle(
     alloc: Global,
     union: &Union<'_>,
@@ -107,6 +130,8 @@ fn places_on_cycle(
     requires from { from < length union.now.classes }
     ensures exact { IfOk result (λ places. (p : ℕ) →
         Contains places.items p ↔ IsBackPlace union.now order.now.numbers.items from p) }
+    ensures ends { IfOk result (λ places. (to : ℕ) → IsBackEdge union.now from to
+        → to < length union.now.classes) }
     ensures rising { IfOk result (λ places. (i j : ℕ) → i < j → j < length places.items
         → class_at places.items i < class_at places.items j) }
 {
@@ -132,7 +157,7 @@ fn cycle_row<'a>(
 ) -> Result<Option<CycleRow<'a>>, AllocError>
     requires order { AreByName union.now.classes order.now.numbers.items order.now.places.items }
     requires from { from < length union.now.classes }
-    requires distances { AreDistancesFrom union.now from from distances.now }
+    requires distances { AreDistancesFrom union.now to from distances.now }
     requires to { to < length union.now.classes }
     ensures { IfOk result (λ row. (sources : List PlainSource)
         → Shows sources union.now

@@ -1,8 +1,9 @@
-use Rattle.std.proofs.Common.{◌≡◌, ◌+◌, ℕ, [], Contains, ap, arith, get_or, length, subst}
+use Rattle.std.proofs.Common.{inl, inr, ◌≡◌, ◌+◌, ℕ, [], Contains, ap, arith, get_or, length, subst}
+use Rattle.std.proofs.lemmas.List.{get_or_default}
 use Rattle.ld_graph.specs.Inner.Insides.{IsInsideOf, IsNearInside}
 use Rattle.ld_graph.specs.Inner.Levels.{HasLevel, Spreads}
 use Rattle.ld_graph.proofs.SpreadLemmas.{count_none}
-use Rattle.ld_graph.proofs.SearchLemmas.{IsPartial-begun, IsPartial-next, IsPartial-all, IsPartial-touched}
+use Rattle.ld_graph.proofs.SearchLemmas.{IsPartial-begun, IsPartial-next, IsPartial-levels, IsPartial-touched}
 use Rattle.ld_graph.proofs.SearchLemmas.{next_within, next_small, next_level}
 use Rattle.ld_graph.proofs.inside.measure_inside.Goals as goal
 
@@ -24,6 +25,7 @@ loop-done-init c =
           c.expand_inside.new.levels c.expand_inside.new.queue.items c.requires.none spreads
           (subst (λ n. (x : ℕ) → IsInsideOf c.args.components.now component n x → HasLevel c.expand_inside.new.levels x)
           c.before-2.ensures.near c.expand_inside.ensures.reached);
+      known = λ i l. absurd (omega (arith, l));
       steps = omega arith;
     }
 
@@ -48,6 +50,7 @@ loop-done-preserved c =
           c.expand_inside-in-loop-done.ensures.spreads)
           (subst (λ n. (x : ℕ) → IsInsideOf c.args.components.now (get_or c.args.components.now c.args.end 0) n x → HasLevel c.expand_inside-in-loop-done.new.levels x)
           c.before-in-loop-done.ensures.near c.expand_inside-in-loop-done.ensures.reached);
+      known = λ i l. let r = c.known_front-known.ensures.known i l in (r.0, c.expand_inside-in-loop-done.ensures.spreads.kept (get_or c.args.wanted.now i 0) r.0 r.1);
       steps = omega arith;
     }
 
@@ -82,11 +85,11 @@ unreachable-requires c =
     c.index-class.ensures in
     c.in_default.not-Some next.0 next.1.0
 
-pub returns-clause-distances : goal.returns-clause-distances
-returns-clause-distances c =
-    IsPartial-all (IsNearInside c.args.lists.now.before.lists c.args.components.now (get_or c.args.components.now c.args.end 0)) c.args.end c.loop-done.done c.loop-done.levels
-    c.loop-done.queue.items c.loop-done.invariant.partial
-    (omega (arith, c.loop-done-test.false, c.len.ensures))
+pub returns-clause-levels : goal.returns-clause-levels
+returns-clause-levels c = λ i d within.
+    IsPartial-levels (IsNearInside c.args.lists.now.before.lists c.args.components.now (get_or c.args.components.now c.args.end 0)) c.args.end c.loop-done.done c.loop-done.levels
+    c.loop-done.queue.items c.loop-done.invariant.partial (get_or c.args.wanted.now i d)
+    (inr (omega (arith, c.loop-done-test.false, c.len.ensures)))
 
 pub expand_inside-requires-clause-ends : goal.expand_inside-requires-clause-ends
 expand_inside-requires-clause-ends c = λ x n.
@@ -104,3 +107,14 @@ returns-clause-touched c =
     let e = IsPartial-touched (IsNearInside c.args.lists.now.before.lists c.args.components.now (get_or c.args.components.now c.args.end 0)) c.args.end c.loop-done.done c.loop-done.levels
     c.loop-done.queue.items c.loop-done.invariant.partial in
     e
+
+pub returns-then-known-wanted-clause-touched : goal.returns-then-known-wanted-clause-touched
+returns-then-known-wanted-clause-touched c =
+    IsPartial-touched (IsNearInside c.args.lists.now.before.lists c.args.components.now (get_or c.args.components.now c.args.end 0)) c.args.end c.loop-done.done c.loop-done.levels
+    c.loop-done.queue.items c.loop-done.invariant.partial
+
+pub returns-then-known-wanted-clause-levels : goal.returns-then-known-wanted-clause-levels
+returns-then-known-wanted-clause-levels c = λ i d within.
+    IsPartial-levels (IsNearInside c.args.lists.now.before.lists c.args.components.now (get_or c.args.components.now c.args.end 0)) c.args.end c.loop-done.done c.loop-done.levels
+    c.loop-done.queue.items c.loop-done.invariant.partial (get_or c.args.wanted.now i d)
+    (inl (subst (HasLevel c.loop-done.levels) (get_or_default c.args.wanted.now i 0 d within) (c.known_front-known.ensures.known i (omega (arith, within, c.if-known-wanted.true)))))

@@ -1,4 +1,4 @@
-use Rattle.std.proofs.Common.{◌≡◌, ◌≢◌, ◌∙◌, inr, [], None, Some, get_or, refl, subst, sym, ap}
+use Rattle.std.proofs.Common.{◌≡◌, ◌≢◌, ◌∙◌, [], None, Some, get_or, refl, subst, sym, ap}
 use Rattle.std.proofs.lemmas.Option.{MatchOption-at_none, MatchOption-at_some}
 use Rattle.ld_graph.specs.Edges.{IsEdge, IsEdgeNumber, edge}
 use Rattle.ld_rules.specs.Union.{dependency_witness}
@@ -7,8 +7,6 @@ use Rattle.ld_union.specs.declared.dependencies.Witnessed.{Witnessed}
 use Rattle.ld_union.specs.Findings.{IsShown, plain_cycle_row, plain_names}
 use Rattle.ld_union.specs.Inner.ByName.{class_name}
 use Rattle.ld_union.specs.Inner.Union.{edges_of}
-use Rattle.ld_graph.proofs.TrailLemmas.{reaches-on}
-use Rattle.ld_graph.proofs.WalkLemmas.{HasWalk-Far}
 use Rattle.ld_union.proofs.CycleLemmas.{cycle-row, no_cycle-back, no_cycle-edge, no_cycle-walk, no_walk}
 use Rattle.ld_union.proofs.UnionLemmas.{edge_of_row, first_at, found_row}
 use Rattle.ld_union.proofs.findings.cycles.cycle_row.Goals as goal
@@ -23,20 +21,7 @@ returns-then-is_none c sources shows =
     let distances = c.args.distances.now in
     no_cycle-back union.classes union.dependencies shows.numbered sources shows.witnesses c.args.from c.args.to c.requires.from c.requires.to
     (λ there. no_walk (IsEdge (edges_of union.dependencies)) c.args.to c.args.from (get_or distances c.args.to None)
-    (c.requires.distances.each c.args.to (inr (HasWalk-Far (IsEdge (edges_of union.dependencies)) 0 c.args.from c.args.to there))) c.if-is_none.ensures)
-
-pub walk_names-requires-clause-distances : goal.walk_names-requires-clause-distances
-walk_names-requires-clause-distances c =
-    let union = c.args.union.now in
-    let n = c.in-Some.number in
-    let found = subst (λ edges. IsEdgeNumber edges c.args.from c.args.to n) c.graph.ensures.edges c.in-Some.ensures in
-    let at_row = found_row union.dependencies c.args.from c.args.to n found in
-    let there : IsEdge (edges_of union.dependencies) c.args.from c.args.to = edge_of_row union.dependencies c.args.from c.args.to n no_row at_row.0 (at_row.1 no_row) in
-    record {
-      len = c.requires.distances.len;
-      each = λ x reached. c.requires.distances.each x (reaches-on (IsEdge (edges_of union.dependencies)) c.args.from c.args.to x
-          (inr (HasWalk-Far (IsEdge (edges_of union.dependencies)) 0 c.args.from c.args.to there)) reached);
-    }
+    c.requires.distances.enough.own c.if-is_none.ensures)
 
 pub returns-in_default : goal.returns-in_default
 returns-in_default c sources shows =

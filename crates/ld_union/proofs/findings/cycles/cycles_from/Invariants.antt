@@ -1,13 +1,12 @@
 use Rattle.std.proofs.Common.{◌≡◌, List, map}
 use Rattle.ld_trace.specs.Sources.{PlainSource}
-use Rattle.ld_union.specs.Inner.ByName.{class_name}
+use Rattle.ld_union.specs.Inner.ByName.{class_name, name_at}
 use Rattle.ld_union.specs.Inner.Rows.{AreCycleRowsOf, IsPassed}
 use Rattle.ld_union.specs.Findings.{plain_cycle_row}
 use Rattle.ld_union.specs.Inner.Union.{Shows}
-use Rattle.ld_union.proofs.StayingLemmas.{placed_name}
 use Rattle.ld_union.proofs.findings.cycles.cycles_from.Given as goal
 
-abbrev pub invariant-loop-place : goal.invariant-loop-place
-invariant-loop-place l = (sources : List PlainSource) → Shows sources l.union
-    → AreCycleRowsOf sources (λ p. (p.0 ≡ class_name l.union.classes l.from) × IsPassed (placed_name l.union.classes l.order.numbers.items l.place-items) l.place-index p.1)
+abbrev pub invariant-loop-to : goal.invariant-loop-to
+invariant-loop-to l = (sources : List PlainSource) → Shows sources l.union
+    → AreCycleRowsOf sources (λ p. (p.0 ≡ class_name l.union.classes l.from) × IsPassed (name_at l.union.classes l.to-items) l.to-index p.1)
     (map plain_cycle_row l.rows.items)

@@ -121,3 +121,6 @@ returns-clause-exact c = λ p. (λ h. forth p h, λ b. back p b)
 pub returns-clause-rising : goal.returns-clause-rising
 returns-clause-rising c = increasing_from_sort c.loop-to.places.items c.sort_unstable.new.self.items c.loop-to.invariant.once c.sort_unstable.ensures.permutation
     c.sort_unstable.ensures.sorted
+
+pub returns-clause-ends : goal.returns-clause-ends
+returns-clause-ends c = λ to edge. end_at (goal.at.returns-clause-ends c).After-after-to-items to edge.0

@@ -1,6 +1,6 @@
-use Rattle.std.proofs.Common.{◌≡◌, ◌<◌, ◌∙◌, All, MatchOption, length, map, subst, sym, ap}
+use Rattle.std.proofs.Common.{None, get_or, ◌≡◌, ◌<◌, ◌∙◌, All, MatchOption, length, map, subst, sym, ap}
 use Rattle.ld_graph.specs.Edges.{ComesBefore, IsEdge}
-use Rattle.ld_graph.specs.Walks.{HasWalk, IsShownWalk}
+use Rattle.ld_graph.specs.Walks.{AreEnough, HasWalk, IsShownWalk}
 use Rattle.ld_union.specs.Findings.{IsShown, plain_names}
 use Rattle.ld_union.specs.Inner.ByName.{class_name}
 use Rattle.ld_union.specs.Inner.Union.{edges_of}
@@ -32,3 +32,7 @@ returns c sources shows =
     subst (IsShown sources (class_name union.classes c.args.from) (class_name union.classes c.args.to)) (sym names)
     (shown_named union.classes union.dependencies shows.numbered sources shows.witnesses order.numbers.items order.places.items
     c.requires.order c.args.from c.args.to c.in-Some.walk.items c.requires.from c.requires.to placed)
+
+pub walk_along-requires-clause-enough : goal.walk_along-requires-clause-enough
+walk_along-requires-clause-enough c =
+    subst (λ es. AreEnough (IsEdge es) c.args.from c.args.to (λ x. get_or c.args.distances.now x None)) (sym c.graph.ensures.edges) c.requires.distances.enough
