@@ -206,12 +206,16 @@ fn copy_row(order: &VecDeque<u32>, start: usize, end: usize, row: &mut Vec<u32>)
     ensures items { row.new.items ≡ slice_range order.now.items start end }
     ensures capacity { vec_capacity row.old ≤ vec_capacity row.new }
 {
+    let (front, back) = order.as_slices();
+    let len = front.len();
     row.clear();
-    for class in order.range(start..end) {
-        let Ok(()) = row.push(*class) else {
-            unreachable!()
-        };
-    }
+    let Ok(()) = row.extend_from_slice(&front[start.min(len)..end.min(len)]) else {
+        unreachable!()
+    };
+    let Ok(()) = row.extend_from_slice(&back[start.saturating_sub(len)..end.saturating_sub(len)])
+    else {
+        unreachable!()
+    };
 }
 
 /// Gives these classes the ranks from `low` on, in this order, and the places from `start` on.
