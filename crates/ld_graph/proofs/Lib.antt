@@ -10,6 +10,7 @@ pub mod SplitLemmas
 pub mod MarkLemmas
 pub mod SoughtLemmas
 pub mod PartLemmas
+pub mod RangeLemmas
 pub mod MendLemmas
 pub mod PlanLemmas
 pub mod RankLemmas

@@ -50,6 +50,7 @@ impl Ranks {
             behind: Search::new(alloc),
             ahead: Search::new(alloc),
             moved: Vec::new(alloc),
+            rest: Vec::new(alloc),
         };
         Ranks {
             ranks: Vec::new(alloc),
@@ -100,8 +101,8 @@ impl Ranks {
         self.row.reserve(classes)?;
         self.space.behind.room(classes)?;
         self.space.ahead.room(classes)?;
-        self.space.moved.clear();
-        self.space.moved.reserve(classes)?;
+        self.space.moved.resize(classes, 0)?;
+        self.space.rest.resize(classes, 0)?;
         self.room = classes;
         Ok(())
     }

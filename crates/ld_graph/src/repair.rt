@@ -1,14 +1,14 @@
 //! A repair of the ranks from one rank to another.
 
 ghost use Rattle.std.specs.Prelude.{◌≡◌, ◌≢◌, ◌↔◌, ◌⊎◌, ℕ, ◌+◌, ◌-◌, ◌^◌, ◌<◌, ◌≤◌, [], ◌++◌, not};
-ghost use Rattle.std.specs.Prelude.{length, slice_index, slice_range, vec_len, vec_capacity};
+ghost use Rattle.std.specs.Prelude.{length, take, slice_index, slice_range, vec_capacity};
 ghost use Rattle.std.specs.Prelude.{IfSome, MatchOption};
 ghost use Rattle.std.specs.VecDeque.{deque_capacity};
 ghost use Rattle.std.specs.Bool.{OnTrue, OnFalse};
 ghost use Rattle.ld_graph.specs.declared.graph.TheConstants.{MOST_GRAPH_CLASSES};
 ghost use Rattle.ld_graph.specs.Inner.Repairs.{AreInverse, HasMet, AreRanked, IsPlan, IsRepaired};
 ghost use Rattle.ld_graph.specs.Inner.Repairs.{IsRow, IsOrReaches};
-ghost use Rattle.ld_graph.specs.Inner.Repairs.{count, in_front, is_part, other, picked, split};
+ghost use Rattle.ld_graph.specs.Inner.Repairs.{count, in_front, is_part, picked, split};
 ghost use Rattle.ld_graph.specs.Lists.{IsNear};
 
 use crate::lists::{Lists, Steps};
@@ -25,6 +25,8 @@ pub struct Space {
     pub ahead: Search,
     /// The classes of the range in their new order.
     pub moved: Vec<u32>,
+    /// Those of them that come behind, until they are joined to the others.
+    pub rest: Vec<u32>,
 }
 
 /// A part of a row, by what a search has found.
@@ -37,16 +39,6 @@ enum Part {
 }
 
 impl Part {
-    /// The rest of the row beside this part.
-    fn other(self) -> Part
-        ensures { result ≡ other self }
-    {
-        match self {
-            Part::Found => Part::Rest,
-            Part::Rest => Part::Found,
-        }
-    }
-
     /// Whether the class at the offset is in the part.
     fn has(self, search: &Search, offset: u32) -> bool
         requires { offset < search.now.size }
@@ -59,75 +51,102 @@ impl Part {
     }
 }
 
-/// Appends the classes of one part of the row, in their order.
-fn append_part(row: &[u32], search: &Search, part: Part, moved: &mut Vec<u32>)
+/// Writes the classes of one part of the row to the one list and the others to the other, all in
+/// their order, and answers how many are of the part. Each class is written to both, and what isn't of
+/// the list is written over, so that no step depends on what was found.
+fn part_row(
+    row: &[u32],
+    search: &Search,
+    front: Part,
+    moved: &mut Vec<u32>,
+    rest: &mut Vec<u32>,
+) -> usize
     requires size { length row.now ≤ search.now.size }
     requires few { length row.now ≤ MOST_GRAPH_CLASSES }
-    requires room { vec_len moved.old + count (is_part search.now.found part) (length row.now)
-        ≤ vec_capacity moved.old }
-    ensures items { moved.new.items ≡ moved.old.items
-        ++ picked (is_part search.now.found part) (slice_index row.now) (length row.now) }
-    ensures capacity { vec_capacity moved.old ≤ vec_capacity moved.new }
+    requires moved { length row.now ≤ length moved.old.items }
+    requires rest { length row.now ≤ length rest.old.items }
+    ensures within { result ≤ length row.now }
+    ensures count { result ≡ count (is_part search.now.found front) (length row.now) }
+    ensures moved { take result moved.new.items
+        ≡ picked (is_part search.now.found front) (slice_index row.now) (length row.now) }
+    ensures rest { take (length row.now - result) rest.new.items
+        ≡ picked (λ k. not (is_part search.now.found front k)) (slice_index row.now)
+        (length row.now) }
+    ensures len { (length moved.new.items ≡ length moved.old.items)
+        × (length rest.new.items ≡ length rest.old.items) }
 {
+    let (mut placed, mut left) = (0, 0);
     for offset in 0..row.len() {
-        if part.has(search, offset as u32) {
-            let Ok(()) = moved.push(row[offset]) else {
-                unreachable!()
-            };
-        }
+        moved[placed] = row[offset];
+        rest[left] = row[offset];
+        let here = usize::from(front.has(search, offset as u32));
+        placed += here;
+        left += 1 - here;
     }
+    placed
 }
 
 /// Puts the classes of one part of the row first, and then the others, all in their order.
-fn split_row(row: &[u32], search: &Search, front: Part, moved: &mut Vec<u32>)
+fn split_row(row: &[u32], search: &Search, front: Part, moved: &mut Vec<u32>, rest: &mut Vec<u32>)
     requires size { length row.now ≤ search.now.size }
     requires few { length row.now ≤ MOST_GRAPH_CLASSES }
-    requires room { length row.now ≤ vec_capacity moved.old }
-    ensures items { moved.new.items
+    requires moved { length row.now ≤ length moved.old.items }
+    requires rest { length row.now ≤ length rest.old.items }
+    ensures items { take (length row.now) moved.new.items
         ≡ split (is_part search.now.found front) (slice_index row.now) (length row.now) }
-    ensures capacity { vec_capacity moved.old ≤ vec_capacity moved.new }
+    ensures len { (length moved.new.items ≡ length moved.old.items)
+        × (length rest.new.items ≡ length rest.old.items) }
 {
-    moved.clear();
-    append_part(row, search, front, moved);
-    append_part(row, search, front.other(), moved);
+    let placed = part_row(row, search, front, moved, rest);
+    let left = row.len() - placed;
+    moved[placed..row.len()].copy_from_slice(&rest[..left]);
 }
 
 /// Puts the classes of the row in their new order, by the search that has ended, and answers whether
 /// the searches are apart. Where they have met there is no such order.
-fn reorder(ended: Side, row: &[u32], behind: &Search, ahead: &Search, moved: &mut Vec<u32>) -> bool
+fn reorder(
+    ended: Side,
+    row: &[u32],
+    behind: &Search,
+    ahead: &Search,
+    moved: &mut Vec<u32>,
+    rest: &mut Vec<u32>,
+) -> bool
     requires some { 0 < length row.now }
     requires behind { length row.now ≤ behind.now.size }
     requires ahead { length row.now ≤ ahead.now.size }
     requires few { length row.now ≤ MOST_GRAPH_CLASSES }
-    requires room { length row.now ≤ vec_capacity moved.old }
+    requires moved { length row.now ≤ length moved.old.items }
+    requires rest { length row.now ≤ length rest.old.items }
     ensures met { OnFalse result (HasMet ended (length row.now) behind.now.found ahead.now.found) }
     ensures apart { OnTrue result
         (¬ HasMet ended (length row.now) behind.now.found ahead.now.found) }
-    ensures items { OnTrue result (moved.new.items
+    ensures items { OnTrue result (take (length row.now) moved.new.items
         ≡ split (in_front ended behind.now.found ahead.now.found) (slice_index row.now)
         (length row.now)) }
-    ensures capacity { vec_capacity moved.old ≤ vec_capacity moved.new }
+    ensures len { (length moved.new.items ≡ length moved.old.items)
+        × (length rest.new.items ≡ length rest.old.items) }
 {
     match ended {
         Side::Before => {
             if behind.has(0) {
                 return false;
             }
-            split_row(row, behind, Part::Found, moved);
+            split_row(row, behind, Part::Found, moved, rest);
         }
         Side::After => {
             if ahead.has(row.len() as u32 - 1) {
                 return false;
             }
-            split_row(row, ahead, Part::Rest, moved);
+            split_row(row, ahead, Part::Rest, moved, rest);
         }
     }
     true
 }
 
 /// Finds a new order of the classes of the row, in which no edge goes back and the last one comes
-/// before the first, leaves it in `space.moved` and answers how many lists were read, which `steps`
-/// has counted from 0 on. Answers `None` where there is no such order, since a walk leads from the
+/// before the first, leaves it at the front of `space.moved` and answers how many lists were read, which
+/// `steps` has counted from 0 on. Answers `None` where there is no such order, since a walk leads from the
 /// first class to the last.
 fn plan(
     lists: &Lists,
@@ -150,26 +169,30 @@ fn plan(
         → slice_index ranks.now x < slice_index ranks.now y }
     requires behind { (space.old.behind.found ≡ []) × (length row.now ≤ space.old.behind.size) }
     requires ahead { (space.old.ahead.found ≡ []) × (length row.now ≤ space.old.ahead.size) }
-    requires room { length row.now ≤ vec_capacity space.old.moved }
+    requires moved { length row.now ≤ length space.old.moved.items }
+    requires rest { length row.now ≤ length space.old.rest.items }
     requires steps { steps.old ≡ 0 }
     ensures told { IfSome result (λ expanded. expanded ≡ steps.new) }
     ensures plan { MatchOption result
         (IsOrReaches (IsNear lists.now.after.lists) (slice_index row.now 0)
         (slice_index row.now (length row.now - 1)))
-        (IsPlan (IsNear lists.now.after.lists) ranks.now low row.now space.new.moved.items) }
+        (IsPlan (IsNear lists.now.after.lists) ranks.now low row.now
+        (take (length row.now) space.new.moved.items)) }
     ensures behind { (space.new.behind.found ≡ [])
         × (space.new.behind.size ≡ space.old.behind.size) }
     ensures ahead { (space.new.ahead.found ≡ [])
         × (space.new.ahead.size ≡ space.old.ahead.size) }
-    ensures room { vec_capacity space.old.moved ≤ vec_capacity space.new.moved }
+    ensures len { (length space.new.moved.items ≡ length space.old.moved.items)
+        × (length space.new.rest.items ≡ length space.old.rest.items) }
 {
     let Space {
         behind,
         ahead,
         moved,
+        rest,
     } = space;
     let ended = search_in_turn(lists, steps, ranks, low, row, behind, ahead);
-    let apart = reorder(ended, row, behind, ahead, moved);
+    let apart = reorder(ended, row, behind, ahead, moved, rest);
     behind.clear();
     ahead.clear();
     if apart { Some(steps.count()) } else { None }
@@ -183,12 +206,16 @@ fn copy_row(order: &VecDeque<u32>, start: usize, end: usize, row: &mut Vec<u32>)
     ensures items { row.new.items ≡ slice_range order.now.items start end }
     ensures capacity { vec_capacity row.old ≤ vec_capacity row.new }
 {
+    let (front, back) = order.as_slices();
+    let len = front.len();
     row.clear();
-    for class in order.range(start..end) {
-        let Ok(()) = row.push(*class) else {
-            unreachable!()
-        };
-    }
+    let Ok(()) = row.extend_from_slice(&front[start.min(len)..end.min(len)]) else {
+        unreachable!()
+    };
+    let Ok(()) = row.extend_from_slice(&back[start.saturating_sub(len)..end.saturating_sub(len)])
+    else {
+        unreachable!()
+    };
 }
 
 /// Gives these classes the ranks from `low` on, in this order, and the places from `start` on.
@@ -247,7 +274,8 @@ pub fn mend(
     requires behind { (space.old.behind.found ≡ [])
         × (length ranks.old ≤ space.old.behind.size) }
     requires ahead { (space.old.ahead.found ≡ []) × (length ranks.old ≤ space.old.ahead.size) }
-    requires room { length ranks.old ≤ vec_capacity space.old.moved }
+    requires moved { length ranks.old ≤ length space.old.moved.items }
+    requires rest { length ranks.old ≤ length space.old.rest.items }
     requires steps { steps.old ≡ 0 }
     ensures told { IfSome result (λ expanded. expanded ≡ steps.new) }
     ensures ranks { MatchOption result
@@ -261,13 +289,14 @@ pub fn mend(
         × (space.new.behind.size ≡ space.old.behind.size) }
     ensures ahead { (space.new.ahead.found ≡ [])
         × (space.new.ahead.size ≡ space.old.ahead.size) }
-    ensures room { vec_capacity space.old.moved ≤ vec_capacity space.new.moved }
+    ensures room { (length space.new.moved.items ≡ length space.old.moved.items)
+        × (length space.new.rest.items ≡ length space.old.rest.items) }
 {
     let low = ranks[b as usize];
     let start = (low - first) as usize;
     let end = (ranks[a as usize] - first) as usize + 1;
     copy_row(order, start, end, row);
     let expanded = plan(lists, ranks, low, row, space, steps)?;
-    give_ranks(&space.moved, start, low, ranks, order);
+    give_ranks(&space.moved[..row.len()], start, low, ranks, order);
     Some(expanded)
 }

@@ -27,6 +27,7 @@ pub record IsRanked (r : Inside) : Type 0 where
   pub row_room : r.room ≤ vec_capacity r.row
   pub behind_room : r.room ≤ r.space.behind.size
   pub ahead_room : r.room ≤ r.space.ahead.size
-  pub moved_room : r.room ≤ vec_capacity r.space.moved
+  pub moved_room : r.room ≤ length r.space.moved.items
+  pub rest_room : r.room ≤ length r.space.rest.items
   pub behind_none : r.space.behind.found ≡ []
   pub ahead_none : r.space.ahead.found ≡ []

@@ -89,10 +89,6 @@ abbrev pub is_part : List ℕ → Part → ℕ → Bool
 is_part found Found k = list_any (nat_eq k) found
 is_part found Rest k = not (list_any (nat_eq k) found)
 
-abbrev pub other : Part → Part
-other Found = Rest
-other Rest = Found
-
 -- the offsets that go to the front: what the search backward found, or what the other didn't find
 abbrev pub in_front : Side → (behind ahead : List ℕ) → ℕ → Bool
 in_front Before behind ahead = is_part behind Found

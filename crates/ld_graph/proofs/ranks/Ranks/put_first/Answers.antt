@@ -53,6 +53,7 @@ invariant_of-self c =
       behind_room = i.behind_room;
       ahead_room = i.ahead_room;
       moved_room = i.moved_room;
+      rest_room = i.rest_room;
       behind_none = i.behind_none;
       ahead_none = i.ahead_none;
     }
