@@ -123,38 +123,41 @@ fn is_forbidden(text: &[u8]) -> bool
         && is_field(text, 9, b"on")
 }
 
+impl<'a> Said<'a> {
+    ghost use Rattle.std.specs.Prelude.{◌≡◌};
+    ghost use Rattle.ld_select.specs.Said.{plain_said};
+
+    /// What is said by these parts.
+    fn of(kind: &'a [u8], state: &'a [u8], from: &'a [u8], to: &'a [u8]) -> Said<'a>
+        ensures { plain_said result ≡
+            record { kind = kind.entry.now; state = state.entry.now; from = from.entry.now; to = to.entry.now } }
+    {
+        Said {
+            kind,
+            state,
+            from,
+            to,
+        }
+    }
+}
+
 /// What a line without its end says of a violation; `None` where it says nothing.
 pub fn said_by(text: &[u8]) -> Option<Said<'_>>
     ensures { option_map plain_said result ≡ said_by text.now }
 {
     if is_recursion(text) {
-        Some(Said {
-            kind: field(text, 0),
-            state: &[],
-            from: field(text, 1),
-            to: &[],
-        })
+        Some(Said::of(field(text, 0), &[], field(text, 1), &[]))
     } else if is_inversion(text) {
-        Some(Said {
-            kind: field(text, 0),
-            state: &[],
-            from: field(text, 1),
-            to: field(text, 3),
-        })
+        Some(Said::of(field(text, 0), &[], field(text, 1), field(text, 3)))
     } else if is_conflict(text) {
-        Some(Said {
-            kind: field(text, 0),
-            state: field(text, 1),
-            from: field(text, 2),
-            to: &[],
-        })
+        Some(Said::of(field(text, 0), field(text, 1), field(text, 2), &[]))
     } else if is_forbidden(text) {
-        Some(Said {
-            kind: field(text, 0),
-            state: field(text, 1),
-            from: field(text, 2),
-            to: field(text, 7),
-        })
+        Some(Said::of(
+            field(text, 0),
+            field(text, 1),
+            field(text, 2),
+            field(text, 7),
+        ))
     } else {
         None
     }
