@@ -1,0 +1,51 @@
+-- What the lines of a known text say, and which of its lines shouldn't stand there.
+use Rattle.std.specs.Prelude.{ℕ, ◌+◌, Bool, true, false, not, ◌||◌, ◌==◌, List, [], ◌∷◌, Option, Some, None, drop, is_some, codes, position}
+use Rattle.std.specs.List.{list_any, prefix_len}
+use Rattle.std.specs.Option.{option_map}
+use Rattle.ld_trace.specs.Lines.{is_blank, lines, text_of}
+use Rattle.ld_select.specs.Said.{PlainSaid, is_field, said_by, same_said}
+
+-- the first field of a report's first line, and of one for a refused trace
+abbrev pub is_told : List ℕ → Bool
+is_told text = is_field text 0 (codes "traces") || is_field text 0 (codes "refused")
+
+-- the first field of a report's last line
+abbrev pub is_last : List ℕ → Bool
+is_last text = is_field text 0 (codes "clean") || is_field text 0 (codes "violations")
+
+-- the first field of the last line of a report of what is new
+abbrev pub is_last_of_new : List ℕ → Bool
+is_last_of_new text = is_field text 0 (codes "new") || is_field text 0 (codes "nothing")
+
+-- the first byte of a comment is `#`; no byte says nothing either
+abbrev pub begins_comment : List ℕ → Bool
+begins_comment [] = true
+begins_comment (b ∷ text) = b == 35
+
+-- a line without its end that says nothing: it has no byte but blanks, or the first other one is `#`
+abbrev pub is_comment : List ℕ → Bool
+is_comment text = begins_comment (drop (prefix_len is_blank text) text)
+
+-- A line that may stand in a known text: one that says nothing, such as a comment, one of a violation, or
+-- another line of a report.
+abbrev pub may_stand : List ℕ → Bool
+may_stand line =
+    is_comment (text_of line) || is_some (said_by (text_of line)) || is_told (text_of line)
+    || is_last (text_of line) || is_last_of_new (text_of line)
+
+-- the number, from 1, of the first line that may not stand in a known text
+abbrev pub unknown_line : List ℕ → Option ℕ
+unknown_line known = option_map (λ n. n + 1) (position (λ line. not (may_stand line)) (lines known))
+
+-- what a line says is this
+abbrev pub is_that : PlainSaid → Option PlainSaid → Bool
+is_that said None = false
+is_that said (Some other) = same_said other said
+
+-- some line of the text says this
+abbrev pub has_said : List ℕ → PlainSaid → Bool
+has_said text said = list_any (λ line. is_that said (said_by (text_of line))) (lines text)
+
+-- this is one of what is said
+abbrev pub is_among : List PlainSaid → PlainSaid → Bool
+is_among all said = list_any (same_said said) all

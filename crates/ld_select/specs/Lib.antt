@@ -1,0 +1,3 @@
+pub mod Said
+pub mod Known
+pub mod News

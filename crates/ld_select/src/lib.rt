@@ -1,0 +1,8 @@
+//! What the lines of a report say, and which of them are new.
+#![tactic(auto)]
+
+mod known;
+mod news;
+mod said;
+
+pub use news::{NewReport, SelectFault, new_report};

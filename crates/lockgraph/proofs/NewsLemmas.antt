@@ -1,0 +1,19 @@
+-- What is new doesn't depend on the order of the traces.
+use Rattle.std.proofs.Common.{◌∙◌, ℕ, List, ap}
+use Rattle.std.specs.List.Sorted.{IsPermutation}
+use Rattle.ld_trace.specs.Sources.{PlainSource}
+use Rattle.ld_book.specs.declared.totals.Totals.{Totals}
+use Rattle.ld_book.proofs.PermutedLemmas.{totals-permuted}
+use Rattle.ld_report.specs.declared.verdict.Verdict.{Verdict}
+use Rattle.ld_report.proofs.Permuted.{report-permuted}
+use Rattle.ld_select.specs.News.{count_new}
+use Rattle.lockgraph.specs.News.{IsNewsOf, verdict_of_new}
+
+pub news-permuted : (sources listed : List PlainSource) → IsPermutation sources listed
+    → (known text : List ℕ) (verdict : Verdict) → IsNewsOf listed known text verdict → IsNewsOf sources known text verdict
+news-permuted sources listed moved known text verdict news = record {
+  report = news.report;
+  is = report-permuted sources listed moved news.report news.is;
+  text_is = news.text_is;
+  verdict_is = news.verdict_is ∙ ap (λ (t : Totals). verdict_of_new (count_new news.report known) t.refused) (totals-permuted sources listed moved);
+}

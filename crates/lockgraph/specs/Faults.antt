@@ -1,0 +1,18 @@
+-- Why it isn't told what is new, by why there is no book, or no report of what is new.
+use Rattle.ld_check.specs.declared.checked.CheckFault.{CheckFault}
+use Rattle.ld_check.specs.declared.checked.CheckFault.TheVariants as check_faults
+use Rattle.ld_select.specs.declared.news.SelectFault.{SelectFault}
+use Rattle.ld_select.specs.declared.news.SelectFault.TheVariants as select_faults
+use Rattle.lockgraph.specs.declared.news.NewsFault.{NewsFault}
+use Rattle.lockgraph.specs.declared.news.NewsFault.TheVariants.{Stream, UnknownLine, Memory, Uneven}
+
+-- the same fault
+abbrev pub news_fault_of_check : CheckFault → NewsFault
+news_fault_of_check (check_faults.Stream fault) = Stream fault
+news_fault_of_check check_faults.Memory = Memory
+news_fault_of_check (check_faults.Uneven number) = Uneven number
+
+-- the same fault
+abbrev pub news_fault_of_select : SelectFault → NewsFault
+news_fault_of_select (select_faults.UnknownLine line) = UnknownLine line
+news_fault_of_select select_faults.Memory = Memory

@@ -1,0 +1,70 @@
+//! Why there is no answer.
+
+use ld_trace::StreamFault;
+use std::alloc::AllocError;
+use std::io;
+use thiserror::Error;
+
+/// Why there is no answer, or no whole one.
+#[derive(Debug, Drop, Error)]
+pub enum Fault<'a> {
+    /// This file can't be opened.
+    #[error("{0}: {1}")]
+    Open(&'a str, io::Error),
+    /// A read of this file failed.
+    #[error("{0}: read failed")]
+    Read(&'a str),
+    /// This line of this file says something, and stands before every header.
+    #[error("{0}:{1}: NoHeader")]
+    NoHeader(&'a str, u64),
+    /// This line of this file begins as a header, and isn't one.
+    #[error("{0}:{1}: BadHeader")]
+    BadHeader(&'a str, u64),
+    /// This file has another fault.
+    #[error("{0}: {1}")]
+    File(&'a str, StreamFault),
+    /// The files are no stream together, though each of them is one.
+    #[error("{0}")]
+    Together(StreamFault),
+    /// This line of this known text says something, and is no line of a report.
+    #[error("{0}:{1}: UnknownLine")]
+    UnknownLine(&'a str, u64),
+    /// A write or the flush failed.
+    #[error("write failed")]
+    Write,
+    /// A growth of memory was refused.
+    #[error("out of memory")]
+    Memory,
+    /// The workers' book doesn't list just the traces that were read; this number is the least that
+    /// tells so.
+    #[error("uneven at {0}")]
+    Uneven(u64),
+}
+
+impl<'a> Fault<'a> {
+    ghost use Rattle.std.specs.Prelude.{◌≡◌};
+    ghost use Rattle.lockgraph.specs.Streams.{fault_of_file};
+
+    /// A fault of the stream that this file is.
+    pub fn of_file(name: &'a str, fault: StreamFault) -> Fault<'a>
+        ensures { result ≡ fault_of_file name.entry fault }
+    {
+        match fault {
+            StreamFault::NoHeader(line) => Fault::NoHeader(name, line),
+            StreamFault::BadHeader(line) => Fault::BadHeader(name, line),
+            StreamFault::Memory => Fault::Memory,
+            fault => Fault::File(name, fault),
+        }
+    }
+}
+
+impl From<AllocError> for Fault<'_> {
+    ghost use Rattle.std.specs.Prelude.{◌≡◌};
+    ghost use Rattle.lockgraph.specs.declared.fault.Fault.TheVariants.{Memory};
+
+    ghost from_gives = { λ _ fault. fault ≡ Memory };
+
+    fn from(_refusal: AllocError) -> Self {
+        Fault::Memory
+    }
+}

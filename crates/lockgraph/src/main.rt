@@ -1,0 +1,104 @@
+//! Answers questions on recorded traces, over the report that lockcheck gives of them.
+#![tactic(auto)]
+
+ghost use Rattle.std.specs.Prelude.{◌≡◌, ◌≢◌, IsErr, Ok};
+ghost use Rattle.std.specs.Process.{exit_status};
+ghost use Rattle.clap.specs.Values.{kind_of};
+ghost use Rattle.clap.specs.declared.error.kind.ErrorKind.{ErrorKind};
+
+mod fault;
+mod news;
+mod streams;
+mod words;
+
+use fault::Fault;
+use ld_device::Std;
+use ld_report::Verdict;
+use news::{NewsFault, write_news};
+use std::fmt::Display;
+use std::process::ExitCode;
+use std::rt::{Env, Files};
+use std::sync::Wait;
+use std::thread::Threads;
+use std::{env, io};
+use streams::{read_file, read_streams};
+use words::{Asked, New, read_words};
+
+/// The exit status where there is no answer.
+const NO_ANSWER: u8 = 2;
+
+const _: () = prove!(NO_ANSWER == 1 + 1);
+
+fn main(rt: HostRuntime) -> ExitCode {
+    let words = match given_words(&rt) {
+        Ok(words) => words,
+        Err(error) if error.kind() == io::ErrorKind::InvalidData => {
+            return refuse(&rt, "a word of the command line is not UTF-8");
+        }
+        Err(error) => return refuse(&rt, error),
+    };
+    match read_words(rt.alloc(), words.as_slice()) {
+        Ok(Asked::New(new)) => {
+            let outcome = answer_new(&rt, &new);
+            end(&rt, outcome)
+        }
+        Err(error) => tell(&rt, error),
+    }
+}
+
+/// Writes what is new in the files that are named. May wait.
+fn answer_new<'a, R: Files + io::Input + Print + AllocGlobal + Threads + Wait + Sync>(
+    rt: &R,
+    new: &New<'a>,
+) -> Result<Verdict, Fault<'a>> {
+    let known = read_file(rt, new.known)?;
+    let bytes = read_streams(rt, &new.files)?;
+    let mut output = Std::new(io::writer(rt));
+    match write_news(rt, rt.alloc(), &bytes, &known, &mut output, new.workers) {
+        Ok(verdict) => Ok(verdict),
+        Err(NewsFault::Stream(fault)) => Err(Fault::Together(fault)),
+        Err(NewsFault::UnknownLine(line)) => Err(Fault::UnknownLine(new.known, line)),
+        Err(NewsFault::Write) => Err(Fault::Write),
+        Err(NewsFault::Memory) => Err(Fault::Memory),
+        Err(NewsFault::Uneven(number)) => Err(Fault::Uneven(number)),
+    }
+}
+
+/// The exit status of a command that ended so. Where there is no whole answer, standard error says why.
+fn end<R: Eprint>(rt: &R, outcome: Result<Verdict, Fault<'_>>) -> ExitCode
+    ensures clean { outcome.entry ≡ Ok Verdict.Clean → exit_status result ≡ 0 }
+    ensures violations { outcome.entry ≡ Ok Verdict.Violations → exit_status result ≡ 1 }
+    ensures refused { outcome.entry ≡ Ok Verdict.Refused → exit_status result ≡ 3 }
+    ensures fault { IsErr outcome.entry → exit_status result ≡ NO_ANSWER }
+{
+    match outcome {
+        Ok(verdict) => ExitCode::from(verdict.status()),
+        Err(fault) => refuse(rt, fault),
+    }
+}
+
+/// The words of the command line, the program's name first.
+fn given_words<R: Env + AllocGlobal>(rt: &R) -> io::Result<Vec<String>> {
+    Ok(env::args(rt)?.collect(rt.alloc())?)
+}
+
+/// Prints clap's text: the help or the version on standard output, or what is wrong with the words on
+/// standard error.
+fn tell<R: Print + Eprint>(rt: &R, error: clap::Error) -> ExitCode
+    ensures { (kind_of error ≢ ErrorKind.DisplayHelp)
+        → (kind_of error ≢ ErrorKind.DisplayVersion) → exit_status result ≡ NO_ANSWER }
+{
+    match error.print(rt) {
+        Ok(()) if error.use_stderr() => ExitCode::from(NO_ANSWER),
+        Ok(()) => ExitCode::SUCCESS,
+        Err(fault) => refuse(rt, fault),
+    }
+}
+
+/// Says on standard error why there is no answer. Where that fails too, the status alone says so.
+fn refuse<D: Display + Drop>(rt: &impl Eprint, reason: D) -> ExitCode
+    ensures { exit_status result ≡ NO_ANSWER }
+{
+    let _ = eprintln!(rt; "lockgraph: {reason}");
+    ExitCode::from(NO_ANSWER)
+}

@@ -1,0 +1,188 @@
+//! `new`: the violations of some traces that no known text says.
+ghost use Rattle.std.specs.Prelude.{◌≡◌, ◌≢◌, ◌≤◌, ◌↔◌, ℕ, List, Err, IfOk, IfSome, IsErr, None, OnOk, Some, true, false};
+ghost use Rattle.std.specs.Io.KnownBytes.{Appends};
+ghost use Rattle.ld_trace.specs.declared.source.StreamFault.{StreamFault};
+ghost use Rattle.ld_trace.specs.Sources.{sources, stream_fault};
+ghost use Rattle.ld_device.specs.Transfer.{AppendsPart};
+ghost use Rattle.ld_select.specs.Known.{unknown_line};
+ghost use Rattle.lockgraph.specs.News.{IsNewsOf, verdict_of_new};
+
+use ld_book::Book;
+use ld_check::{CheckFault, MOST_WORKERS, check};
+use ld_device::{Output, send};
+use ld_report::{Verdict, report};
+use ld_select::{SelectFault, new_report};
+use ld_trace::StreamFault;
+use ld_work::NoGate;
+use std::alloc::{AllocError, Global};
+use std::sync::Wait;
+use std::thread::Threads;
+
+/// What is new.
+#[derive(Debug, Drop)]
+pub struct News {
+    /// The report of what is new: its lines, each ended by LF.
+    pub text: Vec<u8>,
+    /// What it comes to: `Violations` where one is new.
+    pub verdict: Verdict,
+}
+
+/// Why it isn't told what is new.
+#[derive(Clone, Copy, Debug, PartialEq, Eq)]
+pub enum NewsFault {
+    /// The stream has this fault.
+    Stream(StreamFault),
+    /// This line of the known text, counted from 1, says something and is no line of a report.
+    UnknownLine(u64),
+    /// A write or the flush failed.
+    Write,
+    /// A growth of memory was refused.
+    Memory,
+    /// The workers' book doesn't list just the traces of the stream; this number is the least that
+    /// tells so.
+    Uneven(u64),
+}
+
+/// Writes the report of what is new in a stream, whose traces that many workers read at once, and flushes
+/// it. No write or flush that fails is tried again. May wait.
+///
+/// # Errors
+///
+/// `Write` exactly where a write or the flush failed: a first part of the text was written then, and
+/// after any other fault nothing. The other faults are those of `news_of`.
+pub fn write_news<O: Output, R: Threads + Wait + Sync>(
+    rt: &R,
+    alloc: Global,
+    bytes: &[u8],
+    known: &[u8],
+    output: &mut O,
+    workers: usize,
+) -> Result<Verdict, NewsFault>
+    requires sound { O.write_failed output.old ≡ false }
+    requires workers { (1 ≤ workers) × (workers ≤ MOST_WORKERS) }
+
+    ensures ok { IfOk result (λ verdict. (text : List ℕ)
+        × IsNewsOf (sources bytes.now) known.now text verdict
+        × Appends (O.held output.old) (O.held output.new) text) }
+    ensures flushed { OnOk result (O.is_flushed output.new ≡ true) }
+    ensures write { (result ≡ Err NewsFault.Write) ↔ (O.write_failed output.new ≡ true) }
+    ensures part { result ≡ Err NewsFault.Write → (text : List ℕ) × (verdict : Verdict)
+        × IsNewsOf (sources bytes.now) known.now text verdict
+        × AppendsPart (O.held output.old) (O.held output.new) text }
+    ensures nothing { IsErr result → result ≢ Err NewsFault.Write → output.new ≡ output.old }
+
+    ensures stream { IfSome (stream_fault bytes.now) (λ fault.
+        result ≡ Err (NewsFault.Stream fault)) }
+    ensures stream_sound { (fault : StreamFault) → result ≡ Err (NewsFault.Stream fault) →
+        stream_fault bytes.now ≡ Some fault }
+    ensures known { OnOk result (unknown_line known.now ≡ None) }
+    ensures unknown { (line : ℕ) → result ≡ Err (NewsFault.UnknownLine line) →
+        unknown_line known.now ≡ Some line }
+{
+    let news = news_of(rt, alloc, bytes, known, workers)?;
+    match send(output, &news.text) {
+        Ok(()) => Ok(news.verdict),
+        Err(_) => Err(NewsFault::Write),
+    }
+}
+
+/// What is new in a stream, whose traces that many workers read at once: its report without the lines
+/// of violations that a line of the known text says too. May wait.
+///
+/// # Errors
+///
+/// `Stream` exactly where the stream has a fault, whatever memory there is; `UnknownLine` where the known
+/// text has a line that is none of a report; `Memory` where a growth was refused; and `Uneven` where the
+/// workers' book isn't that of the stream.
+fn news_of<R: Threads + Wait + Sync>(
+    rt: &R,
+    alloc: Global,
+    bytes: &[u8],
+    known: &[u8],
+    workers: usize,
+) -> Result<News, NewsFault>
+    requires { (1 ≤ workers) × (workers ≤ MOST_WORKERS) }
+    ensures news { IfOk result (λ news.
+        IsNewsOf (sources bytes.now) known.now news.text.items news.verdict) }
+    ensures stream { IfSome (stream_fault bytes.now) (λ fault.
+        result ≡ Err (NewsFault.Stream fault)) }
+    ensures sound { (fault : StreamFault) → result ≡ Err (NewsFault.Stream fault) →
+        stream_fault bytes.now ≡ Some fault }
+    ensures known { OnOk result (unknown_line known.now ≡ None) }
+    ensures unknown { (line : ℕ) → result ≡ Err (NewsFault.UnknownLine line) →
+        unknown_line known.now ≡ Some line }
+    ensures unwritten { result ≢ Err NewsFault.Write }
+{
+    let checked = check(rt, alloc, bytes, workers, &NoGate)?;
+    let news = news_in(alloc, &checked.book, known);
+    drop(checked);
+    news
+}
+
+/// What is new in the traces that a book lists.
+fn news_in(alloc: Global, book: &Book<'_>, known: &[u8]) -> Result<News, NewsFault>
+    ensures news { IfOk result (λ news. IsNewsOf book.now known.now news.text.items news.verdict) }
+    ensures known { OnOk result (unknown_line known.now ≡ None) }
+    ensures unknown { (line : ℕ) → result ≡ Err (NewsFault.UnknownLine line) →
+        unknown_line known.now ≡ Some line }
+    ensures stream { (fault : StreamFault) → result ≢ Err (NewsFault.Stream fault) }
+    ensures unwritten { result ≢ Err NewsFault.Write }
+{
+    let report = report(alloc, book)?;
+    let new = new_report(alloc, &report, known)?;
+    let verdict = verdict_of_new(new.count, book.totals().refused);
+    Ok(News {
+        text: new.text,
+        verdict,
+    })
+}
+
+/// What it comes to that so many violations are new and so many traces are refused.
+fn verdict_of_new(count: u64, refused: u64) -> Verdict
+    ensures { result ≡ verdict_of_new count refused }
+{
+    if count > 0 {
+        Verdict::Violations
+    } else if refused > 0 {
+        Verdict::Refused
+    } else {
+        Verdict::Clean
+    }
+}
+
+impl From<CheckFault> for NewsFault {
+    ghost use Rattle.lockgraph.specs.Faults.{news_fault_of_check};
+
+    ghost from_gives = { λ fault gives. gives ≡ news_fault_of_check fault };
+
+    fn from(fault: CheckFault) -> NewsFault {
+        match fault {
+            CheckFault::Stream(fault) => NewsFault::Stream(fault),
+            CheckFault::Memory => NewsFault::Memory,
+            CheckFault::Uneven(number) => NewsFault::Uneven(number),
+        }
+    }
+}
+
+impl From<SelectFault> for NewsFault {
+    ghost use Rattle.lockgraph.specs.Faults.{news_fault_of_select};
+
+    ghost from_gives = { λ fault gives. gives ≡ news_fault_of_select fault };
+
+    fn from(fault: SelectFault) -> NewsFault {
+        match fault {
+            SelectFault::UnknownLine(line) => NewsFault::UnknownLine(line),
+            SelectFault::Memory => NewsFault::Memory,
+        }
+    }
+}
+
+impl From<AllocError> for NewsFault {
+    ghost use Rattle.lockgraph.specs.declared.news.NewsFault.TheVariants.{Memory};
+
+    ghost from_gives = { λ _ fault. fault ≡ Memory };
+
+    fn from(_refusal: AllocError) -> NewsFault {
+        NewsFault::Memory
+    }
+}

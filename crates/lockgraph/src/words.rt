@@ -1,0 +1,158 @@
+//! The words of the command line.
+ghost use Rattle.std.specs.Prelude.{◌≤◌};
+ghost use Rattle.ld_check.specs.declared.checked.TheConstants.{MOST_WORKERS};
+
+use crate::streams::STANDARD_INPUT;
+use clap::error::ErrorKind;
+use clap::{Arg, ArgAction, ArgMatches, Command, Error, value_parser};
+use ld_check::MOST_WORKERS;
+use std::alloc::{AllocError, Global};
+use std::convert::AsStr;
+
+/// What `--version` says of the program.
+const VERSION: &str = "0.1.0";
+
+/// How many workers there are where no word says it.
+const DEFAULT_WORKERS: usize = 4;
+
+/// What the help says behind the commands.
+const AFTER_HELP: &str = "\
+Each command reads the named files as one stream of traces, one after another, or standard input where none
+is named. - is standard input too.
+
+Exit status:
+  0  no violation that is told, and no trace is refused
+  1  violations
+  2  no whole answer; standard error says why
+  3  no violation that is told, and a trace is refused
+
+Example:
+  lockgraph new --known known.report run.trace";
+
+/// What the help of `new` says behind its words.
+const AFTER_NEW: &str = "\
+Writes the report of the traces without the violations that KNOWN has, a report of before: those of the same
+kind, state and classes, whatever their witnesses and walks. The last line is `nothing new`, or `new N`.
+KNOWN may have comments: lines that begin with #.
+
+Example:
+  lockcheck < run.trace > known.report
+  lockgraph new --known known.report run.trace other.trace";
+
+/// What a call asks for.
+#[derive(Debug, Drop)]
+pub enum Asked<'a> {
+    /// `new`.
+    New(New<'a>),
+}
+
+/// What `new` is asked.
+#[derive(Debug, Drop)]
+pub struct New<'a> {
+    /// The name of the known text.
+    pub known: &'a str,
+    /// The names of the files with the streams.
+    pub files: Vec<&'a str>,
+    /// How many workers read traces at once.
+    pub workers: usize,
+    ghost few: { (1 ≤ workers) × (workers ≤ MOST_WORKERS) },
+}
+
+/// What these words of the command line ask for, the first of which is the program's name.
+///
+/// # Errors
+///
+/// The error's text is for the user: the help or the version where the words ask for it, and else what is
+/// wrong with them, or that memory was refused.
+pub fn read_words<'a, S: AsStr>(alloc: Global, words: &'a [S]) -> Result<Asked<'a>, Error> {
+    let mut command = command_line(alloc)?;
+    let matches = command.try_get_matches_from_mut(words)?;
+    match matches.subcommand() {
+        Some(("new", matches)) => match read_new(alloc, matches)? {
+            Some(new) => Ok(Asked::New(new)),
+            None => Err(command.error(ErrorKind::MissingRequiredArgument, "--known is missing")?),
+        },
+        _ => Err(command.error(ErrorKind::MissingSubcommand, "a command is missing")?),
+    }
+}
+
+/// What the words behind `new` ask for; `None` where they name no known text.
+fn read_new<'a>(alloc: Global, matches: &ArgMatches<'a>) -> Result<Option<New<'a>>, AllocError> {
+    let Some(known) = matches.get_str("known") else {
+        return Ok(None);
+    };
+    let files = files(alloc, matches)?;
+    let workers = workers(matches);
+    Ok(Some(New {
+        known,
+        files,
+        workers,
+    }))
+}
+
+/// The names of the files that are to be read.
+fn files<'a>(alloc: Global, matches: &ArgMatches<'a>) -> Result<Vec<&'a str>, AllocError> {
+    match matches.get_strs("files") {
+        Some(names) if !names.is_empty() => names.to_vec(alloc),
+        _ => Ok(vec![in alloc; STANDARD_INPUT]?),
+    }
+}
+
+/// How many workers are to read traces at once.
+fn workers(matches: &ArgMatches<'_>) -> usize
+    ensures { (1 ≤ result) × (result ≤ MOST_WORKERS) }
+{
+    // The argument's own parser lets no other number through.
+    match matches.get_one::<usize>("workers") {
+        Some(count @ 1..=MOST_WORKERS) => count,
+        _ => DEFAULT_WORKERS,
+    }
+}
+
+/// What the words may say.
+fn command_line<'a>(alloc: Global) -> Result<Command<'a>, AllocError> {
+    Command::new(alloc, "lockgraph")
+        .about(
+            "Answers questions on recorded lock traces, over the report that lockcheck gives of them",
+        )
+        .version(VERSION)
+        .after_help(AFTER_HELP)
+        .subcommand_required(true)
+        .subcommand(new_command(alloc)?)
+}
+
+/// `new --known FILE [--workers N] [FILE]..`.
+fn new_command<'a>(alloc: Global) -> Result<Command<'a>, AllocError> {
+    let known = Arg::new(alloc, "known")
+        .long("known")
+        .value_name("KNOWN")
+        .help("A report of before")
+        .action(ArgAction::Set)
+        .required(true);
+    Command::new(alloc, "new")
+        .about("Writes what is new in a report: what no line of a known one says")
+        .after_help(AFTER_NEW)
+        .arg(known)?
+        .arg(count_of_workers(alloc))?
+        .arg(named_files(alloc))
+}
+
+/// `--workers N`.
+fn count_of_workers<'a>(alloc: Global) -> Arg<'a> {
+    Arg::new(alloc, "workers")
+        .long("workers")
+        .value_name("N")
+        .help("How many workers read traces at once, from 1 to 16")
+        .action(ArgAction::Set)
+        .default_value("4")
+        .value_parser(value_parser!(usize).range(1..=MOST_WORKERS as i64))
+}
+
+/// `[FILE]..`.
+fn named_files<'a>(alloc: Global) -> Arg<'a> {
+    Arg::new(alloc, "files")
+        .value_name("FILE")
+        .help("The files with the traces")
+        .action(ArgAction::Append)
+        .num_args(0..)
+}
