@@ -309,7 +309,7 @@ impl<'a> Scan<'a> {
             × (MOST_CLASSES ≤ length self.old.own) }
         ensures first { StandsOn self.old self.new }
     {
-        let known = self.classes.find(name);
+        let known = self.find(name);
         if let Some(class) = known {
             if self.own.has(class) {
                 return Ok(class);

@@ -1,3 +1,4 @@
+pub mod ByteLemmas
 pub mod MarkLemmas
 pub mod NumberLemmas
 pub mod TaskLemmas

@@ -9,6 +9,7 @@ ghost use Rattle.ld_tables.specs.Inner.Stacks.{empty_stack, holds, inner, plain_
 ghost use Rattle.ld_rules.specs.Inner.Scanned.{remove_last};
 ghost use Rattle.ld_rules.specs.declared.outcome.TheConstants.{MOST_HELD};
 
+use crate::bytes::same_bytes;
 use crate::interrupts::Interrupts;
 use arrayvec::ArrayVec;
 use ld_rules::MOST_HELD;
@@ -193,7 +194,7 @@ impl<'a> Stacks<'a> {
 fn is_same(a: Lock<'_>, b: Lock<'_>) -> bool
     ensures { result ≡ same_lock (plain_lock a.entry) (plain_lock b.entry) }
 {
-    if a.class != b.class {
+    if !same_bytes(a.class, b.class) {
         return false;
     }
     match (a.instance, b.instance) {

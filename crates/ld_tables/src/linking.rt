@@ -31,6 +31,7 @@ pub fn make_room(chains: &mut Chains, edges: &mut Edges)
 
 /// The number of the chain of a stack's classes and one more, which may be new. `None` where that of the
 /// stack isn't known, and where there is no room for a new one.
+#[inline(always)]
 pub fn linked(
     chains: &mut Chains,
     stack: &[Held<'_>],

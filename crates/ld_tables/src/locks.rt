@@ -16,10 +16,12 @@ ghost use Rattle.ld_rules.specs.declared.outcome.TheConstants.{MOST_HELD};
 
 use crate::chains::Chains;
 use crate::edges::{EdgeFact, Edges};
+use crate::guesses::Guesses;
 use crate::held::{Held, Stacks, latest};
 use crate::interrupts::{Flag, Interrupts};
 use crate::linking::{is_unlinked, learn, linked, make_room};
 use crate::marked::Marked;
+use ld_class::ClassName;
 use ld_rules::MOST_HELD;
 use ld_trace::{Lock, State};
 use std::alloc::{AllocError, Global};
@@ -51,6 +53,7 @@ pub struct Locks<'a> {
     told: Marked,
     edges: Edges,
     before: Before,
+    guesses: Guesses,
     alloc: Global,
 }
 
@@ -79,8 +82,23 @@ impl<'a> Locks<'a> {
             told: Marked::new(alloc),
             edges: Edges::new(alloc),
             before: Before { edges: 0, told: 0 },
+            guesses: Guesses::new(),
             alloc,
         }
+    }
+
+    /// A guess where the class of a lock stands among those that are known. No clause says anything of it: whoever
+    /// reads one compares the name that stands there.
+    #[inline(always)]
+    pub fn guess(&self, name: ClassName<'_>) -> u32 {
+        self.guesses.of(name)
+    }
+
+    /// The class was found at this place, by which it is guessed from now on.
+    pub fn note(&mut self, name: ClassName<'_>, place: u32)
+        ensures { self.new ≡ self.old }
+    {
+        self.guesses.note(name, place);
     }
 
     /// A trace begins, with no task, on top of the dependencies that are there.
@@ -229,6 +247,8 @@ impl<'a> Locks<'a> {
     }
 
     /// The task acquired the lock.
+    // Its one caller asks for it at each acquisition.
+    #[inline(always)]
     pub fn hold(&mut self, task: u32, lock: Lock<'a>, class: u32) -> Result<(), AllocError>
         requires task { task < length self.old.stacks }
         requires room { length (slice_index_or self.old.stacks task []) < MOST_HELD }
