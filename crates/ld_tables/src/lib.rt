@@ -4,6 +4,7 @@
 
 mod bytes;
 mod chains;
+mod context;
 mod edges;
 mod guesses;
 mod held;
@@ -16,6 +17,7 @@ mod tasks;
 mod uses;
 
 pub use bytes::is_at;
+pub use context::Context;
 pub use edges::EdgeFact;
 pub use held::Held;
 pub use interrupts::{Flag, Interrupts};

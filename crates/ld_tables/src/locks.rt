@@ -15,6 +15,7 @@ ghost use Rattle.ld_rules.specs.Inner.Scanned.{remove_last};
 ghost use Rattle.ld_rules.specs.declared.outcome.TheConstants.{MOST_HELD};
 
 use crate::chains::Chains;
+use crate::context::Context;
 use crate::edges::{EdgeFact, Edges};
 use crate::guesses::Guesses;
 use crate::held::{Held, Stacks, latest};
@@ -170,6 +171,14 @@ impl<'a> Locks<'a> {
         self.stacks.interrupts(task)
     }
 
+    /// The same, with what they make of an acquisition.
+    pub fn context(&self, task: u32) -> &Context
+        requires { task < length self.now.stacks }
+        ensures { result.now ≡ slice_index_or self.now.interrupts task fresh }
+    {
+        self.stacks.context(task)
+    }
+
     /// Tells the dependencies of a waiting acquisition of the class, from what the task holds in
     /// its innermost frame.
     pub fn tell(&mut self, task: u32, class: u32, line: u64) -> Result<(), AllocError>
@@ -223,7 +232,7 @@ impl<'a> Locks<'a> {
         ensures { OnTrue result (start_now (slice_index_or self.now.interrupts task fresh)
             < length (slice_index_or self.now.stacks task [])) }
     {
-        let start = self.stacks.interrupts(task).start();
+        let start = self.stacks.context(task).start();
         is_unlinked(self.stacks.held(task), start)
     }
 
@@ -291,7 +300,7 @@ impl<'a> Locks<'a> {
               ++ remove_last (is_of (plain_lock lock.entry)) (inner_of self.old task));
         } }
     {
-        let start = self.stacks.interrupts(task).start();
+        let start = self.stacks.context(task).start();
         let held = self.stacks.held(task);
         let Some(place) = latest(&held[start..], lock) else {
             return false;
