@@ -11,10 +11,12 @@ use Rattle.std.specs.Int.{from_le_bytes, to_le_bytes}
 pub word-Decides : (a b : List ℕ) → length a ≡ 8 → length b ≡ 8
     → ((i : ℕ) → get_or a i 0 < 256) → ((i : ℕ) → get_or b i 0 < 256)
     → Decides (nat_eq (from_le_bytes w64 a) (from_le_bytes w64 b)) (a ≡ b)
-word-Decides a b many_a many_b fits_a fits_b =
-    (λ same. sym (le_bytes_8 a (from_le_bytes w64 a) many_a fits_a refl)
-    ∙ ap (to_le_bytes w64) (eqb-true (from_le_bytes w64 a) (from_le_bytes w64 b) same)
-    ∙ le_bytes_8 b (from_le_bytes w64 b) many_b fits_b refl, λ same. eq-eqb (from_le_bytes w64 a) (from_le_bytes w64 b) (ap (from_le_bytes w64) same))
+word-Decides a b many_a many_b fits_a fits_b = (
+  λ same. sym (le_bytes_8 a (from_le_bytes w64 a) many_a fits_a refl)
+      ∙ ap (to_le_bytes w64) (eqb-true (from_le_bytes w64 a) (from_le_bytes w64 b) same)
+      ∙ le_bytes_8 b (from_le_bytes w64 b) many_b fits_b refl,
+  λ same. eq-eqb (from_le_bytes w64 a) (from_le_bytes w64 b) (ap (from_le_bytes w64) same),
+)
 
 -- at most sixteen bytes are their first eight, and what follows of their last eight
 ends : (a : List ℕ) → 8 ≤ length a → length a ≤ 16

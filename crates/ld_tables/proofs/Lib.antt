@@ -7,6 +7,7 @@ pub mod ChainLemmas
 pub mod EdgeLemmas
 pub mod LockLemmas
 pub mod TopLemmas
+pub mod OutLemmas
 pub mod FirstLemmas
 pub mod BeforeLemmas
 pub mod NumberedLemmas

@@ -31,7 +31,12 @@ pub fn same_bytes(a: &[u8], b: &[u8]) -> bool
     if a.len() > 16 {
         return a == b;
     }
-    match (a.first_chunk(), b.first_chunk(), a.last_chunk(), b.last_chunk()) {
+    match (
+        a.first_chunk(),
+        b.first_chunk(),
+        a.last_chunk(),
+        b.last_chunk(),
+    ) {
         (Some(first), Some(other_first), Some(last), Some(other_last)) => {
             same_word(first, other_first) && same_word(last, other_last)
         }

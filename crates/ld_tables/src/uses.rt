@@ -70,12 +70,7 @@ impl Uses {
 
     /// A lock of the class is waited for while these frames are open: the class gets the IN bit of
     /// each frame's state.
-    pub fn waited(
-        &mut self,
-        class: u32,
-        context: &Context,
-        line: u64,
-    ) -> Result<(), AllocError>
+    pub fn waited(&mut self, class: u32, context: &Context, line: u64) -> Result<(), AllocError>
         ensures uses { OnOk result
             (self.new ≡ fold with_use self.old (in_facts context.now line class)) }
         ensures first { take (length self.old) self.new ≡ self.old }
@@ -98,12 +93,7 @@ impl Uses {
 
     /// A lock of the class was acquired with these flags: the class gets the ON bit of each state
     /// whose interrupts are enabled, as [`Interrupts::is_enabled`] says.
-    pub fn acquired(
-        &mut self,
-        class: u32,
-        context: &Context,
-        line: u64,
-    ) -> Result<(), AllocError>
+    pub fn acquired(&mut self, class: u32, context: &Context, line: u64) -> Result<(), AllocError>
         ensures uses { OnOk result
             (self.new ≡ fold with_use self.old (on_facts context.now line (class ∷ []))) }
         ensures first { take (length self.old) self.new ≡ self.old }
