@@ -27,7 +27,8 @@ use std::mem;
 pub struct Batch<'a> {
     listed: Vec<Listed<'a>>,
     /// It scans each trace on top of what the ones before it show, and is ready for the next one. It may
-    /// know more classes than those of the batch, which were met before the batch was emptied.
+    /// know more names, chains and pairs of classes than those of the batch, which were met before the batch was
+    /// emptied.
     scan: Scan<'a>,
     rows: BatchRows<'a>,
     guesses: Guesses,

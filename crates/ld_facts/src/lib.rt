@@ -5,6 +5,7 @@ mod batch;
 mod batch_reading;
 mod batch_rows;
 mod bounds;
+mod classes;
 mod edges;
 mod known;
 mod names;

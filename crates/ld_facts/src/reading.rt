@@ -13,7 +13,9 @@ use crate::stop::Stop;
 use ld_class::Classes;
 use ld_rules::{Outcome, TraceFault};
 use ld_tables::Uses;
-use ld_trace::{Event, LineFault, Source, next_event, next_line, read_event, text};
+use ld_trace::{
+    Event, LineFault, Source, next_event, next_line, next_state_event, read_event, text,
+};
 use std::alloc::{AllocError, Global};
 
 /// The facts of a trace: what became of it and, where it was read to its end, what it shows. A
@@ -84,6 +86,9 @@ fn next_said(bytes: &[u8]) -> Option<(Result<Option<Event<'_>>, LineFault>, &[u8
         IsFirstSaid bytes.now (answer_seen cut.0) cut.1.now) }
 {
     if let Some((event, rest)) = next_event(bytes) {
+        return Some((Ok(Some(event)), rest));
+    }
+    if let Some((event, rest)) = next_state_event(bytes) {
         return Some((Ok(Some(event)), rest));
     }
     let (line, rest) = next_line(bytes)?;

@@ -129,8 +129,7 @@ impl<'a> Scan<'a> {
         ensures first { StandsOn self.old self.new }
     {
         self.locks.tell(task, class, line)?;
-        let interrupts = self.locks.interrupts(task);
-        self.uses.waited(class, interrupts, line)
+        self.uses.waited(class, self.locks.context(task), line)
     }
 
     /// The task holds the lock from now on, which counts under its flags.
@@ -142,8 +141,7 @@ impl<'a> Scan<'a> {
         ensures first { StandsOn self.old self.new }
     {
         self.locks.hold(task, lock, class)?;
-        let interrupts = self.locks.interrupts(task);
-        self.uses.acquired(class, interrupts, line)
+        self.uses.acquired(class, self.locks.context(task), line)
     }
 
     /// A release: the latest acquisition of the lock in the task's innermost frame ends.
@@ -309,7 +307,7 @@ impl<'a> Scan<'a> {
             × (MOST_CLASSES ≤ length self.old.own) }
         ensures first { StandsOn self.old self.new }
     {
-        let known = self.classes.find(name);
+        let known = self.find(name);
         if let Some(class) = known {
             if self.own.has(class) {
                 return Ok(class);

@@ -1,3 +1,4 @@
+pub mod ByteLemmas
 pub mod MarkLemmas
 pub mod NumberLemmas
 pub mod TaskLemmas
@@ -6,6 +7,7 @@ pub mod ChainLemmas
 pub mod EdgeLemmas
 pub mod LockLemmas
 pub mod TopLemmas
+pub mod OutLemmas
 pub mod FirstLemmas
 pub mod BeforeLemmas
 pub mod NumberedLemmas

@@ -112,6 +112,8 @@ impl Chains {
 
     /// The number of a chain, or `None` where it wasn't met. One that is asked for twice on end is looked
     /// up once.
+    // What a task holds after it waited is the chain of the call before, which is compared where this is called.
+    #[inline(always)]
     pub fn find(&mut self, link: Link) -> Option<u32>
         requires { IfSome link.before (λ n. n < length (chains_of self.old.links)) }
         ensures same { self.new ≡ self.old }
@@ -124,6 +126,20 @@ impl Chains {
         if is_at(&self.links, self.last, link) {
             return Some(self.last);
         }
+        self.look_up(link)
+    }
+
+    /// The same, of a chain that isn't that of the call before.
+    #[inline(never)]
+    fn look_up(&mut self, link: Link) -> Option<u32>
+        requires { IfSome link.before (λ n. n < length (chains_of self.old.links)) }
+        ensures same { self.new ≡ self.old }
+        ensures many { length self.old.numbers ≡ length self.old.links }
+        ensures none { IfNone result (list_any (same_link link) self.old.links ≡ false) }
+        ensures within { IfSome result (λ n. n < length (chains_of self.old.links)) }
+        ensures chain { IfSome result (λ n. slice_index_or (chains_of self.old.links) n []
+            ≡ chain_before (chains_of self.old.links) link.before ++ link.class ∷ []) }
+    {
         let place = self.links.get_index_of(&link)?;
         self.last = place as u32;
         Some(place as u32)

@@ -9,6 +9,8 @@ ghost use Rattle.ld_tables.specs.Inner.Stacks.{empty_stack, holds, inner, plain_
 ghost use Rattle.ld_rules.specs.Inner.Scanned.{remove_last};
 ghost use Rattle.ld_rules.specs.declared.outcome.TheConstants.{MOST_HELD};
 
+use crate::bytes::same_bytes;
+use crate::context::Context;
 use crate::interrupts::Interrupts;
 use arrayvec::ArrayVec;
 use ld_rules::MOST_HELD;
@@ -46,7 +48,7 @@ impl<'a> Default for Held<'a> {
 struct Stack<'a> {
     /// The locks, in order of acquisition: those of outer frames lie below those of inner ones.
     held: ArrayVec<Held<'a>, MOST_HELD>,
-    interrupts: Interrupts,
+    interrupts: Context,
 }
 
 impl<'a> Stack<'a> {
@@ -57,7 +59,7 @@ impl<'a> Stack<'a> {
     {
         Stack {
             held: ArrayVec::new(),
-            interrupts: Interrupts::new(),
+            interrupts: Context::new(),
         }
     }
 
@@ -67,7 +69,7 @@ impl<'a> Stack<'a> {
         ensures interrupts { self.new.interrupts ≡ fresh }
     {
         self.held.clear();
-        self.interrupts = Interrupts::new();
+        self.interrupts = Context::new();
     }
 }
 
@@ -145,7 +147,7 @@ impl<'a> Stacks<'a> {
             ≡ inner (slice_index_or self.now task empty_stack) }
         ensures depth { length result.now ≤ MOST_HELD }
     {
-        let start = self.interrupts(task).start();
+        let start = self.context(task).start();
         &self.held(task)[start..]
     }
 
@@ -154,7 +156,15 @@ impl<'a> Stacks<'a> {
         requires { task < length self.now }
         ensures { result ≡ (slice_index_or self.now task empty_stack).interrupts }
     {
-        self.stacks[task as usize].interrupts
+        self.stacks[task as usize].interrupts.interrupts()
+    }
+
+    /// The same, with what they make of an acquisition.
+    pub fn context(&self, task: u32) -> &Context
+        requires { task < length self.now }
+        ensures { result.now ≡ (slice_index_or self.now task empty_stack).interrupts }
+    {
+        &self.stacks[task as usize].interrupts
     }
 
     pub fn push(&mut self, task: u32, held: Held<'a>)
@@ -186,14 +196,14 @@ impl<'a> Stacks<'a> {
         ensures { self.new ≡ slice_set self.old task
             (record (slice_index_or self.old task empty_stack) { interrupts = interrupts }) }
     {
-        self.stacks[task as usize].interrupts = interrupts;
+        self.stacks[task as usize].interrupts = Context::of(interrupts);
     }
 }
 
 fn is_same(a: Lock<'_>, b: Lock<'_>) -> bool
     ensures { result ≡ same_lock (plain_lock a.entry) (plain_lock b.entry) }
 {
-    if a.class != b.class {
+    if !same_bytes(a.class, b.class) {
         return false;
     }
     match (a.instance, b.instance) {

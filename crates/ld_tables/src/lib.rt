@@ -2,8 +2,11 @@
 //! frames, flags, chains, dependencies and usage bits.
 #![tactic(auto)]
 
+mod bytes;
 mod chains;
+mod context;
 mod edges;
+mod guesses;
 mod held;
 mod interrupts;
 mod linking;
@@ -13,6 +16,8 @@ mod numbers;
 mod tasks;
 mod uses;
 
+pub use bytes::is_at;
+pub use context::Context;
 pub use edges::EdgeFact;
 pub use held::Held;
 pub use interrupts::{Flag, Interrupts};

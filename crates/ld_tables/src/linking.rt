@@ -31,6 +31,7 @@ pub fn make_room(chains: &mut Chains, edges: &mut Edges)
 
 /// The number of the chain of a stack's classes and one more, which may be new. `None` where that of the
 /// stack isn't known, and where there is no room for a new one.
+#[inline(always)]
 pub fn linked(
     chains: &mut Chains,
     stack: &[Held<'_>],
@@ -56,9 +57,9 @@ pub fn linked(
     Ok(Some(chains.add(link)?))
 }
 
-/// Keeps the numbers of the pairs of a chain, those from the classes of a stack to one more, where it is one
-/// of the chains `met` before, there is room for them and they aren't kept. Most chains are told once and
-/// never again.
+/// May keep the numbers of the pairs of a chain, those from the classes of a stack to one more. It does where the
+/// chain is one of those `met` before, there is room for them and they aren't kept, since most chains are told once
+/// and never again; no clause says so.
 pub fn learn(
     chains: &mut Chains,
     edges: &mut Edges,

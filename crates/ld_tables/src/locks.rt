@@ -14,12 +14,17 @@ ghost use Rattle.ld_tables.specs.Inner.Locks.{ChangesInterrupts, holds_of, inner
 ghost use Rattle.ld_rules.specs.Inner.Scanned.{remove_last};
 ghost use Rattle.ld_rules.specs.declared.outcome.TheConstants.{MOST_HELD};
 
+mod releases;
+
 use crate::chains::Chains;
+use crate::context::Context;
 use crate::edges::{EdgeFact, Edges};
-use crate::held::{Held, Stacks, latest};
+use crate::guesses::Guesses;
+use crate::held::{Held, Stacks};
 use crate::interrupts::{Flag, Interrupts};
 use crate::linking::{is_unlinked, learn, linked, make_room};
 use crate::marked::Marked;
+use ld_class::ClassName;
 use ld_rules::MOST_HELD;
 use ld_trace::{Lock, State};
 use std::alloc::{AllocError, Global};
@@ -51,6 +56,7 @@ pub struct Locks<'a> {
     told: Marked,
     edges: Edges,
     before: Before,
+    guesses: Guesses,
     alloc: Global,
 }
 
@@ -79,8 +85,23 @@ impl<'a> Locks<'a> {
             told: Marked::new(alloc),
             edges: Edges::new(alloc),
             before: Before { edges: 0, told: 0 },
+            guesses: Guesses::new(),
             alloc,
         }
+    }
+
+    /// A guess where the class of a lock stands among those that are known. No clause says anything of it: whoever
+    /// reads one compares the name that stands there.
+    #[inline(always)]
+    pub fn guess(&self, name: ClassName<'_>) -> u32 {
+        self.guesses.of(name)
+    }
+
+    /// The class was found at this place, by which it is guessed from now on.
+    pub fn note(&mut self, name: ClassName<'_>, place: u32)
+        ensures { self.new ≡ self.old }
+    {
+        self.guesses.note(name, place);
     }
 
     /// A trace begins, with no task, on top of the dependencies that are there.
@@ -152,6 +173,14 @@ impl<'a> Locks<'a> {
         self.stacks.interrupts(task)
     }
 
+    /// The same, with what they make of an acquisition.
+    pub fn context(&self, task: u32) -> &Context
+        requires { task < length self.now.stacks }
+        ensures { result.now ≡ slice_index_or self.now.interrupts task fresh }
+    {
+        self.stacks.context(task)
+    }
+
     /// Tells the dependencies of a waiting acquisition of the class, from what the task holds in
     /// its innermost frame.
     pub fn tell(&mut self, task: u32, class: u32, line: u64) -> Result<(), AllocError>
@@ -205,7 +234,7 @@ impl<'a> Locks<'a> {
         ensures { OnTrue result (start_now (slice_index_or self.now.interrupts task fresh)
             < length (slice_index_or self.now.stacks task [])) }
     {
-        let start = self.stacks.interrupts(task).start();
+        let start = self.stacks.context(task).start();
         is_unlinked(self.stacks.held(task), start)
     }
 
@@ -229,6 +258,8 @@ impl<'a> Locks<'a> {
     }
 
     /// The task acquired the lock.
+    // Its one caller asks for it at each acquisition.
+    #[inline(always)]
     pub fn hold(&mut self, task: u32, lock: Lock<'a>, class: u32) -> Result<(), AllocError>
         requires task { task < length self.old.stacks }
         requires room { length (slice_index_or self.old.stacks task []) < MOST_HELD }
@@ -242,66 +273,6 @@ impl<'a> Locks<'a> {
         let chain = linked(&mut self.chains, stack, class)?;
         self.stacks.push(task, Held { lock, class, chain });
         Ok(())
-    }
-
-    /// The task holds the lock, whose chain isn't looked for before it is asked for.
-    fn put(&mut self, task: u32, lock: Lock<'a>, class: u32)
-        requires task { task < length self.old.stacks }
-        requires room { length (slice_index_or self.old.stacks task []) < MOST_HELD }
-        ensures { self.new ≡ record self.old {
-          stacks = slice_set self.old.stacks task (slice_index_or self.old.stacks task []
-              ++ record { lock = plain_lock lock.entry; class = class } ∷ []);
-        } }
-    {
-        let held = Held {
-            lock,
-            class,
-            chain: None,
-        };
-        self.stacks.push(task, held);
-    }
-
-    /// The task released the lock: its latest acquisition in the innermost frame ends. Tells
-    /// whether there was one. Takes no memory.
-    pub fn let_go(&mut self, task: u32, lock: Lock<'a>) -> bool
-        requires { task < length self.old.stacks }
-        ensures held { result ≡ list_any (is_of (plain_lock lock.entry)) (inner_of self.old task) }
-        ensures stacks { self.new ≡ record self.old {
-          stacks = slice_set self.old.stacks task (outer_of self.old task
-              ++ remove_last (is_of (plain_lock lock.entry)) (inner_of self.old task));
-        } }
-    {
-        let start = self.stacks.interrupts(task).start();
-        let held = self.stacks.held(task);
-        let Some(place) = latest(&held[start..], lock) else {
-            return false;
-        };
-        self.take_out(task, start + place);
-        true
-    }
-
-    /// Takes a lock of the innermost frame out from under later ones, whose chains aren't known then: each
-    /// is let go, from the top down, and held again on the way back.
-    fn take_out(&mut self, task: u32, place: usize)
-        requires task { task < length self.old.stacks }
-        requires inner { start_now (slice_index_or self.old.interrupts task fresh) ≤ place }
-        requires held { place < length (slice_index_or self.old.stacks task []) }
-        ensures { self.new ≡ record self.old {
-          stacks = slice_set self.old.stacks task
-              (take place (slice_index_or self.old.stacks task [])
-              ++ drop (place + 1) (slice_index_or self.old.stacks task []));
-        } }
-    {
-        let held = self.stacks.held(task);
-        let top = held.len() - 1;
-        if place == top {
-            self.stacks.truncate(task, top);
-            return;
-        }
-        let last = held[top];
-        self.stacks.truncate(task, top);
-        self.take_out(task, place);
-        self.put(task, last.lock, last.class);
     }
 
     /// A frame of the state opens over what the task holds.

@@ -7,6 +7,7 @@ ghost use Rattle.ld_class.specs.Usage.{has_bit, no_bits};
 ghost use Rattle.ld_rules.specs.Usage.{Bit, IsBit, usage_of};
 ghost use Rattle.ld_tables.specs.Inner.Uses.{fact, in_facts, on_facts, same_fact, use_at, with_use};
 
+use crate::context::Context;
 use crate::held::Held;
 use crate::interrupts::Interrupts;
 use bitflags::Flags;
@@ -69,19 +70,15 @@ impl Uses {
 
     /// A lock of the class is waited for while these frames are open: the class gets the IN bit of
     /// each frame's state.
-    pub fn waited(
-        &mut self,
-        class: u32,
-        interrupts: Interrupts,
-        line: u64,
-    ) -> Result<(), AllocError>
+    pub fn waited(&mut self, class: u32, context: &Context, line: u64) -> Result<(), AllocError>
         ensures uses { OnOk result
-            (self.new ≡ fold with_use self.old (in_facts interrupts line class)) }
+            (self.new ≡ fold with_use self.old (in_facts context.now line class)) }
         ensures first { take (length self.old) self.new ≡ self.old }
     {
-        if self.has_all(class, interrupts.in_bits()) {
+        if self.has_all(class, context.in_bits()) {
             return Ok(());
         }
+        let interrupts = context.interrupts();
         // The outermost frame first: a hard one lies over a soft one.
         if interrupts.has(State::Soft) {
             let bit = Usage::IN_SOFT;
@@ -96,19 +93,15 @@ impl Uses {
 
     /// A lock of the class was acquired with these flags: the class gets the ON bit of each state
     /// whose interrupts are enabled, as [`Interrupts::is_enabled`] says.
-    pub fn acquired(
-        &mut self,
-        class: u32,
-        interrupts: Interrupts,
-        line: u64,
-    ) -> Result<(), AllocError>
+    pub fn acquired(&mut self, class: u32, context: &Context, line: u64) -> Result<(), AllocError>
         ensures uses { OnOk result
-            (self.new ≡ fold with_use self.old (on_facts interrupts line (class ∷ []))) }
+            (self.new ≡ fold with_use self.old (on_facts context.now line (class ∷ []))) }
         ensures first { take (length self.old) self.new ≡ self.old }
     {
-        if self.has_all(class, interrupts.on_bits()) {
+        if self.has_all(class, context.on_bits()) {
             return Ok(());
         }
+        let interrupts = context.interrupts();
         if interrupts.is_enabled(State::Hard) {
             let bit = Usage::ON_HARD;
             self.add(UsageFact { class, bit, line })?;

@@ -4,6 +4,7 @@ pub mod VectorLemmas
 pub mod FrontLemmas
 pub mod VerbLemmas
 pub mod PlainLemmas
+pub mod StateLemmas
 pub mod SplitLemmas
 pub mod NumberLemmas
 pub mod SectionLemmas

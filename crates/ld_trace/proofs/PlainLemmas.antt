@@ -187,11 +187,11 @@ said-three lock_verbs.Try task field lock word is = rw (word, is) refl
 said-three lock_verbs.Release task field lock word is = rw (word, is) refl
 
 -- three runs with blanks between them, before other bytes
-spread : (first task field end : List ℕ) → first ++ 32 ∷ (task ++ 32 ∷ (field ++ end)) ≡ (first ++ 32 ∷ (task ++ 32 ∷ field)) ++ end
+pub spread : (first task field end : List ℕ) → first ++ 32 ∷ (task ++ 32 ∷ (field ++ end)) ≡ (first ++ 32 ∷ (task ++ 32 ∷ field)) ++ end
 spread first task field end = sym (append_assoc first (32 ∷ (task ++ 32 ∷ field)) end ∙ ap (λ o. first ++ 32 ∷ o) (append_assoc task (32 ∷ field) end))
 
 -- and an LF after them are a line
-lines-three : (first task field rest : List ℕ) → IsRun first → IsRun task → IsRun field → lines (first ++ 32 ∷ (task ++ 32 ∷ (field ++ 10 ∷ rest)))
+pub lines-three : (first task field rest : List ℕ) → IsRun first → IsRun task → IsRun field → lines (first ++ 32 ∷ (task ++ 32 ∷ (field ++ 10 ∷ rest)))
     ≡ (first ++ 32 ∷ (task ++ 32 ∷ (field ++ 10 ∷ []))) ∷ lines rest
 lines-three first task field rest verb middle last =
     let inner : lines (field ++ 10 ∷ rest) ≡ (field ++ 10 ∷ []) ∷ lines rest = lines-onto field (10 ∷ rest) (10 ∷ []) (lines rest) last.graphic refl in
@@ -200,13 +200,13 @@ lines-three first task field rest verb middle last =
     lines-onto first (32 ∷ (task ++ 32 ∷ (field ++ 10 ∷ rest))) (32 ∷ (task ++ 32 ∷ (field ++ 10 ∷ []))) (lines rest) verb.graphic (ap (onto_first 32) later)
 
 -- whose text and fields they are
-text-three : (first task field : List ℕ) → IsRun field → text_of ((first ++ 32 ∷ (task ++ 32 ∷ field)) ++ 10 ∷ []) ≡ first ++ 32 ∷ (task ++ 32 ∷ field)
+pub text-three : (first task field : List ℕ) → IsRun field → text_of ((first ++ 32 ∷ (task ++ 32 ∷ field)) ++ 10 ∷ []) ≡ first ++ 32 ∷ (task ++ 32 ∷ field)
 text-three first task field last =
     let front = first ++ 32 ∷ (task ++ 32 ∷ []) in
     let same : front ++ field ≡ first ++ 32 ∷ (task ++ 32 ∷ field) = append_assoc first (32 ∷ (task ++ 32 ∷ [])) field ∙ ap (λ o. first ++ 32 ∷ o) (append_assoc task (32 ∷ []) field) in
     ap (λ o. text_of (o ++ 10 ∷ [])) (sym same) ∙ text-run front field last ∙ same
 
-fields-three : (first task field : List ℕ) → IsRun first → IsRun task → IsRun field → fields (first ++ 32 ∷ (task ++ 32 ∷ field)) ≡ first ∷ task ∷ field ∷ []
+pub fields-three : (first task field : List ℕ) → IsRun first → IsRun task → IsRun field → fields (first ++ 32 ∷ (task ++ 32 ∷ field)) ≡ first ∷ task ∷ field ∷ []
 fields-three first task field verb middle last =
     fields-word first (task ++ 32 ∷ field) verb ∙ ap (λ o. first ∷ o) (fields-word task field middle ∙ ap (λ o. task ∷ o) (fields-end field last))
 

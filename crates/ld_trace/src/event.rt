@@ -130,7 +130,7 @@ pub enum LockVerb {
 
 /// A verb that takes a task and a state.
 #[derive(Clone, Copy)]
-enum StateVerb {
+pub enum StateVerb {
     Enter,
     Exit,
     Enable,

@@ -10,7 +10,11 @@ use Rattle.ld_tables.specs.declared.interrupts.Flag.TheVariants.{On, Off}
 use Rattle.ld_tables.specs.declared.interrupts.Flags.{Flags}
 use Rattle.ld_tables.specs.declared.interrupts.OpenFrame.{OpenFrame}
 use Rattle.ld_tables.specs.declared.interrupts.Interrupts.{Interrupts}
+use Rattle.ld_class.specs.declared.usage.Usage.{Usage}
+use Rattle.ld_class.specs.Usage.{has_bit}
 use Rattle.ld_rules.specs.Flags.{same_state}
+use Rattle.ld_rules.specs.Usage.{usage_of}
+use Rattle.ld_rules.specs.Usage.Bit.{In, On}
 
 -- an open frame with its state
 pub record FrameWithState : Type 0 where
@@ -53,6 +57,13 @@ enabled_now Soft interrupts = flag_now Hard interrupts && flag_now Soft interrup
 
 abbrev pub start_now : Interrupts → ℕ
 start_now interrupts = slice_index_or (starts_of interrupts) 0 0
+
+-- where the locks of the innermost frame begin; and these are the bits of a class that is waited for here, and of one
+-- that is held here
+pub record AreShown (interrupts : Interrupts) (start : ℕ) (in_bits on_bits : Usage) : Type 0 where
+  pub begins : start ≡ start_now interrupts
+  pub waits : (state : State) → has_bit in_bits (usage_of (In state)) ≡ list_any (same_state state) (states_of interrupts)
+  pub holds : (state : State) → has_bit on_bits (usage_of (On state)) ≡ enabled_now state interrupts
 
 -- a frame of the state may open over these
 abbrev pub nests_in : List State → State → Bool

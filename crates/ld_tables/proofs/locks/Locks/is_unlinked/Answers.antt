@@ -13,7 +13,7 @@ returns c =
     let stacks = c.self.inside.stacks in
     let edges = c.self.inside.edges.edges in
     let held = c.held.result.now in
-    let start = c.start-start.ensures ∙ ap start_now (c.interrupts.ensures ∙ interrupts_shown stacks edges c.args.self.now c.args.task c.self.view_is) in
+    let start = c.start-start.ensures ∙ ap start_now (c.context.ensures ∙ interrupts_shown stacks edges c.args.self.now c.args.task c.self.view_is) in
     let many = sym (length-map held (λ (h : Held). hold_of (plain_held h))) ∙ ap length (held_shown stacks edges c.args.self.now c.args.task c.self.view_is held c.held.ensures.held) in
     subst (λ k. OnTrue c.is_unlinked.result (k < length (get_or c.args.self.now.stacks c.args.task []))) start
     (subst (λ n. OnTrue c.is_unlinked.result (c.start-start.result < n)) many c.is_unlinked.ensures)

@@ -58,20 +58,20 @@ module _ {before : List EdgeFact} (stacks : List PlainStack) (edges : List EdgeF
 pub returns-in_default-clause-held : goal.returns-in_default-clause-held
 returns-in_default-clause-held c =
     sym (none_held c.self.inside.stacks c.self.inside.edges.edges c.args.self.now c.args.task (plain_lock c.args.lock) c.held-held.result.now
-    c.start-start.result c.self.view_is c.held-held.ensures.held (c.start-start.ensures ∙ ap start_now c.interrupts.ensures) c.in_default.ensures.none)
+    c.start-start.result c.self.view_is c.held-held.ensures.held (c.start-start.ensures ∙ ap start_now c.context.ensures) c.in_default.ensures.none)
 
 pub returns-in_default-clause-stacks : goal.returns-in_default-clause-stacks
 returns-in_default-clause-stacks c =
     none_gone c.args.self.now c.args.task (start_now (get_or c.args.self.now.interrupts c.args.task fresh)) (plain_lock c.args.lock)
     (none_held c.self.inside.stacks c.self.inside.edges.edges c.args.self.now c.args.task (plain_lock c.args.lock) c.held-held.result.now
-    c.start-start.result c.self.view_is c.held-held.ensures.held (c.start-start.ensures ∙ ap start_now c.interrupts.ensures) c.in_default.ensures.none)
+    c.start-start.result c.self.view_is c.held-held.ensures.held (c.start-start.ensures ∙ ap start_now c.context.ensures) c.in_default.ensures.none)
 
 pub take_out-requires-clause-inner : goal.take_out-requires-clause-inner
 take_out-requires-clause-inner c =
     subst (λ interrupts. start_now interrupts ≤ c.start-start.result + c.in-Some.place)
     (interrupts_shown c.self.inside.stacks c.self.inside.edges.edges c.args.self.now c.args.task c.self.view_is)
     (low c.self.inside.stacks c.self.inside.edges.edges c.args.self.now c.args.task (plain_lock c.args.lock) c.held-held.result.now c.start-start.result
-    c.self.view_is c.held-held.ensures.held (c.start-start.ensures ∙ ap start_now c.interrupts.ensures) c.in-Some.place c.in-Some.ensures.place c.in-Some.ensures.last)
+    c.self.view_is c.held-held.ensures.held (c.start-start.ensures ∙ ap start_now c.context.ensures) c.in-Some.place c.in-Some.ensures.place c.in-Some.ensures.last)
 
 pub take_out-requires-clause-held : goal.take_out-requires-clause-held
 take_out-requires-clause-held c =
@@ -79,12 +79,12 @@ take_out-requires-clause-held c =
     (sym (length-map (get_or c.self.inside.stacks c.args.task empty_stack).held hold_of)
     ∙ ap length (holds_shown c.self.inside.stacks c.self.inside.edges.edges c.args.self.now c.args.task c.self.view_is))
     (high c.self.inside.stacks c.self.inside.edges.edges c.args.self.now c.args.task (plain_lock c.args.lock) c.held-held.result.now c.start-start.result
-    c.self.view_is c.held-held.ensures.held (c.start-start.ensures ∙ ap start_now c.interrupts.ensures) c.in-Some.place c.in-Some.ensures.place c.in-Some.ensures.last)
+    c.self.view_is c.held-held.ensures.held (c.start-start.ensures ∙ ap start_now c.context.ensures) c.in-Some.place c.in-Some.ensures.place c.in-Some.ensures.last)
 
 pub returns-clause-held : goal.returns-clause-held
 returns-clause-held c =
     was_held c.self.inside.stacks c.self.inside.edges.edges c.args.self.now c.args.task (plain_lock c.args.lock) c.held-held.result.now c.start-start.result
-    c.self.view_is c.held-held.ensures.held (c.start-start.ensures ∙ ap start_now c.interrupts.ensures) c.in-Some.place c.in-Some.ensures.place c.in-Some.ensures.last
+    c.self.view_is c.held-held.ensures.held (c.start-start.ensures ∙ ap start_now c.context.ensures) c.in-Some.place c.in-Some.ensures.place c.in-Some.ensures.last
 
 pub returns-clause-stacks : goal.returns-clause-stacks
 returns-clause-stacks c =
@@ -92,4 +92,4 @@ returns-clause-stacks c =
     ∙ ap (λ hs. record c.args.self.now { stacks = set c.args.self.now.stacks c.args.task hs })
     (sym (cut_shown c.self.inside.stacks c.self.inside.edges.edges c.args.self.now c.args.task c.self.view_is (c.start-start.result + c.in-Some.place))
     ∙ gone c.self.inside.stacks c.self.inside.edges.edges c.args.self.now c.args.task (plain_lock c.args.lock) c.held-held.result.now c.start-start.result
-    c.self.view_is c.held-held.ensures.held (c.start-start.ensures ∙ ap start_now c.interrupts.ensures) c.in-Some.place c.in-Some.ensures.place c.in-Some.ensures.last)
+    c.self.view_is c.held-held.ensures.held (c.start-start.ensures ∙ ap start_now c.context.ensures) c.in-Some.place c.in-Some.ensures.place c.in-Some.ensures.last)

@@ -12,7 +12,7 @@ pub returns-then-is_at-clause-place : goal.returns-then-is_at-clause-place
 returns-then-is_at-clause-place c =
     c.place_of_number.ensures.place
     ∙ sym (place-known MOST_KNOWN_TASKS c.self.inside.known c.self.inside.here c.self.invariant c.args.name.now
-    c.self.inside.last c.if-is_at.ensures)
+    c.self.inside.last c.if-is_at.ensures.at)
     ∙ ap (λ tasks. place_of_task tasks c.args.name.now) c.self.view_is
 
 pub returns-then-is_at-clause-here : goal.returns-then-is_at-clause-here

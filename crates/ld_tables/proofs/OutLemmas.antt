@@ -1,3 +1,4 @@
+-- A lock that is taken out of a stack.
 use Rattle.std.proofs.Common.{◌≡◌, ℕ, ◌<◌, ◌≤◌, ◌+◌, ◌-◌, ◌++◌, ◌∷◌, List, [], map, length, take, drop, get_or, set, sym, ap, subst, ◌∙◌, arith}
 use Rattle.std.proofs.lemmas.List.{append-nil, append_assoc, drop-append-le, drop_all, get_or-set_same, length-append}
 use Rattle.std.proofs.lemmas.List.{length-drop, length-map, length-set, length-take-le, take-append-le, take-map}
@@ -10,7 +11,6 @@ use Rattle.ld_rules.specs.declared.outcome.TheConstants.{MOST_HELD}
 use Rattle.ld_tables.specs.Inner.Chains.{chains_of}
 use Rattle.ld_tables.proofs.LockLemmas.{held_shown, interrupts_shown, put_again}
 use Rattle.ld_tables.proofs.TopLemmas.{cut, fewer, lower_is, lower_many, stays_within, tied, whole}
-use Rattle.ld_tables.proofs.locks.Locks.+take_out.Goals as goal
 
 -- a list without the one at a place
 abbrev without : ℕ → List Hold → List Hold
@@ -49,22 +49,22 @@ module _ {before : List EdgeFact} (stacks : List PlainStack) (edges : List EdgeF
 
   -- without the last one
   module _ (after : List PlainStack) (put : after ≡ set stacks task (record stack { held = take top stack.held })) where
-    tied_below : (chains : _) (told : _) → AreTied stacks chains told edges → AreTied after chains told edges
+    pub tied_below : (chains : _) (told : _) → AreTied stacks chains told edges → AreTied after chains told edges
     tied_below = tied stacks edges known task held is same inner_below task_within after put
 
     cut_below : held_by_tasks after edges before ≡ record known { stacks = set known.stacks task lower_holds }
     cut_below = cut stacks edges known task held is same inner_below task_within after put
 
-    within_below : task < length (held_by_tasks after edges before).stacks
+    pub within_below : task < length (held_by_tasks after edges before).stacks
     within_below = stays_within stacks edges known task held is same inner_below task_within after put
 
     lower_at : get_or (held_by_tasks after edges before).stacks task [] ≡ lower_holds
     lower_at = lower_is stacks edges known task held is same inner_below task_within after put
 
-    fewer_below : length (get_or (held_by_tasks after edges before).stacks task []) < length (get_or known.stacks task [])
+    pub fewer_below : length (get_or (held_by_tasks after edges before).stacks task []) < length (get_or known.stacks task [])
     fewer_below = fewer stacks edges known task held is same inner_below task_within after put
 
-    was_last : place ≡ top → held_by_tasks after edges before ≡ record known { stacks = set known.stacks task (without place (get_or known.stacks task [])) }
+    pub was_last : place ≡ top → held_by_tasks after edges before ≡ record known { stacks = set known.stacks task (without place (get_or known.stacks task [])) }
     was_last at =
         cut_below ∙ ap (λ hs. record known { stacks = set known.stacks task hs })
         (sym (append-nil lower_holds)
@@ -72,10 +72,10 @@ module _ {before : List EdgeFact} (stacks : List PlainStack) (edges : List EdgeF
         ++ sym (drop_all (place + 1) (holds_of held) (omega (arith, at, inside, length-map held (λ (h : Held). hold_of (plain_held h))))) i)
         ∙ ap (without place) (held_shown stacks edges known task is held same))
 
-    inner_stays : start_now (get_or (held_by_tasks after edges before).interrupts task fresh) ≤ place
+    pub inner_stays : start_now (get_or (held_by_tasks after edges before).interrupts task fresh) ≤ place
     inner_stays = subst (λ interrupts. start_now interrupts ≤ place) (sym (ap (λ (k : HeldByTasks). get_or k.interrupts task fresh) cut_below)) inner
 
-    stays_below : (place ≡ top → ⊥) → place < length (get_or (held_by_tasks after edges before).stacks task [])
+    pub stays_below : (place ≡ top → ⊥) → place < length (get_or (held_by_tasks after edges before).stacks task [])
     stays_below other = omega (arith, other, inside, ap length lower_at, many_lower)
 
     -- and without the one at the place
@@ -87,7 +87,7 @@ module _ {before : List EdgeFact} (stacks : List PlainStack) (edges : List EdgeF
       lesser_within : task < length new.stacks
       lesser_within = subst (λ n. task < n) (sym (ap (λ (k : HeldByTasks). length k.stacks) lesser ∙ length-set known.stacks task (without place lower_holds))) task_within
 
-      room : (most : ℕ) → length held ≤ most → (place ≡ top → ⊥) → length (get_or new.stacks task []) < most
+      pub room : (most : ℕ) → length held ≤ most → (place ≡ top → ⊥) → length (get_or new.stacks task []) < most
       room most depth other =
           let now : get_or new.stacks task [] ≡ without place lower_holds =
           ap (λ (k : HeldByTasks). get_or k.stacks task []) lesser ∙ get_or-set_same known.stacks task (without place lower_holds) [] task_within in
@@ -102,7 +102,7 @@ module _ {before : List EdgeFact} (stacks : List PlainStack) (edges : List EdgeF
             inside,
           )
 
-      again : (d : Held) (last : HeldByTasks) → (place ≡ top → ⊥)
+      pub again : (d : Held) (last : HeldByTasks) → (place ≡ top → ⊥)
           → last ≡ record new { stacks = set new.stacks task (get_or new.stacks task [] ++ hold_of (plain_held (get_or held top d)) ∷ []) }
           → last ≡ record known { stacks = set known.stacks task (without place (get_or known.stacks task [])) }
       again d last other held_last =
@@ -110,52 +110,3 @@ module _ {before : List EdgeFact} (stacks : List PlainStack) (edges : List EdgeF
           ∙ ap (λ hs. record known { stacks = set known.stacks task hs })
           (without-push place lower_holds (hold_of (plain_held (get_or held top d))) (omega (arith, other, inside, many_lower))
           ∙ ap (without place) (whole stacks edges known task held is same inner_below task_within d))
-
-pub invariant_of-self : goal.invariant_of-self
-invariant_of-self t c = record {
-  tied = tied_below c.self.inside.stacks c.self.inside.edges.edges c.args.self.now c.args.task c.held-held.result.now c.self.view_is c.held-held.ensures.held
-      c.args.place c.requires.inner c.requires.held c.requires.task c.truncate.new.self c.truncate.ensures (chains_of c.self.inside.chains.links) c.self.inside.told c.self.invariant.tied;
-  start = c.self.invariant.start;
-  numbered = c.self.invariant.numbered;
-}
-
-pub returns-then-place-top : goal.returns-then-place-top
-returns-then-place-top t c =
-    was_last c.self.inside.stacks c.self.inside.edges.edges c.args.self.now c.args.task c.held-held.result.now c.self.view_is c.held-held.ensures.held
-    c.args.place c.requires.inner c.requires.held c.requires.task c.truncate.new.self c.truncate.ensures c.if-place-top.true
-
-pub invariant_of-self-2 : goal.invariant_of-self-2
-invariant_of-self-2 t c = record {
-  tied = tied_below c.self.inside.stacks c.self.inside.edges.edges c.args.self.now c.args.task c.held-held.result.now c.self.view_is c.held-held.ensures.held
-      c.args.place c.requires.inner c.requires.held c.requires.task c.truncate-2.new.self c.truncate-2.ensures (chains_of c.self.inside.chains.links) c.self.inside.told c.self.invariant.tied;
-  start = c.self.invariant.start;
-  numbered = c.self.invariant.numbered;
-}
-
-pub take_out-requires : goal.take_out-requires
-take_out-requires t c = (
-  (let shrinks = fewer_below c.self.inside.stacks c.self.inside.edges.edges c.args.self.now c.args.task c.held-held.result.now c.self.view_is c.held-held.ensures.held
-      c.args.place c.requires.inner c.requires.held c.requires.task c.truncate-2.new.self c.truncate-2.ensures in omega (arith, shrinks, c.decreases)),
-  (
-    within_below c.self.inside.stacks c.self.inside.edges.edges c.args.self.now c.args.task c.held-held.result.now c.self.view_is c.held-held.ensures.held
-        c.args.place c.requires.inner c.requires.held c.requires.task c.truncate-2.new.self c.truncate-2.ensures,
-    (
-      inner_stays c.self.inside.stacks c.self.inside.edges.edges c.args.self.now c.args.task c.held-held.result.now c.self.view_is c.held-held.ensures.held
-          c.args.place c.requires.inner c.requires.held c.requires.task c.truncate-2.new.self c.truncate-2.ensures,
-      stays_below c.self.inside.stacks c.self.inside.edges.edges c.args.self.now c.args.task c.held-held.result.now c.self.view_is c.held-held.ensures.held
-          c.args.place c.requires.inner c.requires.held c.requires.task c.truncate-2.new.self c.truncate-2.ensures c.if-place-top.false,
-    ),
-  ),
-)
-
-pub put-requires-clause-room : goal.put-requires-clause-room
-put-requires-clause-room t c =
-    room c.self.inside.stacks c.self.inside.edges.edges c.args.self.now c.args.task c.held-held.result.now c.self.view_is c.held-held.ensures.held
-    c.args.place c.requires.inner c.requires.held c.requires.task c.truncate-2.new.self c.truncate-2.ensures c.take_out.new.self c.take_out.ensures
-    MOST_HELD c.held-held.ensures.depth c.if-place-top.false
-
-pub returns : goal.returns
-returns t c =
-    again c.self.inside.stacks c.self.inside.edges.edges c.args.self.now c.args.task c.held-held.result.now c.self.view_is c.held-held.ensures.held
-    c.args.place c.requires.inner c.requires.held c.requires.task c.truncate-2.new.self c.truncate-2.ensures c.take_out.new.self c.take_out.ensures
-    _ c.put.new.self c.if-place-top.false c.put.ensures

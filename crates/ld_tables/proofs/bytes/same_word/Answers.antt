@@ -1,0 +1,13 @@
+use Rattle.std.proofs.Common.{rules, ◌≡◌, ◌<◌, ℕ, nat_eq, get_or, length, w64, sym, ap, ◌∙◌}
+use Rattle.std.proofs.lemmas.Slice.Eq.{bytes_eq-Decides}
+use Rattle.std.specs.Bool.{one_answer}
+use Rattle.std.specs.Str.{bytes_eq}
+use Rattle.ld_tables.proofs.ByteLemmas.{word-Decides}
+use Rattle.ld_tables.proofs.bytes.same_word.Goals as goal
+
+pub returns : goal.returns
+returns c =
+    let a = c.args.a.now in
+    let b = c.args.b.now in
+    (λ i. nat_eq (c.from_le_bytes.ensures i) (c.from_le_bytes-2.ensures i))
+    ∙ one_answer _ _ (word-Decides a b c.told-a c.told-b c.fits-a c.fits-b) (bytes_eq-Decides a b)
