@@ -4,7 +4,7 @@ use Rattle.std.proofs.Common.{List, [], ◌∷◌, length, get_or, map, None, Is
 use Rattle.std.proofs.Common.{arith, refl, sym, ap, subst, ◌∙◌}
 use Rattle.std.proofs.lemmas.Bool.{cases_lt, false≢true}
 use Rattle.std.proofs.lemmas.List.{get_or_past, length-map}
-use Rattle.ld_graph.specs.Order.{AreRepaired, HasStep, IsBelow, IsOrder, IsRank, KeepsRanks}
+use Rattle.ld_graph.specs.Order.{AreRepaired, HasStep, IsNotAgainst, IsOrder, IsRank, KeepsRanks}
 use Rattle.ld_graph.specs.Inner.Placed.{AreFit}
 use Rattle.ld_graph.specs.Inner.Repairs.{AreInverse, IsRepaired, told}
 use Rattle.ld_graph.proofs.MendLemmas.{some_within}
@@ -23,8 +23,8 @@ rank_is ranks c r e = told_some (get_or ranks c 0) r (sym (read_told ranks c) �
 pub is_rank : (ranks : List ℕ) (c r : ℕ) → 0 < r → get_or ranks c 0 ≡ r → IsRank (map told ranks) c r
 is_rank ranks c r u e = read_told ranks c ∙ ap told e ∙ told_is r u
 
-pub IsBelow-fit : (a b : ℕ) (old new : List ℕ) → AreFit a b old new → IsBelow (map told old) a b
-IsBelow-fit a b old new h r s e f =
+pub IsNotAgainst-fit : (a b : ℕ) (old new : List ℕ) → AreFit a b old new → IsNotAgainst (map told old) a b
+IsNotAgainst-fit a b old new h r s e f =
     let x = rank_is old a r e in
     let y = rank_is old b s f in
     let l = h.below x.1 y.1 in
@@ -52,8 +52,12 @@ AreRepaired-told step a b expanded old new u against h = record {
       let xe = x.0 in let s = x.1 in
       is_rank new c r (omega (arith, xe, s)) (h.outside c (some_within old c s)
       (subst (λ z. (z < get_or old b 0) ⊎ (get_or old a 0 < z)) (sym xe) o) ∙ xe);
-  none = λ c e. read_told new c ∙ ap told (none c (told_none (get_or old c 0) (sym (read_told old c)
-      ∙ e)) (cases_lt c (length old)));
+  none = λ c. (
+    λ e. read_told new c ∙ ap told (none c (told_none (get_or old c 0) (sym (read_told old c)
+        ∙ e)) (cases_lt c (length old))),
+    λ e. read_told old c ∙ ap told (was_none c (told_none (get_or new c 0) (sym (read_told new c)
+        ∙ e)) (cases_lt 0 (get_or old c 0))),
+  );
   some = h.some;
   few = h.few;
 }
@@ -61,6 +65,10 @@ AreRepaired-told step a b expanded old new u against h = record {
     none : (c : ℕ) → get_or old c 0 ≡ 0 → (c < length old) ⊎ (length old ≤ c) → get_or new c 0 ≡ 0
     none c e (inl l) = h.outside c l (inl (omega (arith, e, u))) ∙ e
     none c e (inr l) = let n = h.len in get_or_past new c 0 (omega (arith, l, n))
+
+    was_none : (c : ℕ) → get_or new c 0 ≡ 0 → (0 < get_or old c 0) ⊎ (get_or old c 0 ≤ 0) → get_or old c 0 ≡ 0
+    was_none c e (inl u) = let v = h.ranked c u in absurd (omega (arith, e, v))
+    was_none c e (inr l) = omega (arith, l)
 
 some_told : (n : ℕ) → IsSome (told n) ↔ (0 < n)
 some_told zero = (λ s. absurd (false≢true s), λ u. absurd (omega (arith, u)))

@@ -9,7 +9,7 @@ use Rattle.ld_graph.specs.declared.placed.Insert.{Insert}
 use Rattle.ld_graph.specs.declared.placed.Insert.TheVariants.{Known, Kept, Moved, Closed, AfterCycle}
 use Rattle.ld_graph.specs.declared.Edge.{Edge}
 use Rattle.ld_graph.specs.Edges.{edge, IsEdge, PlainGraph, with_edge}
-use Rattle.ld_graph.specs.Order.{AreRepaired, HasCycle, HasStep, IsBelow, IsInserted, KeepsRanks}
+use Rattle.ld_graph.specs.Order.{AreRepaired, HasCycle, HasStep, IsNotAgainst, IsInserted, KeepsRanks}
 use Rattle.ld_graph.specs.Order.{IsOrder}
 use Rattle.ld_graph.specs.Lists.{IsNear}
 use Rattle.ld_graph.specs.Inner.Kept.{IsKept, order_of, graph_of}
@@ -18,7 +18,7 @@ use Rattle.ld_graph.specs.Inner.Repairs.{AreInverse, IsOrReaches, told}
 use Rattle.ld_graph.proofs.EdgeLemmas.{IsEdge-push}
 use Rattle.ld_graph.proofs.EndedLemmas.{Far-rises, Far-same}
 use Rattle.ld_graph.proofs.MendLemmas.{some_within}
-use Rattle.ld_graph.proofs.OrderLemmas.{AreRepaired-told, IsBelow-fit, IsOrder-told}
+use Rattle.ld_graph.proofs.OrderLemmas.{AreRepaired-told, IsNotAgainst-fit, IsOrder-told}
 use Rattle.ld_graph.proofs.OrderLemmas.{KeepsRanks-fit}
 use Rattle.ld_graph.proofs.MarkLemmas.{bool_cases}
 use Rattle.ld_graph.proofs.WalkLemmas.{HasWalk-Far, IsWalk-Far}
@@ -207,8 +207,8 @@ module _ (g : Inside) (h : IsKept g) (a b : ℕ) (now : Bool) (ranks : List ℕ)
   inserted Kept p fresh = record {
     fresh = fresh;
     no_cycle = acyclic (IsEdge (g.edges.keys ++ edge a b ∷ [])) ranks (placed_rises Kept p p.1.0);
-    ranks = subst (λ z. MatchOption (order_of z g.ranks.ranks) ⊥ (λ r. IsBelow r a b)) (sym p.0)
-        (IsBelow-fit a b g.ranks.ranks ranks p.1.1);
+    ranks = subst (λ z. MatchOption (order_of z g.ranks.ranks) ⊥ (λ r. IsNotAgainst r a b)) (sym p.0)
+        (IsNotAgainst-fit a b g.ranks.ranks ranks p.1.1);
     stays = subst (λ z. MatchOption (order_of z g.ranks.ranks) ⊥ (λ r. MatchOption (order_of now
         ranks) ⊥ (KeepsRanks r))) (sym p.0)
         (subst (λ z. MatchOption (order_of z ranks) ⊥ (KeepsRanks (map told g.ranks.ranks)))

@@ -43,16 +43,16 @@ empty_graph = record {
 }
 
 -- the ranks with one more class, which has none
-abbrev pub with_last : Option (List (Option ℕ)) → Option (List (Option ℕ))
-with_last None = None
-with_last (Some ranks) = Some (ranks ++ None ∷ [])
+abbrev pub with_unranked : Option (List (Option ℕ)) → Option (List (Option ℕ))
+with_unranked None = None
+with_unranked (Some ranks) = Some (ranks ++ None ∷ [])
 
 -- the graph with one more class, which took a spare one
 abbrev pub with_class : PlainGraph → PlainGraph
 with_class g = record g {
   classes = g.classes + 1;
   spare_classes = g.spare_classes - 1;
-  order = with_last g.order;
+  order = with_unranked g.order;
 }
 
 -- the graph with one more edge, which took a spare one, and with this order

@@ -34,15 +34,15 @@ abbrev pub HasCycle : (ℕ → ℕ → Type 0) → Type 0
 HasCycle step = (c : ℕ) × HasWalk step c c
 
 -- where both have a rank, a's is the lesser
-abbrev pub IsBelow : List (Option ℕ) → (a b : ℕ) → Type 0
-IsBelow ranks a b = (r s : ℕ) → IsRank ranks a r → IsRank ranks b s → r < s
+abbrev pub IsNotAgainst : List (Option ℕ) → (a b : ℕ) → Type 0
+IsNotAgainst ranks a b = (r s : ℕ) → IsRank ranks a r → IsRank ranks b s → r < s
 
 -- every class that has a rank keeps it
 abbrev pub KeepsRanks : (old new : List (Option ℕ)) → Type 0
 KeepsRanks old new = (c r : ℕ) → IsRank old c r → IsRank new c r
 
--- ranks were repaired for an edge from a to b: only those in the range from b's to a's change, no
--- class gets one, and some lists were read, at most as many as there are ranks in the range
+-- ranks were repaired for an edge from a to b: only those in the range from b's to a's change, the same
+-- classes have one, and some lists were read, at most as many as there are ranks in the range
 pub record AreRepaired (a b expanded : ℕ) (old new : List (Option ℕ)) : Type 0 where
   pub low : ℕ
   pub high : ℕ
@@ -50,7 +50,7 @@ pub record AreRepaired (a b expanded : ℕ) (old new : List (Option ℕ)) : Type
   pub at_a : IsRank old a high
   pub against : low < high
   pub outside : (c r : ℕ) → IsRank old c r → (r < low) ⊎ (high < r) → IsRank new c r
-  pub none : (c : ℕ) → rank_of old c ≡ None → rank_of new c ≡ None
+  pub none : (c : ℕ) → rank_of old c ≡ None ↔ rank_of new c ≡ None
   pub some : 0 < expanded
   pub few : expanded + low ≤ high + 1
 
@@ -64,7 +64,7 @@ pub record IsThere (old : PlainGraph) (a b : ℕ) (new : PlainGraph) : Type 0 wh
 pub record IsInOrder (old : PlainGraph) (a b : ℕ) (new : PlainGraph) : Type 0 where
   pub fresh : ¬ IsEdge old.edges a b
   pub no_cycle : ¬ HasCycle (IsEdge new.edges)
-  pub ranks : MatchOption old.order ⊥ (λ ranks. IsBelow ranks a b)
+  pub ranks : MatchOption old.order ⊥ (λ ranks. IsNotAgainst ranks a b)
   pub stays : MatchOption old.order ⊥ (λ ranks. MatchOption new.order ⊥ (KeepsRanks ranks))
   pub graph : new ≡ with_edge old a b new.order
 

@@ -161,10 +161,11 @@ impl Graph {
         Some(number as u64)
     }
 
-    /// Inserts the edge from `a` to `b`, which takes a spare one. A class whose first edge it is gets a
-    /// rank before or behind all others. Where `a` is ranked below `b` then, all ranks stand. Else those
-    /// from the rank of `b` to that of `a` are repaired, or the edge closes a cycle, and from then on there
-    /// is no order. An edge that is there already changes nothing. Takes no memory.
+    /// Inserts the edge from `a` to `b`, which takes a spare one. So long as there is no cycle, a class
+    /// whose first edge it is gets a rank before or behind all that there were. Where `a` is ranked below
+    /// `b` then, all ranks stand. Else those from the rank of `b` to that of `a` are repaired, or the edge
+    /// closes a cycle, and from then on there is no order. An edge that is there already changes nothing.
+    /// Takes no memory.
     pub fn insert(&mut self, a: u32, b: u32) -> Insert
         requires a { a < self.old.classes }
         requires b { b < self.old.classes }
@@ -259,9 +260,9 @@ impl Graph {
         distances.search(&self.lists, to);
     }
 
-    /// Of what `distances` gives, for each of the wanted classes that walks from `to` lead to, as much as
-    /// `walk_along` needs for the walk from it, by a search that stays in the component of `to` and ends
-    /// where the last of them was found. The list is the same for many searches. Takes no memory.
+    /// Of what `distances` gives, for each of the wanted classes that `to` reaches, as much as `walk_along`
+    /// needs for the walk from it, by a search that stays in the component of `to` and ends where the last
+    /// of them was found. The list is the same for many searches. Takes no memory.
     pub fn distances_inside(
         &self,
         to: u32,
@@ -305,8 +306,8 @@ impl Graph {
     }
 
     /// The walk from `a` to `b` that `walk` gives, by the distances to `b` that `distances` or `distances_to`
-    /// gave, or `distances_inside` where `a` was wanted. So one search serves the walks from many classes to
-    /// one.
+    /// gave, or `distances_inside` where `a` was wanted and `b` reaches it. So one search serves the walks from
+    /// many classes to one.
     ///
     /// # Errors
     ///

@@ -13,8 +13,7 @@ use crate::lists::{Lists, Steps};
 use std::alloc::{AllocError, Global};
 use std::marker::Model;
 
-/// For each class its distance to one of them, or for the classes of one component alone. Made once for many
-/// searches.
+/// The distances to one class that the last search has found. Made once for many searches.
 #[derive(Drop)]
 pub struct Distances {
     levels: Vec<Option<u32>>,
@@ -161,11 +160,12 @@ fn expand_inside(
     }
 }
 
-/// How many of these classes have a level, from the first on, where the first `known` do.
+/// How many of these classes, from the first on, have a level before one has none, where the first `known` do.
 fn known_front(levels: &[Option<u32>], wanted: &[u32], known: usize) -> usize
     requires wanted { All (λ w. w < length levels.now) wanted.now }
     requires known { (i : ℕ) → i < known → HasLevel levels.now (slice_index_or wanted.now i 0) }
     ensures known { (i : ℕ) → i < result → HasLevel levels.now (slice_index_or wanted.now i 0) }
+    ensures next { result < length wanted.now → level_at levels.now (slice_index_or wanted.now result 0) ≡ None }
 {
     let mut known = known;
     while known < wanted.len() {

@@ -23,9 +23,9 @@ pub struct Space {
     pub behind: Search,
     /// What the search forward has found.
     pub ahead: Search,
-    /// The classes of the range in their new order.
+    /// At its front the classes of the range in their new order.
     pub moved: Vec<u32>,
-    /// Those of them that come behind, until they are joined to the others.
+    /// At its front those of them that come behind, until they are joined to the others.
     pub rest: Vec<u32>,
 }
 
@@ -52,8 +52,8 @@ impl Part {
 }
 
 /// Writes the classes of one part of the row to the one list and the others to the other, all in
-/// their order, and answers how many are of the part. Each class is written to both, and what isn't of
-/// the list is written over, so that no step depends on what was found.
+/// their order, and answers how many are of the part. Each class is written to both lists, where the
+/// next one of the list is written over it if it isn't of that, so that no jump depends on what was found.
 fn part_row(
     row: &[u32],
     search: &Search,

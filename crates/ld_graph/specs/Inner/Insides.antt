@@ -17,7 +17,7 @@ pub record AreTouched (levels : List (Option ℕ)) (touched : List ℕ) : Type 0
   pub within : (x : ℕ) → Contains touched x → x < length levels
   pub all : (x k : ℕ) → level_at levels x ≡ Some k → Contains touched x
 
--- the same of the levels that a search gave, over all classes: enough is known for the class w
+-- `AreEnough` of the levels that a search gave for the class w, where what is known is right of any class
 pub record AreLevelsFor (step : ℕ → ℕ → Type 0) (w end : ℕ) (levels : List (Option ℕ)) : Type 0 where
   pub own : DistanceIs step w end (level_at levels w)
   pub right : (c n : ℕ) → level_at levels c ≡ Some n → IsDistance step c end n

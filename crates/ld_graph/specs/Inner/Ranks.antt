@@ -16,7 +16,7 @@ shown r = record {
 
 pub record IsRanked (r : Inside) : Type 0 where
   pub inverse : AreInverse r.ranks.items r.order.items r.first
-  -- the first class that got a rank was given this one, and each next one a rank beside the others
+  -- the ranks began in the middle of all numbers, and grew at both ends
   pub before : r.first ≤ 2 ^ 31
   pub after : 2 ^ 31 ≤ r.first + length r.order.items
   pub within : vec_len r.ranks ≤ r.room

@@ -15,8 +15,8 @@ use crate::union::Union;
 use ld_class::{ClassName, Classes};
 use std::alloc::{AllocError, Global};
 
-/// The names of the shown walk between these classes, by the distances to the second one of those that
-/// the first one leads to, or `None` where no walk leads there.
+/// The names of the shown walk between these classes, by distances to the second one that are enough for
+/// it, or `None` where no walk leads there.
 pub(crate) fn walk_names<'a>(
     alloc: Global,
     union: &Union<'a>,
