@@ -11,6 +11,7 @@ pub mod MarkLemmas
 pub mod SoughtLemmas
 pub mod PartLemmas
 pub mod RangeLemmas
+pub mod LineLemmas
 pub mod MendLemmas
 pub mod PlanLemmas
 pub mod RankLemmas

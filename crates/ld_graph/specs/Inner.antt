@@ -5,6 +5,7 @@ pub mod Sides
 pub mod Levels
 pub mod Repairs
 pub mod Marks
+pub mod Lines
 pub mod Ranks
 pub mod Placed
 pub mod Kept

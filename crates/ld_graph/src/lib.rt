@@ -6,6 +6,7 @@ mod components;
 mod graph;
 mod inside;
 mod levels;
+mod line;
 mod lists;
 mod neighbours;
 mod placed;

@@ -6,11 +6,11 @@ ghost use Rattle.ld_graph.specs.declared.graph.TheConstants.{MOST_GRAPH_CLASSES}
 ghost use Rattle.ld_graph.specs.Inner.Repairs.{AreInverse, IsPut, IsRepaired, IsOrReaches, told};
 ghost use Rattle.ld_graph.specs.Lists.{IsNear};
 
+use crate::line::Line;
 use crate::lists::{Lists, Steps};
 use crate::repair::{Space, mend};
 use crate::search::Search;
 use std::alloc::{AllocError, Global};
-use std::collections::VecDeque;
 use std::marker::Model;
 
 /// The rank of each class that has one, and the ranked classes in their order.
@@ -18,7 +18,8 @@ use std::marker::Model;
 pub struct Ranks {
     /// The rank of each class, or 0 where it has none. No class is ranked 0.
     ranks: Vec<u32>,
-    order: VecDeque<u32>,
+    /// The ranked classes in their order.
+    order: Line,
     /// The rank of the first class in the order.
     first: u32,
     /// The classes of a range, while it is repaired.
@@ -54,7 +55,7 @@ impl Ranks {
         };
         Ranks {
             ranks: Vec::new(alloc),
-            order: VecDeque::new(alloc),
+            order: Line::new(alloc),
             // The middle of all numbers, so that there are ranks for all classes on both sides.
             first: 1 << 31,
             row: Vec::new(alloc),
@@ -96,7 +97,7 @@ impl Ranks {
             return Ok(());
         }
         self.ranks.reserve(classes - self.ranks.len())?;
-        self.order.reserve(classes - self.order.len())?;
+        self.order.room(classes)?;
         self.row.clear();
         self.row.reserve(classes)?;
         self.space.behind.room(classes)?;
@@ -129,9 +130,7 @@ impl Ranks {
     {
         self.first -= 1;
         self.ranks[class as usize] = self.first;
-        let Ok(()) = self.order.push_front(class) else {
-            unreachable!()
-        };
+        self.order.put_first(class);
     }
 
     /// Ranks a class that has no rank behind all others.
@@ -144,9 +143,7 @@ impl Ranks {
             → slice_index self.old.ranks c < slice_index self.new.ranks class }
     {
         self.ranks[class as usize] = self.first + self.order.len() as u32;
-        let Ok(()) = self.order.push_back(class) else {
-            unreachable!()
-        };
+        self.order.put_last(class);
     }
 
     /// Repairs the ranks for an edge from `a` to `b` that goes against them, and answers how many

@@ -1,20 +1,19 @@
 //! A repair of the ranks from one rank to another.
 
 ghost use Rattle.std.specs.Prelude.{◌≡◌, ◌≢◌, ◌↔◌, ◌⊎◌, ℕ, ◌+◌, ◌-◌, ◌^◌, ◌<◌, ◌≤◌, [], ◌++◌, not};
-ghost use Rattle.std.specs.Prelude.{length, take, slice_index, slice_range, vec_capacity};
+ghost use Rattle.std.specs.Prelude.{length, take, slice_index, vec_capacity};
 ghost use Rattle.std.specs.Prelude.{IfSome, MatchOption};
-ghost use Rattle.std.specs.VecDeque.{deque_capacity};
 ghost use Rattle.std.specs.Bool.{OnTrue, OnFalse};
 ghost use Rattle.ld_graph.specs.declared.graph.TheConstants.{MOST_GRAPH_CLASSES};
-ghost use Rattle.ld_graph.specs.Inner.Repairs.{AreInverse, HasMet, AreRanked, IsPlan, IsRepaired};
+ghost use Rattle.ld_graph.specs.Inner.Repairs.{AreInverse, HasMet, IsPlan, IsRepaired};
 ghost use Rattle.ld_graph.specs.Inner.Repairs.{IsRow, IsOrReaches};
 ghost use Rattle.ld_graph.specs.Inner.Repairs.{count, in_front, is_part, picked, split};
 ghost use Rattle.ld_graph.specs.Lists.{IsNear};
 
+use crate::line::Line;
 use crate::lists::{Lists, Steps};
 use crate::search::Search;
 use crate::turns::{Side, search_in_turn};
-use std::collections::VecDeque;
 
 /// Room for a repair.
 #[derive(Drop)]
@@ -198,45 +197,22 @@ fn plan(
     if apart { Some(steps.count()) } else { None }
 }
 
-/// Copies the classes at these places of the order.
-fn copy_row(order: &VecDeque<u32>, start: usize, end: usize, row: &mut Vec<u32>)
-    requires range { start ≤ end }
-    requires within { end ≤ length order.now.items }
-    requires room { end - start ≤ vec_capacity row.old }
-    ensures items { row.new.items ≡ slice_range order.now.items start end }
-    ensures capacity { vec_capacity row.old ≤ vec_capacity row.new }
-{
-    let (front, back) = order.as_slices();
-    let len = front.len();
-    row.clear();
-    let Ok(()) = row.extend_from_slice(&front[start.min(len)..end.min(len)]) else {
-        unreachable!()
-    };
-    let Ok(()) = row.extend_from_slice(&back[start.saturating_sub(len)..end.saturating_sub(len)])
-    else {
-        unreachable!()
-    };
-}
-
-/// Gives these classes the ranks from `low` on, in this order, and the places from `start` on.
-fn give_ranks(moved: &[u32], start: usize, low: u32, ranks: &mut [u32], order: &mut VecDeque<u32>)
-    requires within { start + length moved.now ≤ length order.old.items }
+/// Gives these classes the ranks from `low` on, in this order.
+fn give_ranks(moved: &[u32], low: u32, ranks: &mut [u32])
     requires fits { low + length moved.now < 2 ^ 32 }
     requires ends { (k : ℕ) → k < length moved.now
         → slice_index moved.now k < length ranks.old }
     requires once { (j k : ℕ) → j < k → k < length moved.now
         → slice_index moved.now j ≢ slice_index moved.now k }
-    ensures given { AreRanked moved.now start low (length moved.now)
-        ranks.old order.old.items ranks.new order.new.items }
-    ensures len { length order.new.items ≡ length order.old.items }
-    ensures capacity { deque_capacity order.new ≡ deque_capacity order.old }
+    ensures at { (k : ℕ) → k < length moved.now
+        → slice_index ranks.new (slice_index moved.now k) ≡ low + k }
+    ensures rest { (c : ℕ) → ((k : ℕ) → k < length moved.now → slice_index moved.now k ≢ c)
+        → slice_index ranks.new c ≡ slice_index ranks.old c }
 {
-    let (mut rank, mut place) = (low, start);
+    let mut rank = low;
     for class in moved {
         ranks[*class as usize] = rank;
-        order[place] = *class;
         rank += 1;
-        place += 1;
     }
 }
 
@@ -246,7 +222,7 @@ fn give_ranks(moved: &[u32], start: usize, low: u32, ranks: &mut [u32], order: &
 pub fn mend(
     lists: &Lists,
     ranks: &mut [u32],
-    order: &mut VecDeque<u32>,
+    order: &mut Line,
     first: u32,
     a: u32,
     b: u32,
@@ -283,7 +259,7 @@ pub fn mend(
         (IsRepaired (IsNear lists.now.after.lists) a b ranks.old ranks.new) }
     ensures inverse { AreInverse ranks.new order.new.items first }
     ensures len { length order.new.items ≡ length order.old.items }
-    ensures order_room { deque_capacity order.new ≡ deque_capacity order.old }
+    ensures order_room { order.new.room ≡ order.old.room }
     ensures row { vec_capacity row.old ≤ vec_capacity row.new }
     ensures behind { (space.new.behind.found ≡ [])
         × (space.new.behind.size ≡ space.old.behind.size) }
@@ -295,8 +271,10 @@ pub fn mend(
     let low = ranks[b as usize];
     let start = (low - first) as usize;
     let end = (ranks[a as usize] - first) as usize + 1;
-    copy_row(order, start, end, row);
+    order.copy(start, end, row);
     let expanded = plan(lists, ranks, low, row, space, steps)?;
-    give_ranks(&space.moved[..row.len()], start, low, ranks, order);
+    let moved = &space.moved[..row.len()];
+    give_ranks(moved, low, ranks);
+    order.write(start, moved);
     Some(expanded)
 }

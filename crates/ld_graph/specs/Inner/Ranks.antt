@@ -1,6 +1,5 @@
 -- What the ranks keep true of their fields. No public contract cites this file.
 use Rattle.std.specs.Prelude.{◌≡◌, ◌+◌, ◌^◌, ◌≤◌, [], length, vec_len, vec_capacity}
-use Rattle.std.specs.VecDeque.{deque_capacity}
 use Rattle.ld_graph.specs.declared.graph.TheConstants.{MOST_GRAPH_CLASSES}
 use Rattle.ld_graph.specs.declared.ranks.Ranks.TheInside.{Inside}
 use Rattle.ld_graph.specs.Inner.Repairs.{AreInverse, Ranked}
@@ -23,7 +22,7 @@ pub record IsRanked (r : Inside) : Type 0 where
   pub few : r.room ≤ MOST_GRAPH_CLASSES
   -- there is memory, and nothing is left of an earlier repair
   pub ranks_room : r.room ≤ vec_capacity r.ranks
-  pub order_room : r.room ≤ deque_capacity r.order
+  pub order_room : r.room ≤ r.order.room
   pub row_room : r.room ≤ vec_capacity r.row
   pub behind_room : r.room ≤ r.space.behind.size
   pub ahead_room : r.room ≤ r.space.ahead.size

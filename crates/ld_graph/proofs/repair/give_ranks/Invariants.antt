@@ -1,14 +1,10 @@
-use Rattle.std.proofs.Common.{◌≡◌, ◌+◌, length}
-use Rattle.std.specs.VecDeque.{deque_capacity}
-use Rattle.ld_graph.specs.Inner.Repairs.{AreRanked}
+use Rattle.std.proofs.Common.{◌≡◌, ◌≢◌, ◌+◌, ◌<◌, ℕ, get_or}
 use Rattle.ld_graph.proofs.repair.give_ranks.Given as goal
 
 abbrev pub invariant-loop-class : goal.invariant-loop-class
 invariant-loop-class l = record {
   rank : l.rank ≡ l.low + l.class-index;
-  place : l.place ≡ l.start + l.class-index;
-  len : length l.order.items ≡ length l.fn.order.items;
-  capacity : deque_capacity l.order ≡ deque_capacity l.fn.order;
-  given : AreRanked l.moved l.start l.low l.class-index l.fn.ranks l.fn.order.items l.ranks
-      l.order.items;
+  at : (k : ℕ) → k < l.class-index → get_or l.ranks (get_or l.moved k 0) 0 ≡ l.low + k;
+  rest : (c : ℕ) → ((k : ℕ) → k < l.class-index → get_or l.moved k 0 ≢ c)
+      → get_or l.ranks c 0 ≡ get_or l.fn.ranks c 0;
 }

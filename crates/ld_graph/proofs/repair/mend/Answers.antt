@@ -13,14 +13,14 @@ returns-in_err-expanded-clause-ranks c = rw c.from_residual.ensures (
       c.args.first c.requires.inverse c.args.a c.args.b (get_or c.args.ranks.now c.args.b 0)
       (get_or c.args.ranks.now c.args.a 0) (get_or c.args.ranks.now c.args.b 0 - c.args.first) refl
       refl refl c.requires.ranked c.requires.against c.requires.rises c.requires.ends _
-      (c.deref.ensures.value ∙ c.copy_row.ensures.items)
+      (c.deref.ensures.value ∙ c.copy.ensures.items)
       c.in_err-expanded.ensures.plan,
 )
 
-pub give_ranks-requires-clause-within : goal.give_ranks-requires-clause-within
-give_ranks-requires-clause-within c =
+pub write-requires : goal.write-requires
+write-requires c =
     let n : c.len.result ≡ length c.deref.result.now = let e = ap length c.deref.ensures.value in
-    omega (arith, e, c.len.ensures, c.copy_row.new.row.ok.0) in
+    omega (arith, e, c.len.ensures, c.copy.new.row.ok.0) in
     let same : take c.len.result c.deref-2.result.now
     ≡ take (length c.deref.result.now) c.plan.new.space.moved.items =
     ap (take c.len.result) c.deref-2.ensures.value
@@ -29,7 +29,7 @@ give_ranks-requires-clause-within c =
     c.args.first c.requires.inverse c.args.a c.args.b (get_or c.args.ranks.now c.args.b 0)
     (get_or c.args.ranks.now c.args.a 0) (get_or c.args.ranks.now c.args.b 0 - c.args.first) refl
     refl refl c.requires.ranked c.requires.against c.requires.rises c.requires.ends _
-    (c.deref.ensures.value ∙ c.copy_row.ensures.items) _
+    (c.deref.ensures.value ∙ c.copy.ensures.items) _
     c.in_ok-expanded.expanded c.in_ok-expanded.ensures.plan in
     subst (λ z. get_or c.args.ranks.now c.args.b 0 - c.args.first + length z ≤ length
     c.args.order.now.items) (sym same) w
@@ -37,7 +37,7 @@ give_ranks-requires-clause-within c =
 pub give_ranks-requires-clause-fits : goal.give_ranks-requires-clause-fits
 give_ranks-requires-clause-fits c =
     let n : c.len.result ≡ length c.deref.result.now = let e = ap length c.deref.ensures.value in
-    omega (arith, e, c.len.ensures, c.copy_row.new.row.ok.0) in
+    omega (arith, e, c.len.ensures, c.copy.new.row.ok.0) in
     let same : take c.len.result c.deref-2.result.now
     ≡ take (length c.deref.result.now) c.plan.new.space.moved.items =
     ap (take c.len.result) c.deref-2.ensures.value
@@ -46,7 +46,7 @@ give_ranks-requires-clause-fits c =
     c.args.first c.requires.inverse c.args.a c.args.b (get_or c.args.ranks.now c.args.b 0)
     (get_or c.args.ranks.now c.args.a 0) (get_or c.args.ranks.now c.args.b 0 - c.args.first) refl
     refl refl c.requires.ranked c.requires.against c.requires.rises c.requires.ends _
-    (c.deref.ensures.value ∙ c.copy_row.ensures.items) _
+    (c.deref.ensures.value ∙ c.copy.ensures.items) _
     c.in_ok-expanded.expanded c.in_ok-expanded.ensures.plan in
     let l = ap length same in
     let low = (c.requires.inverse.back c.args.b c.requires.ranked).0 in
@@ -55,7 +55,7 @@ give_ranks-requires-clause-fits c =
 pub give_ranks-requires-clause-ends : goal.give_ranks-requires-clause-ends
 give_ranks-requires-clause-ends c =
     let n : c.len.result ≡ length c.deref.result.now = let e = ap length c.deref.ensures.value in
-    omega (arith, e, c.len.ensures, c.copy_row.new.row.ok.0) in
+    omega (arith, e, c.len.ensures, c.copy.new.row.ok.0) in
     let same : take c.len.result c.deref-2.result.now
     ≡ take (length c.deref.result.now) c.plan.new.space.moved.items =
     ap (take c.len.result) c.deref-2.ensures.value
@@ -66,13 +66,13 @@ give_ranks-requires-clause-ends c =
     c.args.first c.requires.inverse c.args.a c.args.b (get_or c.args.ranks.now c.args.b 0)
     (get_or c.args.ranks.now c.args.a 0) (get_or c.args.ranks.now c.args.b 0 - c.args.first) refl
     refl refl c.requires.ranked c.requires.against c.requires.rises c.requires.ends _
-    (c.deref.ensures.value ∙ c.copy_row.ensures.items) _
+    (c.deref.ensures.value ∙ c.copy.ensures.items) _
     c.in_ok-expanded.expanded c.in_ok-expanded.ensures.plan)
 
 pub give_ranks-requires-clause-once : goal.give_ranks-requires-clause-once
 give_ranks-requires-clause-once c =
     let n : c.len.result ≡ length c.deref.result.now = let e = ap length c.deref.ensures.value in
-    omega (arith, e, c.len.ensures, c.copy_row.new.row.ok.0) in
+    omega (arith, e, c.len.ensures, c.copy.new.row.ok.0) in
     let same : take c.len.result c.deref-2.result.now
     ≡ take (length c.deref.result.now) c.plan.new.space.moved.items =
     ap (take c.len.result) c.deref-2.ensures.value
@@ -83,13 +83,13 @@ give_ranks-requires-clause-once c =
     c.args.first c.requires.inverse c.args.a c.args.b (get_or c.args.ranks.now c.args.b 0)
     (get_or c.args.ranks.now c.args.a 0) (get_or c.args.ranks.now c.args.b 0 - c.args.first) refl
     refl refl c.requires.ranked c.requires.against c.requires.rises c.requires.ends _
-    (c.deref.ensures.value ∙ c.copy_row.ensures.items) _
+    (c.deref.ensures.value ∙ c.copy.ensures.items) _
     c.in_ok-expanded.expanded c.in_ok-expanded.ensures.plan)
 
 pub returns-clause-ranks : goal.returns-clause-ranks
 returns-clause-ranks c =
     let n : c.len.result ≡ length c.deref.result.now = let e = ap length c.deref.ensures.value in
-    omega (arith, e, c.len.ensures, c.copy_row.new.row.ok.0) in
+    omega (arith, e, c.len.ensures, c.copy.new.row.ok.0) in
     let same : take c.len.result c.deref-2.result.now
     ≡ take (length c.deref.result.now) c.plan.new.space.moved.items =
     ap (take c.len.result) c.deref-2.ensures.value
@@ -98,18 +98,22 @@ returns-clause-ranks c =
     c.args.first c.requires.inverse c.args.a c.args.b (get_or c.args.ranks.now c.args.b 0)
     (get_or c.args.ranks.now c.args.a 0) (get_or c.args.ranks.now c.args.b 0 - c.args.first) refl
     refl refl c.requires.ranked c.requires.against c.requires.rises c.requires.ends _
-    (c.deref.ensures.value ∙ c.copy_row.ensures.items) _
+    (c.deref.ensures.value ∙ c.copy.ensures.items) _
     c.in_ok-expanded.expanded c.in_ok-expanded.ensures.plan
-    c.give_ranks.new.ranks c.give_ranks.new.order.items
+    c.give_ranks.new.ranks c.write.new.self.items
     (subst (λ z. AreRanked z (get_or c.args.ranks.now c.args.b 0 - c.args.first) (get_or
     c.args.ranks.now c.args.b 0) (length z) c.args.ranks.now c.args.order.now.items
-    c.give_ranks.new.ranks c.give_ranks.new.order.items) same
-    c.give_ranks.ensures.given) c.give_ranks.auto.ranks c.give_ranks.ensures.len
+    c.give_ranks.new.ranks c.write.new.self.items) same (record {
+      rank_at = c.give_ranks.ensures.at;
+      rank_else = c.give_ranks.ensures.rest;
+      class_at = c.write.ensures.written.at;
+      class_else = c.write.ensures.written.rest;
+    })) c.give_ranks.auto.ranks c.write.ensures.written.len
 
 pub returns-clause-inverse : goal.returns-clause-inverse
 returns-clause-inverse c =
     let n : c.len.result ≡ length c.deref.result.now = let e = ap length c.deref.ensures.value in
-    omega (arith, e, c.len.ensures, c.copy_row.new.row.ok.0) in
+    omega (arith, e, c.len.ensures, c.copy.new.row.ok.0) in
     let same : take c.len.result c.deref-2.result.now
     ≡ take (length c.deref.result.now) c.plan.new.space.moved.items =
     ap (take c.len.result) c.deref-2.ensures.value
@@ -118,10 +122,14 @@ returns-clause-inverse c =
     c.args.first c.requires.inverse c.args.a c.args.b (get_or c.args.ranks.now c.args.b 0)
     (get_or c.args.ranks.now c.args.a 0) (get_or c.args.ranks.now c.args.b 0 - c.args.first) refl
     refl refl c.requires.ranked c.requires.against c.requires.rises c.requires.ends _
-    (c.deref.ensures.value ∙ c.copy_row.ensures.items) _
+    (c.deref.ensures.value ∙ c.copy.ensures.items) _
     c.in_ok-expanded.expanded c.in_ok-expanded.ensures.plan
-    c.give_ranks.new.ranks c.give_ranks.new.order.items
+    c.give_ranks.new.ranks c.write.new.self.items
     (subst (λ z. AreRanked z (get_or c.args.ranks.now c.args.b 0 - c.args.first) (get_or
     c.args.ranks.now c.args.b 0) (length z) c.args.ranks.now c.args.order.now.items
-    c.give_ranks.new.ranks c.give_ranks.new.order.items) same
-    c.give_ranks.ensures.given) c.give_ranks.auto.ranks c.give_ranks.ensures.len
+    c.give_ranks.new.ranks c.write.new.self.items) same (record {
+      rank_at = c.give_ranks.ensures.at;
+      rank_else = c.give_ranks.ensures.rest;
+      class_at = c.write.ensures.written.at;
+      class_else = c.write.ensures.written.rest;
+    })) c.give_ranks.auto.ranks c.write.ensures.written.len

@@ -4,8 +4,8 @@ use Rattle.ld_graph.specs.Inner.Repairs.{AreInverse, IsPut}
 use Rattle.ld_graph.proofs.RankLemmas.{AreInverse-first, IsPut-set, ranked_few}
 use Rattle.ld_graph.proofs.ranks.Ranks.put_first.Goals as goal
 
-pub unreachable-requires : goal.unreachable-requires
-unreachable-requires c =
+pub put_first-requires : goal.put_first-requires
+put_first-requires c =
     let i = c.self.invariant in
     let s = c.self.inside in
     let same = ap (λ r. length r.ranks) c.self.view_is in
@@ -24,8 +24,6 @@ unreachable-requires c =
       i.within,
       i.order_room,
       s.ranks.ok.0,
-      s.order.ok.0,
-      c.in_default.ensures.full,
     )
 
 pub invariant_of-self : goal.invariant_of-self
@@ -36,10 +34,10 @@ invariant_of-self c =
     let class : c.args.class < length s.ranks.items = omega (arith, same, c.requires.class) in
     let free = ap (λ r. get_or r.ranks c.args.class 0) c.self.view_is ∙ c.requires.free in
     let old = ranked_few s.ranks.items s.order.items s.first i.inverse in
-    let o = ap length c.in-Ok.ensures.items in
+    let o = ap length c.put_first.ensures.items in
     record {
       inverse = subst (λ (z : List ℕ). AreInverse (set s.ranks.items c.args.class (s.first - 1)) z
-          (s.first - 1)) (sym {A = List ℕ} c.in-Ok.ensures.items)
+          (s.first - 1)) (sym {A = List ℕ} c.put_first.ensures.items)
           (AreInverse-first s.ranks.items s.order.items s.first i.inverse c.args.class class free
           (s.first - 1) (omega (arith, old, i.after, i.within, i.few, s.ranks.ok.0))
           (omega (arith, old, i.after, i.within, i.few, s.ranks.ok.0)));
@@ -48,7 +46,7 @@ invariant_of-self c =
       within = i.within;
       few = i.few;
       ranks_room = i.ranks_room;
-      order_room = omega (arith, i.order_room, c.push_front.ensures.capacity);
+      order_room = omega (arith, i.order_room, c.put_first.ensures.kept);
       row_room = i.row_room;
       behind_room = i.behind_room;
       ahead_room = i.ahead_room;

@@ -10,17 +10,17 @@ overflow_cast-len c =
     let i = c.self.invariant in
     let s = c.self.inside in
     let few = ranked_few s.ranks.items s.order.items s.first i.inverse in
-    omega (arith, few, i.within, i.few, s.ranks.ok.0, s.order.ok.0, c.len.ensures)
+    omega (arith, few, i.within, i.few, s.ranks.ok.0, c.len.ensures)
 
 pub overflow_add-self-inside : goal.overflow_add-self-inside
 overflow_add-self-inside c =
     let i = c.self.invariant in
     let s = c.self.inside in
     let few = ranked_few s.ranks.items s.order.items s.first i.inverse in
-    omega (arith, few, i.before, i.within, i.few, s.ranks.ok.0, s.order.ok.0, c.len.ensures)
+    omega (arith, few, i.before, i.within, i.few, s.ranks.ok.0, c.len.ensures)
 
-pub unreachable-requires : goal.unreachable-requires
-unreachable-requires c =
+pub put_last-requires : goal.put_last-requires
+put_last-requires c =
     let i = c.self.invariant in
     let s = c.self.inside in
     let same = ap (λ r. length r.ranks) c.self.view_is in
@@ -38,8 +38,6 @@ unreachable-requires c =
       i.within,
       i.order_room,
       s.ranks.ok.0,
-      s.order.ok.0,
-      c.in_default.ensures.full,
     )
 
 pub invariant_of-self : goal.invariant_of-self
@@ -52,13 +50,12 @@ invariant_of-self c =
     let rank : s.first + length s.order.items ≡ s.first + c.len.result = omega (
       arith,
       c.len.ensures,
-      s.order.ok.0,
     ) in
     let n = length_push s.order.items c.args.class in
-    let o = ap length c.in-Ok.ensures.items in
+    let o = ap length c.put_last.ensures.items in
     record {
       inverse = subst (λ (z : List ℕ). AreInverse (set s.ranks.items c.args.class
-          (s.first + c.len.result)) z s.first) (sym {A = List ℕ} c.in-Ok.ensures.items)
+          (s.first + c.len.result)) z s.first) (sym {A = List ℕ} c.put_last.ensures.items)
           (subst (λ z. AreInverse (set s.ranks.items c.args.class z)
           (s.order.items ++ c.args.class ∷ []) s.first) rank
           (AreInverse-last s.ranks.items s.order.items s.first i.inverse c.args.class class free));
@@ -67,7 +64,7 @@ invariant_of-self c =
       within = i.within;
       few = i.few;
       ranks_room = i.ranks_room;
-      order_room = omega (arith, i.order_room, c.push_back.ensures.capacity);
+      order_room = omega (arith, i.order_room, c.put_last.ensures.kept);
       row_room = i.row_room;
       behind_room = i.behind_room;
       ahead_room = i.ahead_room;
