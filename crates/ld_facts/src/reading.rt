@@ -88,8 +88,8 @@ fn next_said(bytes: &[u8]) -> Option<(Result<Option<Event<'_>>, LineFault>, &[u8
     if let Some((event, rest)) = next_event(bytes) {
         return Some((Ok(Some(event)), rest));
     }
-    if let Some((event, rest)) = next_state_event(bytes) {
-        return Some((Ok(Some(event)), rest));
+    if let Some((event, others)) = next_state_event(bytes) {
+        return Some((Ok(Some(event)), others));
     }
     let (line, rest) = next_line(bytes)?;
     Some((read_event(text(line)), rest))

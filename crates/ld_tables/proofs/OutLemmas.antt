@@ -7,8 +7,6 @@ use Rattle.ld_tables.specs.declared.held.Held.{Held}
 use Rattle.ld_tables.specs.Inner.Interrupts.{fresh, start_now}
 use Rattle.ld_tables.specs.Inner.Locks.{AreTied, HeldByTasks, Hold, hold_of, holds_of, held_by_tasks}
 use Rattle.ld_tables.specs.Inner.Stacks.{PlainStack, empty_stack, plain_held}
-use Rattle.ld_rules.specs.declared.outcome.TheConstants.{MOST_HELD}
-use Rattle.ld_tables.specs.Inner.Chains.{chains_of}
 use Rattle.ld_tables.proofs.LockLemmas.{held_shown, interrupts_shown, put_again}
 use Rattle.ld_tables.proofs.TopLemmas.{cut, fewer, lower_is, lower_many, stays_within, tied, whole}
 

@@ -2,16 +2,14 @@
 //!
 //! Locks of outer frames stay held, but an acquisition and a release see those of the innermost
 //! frame alone.
-ghost use Rattle.std.specs.Prelude.{◌≡◌, ◌<◌, ◌≤◌, ◌+◌, true, [], ◌∷◌, ◌++◌, drop, fold, length};
+ghost use Rattle.std.specs.Prelude.{◌≡◌, ◌<◌, ◌+◌, true, [], ◌∷◌, ◌++◌, fold, length};
 ghost use Rattle.std.specs.Prelude.{map, take, slice_index_or, slice_set, OnOk};
 ghost use Rattle.std.specs.Bool.{OnTrue};
-ghost use Rattle.std.specs.List.{list_any};
 ghost use Rattle.ld_trace.specs.Events.{plain_lock};
 ghost use Rattle.ld_tables.specs.Inner.Edges.{edge_to, with_edge_fact};
 ghost use Rattle.ld_tables.specs.Inner.Interrupts.{IsEntered, IsLeft, IsSet, fresh, nests_in, start_now};
 ghost use Rattle.ld_tables.specs.Inner.Interrupts.{is_on, states_of};
-ghost use Rattle.ld_tables.specs.Inner.Locks.{ChangesInterrupts, holds_of, inner_of, is_of, outer_of};
-ghost use Rattle.ld_rules.specs.Inner.Scanned.{remove_last};
+ghost use Rattle.ld_tables.specs.Inner.Locks.{ChangesInterrupts, holds_of, inner_of};
 ghost use Rattle.ld_rules.specs.declared.outcome.TheConstants.{MOST_HELD};
 
 mod releases;

@@ -7,6 +7,7 @@ ghost use Rattle.ld_class.specs.declared.names.TheConstants.{MOST_NAMES};
 ghost use Rattle.ld_tables.specs.declared.tasks.TheConstants.{MOST_KNOWN_TASKS};
 
 use crate::bytes::is_at;
+use crate::guesses::Guesses;
 use crate::numbers::Numbers;
 use ld_class::{ClassName, Classes};
 use std::alloc::{AllocError, Global};
@@ -30,6 +31,8 @@ pub struct TaskNames<'a> {
     here: Numbers,
     /// The place among those known that was answered last. It may be past the end, and says nothing then.
     last: u32,
+    /// Where others were found last.
+    guesses: Guesses,
 }
 
 impl<'a> Model for TaskNames<'a> {
@@ -54,6 +57,7 @@ impl<'a> TaskNames<'a> {
             known: Classes::new(alloc),
             here: Numbers::new(alloc),
             last: 0,
+            guesses: Guesses::new(),
         }
     }
 
@@ -76,10 +80,25 @@ impl<'a> TaskNames<'a> {
         if is_at(&self.known, self.last, ClassName { name, sub: 0 }) {
             return place_of_number(&self.here, self.last);
         }
+        self.guess(name)
+    }
+
+    /// The same, of a name that isn't that of the call before: where it was found last is asked first.
+    #[inline(never)]
+    fn guess(&mut self, name: &[u8]) -> Option<u32>
+        ensures same { self.new ≡ self.old }
+        ensures place { result ≡ place_of_task self.old name.now }
+        ensures here { IfSome result (λ id. IsTaskAt self.old id name.now) }
+    {
+        let guess = self.guesses.of(ClassName { name, sub: 0 });
+        if is_at(&self.known, guess, ClassName { name, sub: 0 }) {
+            self.last = guess;
+            return place_of_number(&self.here, guess);
+        }
         self.look_up(name)
     }
 
-    /// The same, of a name that isn't that of the call before.
+    /// The same, of a name that isn't guessed.
     #[inline(never)]
     fn look_up(&mut self, name: &[u8]) -> Option<u32>
         ensures same { self.new ≡ self.old }
@@ -88,6 +107,7 @@ impl<'a> TaskNames<'a> {
     {
         let known = self.known.find(ClassName { name, sub: 0 })?;
         self.last = known;
+        self.guesses.note(ClassName { name, sub: 0 }, known);
         place_of_number(&self.here, known)
     }
 

@@ -1,7 +1,6 @@
-use Rattle.std.proofs.Common.{◌≡◌, ◌<◌, ◌≤◌, ◌-◌, ℕ, Bool, true, length, take, drop, sym, ap, ◌∙◌, arith}
+use Rattle.std.proofs.Common.{◌-◌, length, drop, sym, ap, ◌∙◌}
 use Rattle.std.proofs.lemmas.Slice.Eq.{bytes_eq-Decides}
 use Rattle.std.specs.Bool.{one_answer}
-use Rattle.std.specs.Str.{bytes_eq}
 use Rattle.ld_tables.proofs.ByteLemmas.{ends-same}
 use Rattle.ld_tables.proofs.bytes.same_bytes.Goals as goal
 

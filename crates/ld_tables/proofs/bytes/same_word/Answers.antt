@@ -1,7 +1,6 @@
-use Rattle.std.proofs.Common.{rules, ◌≡◌, ◌<◌, ℕ, nat_eq, get_or, length, w64, sym, ap, ◌∙◌}
+use Rattle.std.proofs.Common.{nat_eq, ◌∙◌}
 use Rattle.std.proofs.lemmas.Slice.Eq.{bytes_eq-Decides}
 use Rattle.std.specs.Bool.{one_answer}
-use Rattle.std.specs.Str.{bytes_eq}
 use Rattle.ld_tables.proofs.ByteLemmas.{word-Decides}
 use Rattle.ld_tables.proofs.bytes.same_word.Goals as goal
 

@@ -1,4 +1,4 @@
-use Rattle.std.proofs.Common.{◌≡◌, ◌<◌, [], ◌∷◌, ◌++◌, Some, length, get_or, subst}
+use Rattle.std.proofs.Common.{◌≡◌, ◌<◌, [], ◌∷◌, ◌++◌, length, get_or, subst}
 use Rattle.ld_tables.specs.Inner.Chains.{KeptChains, chain_before, chains_of}
 use Rattle.ld_tables.proofs.ChainLemmas.{place_chain, place_within}
 use Rattle.ld_tables.proofs.chains.Chains.find.Goals as goal
