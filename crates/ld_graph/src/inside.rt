@@ -166,6 +166,8 @@ fn known_front(levels: &[Option<u32>], wanted: &[u32], known: usize) -> usize
     requires wanted { All (λ w. w < length levels.now) wanted.now }
     requires known { (i : ℕ) → i < known → HasLevel levels.now (slice_index_or wanted.now i 0) }
     ensures known { (i : ℕ) → i < result → HasLevel levels.now (slice_index_or wanted.now i 0) }
+    ensures next { result < length wanted.now
+        → level_at levels.now (slice_index_or wanted.now result 0) ≡ None }
 {
     let mut known = known;
     while known < wanted.len() {
