@@ -12,6 +12,7 @@ CALLER = re.compile(r'caller=\S+(?: \[\S+\])? parent=\S+(?: \[\S+\])?\n').fullma
 MODULE_SITE = re.compile(r'k=([0-9a-f]+) s=(\d+) t=([01]) r=([0-2]) c=([01]) n=([0-9a-f]+) '
                          r'i=\S+(?: \[[^\s\]]+\])? (.+)\n').fullmatch
 STOCK_SITE = re.compile(r'(try )?(read )?(.+)\n').fullmatch
+STEP = re.compile(r' *cpu: (\d+) +(?:target|state): +-?\d+ step: +(\d+) (?:\((\S+)\)|ret: (-?\d+))\n').fullmatch
 
 
 class Site:
@@ -47,12 +48,14 @@ class Events:
         self.time = ''          # the latest, as text and as a number
         self.seconds = 0.0
         self.asides = 0         # lines that are no event's
+        self.leaving = {}       # a processor that is being taken away to the number of that step
         self.counts = Counter()
         self.kinds = set()      # whose lock events there are: the module's, or the kernel's own
         self.handlers = {
             'acquire': self.module_acquire, 'release': self.module_release,
             'lock_acquire': self.stock_acquire, 'lock_release': self.stock_release,
-            'irq_enable': self.irq_enable, 'irq_disable': self.irq_disable}
+            'irq_enable': self.irq_enable, 'irq_disable': self.irq_disable,
+            'cpuhp_enter': self.step, 'cpuhp_exit': self.step}
 
     def take(self, lines):
         """Takes lines of the text, and gives way after each. Damaged where one can't be read."""
@@ -281,6 +284,38 @@ class Events:
             self.texts.add(rest)
         if task.kept:
             self.stream.observe(task, context)
+
+    # Processors that are taken away
+
+    def step(self, task, context, rest):
+        """Begin or end of a step by which a processor is taken away or comes back."""
+        match = STEP(rest)
+        if match is None:
+            raise Damaged(f'not what cpuhp_enter and cpuhp_exit write: {quote(rest)}')
+        processor, number, function, status = match.groups()
+        if function == 'takedown_cpu':
+            self.leaving[processor] = number
+        elif function is None and self.leaving.get(processor) == number:
+            del self.leaving[processor]
+            if int(status) == 0:
+                self.take_away(int(processor))
+        if task.kept:
+            self.stream.observe(task, context)
+
+    def take_away(self, processor):
+        """A processor shows no event from the moment in which it is taken away, not even of a release.
+
+        So what the task that ran on it last still holds is released here: it can't be held any more.
+        """
+        there = [task for task in self.tasks.values() if int(task.processor) == processor]
+        task = max(there, key=lambda task: float(task.time), default=None)
+        while task is not None and task.held:
+            held = task.held[-1]
+            if held.name is None:
+                task.held.pop()
+            else:
+                self.counts['taken away'] += 1
+                self.stream.release(task, held, task.context)
 
 
 def is_nested(task, nest, lock_class):

@@ -8,6 +8,8 @@
  */
 #include <linux/lockdep.h>
 #include <linux/module.h>
+#include <linux/percpu.h>
+#include <linux/sched.h>
 #include <linux/tracepoint.h>
 
 #define CREATE_TRACE_POINTS
@@ -17,22 +19,79 @@ static struct tracepoint *acquire_point;
 static struct tracepoint *release_point;
 
 /*
+ * A variable that there is once for each processor: the kernel's own come before it, and behind it
+ * modules have no more than PERCPU_MODULE_RESERVE bytes. `unit` is how far one processor's variables
+ * are from another's, at least.
+ */
+static DEFINE_PER_CPU(char, of_processor);
+static unsigned long unit;
+
+static void find_unit(void)
+{
+	unsigned int one, other;
+
+	unit = ULONG_MAX;
+	for_each_possible_cpu(one)
+		for_each_possible_cpu(other)
+			if (per_cpu_ptr(&of_processor, one) > per_cpu_ptr(&of_processor, other))
+				unit = min_t(unsigned long, unit, per_cpu_ptr(&of_processor, one) -
+					     per_cpu_ptr(&of_processor, other));
+}
+
+/*
+ * The key that lockdep gives a static lock at its first acquisition: its own address, or where there
+ * is one for each processor, the address of the first processor's. The functions by which lockdep
+ * tells them aren't exported.
+ */
+static const void *static_key(const struct lockdep_map *lock)
+{
+	unsigned long address = (unsigned long)lock, end;
+	unsigned int cpu;
+
+	if (num_possible_cpus() == 1)
+		return lock;
+	for_each_possible_cpu(cpu) {
+		end = (unsigned long)per_cpu_ptr(&of_processor, cpu) + PERCPU_MODULE_RESERVE;
+		if (address < end && end - address <= unit)
+			return (const void *)(address - (unsigned long)per_cpu_ptr(&of_processor, cpu) +
+					      (unsigned long)per_cpu_ptr(&of_processor, cpumask_first(cpu_possible_mask)));
+	}
+	return lock;
+}
+
+/*
  * The address that stands for the lock's class in /proc/lockdep. The class cache comes first: after
- * lockdep_set_subclass() the class shows there alone. NULL at the first acquisition of a static lock,
- * which has no key yet: its class is then its own address.
+ * lockdep_set_subclass() the class shows there alone. What it has may be old: lockdep passes over a
+ * class whose key isn't one of the lock's.
  */
 static const void *class_key(const struct lockdep_map *lock, unsigned int subclass)
 {
 	const struct lock_class *class = NULL;
-	const void *key = NULL;
+	const char *base = (const char *)READ_ONCE(lock->key);
 
+	if (!base)
+		return (const char *)static_key(lock) + subclass;
 	if (subclass < NR_LOCKDEP_CACHING_CLASSES)
 		class = READ_ONCE(lock->class_cache[subclass]);
-	if (class)
-		key = READ_ONCE(class->key);
-	if (!key && lock->key)
-		key = (const char *)lock->key + subclass;
-	return key;
+	if (class && READ_ONCE(class->key) == (const void *)(base + (subclass ?: class->subclass)))
+		return base + (subclass ?: class->subclass);
+	return base + subclass;
+}
+
+/* Headers declare it with CONFIG_PROVE_LOCKING alone; it is there with lockdep. */
+DECLARE_PER_CPU(unsigned int, lockdep_recursion);
+
+/*
+ * Whether lockdep passes over what is acquired here: while it works itself, where code says so by
+ * lockdep_off(), and locks that it doesn't follow at all.
+ */
+static bool is_passed_over(const struct lockdep_map *lock)
+{
+#ifdef lockdep_set_notrack_class
+	if (lock->key == &__lockdep_no_track__)
+		return true;
+#endif
+	return this_cpu_read(lockdep_recursion) || current->lockdep_recursion;
 }
 
 static void on_acquire(void *data, struct lockdep_map *lock, unsigned int subclass, int trylock,
@@ -40,8 +99,8 @@ static void on_acquire(void *data, struct lockdep_map *lock, unsigned int subcla
 {
 	if (!trace_acquire_enabled())
 		return;
-	/* lockdep keeps such locks, but adds no dependency for them. */
-	if (lock->key == &__lockdep_no_validate__)
+	/* Locks of the class that isn't validated are kept by lockdep, but get no dependency. */
+	if (lock->key == &__lockdep_no_validate__ || is_passed_over(lock))
 		check = 0;
 	trace_acquire(lock, class_key(lock, subclass), subclass, trylock, read, check, nest, caller);
 }
@@ -64,6 +123,7 @@ static int __init lockcheck_events_init(void)
 {
 	int error;
 
+	find_unit();
 	for_each_kernel_tracepoint(find_point, NULL);
 	if (!acquire_point || !release_point) {
 		pr_err("lockcheck_events: this kernel has no lock events (CONFIG_LOCKDEP)\n");

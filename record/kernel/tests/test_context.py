@@ -173,6 +173,58 @@ class Processors(unittest.TestCase):
         self.assertNotIn('another processor', result.errors)
 
 
+class TakenAway(unittest.TestCase):
+    """A processor that is taken away shows no event from that moment on, as of the release of a lock.
+
+    The events of the steps are as a kernel 6.1 wrote them.
+    """
+    BEGIN = 'cpuhp_enter: cpu: 0001 target:   0 step: 148 (takedown_cpu)'
+    END = 'cpuhp_exit:  cpu: 0001  state: 148 step: 148 ret: 0'
+
+    def taken_away(self, *between, end=END):
+        return run(acquire('a', A, task='migration/1-20', cpu=1, columns='d....') + line(self.BEGIN, cpu=0)
+                   + ''.join(between) + line(end, cpu=0) + acquire('b', B, task='migration/1-20', cpu=1, columns='d....'))
+
+    def test_what_its_last_task_held_is_released(self):
+        result = self.taken_away()
+        self.assertEqual(result.stream[1:], ['begin migration/1-20 off on', 'acquire migration/1-20 a@1000',
+                                             'release migration/1-20 a@1000', 'acquire migration/1-20 b@2000'])
+        self.assertIn('1 locks were held where their processor was taken away', result.errors)
+
+    def test_a_lock_that_is_left_out_is_forgotten_too(self):
+        result = self.taken_away(acquire('c', C, read=1, task='migration/1-20', cpu=1, columns='d....'))
+        self.assertEqual(result.stream[3:], ['release migration/1-20 a@1000', 'acquire migration/1-20 b@2000'])
+
+    def test_what_others_hold_stays_held(self):
+        # The one slept on this processor before its last task ran there, the other is elsewhere.
+        text = (acquire('s', C, task='s-2', cpu=1) + acquire('t', B, task='t-3', cpu=2)
+                + acquire('a', A, task='migration/1-20', cpu=1, time=1.1) + line(self.BEGIN, time=1.2)
+                + line(self.END, time=1.3) + release(C, task='s-2', cpu=0, time=1.4)
+                + release(B, task='t-3', cpu=2, time=1.5))
+        self.assertEqual(run(text).stream[4:], ['release migration/1-20 a@1000', 'release s-2 s@3000',
+                                                'release t-3 t@2000'])
+
+    def test_one_that_refused_to_go_still_holds_it(self):
+        result = self.taken_away(end=self.END.replace('ret: 0', 'ret: -16'))
+        self.assertEqual(result.stream[3:], ['acquire migration/1-20 b@2000'])
+
+    def test_the_end_of_another_step_or_of_another_processor_says_nothing(self):
+        for end in (self.END.replace('step: 148', 'step: 147'), self.END.replace('0001', '0002')):
+            with self.subTest(end=end):
+                self.assertEqual(self.taken_away(end=end).stream[3:], ['acquire migration/1-20 b@2000'])
+
+    def test_other_steps_say_nothing(self):
+        steps = line('cpuhp_enter: cpu: 0001 target: 238 step:  36 (rcutree_prepare_cpu)') + line(
+            'cpuhp_exit:  cpu: 0001  state:  35 step:  36 ret: 0')
+        self.assertEqual(run(acquire('a', A, cpu=1) + steps + release(A, cpu=1)).stream[1:],
+                         ['acquire t-1 a@1000', 'release t-1 a@1000'])
+
+    def test_a_step_that_is_damaged(self):
+        result = run(acquire('a', A) + line(self.BEGIN.replace('step', 'stp')))
+        self.assertEqual((result.status, result.stream), (2, []))
+        self.assertIn('line 2: not what cpuhp_enter and cpuhp_exit write', result.errors)
+
+
 class IrqEvents(unittest.TestCase):
 
     def test_irq_enable_shows_the_state_before_it(self):

@@ -13,6 +13,7 @@ FILES = ('trace', 'tracing_on', 'current_tracer', 'set_event', 'trace_clock', 's
 STOCK = ('lock/lock_acquire', 'lock/lock_release')
 MODULE = ('lockcheck/acquire', 'lockcheck/release')
 IRQ = ('preemptirq/irq_enable', 'preemptirq/irq_disable')
+STEPS = ('cpuhp/cpuhp_enter', 'cpuhp/cpuhp_exit')
 
 
 class Record(unittest.TestCase):
@@ -44,7 +45,7 @@ class Record(unittest.TestCase):
         return end.returncode, end.stderr
 
     def enabled(self):
-        return {name for name in (*STOCK, *MODULE, *IRQ)
+        return {name for name in (*STOCK, *MODULE, *IRQ, *STEPS)
                 if os.path.exists('%s/tracefs/events/%s/enable' % (self.folder, name))
                 and self.read('tracefs/events/%s/enable' % name) == '1\n'}
 
@@ -82,6 +83,12 @@ class Record(unittest.TestCase):
         status, said = self.record('start')
         self.assertEqual((status, self.enabled()), (0, {*MODULE, *IRQ}))
         self.assertIn('each acquisition shows its lockdep class', said)
+
+    def test_start_takes_the_steps_by_which_processors_are_taken_away(self):
+        self.events(*STOCK, *IRQ, *STEPS)
+        self.assertEqual((self.record('start')[0], self.enabled()), (0, {*STOCK, *IRQ, *STEPS}))
+        self.events(*STOCK, *MODULE, *IRQ, *STEPS)
+        self.assertEqual((self.record('start')[0], self.enabled()), (0, {*MODULE, *IRQ, *STEPS}))
 
     def test_start_says_what_the_kernel_has_not(self):
         status, said = self.record('start')
