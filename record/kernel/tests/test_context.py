@@ -178,8 +178,8 @@ class TakenAway(unittest.TestCase):
 
     The events of the steps are as a kernel 6.1 wrote them.
     """
-    BEGIN = 'cpuhp_enter: cpu: 0001 target:   0 step: 148 (takedown_cpu)'
-    END = 'cpuhp_exit:  cpu: 0001  state: 148 step: 148 ret: 0'
+    BEGIN = 'cpuhp_enter: cpu: 0001 target:   0 step: 153 (takedown_cpu)'
+    END = 'cpuhp_exit:  cpu: 0001  state:  92 step: 153 ret: 0'
 
     def taken_away(self, *between, end=END):
         return run(acquire('a', A, task='migration/1-20', cpu=1, columns='d....') + line(self.BEGIN, cpu=0)
@@ -209,7 +209,7 @@ class TakenAway(unittest.TestCase):
         self.assertEqual(result.stream[3:], ['acquire migration/1-20 b@2000'])
 
     def test_the_end_of_another_step_or_of_another_processor_says_nothing(self):
-        for end in (self.END.replace('step: 148', 'step: 147'), self.END.replace('0001', '0002')):
+        for end in (self.END.replace('step: 153', 'step: 152'), self.END.replace('0001', '0002')):
             with self.subTest(end=end):
                 self.assertEqual(self.taken_away(end=end).stream[3:], ['acquire migration/1-20 b@2000'])
 

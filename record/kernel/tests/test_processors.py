@@ -1,0 +1,129 @@
+"""A recording of a kernel with four processors, held against what its own lockdep learned meanwhile.
+
+It is of a kernel 6.1.192 for x86-64 (emulated by qemu), by the module, under a load on all four processors,
+while the third was taken away and came back. `processors/` has of its text those lines that show a class,
+a dependency or a usage bit first, with the acquisitions around them; /proc/lockdep as it was right before
+the recording and right after it; and of /proc/lockdep_chains, right after it, a chain for each dependency
+that /proc/lockdep doesn't show: it leaves out those between which a lock stood that was got by a trylock,
+or isn't checked.
+"""
+import collections
+import itertools
+import lzma
+import os
+import re
+import unittest
+
+from texts import FOLDER, file_with, run  # finds the converter, so it comes first
+from classes import lockdep_classes
+from shown import Shown, lockdep
+from test_planted import report
+
+ACQUIRE = re.compile(r'.{16}-(\d+) +\[(\d+)\] ..(.).. +\d+: acquire: (\S+) k=(\S+) s=\d t=(\d) r=(\d) c=(\d) .*').fullmatch
+RELEASE = re.compile(r'.{16}-(\d+) +\[(\d+)\] \S{5} +\d+: release: (\S+)').fullmatch
+
+# What lockdep learned of code that runs on a processor that is taken away, of which no event shows.
+TAKEN_AWAY = {('&irq_desc_lock_class', 'tmp_mask_lock'), ('hrtimer_bases.lock', 'hrtimer_bases.lock/1')}
+# What it learned after the copy of /proc/lockdep, before the recording began.
+BEFORE = {('event_mutex', '&rq->__lock'), *(('&child->perf_event_mutex', name) for name in (
+    '&rq->__lock', '&cfs_rq->removed.lock', 'pgd_lock', 'slob_lock'))}
+
+
+def file(name):
+    with lzma.open(os.path.join(FOLDER, 'tests', 'processors', name + '.xz')) as packed:
+        return packed.read().decode('latin-1')
+
+
+def of_readers(text, names):
+    """Of the text, the dependencies that lockdep learns by a reader at one end; `names` are by keys."""
+    found, held = set(), collections.defaultdict(list)
+    for line in text.split('\n'):
+        match = ACQUIRE(line)
+        if match:
+            pid, processor, context, lock, key, tried, read, checked = match.groups()
+            new = lock, names.get(int(key, 16)), context, tried == '1', read != '0', checked == '1'
+            locks = held[pid if pid != '0' else 'idle ' + processor]
+            if not new[3] and new[5]:
+                found |= with_reader(new, locks)
+            locks.append(new)
+            continue
+        match = RELEASE(line)
+        if match:
+            locks = held[match[1] if match[1] != '0' else 'idle ' + match[2]]
+            numbers = [number for number, each in enumerate(locks) if each[0] == match[3]]
+            del locks[numbers[-1] if numbers else len(locks):]
+    return found
+
+
+def with_reader(new, locks):
+    """Of one acquisition: lockdep goes inwards out up to a lock that was waited for, in one context."""
+    found = set()
+    for _, name, context, tried, reads, checked in reversed(locks):
+        if context != new[2]:
+            break
+        if checked and (reads or new[4]):
+            found.add((name, new[1]))
+        if checked and not tried:
+            break
+    return found
+
+
+def reaches(dependencies, first, last):
+    """Whether a walk over the dependencies goes from a class to another."""
+    after = collections.defaultdict(set)
+    for held, acquired in dependencies:
+        after[held].add(acquired)
+    reached, todo = set(), [first]
+    while todo:
+        todo = [name for each in todo for name in after.pop(each, ())]
+        reached.update(todo)
+    return last in reached
+
+
+class Processors(unittest.TestCase):
+
+    @classmethod
+    def setUpClass(cls):
+        cls.text, after = file('trace'), file('after')
+        with file_with(after) as name:
+            cls.converted = run(cls.text, '--lockdep', name)
+        cls.shown = Shown(cls.converted.stream)
+        cls.names = {key: '/'.join([name, str(subclass)]) if subclass else name
+                     for key, (name, subclass) in lockdep_classes(after.splitlines(True)).items()}
+        cls.before, cls.after = lockdep(file('before').splitlines(True)), lockdep(after.splitlines(True))
+
+    def test_four_processors(self):
+        self.assertEqual(self.converted.status, 0)
+        counts = collections.Counter(re.findall(r'^.{16}-\d+ +\[(\d+)\]', self.text, re.M))
+        self.assertEqual(set(counts), {'000', '001', '002', '003'})
+        self.assertGreater(min(counts.values()), 100)
+        self.assertIn('1 locks were held where their processor was taken away', self.converted.errors)
+
+    def test_every_dependency_is_one_of_lockdep(self):
+        chains = [[self.names.get(int(key, 16)) for key in re.findall(r'^\[(\w+)\]', chain, re.M)]
+                  for chain in file('chains').split('\n\n')]
+        chained = {pair for chain in chains for pair in itertools.combinations(chain, 2)}
+        self.assertEqual(self.shown.dependencies - self.after[0] - chained, set())
+
+    def test_every_dependency_that_lockdep_learned_is_in_the_stream_or_explained(self):
+        missing = self.after[0] - self.before[0] - self.shown.dependencies - of_readers(self.text, self.names)
+        # Where a lock is released before a later one, lockdep acquires the later one anew under those before.
+        anew = {pair for pair in missing if reaches(self.shown.dependencies, *pair)}
+        self.assertEqual(missing - anew, TAKEN_AWAY | BEFORE)
+        self.assertEqual(anew, {
+            ('&type->s_vfs_rename_key', '&type->i_mutex_dir_key#5/5'), ('rename_lock.seqcount', '&dentry->d_lock/1'),
+            ('&type->s_vfs_rename_key#2', '&type->i_mutex_dir_key#7/5')})
+
+    def test_every_usage_bit_is_one_of_lockdep(self):
+        self.assertEqual(self.shown.marks - self.after[1], set())
+
+    def test_every_usage_bit_that_lockdep_learned_is_in_the_stream(self):
+        self.assertEqual(self.after[1] - self.before[1] - self.shown.marks, set())
+
+    def test_the_report_is_clean(self):
+        status, rows = report(self.converted.stream)
+        self.assertEqual((status, rows[1:]), (0, ['clean']))
+
+
+if __name__ == '__main__':
+    unittest.main()
