@@ -1,3 +1,4 @@
 pub mod FieldLemmas
 pub mod KnownLemmas
 pub mod NewsLemmas
+pub mod LineLaws
