@@ -14,14 +14,14 @@ mod words;
 use fault::Fault;
 use ld_device::Std;
 use ld_report::Verdict;
-use news::{NewsFault, write_news};
+use news::write_news;
 use std::fmt::Display;
 use std::process::ExitCode;
 use std::rt::{Env, Files};
 use std::sync::Wait;
 use std::thread::Threads;
 use std::{env, io};
-use streams::{read_file, read_streams};
+use streams::{read_known, read_streams};
 use words::{Asked, New, read_words};
 
 /// The exit status where there is no answer.
@@ -51,16 +51,13 @@ fn answer_new<'a, R: Files + io::Input + Print + AllocGlobal + Threads + Wait + 
     rt: &R,
     new: &New<'a>,
 ) -> Result<Verdict, Fault<'a>> {
-    let known = read_file(rt, new.known)?;
+    // A mistake in it is told before the traces are read.
+    let known = read_known(rt, new.known)?;
     let bytes = read_streams(rt, &new.files)?;
     let mut output = Std::new(io::writer(rt));
     match write_news(rt, rt.alloc(), &bytes, &known, &mut output, new.workers) {
         Ok(verdict) => Ok(verdict),
-        Err(NewsFault::Stream(fault)) => Err(Fault::Together(fault)),
-        Err(NewsFault::UnknownLine(line)) => Err(Fault::UnknownLine(new.known, line)),
-        Err(NewsFault::Write) => Err(Fault::Write),
-        Err(NewsFault::Memory) => Err(Fault::Memory),
-        Err(NewsFault::Uneven(number)) => Err(Fault::Uneven(number)),
+        Err(fault) => Err(Fault::of_news(new.known, fault)),
     }
 }
 

@@ -68,26 +68,37 @@ pub fn read_words<'a, S: AsStr>(alloc: Global, words: &'a [S]) -> Result<Asked<'
     let mut command = command_line(alloc)?;
     let matches = command.try_get_matches_from_mut(words)?;
     match matches.subcommand() {
-        Some(("new", matches)) => match read_new(alloc, matches)? {
-            Some(new) => Ok(Asked::New(new)),
-            None => Err(command.error(ErrorKind::MissingRequiredArgument, "--known is missing")?),
-        },
+        Some(("new", matches)) => read_new(alloc, &mut command, matches),
         _ => Err(command.error(ErrorKind::MissingSubcommand, "a command is missing")?),
     }
 }
 
-/// What the words behind `new` ask for; `None` where they name no known text.
-fn read_new<'a>(alloc: Global, matches: &ArgMatches<'a>) -> Result<Option<New<'a>>, AllocError> {
+/// What the words behind `new` ask for.
+fn read_new<'a>(
+    alloc: Global,
+    command: &mut Command<'a>,
+    matches: &ArgMatches<'a>,
+) -> Result<Asked<'a>, Error> {
     let Some(known) = matches.get_str("known") else {
-        return Ok(None);
+        return Err(command.error(ErrorKind::MissingRequiredArgument, "--known is missing")?);
     };
     let files = files(alloc, matches)?;
+    // Behind its end it would be read as if it were empty.
+    if is_read_twice(known, &files) {
+        return Err(command.error(ErrorKind::ArgumentConflict, "standard input is named twice")?);
+    }
     let workers = workers(matches);
-    Ok(Some(New {
+    Ok(Asked::New(New {
         known,
         files,
         workers,
     }))
+}
+
+/// Whether standard input is read more than once.
+fn is_read_twice(known: &str, files: &[&str]) -> bool {
+    let count = files.iter().filter(|name| **name == STANDARD_INPUT).count();
+    count > 1 || known == STANDARD_INPUT && count > 0
 }
 
 /// The names of the files that are to be read.
