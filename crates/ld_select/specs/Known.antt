@@ -6,8 +6,8 @@ use Rattle.ld_trace.specs.Lines.{is_blank, lines, text_of}
 use Rattle.ld_select.specs.Said.{PlainSaid, is_field, said_by, same_said}
 
 -- the first field of a report's first line, and of one for a refused trace
-abbrev pub is_told : List ℕ → Bool
-is_told text = is_field text 0 (codes "traces") || is_field text 0 (codes "refused")
+abbrev pub is_summary_or_refused : List ℕ → Bool
+is_summary_or_refused text = is_field text 0 (codes "traces") || is_field text 0 (codes "refused")
 
 -- the first field of a report's last line
 abbrev pub is_last : List ℕ → Bool
@@ -30,7 +30,7 @@ is_comment text = begins_comment (drop (prefix_len is_blank text) text)
 -- another line of a report.
 abbrev pub may_stand : List ℕ → Bool
 may_stand line =
-    is_comment (text_of line) || is_some (said_by (text_of line)) || is_told (text_of line)
+    is_comment (text_of line) || is_some (said_by (text_of line)) || is_summary_or_refused (text_of line)
     || is_last (text_of line) || is_last_of_new (text_of line)
 
 -- the number, from 1, of the first line that may not stand in a known text

@@ -3,7 +3,7 @@ use Rattle.std.specs.Prelude.{ℕ, Bool, false, not, ◌&&◌, ◌==◌, List, �
 use Rattle.std.specs.List.{concat}
 use Rattle.ld_trace.specs.Lines.{lines, text_of}
 use Rattle.ld_select.specs.Said.{PlainSaid, said_by}
-use Rattle.ld_select.specs.Known.{has_said, is_last, is_told}
+use Rattle.ld_select.specs.Known.{has_said, is_last, is_summary_or_refused}
 
 -- something is said, and it is known
 abbrev pub is_known_said : (PlainSaid → Bool) → Option PlainSaid → Bool
@@ -17,7 +17,7 @@ stays has line = not (is_last (text_of line)) && not (is_known_said has (said_by
 
 -- a line that stays and is one of a violation
 abbrev pub is_new : (PlainSaid → Bool) → List ℕ → Bool
-is_new has line = stays has line && not (is_told (text_of line))
+is_new has line = stays has line && not (is_summary_or_refused (text_of line))
 
 -- the lines of a report that stay, in its order
 abbrev pub staying : (PlainSaid → Bool) → List ℕ → List ℕ

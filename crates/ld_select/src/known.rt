@@ -3,7 +3,7 @@ ghost use Rattle.std.specs.Prelude.{◌≡◌, ◌≤◌, length, IfOk};
 ghost use Rattle.std.specs.List.{prefix_len};
 ghost use Rattle.ld_trace.specs.Lines.{is_blank};
 ghost use Rattle.ld_select.specs.Said.{PlainSaid, plain_said};
-ghost use Rattle.ld_select.specs.Known.{has_said, is_among, is_comment, is_last, is_last_of_new, is_told, may_stand, unknown_line};
+ghost use Rattle.ld_select.specs.Known.{has_said, is_among, is_comment, is_last, is_last_of_new, is_summary_or_refused, may_stand, unknown_line};
 
 use crate::said::{Said, is_field, said_by};
 use indexmap::IndexSet;
@@ -12,8 +12,8 @@ use std::alloc::{AllocError, Global};
 use std::marker::Model;
 
 /// Whether a line of a report, without its end, tells of no violation and isn't the last one.
-pub fn is_told(text: &[u8]) -> bool
-    ensures { result ≡ is_told text.now }
+pub fn is_summary_or_refused(text: &[u8]) -> bool
+    ensures { result ≡ is_summary_or_refused text.now }
 {
     is_field(text, 0, b"traces") || is_field(text, 0, b"refused")
 }
@@ -61,7 +61,7 @@ fn may_stand(line: &[u8]) -> bool
     let text = text(line);
     is_comment(text)
         || said_by(text).is_some()
-        || is_told(text)
+        || is_summary_or_refused(text)
         || is_last(text)
         || is_last_of_new(text)
 }

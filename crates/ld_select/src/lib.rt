@@ -5,4 +5,5 @@ mod known;
 mod news;
 mod said;
 
+pub use known::unknown_line;
 pub use news::{NewReport, SelectFault, new_report};

@@ -6,7 +6,7 @@ ghost use Rattle.ld_select.specs.Known.{is_among, unknown_line};
 ghost use Rattle.ld_select.specs.News.{count_new, count_staying, is_known_said, is_new, last_line, new_report, staying, stays};
 ghost use Rattle.ld_select.specs.declared.news.SelectFault.TheVariants.{Memory};
 
-use crate::known::{Known, is_last, is_told, unknown_line};
+use crate::known::{Known, is_last, is_summary_or_refused, unknown_line};
 use crate::said::said_by;
 use ld_trace::{next_line, text};
 use std::alloc::{AllocError, Global};
@@ -15,7 +15,7 @@ use std::io::Write;
 /// The report of what is new.
 #[derive(Debug, Drop)]
 pub struct NewReport {
-    /// Its lines, each ended by LF.
+    /// Its lines, as they stand in the report, and the last one.
     pub text: Vec<u8>,
     /// How many violations are new.
     pub count: u64,
@@ -60,7 +60,7 @@ fn stays(line: &[u8], known: &Known<'_>) -> bool
 fn is_new(line: &[u8], known: &Known<'_>) -> bool
     ensures { result ≡ is_new (is_among known.now) line.now }
 {
-    stays(line, known) && !is_told(text(line))
+    stays(line, known) && !is_summary_or_refused(text(line))
 }
 
 /// Writes a line of a report where it stays.

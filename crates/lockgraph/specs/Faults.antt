@@ -1,10 +1,15 @@
--- Why it isn't told what is new, by why there is no book, or no report of what is new.
+-- Why it isn't told what is new, by why there is no book, or no report of what is new; and what the program says
+-- of that.
+use Rattle.std.specs.Borrow.{Bor}
+use Rattle.std.specs.Prelude.{ℕ, List}
 use Rattle.ld_check.specs.declared.checked.CheckFault.{CheckFault}
 use Rattle.ld_check.specs.declared.checked.CheckFault.TheVariants as check_faults
 use Rattle.ld_select.specs.declared.news.SelectFault.{SelectFault}
 use Rattle.ld_select.specs.declared.news.SelectFault.TheVariants as select_faults
+use Rattle.lockgraph.specs.declared.fault.Fault.{Fault}
+use Rattle.lockgraph.specs.declared.fault.Fault.TheVariants as faults
 use Rattle.lockgraph.specs.declared.news.NewsFault.{NewsFault}
-use Rattle.lockgraph.specs.declared.news.NewsFault.TheVariants.{Stream, UnknownLine, Memory, Uneven}
+use Rattle.lockgraph.specs.declared.news.NewsFault.TheVariants.{Stream, UnknownLine, Write, Memory, Uneven}
 
 -- the same fault
 abbrev pub news_fault_of_check : CheckFault → NewsFault
@@ -16,3 +21,11 @@ news_fault_of_check (check_faults.Uneven number) = Uneven number
 abbrev pub news_fault_of_select : SelectFault → NewsFault
 news_fault_of_select (select_faults.UnknownLine line) = UnknownLine line
 news_fault_of_select select_faults.Memory = Memory
+
+-- the same fault, that of the known text with its name
+abbrev pub fault_of_news : Bor (List ℕ) → NewsFault → Fault
+fault_of_news known (Stream fault) = faults.Together fault
+fault_of_news known (UnknownLine line) = faults.UnknownLine known line
+fault_of_news known Write = faults.Write
+fault_of_news known Memory = faults.Memory
+fault_of_news known (Uneven number) = faults.Uneven number

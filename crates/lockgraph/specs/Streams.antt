@@ -1,12 +1,16 @@
--- The streams of several files as one, and the fault of a file.
+-- The streams of several files as one, and the fault of a file or of a known text.
 use Rattle.std.specs.Borrow.{Bor}
-use Rattle.std.specs.Prelude.{ℕ, Bool, ◌||◌, List, ◌++◌, nat_eq, codes, if◌then◌else◌}
+use Rattle.std.specs.Prelude.{ℕ, Bool, not, ◌||◌, ◌==◌, List, ◌++◌, length, Option, Some, nat_eq, nat_lt, codes, if◌then◌else◌}
 use Rattle.std.specs.List.{ends_with}
+use Rattle.std.specs.Option.{option_map}
 use Rattle.ld_trace.specs.Lines.{is_empty}
+use Rattle.ld_trace.specs.Sources.{sources}
 use Rattle.ld_trace.specs.declared.source.StreamFault.{StreamFault}
 use Rattle.ld_trace.specs.declared.source.StreamFault.TheVariants as stream_faults
+use Rattle.ld_trace.specs.declared.source.TheConstants.{LONGEST_STREAM}
+use Rattle.ld_select.specs.Known.{unknown_line}
 use Rattle.lockgraph.specs.declared.fault.Fault.{Fault}
-use Rattle.lockgraph.specs.declared.fault.Fault.TheVariants.{NoHeader, BadHeader, File, Memory}
+use Rattle.lockgraph.specs.declared.fault.Fault.TheVariants.{NoHeader, BadHeader, File, UnknownLine, Memory}
 
 -- the last line has its LF, or there is no line
 abbrev pub is_ended : List ℕ → Bool
@@ -22,3 +26,13 @@ fault_of_file name (stream_faults.NoHeader line) = NoHeader name line
 fault_of_file name (stream_faults.BadHeader line) = BadHeader name line
 fault_of_file name stream_faults.Memory = Memory
 fault_of_file name fault = File name fault
+
+-- a stream has a trace
+abbrev pub has_trace : List ℕ → Bool
+has_trace bytes = not (length (sources bytes) == 0)
+
+-- why a text isn't the known one of this name: it is too long, or else its first unknown line
+abbrev pub fault_of_known : Bor (List ℕ) → List ℕ → Option Fault
+fault_of_known name known =
+    if nat_lt LONGEST_STREAM (length known) then Some (File name stream_faults.TooLong)
+    else option_map (λ line. UnknownLine name line) (unknown_line known)

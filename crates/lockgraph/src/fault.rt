@@ -1,5 +1,6 @@
 //! Why there is no answer.
 
+use crate::news::NewsFault;
 use ld_trace::StreamFault;
 use std::alloc::AllocError;
 use std::io;
@@ -20,6 +21,9 @@ pub enum Fault<'a> {
     /// This line of this file begins as a header, and isn't one.
     #[error("{0}:{1}: BadHeader")]
     BadHeader(&'a str, u64),
+    /// This file has no trace.
+    #[error("{0}: NoTrace")]
+    NoTrace(&'a str),
     /// This file has another fault.
     #[error("{0}: {1}")]
     File(&'a str, StreamFault),
@@ -27,7 +31,7 @@ pub enum Fault<'a> {
     #[error("{0}")]
     Together(StreamFault),
     /// This line of this known text says something, and is no line of a report.
-    #[error("{0}:{1}: UnknownLine")]
+    #[error("{0}:{1}: UnknownLine: neither a line of a report, as \"inversion A -> B at ..\", nor a comment")]
     UnknownLine(&'a str, u64),
     /// A write or the flush failed.
     #[error("write failed")]
@@ -43,6 +47,7 @@ pub enum Fault<'a> {
 
 impl<'a> Fault<'a> {
     ghost use Rattle.std.specs.Prelude.{◌≡◌};
+    ghost use Rattle.lockgraph.specs.Faults.{fault_of_news};
     ghost use Rattle.lockgraph.specs.Streams.{fault_of_file};
 
     /// A fault of the stream that this file is.
@@ -54,6 +59,19 @@ impl<'a> Fault<'a> {
             StreamFault::BadHeader(line) => Fault::BadHeader(name, line),
             StreamFault::Memory => Fault::Memory,
             fault => Fault::File(name, fault),
+        }
+    }
+
+    /// Why it isn't told what is new beside the known text of this name.
+    pub fn of_news(known: &'a str, fault: NewsFault) -> Fault<'a>
+        ensures { result ≡ fault_of_news known.entry fault }
+    {
+        match fault {
+            NewsFault::Stream(fault) => Fault::Together(fault),
+            NewsFault::UnknownLine(line) => Fault::UnknownLine(known, line),
+            NewsFault::Write => Fault::Write,
+            NewsFault::Memory => Fault::Memory,
+            NewsFault::Uneven(number) => Fault::Uneven(number),
         }
     }
 }

@@ -14,15 +14,15 @@ mod words;
 use fault::Fault;
 use ld_device::Std;
 use ld_report::Verdict;
-use news::{NewsFault, write_news};
+use news::write_news;
 use std::fmt::Display;
 use std::process::ExitCode;
 use std::rt::{Env, Files};
 use std::sync::Wait;
 use std::thread::Threads;
 use std::{env, io};
-use streams::{read_file, read_streams};
-use words::{Asked, New, read_words};
+use streams::{read_known, read_streams};
+use words::{Asked, NewWords, read_words};
 
 /// The exit status where there is no answer.
 const NO_ANSWER: u8 = 2;
@@ -38,8 +38,8 @@ fn main(rt: HostRuntime) -> ExitCode {
         Err(error) => return refuse(&rt, error),
     };
     match read_words(rt.alloc(), words.as_slice()) {
-        Ok(Asked::New(new)) => {
-            let outcome = answer_new(&rt, &new);
+        Ok(Asked::New(words)) => {
+            let outcome = answer_new(&rt, &words);
             end(&rt, outcome)
         }
         Err(error) => tell(&rt, error),
@@ -49,18 +49,15 @@ fn main(rt: HostRuntime) -> ExitCode {
 /// Writes what is new in the files that are named. May wait.
 fn answer_new<'a, R: Files + io::Input + Print + AllocGlobal + Threads + Wait + Sync>(
     rt: &R,
-    new: &New<'a>,
+    words: &NewWords<'a>,
 ) -> Result<Verdict, Fault<'a>> {
-    let known = read_file(rt, new.known)?;
-    let bytes = read_streams(rt, &new.files)?;
+    // A mistake in it is told before the traces are read.
+    let known = read_known(rt, words.known)?;
+    let bytes = read_streams(rt, &words.files)?;
     let mut output = Std::new(io::writer(rt));
-    match write_news(rt, rt.alloc(), &bytes, &known, &mut output, new.workers) {
+    match write_news(rt, rt.alloc(), &bytes, &known, &mut output, words.workers) {
         Ok(verdict) => Ok(verdict),
-        Err(NewsFault::Stream(fault)) => Err(Fault::Together(fault)),
-        Err(NewsFault::UnknownLine(line)) => Err(Fault::UnknownLine(new.known, line)),
-        Err(NewsFault::Write) => Err(Fault::Write),
-        Err(NewsFault::Memory) => Err(Fault::Memory),
-        Err(NewsFault::Uneven(number)) => Err(Fault::Uneven(number)),
+        Err(fault) => Err(Fault::of_news(words.known, fault)),
     }
 }
 

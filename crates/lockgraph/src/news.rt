@@ -21,7 +21,7 @@ use std::thread::Threads;
 /// What is new.
 #[derive(Debug, Drop)]
 pub struct News {
-    /// The report of what is new: its lines, each ended by LF.
+    /// The report of what is new.
     pub text: Vec<u8>,
     /// What it comes to: `Violations` where one is new.
     pub verdict: Verdict,

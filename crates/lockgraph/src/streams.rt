@@ -1,11 +1,12 @@
 //! Reads files, and puts the streams that they are one behind another.
-ghost use Rattle.std.specs.Prelude.{◌≡◌, ◌++◌, Err, IfSome, None, OnOk};
+ghost use Rattle.std.specs.Prelude.{◌≡◌, ◌≢◌, ◌++◌, Err, IfOk, IfSome, None, OnErr, OnOk, true, false};
 ghost use Rattle.ld_trace.specs.Sources.{stream_fault};
-ghost use Rattle.lockgraph.specs.Streams.{ended, fault_of_file, is_ended};
+ghost use Rattle.lockgraph.specs.Streams.{ended, fault_of_file, fault_of_known, has_trace, is_ended};
 
 use crate::fault::Fault;
 use ld_device::{ReadFault, Std, read_all};
-use ld_trace::split;
+use ld_select::unknown_line;
+use ld_trace::{LONGEST_STREAM, StreamFault, split};
 use std::alloc::{AllocError, Global};
 use std::rt::Files;
 use std::{fs, io};
@@ -13,7 +14,40 @@ use std::{fs, io};
 /// What stands for standard input among the names of files.
 pub const STANDARD_INPUT: &str = "-";
 
-/// The bytes of a file, to its end. May wait.
+/// The known text of this name. May wait.
+///
+/// # Errors
+///
+/// Those of `read_file` and of `fault_of_known`.
+pub fn read_known<'a, R: Files + io::Input + AllocGlobal>(
+    rt: &R,
+    name: &'a str,
+) -> Result<Vec<u8>, Fault<'a>>
+    ensures { IfOk result (λ known. fault_of_known name.entry known.items ≡ None) }
+{
+    let known = read_file(rt, name)?;
+    match fault_of_known(name, &known) {
+        Some(fault) => Err(fault),
+        None => Ok(known),
+    }
+}
+
+/// Why a text isn't taken as the known one of this name: it is longer than a stream may be, of which no
+/// more would be read, or has a line that says something and is no line of a report.
+fn fault_of_known<'a>(name: &'a str, known: &[u8]) -> Option<Fault<'a>>
+    ensures { result ≡ fault_of_known name.entry known.now }
+{
+    if known.len() > LONGEST_STREAM {
+        return Some(Fault::File(name, StreamFault::TooLong));
+    }
+    match unknown_line(known) {
+        Some(line) => Some(Fault::UnknownLine(name, line)),
+        None => None,
+    }
+}
+
+/// The bytes of a file, to its end, or the first of them where it has more than the longest stream: one
+/// more than that has. May wait.
 ///
 /// # Errors
 ///
@@ -32,7 +66,7 @@ pub fn read_file<'a, R: Files + io::Input + AllocGlobal>(
     }
 }
 
-/// The bytes of an opened file, to its end. May wait.
+/// The bytes of an opened file, as many as `read_file` has. May wait.
 fn read_whole<'a, T: io::Read + Drop>(
     alloc: Global,
     file: T,
@@ -66,19 +100,42 @@ pub fn read_streams<'a, R: Files + io::Input + AllocGlobal>(
 ///
 /// # Errors
 ///
-/// Exactly where the stream has a fault by itself, with the file's name and its line; or `Memory` where a
-/// growth of memory was refused.
+/// Exactly where the stream has a fault by itself, with the file's name and its line; `NoTrace` where it
+/// has none and no trace either; or `Memory` where a growth of memory was refused.
 fn add<'a>(alloc: Global, all: &mut Vec<u8>, name: &'a str, bytes: &[u8]) -> Result<(), Fault<'a>>
     ensures added { OnOk result (all.new.items ≡ all.old.items ++ ended bytes.now) }
     ensures sound { OnOk result (stream_fault bytes.now ≡ None) }
     ensures fault { IfSome (stream_fault bytes.now) (λ fault.
         result ≡ Err (fault_of_file name.entry fault)) }
+    ensures traces { OnOk result (has_trace bytes.now ≡ true) }
+    ensures no_trace { stream_fault bytes.now ≡ None → has_trace bytes.now ≡ false →
+        result ≢ Err Fault.Memory → result ≡ Err (Fault.NoTrace name.entry) }
+    ensures memory { stream_fault bytes.now ≡ None → has_trace bytes.now ≡ true →
+        OnErr result (result ≡ Err Fault.Memory) }
 {
-    if let Err(fault) = split(alloc, bytes) {
-        return Err(Fault::of_file(name, fault));
+    match has_trace(alloc, bytes) {
+        Ok(true) => {
+            append(all, bytes)?;
+            Ok(())
+        }
+        Ok(false) => Err(Fault::NoTrace(name)),
+        Err(fault) => Err(Fault::of_file(name, fault)),
     }
-    append(all, bytes)?;
-    Ok(())
+}
+
+/// Whether a stream has a trace.
+///
+/// # Errors
+///
+/// Those of `split`.
+fn has_trace(alloc: Global, bytes: &[u8]) -> Result<bool, StreamFault>
+    ensures has { IfOk result (λ has. has ≡ has_trace bytes.now) }
+    ensures fault { IfSome (stream_fault bytes.now) (λ fault. result ≡ Err fault) }
+    ensures memory { stream_fault bytes.now ≡ None →
+        OnErr result (result ≡ Err StreamFault.Memory) }
+{
+    let sources = split(alloc, bytes)?;
+    Ok(!sources.is_empty())
 }
 
 /// Puts these bytes behind others, with an LF where their last line has none.

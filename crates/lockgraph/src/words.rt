@@ -18,7 +18,7 @@ const DEFAULT_WORKERS: usize = 4;
 /// What the help says behind the commands.
 const AFTER_HELP: &str = "\
 Each command reads the named files as one stream of traces, one after another, or standard input where none
-is named. - is standard input too.
+is named. - is standard input too, and may be named once. A file without any trace is refused.
 
 Exit status:
   0  no violation that is told, and no trace is refused
@@ -33,7 +33,17 @@ Example:
 const AFTER_NEW: &str = "\
 Writes the report of the traces without the violations that KNOWN has, a report of before: those of the same
 kind, state and classes, whatever their witnesses and walks. The last line is `nothing new`, or `new N`.
-KNOWN may have comments: lines that begin with #.
+T:L counts lines over all files as one stream.
+
+A line of KNOWN makes known what it says, in one of these forms, where .. may be anything:
+  recursion A at ..
+  inversion A -> B at ..
+  conflict STATE A MARKS in ..
+  forbidden STATE A MARKS in T:L -> B MARKS on ..
+Its other lines are those of reports, empty ones, and comments, which begin with #.
+
+Exit status: 1 where a violation is new, 3 where none is and a trace is refused, 0 else, 2 where there is no
+answer.
 
 Example:
   lockcheck < run.trace > known.report
@@ -43,12 +53,12 @@ Example:
 #[derive(Debug, Drop)]
 pub enum Asked<'a> {
     /// `new`.
-    New(New<'a>),
+    New(NewWords<'a>),
 }
 
 /// What `new` is asked.
 #[derive(Debug, Drop)]
-pub struct New<'a> {
+pub struct NewWords<'a> {
     /// The name of the known text.
     pub known: &'a str,
     /// The names of the files with the streams.
@@ -68,26 +78,37 @@ pub fn read_words<'a, S: AsStr>(alloc: Global, words: &'a [S]) -> Result<Asked<'
     let mut command = command_line(alloc)?;
     let matches = command.try_get_matches_from_mut(words)?;
     match matches.subcommand() {
-        Some(("new", matches)) => match read_new(alloc, matches)? {
-            Some(new) => Ok(Asked::New(new)),
-            None => Err(command.error(ErrorKind::MissingRequiredArgument, "--known is missing")?),
-        },
+        Some(("new", matches)) => read_new(alloc, &mut command, matches),
         _ => Err(command.error(ErrorKind::MissingSubcommand, "a command is missing")?),
     }
 }
 
-/// What the words behind `new` ask for; `None` where they name no known text.
-fn read_new<'a>(alloc: Global, matches: &ArgMatches<'a>) -> Result<Option<New<'a>>, AllocError> {
+/// What the words behind `new` ask for.
+fn read_new<'a>(
+    alloc: Global,
+    command: &mut Command<'a>,
+    matches: &ArgMatches<'a>,
+) -> Result<Asked<'a>, Error> {
     let Some(known) = matches.get_str("known") else {
-        return Ok(None);
+        return Err(command.error(ErrorKind::MissingRequiredArgument, "--known is missing")?);
     };
     let files = files(alloc, matches)?;
+    // Behind its end it would be read as if it were empty.
+    if is_read_twice(known, &files) {
+        return Err(command.error(ErrorKind::ArgumentConflict, "standard input is named twice")?);
+    }
     let workers = workers(matches);
-    Ok(Some(New {
+    Ok(Asked::New(NewWords {
         known,
         files,
         workers,
     }))
+}
+
+/// Whether standard input is read more than once.
+fn is_read_twice(known: &str, files: &[&str]) -> bool {
+    let count = files.iter().filter(|name| **name == STANDARD_INPUT).count();
+    count > 1 || known == STANDARD_INPUT && count > 0
 }
 
 /// The names of the files that are to be read.
