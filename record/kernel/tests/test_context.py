@@ -183,7 +183,8 @@ class TakenAway(unittest.TestCase):
 
     def taken_away(self, *between, end=END):
         return run(acquire('a', A, task='migration/1-20', cpu=1, columns='d....') + line(self.BEGIN, cpu=0)
-                   + ''.join(between) + line(end, cpu=0) + acquire('b', B, task='migration/1-20', cpu=1, columns='d....'))
+                   + ''.join(between) + line(end, cpu=0)
+                   + acquire('b', B, task='migration/1-20', cpu=1, columns='d....'))
 
     def test_what_its_last_task_held_is_released(self):
         result = self.taken_away()

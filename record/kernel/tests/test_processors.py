@@ -19,7 +19,8 @@ from classes import lockdep_classes
 from shown import Shown, lockdep
 from test_planted import report
 
-ACQUIRE = re.compile(r'.{16}-(\d+) +\[(\d+)\] ..(.).. +\d+: acquire: (\S+) k=(\S+) s=\d t=(\d) r=(\d) c=(\d) .*').fullmatch
+ACQUIRE = re.compile(
+    r'.{16}-(\d+) +\[(\d+)\] ..(.).. +\d+: acquire: (\S+) k=(\S+) s=\d t=(\d) r=(\d) c=(\d) .*').fullmatch
 RELEASE = re.compile(r'.{16}-(\d+) +\[(\d+)\] \S{5} +\d+: release: (\S+)').fullmatch
 
 # What lockdep learned of code that runs on a processor that is taken away, of which no event shows.
