@@ -36,7 +36,7 @@ fn a_long_report_is_told(rt: HostRuntime) -> Result<(), Fail> {
 // The memory for a text is asked for once. It is as long as the text, of a report with lines of all kinds.
 #[test]
 fn a_report_has_no_more_memory_than_text(rt: HostRuntime) -> Result<(), Fail> {
-    let stream = "trace with-a-longer-label\nacquire t A\nnested t B 12\nacquire t C\nacquire t C\n\
+    let stream = "trace with-a-longer-label\nacquire t A\nnested t B 7\nacquire t C\nacquire t C\n\
         trace b\nacquire u C\nacquire u A\nrelease u A\nrelease u C\nenter u hard\nacquire u A\n\
         trace m\nrelease t A\n";
     let sources = split(rt.alloc(), stream.as_bytes())?;
