@@ -3,6 +3,8 @@ what a check of some of them together says of each."""
 import os
 import re
 
+from crates import read
+
 FOLDER = "must-fail-proofs"
 FUNCTION = re.compile(r"( *)(?:pub(?:\([^)]*\))? )?(?:const )?fn (\w+)")
 OPEN = re.compile(r"note: (src/\S+?):(\d+):\d+: (it is not proved .*)")
@@ -18,11 +20,6 @@ RESTS = re.compile(r"it calls `|which antt refuses")
 
 class Wrong(Exception):
     """Why nothing can be said of an edit, or of all."""
-
-
-def read(file):
-    with open(file, encoding="utf-8") as text:
-        return text.read()
 
 
 class Function:
@@ -87,6 +84,17 @@ def functions_of(file):
             at = last
         at += 1
     return found
+
+
+def shown_of(file):
+    """What a file of a crate shows to those above: all but the bodies of its functions and lines of comments. A
+    constant function's body stays, since it may be worked out in a type."""
+    lines = read(file).split("\n")
+    for it in functions_of(file) if file.endswith(".rt") else []:
+        if not any(re.search(rf"\bconst fn {it.name}\b", line) for line in lines[it.first : it.head + 1]):
+            lines[it.head + 1 : it.last] = [""] * max(it.last - it.head - 1, 0)
+    comment = "//" if file.endswith(".rt") else "--"
+    return "\n".join(it for it in lines if it and not it.lstrip().startswith(comment))
 
 
 class Edit:
