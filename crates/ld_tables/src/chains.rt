@@ -8,6 +8,7 @@ ghost use Rattle.ld_tables.specs.Inner.Chains.{same_link};
 ghost use Rattle.ld_tables.specs.declared.chains.TheConstants.{MOST_CHAINS, MOST_KEPT};
 ghost use Rattle.ld_rules.specs.declared.outcome.TheConstants.{MOST_HELD};
 
+use crate::guesses::ChainGuesses;
 use indexmap::IndexSet;
 use std::alloc::{AllocError, Global};
 use std::marker::Model;
@@ -49,6 +50,8 @@ pub struct Chains {
     runs: Vec<Run>,
     /// The chain that was answered last. It may be past the end, and says nothing then.
     last: u32,
+    /// Where others were found last.
+    guesses: ChainGuesses,
 }
 
 impl Model for Chains {
@@ -75,6 +78,7 @@ impl Chains {
             numbers: Vec::new(alloc),
             runs: Vec::new(alloc),
             last: 0,
+            guesses: ChainGuesses::new(),
         }
     }
 
@@ -126,10 +130,29 @@ impl Chains {
         if is_at(&self.links, self.last, link) {
             return Some(self.last);
         }
+        self.guess(link)
+    }
+
+    /// The same, of a chain that isn't that of the call before: where it was found last is asked first.
+    #[inline(never)]
+    fn guess(&mut self, link: Link) -> Option<u32>
+        requires { IfSome link.before (λ n. n < length (chains_of self.old.links)) }
+        ensures same { self.new ≡ self.old }
+        ensures many { length self.old.numbers ≡ length self.old.links }
+        ensures none { IfNone result (list_any (same_link link) self.old.links ≡ false) }
+        ensures within { IfSome result (λ n. n < length (chains_of self.old.links)) }
+        ensures chain { IfSome result (λ n. slice_index_or (chains_of self.old.links) n []
+            ≡ chain_before (chains_of self.old.links) link.before ++ link.class ∷ []) }
+    {
+        let guess = self.guesses.of(link);
+        if is_at(&self.links, guess, link) {
+            self.last = guess;
+            return Some(guess);
+        }
         self.look_up(link)
     }
 
-    /// The same, of a chain that isn't that of the call before.
+    /// The same, of a chain that isn't guessed.
     #[inline(never)]
     fn look_up(&mut self, link: Link) -> Option<u32>
         requires { IfSome link.before (λ n. n < length (chains_of self.old.links)) }
@@ -142,6 +165,7 @@ impl Chains {
     {
         let place = self.links.get_index_of(&link)?;
         self.last = place as u32;
+        self.guesses.note(link, place as u32);
         Some(place as u32)
     }
 

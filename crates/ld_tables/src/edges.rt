@@ -1,7 +1,9 @@
 //! The dependencies between numbered classes.
 ghost use Rattle.std.specs.Prelude.{◌≡◌, ◌<◌, Bool, true, [], All, fold, length, map, take, IfOk};
 ghost use Rattle.std.specs.Prelude.{IfSome, OnErr, OnOk};
+ghost use Rattle.std.specs.Bool.{OnTrue};
 ghost use Rattle.std.specs.List.{list_any};
+ghost use Rattle.ld_tables.specs.declared.edges.TheConstants.{MOST_PAIRS};
 ghost use Rattle.ld_tables.specs.Inner.Edges.{AreMore, AreNumbers, edge_at, edge_to, pair_at};
 ghost use Rattle.ld_tables.specs.Inner.Edges.{with_edge_fact};
 
@@ -23,6 +25,12 @@ pub struct EdgeFact {
     pub line: u64,
 }
 
+/// Where so many pairs have numbers, there is no room for further ones.
+pub const MOST_PAIRS: usize = 1 << 19;
+
+// Clauses cite the constant, so they would hold with any other number that fits.
+const _: () = prove!(MOST_PAIRS == 524_288);
+
 /// Two classes.
 #[derive(Clone, Copy, PartialEq, Eq, Hash)]
 pub struct Pair {
@@ -33,7 +41,8 @@ pub struct Pair {
 /// Dependencies, each pair of classes once, with the line that was told first.
 ///
 /// Pairs have numbers, which they keep when the dependencies are taken away, so that a chain whose numbers
-/// are kept tells its pairs without looking them up.
+/// are kept tells its pairs without looking them up. Each pair of a dependency has one, so how many there are
+/// is bounded where the dependencies are taken away, and not between.
 ///
 /// A call answers `AllocError` where a growth of memory was refused.
 #[derive(Drop)]
@@ -83,6 +92,14 @@ impl Edges {
     /// The numbers of the pairs of the dependencies, in their order.
     pub fn pairs(&self) -> &[u32] {
         self.theirs.as_slice()
+    }
+
+    /// Whether there is room for the numbers of further pairs.
+    pub fn has_room(&self) -> bool
+        ensures room { OnTrue result (length self.now.pairs < MOST_PAIRS) }
+        ensures full { length self.now.pairs < MOST_PAIRS → result ≡ true }
+    {
+        self.pairs.len() < MOST_PAIRS
     }
 
     /// The number of a pair. `AllocError` too where there are as many as have numbers.

@@ -1,11 +1,15 @@
-//! Guesses where classes stand among those that are known.
+//! Guesses where names stand among those that are known, and chains among those that were met.
 ghost use Rattle.std.specs.Prelude.{◌<◌};
-ghost use Rattle.ld_tables.specs.declared.guesses.TheConstants.{GUESSES};
+ghost use Rattle.ld_tables.specs.declared.guesses.TheConstants.{CHAIN_GUESSES, GUESSES};
 
+use crate::chains::Link;
 use ld_class::ClassName;
 
-/// How many guesses there are.
+/// How many guesses of names there are.
 pub const GUESSES: usize = 1 << 12;
+
+/// How many guesses of chains there are.
+pub const CHAIN_GUESSES: usize = 1 << 14;
 
 /// An odd number by which bytes are spread.
 const SPREAD: u64 = 0x9e37_79b9_7f4a_7c15;
@@ -36,6 +40,33 @@ impl Guesses {
     }
 }
 
+/// By a number that is made of a link, the number of the chain that was found last by such a link. As a guess of a
+/// name it has no meaning: whoever reads one compares the link that stands there.
+#[derive(Drop)]
+pub struct ChainGuesses {
+    chains: [u32; CHAIN_GUESSES],
+}
+
+impl ChainGuesses {
+    pub fn new() -> ChainGuesses {
+        ChainGuesses {
+            chains: [0; CHAIN_GUESSES],
+        }
+    }
+
+    /// The number of the chain that was found last by a link like this one.
+    #[inline(always)]
+    pub fn of(&self, link: Link) -> u32 {
+        self.chains[chain_slot(link)]
+    }
+
+    /// The link is that of this chain.
+    #[inline(always)]
+    pub fn note(&mut self, link: Link, chain: u32) {
+        self.chains[chain_slot(link)] = chain;
+    }
+}
+
 /// The number that is made of a name, of both ends of its bytes.
 #[inline(always)]
 fn slot(name: ClassName<'_>) -> usize
@@ -55,16 +86,42 @@ fn ends_of_short(name: &[u8]) -> u64 {
             u32::from_le_bytes(*first) as u64,
             u32::from_le_bytes(*last) as u64,
         ),
-        _ => 0,
+        _ => spread(folded(name), 0),
     }
+}
+
+/// All bytes of a name of fewer than four.
+fn folded(name: &[u8]) -> u64 {
+    let mut bytes: u64 = 0;
+    for byte in name {
+        bytes = bytes.wrapping_mul(1 << 8).wrapping_add(*byte as u64);
+    }
+    bytes
 }
 
 /// A number of 12 bits, most of them touched by each bit of these.
 #[inline(always)]
 fn spread(first: u64, last: u64) -> u64 {
+    product(first, last) / (1 << 52)
+}
+
+/// The number that is made of a link.
+#[inline(always)]
+fn chain_slot(link: Link) -> usize
+    ensures { result < CHAIN_GUESSES }
+{
+    let before = match link.before {
+        Some(chain) => chain as u64 + 1,
+        None => 0,
+    };
+    (product(before, link.class as u64) / (1 << 50) % CHAIN_GUESSES as u64) as usize
+}
+
+/// A number of which the upper bits are touched by each bit of these.
+#[inline(always)]
+fn product(first: u64, last: u64) -> u64 {
     first
         .wrapping_mul(SPREAD)
         .wrapping_add(last)
         .wrapping_mul(SPREAD)
-        / (1 << 52)
 }

@@ -3,6 +3,7 @@ ghost use Rattle.std.specs.Prelude.{◌≡◌, ◌<◌, ◌≤◌, [], ◌∷◌
 ghost use Rattle.std.specs.Prelude.{slice_index_or, IfOk};
 ghost use Rattle.std.specs.Bool.{OnTrue};
 ghost use Rattle.ld_tables.specs.declared.edges.Pair.{Pair};
+ghost use Rattle.ld_tables.specs.declared.edges.TheConstants.{MOST_PAIRS};
 ghost use Rattle.ld_tables.specs.Inner.Chains.{HasRoom, chains_of, link_with};
 ghost use Rattle.ld_tables.specs.Inner.Locks.{HasItsNumbers, IsChainIfAny, IsExtended, IsNumbered, chain_of};
 ghost use Rattle.ld_tables.specs.Inner.Stacks.{plain_held};
@@ -13,16 +14,17 @@ use crate::edges::Edges;
 use crate::held::Held;
 use std::alloc::{AllocError, Global};
 
-/// Takes all chains away, and the numbers of pairs, where there is no room for further ones. There is no
+/// Takes all chains away, and the numbers of pairs, where there is no room for further ones of either. There is no
 /// dependency.
 pub fn make_room(chains: &mut Chains, edges: &mut Edges)
     requires { edges.old.edges ≡ [] }
     ensures room { HasRoom chains.new }
+    ensures pairs { length edges.new.pairs < MOST_PAIRS }
     ensures edges { edges.new.edges ≡ [] }
     ensures numbered { HasItsNumbers (chains_of chains.old.links) chains.old.numbers edges.old.pairs
         → HasItsNumbers (chains_of chains.new.links) chains.new.numbers edges.new.pairs }
 {
-    if chains.has_room() {
+    if chains.has_room() && edges.has_room() {
         return;
     }
     chains.clear();

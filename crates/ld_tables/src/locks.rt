@@ -205,6 +205,9 @@ impl<'a> Locks<'a> {
         }) }
     {
         let stack = self.stacks.innermost(task);
+        if stack.is_empty() {
+            return Ok(());
+        }
         let met = self.chains.len();
         let Some(chain) = linked(&mut self.chains, stack, class)? else {
             return self.edges.tell_to(self.alloc, None, stack, class, line);

@@ -1,4 +1,5 @@
-use Rattle.std.proofs.Common.{◌≡◌, ◌<◌, ◌∷◌, [], ◌++◌, Bool, List, ℕ, Option, Some, Result, Ok, Err, OnOk, true, refl, fold, get_or, length, map, sym, ap, subst, ◌∙◌, take}
+use Rattle.std.proofs.Common.{◌≡◌, ◌<◌, ◌∷◌, [], ◌++◌, Bool, List, ℕ, Option, Some, Result, Ok, Err, OnOk, true, refl, fold, get_or, length, map, sym, ap, subst, ◌∙◌, take, arith}
+use Rattle.std.proofs.lemmas.Bool.{eqb-true}
 use Rattle.std.specs.List.{list_any}
 use Rattle.ld_tables.specs.declared.edges.EdgeFact.{EdgeFact}
 use Rattle.ld_tables.specs.declared.held.Held.{Held}
@@ -60,6 +61,25 @@ module _ (stacks : List PlainStack) (chains_before after : KeptChains) (told : L
 
     same_then : take before.edges new ≡ take before.edges old.edges
     same_then = before_same before (chains_of after.links) told now.edges start_here new first ∙ ap (take before.edges) same
+
+-- a stack of no lock tells nothing
+none_told : (held : List Held) (edges : List EdgeFact) (class line : ℕ) → length held ≡ 0 →
+    edges ≡ fold with_edge_fact edges (map (edge_to class line) (map (λ (h : Held). h.class) held))
+none_told [] edges class line none = refl
+none_told (h ∷ held) edges class line none = absurd (omega (arith, none))
+
+pub returns-then-is_empty-clause-told : goal.returns-then-is_empty-clause-told
+returns-then-is_empty-clause-told c =
+    let edges = c.self.inside.edges.edges in
+    let held = c.innermost-stack.result.now in
+    let stack = get_or c.self.inside.stacks c.args.task empty_stack in
+    let ok : Result (Unit {0}) ℕ = Ok tt in
+    let empty : length held ≡ 0 = eqb-true (length held) 0 (sym c.is_empty.ensures ∙ c.if-is_empty.true) in
+    sym c.self.view_is
+    ∙ told_shown ok c.self.inside.stacks edges c.args.self.now c.args.task c.args.class c.args.line edges c.self.view_is
+    (none_told held edges c.args.class c.args.line empty
+    ∙ ap (λ froms. fold with_edge_fact edges (map (edge_to c.args.class c.args.line) froms)) (classes_shown stack held c.innermost-stack.ensures.held))
+    refl
 
 pub returns-then-has-clause-told : goal.returns-then-has-clause-told
 returns-then-has-clause-told c =
