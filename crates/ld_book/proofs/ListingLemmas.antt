@@ -1,7 +1,7 @@
 -- The traces that are listed, and their numbers.
-use Rattle.std.proofs.Common.{◌≡◌, ◌≢◌, ◌+◌, ◌<◌, ◌++◌, ◌||◌, ◌∷◌, [], List, ℕ, false, AllPairs, arith, cond, length, map, nat_eq, get_or, take, sym, ap, ◌∙◌}
-use Rattle.std.proofs.lemmas.Bool.{false_from_ne_true, eqb-true}
-use Rattle.std.proofs.lemmas.List.{get_or-take, get_or_default, length-take, map-append}
+use Rattle.std.proofs.Common.{◌≡◌, ◌≢◌, ◌+◌, ◌<◌, ◌++◌, ◌||◌, ◌∷◌, [], List, ℕ, zero, suc, Bool, true, false, AllPairs, arith, cond, length, map, nat_eq, get_or, replicate, set, subst, take, refl, sym, ap, ◌∙◌}
+use Rattle.std.proofs.lemmas.Bool.{false_from_ne_true, eq-eqb, eqb-true, true≢false}
+use Rattle.std.proofs.lemmas.List.{get_or-set_other, get_or-set_same, get_or-take, get_or_default, length-take, map-append}
 use Rattle.std.proofs.lemmas.List.Folds.{list_any-append, list_any_none}
 use Rattle.std.proofs.lemmas.List.Sums.{fold_push}
 use Rattle.std.specs.List.{list_any}
@@ -55,3 +55,37 @@ fresh_next sources more i d here fresh apart =
         let low : k < i = omega (arith, within, length-take i more) in
         let at : get_or (take i more) k e ≡ get_or more k d = get_or-take i more k e low ∙ get_or_default more k e d (omega (arith, low, here)) in
         apart k i d low here (ap (λ (s : PlainSource). s.number) (sym at) ∙ sym (eqb-true _ _ same))))
+
+-- marks of the numbers that are listed, and of one more
+pub marks-push : (marks : List Bool) (listed : List Listed) (last : Listed) → ((number : ℕ) → get_or marks number false ≡ is_listed (sources_of listed) number)
+    → last.source.number < length marks
+    → (number : ℕ) → get_or (set marks last.source.number true) number false ≡ is_listed (sources_of (listed ++ last ∷ [])) number
+marks-push marks listed last told within number =
+    by (nat_eq number last.source.number) refl
+    ∙ sym (list_any-append (λ source. nat_eq number source.number) (sources_of listed) (plain last.source ∷ []))
+    ∙ ap (λ all. is_listed all number) (sym (sources-push listed last))
+  where
+    or_true : (b : Bool) → true ≡ (b || true)
+    or_true true = refl
+    or_true false = refl
+
+    or_false : (b : Bool) → b ≡ (b || false)
+    or_false true = refl
+    or_false false = refl
+
+    by : (b : Bool) → nat_eq number last.source.number ≡ b → get_or (set marks last.source.number true) number false ≡ (is_listed (sources_of listed) number || (b || false))
+    by true is =
+        subst (λ n. get_or (set marks last.source.number true) n false ≡ true) (sym (eqb-true number last.source.number is)) (get_or-set_same marks last.source.number true false within)
+        ∙ or_true (is_listed (sources_of listed) number)
+    by false is =
+        get_or-set_other marks last.source.number number true false (λ same. true≢false (sym (eq-eqb number last.source.number same) ∙ is))
+        ∙ told number
+        ∙ or_false (is_listed (sources_of listed) number)
+
+-- marks with further ones that tell nothing
+pub marks-more : (marks : List Bool) (count number : ℕ) → get_or (marks ++ replicate count false) number false ≡ get_or marks number false
+marks-more [] zero number = refl
+marks-more [] (suc count) zero = refl
+marks-more [] (suc count) (suc number) = marks-more [] count number
+marks-more (mark ∷ marks) count zero = refl
+marks-more (mark ∷ marks) count (suc number) = marks-more marks count number

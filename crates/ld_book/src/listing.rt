@@ -10,8 +10,8 @@ ghost use Rattle.ld_book.specs.Book.{is_any_listed, is_listed};
 ghost use Rattle.ld_book.specs.Totals.{event_count, refused_count};
 
 use crate::totals::{events_of, refused_of};
-use indexmap::IndexSet;
 use ld_facts::Listed;
+use ld_trace::MOST_TRACES;
 use std::alloc::{AllocError, Global};
 use std::marker::Model;
 
@@ -19,8 +19,8 @@ use std::marker::Model;
 #[derive(Drop)]
 pub(crate) struct Listing<'a> {
     traces: Vec<Listed<'a>>,
-    /// The numbers of the traces.
-    numbers: IndexSet<u64>,
+    /// For each number whether a trace has it, once there was memory for a trace.
+    marks: Vec<bool>,
     /// How many events those traces have that are read.
     events: u64,
     /// How many traces are refused.
@@ -46,7 +46,7 @@ impl<'a> Listing<'a> {
     {
         Listing {
             traces: Vec::new(alloc),
-            numbers: IndexSet::new(alloc),
+            marks: Vec::new(alloc),
             events: 0,
             refused: 0,
             spare: 0,
@@ -57,7 +57,7 @@ impl<'a> Listing<'a> {
     pub(crate) fn has(&self, number: u64) -> bool
         ensures { result ≡ is_listed self.now.sources number }
     {
-        self.numbers.contains(&number)
+        matches!(self.marks.get(number as usize), Some(true))
     }
 
     /// Whether a trace of the number of one of these is listed.
@@ -81,7 +81,7 @@ impl<'a> Listing<'a> {
         ensures few { length self.old.sources ≤ MOST_TRACES }
     {
         self.traces.reserve(count)?;
-        self.numbers.reserve(count)?;
+        self.marks.resize(MOST_TRACES as usize, false)?;
         self.spare = count;
         Ok(())
     }
@@ -97,9 +97,7 @@ impl<'a> Listing<'a> {
     {
         self.events += events_of(trace.outcome);
         self.refused += refused_of(trace.outcome);
-        let Ok(_) = self.numbers.insert(trace.source.number) else {
-            unreachable!()
-        };
+        self.marks[trace.source.number as usize] = true;
         let Ok(()) = self.traces.push(trace) else {
             unreachable!()
         };

@@ -1,8 +1,9 @@
 -- Which number tells that sources aren't listed, each once.
-use Rattle.std.proofs.Common.{◌≡◌, ◌<◌, ◌≤◌, ◌⊎◌, ◌∙◌, inl, inr, List, ℕ, zero, suc, [], length, map, take, get_or, IsPermutation, Option, None, Some, IfNone, arith, ap, sym, subst}
+use Rattle.std.proofs.Common.{◌≡◌, ◌≢◌, ◌<◌, ◌≤◌, ◌⊎◌, ◌∙◌, inl, inr, List, ℕ, zero, suc, [], ◌∷◌, length, map, take, get_or, remove, AllPairs, IsPermutation, Option, None, Some, IfNone, arith, ap, refl, sym, subst}
 use Rattle.std.proofs.lemmas.Bool.{cases_order}
-use Rattle.std.proofs.lemmas.List.{get_or-map, get_or-take, get_or_default, length-map, take_all}
-use Rattle.std.proofs.lemmas.List.Sorted.{Contains-permutation, IsPermutation-map, IsPermutation-sym}
+use Rattle.std.proofs.lemmas.List.{get_or-map, get_or-take, get_or_default, length-map, nil_from_length, take_all}
+use Rattle.std.proofs.lemmas.List.Sorted.{Contains-permutation, IsPermutation-cons, IsPermutation-map, IsPermutation-refl, IsPermutation-remove, IsPermutation-sym}
+use Rattle.std.proofs.lemmas.List.Sorted.{IsPermutation-trans, length_permutation}
 use Rattle.std.specs.List.{Contains}
 use Rattle.ld_trace.specs.Sources.{AreNumbered, PlainSource, plain}
 use Rattle.ld_rules.specs.declared.outcome.Listed.{Listed}
@@ -123,3 +124,39 @@ uneven_moved sources old new n moved uneven = by uneven
 pub IfNone_then : {X P Q : Type 0} (r : Option X) → IfNone r P → (P → Q) → IfNone r Q
 IfNone_then None h f = f h
 IfNone_then (Some x) h f = h
+
+-- distinct things that all stand in a list, as many as it has, are that list in another order
+pub permuted_from_within : {X : Type 0} (ys xs : List X) → AllPairs (λ a b. a ≢ b) ys → ((z : X) → Contains ys z → Contains xs z) → length xs ≡ length ys → IsPermutation xs ys
+permuted_from_within [] xs apart within same = subst (λ l. IsPermutation l []) (sym (nil_from_length xs same)) (IsPermutation-refl [])
+permuted_from_within {X} (y ∷ ys) xs apart within same =
+    IsPermutation-trans xs (y ∷ left) (y ∷ ys) moved
+    (IsPermutation-cons y left ys
+    (permuted_from_within ys left (λ i j d lower inside. apart (suc i) (suc j) d (omega (arith, lower)) (omega (arith, inside))) rest few))
+  where
+    at : Contains xs y
+    at = within y (0, omega arith, refl)
+
+    left : List X
+    left = remove xs at.0
+
+    moved : IsPermutation xs (y ∷ left)
+    moved = IsPermutation-remove xs at.0 y at.1 (sym at.2)
+
+    few : length left ≡ length ys
+    few = let more = length_permutation xs (y ∷ left) moved in omega (arith, more, same)
+
+    rest : (z : X) → Contains ys z → Contains left z
+    rest z (p, inside, is) = by (Contains-permutation xs (y ∷ left) z moved (within z (suc p, omega (arith, inside), is)))
+      where
+        by : Contains (y ∷ left) z → Contains left z
+        by (zero, there, first) = absurd (apart 0 (suc p) z (omega arith) (omega (arith, inside)) (first ∙ sym is))
+        by (suc q, there, here) = (q, omega (arith, there), here)
+
+-- a source among numbered ones stands at the place of its number
+pub own_place : (sources : List PlainSource) (source : PlainSource) → AreNumbered sources → Contains sources source
+    → (source.number < length sources) × ((d : PlainSource) → get_or sources source.number d ≡ source)
+own_place sources source numbered (p, inside, is) =
+    (subst (λ k. k < length sources) here inside, λ d. ap (λ k. get_or sources k d) (sym here) ∙ get_or_default sources p d source inside ∙ is)
+  where
+    here : p ≡ source.number
+    here = sym (numbered p source inside) ∙ ap (λ s. s.number) is

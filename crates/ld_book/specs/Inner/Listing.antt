@@ -1,8 +1,9 @@
 -- What the list of a book keeps true of its fields.
-use Rattle.std.specs.Prelude.{◌≡◌, ℕ, ◌+◌, ◌≤◌, List, map, All, nat_eq, vec_len, vec_capacity}
+use Rattle.std.specs.Prelude.{◌≡◌, ℕ, ◌+◌, ◌<◌, ◌≤◌, List, false, length, map, slice_index_or, All, nat_eq, vec_len, vec_capacity}
 use Rattle.std.specs.List.{IsDistinct}
-use Rattle.indexmap.specs.IndexSet.{spare}
+use Rattle.ld_trace.specs.declared.source.TheConstants.{MOST_TRACES}
 use Rattle.ld_trace.specs.Sources.{Fits, PlainSource, plain}
+use Rattle.ld_book.specs.Book.{is_listed}
 use Rattle.ld_book.specs.declared.listing.Listing.TheInside.{Inside}
 use Rattle.ld_shown.specs.Batch.{AreOutcomes, sources_of}
 use Rattle.ld_book.specs.Totals.{event_count, refused_count}
@@ -20,9 +21,10 @@ listing_of l = record { sources = sources_of l.traces.items; spare = l.spare }
 pub record IsListing (l : Inside) : Type 0 where
   pub outcomes : AreOutcomes l.traces.items
   pub fit : All (λ t. Fits (plain t.source)) l.traces.items
-  pub numbers : l.numbers.keys ≡ map (λ t. t.source.number) l.traces.items
-  pub distinct : IsDistinct nat_eq l.numbers.keys
+  pub distinct : IsDistinct nat_eq (map (λ t. t.source.number) l.traces.items)
+  pub marks : (number : ℕ) → slice_index_or l.marks.items number false ≡ is_listed (sources_of l.traces.items) number
   pub events : l.events ≡ event_count (sources_of l.traces.items)
   pub refused : l.refused ≡ refused_count (sources_of l.traces.items)
   pub room_traces : vec_len l.traces + l.spare ≤ vec_capacity l.traces
-  pub room_numbers : l.spare ≤ spare l.numbers
+  pub most_marks : length l.marks.items ≤ MOST_TRACES
+  pub room_marks : 0 < l.spare → length l.marks.items ≡ MOST_TRACES

@@ -9,13 +9,13 @@ use Rattle.ld_work.proofs.even.uneven.Goals as goal
 use Rattle.ld_work.proofs.even.uneven.Goals.{After-drop-traces-inside}
 
 -- the traces in order are those of the book
-moved : (c : After-drop-traces-inside) → IsPermutation (sources_of c.listed.result.now) c.args.book.now
+moved : (c : After-drop-traces-inside) → IsPermutation (sources_of c.listed-2.result.now) c.args.book.now
 moved c =
-    IsPermutation-sym c.args.book.now (sources_of c.listed.result.now)
-    (subst (IsPermutation c.args.book.now) (sym c.listed.ensures.sources) c.in_ok-traces.ensures.same)
+    IsPermutation-sym c.args.book.now (sources_of c.listed-2.result.now)
+    (subst (IsPermutation c.args.book.now) (sym c.listed-2.ensures.sources) c.in_ok-traces.ensures.same)
 
 pub first_uneven-requires-clause-rising : goal.first_uneven-requires-clause-rising
-first_uneven-requires-clause-rising c = subst AreRising (sym c.listed.ensures.sources) c.listed.ensures.rising
+first_uneven-requires-clause-rising c = subst AreRising (sym c.listed-2.ensures.sources) c.listed-2.ensures.rising
 
 pub returns-clause-even : goal.returns-clause-even
 returns-clause-even c =
@@ -24,4 +24,4 @@ returns-clause-even c =
 pub returns-clause-uneven : goal.returns-clause-uneven
 returns-clause-uneven c =
     IfSome_then c.first_uneven.result c.first_uneven.ensures.uneven
-    (λ number is. uneven_moved (map plain c.args.sources.now) (sources_of c.listed.result.now) c.args.book.now number (moved c) is)
+    (λ number is. uneven_moved (map plain c.args.sources.now) (sources_of c.listed-2.result.now) c.args.book.now number (moved c) is)

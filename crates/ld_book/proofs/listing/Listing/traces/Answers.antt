@@ -1,4 +1,4 @@
-use Rattle.std.proofs.Common.{All, ap, subst}
+use Rattle.std.proofs.Common.{All, ap, map, refl, subst}
 use Rattle.std.proofs.lemmas.List.Elements.{All-map}
 use Rattle.ld_trace.specs.Sources.{Fits, plain}
 use Rattle.ld_book.proofs.ListedLemmas.{apart_from_keys}
@@ -9,4 +9,4 @@ returns-clause-fit c = subst (λ l. All Fits l.sources) c.self.view_is (All-map 
 
 pub returns-clause-apart : goal.returns-clause-apart
 returns-clause-apart c =
-    apart_from_keys c.self.inside.traces.items c.self.inside.numbers.keys c.args.self.now.sources (ap (λ l. l.sources) c.self.view_is) c.self.invariant.numbers c.self.invariant.distinct
+    apart_from_keys c.self.inside.traces.items (map (λ t. t.source.number) c.self.inside.traces.items) c.args.self.now.sources (ap (λ l. l.sources) c.self.view_is) refl c.self.invariant.distinct
