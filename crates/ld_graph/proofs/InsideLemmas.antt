@@ -1,10 +1,13 @@
 -- Walks between classes of a component don't leave it.
-use Rattle.std.proofs.Common.{◌↔◌, inl, inr, ℕ, ◌<◌, List, [], ◌∷◌, Option, None, Some, get_or, refl, sym}
+use Rattle.std.proofs.Common.{◌≡◌, ◌↔◌, ◌⊎◌, inl, inr, ℕ, ◌<◌, ◌≤◌, List, [], ◌∷◌, Option, None, Some, arith, get_or, length, refl, subst, sym}
+use Rattle.std.proofs.lemmas.Bool.{cases_lt}
+use Rattle.std.proofs.lemmas.List.{get_or_past}
 use Rattle.ld_graph.specs.Components.{AreComponents, AreTogether}
 use Rattle.ld_graph.specs.Inner.Insides.{AreLevelsFor, IsNearInside}
 use Rattle.ld_graph.specs.Inner.Levels.{level_at}
 use Rattle.ld_graph.specs.Lists.{IsNear}
 use Rattle.ld_graph.specs.Walks.{AreEnough, LeadsTo, IsDistance, IsWalk, HasWalk, Reaches, DistanceIs}
+use Rattle.ld_graph.proofs.ShownLemmas.{AreEnough-same}
 use Rattle.ld_graph.proofs.SoughtLemmas.{IsOrReaches-next}
 use Rattle.ld_graph.proofs.TrailLemmas.{reaches-on}
 use Rattle.ld_graph.proofs.WalkLemmas.{IsWalk-same}
@@ -59,3 +62,31 @@ module _ (step : ℕ → ℕ → Type 0) (before : List (List ℕ)) (turned : (x
     right = λ c n on e. DistanceIs-inside c (Some n) (reaches-on step end w c reached on) (h.right c n e);
     nearer = λ c m n on d e l. h.nearer c m n (IsDistance-into c m (reaches-on step end w c reached on) d) e l;
   }
+
+-- where the steps are given by the lists of predecessors, over the whole graph
+module _ (before : List (List ℕ)) (step : ℕ → ℕ → Type 0) (turned : (x y : ℕ) → IsNear before x y ↔ step y x) where
+  abbrev against : ℕ → ℕ → Type 0
+  against a b = IsNear before b a
+
+  pub AreEnough-near : (w end : ℕ) (levels : List (Option ℕ)) → AreLevelsFor against w end levels
+      → AreEnough step w end (level_at levels)
+  AreEnough-near w end levels h = AreEnough-same against step against (λ a b. turned b a) w end (level_at levels) (record {
+    own = h.own;
+    right = λ c n on e. h.right c n e;
+    nearer = λ c m n on d e l. h.nearer c m n d e l;
+  })
+
+  -- where all of n classes were wanted, and no other has a step, all distances are known
+  pub DistanceIs-all : (n end : ℕ) (levels : List (Option ℕ)) → length levels ≡ n → ((x y : ℕ) → step x y → x < n)
+      → ((w : ℕ) → w < n → AreLevelsFor against w end levels) → (x : ℕ) → DistanceIs step x end (level_at levels x)
+  DistanceIs-all n end levels len ends all x = by (cases_lt x n)
+    where
+      none : n ≤ x → (walk : List ℕ) → ¬ IsWalk step x end walk
+      none past [] h = h
+      none past (a ∷ []) h = h.1
+      none past (a ∷ y ∷ []) h = let l = ends x y h.1.0 in omega (arith, l, past)
+      none past (a ∷ y ∷ z ∷ more) h = let l = ends x y h.1.0 in omega (arith, l, past)
+
+      by : (x < n) ⊎ (n ≤ x) → DistanceIs step x end (level_at levels x)
+      by (inl l) = (AreEnough-near x end levels (all x l)).own
+      by (inr past) = subst (DistanceIs step x end) (sym (get_or_past levels x None (omega (arith, len, past)))) (λ w. none past w.0 w.1)

@@ -244,25 +244,31 @@ impl Graph {
         ensures each { IfOk result (λ distances. (c : ℕ) →
             DistanceIs (IsEdge self.now.edges) c to (slice_index_or distances.items c None)) }
     {
+        let mut all = Vec::with_capacity(alloc, self.len())?;
+        for class in 0..self.len() as u32 {
+            all.push(class)?;
+        }
         let mut distances = Distances::new(alloc, self.len())?;
-        self.distances_to(to, &mut distances);
+        distances.search(&self.lists, &all, to);
         Ok(distances.into_levels())
     }
 
-    /// What `distances` gives, over a list that is the same for many searches. Takes no memory.
-    pub fn distances_to(&self, to: u32, distances: &mut Distances)
+    /// Of what `distances` gives, for each of the wanted classes as much as `walk_along` needs for the walk from
+    /// it, by a search that ends where the last of them was found. The list is the same for many searches. Takes
+    /// no memory.
+    pub fn distances_to(&self, to: u32, wanted: &[u32], distances: &mut Distances)
         requires to { to < self.now.classes }
+        requires wanted { All (λ c. c < self.now.classes) wanted.now }
         requires classes { length distances.old ≡ self.now.classes }
         ensures len { length distances.new ≡ self.now.classes }
-        ensures each { (c : ℕ) →
-            DistanceIs (IsEdge self.now.edges) c to (slice_index_or distances.new c None) }
+        ensures enough { All (λ c. AreEnough (IsEdge self.now.edges) c to
+            (λ x. slice_index_or distances.new x None)) wanted.now }
     {
-        distances.search(&self.lists, to);
+        distances.search(&self.lists, wanted, to);
     }
 
-    /// Of what `distances` gives, for each of the wanted classes that `to` reaches, as much as `walk_along`
-    /// needs for the walk from it, by a search that stays in the component of `to` and ends where the last
-    /// of them was found. The list is the same for many searches. Takes no memory.
+    /// What `distances_to` gives, for each of the wanted classes that `to` reaches, by a search that stays in the
+    /// component of `to`. Takes no memory.
     pub fn distances_inside(
         &self,
         to: u32,
@@ -301,13 +307,14 @@ impl Graph {
         ensures { IfOk result (λ walk. MatchOption walk (¬ HasWalk (IsEdge self.now.edges) a b)
             (λ w. IsShownWalk (IsEdge self.now.edges) (ComesBefore places.now) a b w.items)) }
     {
-        let distances = self.distances(alloc, b)?;
-        self.walk_along(alloc, a, b, &distances, places)
+        let mut distances = Distances::new(alloc, self.len())?;
+        self.distances_to(b, &[a], &mut distances);
+        self.walk_along(alloc, a, b, distances.levels(), places)
     }
 
-    /// The walk from `a` to `b` that `walk` gives, by the distances to `b` that `distances` or `distances_to`
-    /// gave, or `distances_inside` where `a` was wanted and `b` reaches it. So one search serves the walks from
-    /// many classes to one.
+    /// The walk from `a` to `b` that `walk` gives, by the distances to `b` that `distances` gave, or `distances_to`
+    /// where `a` was wanted, or `distances_inside` where besides `b` reaches it. So one search serves the walks
+    /// from many classes to one.
     ///
     /// # Errors
     ///

@@ -4,11 +4,10 @@ ghost use Rattle.std.specs.Prelude.{◌≡◌, ◌+◌, ◌<◌, ◌≤◌, ℕ,
 ghost use Rattle.std.specs.Prelude.{length, slice_index_or, vec_len, vec_capacity, All, Contains};
 ghost use Rattle.ld_graph.specs.declared.graph.TheConstants.{MOST_GRAPH_CLASSES};
 ghost use Rattle.ld_graph.specs.Inner.Insides.{AreLevelsFor, AreTouched, IsInsideOf, IsNearInside};
-ghost use Rattle.ld_graph.specs.Inner.Levels.{HasLevel, Spreads, level_at};
+ghost use Rattle.ld_graph.specs.Inner.Levels.{HasLevel, Spreads};
 ghost use Rattle.ld_graph.specs.Lists.{IsNear};
-ghost use Rattle.ld_graph.specs.Walks.{DistanceIs};
 
-use crate::levels::measure;
+use crate::levels::{known_front, measure};
 use crate::lists::{Lists, Steps};
 use std::alloc::{AllocError, Global};
 use std::marker::Model;
@@ -66,21 +65,22 @@ impl Distances {
         self.levels
     }
 
-    /// Gives each class its distance to `end`, and takes those away that an earlier search gave. Takes no
-    /// memory.
-    pub(crate) fn search(&mut self, lists: &Lists, end: u32)
+    /// Gives classes their distances to `end`, as many as are needed for these, and takes those away that an
+    /// earlier search gave. Takes no memory.
+    pub(crate) fn search(&mut self, lists: &Lists, wanted: &[u32], end: u32)
         requires end { end < length lists.now.before.lists }
         requires few { length lists.now.before.lists ≤ MOST_GRAPH_CLASSES }
         requires classes { length self.old ≡ length lists.now.before.lists }
+        requires wanted { All (λ w. w < length lists.now.before.lists) wanted.now }
         requires ends { (a b : ℕ) → IsNear lists.now.before.lists a b
             → b < length lists.now.before.lists }
         ensures len { length self.new ≡ length self.old }
-        ensures distances { (x : ℕ) → DistanceIs (λ a b. IsNear lists.now.before.lists b a) x end
-            (level_at self.new x) }
+        ensures levels { All (λ w. AreLevelsFor (λ a b. IsNear lists.now.before.lists b a) w end self.new)
+            wanted.now }
     {
         forget(&mut self.levels, &self.touched);
         self.touched.clear();
-        measure(lists, end, &mut self.levels, &mut self.touched);
+        measure(lists, wanted, end, &mut self.levels, &mut self.touched);
     }
 
     /// Gives classes of the component of `end` their distances to `end`, as many as are needed for these, and
@@ -158,23 +158,6 @@ fn expand_inside(
             }
         }
     }
-}
-
-/// How many of these classes, from the first on, have a level before one has none, where the first `known` do.
-fn known_front(levels: &[Option<u32>], wanted: &[u32], known: usize) -> usize
-    requires wanted { All (λ w. w < length levels.now) wanted.now }
-    requires known { (i : ℕ) → i < known → HasLevel levels.now (slice_index_or wanted.now i 0) }
-    ensures known { (i : ℕ) → i < result → HasLevel levels.now (slice_index_or wanted.now i 0) }
-    ensures next { result < length wanted.now → level_at levels.now (slice_index_or wanted.now result 0) ≡ None }
-{
-    let mut known = known;
-    while known < wanted.len() {
-        if levels[wanted[known] as usize].is_none() {
-            return known;
-        }
-        known += 1;
-    }
-    known
 }
 
 /// Gives classes of the component the least number of edges of a walk within it to `end`, until all that are

@@ -1,12 +1,12 @@
-//! A search from class to predecessor that gives each class its distance to the class it begins at.
+//! A search from class to predecessor that gives classes their distances to the class it begins at, until those
+//! that are wanted have theirs.
 
 ghost use Rattle.std.specs.Prelude.{◌≡◌, ◌+◌, ◌<◌, ◌≤◌, ℕ, [], None, is_none, count_by};
-ghost use Rattle.std.specs.Prelude.{length, slice_index_or, vec_len, vec_capacity, Contains};
+ghost use Rattle.std.specs.Prelude.{length, slice_index_or, vec_len, vec_capacity, All, Contains};
 ghost use Rattle.ld_graph.specs.declared.graph.TheConstants.{MOST_GRAPH_CLASSES};
-ghost use Rattle.ld_graph.specs.Inner.Insides.{AreTouched};
-ghost use Rattle.ld_graph.specs.Inner.Levels.{HasLevel, Spreads};
+ghost use Rattle.ld_graph.specs.Inner.Insides.{AreLevelsFor, AreTouched};
+ghost use Rattle.ld_graph.specs.Inner.Levels.{HasLevel, Spreads, level_at};
 ghost use Rattle.ld_graph.specs.Lists.{IsNear};
-ghost use Rattle.ld_graph.specs.Walks.{DistanceIs};
 
 use crate::lists::{Lists, Steps};
 
@@ -32,12 +32,36 @@ fn expand(near: &[u32], level: u32, levels: &mut [Option<u32>], queue: &mut Vec<
     }
 }
 
-/// Gives each class the least number of edges of a walk from it to `end`, or none, and tells which got one.
-/// Takes no memory.
-pub(crate) fn measure(lists: &Lists, end: u32, levels: &mut [Option<u32>], queue: &mut Vec<u32>)
+/// How many of these classes, from the first on, have a level before one has none, where the first `known` do.
+pub(crate) fn known_front(levels: &[Option<u32>], wanted: &[u32], known: usize) -> usize
+    requires wanted { All (λ w. w < length levels.now) wanted.now }
+    requires known { (i : ℕ) → i < known → HasLevel levels.now (slice_index_or wanted.now i 0) }
+    ensures known { (i : ℕ) → i < result → HasLevel levels.now (slice_index_or wanted.now i 0) }
+    ensures next { result < length wanted.now → level_at levels.now (slice_index_or wanted.now result 0) ≡ None }
+{
+    let mut known = known;
+    while known < wanted.len() {
+        if levels[wanted[known] as usize].is_none() {
+            return known;
+        }
+        known += 1;
+    }
+    known
+}
+
+/// Gives classes the least number of edges of a walk from them to `end`, until all that are wanted have one, or no
+/// further class can get one, and tells which got one. Takes no memory.
+pub(crate) fn measure(
+    lists: &Lists,
+    wanted: &[u32],
+    end: u32,
+    levels: &mut [Option<u32>],
+    queue: &mut Vec<u32>,
+)
     requires end { end < length lists.now.before.lists }
     requires few { length lists.now.before.lists ≤ MOST_GRAPH_CLASSES }
     requires classes { length levels.old ≡ length lists.now.before.lists }
+    requires wanted { All (λ w. w < length lists.now.before.lists) wanted.now }
     requires ends { (a b : ℕ) → IsNear lists.now.before.lists a b
         → b < length lists.now.before.lists }
     requires room { length lists.now.before.lists ≤ vec_capacity queue.old }
@@ -45,13 +69,18 @@ pub(crate) fn measure(lists: &Lists, end: u32, levels: &mut [Option<u32>], queue
     requires empty { queue.old.items ≡ [] }
     ensures capacity { vec_capacity queue.old ≤ vec_capacity queue.new }
     ensures touched { AreTouched levels.new queue.new.items }
-    ensures distances { (x : ℕ) → DistanceIs (λ a b. IsNear lists.now.before.lists b a) x end
-        (slice_index_or levels.new x None) }
+    ensures levels { All (λ w. AreLevelsFor (λ a b. IsNear lists.now.before.lists b a) w end levels.new)
+        wanted.now }
 {
     let mut steps = Steps::new();
     expand(lists.before(end, &mut steps), 1, levels, queue);
     let mut done = 0;
+    let mut known = 0;
     while done < queue.len() {
+        known = known_front(levels, wanted, known);
+        if known >= wanted.len() {
+            return;
+        }
         let class = queue[done];
         let Some(level) = levels[class as usize] else {
             unreachable!()

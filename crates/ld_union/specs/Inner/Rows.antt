@@ -3,7 +3,7 @@ use Rattle.std.specs.Prelude.{◌≡◌, ◌↔◌, ◌<◌, ℕ, List, Contains
 use Rattle.ld_class.specs.Names.{PlainClass}
 use Rattle.ld_graph.specs.Edges.{IsEdge}
 use Rattle.ld_graph.specs.Components.{AreComponents}
-use Rattle.ld_graph.specs.Walks.{AreEnough, DistanceIs, HasWalk}
+use Rattle.ld_graph.specs.Walks.{AreEnough, HasWalk}
 use Rattle.ld_trace.specs.declared.event.State.{State}
 use Rattle.ld_trace.specs.Sources.{PlainSource}
 use Rattle.ld_rules.specs.declared.outcome.Witness.{Witness}
@@ -89,13 +89,8 @@ pub record AreAcquired (union : PlainUnion) (state : State) (acquired : List ℕ
   pub each : (c : ℕ) → Contains acquired c ↔ ((c < length union.classes) × HasBitAt (bits_of union.usage) c (In state))
   pub rising : AreRising (name_at union.classes acquired) (length acquired)
 
--- for each class of a union its distance to this one
-pub record AreDistances (union : PlainUnion) (to : ℕ) (distances : List (Option ℕ)) : Type 0 where
-  pub len : length distances ≡ length union.classes
-  pub each : (c : ℕ) → DistanceIs (IsEdge (edges_of union.dependencies)) c to (slice_index_or distances c None)
-
 -- enough of the distances to another class for the shown walk from this one
-pub record AreDistancesFrom (union : PlainUnion) (from to : ℕ) (distances : List (Option ℕ)) : Type 0 where
+pub record AreEnoughFrom (union : PlainUnion) (from to : ℕ) (distances : List (Option ℕ)) : Type 0 where
   pub len : length distances ≡ length union.classes
   pub enough : AreEnough (IsEdge (edges_of union.dependencies)) from to (λ c. slice_index_or distances c None)
 

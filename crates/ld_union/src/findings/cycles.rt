@@ -4,7 +4,7 @@ ghost use Rattle.ld_trace.specs.Sources.{PlainSource};
 ghost use Rattle.ld_rules.specs.Union.{dependency_witness};
 ghost use Rattle.ld_union.specs.Findings.{AreCycleRows, plain_cycle_row};
 ghost use Rattle.ld_union.specs.Inner.ByName.{AreByName, AreRising, class_at, class_name, name_at};
-ghost use Rattle.ld_union.specs.Inner.Rows.{AreComponentsOf, AreCycleRowsOf, AreDistancesFrom, IsBackEdge, IsBackPlace, IsCycleRowOf, IsOfEach};
+ghost use Rattle.ld_union.specs.Inner.Rows.{AreComponentsOf, AreCycleRowsOf, AreEnoughFrom, IsBackEdge, IsBackPlace, IsCycleRowOf, IsOfEach};
 ghost use Rattle.ld_union.specs.Inner.Union.{Shows};
 ghost use Rattle.ld_union.specs.Violations.{IsCycle};
 
@@ -157,7 +157,7 @@ fn cycle_row<'a>(
 ) -> Result<Option<CycleRow<'a>>, AllocError>
     requires order { AreByName union.now.classes order.now.numbers.items order.now.places.items }
     requires from { from < length union.now.classes }
-    requires distances { AreDistancesFrom union.now to from distances.now }
+    requires distances { AreEnoughFrom union.now to from distances.now }
     requires to { to < length union.now.classes }
     ensures { IfOk result (λ row. (sources : List PlainSource)
         → Shows sources union.now

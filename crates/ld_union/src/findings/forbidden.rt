@@ -6,7 +6,7 @@ ghost use Rattle.ld_rules.specs.Union.{dependency_witness, use_witness};
 ghost use Rattle.ld_rules.specs.Usage.Bit.{On};
 ghost use Rattle.ld_union.specs.Findings.{AreForbiddenRows, plain_forbidden_row};
 ghost use Rattle.ld_union.specs.Inner.ByName.{AreByName, class_name};
-ghost use Rattle.ld_union.specs.Inner.Rows.{AreAcquired, AreDistances, AreForbiddenRowsOf, AreTurnedRows};
+ghost use Rattle.ld_union.specs.Inner.Rows.{AreAcquired, AreEnoughFrom, AreForbiddenRowsOf, AreTurnedRows};
 ghost use Rattle.ld_union.specs.Inner.Rows.{AreTurnedRowsOf, IsNoted, IsOfEach, IsTurnedRowOf};
 ghost use Rattle.ld_union.specs.Inner.Union.{Shows};
 ghost use Rattle.ld_union.specs.Violations.{IsForbidden};
@@ -45,7 +45,7 @@ pub struct ForbiddenRow<'a> {
     pub via: Rows<ClassName<'a>>,
 }
 
-/// A class, and the *Distance* of each class to it.
+/// A class, and as much of the *Distances* to it as the walks from the classes that handlers acquire need.
 #[derive(Clone, Copy)]
 struct Target<'d> {
     class: u32,
@@ -163,7 +163,7 @@ fn forbidden_to<'a>(
     if union.source(state, to).is_none() {
         return Ok(rows);
     }
-    union.graph().distances_to(to, distances);
+    union.graph().distances_to(to, acquired, distances);
     let target = Target {
         class: to,
         distances: distances.levels(),
@@ -189,7 +189,7 @@ fn forbidden_row<'a>(
 ) -> Result<Option<ForbiddenRow<'a>>, AllocError>
     requires order { AreByName union.now.classes order.now.numbers.items order.now.places.items }
     requires class { target.now.class < length union.now.classes }
-    requires distances { AreDistances union.now target.now.class target.now.distances.now }
+    requires distances { AreEnoughFrom union.now from target.now.class target.now.distances.now }
     requires held { (sources : List PlainSource)
         → Shows sources union.now
         → IsNoted sources (class_name union.now.classes target.now.class) (On state)

@@ -6,7 +6,7 @@ ghost use Rattle.ld_trace.specs.Sources.{PlainSource};
 ghost use Rattle.ld_rules.specs.Union.{dependency_witness};
 ghost use Rattle.ld_union.specs.Findings.{IsShown, plain_names};
 ghost use Rattle.ld_union.specs.Inner.ByName.{AreByName, class_name};
-ghost use Rattle.ld_union.specs.Inner.Rows.{AreDistancesFrom};
+ghost use Rattle.ld_union.specs.Inner.Rows.{AreEnoughFrom};
 ghost use Rattle.ld_union.specs.Inner.Union.{Shows, edges_of};
 
 use crate::by_name::ByName;
@@ -27,7 +27,7 @@ pub(crate) fn walk_names<'a>(
 ) -> Result<Option<Rows<ClassName<'a>>>, AllocError>
     requires order { AreByName union.now.classes order.now.numbers.items order.now.places.items }
     requires to { to < length union.now.classes }
-    requires distances { AreDistancesFrom union.now from to distances.now }
+    requires distances { AreEnoughFrom union.now from to distances.now }
     requires from { from < length union.now.classes }
     ensures { IfOk result (λ via. MatchOption via
         (¬ HasWalk (IsEdge (edges_of union.now.dependencies)) from to)

@@ -1,8 +1,9 @@
-use Rattle.std.proofs.Common.{◌≡◌, ◌+◌, ℕ, [], Contains, ap, arith, length, subst}
+use Rattle.std.proofs.Common.{inl, inr, ◌≡◌, ◌+◌, ℕ, [], Contains, ap, arith, get_or, length, subst}
+use Rattle.std.proofs.lemmas.List.{get_or_default}
 use Rattle.ld_graph.specs.Lists.{IsNear}
 use Rattle.ld_graph.specs.Inner.Levels.{HasLevel, Spreads}
 use Rattle.ld_graph.proofs.SpreadLemmas.{count_none}
-use Rattle.ld_graph.proofs.SearchLemmas.{IsPartial-begun, IsPartial-next, IsPartial-all, IsPartial-touched}
+use Rattle.ld_graph.proofs.SearchLemmas.{IsPartial-begun, IsPartial-next, IsPartial-levels, IsPartial-touched}
 use Rattle.ld_graph.proofs.SearchLemmas.{next_within, next_small, next_level}
 use Rattle.ld_graph.proofs.levels.measure.Goals as goal
 
@@ -23,6 +24,7 @@ loop-done-init c =
           c.expand.new.levels c.expand.new.queue.items c.requires.none spreads
           (subst (λ n. (x : ℕ) → Contains n x → HasLevel c.expand.new.levels x)
           c.before-2.ensures.near c.expand.ensures.reached);
+      known = λ i l. absurd (omega (arith, l));
       steps = omega arith;
     }
 
@@ -47,6 +49,7 @@ loop-done-preserved c =
           c.expand-in-loop-done.ensures.spreads)
           (subst (λ n. (x : ℕ) → Contains n x → HasLevel c.expand-in-loop-done.new.levels x)
           c.before-in-loop-done.ensures.near c.expand-in-loop-done.ensures.reached);
+      known = λ i l. let r = c.known_front-known.ensures.known i l in (r.0, c.expand-in-loop-done.ensures.spreads.kept (get_or c.args.wanted.now i 0) r.0 r.1);
       steps = omega arith;
     }
 
@@ -81,11 +84,11 @@ unreachable-requires c =
     c.index-class.ensures in
     c.in_default.not-Some next.0 next.1.0
 
-pub returns-clause-distances : goal.returns-clause-distances
-returns-clause-distances c =
-    IsPartial-all (IsNear c.args.lists.now.before.lists) c.args.end c.loop-done.done c.loop-done.levels
-    c.loop-done.queue.items c.loop-done.invariant.partial
-    (omega (arith, c.loop-done-test.false, c.len.ensures))
+pub returns-clause-levels : goal.returns-clause-levels
+returns-clause-levels c = λ i d within.
+    IsPartial-levels (IsNear c.args.lists.now.before.lists) c.args.end c.loop-done.done c.loop-done.levels
+    c.loop-done.queue.items c.loop-done.invariant.partial (get_or c.args.wanted.now i d)
+    (inr (omega (arith, c.loop-done-test.false, c.len.ensures)))
 
 pub expand-requires-clause-ends : goal.expand-requires-clause-ends
 expand-requires-clause-ends c = λ x n.
@@ -102,3 +105,14 @@ pub returns-clause-touched : goal.returns-clause-touched
 returns-clause-touched c =
     IsPartial-touched (IsNear c.args.lists.now.before.lists) c.args.end c.loop-done.done c.loop-done.levels
     c.loop-done.queue.items c.loop-done.invariant.partial
+
+pub returns-then-known-wanted-clause-touched : goal.returns-then-known-wanted-clause-touched
+returns-then-known-wanted-clause-touched c =
+    IsPartial-touched (IsNear c.args.lists.now.before.lists) c.args.end c.loop-done.done c.loop-done.levels
+    c.loop-done.queue.items c.loop-done.invariant.partial
+
+pub returns-then-known-wanted-clause-levels : goal.returns-then-known-wanted-clause-levels
+returns-then-known-wanted-clause-levels c = λ i d within.
+    IsPartial-levels (IsNear c.args.lists.now.before.lists) c.args.end c.loop-done.done c.loop-done.levels
+    c.loop-done.queue.items c.loop-done.invariant.partial (get_or c.args.wanted.now i d)
+    (inl (subst (HasLevel c.loop-done.levels) (get_or_default c.args.wanted.now i 0 d within) (c.known_front-known.ensures.known i (omega (arith, within, c.if-known-wanted.true)))))

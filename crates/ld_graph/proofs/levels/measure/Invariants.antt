@@ -1,4 +1,5 @@
-use Rattle.std.proofs.Common.{◌≡◌, ◌+◌, ◌-◌, ◌≤◌, length, count_by, is_none, vec_len, vec_capacity}
+use Rattle.std.proofs.Common.{◌≡◌, ◌+◌, ◌-◌, ◌<◌, ◌≤◌, ℕ, length, count_by, get_or, is_none, vec_len, vec_capacity}
+use Rattle.ld_graph.specs.Inner.Levels.{HasLevel}
 use Rattle.ld_graph.specs.Lists.{IsNear}
 use Rattle.ld_graph.proofs.SearchLemmas.{IsPartial}
 use Rattle.ld_graph.proofs.levels.measure.Given as goal
@@ -6,6 +7,7 @@ use Rattle.ld_graph.proofs.levels.measure.Given as goal
 abbrev pub invariant-loop-done : goal.invariant-loop-done
 invariant-loop-done l = record {
   count : vec_len l.queue + count_by is_none l.levels ≤ length l.lists.before.lists;
+  known : (i : ℕ) → i < l.known → HasLevel l.levels (get_or l.wanted i 0);
   steps : l.steps ≡ l.done + 1;
   capacity : vec_capacity l.fn.queue ≤ vec_capacity l.queue;
   partial : IsPartial (IsNear l.lists.before.lists) l.end l.done l.levels l.queue.items;

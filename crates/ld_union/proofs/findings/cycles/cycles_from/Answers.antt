@@ -9,7 +9,7 @@ use Rattle.ld_graph.specs.Walks.{AreEnough, Reaches}
 use Rattle.ld_graph.proofs.WalkLemmas.{HasWalk-Far}
 use Rattle.ld_union.specs.Findings.{IsBefore, IsCycleRow, IsPairBefore, cycle_key, plain_cycle_row}
 use Rattle.ld_union.specs.Inner.ByName.{AreRising, class_at, class_name, name_at}
-use Rattle.ld_union.specs.Inner.Rows.{AreCycleRowsOf, AreDistancesFrom, IsBackEdge, IsCycleRowOf, IsPassed}
+use Rattle.ld_union.specs.Inner.Rows.{AreCycleRowsOf, AreEnoughFrom, IsBackEdge, IsCycleRowOf, IsPassed}
 use Rattle.ld_union.specs.Violations.{IsCycle}
 use Rattle.ld_union.proofs.CycleLemmas.{back-from_cycle}
 use Rattle.ld_union.proofs.PassedLemmas.{passed_in, rows-more}
@@ -105,7 +105,7 @@ cycle_row-requires-clause-distances c =
     let i = c.loop-to.to-index in
     let to = class_at ends i in
     let back = edge_is (goal.at.cycle_row-requires-clause-distances c).After-deref-to-items i 0 c.loop-to-test.true in
-    subst (AreDistancesFrom c.args.union.now to a) (sym c.levels.ensures) (record {
+    subst (AreEnoughFrom c.args.union.now to a) (sym c.levels.ensures) (record {
       len = c.distances_inside.ensures.len ∙ c.graph.ensures.classes;
       enough = subst (λ es. AreEnough (IsEdge es) to a (λ x. get_or c.distances_inside.new.distances x None)) c.graph.ensures.edges
           (subst (All (λ w. Reaches (IsEdge c.graph.result.now.edges) a w → AreEnough (IsEdge c.graph.result.now.edges) w a (λ x. get_or c.distances_inside.new.distances x None)))

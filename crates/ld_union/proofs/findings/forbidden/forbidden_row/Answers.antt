@@ -1,10 +1,7 @@
-use Rattle.std.proofs.Common.{None, get_or, subst}
+use Rattle.std.proofs.Common.{subst}
 use Rattle.std.proofs.lemmas.Option.{MatchOption-at_none, MatchOption-at_some}
 use Rattle.ld_class.specs.Names.{plain_class}
-use Rattle.ld_graph.specs.Edges.{IsEdge}
-use Rattle.ld_graph.proofs.ShownLemmas.{AreEnough-all}
 use Rattle.ld_rules.specs.Usage.Bit.{In}
-use Rattle.ld_union.specs.Inner.Union.{edges_of}
 use Rattle.ld_union.specs.Inner.ByName.{class_name}
 use Rattle.ld_union.specs.Inner.Rows.{IsNoted}
 use Rattle.ld_union.specs.Findings.{plain_forbidden_row}
@@ -38,10 +35,3 @@ returns c sources shows =
     (subst (λ bit. IsNoted sources a bit (plain_class acquired.name) acquired.marks acquired.at) (bit_of-usage_of (In c.args.state) c.in_bit.result c.in_bit.ensures) (c.in-Some.ensures sources shows))
     (c.requires.held sources shows)
     (MatchOption-at_some _ _ c.in-Some-2.via c.in-Some-2.is c.in_ok-via.ensures sources shows)
-
-pub walk_names-requires-clause-distances : goal.walk_names-requires-clause-distances
-walk_names-requires-clause-distances c = record {
-  len = c.requires.distances.len;
-  enough = AreEnough-all (IsEdge (edges_of c.args.union.now.dependencies)) c.args.from c.args.target.now.class (λ x. get_or c.args.target.now.distances.now x None)
-      c.requires.distances.each;
-}

@@ -1,15 +1,15 @@
-use Rattle.std.proofs.Common.{rules, None, refl, ◌≡◌, ◌<◌, ◌≤◌, ◌+◌, ℕ, ◌∙◌, ◌∷◌, ◌++◌, [], Vec, get_or, length, map, subst, sym, ap}
+use Rattle.std.proofs.Common.{rules, arith, None, refl, ◌≡◌, ◌<◌, ◌≤◌, ◌+◌, ℕ, ◌∙◌, ◌∷◌, ◌++◌, [], Vec, get_or, length, map, subst, sym, ap}
 use Rattle.std.proofs.lemmas.List.{append-nil, map-append}
 use Rattle.std.proofs.lemmas.List.Elements.{Contains-get_or}
 use Rattle.std.proofs.lemmas.Option.{MatchOption-at_none, MatchOption-at_some}
 use Rattle.ld_class.specs.Names.{PlainClass, plain_class}
 use Rattle.ld_graph.specs.Edges.{IsEdge}
-use Rattle.ld_graph.specs.Walks.{DistanceIs}
+use Rattle.ld_graph.specs.Walks.{AreEnough}
 use Rattle.ld_rules.specs.Union.{use_witness}
 use Rattle.ld_rules.specs.Usage.Bit.{In, On}
 use Rattle.ld_union.specs.Findings.{IsBefore, IsPairBefore, plain_forbidden_row}
 use Rattle.ld_union.specs.Inner.ByName.{class_at, class_name, name_at}
-use Rattle.ld_union.specs.Inner.Rows.{AreDistances, AreTurnedRowsOf, IsNoted, IsPassed, IsRowIn, IsTurnedRowOf, turned_key}
+use Rattle.ld_union.specs.Inner.Rows.{AreEnoughFrom, AreTurnedRowsOf, IsNoted, IsPassed, IsRowIn, IsTurnedRowOf, turned_key}
 use Rattle.ld_union.specs.Inner.Bits.{HasBitAt}
 use Rattle.ld_union.specs.Inner.Reached.{IsSourceAt}
 use Rattle.ld_union.specs.Inner.Union.{edges_of}
@@ -33,11 +33,17 @@ forbidden_row-requires-clause-held c sources shows =
 
 pub forbidden_row-requires-clause-distances : goal.forbidden_row-requires-clause-distances
 forbidden_row-requires-clause-distances c =
-    subst (AreDistances c.args.union.now c.args.to) (sym c.levels.ensures) (record {
+    let from = class_at c.args.acquired.now c.loop-from.from-index in
+    subst (AreEnoughFrom c.args.union.now from c.args.to) (sym c.levels.ensures) (record {
       len = c.distances_to.ensures.len ∙ c.graph.ensures.classes;
-      each = λ x. subst (λ es. DistanceIs (IsEdge es) x c.args.to (get_or c.distances_to.new.distances x None)) c.graph.ensures.edges
-          (c.distances_to.ensures.each x);
+      enough = subst (λ es. AreEnough (IsEdge es) from c.args.to (λ x. get_or c.distances_to.new.distances x None)) c.graph.ensures.edges
+          (c.distances_to.ensures.enough c.loop-from.from-index 0 c.loop-from-test.true);
     })
+
+pub distances_to-requires-clause-wanted : goal.distances_to-requires-clause-wanted
+distances_to-requires-clause-wanted c = λ k d within.
+    let low = ((c.requires.acquired.each (get_or c.args.acquired.now k d)).0 (Contains-get_or c.args.acquired.now k d within)).0 in
+    omega (arith, low, c.graph.ensures.classes)
 
 pub forbidden_row-requires-clause-from : goal.forbidden_row-requires-clause-from
 forbidden_row-requires-clause-from c =
