@@ -5,7 +5,7 @@ ghost use Rattle.std.specs.Prelude.{◌≡◌, ℕ, length, slice_index_or, None
 ghost use Rattle.ld_graph.specs.Edges.{IsEdge};
 ghost use Rattle.ld_graph.specs.Walks.{DistanceIs};
 
-use ld_graph::{Graph, Insert, MOST_GRAPH_CLASSES};
+use ld_graph::{Distance, Graph, Insert, MOST_GRAPH_CLASSES};
 use std::alloc::Global;
 use std::process::Abort;
 
@@ -81,7 +81,7 @@ fn expect_edge<R: Abort>(rt: &R, graph: &Graph, a: u32, b: u32, wanted: Option<u
     assert_eq!(rt; graph.edge(a, b), wanted);
 }
 
-fn distances<R: Abort>(rt: &R, alloc: Global, graph: &Graph, to: u32) -> Vec<Option<u32>>
+fn distances<R: Abort>(rt: &R, alloc: Global, graph: &Graph, to: u32) -> Vec<Distance>
     ensures len { length result.items ≡ graph.now.classes }
     ensures each { (c : ℕ) →
         DistanceIs (IsEdge graph.now.edges) c to (slice_index_or result.items c None) }
@@ -92,6 +92,21 @@ fn distances<R: Abort>(rt: &R, alloc: Global, graph: &Graph, to: u32) -> Vec<Opt
         Err(_) => graph
             .distances(alloc, to)
             .expect(rt, "distances made again"),
+    }
+}
+
+/// Asserts the distances of the first four classes to `to`.
+fn expect_distances<R: Abort>(
+    rt: &R,
+    alloc: Global,
+    graph: &Graph,
+    to: u32,
+    wanted: [Option<u32>; 4],
+) {
+    let distances = distances(rt, alloc, graph, to);
+    assert!(rt; distances.len() == 4);
+    for class in 0..4 {
+        assert_eq!(rt; distances[class].get(), wanted[class], "{class} to {to}");
     }
 }
 
@@ -176,11 +191,7 @@ fn expect_circle<R: Abort>(rt: &R, alloc: Global, graph: &Graph) {
     assert_eq!(rt; components[0], components[1]);
     assert_eq!(rt; components[0], components[2]);
     assert!(rt; components[0] != components[3]);
-    let wanted = [Some(2), Some(1), Some(3), None];
-    assert_eq!(rt;
-        distances(rt, alloc, graph, 2).as_slice(),
-        wanted.as_slice()
-    );
+    expect_distances(rt, alloc, graph, 2, [Some(2), Some(1), Some(3), None]);
     expect_walk(rt, alloc, graph, (2, 1), &places, &[2, 0, 1]);
     expect_walk(rt, alloc, graph, (0, 0), &places, &[0, 1, 2, 0]);
     assert!(rt; walk(rt, alloc, graph, 3, 0, &places).is_none());
@@ -274,7 +285,7 @@ fn a_long_way(rt: HostRuntime) {
     assert!(rt; components(&rt, alloc, &graph).len() == 2_000);
     let distances = distances(&rt, alloc, &graph, 1_999);
     assert!(rt; !distances.is_empty());
-    assert_eq!(rt; distances[0], Some(1_999));
+    assert_eq!(rt; distances[0].get(), Some(1_999));
     let mut places = Vec::new(alloc);
     assert!(rt; places.resize(2_000, 0).is_ok());
     let walk = walk(&rt, alloc, &graph, 0, 1_999, &places).expect(&rt, "a walk");

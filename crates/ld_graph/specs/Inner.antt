@@ -12,3 +12,4 @@ pub mod Kept
 pub mod KeptReach
 pub mod Trails
 pub mod Insides
+pub mod Distances

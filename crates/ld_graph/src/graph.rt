@@ -12,6 +12,7 @@ ghost use Rattle.ld_graph.specs.Walks.{AreEnough, DistanceIs, HasWalk, IsShownWa
 
 use crate::Edge;
 use crate::components::components_of;
+use crate::distance::Distance;
 use crate::inside::Distances;
 use crate::lists::{Lists, Steps};
 use crate::placed::{Insert, place};
@@ -238,7 +239,7 @@ impl Graph {
     /// # Errors
     ///
     /// `AllocError` where memory was refused.
-    pub fn distances(&self, alloc: Global, to: u32) -> Result<Vec<Option<u32>>, AllocError>
+    pub fn distances(&self, alloc: Global, to: u32) -> Result<Vec<Distance>, AllocError>
         requires { to < self.now.classes }
         ensures len { IfOk result (λ distances. length distances.items ≡ self.now.classes) }
         ensures each { IfOk result (λ distances. (c : ℕ) →
@@ -324,7 +325,7 @@ impl Graph {
         alloc: Global,
         a: u32,
         b: u32,
-        distances: &[Option<u32>],
+        distances: &[Distance],
         places: &[u32],
     ) -> Result<Option<Vec<u32>>, AllocError>
         requires a { a < self.now.classes }
@@ -335,7 +336,7 @@ impl Graph {
         ensures { IfOk result (λ walk. MatchOption walk (¬ HasWalk (IsEdge self.now.edges) a b)
             (λ w. IsShownWalk (IsEdge self.now.edges) (ComesBefore places.now) a b w.items)) }
     {
-        let Some(distance) = distances[a as usize] else {
+        let Some(distance) = distances[a as usize].get() else {
             return Ok(None);
         };
         let walk = show(alloc, &self.lists, a, b, distance, distances, places)?;

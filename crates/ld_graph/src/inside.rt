@@ -7,6 +7,7 @@ ghost use Rattle.ld_graph.specs.Inner.Insides.{AreLevelsFor, AreTouched, IsInsid
 ghost use Rattle.ld_graph.specs.Inner.Levels.{HasLevel, Spreads};
 ghost use Rattle.ld_graph.specs.Lists.{IsNear};
 
+use crate::distance::Distance;
 use crate::levels::{known_front, measure};
 use crate::lists::{Lists, Steps};
 use std::alloc::{AllocError, Global};
@@ -15,7 +16,7 @@ use std::marker::Model;
 /// The distances to one class that the last search has found. Made once for many searches.
 #[derive(Drop)]
 pub struct Distances {
-    levels: Vec<Option<u32>>,
+    levels: Vec<Distance>,
     /// The classes that have a level.
     touched: Vec<u32>,
 }
@@ -43,7 +44,7 @@ impl Distances {
         ensures { IfOk result (λ distances. length distances ≡ classes) }
     {
         let mut levels = Vec::new(alloc);
-        levels.resize(classes, None)?;
+        levels.resize(classes, Distance::none())?;
         Ok(Distances {
             levels,
             touched: Vec::with_capacity(alloc, classes)?,
@@ -51,7 +52,7 @@ impl Distances {
     }
 
     /// The distances, by the numbers of the classes. Takes no memory.
-    pub fn levels(&self) -> &[Option<u32>]
+    pub fn levels(&self) -> &[Distance]
         ensures { result.now ≡ self.now }
     {
         let _ = &self.touched;
@@ -59,7 +60,7 @@ impl Distances {
     }
 
     /// The distances, as the list that they are kept in. Takes no memory.
-    pub(crate) fn into_levels(self) -> Vec<Option<u32>>
+    pub(crate) fn into_levels(self) -> Vec<Distance>
         ensures { result.items ≡ self }
     {
         self.levels
@@ -118,12 +119,12 @@ impl Distances {
 }
 
 /// Takes the levels of these classes away, which are all that have one.
-fn forget(levels: &mut [Option<u32>], touched: &[u32])
+fn forget(levels: &mut [Distance], touched: &[u32])
     requires { AreTouched levels.old touched.now }
     ensures { (x : ℕ) → slice_index_or levels.new x None ≡ None }
 {
     for class in touched {
-        levels[*class as usize] = None;
+        levels[*class as usize] = Distance::none();
     }
 }
 
@@ -133,9 +134,10 @@ fn expand_inside(
     components: &[u32],
     component: u32,
     level: u32,
-    levels: &mut [Option<u32>],
+    levels: &mut [Distance],
     queue: &mut Vec<u32>,
 )
+    requires some { 0 < level }
     requires ends { (x : ℕ) → Contains near.now x → x < length levels.old }
     requires components { length components.now ≡ length levels.old }
     requires room { vec_len queue.old + count_by is_none levels.old ≤ vec_capacity queue.old }
@@ -151,7 +153,7 @@ fn expand_inside(
         // Most have a level, so that is asked first.
         if levels[*x as usize].is_none() {
             if components[*x as usize] == component {
-                levels[*x as usize] = Some(level);
+                levels[*x as usize] = Distance::of(level);
                 let Ok(()) = queue.push(*x) else {
                     unreachable!()
                 };
@@ -167,7 +169,7 @@ fn measure_inside(
     components: &[u32],
     wanted: &[u32],
     end: u32,
-    levels: &mut [Option<u32>],
+    levels: &mut [Distance],
     queue: &mut Vec<u32>,
 )
     requires end { end < length lists.now.before.lists }
@@ -204,7 +206,7 @@ fn measure_inside(
             return;
         }
         let class = queue[done];
-        let Some(level) = levels[class as usize] else {
+        let Some(level) = levels[class as usize].get() else {
             unreachable!()
         };
         expand_inside(

@@ -8,10 +8,12 @@ ghost use Rattle.ld_graph.specs.Inner.Insides.{AreLevelsFor, AreTouched};
 ghost use Rattle.ld_graph.specs.Inner.Levels.{HasLevel, Spreads, level_at};
 ghost use Rattle.ld_graph.specs.Lists.{IsNear};
 
+use crate::distance::Distance;
 use crate::lists::{Lists, Steps};
 
 /// Gives this level to each of these neighbours that has none, and lets it wait.
-fn expand(near: &[u32], level: u32, levels: &mut [Option<u32>], queue: &mut Vec<u32>)
+fn expand(near: &[u32], level: u32, levels: &mut [Distance], queue: &mut Vec<u32>)
+    requires some { 0 < level }
     requires ends { (x : ℕ) → Contains near.now x → x < length levels.old }
     requires room { vec_len queue.old + count_by is_none levels.old ≤ vec_capacity queue.old }
     // Each class waits once, when it gets its level.
@@ -24,7 +26,7 @@ fn expand(near: &[u32], level: u32, levels: &mut [Option<u32>], queue: &mut Vec<
 {
     for x in near {
         if levels[*x as usize].is_none() {
-            levels[*x as usize] = Some(level);
+            levels[*x as usize] = Distance::of(level);
             let Ok(()) = queue.push(*x) else {
                 unreachable!()
             };
@@ -33,7 +35,7 @@ fn expand(near: &[u32], level: u32, levels: &mut [Option<u32>], queue: &mut Vec<
 }
 
 /// How many of these classes, from the first on, have a level before one has none, where the first `known` do.
-pub(crate) fn known_front(levels: &[Option<u32>], wanted: &[u32], known: usize) -> usize
+pub(crate) fn known_front(levels: &[Distance], wanted: &[u32], known: usize) -> usize
     requires wanted { All (λ w. w < length levels.now) wanted.now }
     requires known { (i : ℕ) → i < known → HasLevel levels.now (slice_index_or wanted.now i 0) }
     ensures known { (i : ℕ) → i < result → HasLevel levels.now (slice_index_or wanted.now i 0) }
@@ -55,7 +57,7 @@ pub(crate) fn measure(
     lists: &Lists,
     wanted: &[u32],
     end: u32,
-    levels: &mut [Option<u32>],
+    levels: &mut [Distance],
     queue: &mut Vec<u32>,
 )
     requires end { end < length lists.now.before.lists }
@@ -82,7 +84,7 @@ pub(crate) fn measure(
             return;
         }
         let class = queue[done];
-        let Some(level) = levels[class as usize] else {
+        let Some(level) = levels[class as usize].get() else {
             unreachable!()
         };
         expand(lists.before(class, &mut steps), level + 1, levels, queue);

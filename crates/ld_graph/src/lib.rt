@@ -3,6 +3,7 @@
 #![tactic(auto)]
 
 mod components;
+mod distance;
 mod graph;
 mod inside;
 mod levels;
@@ -18,6 +19,7 @@ mod shown;
 mod trail;
 mod turns;
 
+pub use distance::Distance;
 pub use graph::{Graph, MOST_GRAPH_CLASSES};
 pub use inside::Distances;
 pub use lists::{Lists, Steps};

@@ -7,6 +7,7 @@ ghost use Rattle.ld_graph.specs.Inner.Levels.{IsLeastAtLevel, level_at};
 ghost use Rattle.ld_graph.specs.Lists.{IsNear};
 ghost use Rattle.ld_graph.specs.Walks.{AreEnough, IsShownWalk};
 
+use crate::distance::Distance;
 use crate::lists::{Lists, Steps};
 use std::alloc::{AllocError, Global};
 
@@ -20,8 +21,16 @@ fn comes_before(x: u32, y: u32, places: &[u32]) -> bool
     place < other || (place == other && x < y)
 }
 
+/// The level of the class.
+fn level_of(levels: &[Distance], class: u32) -> Option<u32>
+    requires { class < length levels.now }
+    ensures { result ≡ level_at levels.now class }
+{
+    levels[class as usize].get()
+}
+
 /// Of the neighbours of this level, the one that comes before the others.
-fn nearest(near: &[u32], level: u32, levels: &[Option<u32>], places: &[u32]) -> Option<u32>
+fn nearest(near: &[u32], level: u32, levels: &[Distance], places: &[u32]) -> Option<u32>
     requires levels { (x : ℕ) → Contains near.now x → x < length levels.now }
     requires places { (x : ℕ) → Contains near.now x → x < length places.now }
     ensures { MatchOption result
@@ -30,7 +39,7 @@ fn nearest(near: &[u32], level: u32, levels: &[Option<u32>], places: &[u32]) -> 
 {
     let mut least: Option<u32> = None;
     for x in near {
-        if levels[*x as usize] == Some(level) {
+        if level_of(levels, *x) == Some(level) {
             least = match least {
                 Some(old) if !comes_before(*x, old, places) => Some(old),
                 _ => Some(*x),
@@ -47,7 +56,7 @@ pub fn show(
     a: u32,
     b: u32,
     distance: u32,
-    levels: &[Option<u32>],
+    levels: &[Distance],
     places: &[u32],
 ) -> Result<Vec<u32>, AllocError>
     requires a { a < length lists.now.after.lists }

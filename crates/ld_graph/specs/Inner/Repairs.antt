@@ -119,7 +119,7 @@ pub record AreInverse (ranks order : List ℕ) (first : ℕ) : Type 0 where
   pub forth : (i : ℕ) → i < length order → (slice_index order i < length ranks)
       × (slice_index ranks (slice_index order i) ≡ first + i)
 
--- the rank that a number stands for, 0 being none
+-- what a number stands for, 0 being none
 abbrev pub told : ℕ → Option ℕ
 told zero = None
 told (suc r) = Some (suc r)

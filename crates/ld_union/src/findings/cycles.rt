@@ -14,7 +14,7 @@ use crate::findings::walks::walk_names;
 use crate::rows::Rows;
 use crate::union::Union;
 use ld_class::ClassName;
-use ld_graph::{Distances, Steps};
+use ld_graph::{Distance, Distances, Steps};
 use ld_rules::Witness;
 use std::alloc::{AllocError, Global};
 
@@ -151,7 +151,7 @@ fn cycle_row<'a>(
     alloc: Global,
     union: &Union<'a>,
     order: &ByName,
-    distances: &[Option<u32>],
+    distances: &[Distance],
     from: u32,
     to: u32,
 ) -> Result<Option<CycleRow<'a>>, AllocError>

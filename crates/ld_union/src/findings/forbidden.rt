@@ -18,7 +18,7 @@ use crate::findings::walks::walk_names;
 use crate::rows::Rows;
 use crate::union::Union;
 use ld_class::ClassName;
-use ld_graph::Distances;
+use ld_graph::{Distance, Distances};
 use ld_rules::Witness;
 use ld_trace::State;
 use std::alloc::{AllocError, Global};
@@ -49,7 +49,7 @@ pub struct ForbiddenRow<'a> {
 #[derive(Clone, Copy)]
 struct Target<'d> {
     class: u32,
-    distances: &'d [Option<u32>],
+    distances: &'d [Distance],
 }
 
 /// The forbidden walks, by state, then by the names of their ends.

@@ -13,6 +13,7 @@ use crate::by_name::ByName;
 use crate::rows::Rows;
 use crate::union::Union;
 use ld_class::{ClassName, Classes};
+use ld_graph::Distance;
 use std::alloc::{AllocError, Global};
 
 /// The names of the shown walk between these classes, by distances to the second one that are enough for
@@ -21,7 +22,7 @@ pub(crate) fn walk_names<'a>(
     alloc: Global,
     union: &Union<'a>,
     order: &ByName,
-    distances: &[Option<u32>],
+    distances: &[Distance],
     from: u32,
     to: u32,
 ) -> Result<Option<Rows<ClassName<'a>>>, AllocError>

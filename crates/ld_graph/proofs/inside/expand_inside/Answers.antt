@@ -1,6 +1,7 @@
 use Rattle.std.proofs.Common.{◌≡◌, ◌∙◌, ap, set, subst, below_more, ◌<◌, length, arith, Some, None}
 use Rattle.std.proofs.Common.{get_or}
 use Rattle.std.proofs.lemmas.List.{get_or-set_same, get_or_default}
+use Rattle.std.specs.Option.{is_some}
 use Rattle.ld_graph.specs.Inner.Insides.{IsInsideOf}
 use Rattle.ld_graph.specs.Inner.Levels.{level_at, HasLevel}
 use Rattle.ld_graph.proofs.SpreadLemmas.{near_here, Spreads-more, some_is, none_is}
@@ -35,7 +36,8 @@ unreachable-requires c =
     let l = c.loop-x.auto.levels in
     let free : level_at c.loop-x.levels (get_or c.args.near.now c.loop-x.x-index 0) ≡ None =
     none_is (level_at c.loop-x.levels (get_or c.args.near.now c.loop-x.x-index 0))
-    c.if-is_none.ensures in
+    (ap (λ o. is_some o) (get_or_default c.loop-x.levels (get_or c.args.near.now c.loop-x.x-index 0) None c.index-levels-x.result (omega (arith, n, l)))
+    ∙ c.if-is_none.ensures) in
     let m = count_marked c.loop-x.levels (get_or c.args.near.now c.loop-x.x-index 0)
     c.args.level (omega (arith, n, l)) free in
     let i = c.loop-x.invariant in
@@ -51,8 +53,8 @@ loop-x-preserved c =
     let i = c.loop-x.invariant in
     elim c.if-is_none.branch [
       | then-is_none+then-components-x+in-Ok w ↦
-          let free : level_at c.loop-x.levels x ≡ None = none_is (level_at c.loop-x.levels x) w.if-is_none.ensures in
-          rw (w.levels-is, w.queue-is) (record {
+          let free : level_at c.loop-x.levels x ≡ None = none_is (level_at c.loop-x.levels x) (ap (λ o. is_some o) (get_or_default c.loop-x.levels x None c.index-levels-x.result within) ∙ w.if-is_none.ensures) in
+          rw (w.levels-is, w.queue-is, w.of.ensures) (record {
             count = let m = count_marked c.loop-x.levels x c.args.level within free in omega (arith, m, i.count, w.in-Ok.ensures.len);
             capacity = omega (arith, i.capacity, w.in-Ok.ensures.capacity);
             spread = rw w.in-Ok.ensures.items (Spreads-more (IsInsideOf c.args.components.now c.args.component c.args.near.now) c.args.level c.args.levels.now c.args.queue.now.items
@@ -76,7 +78,7 @@ loop-x-preserved c =
             capacity = i.capacity;
             spread = i.spread;
             reached = below_more (λ k. get_or c.args.components.now (get_or c.args.near.now k 0) 0 ≡ c.args.component → HasLevel c.loop-x.levels (get_or c.args.near.now k 0)) _
-                i.reached (λ in_component. some_is (level_at c.loop-x.levels x) w.if-is_none.ensures);
+                i.reached (λ in_component. some_is (level_at c.loop-x.levels x) (ap (λ o. is_some o) (get_or_default c.loop-x.levels x None c.index-levels-x.result within) ∙ w.if-is_none.ensures));
           })
     ]
 

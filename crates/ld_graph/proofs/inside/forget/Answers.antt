@@ -34,7 +34,7 @@ taken levels touched i within h x k e = by (cases_eq x (get_or touched i 0))
 pub loop-class-preserved : goal.loop-class-preserved
 loop-class-preserved c =
     let w = c.requires.within (get_or c.args.touched.now c.loop-class.class-index 0) (Contains-get_or c.args.touched.now c.loop-class.class-index 0 c.loop-class-test.true) in
-    taken c.loop-class.levels c.args.touched.now c.loop-class.class-index (omega (arith, w, c.loop-class.auto.levels)) c.loop-class.invariant
+    rw c.none.ensures (taken c.loop-class.levels c.args.touched.now c.loop-class.class-index (omega (arith, w, c.loop-class.auto.levels)) c.loop-class.invariant)
 
 none_left : (levels : List (Option ℕ)) (x : ℕ) → ((k : ℕ) → level_at levels x ≡ Some k → ⊥) → level_at levels x ≡ None
 none_left levels x h = by (level_at levels x) refl

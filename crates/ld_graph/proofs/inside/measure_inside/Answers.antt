@@ -1,4 +1,4 @@
-use Rattle.std.proofs.Common.{inl, inr, ◌≡◌, ◌+◌, ℕ, [], Contains, ap, arith, get_or, length, subst}
+use Rattle.std.proofs.Common.{inl, inr, ◌≡◌, ◌+◌, ◌∙◌, ℕ, [], None, Contains, ap, arith, get_or, length, subst, sym}
 use Rattle.std.proofs.lemmas.List.{get_or_default}
 use Rattle.ld_graph.specs.Inner.Insides.{IsInsideOf, IsNearInside}
 use Rattle.ld_graph.specs.Inner.Levels.{HasLevel, Spreads}
@@ -43,7 +43,7 @@ loop-done-preserved c =
           (omega (arith, c.loop-done-test.true, c.len.ensures)) c.index-class.result.now
           c.index-class.ensures
           c.expand_inside-in-loop-done.new.levels c.expand_inside-in-loop-done.new.queue.items c.in-Some.level
-          c.in-Some.is
+          (get_or_default c.loop-done.levels c.index-class.result.now None c.index-levels-class.result (next_within (IsNearInside c.args.lists.now.before.lists c.args.components.now (get_or c.args.components.now c.args.end 0)) c.args.end c.loop-done.done c.loop-done.levels c.loop-done.queue.items c.loop-done.invariant.partial (omega (arith, c.loop-done-test.true, c.len.ensures)) c.index-class.result.now c.index-class.ensures) ∙ sym c.get.ensures ∙ c.in-Some.is)
           (subst (λ n. Spreads (IsInsideOf c.args.components.now (get_or c.args.components.now c.args.end 0) n) (c.in-Some.level + 1) c.loop-done.levels
           c.loop-done.queue.items c.expand_inside-in-loop-done.new.levels
           c.expand_inside-in-loop-done.new.queue.items) c.before-in-loop-done.ensures.near
@@ -62,8 +62,8 @@ loop-done-smaller c = omega (
   c.len.ensures,
 )
 
-pub bounds : goal.bounds
-bounds c =
+pub bounds-levels-class : goal.bounds-levels-class
+bounds-levels-class c =
     next_within (IsNearInside c.args.lists.now.before.lists c.args.components.now (get_or c.args.components.now c.args.end 0)) c.args.end c.loop-done.done c.loop-done.levels
     c.loop-done.queue.items c.loop-done.invariant.partial
     (omega (arith, c.loop-done-test.true, c.len.ensures)) c.index-class.result.now
@@ -74,7 +74,7 @@ overflow_add-level c =
     let small = next_small (IsNearInside c.args.lists.now.before.lists c.args.components.now (get_or c.args.components.now c.args.end 0)) c.args.end c.loop-done.done
     c.loop-done.levels c.loop-done.queue.items c.loop-done.invariant.partial
     (omega (arith, c.loop-done-test.true, c.len.ensures)) c.index-class.result.now
-    c.index-class.ensures c.in-Some.level c.in-Some.is in
+    c.index-class.ensures c.in-Some.level (get_or_default c.loop-done.levels c.index-class.result.now None c.index-levels-class.result (next_within (IsNearInside c.args.lists.now.before.lists c.args.components.now (get_or c.args.components.now c.args.end 0)) c.args.end c.loop-done.done c.loop-done.levels c.loop-done.queue.items c.loop-done.invariant.partial (omega (arith, c.loop-done-test.true, c.len.ensures)) c.index-class.result.now c.index-class.ensures) ∙ sym c.get.ensures ∙ c.in-Some.is) in
     omega (arith, small)
 
 pub unreachable-requires : goal.unreachable-requires
@@ -83,7 +83,7 @@ unreachable-requires c =
     c.loop-done.levels c.loop-done.queue.items c.loop-done.invariant.partial
     (omega (arith, c.loop-done-test.true, c.len.ensures)) c.index-class.result.now
     c.index-class.ensures in
-    c.in_default.not-Some next.0 next.1.0
+    c.in_default.not-Some next.0 (c.get.ensures ∙ sym (get_or_default c.loop-done.levels c.index-class.result.now None c.index-levels-class.result (next_within (IsNearInside c.args.lists.now.before.lists c.args.components.now (get_or c.args.components.now c.args.end 0)) c.args.end c.loop-done.done c.loop-done.levels c.loop-done.queue.items c.loop-done.invariant.partial (omega (arith, c.loop-done-test.true, c.len.ensures)) c.index-class.result.now c.index-class.ensures)) ∙ next.1.0)
 
 pub returns-clause-levels : goal.returns-clause-levels
 returns-clause-levels c = λ i d within.
@@ -118,3 +118,11 @@ returns-then-known-wanted-clause-levels c = λ i d within.
     IsPartial-levels (IsNearInside c.args.lists.now.before.lists c.args.components.now (get_or c.args.components.now c.args.end 0)) c.args.end c.loop-done.done c.loop-done.levels
     c.loop-done.queue.items c.loop-done.invariant.partial (get_or c.args.wanted.now i d)
     (inl (subst (HasLevel c.loop-done.levels) (get_or_default c.args.wanted.now i 0 d within) (c.known_front-known.ensures.known i (omega (arith, within, c.if-known-wanted.true)))))
+
+pub before-requires-in-loop-done-clause-class : goal.before-requires-in-loop-done-clause-class
+before-requires-in-loop-done-clause-class c =
+    let within = next_within (IsNearInside c.args.lists.now.before.lists c.args.components.now (get_or c.args.components.now c.args.end 0)) c.args.end c.loop-done.done c.loop-done.levels
+    c.loop-done.queue.items c.loop-done.invariant.partial
+    (omega (arith, c.loop-done-test.true, c.len.ensures)) c.index-class.result.now
+    c.index-class.ensures in
+    omega (arith, within, c.requires.classes, c.loop-done.auto.levels)

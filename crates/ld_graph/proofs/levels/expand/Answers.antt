@@ -1,6 +1,7 @@
-use Rattle.std.proofs.Common.{◌≡◌, Contains, below_more, ◌<◌, length, arith, Some, None}
+use Rattle.std.proofs.Common.{◌≡◌, ◌∙◌, Contains, ap, below_more, ◌<◌, length, arith, Some, None}
 use Rattle.std.proofs.Common.{get_or}
-use Rattle.std.proofs.lemmas.List.{get_or-set_same}
+use Rattle.std.proofs.lemmas.List.{get_or-set_same, get_or_default}
+use Rattle.std.specs.Option.{is_some}
 use Rattle.ld_graph.specs.Inner.Levels.{level_at}
 use Rattle.ld_graph.proofs.SpreadLemmas.{near_all, near_here, Spreads-more, some_is, none_is}
 use Rattle.ld_graph.proofs.SpreadLemmas.{count_marked, kept_marked}
@@ -28,7 +29,8 @@ unreachable-requires c =
     let l = c.loop-x.auto.levels in
     let free : level_at c.loop-x.levels (get_or c.args.near.now c.loop-x.x-index 0) ≡ None =
     none_is (level_at c.loop-x.levels (get_or c.args.near.now c.loop-x.x-index 0))
-    c.if-is_none.ensures in
+    (ap (λ o. is_some o) (get_or_default c.loop-x.levels (get_or c.args.near.now c.loop-x.x-index 0) None c.index-levels-x.result (omega (arith, n, l)))
+    ∙ c.if-is_none.ensures) in
     let m = count_marked c.loop-x.levels (get_or c.args.near.now c.loop-x.x-index 0)
     c.args.level (omega (arith, n, l)) free in
     let i = c.loop-x.invariant in
@@ -46,8 +48,9 @@ loop-x-preserved c =
       | then-is_none+in-Ok w ↦
           let free : level_at c.loop-x.levels (get_or c.args.near.now c.loop-x.x-index 0) ≡
           None = none_is (level_at c.loop-x.levels (get_or c.args.near.now c.loop-x.x-index
-          0)) w.if-is_none.ensures in
-          rw (w.levels-is, w.queue-is) (record {
+          0)) (ap (λ o. is_some o) (get_or_default c.loop-x.levels (get_or c.args.near.now c.loop-x.x-index 0) None c.index-levels-x.result within)
+          ∙ w.if-is_none.ensures) in
+          rw (w.levels-is, w.queue-is, w.of.ensures) (record {
             count = let m = count_marked c.loop-x.levels (get_or c.args.near.now
                 c.loop-x.x-index 0) c.args.level within free
                 in omega (arith, m, i.count, w.in-Ok.ensures.len);
@@ -73,7 +76,8 @@ loop-x-preserved c =
             capacity = i.capacity;
             spread = i.spread;
             reached = below_more _ _ i.reached (some_is (level_at c.loop-x.levels (get_or
-                c.args.near.now c.loop-x.x-index 0)) w.if-is_none.ensures);
+                c.args.near.now c.loop-x.x-index 0)) (ap (λ o. is_some o) (get_or_default c.loop-x.levels (get_or c.args.near.now c.loop-x.x-index 0) None c.index-levels-x.result within)
+                ∙ w.if-is_none.ensures));
           })
     ]
 

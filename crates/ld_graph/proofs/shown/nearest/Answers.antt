@@ -7,8 +7,8 @@ pub returns : goal.returns
 returns c = IsLeastOf-all c.args.near.now c.args.level c.args.levels.now c.args.places.now
     c.loop-x.x-index c.loop-x.least (omega arith) c.loop-x.invariant
 
-pub bounds-levels-x : goal.bounds-levels-x
-bounds-levels-x c = c.requires.levels (get_or c.args.near.now c.loop-x.x-index 0) (Contains-get_or
+pub level_of-requires : goal.level_of-requires
+level_of-requires c = c.requires.levels (get_or c.args.near.now c.loop-x.x-index 0) (Contains-get_or
     c.args.near.now c.loop-x.x-index 0 c.loop-x-test.true)
 
 pub comes_before-requires-clause-x : goal.comes_before-requires-clause-x

@@ -1,4 +1,6 @@
-use Rattle.std.proofs.Common.{◌≡◌, ◌≢◌, ◌∙◌, [], None, Some, get_or, refl, subst, sym, ap}
+use Rattle.std.proofs.Common.{◌≡◌, ◌≢◌, ◌∙◌, [], arith, None, Some, get_or, refl, subst, sym, ap}
+use Rattle.std.specs.Option.{is_some}
+use Rattle.std.proofs.lemmas.List.{get_or_default}
 use Rattle.std.proofs.lemmas.Option.{MatchOption-at_none, MatchOption-at_some}
 use Rattle.ld_graph.specs.Edges.{IsEdge, IsEdgeNumber, edge}
 use Rattle.ld_rules.specs.Union.{dependency_witness}
@@ -21,7 +23,8 @@ returns-then-is_none c sources shows =
     let distances = c.args.distances.now in
     no_cycle-back union.classes union.dependencies shows.numbered sources shows.witnesses c.args.from c.args.to c.requires.from c.requires.to
     (λ there. no_walk (IsEdge (edges_of union.dependencies)) c.args.to c.args.from (get_or distances c.args.to None)
-    c.requires.distances.enough.own c.if-is_none.ensures)
+    c.requires.distances.enough.own (ap (λ o. is_some o) (get_or_default distances c.args.to None c.index-distances-to.result
+    (omega (arith, c.requires.to, c.requires.distances.len)) ∙ sym c.index-distances-to.is) ∙ c.if-is_none.ensures))
 
 pub returns-in_default : goal.returns-in_default
 returns-in_default c sources shows =
