@@ -134,7 +134,8 @@ impl Chains {
     }
 
     /// The same, of a chain that isn't that of the call before: where it was found last is asked first.
-    #[inline(never)]
+    // Most chains are guessed.
+    #[inline(always)]
     fn guess(&mut self, link: Link) -> Option<u32>
         requires { IfSome link.before (λ n. n < length (chains_of self.old.links)) }
         ensures same { self.new ≡ self.old }

@@ -179,6 +179,8 @@ impl Uses {
     }
 
     /// Adds a bit of a class, where it isn't there yet.
+    // Each batch begins without bits, so small traces ask for this at most acquisitions.
+    #[inline(always)]
     fn add(&mut self, fact: UsageFact) -> Result<(), AllocError>
         requires { IsBit fact.bit }
         ensures added { OnOk result (self.new ≡ with_use self.old fact) }
