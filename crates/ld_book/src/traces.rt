@@ -1,6 +1,6 @@
 //! The traces of a book, in the order of their numbers.
-ghost use Rattle.std.specs.Prelude.{◌≡◌, IfOk};
-ghost use Rattle.std.specs.List.Sorted.{IsPermutation};
+ghost use Rattle.std.specs.Prelude.{◌≡◌, ◌↔◌, IfOk, IsTrue};
+ghost use Rattle.std.specs.List.Sorted.{IsNonDecreasingBy, IsPermutation};
 ghost use Rattle.ld_shown.specs.Batch.{AreOutcomes, AreRising, sources_of};
 
 use crate::book::Book;
@@ -38,7 +38,7 @@ impl<'a> Traces<'a> {
         ensures rising { IfOk result (λ traces. AreRising traces) }
     {
         let mut listed = book.listed().to_vec(alloc)?;
-        listed.sort_unstable_by_key(|trace| trace.source.number);
+        sort(&mut listed);
         Ok(Traces { listed })
     }
 
@@ -50,4 +50,43 @@ impl<'a> Traces<'a> {
     {
         &self.listed
     }
+}
+
+/// Puts these in the order of their numbers.
+fn sort(listed: &mut [Listed<'_>])
+    ensures permutation { IsPermutation listed.old listed.new }
+    ensures sorted { IsNonDecreasingBy (λ trace. trace.source.number) listed.new }
+{
+    put_in_place(listed);
+    if !are_in_order(listed) {
+        listed.sort_unstable_by_key(|trace| trace.source.number);
+    }
+}
+
+/// Puts these in another order: each at the place of its number, where their numbers are those below their count, as
+/// those of a whole stream are. Each swap puts one for good, so there are no more swaps than traces.
+fn put_in_place(listed: &mut [Listed<'_>])
+    ensures { IsPermutation listed.old listed.new }
+{
+    for place in 0..listed.len() {
+        for _ in place..listed.len() {
+            let own = listed[place].source.number as usize;
+            if own == place || own >= listed.len() {
+                break;
+            }
+            listed.swap(place, own);
+        }
+    }
+}
+
+/// Whether the numbers of these don't fall.
+fn are_in_order(listed: &[Listed<'_>]) -> bool
+    ensures { IsTrue result ↔ IsNonDecreasingBy (λ trace. trace.source.number) listed.now }
+{
+    for place in 1..listed.len() {
+        if listed[place].source.number < listed[place - 1].source.number {
+            return false;
+        }
+    }
+    true
 }

@@ -1,34 +1,46 @@
-use Rattle.std.proofs.Common.{rules, ◌≡◌, ◌∙◌, ap, sym, subst, IsPermutation}
-use Rattle.std.proofs.lemmas.List.Sorted.{All-permutation, IsNonDecreasingBy-from_sort, IsPermutation-map, answers_always}
-use Rattle.ld_trace.specs.Sources.{plain}
+use Rattle.std.proofs.Common.{◌≡◌, ◌∙◌, List, IsPermutation, subst, sym}
+use Rattle.std.proofs.lemmas.List.{with_items_is}
+use Rattle.std.proofs.lemmas.List.Sorted.{All-permutation, IsPermutation-map, length_permutation}
+use Rattle.ld_trace.specs.Sources.{PlainSource, plain}
+use Rattle.ld_rules.specs.declared.outcome.Listed.{Listed}
 use Rattle.ld_facts.specs.Outcome.{outcome}
 use Rattle.ld_shown.specs.Batch.{AreOutcomes, AreRising, sources_of}
 use Rattle.ld_book.proofs.RisingLemmas.{rising_from_sorted}
 use Rattle.ld_book.proofs.traces.Traces.new.Goals as goal
 
--- the traces in order are those of the book
-moved : (c : goal.After-sort_unstable_by_key) → IsPermutation c.args.book.now (sources_of c.sort_unstable_by_key.new.self.items)
-moved c =
-    let copied : c.in_ok-listed.listed.items ≡ c.listed.result.now = c.in_ok-listed.ensures.items_if_clones_equal (λ x y same. same) in
-    subst (λ l. IsPermutation l (sources_of c.sort_unstable_by_key.new.self.items)) (ap sources_of copied ∙ c.listed.ensures.sources)
-    (IsPermutation-map (λ l. plain l.source) c.in_ok-listed.listed.items c.sort_unstable_by_key.new.self.items c.sort_unstable_by_key.ensures.permutation)
-
-rising : (c : goal.After-sort_unstable_by_key) → AreRising (sources_of c.sort_unstable_by_key.new.self.items)
-rising c =
-    rising_from_sorted c.args.book.now c.sort_unstable_by_key.new.self.items (moved c) c.listed.ensures.distinct
-    (IsNonDecreasingBy-from_sort (λ l. l.source.number) c.sort_unstable_by_key.new.self.items
-    (c.sort_unstable_by_key.ensures.sorted (λ l. l.source.number) (answers_always _ _ _ (λ f a r g called. search rules))))
+-- of traces in another order the sources are in another order
+moved_sources : (sources : List PlainSource) (listed sorted : List Listed) → sources_of listed ≡ sources → IsPermutation listed sorted → IsPermutation sources (sources_of sorted)
+moved_sources sources listed sorted shown moved =
+    subst (λ l. IsPermutation l (sources_of sorted)) shown (IsPermutation-map (λ (l : Listed). plain l.source) listed sorted moved)
 
 pub invariant_of-result : goal.invariant_of-result
 invariant_of-result c =
-    let copied : c.in_ok-listed.listed.items ≡ c.listed.result.now = c.in_ok-listed.ensures.items_if_clones_equal (λ x y same. same) in (
-      All-permutation (λ l. l.outcome ≡ outcome (plain l.source)) c.in_ok-listed.listed.items c.sort_unstable_by_key.new.self.items
-          c.sort_unstable_by_key.ensures.permutation (subst AreOutcomes (sym copied) c.listed.ensures.outcomes),
-      rising c,
+    let sorted = c.sort.new.listed in
+    let copied : c.in_ok-listed.listed.items ≡ c.listed.result.now = c.in_ok-listed.ensures.items_if_clones_equal (λ x y same. same) in
+    let moved : IsPermutation c.listed.result.now sorted =
+    subst (λ l. IsPermutation l sorted) (c.deref_mut.ensures.value ∙ copied) c.sort.ensures.permutation in
+    let put = with_items_is c.in_ok-listed.listed sorted (length_permutation c.deref_mut.result.now sorted c.sort.ensures.permutation ∙ c.deref_mut.ensures.len) in (
+      subst AreOutcomes (sym put) (All-permutation (λ (l : Listed). l.outcome ≡ outcome (plain l.source)) c.listed.result.now sorted moved c.listed.ensures.outcomes),
+      subst (λ (all : List Listed). AreRising (sources_of all)) (sym put)
+          (rising_from_sorted c.args.book.now sorted (moved_sources c.args.book.now c.listed.result.now sorted c.listed.ensures.sources moved) c.listed.ensures.distinct c.sort.ensures.sorted),
     )
 
 pub returns-clause-same : goal.returns-clause-same
-returns-clause-same c = moved c
+returns-clause-same c =
+    let sorted = c.sort.new.listed in
+    let copied : c.in_ok-listed.listed.items ≡ c.listed.result.now = c.in_ok-listed.ensures.items_if_clones_equal (λ x y same. same) in
+    let moved : IsPermutation c.listed.result.now sorted =
+    subst (λ l. IsPermutation l sorted) (c.deref_mut.ensures.value ∙ copied) c.sort.ensures.permutation in
+    let put = with_items_is c.in_ok-listed.listed sorted (length_permutation c.deref_mut.result.now sorted c.sort.ensures.permutation ∙ c.deref_mut.ensures.len) in
+    subst (λ (all : List Listed). IsPermutation c.args.book.now (sources_of all)) (sym put)
+    (moved_sources c.args.book.now c.listed.result.now sorted c.listed.ensures.sources moved)
 
 pub returns-clause-rising : goal.returns-clause-rising
-returns-clause-rising c = rising c
+returns-clause-rising c =
+    let sorted = c.sort.new.listed in
+    let copied : c.in_ok-listed.listed.items ≡ c.listed.result.now = c.in_ok-listed.ensures.items_if_clones_equal (λ x y same. same) in
+    let moved : IsPermutation c.listed.result.now sorted =
+    subst (λ l. IsPermutation l sorted) (c.deref_mut.ensures.value ∙ copied) c.sort.ensures.permutation in
+    let put = with_items_is c.in_ok-listed.listed sorted (length_permutation c.deref_mut.result.now sorted c.sort.ensures.permutation ∙ c.deref_mut.ensures.len) in
+    subst (λ (all : List Listed). AreRising (sources_of all)) (sym put)
+    (rising_from_sorted c.args.book.now sorted (moved_sources c.args.book.now c.listed.result.now sorted c.listed.ensures.sources moved) c.listed.ensures.distinct c.sort.ensures.sorted)
