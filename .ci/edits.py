@@ -10,11 +10,13 @@ FUNCTION = re.compile(r"( *)(?:pub(?:\([^)]*\))? )?(?:const )?fn (\w+)")
 OPEN = re.compile(r"note: (src/\S+?):(\d+):\d+: (it is not proved .*)")
 ERROR = re.compile(r"(?:\./)?(proofs|specs|src)/(\S+?):(\d+):\d+: error: (.*)")
 UNCOMPILED = re.compile(r"(?m)^(src/\S+?):(\d+):\d+: error\[")
+# What is said where goals of a function have other names than before.
+ANEW = "(goals of this function are named anew)"
 # The most edits of a round: one with more gains little, and others would wait for its end.
 MOST = 16
 # What is said where a proof file names what an edit took away.
 NAMES = re.compile(r"has no field|is not in scope|has no `|was not admitted")
-# A goal of such a function may be open for the sake of another one.
+# A goal of such a function may be open for the sake of another one, so it is nothing that an edit of it shows.
 RESTS = re.compile(r"it calls `|which antt refuses")
 
 
@@ -217,16 +219,16 @@ class Said:
             elif error := ERROR.match(line):
                 errors.append(error.groups())
             elif function := re.match(r"fn (\S+): (.*)", line):
-                self.add_notes(notes, function[2])
+                self.add_notes(notes if not RESTS.search(function[2]) else [])
                 notes = []
-        self.add_notes(notes, "")
+        self.add_notes(notes)
         for error in errors:
             self.add_error(*error)
 
-    def add_notes(self, notes, verdict):
+    def add_notes(self, notes):
         for file, line, why in notes:
             owners = [it for it in self.edits if it.has(file, int(line) - 1)]
-            self.add(owners, self.goals, f"{file}:{line}: {why}", RESTS.search(verdict))
+            self.add(owners, self.goals, f"{file}:{line}: {why}", False)
 
     def add_error(self, part, path, line, why):
         owners = [it for it in self.edits if part == "proofs" and it.has_proofs(path)]
@@ -238,10 +240,11 @@ class Said:
         goals of its function have other names than before."""
         goal = min(self.goals[edit], key=weight)
         is_anew = self.names[edit] and weight(goal) == 2
-        return f"{goal} (goals of this function are named anew)" if is_anew else goal
+        return f"{goal} {ANEW}" if is_anew else goal
 
     def add(self, owners, to, goal, is_expected):
-        if len(self.edits) == 1:
+        # What changes more than bodies may leave any goal of the crate open.
+        if len(self.edits) == 1 and not self.edits[0].functions:
             owners = self.edits
         for it in owners:
             to[it].append(goal)
