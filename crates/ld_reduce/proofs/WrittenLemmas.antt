@@ -1,15 +1,18 @@
 -- A stream that was written of some traces is cut into just these.
 use Rattle.std.proofs.Common.{◌≡◌, ◌∙◌, ◌+◌, ℕ, ◌≤◌, Bool, true, false, not, IfSome, List, map, [], ◌∷◌, ◌++◌, length, take, drop, filter_map, Option, Some, None, All, refl, ap, sym, subst, append_assoc, arith, codes, cond}
 use Rattle.std.specs.Prelude.{◌||◌, if◌then◌else◌}
+use Rattle.std.specs.Prelude.{is_some, nat_lt}
+use Rattle.std.proofs.lemmas.Bool.{false_from_ne_true, ltb-true}
 use Rattle.std.proofs.Math.Seq.{drop-append_seam, take-append_seam}
 use Rattle.std.proofs.lemmas.List.Elements.{All-cons, All-head, All-nil, All-tail}
 use Rattle.std.proofs.lemmas.List.Sums.{take_while-cons}
 use Rattle.std.specs.List.{concat, cons_option, enumerate_from, list_any, onto_first, prefix_len, take_while}
 use Rattle.ld_trace.specs.Lines.{fields, is_word, lines, text_of}
-use Rattle.ld_trace.specs.Sources.{PlainSource, begins_trace, fields_of, headers_before, is_header, is_other, label_of, opened_at, section_at, sources}
+use Rattle.ld_trace.specs.Sources.{PlainSource, fault_at, line_faults, stream_fault, begins_trace, fields_of, headers_before, is_header, is_other, label_of, opened_at, section_at, sources}
+use Rattle.ld_trace.specs.declared.source.TheConstants.{LONGEST_STREAM, MOST_TRACES}
 use Rattle.ld_trace.specs.Inner.Splitting.{given_from}
 use Rattle.ld_trace.proofs.PlainLemmas.{IsRun, fields-end, fields-word, lines-onto, run-word, text-run}
-use Rattle.ld_trace.proofs.SectionLemmas.{Opens, given_from-next, headers-section, left-section, section-is, sections-skip}
+use Rattle.ld_trace.proofs.SectionLemmas.{Opens, faults-section, given_from-next, headers-section, left-section, section-is, sections-skip}
 use Rattle.ld_reduce.specs.Written.{IsTrace, counted_anew, counted_from, ended, header, trace_text, written}
 use Rattle.ld_reduce.proofs.LineLemmas.{concat-lines, ended-IsEnded, lines-behind, lines-drop, lines-take}
 use Rattle.ld_reduce.proofs.TextLemmas.{texts-ended}
@@ -118,35 +121,71 @@ headers-by-text xs ys same =
 none-ended : (bytes : List ℕ) → list_any is_header (lines bytes) ≡ false → list_any is_header (lines (ended bytes)) ≡ false
 none-ended bytes none = headers-by-text (lines (ended bytes)) (lines bytes) (texts-ended bytes) ∙ none
 
--- The sections from place k of some lines on, where what was written of these traces stands there.
+-- Some lines, where what was written of a trace and of others stands from place k on.
+module _ (all : List (List ℕ)) (k : ℕ) (source : PlainSource) (others : List PlainSource) (here : drop k all ≡ lines (written (source ∷ others))) (are : All IsTrace (source ∷ others)) where
+  abbrev own : List (List ℕ)
+  own = lines (ended source.bytes)
+
+  abbrev more : List (List ℕ)
+  more = own ++ lines (written others)
+
+  is : IsTrace source
+  is = All-head IsTrace source others are
+
+  own-count : prefix_len is_other more ≡ length own
+  own-count = own-lines own (lines (written others)) (none-ended source.bytes is.lines) (first-header others (All-tail IsTrace source others are))
+
+  pub opens-here : Opens all k (length own) (header source.label) more
+  opens-here = record { is = here ∙ trace-lines source is (written others); header = header-is source.label is.label; own = sym own-count }
+
+  -- behind it stand the others
+  pub left-here : drop (k + 1 + length own) all ≡ lines (written others)
+  left-here = sym (left-section all k (length own) (header source.label) more opens-here) ∙ drop-append_seam own (lines (written others))
+
+  behind-lines : length own ≤ prefix_len is_other (drop (k + 1) all)
+  behind-lines = rw (drop-next all k (header source.label) more opens-here.is) (omega (arith, opens-here.own))
+
+  -- its section, and those behind it
+  pub section-here : given_from (opened_at all) all k
+      ≡ record { number = headers_before all k; label = source.label; first_line = k + 2; bytes = ended source.bytes } ∷ given_from (opened_at all) all (k + 1 + length own)
+  section-here =
+      let bytes : ended source.bytes ≡ concat (take_while is_other more) =
+      sym (concat-lines (ended source.bytes)) ∙ ap concat (sym (take-append_seam own (lines (written others))) ∙ ap (λ n. take n more) (sym own-count)) in
+      let section = section-is all k (length own) (headers_before all k) (header source.label) more source.label (ended source.bytes) opens-here refl (header-label source.label is.label) bytes in
+      let opened : opened_at all k (header source.label) ≡ Some (section_at all k) = rw (header-is source.label is.label) refl in
+      given_from-next (opened_at all) all k (header source.label) more opens-here.is
+      ∙ (λ i. cons_option (opened i) (sections-skip all (k + 1) (length own) behind-lines i))
+      ∙ (λ i. sym section i ∷ given_from (opened_at all) all (k + 1 + length own))
+
 module _ (all : List (List ℕ)) where
+  -- the sections of what was written from place k on
   sections-written : (k : ℕ) (rest : List PlainSource) → drop k all ≡ lines (written rest) → All IsTrace rest → given_from (opened_at all) all k ≡ counted_from (headers_before all k) k rest
   sections-written k [] here are = rw here refl
   sections-written k (source ∷ others) here are =
-      let is = All-head IsTrace source others are in
-      let x = header source.label in
-      let own = lines (ended source.bytes) in
-      let behind = lines (written others) in
-      let m = length own in
-      let at : drop k all ≡ x ∷ (own ++ behind) = here ∙ trace-lines source is (written others) in
-      let none = none-ended source.bytes is.lines in
-      let first = first-header others (All-tail IsTrace source others are) in
-      let count : prefix_len is_other (own ++ behind) ≡ m = own-lines own behind none first in
-      let opens : Opens all k m x (own ++ behind) = record { is = at; header = header-is source.label is.label; own = sym count } in
-      let left : drop (k + 1 + m) all ≡ behind = sym (left-section all k m x (own ++ behind) opens) ∙ drop-append_seam own behind in
-      let bytes : ended source.bytes ≡ concat (take_while is_other (own ++ behind)) =
-      sym (concat-lines (ended source.bytes)) ∙ ap concat (sym (take-append_seam own behind) ∙ ap (λ n. take n (own ++ behind)) (sym count)) in
-      let section = section-is all k m (headers_before all k) x (own ++ behind) source.label (ended source.bytes) opens refl (header-label source.label is.label) bytes in
-      let opened : opened_at all k x ≡ Some (section_at all k) = rw (header-is source.label is.label) refl in
-      given_from-next (opened_at all) all k x (own ++ behind) at
-      ∙ (λ i. cons_option (opened i) (sections-skip all (k + 1) m (behind-lines k m x (own ++ behind) opens) i))
-      ∙ (λ i. sym section i ∷ sections-written (k + 1 + m) others left (All-tail IsTrace source others are) i)
-      ∙ ap (λ n. record { number = headers_before all k; label = source.label; first_line = k + 2; bytes = ended source.bytes } ∷ counted_from n (k + 1 + m) others)
-      (headers-section all k m x (own ++ behind) opens)
-    where
-      behind-lines : (k m : ℕ) (x : List ℕ) (others : List (List ℕ)) → Opens all k m x others → m ≤ prefix_len is_other (drop (k + 1) all)
-      behind-lines k m x others opens = rw (drop-next all k x others opens.is) (omega (arith, opens.own))
+      let m = length (lines (ended source.bytes)) in
+      let first : PlainSource = record { number = headers_before all k; label = source.label; first_line = k + 2; bytes = ended source.bytes } in
+      section-here all k source others here are
+      ∙ ap (λ o. first ∷ o) (sections-written (k + 1 + m) others (left-here all k source others here are) (All-tail IsTrace source others are))
+      ∙ ap (λ n. first ∷ counted_from n (k + 1 + m) others) (headers-section all k m _ _ (opens-here all k source others here are))
+
+  -- it has no fault, where there aren't too many headers
+  faults-written : (k : ℕ) (rest : List PlainSource) → drop k all ≡ lines (written rest) → All IsTrace rest → headers_before all k + length rest ≤ MOST_TRACES
+      → line_faults all ≡ given_from (fault_at all) all k → line_faults all ≡ []
+  faults-written k [] here are few before = before ∙ rw here refl
+  faults-written k (source ∷ others) here are few before =
+      let m = length (lines (ended source.bytes)) in
+      let word = (All-head IsTrace source others are).label in
+      let opens = opens-here all k source others here are in
+      let next = headers-section all k m _ _ opens in
+      faults-written (k + 1 + m) others (left-here all k source others here are) (All-tail IsTrace source others are) (omega (arith, few, next))
+      (faults-section all k m (headers_before all k) _ _ opens refl (λ most. omega (arith, few, most)) (ap is_some (header-label source.label word)) before)
 
 -- what is written has just these traces, counted anew
 pub sources-written : (all : List PlainSource) → All IsTrace all → sources (written all) ≡ counted_anew all
 sources-written all are = sections-written (lines (written all)) 0 all refl are
+
+-- and is a stream without fault, if it isn't too long
+pub written-sound : (all : List PlainSource) → All IsTrace all → length all ≤ MOST_TRACES → length (written all) ≤ LONGEST_STREAM → stream_fault (written all) ≡ None
+written-sound all are few short =
+    let fits : nat_lt LONGEST_STREAM (length (written all)) ≡ false = false_from_ne_true _ (λ h. absurd (let long = ltb-true LONGEST_STREAM (length (written all)) h in omega (arith, long, short))) in
+    rw (fits, faults-written (lines (written all)) 0 all refl are (omega (arith, few)) refl) refl

@@ -1,8 +1,9 @@
 //! The traces in which something was first seen, as a stream.
-ghost use Rattle.std.specs.Prelude.{◌≡◌, ◌&&◌, ◌||◌, ℕ, All, IfOk, map, nat_eq};
+ghost use Rattle.std.specs.Prelude.{◌≡◌, ◌≤◌, ℕ, All, IfOk, None, length, map, nat_eq};
 ghost use Rattle.std.specs.Bool.{Decides};
 ghost use Rattle.std.specs.List.{list_any};
-ghost use Rattle.ld_trace.specs.Sources.{plain, sources};
+ghost use Rattle.ld_trace.specs.Sources.{plain, sources, stream_fault};
+ghost use Rattle.ld_trace.specs.declared.source.TheConstants.{LONGEST_STREAM, MOST_TRACES};
 ghost use Rattle.ld_rules.specs.Outcome.{outcome};
 ghost use Rattle.ld_shown.specs.Batch.{AreOutcomes, AreRising, sources_of};
 ghost use Rattle.ld_reduce.specs.Kept.{IsFirst, is_refused, keeps, kept_by};
@@ -69,10 +70,13 @@ pub fn reduced(
     requires outcomes { AreOutcomes traces.now }
     requires rising { AreRising (sources_of traces.now) }
     requires traces { All IsTrace (sources_of traces.now) }
+    requires few { length traces.now ≤ MOST_TRACES }
     requires firsts { (number : ℕ) → Decides (list_any (nat_eq number) firsts.now)
         (IsFirst (sources_of traces.now) number) }
     ensures reduced { IfOk result (λ text.
         IsReduced keep_refused (sources_of traces.now) text.items) }
+    ensures sound { IfOk result (λ text. length text.items ≤ LONGEST_STREAM →
+        stream_fault text.items ≡ None) }
     ensures union { IfOk result (λ text.
         HaveSameUnion (sources_of traces.now) (sources text.items)) }
     ensures needed { IfOk result (λ text. AreNeeded keep_refused (sources text.items)) }
