@@ -6,3 +6,5 @@ pub mod WitnessLemmas
 pub mod UnionLemmas
 pub mod NeededLemmas
 pub mod ReducedLemmas
+pub mod JoinLemmas
+pub mod StreamLemmas

@@ -1,11 +1,16 @@
 -- What it means that some traces show together what others do.
 use Rattle.std.specs.Prelude.{◌≡◌, ℕ, ◌-◌, ◌==◌, List, [], ◌∷◌, if◌then◌else◌}
-use Rattle.std.specs.Option.{option_map}
+use Rattle.std.specs.Option.{is_some, option_map}
 use Rattle.ld_trace.specs.Sources.{PlainSource}
 use Rattle.ld_rules.specs.declared.outcome.Witness.{Witness}
 use Rattle.ld_rules.specs.Dependency.{Dependency}
 use Rattle.ld_rules.specs.Union.{dependency_witness, use_witness}
 use Rattle.ld_rules.specs.Usage.{Use}
+
+-- the same dependencies and the same usage bits of the same classes, wherever they are seen
+pub record ShowSame (sources others : List PlainSource) : Type 0 where
+  pub dependencies : (what : Dependency) → is_some (dependency_witness sources what) ≡ is_some (dependency_witness others what)
+  pub uses : (what : Use) → is_some (use_witness sources what) ≡ is_some (use_witness others what)
 
 -- where something was seen, whatever the numbers of traces and lines: the label of the trace, and which of
 -- the lines behind its header it is, from 0

@@ -70,13 +70,12 @@ pub fn reduced(
     requires outcomes { AreOutcomes traces.now }
     requires rising { AreRising (sources_of traces.now) }
     requires traces { All IsTrace (sources_of traces.now) }
-    requires few { length traces.now ≤ MOST_TRACES }
     requires firsts { (number : ℕ) → Decides (list_any (nat_eq number) firsts.now)
         (IsFirst (sources_of traces.now) number) }
     ensures reduced { IfOk result (λ text.
         IsReduced keep_refused (sources_of traces.now) text.items) }
-    ensures sound { IfOk result (λ text. length text.items ≤ LONGEST_STREAM →
-        stream_fault text.items ≡ None) }
+    ensures sound { IfOk result (λ text. length traces.now ≤ MOST_TRACES
+        → length text.items ≤ LONGEST_STREAM → stream_fault text.items ≡ None) }
     ensures union { IfOk result (λ text.
         HaveSameUnion (sources_of traces.now) (sources text.items)) }
     ensures needed { IfOk result (λ text. AreNeeded keep_refused (sources text.items)) }
