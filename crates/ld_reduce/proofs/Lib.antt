@@ -8,3 +8,5 @@ pub mod NeededLemmas
 pub mod ReducedLemmas
 pub mod JoinLemmas
 pub mod StreamLemmas
+pub mod NotedLemmas
+pub mod BookLemmas

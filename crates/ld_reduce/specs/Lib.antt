@@ -2,3 +2,4 @@ pub mod Written
 pub mod Kept
 pub mod Same
 pub mod Reduced
+pub mod Reduction
