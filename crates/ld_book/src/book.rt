@@ -1,9 +1,10 @@
 //! `Book`, which keeps what many traces show together.
-ghost use Rattle.std.specs.Prelude.{◌≡◌, ◌≢◌, ◌≤◌, ◌++◌, ◌∷◌, [], All, AllPairs, Err, IfOk, List, OnErr, OnOk};
+ghost use Rattle.std.specs.Prelude.{◌≡◌, ◌≢◌, ◌≤◌, ◌++◌, ◌∷◌, [], All, AllPairs, Err, IfOk, IsSome, List, OnErr, OnOk};
 ghost use Rattle.std.specs.Prelude.{false, length, map, true};
 ghost use Rattle.ld_class.specs.declared.names.TheConstants.{MOST_NAMES};
-ghost use Rattle.ld_class.specs.Names.{AreDistinct, plain_class};
-ghost use Rattle.ld_facts.specs.Union.{dependency_witness, union_classes};
+ghost use Rattle.ld_class.specs.Names.{AreDistinct, place_of, plain_class};
+ghost use Rattle.ld_facts.specs.Union.{dependency_witness, union_classes, use_witness};
+ghost use Rattle.ld_facts.specs.Usage.{Use};
 ghost use Rattle.ld_union.specs.Alarms.{AreExact, plain_alarms};
 ghost use Rattle.ld_union.specs.Findings.{AreFindings, plain_findings};
 ghost use Rattle.ld_shown.specs.Batch.{AreOutcomes, empty_batch, sources_of};
@@ -263,12 +264,14 @@ impl<'a> Book<'a> {
         self.union.usage_row(class)
     }
 
-    /// The classes that the traces acquire, each once. The number of a class is its place among them. Takes
-    /// no memory.
+    /// The classes that the traces acquire, each once. The number of a class is its place among them. Each
+    /// class of which a usage bit was seen is one of them. Takes no memory.
     pub fn classes(&self) -> &Classes<'a>
         ensures all { result.now ≡ union_classes self.now }
         ensures distinct { AreDistinct (union_classes self.now) }
         ensures few { length (union_classes self.now) ≤ MOST_NAMES }
+        ensures used { (what : Use) → IsSome (use_witness self.now what)
+            → IsSome (place_of (union_classes self.now) what.class) }
     {
         self.union.classes()
     }

@@ -1,0 +1,12 @@
+pub mod LineLemmas
+pub mod TextLemmas
+pub mod WrittenLemmas
+pub mod MovedLemmas
+pub mod WitnessLemmas
+pub mod UnionLemmas
+pub mod NeededLemmas
+pub mod ReducedLemmas
+pub mod JoinLemmas
+pub mod StreamLemmas
+pub mod NotedLemmas
+pub mod BookLemmas

@@ -1,0 +1,5 @@
+pub mod Written
+pub mod Kept
+pub mod Same
+pub mod Reduced
+pub mod Reduction

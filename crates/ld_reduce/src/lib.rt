@@ -1,0 +1,9 @@
+//! The stream of those traces that are the first to show something.
+#![tactic(auto)]
+
+mod book;
+mod firsts;
+mod reduce;
+mod written;
+
+pub use book::reduction;
