@@ -1,12 +1,16 @@
 -- What a book keeps when the traces of a batch are added.
-use Rattle.std.proofs.Common.{◌≡◌, ◌≢◌, ◌*◌, ◌≤◌, ◌++◌, AllPairs, List, length, sym, ap, subst, arith, length-append}
+use Rattle.std.proofs.Common.{◌≡◌, ◌≢◌, ◌*◌, ◌<◌, ◌≤◌, ◌++◌, All, AllPairs, Any, List, Some, IsSome, get_or, length, sym, ap, subst, arith, length-append}
 use Rattle.ld_trace.specs.Sources.{PlainSource}
+use Rattle.ld_rules.specs.Dependency.{Dependency}
+use Rattle.ld_rules.specs.Union.{dependency_witness}
 use Rattle.ld_rules.specs.declared.outcome.TheConstants.{MOST_CLASSES}
 use Rattle.ld_shown.specs.Batch.{AreRising, IsBatch, PlainBatch}
+use Rattle.ld_book.specs.Dependencies.{AreDependencies}
 use Rattle.ld_book.specs.Inner.Kept.{Fields, IsKept}
 use Rattle.ld_union.specs.Inner.Numbers.{AreFound}
 use Rattle.ld_union.specs.Usage.{bits_of}
-use Rattle.ld_union.specs.Inner.Union.{Adds, Shows, edges_of}
+use Rattle.ld_union.specs.Inner.Union.{Adds, PlainUnion, Shows, edges_of, named_edge}
+use Rattle.ld_union.proofs.UnionLemmas.{apart_rows, ends_of_row}
 
 -- no two sources whose numbers rise have one number
 pub apart_from_rise : (sources : List PlainSource) → AreRising sources → AllPairs (λ a b. a.number ≢ b.number) sources
@@ -24,3 +28,15 @@ kept-added old new batch is exact few adds sources found = record {
       omega (arith, were, more, adds.longer.most, ap length exact.classes, ap length sources, length-append old.sources batch.sources);
   exact = found;
 }
+
+-- the rows of a union that shows what these sources do
+pub dependencies_shown : (union : PlainUnion) (sources : List PlainSource) → Shows sources union → AreDependencies sources union.dependencies
+dependencies_shown union sources shows =
+    let rows = union.dependencies in record {
+      within = λ k d below.
+          subst (λ classes. ((get_or rows k d).edge.from < length classes) × ((get_or rows k d).edge.to < length classes)) shows.classes (ends_of_row union.classes rows shows.numbered k d below);
+      witness = subst (λ classes. All (λ row. dependency_witness sources (named_edge classes row.edge) ≡ Some row.first) rows) shows.classes shows.witnesses.each;
+      all = subst (λ classes. (what : Dependency) → IsSome (dependency_witness sources what) → Any (λ row. named_edge classes row.edge ≡ what) rows) shows.classes shows.witnesses.all;
+      once = λ i j d before below.
+          subst (λ classes. named_edge classes (get_or rows i d).edge ≢ named_edge classes (get_or rows j d).edge) shows.classes (apart_rows union.classes rows shows.numbered i j d before below);
+    }

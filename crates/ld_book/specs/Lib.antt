@@ -1,5 +1,6 @@
 pub mod Totals
 pub mod Book
+pub mod Dependencies
 pub mod Inner
 pub use Rattle.ld_union.specs.Violations
 pub use Rattle.ld_union.specs.Alarms

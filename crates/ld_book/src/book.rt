@@ -1,21 +1,25 @@
 //! `Book`, which keeps what many traces show together.
-ghost use Rattle.std.specs.Prelude.{◌≡◌, ◌≢◌, ◌++◌, ◌∷◌, [], All, AllPairs, Err, IfOk, OnErr, OnOk};
-ghost use Rattle.std.specs.Prelude.{true, false};
-ghost use Rattle.ld_class.specs.Names.{plain_class};
-ghost use Rattle.ld_facts.specs.Union.{dependency_witness};
+ghost use Rattle.std.specs.Prelude.{◌≡◌, ◌≢◌, ◌≤◌, ◌++◌, ◌∷◌, [], All, AllPairs, Err, IfOk, List, OnErr, OnOk};
+ghost use Rattle.std.specs.Prelude.{false, length, map, true};
+ghost use Rattle.ld_class.specs.declared.names.TheConstants.{MOST_NAMES};
+ghost use Rattle.ld_class.specs.Names.{AreDistinct, plain_class};
+ghost use Rattle.ld_facts.specs.Union.{dependency_witness, union_classes};
 ghost use Rattle.ld_union.specs.Alarms.{AreExact, plain_alarms};
 ghost use Rattle.ld_union.specs.Findings.{AreFindings, plain_findings};
 ghost use Rattle.ld_shown.specs.Batch.{AreOutcomes, empty_batch, sources_of};
 ghost use Rattle.ld_book.specs.Book.{is_any_listed, is_listed};
+ghost use Rattle.ld_book.specs.Dependencies.{AreDependencies, usage_of_class};
 ghost use Rattle.ld_trace.specs.Sources.{Fits};
 ghost use Rattle.ld_book.specs.Totals.{totals};
+ghost use Rattle.ld_union.specs.declared.dependencies.Witnessed.{Witnessed};
 ghost use Rattle.ld_union.specs.Usage.{usage_row};
 
 use crate::listing::Listing;
 use crate::totals::Totals;
-use ld_class::ClassName;
+use ld_class::{ClassName, Classes};
 use ld_facts::{Batch, Facts, Guesses, Listed, Witness};
-use ld_union::{Alarms, Findings, Found, News, Union, UsageRow, findings_of};
+use ld_graph::Graph;
+use ld_union::{Alarms, Findings, Found, News, Union, UsageRow, Witnessed, findings_of};
 use std::alloc::{AllocError, Global};
 use std::marker::Model;
 
@@ -257,5 +261,40 @@ impl<'a> Book<'a> {
         ensures { result ≡ usage_row self.now (plain_class class.entry) }
     {
         self.union.usage_row(class)
+    }
+
+    /// The classes that the traces acquire, each once. The number of a class is its place among them. Takes
+    /// no memory.
+    pub fn classes(&self) -> &Classes<'a>
+        ensures all { result.now ≡ union_classes self.now }
+        ensures distinct { AreDistinct (union_classes self.now) }
+        ensures few { length (union_classes self.now) ≤ MOST_NAMES }
+    {
+        self.union.classes()
+    }
+
+    /// The usage of each class, by the classes' numbers: its bits, and where each was first seen. Takes no
+    /// memory.
+    pub fn usage_rows(&self) -> &[UsageRow]
+        ensures { result.now ≡ map (usage_of_class self.now) (union_classes self.now) }
+    {
+        self.union.usage()
+    }
+
+    /// The dependencies that the traces show, each once, as edges between the numbers of classes, with the
+    /// place where each was first seen. Takes no memory.
+    pub fn dependencies(&self) -> &[Witnessed]
+        ensures { AreDependencies self.now result.now }
+    {
+        self.union.dependencies()
+    }
+
+    /// The dependencies as a graph between the numbers of classes. Takes no memory.
+    pub fn graph(&self) -> &Graph
+        ensures classes { result.now.classes ≡ length (union_classes self.now) }
+        ensures edges { (rows : List Witnessed) × (AreDependencies self.now rows
+            × (result.now.edges ≡ map (λ row. row.edge) rows)) }
+    {
+        self.union.graph()
     }
 }

@@ -7,8 +7,11 @@ mod totals;
 mod traces;
 
 pub use book::{BatchRefusal, Book, Refusal, TakeRefusal};
-pub use ld_class::ClassName;
-pub use ld_facts::Batch;
-pub use ld_union::{Alarms, ConflictRow, CycleRow, Findings, ForbiddenRow, Rows, UsageRow};
+pub use ld_class::{ClassName, Classes};
+pub use ld_facts::{Batch, Witness};
+pub use ld_graph::{Edge, Graph};
+pub use ld_union::{
+    Alarms, ConflictRow, CycleRow, Findings, ForbiddenRow, Rows, UsageRow, Witnessed,
+};
 pub use totals::Totals;
 pub use traces::Traces;
