@@ -8,6 +8,6 @@ mod replay;
 mod task;
 
 pub use hold::{Handler, HeldAt, Hold};
-pub use lines::line_at;
+pub use lines::{event_at, line_at};
 pub use replay::{held_at, task_before};
-pub use task::Task;
+pub use task::{Task, task_of};

@@ -27,7 +27,7 @@ pub fn line_at<'a>(source: Source<'a>, line: u64) -> Option<&'a [u8]>
 }
 
 /// The event that the line with this number says; `None` where there is no such line, or it says none.
-pub(crate) fn event_at<'a>(source: Source<'a>, line: u64) -> Option<Event<'a>>
+pub fn event_at<'a>(source: Source<'a>, line: u64) -> Option<Event<'a>>
     ensures { MatchOption result (events_at (positions (plain source.entry)) line ≡ [])
         (λ event. events_at (positions (plain source.entry)) line ≡ plain_event event ∷ []) }
 {

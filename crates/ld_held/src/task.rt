@@ -179,7 +179,7 @@ fn is_same_frame(a: Option<u64>, b: Option<u64>) -> bool
 }
 
 /// The task that an event is of.
-pub(crate) fn task_of<'a>(event: &Event<'a>) -> &'a [u8]
+pub fn task_of<'a>(event: &Event<'a>) -> &'a [u8]
     ensures { result.now ≡ task_of (plain_event event.now) }
 {
     match *event {
