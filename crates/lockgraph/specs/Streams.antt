@@ -1,6 +1,6 @@
 -- The streams of several files as one, and the fault of a file or of a known text.
 use Rattle.std.specs.Borrow.{Bor}
-use Rattle.std.specs.Prelude.{ℕ, Bool, not, ◌||◌, ◌==◌, List, ◌++◌, length, Option, Some, nat_eq, nat_lt, codes, if◌then◌else◌}
+use Rattle.std.specs.Prelude.{ℕ, Bool, not, ◌||◌, ◌==◌, List, ◌++◌, length, Option, Some, nat_eq, nat_lt, codes, count_by, if◌then◌else◌}
 use Rattle.std.specs.List.{ends_with}
 use Rattle.std.specs.Option.{option_map}
 use Rattle.ld_trace.specs.Lines.{is_empty}
@@ -19,6 +19,10 @@ is_ended bytes = is_empty bytes || ends_with nat_eq bytes (codes "\n")
 -- the bytes of a file with an LF that ends the last line, if there is one
 abbrev pub ended : List ℕ → List ℕ
 ended bytes = if is_ended bytes then bytes else bytes ++ codes "\n"
+
+-- how many lines the bytes of a file have: each ends with an LF
+abbrev pub line_count : List ℕ → ℕ
+line_count bytes = count_by (λ byte. byte == 10) (ended bytes)
 
 -- a fault of the stream that is a file, with its name
 abbrev pub fault_of_file : Bor (List ℕ) → StreamFault → Fault

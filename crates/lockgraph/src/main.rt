@@ -12,17 +12,15 @@ mod streams;
 mod words;
 
 use fault::Fault;
-use ld_device::Std;
 use ld_report::Verdict;
-use news::write_news;
+use news::answer_new;
 use std::fmt::Display;
 use std::process::ExitCode;
 use std::rt::{Env, Files};
 use std::sync::Wait;
 use std::thread::Threads;
 use std::{env, io};
-use streams::{read_known, read_streams};
-use words::{Asked, NewWords, read_words};
+use words::{Asked, read_words};
 
 /// The exit status where there is no answer.
 const NO_ANSWER: u8 = 2;
@@ -38,26 +36,21 @@ fn main(rt: HostRuntime) -> ExitCode {
         Err(error) => return refuse(&rt, error),
     };
     match read_words(rt.alloc(), words.as_slice()) {
-        Ok(Asked::New(words)) => {
-            let outcome = answer_new(&rt, &words);
+        Ok(asked) => {
+            let outcome = answer(&rt, &asked);
             end(&rt, outcome)
         }
         Err(error) => tell(&rt, error),
     }
 }
 
-/// Writes what is new in the files that are named. May wait.
-fn answer_new<'a, R: Files + io::Input + Print + AllocGlobal + Threads + Wait + Sync>(
+/// Does what the words ask for. May wait.
+fn answer<'a, R: Files + io::Input + Print + AllocGlobal + Threads + Wait + Sync>(
     rt: &R,
-    words: &NewWords<'a>,
+    asked: &Asked<'a>,
 ) -> Result<Verdict, Fault<'a>> {
-    // A mistake in it is told before the traces are read.
-    let known = read_known(rt, words.known)?;
-    let bytes = read_streams(rt, &words.files)?;
-    let mut output = Std::new(io::writer(rt));
-    match write_news(rt, rt.alloc(), &bytes, &known, &mut output, words.workers) {
-        Ok(verdict) => Ok(verdict),
-        Err(fault) => Err(Fault::of_news(words.known, fault)),
+    match asked {
+        Asked::New(words) => answer_new(rt, words),
     }
 }
 

@@ -7,14 +7,19 @@ ghost use Rattle.ld_device.specs.Transfer.{AppendsPart};
 ghost use Rattle.ld_select.specs.Known.{unknown_line};
 ghost use Rattle.lockgraph.specs.News.{IsNewsOf, verdict_of_new};
 
+use crate::fault::Fault;
+use crate::streams::{read_known, read_streams};
+use crate::words::NewWords;
 use ld_book::Book;
 use ld_check::{CheckFault, MOST_WORKERS, check};
-use ld_device::{Output, send};
+use ld_device::{Output, Std, send};
 use ld_report::{Verdict, report};
 use ld_select::{SelectFault, new_report};
 use ld_trace::StreamFault;
 use ld_work::NoGate;
 use std::alloc::{AllocError, Global};
+use std::io;
+use std::rt::Files;
 use std::sync::Wait;
 use std::thread::Threads;
 
@@ -43,6 +48,26 @@ pub enum NewsFault {
     Uneven(u64),
 }
 
+/// Writes what is new in the files that are named. May wait.
+///
+/// # Errors
+///
+/// Those of `read_known`, of `read_streams` and of `write_news`.
+pub fn answer_new<'a, R: Files + io::Input + Print + AllocGlobal + Threads + Wait + Sync>(
+    rt: &R,
+    words: &NewWords<'a>,
+) -> Result<Verdict, Fault<'a>> {
+    // A mistake in it is told before the traces are read.
+    let known = read_known(rt, words.known)?;
+    let streams = read_streams(rt, &words.given.files)?;
+    let mut output = Std::new(io::writer(rt));
+    let workers = words.given.workers;
+    match write_news(rt, rt.alloc(), &streams.bytes, &known, &mut output, workers) {
+        Ok(verdict) => Ok(verdict),
+        Err(fault) => Err(Fault::of_news(words.known, fault)),
+    }
+}
+
 /// Writes the report of what is new in a stream, whose traces that many workers read at once, and flushes
 /// it. No write or flush that fails is tried again. May wait.
 ///
@@ -50,7 +75,7 @@ pub enum NewsFault {
 ///
 /// `Write` exactly where a write or the flush failed: a first part of the text was written then, and
 /// after any other fault nothing. The other faults are those of `news_of`.
-pub fn write_news<O: Output, R: Threads + Wait + Sync>(
+fn write_news<O: Output, R: Threads + Wait + Sync>(
     rt: &R,
     alloc: Global,
     bytes: &[u8],

@@ -1,11 +1,12 @@
-//! Reads files, and puts the streams that they are one behind another.
-ghost use Rattle.std.specs.Prelude.{◌≡◌, ◌≢◌, ◌++◌, Err, IfOk, IfSome, None, OnErr, OnOk, true, false};
+//! Reads files, and puts the streams that they are one behind another, with where their lines stand.
+ghost use Rattle.std.specs.Prelude.{◌≡◌, ◌≢◌, ◌++◌, ◌∷◌, [], Err, IfOk, IfSome, None, OnErr, OnOk, true, false};
 ghost use Rattle.ld_trace.specs.Sources.{stream_fault};
-ghost use Rattle.lockgraph.specs.Streams.{ended, fault_of_file, fault_of_known, has_trace, is_ended};
+ghost use Rattle.lockgraph.specs.Streams.{ended, fault_of_file, fault_of_known, has_trace, is_ended, line_count};
 
 use crate::fault::Fault;
 use ld_device::{ReadFault, Std, read_all};
 use ld_select::unknown_line;
+use ld_texts::Places;
 use ld_trace::{LONGEST_STREAM, StreamFault, split};
 use std::alloc::{AllocError, Global};
 use std::rt::Files;
@@ -13,6 +14,15 @@ use std::{fs, io};
 
 /// What stands for standard input among the names of files.
 pub const STANDARD_INPUT: &str = "-";
+
+/// Files that were read as one stream.
+#[derive(Drop)]
+pub struct Streams<'a> {
+    /// The stream.
+    pub bytes: Vec<u8>,
+    /// Where its lines stand in the files.
+    pub places: Places<'a>,
+}
 
 /// The known text of this name. May wait.
 ///
@@ -87,13 +97,16 @@ fn read_whole<'a, T: io::Read + Drop>(
 pub fn read_streams<'a, R: Files + io::Input + AllocGlobal>(
     rt: &R,
     names: &[&'a str],
-) -> Result<Vec<u8>, Fault<'a>> {
-    let mut all = Vec::new(rt.alloc());
+) -> Result<Streams<'a>, Fault<'a>> {
+    let mut streams = Streams {
+        bytes: Vec::new(rt.alloc()),
+        places: Places::new(rt.alloc()),
+    };
     for name in names {
         let bytes = read_file(rt, *name)?;
-        add(rt.alloc(), &mut all, *name, &bytes)?;
+        add(rt.alloc(), &mut streams, *name, &bytes)?;
     }
-    Ok(all)
+    Ok(streams)
 }
 
 /// Puts the stream of a file behind others. Its last line ends with it.
@@ -102,8 +115,16 @@ pub fn read_streams<'a, R: Files + io::Input + AllocGlobal>(
 ///
 /// Exactly where the stream has a fault by itself, with the file's name and its line; `NoTrace` where it
 /// has none and no trace either; or `Memory` where a growth of memory was refused.
-fn add<'a>(alloc: Global, all: &mut Vec<u8>, name: &'a str, bytes: &[u8]) -> Result<(), Fault<'a>>
-    ensures added { OnOk result (all.new.items ≡ all.old.items ++ ended bytes.now) }
+fn add<'a>(
+    alloc: Global,
+    streams: &mut Streams<'a>,
+    name: &'a str,
+    bytes: &[u8],
+) -> Result<(), Fault<'a>>
+    ensures added { OnOk result (streams.new.bytes.items
+        ≡ streams.old.bytes.items ++ ended bytes.now) }
+    ensures placed { OnOk result (streams.new.places ≡ streams.old.places
+        ++ record { name = name.entry.now; lines = line_count bytes.now } ∷ []) }
     ensures sound { OnOk result (stream_fault bytes.now ≡ None) }
     ensures fault { IfSome (stream_fault bytes.now) (λ fault.
         result ≡ Err (fault_of_file name.entry fault)) }
@@ -115,7 +136,8 @@ fn add<'a>(alloc: Global, all: &mut Vec<u8>, name: &'a str, bytes: &[u8]) -> Res
 {
     match has_trace(alloc, bytes) {
         Ok(true) => {
-            append(all, bytes)?;
+            append(&mut streams.bytes, bytes)?;
+            streams.places.push(name, line_count(bytes))?;
             Ok(())
         }
         Ok(false) => Err(Fault::NoTrace(name)),
@@ -154,4 +176,17 @@ fn is_ended(bytes: &[u8]) -> bool
     ensures { result ≡ is_ended bytes.now }
 {
     bytes.is_empty() || bytes.ends_with(b"\n")
+}
+
+/// How many lines the bytes have, the last one with or without its LF.
+fn line_count(bytes: &[u8]) -> u64
+    ensures { result ≡ line_count bytes.now }
+{
+    let mut count = if is_ended(bytes) { 0 } else { 1 };
+    for byte in bytes {
+        if *byte == b'\n' {
+            count += 1;
+        }
+    }
+    count
 }

@@ -2,10 +2,14 @@
 ghost use Rattle.std.specs.Prelude.{◌≤◌};
 ghost use Rattle.ld_check.specs.declared.checked.TheConstants.{MOST_WORKERS};
 
+mod new;
+
 use crate::streams::STANDARD_INPUT;
 use clap::error::ErrorKind;
 use clap::{Arg, ArgAction, ArgMatches, Command, Error, value_parser};
 use ld_check::MOST_WORKERS;
+pub use new::NewWords;
+use new::{new_command, read_new};
 use std::alloc::{AllocError, Global};
 use std::convert::AsStr;
 
@@ -29,26 +33,6 @@ Exit status:
 Example:
   lockgraph new --known known.report run.trace";
 
-/// What the help of `new` says behind its words.
-const AFTER_NEW: &str = "\
-Writes the report of the traces without the violations that KNOWN has, a report of before: those of the same
-kind, state and classes, whatever their witnesses and walks. The last line is `nothing new`, or `new N`.
-T:L counts lines over all files as one stream.
-
-A line of KNOWN makes known what it says, in one of these forms, where .. may be anything:
-  recursion A at ..
-  inversion A -> B at ..
-  conflict STATE A MARKS in ..
-  forbidden STATE A MARKS in T:L -> B MARKS on ..
-Its other lines are those of reports, empty ones, and comments, which begin with #.
-
-Exit status: 1 where a violation is new, 3 where none is and a trace is refused, 0 else, 2 where there is no
-answer.
-
-Example:
-  lockcheck < run.trace > known.report
-  lockgraph new --known known.report run.trace other.trace";
-
 /// What a call asks for.
 #[derive(Debug, Drop)]
 pub enum Asked<'a> {
@@ -56,11 +40,9 @@ pub enum Asked<'a> {
     New(NewWords<'a>),
 }
 
-/// What `new` is asked.
+/// What each command is given.
 #[derive(Debug, Drop)]
-pub struct NewWords<'a> {
-    /// The name of the known text.
-    pub known: &'a str,
+pub struct Given<'a> {
     /// The names of the files with the streams.
     pub files: Vec<&'a str>,
     /// How many workers read traces at once.
@@ -78,37 +60,35 @@ pub fn read_words<'a, S: AsStr>(alloc: Global, words: &'a [S]) -> Result<Asked<'
     let mut command = command_line(alloc)?;
     let matches = command.try_get_matches_from_mut(words)?;
     match matches.subcommand() {
-        Some(("new", matches)) => read_new(alloc, &mut command, matches),
+        Some(("new", matches)) => Ok(Asked::New(read_new(alloc, &mut command, matches)?)),
         _ => Err(command.error(ErrorKind::MissingSubcommand, "a command is missing")?),
     }
 }
 
-/// What the words behind `new` ask for.
-fn read_new<'a>(
+/// What the words name that each command is given. `other` is a text that a command reads beside the streams.
+///
+/// # Errors
+///
+/// Where standard input is named twice, or memory was refused.
+fn read_given<'a>(
     alloc: Global,
     command: &mut Command<'a>,
     matches: &ArgMatches<'a>,
-) -> Result<Asked<'a>, Error> {
-    let Some(known) = matches.get_str("known") else {
-        return Err(command.error(ErrorKind::MissingRequiredArgument, "--known is missing")?);
-    };
+    other: Option<&str>,
+) -> Result<Given<'a>, Error> {
     let files = files(alloc, matches)?;
     // Behind its end it would be read as if it were empty.
-    if is_read_twice(known, &files) {
+    if is_read_twice(other, &files) {
         return Err(command.error(ErrorKind::ArgumentConflict, "standard input is named twice")?);
     }
     let workers = workers(matches);
-    Ok(Asked::New(NewWords {
-        known,
-        files,
-        workers,
-    }))
+    Ok(Given { files, workers })
 }
 
 /// Whether standard input is read more than once.
-fn is_read_twice(known: &str, files: &[&str]) -> bool {
+fn is_read_twice(other: Option<&str>, files: &[&str]) -> bool {
     let count = files.iter().filter(|name| **name == STANDARD_INPUT).count();
-    count > 1 || known == STANDARD_INPUT && count > 0
+    count > 1 || other == Some(STANDARD_INPUT) && count > 0
 }
 
 /// The names of the files that are to be read.
@@ -140,22 +120,6 @@ fn command_line<'a>(alloc: Global) -> Result<Command<'a>, AllocError> {
         .after_help(AFTER_HELP)
         .subcommand_required(true)
         .subcommand(new_command(alloc)?)
-}
-
-/// `new --known FILE [--workers N] [FILE]..`.
-fn new_command<'a>(alloc: Global) -> Result<Command<'a>, AllocError> {
-    let known = Arg::new(alloc, "known")
-        .long("known")
-        .value_name("KNOWN")
-        .help("A report of before")
-        .action(ArgAction::Set)
-        .required(true);
-    Command::new(alloc, "new")
-        .about("Writes what is new in a report: what no line of a known one says")
-        .after_help(AFTER_NEW)
-        .arg(known)?
-        .arg(count_of_workers(alloc))?
-        .arg(named_files(alloc))
 }
 
 /// `--workers N`.

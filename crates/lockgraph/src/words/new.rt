@@ -1,0 +1,68 @@
+//! The words of `new`.
+
+use super::{Given, count_of_workers, named_files, read_given};
+use clap::error::ErrorKind;
+use clap::{Arg, ArgAction, ArgMatches, Command, Error};
+use std::alloc::{AllocError, Global};
+
+/// What the help of `new` says behind its words.
+const AFTER_NEW: &str = "\
+Writes the report of the traces without the violations that KNOWN has, a report of before: those of the same
+kind, state and classes, whatever their witnesses and walks. The last line is `nothing new`, or `new N`.
+T:L counts lines over all files as one stream.
+
+A line of KNOWN makes known what it says, in one of these forms, where .. may be anything:
+  recursion A at ..
+  inversion A -> B at ..
+  conflict STATE A MARKS in ..
+  forbidden STATE A MARKS in T:L -> B MARKS on ..
+Its other lines are those of reports, empty ones, and comments, which begin with #.
+
+Exit status: 1 where a violation is new, 3 where none is and a trace is refused, 0 else, 2 where there is no
+answer.
+
+Example:
+  lockcheck < run.trace > known.report
+  lockgraph new --known known.report run.trace other.trace";
+
+/// What `new` is asked.
+#[derive(Debug, Drop)]
+pub struct NewWords<'a> {
+    /// The name of the known text.
+    pub known: &'a str,
+    /// The files with the streams, and how they are read.
+    pub given: Given<'a>,
+}
+
+/// `new --known FILE [--workers N] [FILE]..`.
+pub fn new_command<'a>(alloc: Global) -> Result<Command<'a>, AllocError> {
+    let known = Arg::new(alloc, "known")
+        .long("known")
+        .value_name("KNOWN")
+        .help("A report of before")
+        .action(ArgAction::Set)
+        .required(true);
+    Command::new(alloc, "new")
+        .about("Writes what is new in a report: what no line of a known one says")
+        .after_help(AFTER_NEW)
+        .arg(known)?
+        .arg(count_of_workers(alloc))?
+        .arg(named_files(alloc))
+}
+
+/// What the words behind `new` ask for.
+///
+/// # Errors
+///
+/// Those of `read_words`.
+pub fn read_new<'a>(
+    alloc: Global,
+    command: &mut Command<'a>,
+    matches: &ArgMatches<'a>,
+) -> Result<NewWords<'a>, Error> {
+    let Some(known) = matches.get_str("known") else {
+        return Err(command.error(ErrorKind::MissingRequiredArgument, "--known is missing")?);
+    };
+    let given = read_given(alloc, command, matches, Some(known))?;
+    Ok(NewWords { known, given })
+}
