@@ -1,0 +1,17 @@
+//! The book: what many traces show together, kept up to date as each one is added.
+#![tactic(auto)]
+
+mod book;
+mod listing;
+mod totals;
+mod traces;
+
+pub use book::{BatchRefusal, Book, Refusal, TakeRefusal};
+pub use ld_class::{ClassName, Classes};
+pub use ld_facts::{Batch, Witness};
+pub use ld_graph::{Edge, Graph};
+pub use ld_union::{
+    Alarms, ConflictRow, CycleRow, Findings, ForbiddenRow, Rows, UsageRow, Witnessed,
+};
+pub use totals::Totals;
+pub use traces::Traces;

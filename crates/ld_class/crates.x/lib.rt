@@ -1,0 +1,10 @@
+//! Names of classes, numbered, and the sets of their usage bits.
+#![tactic(auto)]
+
+mod class_name;
+mod names;
+mod usage;
+
+pub use class_name::ClassName;
+pub use names::{Classes, MOST_NAMES};
+pub use usage::Usage;

@@ -1,0 +1,180 @@
+//! `Batch`, which keeps what a few traces show together.
+ghost use Rattle.std.specs.Prelude.{◌≡◌, ◌<◌, ◌≤◌, ◌-◌, ◌*◌, ◌++◌, ◌∷◌, [], None, Some, IfOk, IfSome, OnErr};
+ghost use Rattle.std.specs.Prelude.{OnOk, length, slice_index_or};
+ghost use Rattle.ld_rules.specs.declared.outcome.Listed.{Listed};
+ghost use Rattle.std.specs.List.{last_or};
+ghost use Rattle.ld_trace.specs.Sources.{Fits, plain};
+ghost use Rattle.ld_rules.specs.declared.outcome.TheConstants.{MOST_CLASSES};
+ghost use Rattle.ld_shown.specs.Batch.{AreOutcomes, IsBatch, empty_batch, sources_of};
+
+use crate::batch_reading::read;
+use crate::batch_rows::BatchRows;
+use crate::known::Facts;
+use crate::scan::Scan;
+use ld_class::Classes;
+use ld_rules::Listed;
+use ld_shown::{Guesses, Shown, WitnessedEdge, WitnessedUse};
+use ld_trace::Source;
+use std::alloc::{AllocError, Global};
+use std::marker::Model;
+use std::mem;
+
+/// What a few traces show together: their union, with the first witnesses. It is exact by itself, and
+/// says nothing of what other batches have.
+///
+/// A refused trace is listed, and shows nothing.
+#[derive(Drop)]
+pub struct Batch<'a> {
+    listed: Vec<Listed<'a>>,
+    /// It scans each trace on top of what the ones before it show, and is ready for the next one. It may
+    /// know more names, chains and pairs of classes than those of the batch, which were met before the batch was
+    /// emptied.
+    scan: Scan<'a>,
+    rows: BatchRows<'a>,
+    guesses: Guesses,
+}
+
+impl<'a> Model for Batch<'a> {
+    ghost use Rattle.ld_shown.specs.Batch.{PlainBatch};
+    ghost use Rattle.ld_facts.specs.Inner.Kept.{IsKept, batch_of};
+
+    ghost Value = { PlainBatch };
+
+    ghost view = { λ b. batch_of (record {
+      listed = b.listed.items;
+      scan = b.scan;
+      classes = b.rows.classes;
+      numbers = b.rows.numbers;
+      edges = b.rows.edges.items;
+      usage = b.rows.usage.items;
+    }) };
+
+    ghost invariant = { λ b. IsKept (record {
+      listed = b.listed.items;
+      scan = b.scan;
+      classes = b.rows.classes;
+      numbers = b.rows.numbers;
+      edges = b.rows.edges.items;
+      usage = b.rows.usage.items;
+    }) };
+}
+
+impl<'a> Batch<'a> {
+    /// A batch that lists no trace. Takes no memory.
+    pub fn new(alloc: Global) -> Batch<'a>
+        ensures { result ≡ empty_batch }
+    {
+        Batch {
+            listed: Vec::new(alloc),
+            scan: Scan::new(alloc),
+            rows: BatchRows::new(alloc),
+            guesses: Guesses::new(alloc),
+        }
+    }
+
+    /// Lists no trace from here on, as a new batch does. The memory stays for further traces, and what was
+    /// learned of the classes and dependencies of those that it listed.
+    pub fn clear(&mut self)
+        ensures { self.new ≡ empty_batch }
+    {
+        self.listed.clear();
+        self.scan.clear();
+        self.rows.clear();
+    }
+
+    /// A batch of the one trace that these facts are of.
+    ///
+    /// # Errors
+    ///
+    /// `AllocError` where a growth of memory was refused.
+    pub fn of(alloc: Global, facts: &Facts<'a>) -> Result<Batch<'a>, AllocError>
+        ensures { IfOk result (λ batch. batch.sources ≡ facts.now.source ∷ []) }
+    {
+        let mut batch = Batch::new(alloc);
+        match batch.push(facts.source()) {
+            Ok(()) => Ok(batch),
+            Err(refusal) => {
+                drop(batch);
+                Err(refusal)
+            }
+        }
+    }
+
+    /// Reads one more trace, whose number is above that of the last one, and lists it with its
+    /// outcome. What it shows is added; a refused trace shows nothing.
+    ///
+    /// # Errors
+    ///
+    /// `AllocError` where a growth of memory was refused. Nothing has changed then but spare memory.
+    pub fn push(&mut self, source: Source<'a>) -> Result<(), AllocError>
+        requires fits { Fits (plain source) }
+        requires above { IfSome (last_or None self.old.sources)
+            (λ last. last.number < source.number) }
+        ensures ok { OnOk result (self.new.sources ≡ self.old.sources ++ plain source.entry ∷ []) }
+        ensures refused { OnErr result (self.new ≡ self.old) }
+    {
+        self.listed.reserve(1)?;
+        let outcome = read(&mut self.scan, &mut self.rows, source)?;
+        // From here on nothing is refused.
+        self.listed.push_reserved(Listed { source, outcome });
+        Ok(())
+    }
+
+    /// The traces with their outcomes, in order of their numbers. Takes no memory.
+    pub fn listed(&self) -> &[Listed<'a>]
+        ensures sources { sources_of result.now ≡ self.now.sources }
+        ensures last { (l : Listed) → 0 < length result.now → last_or None self.now.sources
+            ≡ Some (plain (slice_index_or result.now (length result.now - 1) l).source) }
+        ensures outcomes { AreOutcomes result.now }
+        ensures exact { IsBatch self.now }
+        ensures few { length self.now.classes ≤ length self.now.sources * MOST_CLASSES }
+    {
+        &self.listed
+    }
+
+    /// The classes of the traces that are read, in order of first acquisition. Takes no memory.
+    pub fn classes(&self) -> &Classes<'a>
+        ensures { result.now ≡ self.now.classes }
+    {
+        &self.rows.classes
+    }
+
+    /// The dependencies, each once with its first witness, in no promised order. Takes no memory.
+    pub fn edges(&self) -> &[WitnessedEdge]
+        ensures same { result.now ≡ self.now.edges }
+        ensures exact { IsBatch self.now }
+    {
+        &self.rows.edges
+    }
+
+    /// The usage bits, each of each class once with its first witness, in no promised order. Takes no
+    /// memory.
+    pub fn usage(&self) -> &[WitnessedUse]
+        ensures same { result.now ≡ self.now.usage }
+        ensures exact { IsBatch self.now }
+    {
+        &self.rows.usage
+    }
+
+    /// What the traces show, with the numbers that the scan has for their classes and for the pairs of these:
+    /// guesses are kept by them. Takes no memory.
+    pub fn shown(&self) -> Shown<'_, 'a>
+        ensures { result ≡ self.now }
+    {
+        Shown::new(
+            self.listed(),
+            self.classes(),
+            self.edges(),
+            self.usage(),
+            self.rows.numbers.as_slice(),
+            self.scan.locks.pairs(),
+        )
+    }
+
+    /// Puts these guesses in the place of those that were kept, and answers those. Takes no memory.
+    pub fn swap_guesses(&mut self, guesses: Guesses) -> Guesses
+        ensures { self.new ≡ self.old }
+    {
+        mem::replace(&mut self.guesses, guesses)
+    }
+}

@@ -1,0 +1,110 @@
+//! What a batch keeps of what its traces show, by the places of its classes.
+ghost use Rattle.std.specs.Prelude.{◌≡◌, ◌+◌, ◌<◌, ◌≤◌, ◌++◌, [], All, List, OnErr, OnOk, drop, length, map};
+ghost use Rattle.ld_class.specs.Names.{AreDistinct, PlainClass};
+ghost use Rattle.ld_class.specs.declared.names.TheConstants.{MOST_NAMES};
+ghost use Rattle.ld_facts.specs.Inner.Kept.{AreNames};
+ghost use Rattle.ld_shown.specs.Inner.Names.{with_names};
+ghost use Rattle.ld_facts.specs.Inner.Rows.{IsOwnEdge, IsOwnUse, edge_of, use_of};
+
+use crate::edges::add_edges;
+use crate::names::add_named;
+use crate::scan::Scan;
+use crate::uses::add_uses;
+use ld_class::Classes;
+use ld_shown::{WitnessedEdge, WitnessedUse};
+use ld_tables::Numbers;
+use std::alloc::{AllocError, Global};
+
+/// What the traces of a batch show, with the numbers that its scan has for their classes.
+#[derive(Drop)]
+pub(crate) struct BatchRows<'a> {
+    /// The classes, in order of first acquisition.
+    pub(crate) classes: Classes<'a>,
+    /// The numbers that the scan has for them, in the same order.
+    pub(crate) numbers: Numbers,
+    /// The dependencies of the scan, by the places of the classes, with the numbers of the traces that
+    /// told them first.
+    pub(crate) edges: Vec<WitnessedEdge>,
+    /// The same of its usage bits.
+    pub(crate) usage: Vec<WitnessedUse>,
+}
+
+impl<'a> BatchRows<'a> {
+    /// Nothing. Takes no memory.
+    pub(crate) fn new(alloc: Global) -> BatchRows<'a>
+        ensures classes { result.classes ≡ [] }
+        ensures numbers { result.numbers ≡ [] }
+        ensures edges { result.edges.items ≡ [] }
+        ensures usage { result.usage.items ≡ [] }
+    {
+        BatchRows {
+            classes: Classes::new(alloc),
+            numbers: Numbers::new(alloc),
+            edges: Vec::new(alloc),
+            usage: Vec::new(alloc),
+        }
+    }
+
+    /// Takes all away. The memory stays.
+    pub(crate) fn clear(&mut self)
+        ensures classes { self.new.classes ≡ [] }
+        ensures numbers { self.new.numbers ≡ [] }
+        ensures edges { self.new.edges.items ≡ [] }
+        ensures usage { self.new.usage.items ≡ [] }
+    {
+        self.classes.cut(0);
+        self.numbers.clear();
+        self.edges.clear();
+        self.usage.clear();
+    }
+
+    /// Adds what the scan has more than was added before, which the trace of this number told, with
+    /// its classes.
+    ///
+    /// `AllocError` where memory was refused. Nothing has changed then but spare memory.
+    pub(crate) fn add(&mut self, scan: &Scan<'a>, number: u64) -> Result<(), AllocError>
+        requires room { length self.old.classes + length scan.now.own ≤ MOST_NAMES }
+        requires few { length scan.now.classes ≤ MOST_NAMES }
+        requires distinct { AreDistinct scan.now.classes }
+        requires names { AreNames scan.now.classes self.old.numbers self.old.classes }
+        requires own { All (λ n. n < length scan.now.classes) scan.now.own }
+        requires more_edges { length self.old.edges.items ≤ length scan.now.locks.edges }
+        requires more_uses { length self.old.usage.items ≤ length scan.now.uses }
+        requires own_edges { All (IsOwnEdge scan.now.own)
+            (drop (length self.old.edges.items) scan.now.locks.edges) }
+        requires own_uses { All (IsOwnUse scan.now.own)
+            (drop (length self.old.usage.items) scan.now.uses) }
+        ensures classes { OnOk result ((own : List PlainClass) → AreNames scan.now.classes scan.now.own own
+            → self.new.classes ≡ with_names self.old.classes own) }
+        ensures names { OnOk result (AreNames scan.now.classes self.new.numbers self.new.classes) }
+        ensures edges { OnOk result (self.new.edges.items ≡ self.old.edges.items
+            ++ map (edge_of self.new.numbers number)
+            (drop (length self.old.edges.items) scan.now.locks.edges)) }
+        ensures usage { OnOk result (self.new.usage.items ≡ self.old.usage.items
+            ++ map (use_of self.new.numbers number)
+            (drop (length self.old.usage.items) scan.now.uses)) }
+        ensures own_edges { OnOk result (All (IsOwnEdge self.new.numbers)
+            (drop (length self.old.edges.items) scan.now.locks.edges)) }
+        ensures own_uses { OnOk result (All (IsOwnUse self.new.numbers)
+            (drop (length self.old.usage.items) scan.now.uses)) }
+        ensures refused { OnErr result ((self.new.classes ≡ self.old.classes)
+            × (self.new.numbers ≡ self.old.numbers)
+            × (self.new.edges.items ≡ self.old.edges.items)
+            × (self.new.usage.items ≡ self.old.usage.items)) }
+    {
+        let edges = &scan.locks.edges()[self.edges.len()..];
+        let uses = &scan.uses.as_slice()[self.usage.len()..];
+        self.edges.reserve(edges.len())?;
+        self.usage.reserve(uses.len())?;
+        add_named(
+            &mut self.classes,
+            &mut self.numbers,
+            &scan.classes,
+            scan.own.as_slice(),
+        )?;
+        // From here on nothing is refused.
+        add_edges(&mut self.edges, edges, number, &self.numbers);
+        add_uses(&mut self.usage, uses, number, &self.numbers);
+        Ok(())
+    }
+}

@@ -1,0 +1,25 @@
+//! The facts of a trace, and of a batch of a few traces: the scan of events, and what it tells.
+#![tactic(auto)]
+
+mod batch;
+mod batch_reading;
+mod batch_rows;
+mod bounds;
+mod classes;
+mod edges;
+mod known;
+mod names;
+mod reading;
+mod scan;
+mod stop;
+mod taking;
+mod tasks;
+mod uses;
+
+pub use batch::Batch;
+pub use bounds::MOST_KNOWN;
+pub use known::Facts;
+pub use ld_rules::{Listed, MOST_CLASSES, MOST_HELD, MOST_TASKS, Outcome, TraceFault, Witness};
+pub use ld_shown::{Guesses, WitnessedEdge, WitnessedUse};
+pub use ld_tables::{EdgeFact, UsageFact};
+pub use reading::facts;

@@ -1,0 +1,34 @@
+//! A graph between numbered classes: its lists of neighbours, distances and shown walks, an order that is kept
+//! by repairs, and what walks lead to from some classes.
+#![tactic(auto)]
+
+mod components;
+mod graph;
+mod inside;
+mod levels;
+mod line;
+mod lists;
+mod neighbours;
+mod placed;
+mod ranks;
+mod reach;
+mod repair;
+mod search;
+mod shown;
+mod trail;
+mod turns;
+
+pub use graph::{Graph, MOST_GRAPH_CLASSES};
+pub use inside::Distances;
+pub use lists::{Lists, Steps};
+pub use placed::Insert;
+pub use reach::Reach;
+
+/// An edge, from one class to another.
+#[derive(Clone, Copy, PartialEq, Eq, Hash, Debug)]
+pub struct Edge {
+    /// The class that the edge leaves.
+    pub from: u32,
+    /// The class that it enters.
+    pub to: u32,
+}

@@ -1,0 +1,157 @@
+//! For each class its successors and its predecessors, which are read one list at a time, by calls
+//! that count.
+
+ghost use Rattle.std.specs.Prelude.{◌≡◌, ◌+◌, ◌<◌, ◌≤◌, ◌^◌, [], ◌∷◌, ◌++◌, OnOk, length};
+ghost use Rattle.std.specs.Prelude.{slice_set, slice_index_or, nat_eq, true, false};
+ghost use Rattle.std.specs.List.{IsDistinct};
+ghost use Rattle.ld_graph.specs.Lists.{HasRoom, IsNear, IsNextClass, IsNextItem, ListsGrown};
+ghost use Rattle.ld_graph.specs.Lists.{list_at};
+
+use crate::neighbours::Neighbours;
+use std::alloc::{AllocError, Global};
+use std::marker::Model;
+
+/// How many lists of neighbours were read.
+#[derive(Drop)]
+pub struct Steps {
+    count: u64,
+}
+
+impl Model for Steps {
+    ghost use Rattle.std.specs.Prelude.{ℕ};
+
+    ghost Value = { ℕ };
+
+    ghost view = { λ s. s.count };
+}
+
+impl Steps {
+    /// No list was read. Takes no memory.
+    pub fn new() -> Steps
+        ensures { result ≡ 0 }
+    {
+        Steps { count: 0 }
+    }
+
+    /// The number of lists that were read. Takes no memory.
+    pub fn count(&self) -> u64
+        ensures { result ≡ self.now }
+    {
+        self.count
+    }
+}
+
+/// A graph's lists: for each class its successors and its predecessors.
+#[derive(Drop)]
+pub struct Lists {
+    after: Neighbours,
+    before: Neighbours,
+}
+
+impl Model for Lists {
+    ghost use Rattle.ld_graph.specs.Lists.{Sides};
+
+    ghost Value = { Sides };
+
+    ghost use Rattle.ld_graph.specs.Inner.Sides.{HasEachOnce};
+
+    ghost view = { λ l. record { after = l.after; before = l.before } };
+
+    ghost invariant = { λ l. HasEachOnce l.after.lists × HasEachOnce l.before.lists };
+}
+
+impl Lists {
+    /// The lists of no class. Takes no memory.
+    pub fn new(alloc: Global) -> Lists
+        ensures after { (result.after.lists ≡ []) × (result.after.items ≡ 0) }
+        ensures before { (result.before.lists ≡ []) × (result.before.items ≡ 0) }
+    {
+        Lists {
+            after: Neighbours::new(alloc),
+            before: Neighbours::new(alloc),
+        }
+    }
+
+    /// The successors of the class `c`, each once. Adds one to the count. Takes no memory.
+    pub fn after(&self, c: u32, steps: &mut Steps) -> &[u32]
+        requires class { c < length self.now.after.lists }
+        requires few { steps.old + 1 < 2 ^ 64 }
+        ensures near { result.now ≡ list_at self.now.after.lists c }
+        ensures once { IsDistinct nat_eq result.now }
+        ensures step { steps.new ≡ steps.old + 1 }
+    {
+        steps.count += 1;
+        self.after.of(c)
+    }
+
+    /// What `after` gives, and puts the mark of the class `c` on, which has to be off. So by one list of
+    /// marks no class's successors are read twice. Takes no memory.
+    pub fn once(&self, c: u32, marks: &mut [bool], steps: &mut Steps) -> &[u32]
+        requires class { c < length self.now.after.lists }
+        requires few { steps.old + 1 < 2 ^ 64 }
+        requires marks { length marks.old ≡ length self.now.after.lists }
+        requires off { slice_index_or marks.old c false ≡ false }
+        ensures near { result.now ≡ list_at self.now.after.lists c }
+        ensures once { IsDistinct nat_eq result.now }
+        ensures step { steps.new ≡ steps.old + 1 }
+        ensures on { marks.new ≡ slice_set marks.old c true }
+    {
+        marks[c as usize] = true;
+        self.after(c, steps)
+    }
+
+    /// The predecessors of the class `c`, each once. Adds one to the count. Takes no memory.
+    pub fn before(&self, c: u32, steps: &mut Steps) -> &[u32]
+        requires class { c < length self.now.before.lists }
+        requires few { steps.old + 1 < 2 ^ 64 }
+        ensures near { result.now ≡ list_at self.now.before.lists c }
+        ensures once { IsDistinct nat_eq result.now }
+        ensures step { steps.new ≡ steps.old + 1 }
+    {
+        steps.count += 1;
+        self.before.of(c)
+    }
+
+    /// Takes the memory for so many further classes and edges.
+    ///
+    /// # Errors
+    ///
+    /// `AllocError` where memory was refused, or so much can't be asked for. The lists are then as before,
+    /// but the memory that they have may have grown.
+    pub fn room(&mut self, classes: usize, edges: usize) -> Result<(), AllocError>
+        ensures after { ListsGrown self.old.after self.new.after }
+        ensures before { ListsGrown self.old.before self.new.before }
+        ensures after_room { OnOk result (HasRoom self.new.after classes edges) }
+        ensures before_room { OnOk result (HasRoom self.new.before classes edges) }
+    {
+        self.after.room(classes, edges)?;
+        self.before.room(classes, edges)
+    }
+
+    /// Adds a class, which has no neighbour. Takes no memory.
+    pub fn add_class(&mut self)
+        requires after { length self.old.after.lists < self.old.after.class_room }
+        requires before { length self.old.before.lists < self.old.before.class_room }
+        ensures after { IsNextClass self.old.after self.new.after }
+        ensures before { IsNextClass self.old.before self.new.before }
+    {
+        self.after.add_class();
+        self.before.add_class();
+    }
+
+    /// Adds the edge from `a` to `b`, which isn't there yet: to `a` its last successor, and to `b` its last
+    /// predecessor. Takes no memory.
+    pub fn push(&mut self, a: u32, b: u32)
+        requires a { a < length self.old.after.lists }
+        requires b { b < length self.old.before.lists }
+        requires after_room { self.old.after.items < self.old.after.item_room }
+        requires before_room { self.old.before.items < self.old.before.item_room }
+        requires after_fresh { ¬ IsNear self.old.after.lists a b }
+        requires before_fresh { ¬ IsNear self.old.before.lists b a }
+        ensures after { IsNextItem self.old.after a b self.new.after }
+        ensures before { IsNextItem self.old.before b a self.new.before }
+    {
+        self.after.push(a, b);
+        self.before.push(b, a);
+    }
+}

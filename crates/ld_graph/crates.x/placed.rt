@@ -1,0 +1,87 @@
+//! What the insert of an edge does to the ranks.
+
+ghost use Rattle.std.specs.Prelude.{◌≡◌, ◌↔◌, ℕ, ◌<◌, false, length, slice_index};
+ghost use Rattle.ld_graph.specs.Inner.Placed.{IsPlaced, TellsSteps};
+ghost use Rattle.ld_graph.specs.Lists.{IsNear};
+
+use crate::lists::{Lists, Steps};
+use crate::ranks::Ranks;
+
+/// What an insert has done.
+#[derive(Clone, Copy, PartialEq, Eq, Debug)]
+pub enum Insert {
+    /// The edge was there already, and nothing has changed.
+    Known,
+    /// The edge was added, and all ranks that there were stand.
+    Kept,
+    /// The edge was added, and the ranks were repaired.
+    Moved {
+        /// How many lists of neighbours were read for it.
+        expanded: u64,
+    },
+    /// The edge was added, and the first cycle is there now.
+    Closed,
+    /// The edge was added, and there was a cycle before.
+    AfterCycle,
+}
+
+/// Makes the ranks fit an edge from `a` to `b` that is about to come, or notes that it closes a
+/// cycle. The lists that are read for it are counted by `steps`, from 0 on.
+pub fn place(
+    lists: &Lists,
+    ranks: &mut Ranks,
+    has_cycle: &mut bool,
+    a: u32,
+    b: u32,
+    steps: &mut Steps,
+) -> Insert
+    requires a { a < length ranks.old.ranks }
+    requires b { b < length ranks.old.ranks }
+    requires classes { (length lists.now.after.lists ≡ length ranks.old.ranks)
+        × (length lists.now.before.lists ≡ length ranks.old.ranks) }
+    requires turned { (x y : ℕ) → IsNear lists.now.after.lists x y
+        ↔ IsNear lists.now.before.lists y x }
+    requires ends { (x y : ℕ) → IsNear lists.now.after.lists x y
+        → (x < length ranks.old.ranks) × (y < length ranks.old.ranks) }
+    requires rises { has_cycle.old ≡ false → (x y : ℕ) → IsNear lists.now.after.lists x y
+        → slice_index ranks.old.ranks x < slice_index ranks.old.ranks y }
+    requires steps { steps.old ≡ 0 }
+    ensures told { TellsSteps result steps.new }
+    ensures room { ranks.new.room ≡ ranks.old.room }
+    ensures placed { IsPlaced (IsNear lists.now.after.lists) a b result has_cycle.old has_cycle.new
+        ranks.old.ranks ranks.new.ranks }
+{
+    if *has_cycle {
+        return Insert::AfterCycle;
+    }
+    if a == b {
+        *has_cycle = true;
+        return Insert::Closed;
+    }
+    match (ranks.rank(a), ranks.rank(b)) {
+        // A class without a rank has no other edge, so it may stand before or behind all.
+        (None, None) => {
+            ranks.put_last(a);
+            ranks.put_last(b);
+            Insert::Kept
+        }
+        (None, Some(_)) => {
+            ranks.put_first(a);
+            Insert::Kept
+        }
+        (Some(_), None) => {
+            ranks.put_last(b);
+            Insert::Kept
+        }
+        (Some(from), Some(to)) => {
+            if from < to {
+                return Insert::Kept;
+            }
+            let Some(expanded) = ranks.repair(lists, a, b, steps) else {
+                *has_cycle = true;
+                return Insert::Closed;
+            };
+            Insert::Moved { expanded }
+        }
+    }
+}

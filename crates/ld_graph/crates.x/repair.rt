@@ -1,0 +1,280 @@
+//! A repair of the ranks from one rank to another.
+
+ghost use Rattle.std.specs.Prelude.{◌≡◌, ◌≢◌, ◌↔◌, ◌⊎◌, ℕ, ◌+◌, ◌-◌, ◌^◌, ◌<◌, ◌≤◌, [], ◌++◌, not};
+ghost use Rattle.std.specs.Prelude.{length, take, slice_index, vec_capacity};
+ghost use Rattle.std.specs.Prelude.{IfSome, MatchOption};
+ghost use Rattle.std.specs.Bool.{OnTrue, OnFalse};
+ghost use Rattle.ld_graph.specs.declared.graph.TheConstants.{MOST_GRAPH_CLASSES};
+ghost use Rattle.ld_graph.specs.Inner.Repairs.{AreInverse, HasMet, IsPlan, IsRepaired};
+ghost use Rattle.ld_graph.specs.Inner.Repairs.{IsRow, IsOrReaches};
+ghost use Rattle.ld_graph.specs.Inner.Repairs.{count, in_front, is_part, picked, split};
+ghost use Rattle.ld_graph.specs.Lists.{IsNear};
+
+use crate::line::Line;
+use crate::lists::{Lists, Steps};
+use crate::search::Search;
+use crate::turns::{Side, search_in_turn};
+
+/// Room for a repair.
+#[derive(Drop)]
+pub struct Space {
+    /// What the search backward has found.
+    pub behind: Search,
+    /// What the search forward has found.
+    pub ahead: Search,
+    /// At its front the classes of the range in their new order.
+    pub moved: Vec<u32>,
+    /// At its front those of them that come behind, until they are joined to the others.
+    pub rest: Vec<u32>,
+}
+
+/// A part of a row, by what a search has found.
+#[derive(Clone, Copy)]
+enum Part {
+    /// The classes whose offsets were found.
+    Found,
+    /// The others.
+    Rest,
+}
+
+impl Part {
+    /// Whether the class at the offset is in the part.
+    fn has(self, search: &Search, offset: u32) -> bool
+        requires { offset < search.now.size }
+        ensures { result ≡ is_part search.now.found self offset }
+    {
+        match self {
+            Part::Found => search.has(offset),
+            Part::Rest => !search.has(offset),
+        }
+    }
+}
+
+/// Writes the classes of one part of the row to the one list and the others to the other, all in
+/// their order, and answers how many are of the part. Each class is written to both lists, where the
+/// next one of the list is written over it if it isn't of that, so that no jump depends on what was found.
+fn part_row(
+    row: &[u32],
+    search: &Search,
+    front: Part,
+    moved: &mut Vec<u32>,
+    rest: &mut Vec<u32>,
+) -> usize
+    requires size { length row.now ≤ search.now.size }
+    requires few { length row.now ≤ MOST_GRAPH_CLASSES }
+    requires moved { length row.now ≤ length moved.old.items }
+    requires rest { length row.now ≤ length rest.old.items }
+    ensures within { result ≤ length row.now }
+    ensures count { result ≡ count (is_part search.now.found front) (length row.now) }
+    ensures moved { take result moved.new.items
+        ≡ picked (is_part search.now.found front) (slice_index row.now) (length row.now) }
+    ensures rest { take (length row.now - result) rest.new.items
+        ≡ picked (λ k. not (is_part search.now.found front k)) (slice_index row.now)
+        (length row.now) }
+    ensures len { (length moved.new.items ≡ length moved.old.items)
+        × (length rest.new.items ≡ length rest.old.items) }
+{
+    let (mut placed, mut left) = (0, 0);
+    for offset in 0..row.len() {
+        moved[placed] = row[offset];
+        rest[left] = row[offset];
+        let here = usize::from(front.has(search, offset as u32));
+        placed += here;
+        left += 1 - here;
+    }
+    placed
+}
+
+/// Puts the classes of one part of the row first, and then the others, all in their order.
+fn split_row(row: &[u32], search: &Search, front: Part, moved: &mut Vec<u32>, rest: &mut Vec<u32>)
+    requires size { length row.now ≤ search.now.size }
+    requires few { length row.now ≤ MOST_GRAPH_CLASSES }
+    requires moved { length row.now ≤ length moved.old.items }
+    requires rest { length row.now ≤ length rest.old.items }
+    ensures items { take (length row.now) moved.new.items
+        ≡ split (is_part search.now.found front) (slice_index row.now) (length row.now) }
+    ensures len { (length moved.new.items ≡ length moved.old.items)
+        × (length rest.new.items ≡ length rest.old.items) }
+{
+    let placed = part_row(row, search, front, moved, rest);
+    let left = row.len() - placed;
+    moved[placed..row.len()].copy_from_slice(&rest[..left]);
+}
+
+/// Puts the classes of the row in their new order, by the search that has ended, and answers whether
+/// the searches are apart. Where they have met there is no such order.
+fn reorder(
+    ended: Side,
+    row: &[u32],
+    behind: &Search,
+    ahead: &Search,
+    moved: &mut Vec<u32>,
+    rest: &mut Vec<u32>,
+) -> bool
+    requires some { 0 < length row.now }
+    requires behind { length row.now ≤ behind.now.size }
+    requires ahead { length row.now ≤ ahead.now.size }
+    requires few { length row.now ≤ MOST_GRAPH_CLASSES }
+    requires moved { length row.now ≤ length moved.old.items }
+    requires rest { length row.now ≤ length rest.old.items }
+    ensures met { OnFalse result (HasMet ended (length row.now) behind.now.found ahead.now.found) }
+    ensures apart { OnTrue result
+        (¬ HasMet ended (length row.now) behind.now.found ahead.now.found) }
+    ensures items { OnTrue result (take (length row.now) moved.new.items
+        ≡ split (in_front ended behind.now.found ahead.now.found) (slice_index row.now)
+        (length row.now)) }
+    ensures len { (length moved.new.items ≡ length moved.old.items)
+        × (length rest.new.items ≡ length rest.old.items) }
+{
+    match ended {
+        Side::Before => {
+            if behind.has(0) {
+                return false;
+            }
+            split_row(row, behind, Part::Found, moved, rest);
+        }
+        Side::After => {
+            if ahead.has(row.len() as u32 - 1) {
+                return false;
+            }
+            split_row(row, ahead, Part::Rest, moved, rest);
+        }
+    }
+    true
+}
+
+/// Finds a new order of the classes of the row, in which no edge goes back and the last one comes
+/// before the first, leaves it at the front of `space.moved` and answers how many lists were read, which
+/// `steps` has counted from 0 on. Answers `None` where there is no such order, since a walk leads from the
+/// first class to the last.
+fn plan(
+    lists: &Lists,
+    ranks: &[u32],
+    low: u32,
+    row: &[u32],
+    space: &mut Space,
+    steps: &mut Steps,
+) -> Option<u64>
+    requires row { IsRow ranks.now low row.now }
+    requires some { 0 < length row.now }
+    requires few { length row.now ≤ MOST_GRAPH_CLASSES }
+    requires classes { (length lists.now.after.lists ≡ length ranks.now)
+        × (length lists.now.before.lists ≡ length ranks.now) }
+    requires turned { (x y : ℕ) → IsNear lists.now.after.lists x y
+        ↔ IsNear lists.now.before.lists y x }
+    requires ends { (x y : ℕ) → IsNear lists.now.after.lists x y
+        → (x < length ranks.now) × (y < length ranks.now) }
+    requires rises { (x y : ℕ) → IsNear lists.now.after.lists x y
+        → slice_index ranks.now x < slice_index ranks.now y }
+    requires behind { (space.old.behind.found ≡ []) × (length row.now ≤ space.old.behind.size) }
+    requires ahead { (space.old.ahead.found ≡ []) × (length row.now ≤ space.old.ahead.size) }
+    requires moved { length row.now ≤ length space.old.moved.items }
+    requires rest { length row.now ≤ length space.old.rest.items }
+    requires steps { steps.old ≡ 0 }
+    ensures told { IfSome result (λ expanded. expanded ≡ steps.new) }
+    ensures plan { MatchOption result
+        (IsOrReaches (IsNear lists.now.after.lists) (slice_index row.now 0)
+        (slice_index row.now (length row.now - 1)))
+        (IsPlan (IsNear lists.now.after.lists) ranks.now low row.now
+        (take (length row.now) space.new.moved.items)) }
+    ensures behind { (space.new.behind.found ≡ [])
+        × (space.new.behind.size ≡ space.old.behind.size) }
+    ensures ahead { (space.new.ahead.found ≡ [])
+        × (space.new.ahead.size ≡ space.old.ahead.size) }
+    ensures len { (length space.new.moved.items ≡ length space.old.moved.items)
+        × (length space.new.rest.items ≡ length space.old.rest.items) }
+{
+    let Space {
+        behind,
+        ahead,
+        moved,
+        rest,
+    } = space;
+    let ended = search_in_turn(lists, steps, ranks, low, row, behind, ahead);
+    let apart = reorder(ended, row, behind, ahead, moved, rest);
+    behind.clear();
+    ahead.clear();
+    if apart { Some(steps.count()) } else { None }
+}
+
+/// Gives these classes the ranks from `low` on, in this order.
+fn give_ranks(moved: &[u32], low: u32, ranks: &mut [u32])
+    requires fits { low + length moved.now < 2 ^ 32 }
+    requires ends { (k : ℕ) → k < length moved.now
+        → slice_index moved.now k < length ranks.old }
+    requires once { (j k : ℕ) → j < k → k < length moved.now
+        → slice_index moved.now j ≢ slice_index moved.now k }
+    ensures at { (k : ℕ) → k < length moved.now
+        → slice_index ranks.new (slice_index moved.now k) ≡ low + k }
+    ensures rest { (c : ℕ) → ((k : ℕ) → k < length moved.now → slice_index moved.now k ≢ c)
+        → slice_index ranks.new c ≡ slice_index ranks.old c }
+{
+    let mut rank = low;
+    for class in moved {
+        ranks[*class as usize] = rank;
+        rank += 1;
+    }
+}
+
+/// Repairs the ranks, and the order, for an edge from `a` to `b` that goes against them, and answers
+/// how many lists were read, which `steps` has counted from 0 on. Answers `None`, and leaves the
+/// ranks, where a walk leads from `b` to `a`.
+pub fn mend(
+    lists: &Lists,
+    ranks: &mut [u32],
+    order: &mut Line,
+    first: u32,
+    a: u32,
+    b: u32,
+    row: &mut Vec<u32>,
+    space: &mut Space,
+    steps: &mut Steps,
+) -> Option<u64>
+    requires inverse { AreInverse ranks.old order.old.items first }
+    requires fits { first + length order.old.items < 2 ^ 32 }
+    requires a { a < length ranks.old }
+    requires b { b < length ranks.old }
+    requires ranked { 0 < slice_index ranks.old b }
+    requires against { slice_index ranks.old b < slice_index ranks.old a }
+    requires few { length order.old.items ≤ length ranks.old }
+    requires most { length ranks.old ≤ MOST_GRAPH_CLASSES }
+    requires classes { (length lists.now.after.lists ≡ length ranks.old)
+        × (length lists.now.before.lists ≡ length ranks.old) }
+    requires turned { (x y : ℕ) → IsNear lists.now.after.lists x y
+        ↔ IsNear lists.now.before.lists y x }
+    requires ends { (x y : ℕ) → IsNear lists.now.after.lists x y
+        → (x < length ranks.old) × (y < length ranks.old) }
+    requires rises { (x y : ℕ) → IsNear lists.now.after.lists x y
+        → slice_index ranks.old x < slice_index ranks.old y }
+    requires row { length ranks.old ≤ vec_capacity row.old }
+    requires behind { (space.old.behind.found ≡ [])
+        × (length ranks.old ≤ space.old.behind.size) }
+    requires ahead { (space.old.ahead.found ≡ []) × (length ranks.old ≤ space.old.ahead.size) }
+    requires moved { length ranks.old ≤ length space.old.moved.items }
+    requires rest { length ranks.old ≤ length space.old.rest.items }
+    requires steps { steps.old ≡ 0 }
+    ensures told { IfSome result (λ expanded. expanded ≡ steps.new) }
+    ensures ranks { MatchOption result
+        ((ranks.new ≡ ranks.old) × IsOrReaches (IsNear lists.now.after.lists) b a)
+        (IsRepaired (IsNear lists.now.after.lists) a b ranks.old ranks.new) }
+    ensures inverse { AreInverse ranks.new order.new.items first }
+    ensures len { length order.new.items ≡ length order.old.items }
+    ensures order_room { order.new.room ≡ order.old.room }
+    ensures row { vec_capacity row.old ≤ vec_capacity row.new }
+    ensures behind { (space.new.behind.found ≡ [])
+        × (space.new.behind.size ≡ space.old.behind.size) }
+    ensures ahead { (space.new.ahead.found ≡ [])
+        × (space.new.ahead.size ≡ space.old.ahead.size) }
+    ensures room { (length space.new.moved.items ≡ length space.old.moved.items)
+        × (length space.new.rest.items ≡ length space.old.rest.items) }
+{
+    let low = ranks[b as usize];
+    let start = (low - first) as usize;
+    let end = (ranks[a as usize] - first) as usize + 1;
+    order.copy(start, end, row);
+    let expanded = plan(lists, ranks, low, row, space, steps)?;
+    let moved = &space.moved[..row.len()];
+    give_ranks(moved, low, ranks);
+    order.write(start, moved);
+    Some(expanded)
+}

@@ -1,0 +1,122 @@
+//! What a search of a repair has found.
+
+ghost use Rattle.std.specs.Prelude.{◌≡◌, ℕ, ◌<◌, ◌≤◌, [], nat_eq, Contains, OnOk, true, false};
+ghost use Rattle.std.specs.Prelude.{length, slice_index, slice_index_or, MatchOption};
+ghost use Rattle.std.specs.Prelude.{◌↔◌, IsTrue};
+ghost use Rattle.std.specs.List.{IsDistinct, list_any};
+ghost use Rattle.ld_graph.specs.Inner.Repairs.{IsAdded};
+
+use std::alloc::{AllocError, Global};
+use std::marker::Model;
+
+/// The offsets that a search has found, in the order in which it found them.
+#[derive(Drop)]
+pub struct Search {
+    found: Vec<u32>,
+    /// For each offset whether it was found.
+    marks: Vec<bool>,
+}
+
+impl Model for Search {
+    ghost use Rattle.ld_graph.specs.Inner.Repairs.{Sought};
+
+    ghost Value = { Sought };
+
+    ghost use Rattle.ld_graph.specs.Inner.Marks.{AreMarked};
+    ghost use Rattle.std.specs.Prelude.{◌≤◌, vec_len, vec_capacity};
+
+    ghost view = { λ s. record { found = s.found.items; size = vec_len s.marks } };
+
+    ghost invariant = { λ s. AreMarked s.marks.items s.found.items
+        × (vec_len s.marks ≤ vec_capacity s.found) };
+}
+
+impl Search {
+    /// A search among no offsets.
+    pub fn new(alloc: Global) -> Search
+        ensures found { result.found ≡ [] }
+    {
+        Search {
+            found: Vec::new(alloc),
+            marks: Vec::new(alloc),
+        }
+    }
+
+    /// Takes the memory for a search among so many offsets.
+    pub fn room(&mut self, size: usize) -> Result<(), AllocError>
+        ensures found { self.new.found ≡ self.old.found }
+        ensures kept { self.old.size ≤ self.new.size }
+        ensures size { OnOk result (size ≤ self.new.size) }
+    {
+        if size <= self.marks.len() {
+            return Ok(());
+        }
+        self.found.reserve(size)?;
+        self.marks.resize(size, false)?;
+        Ok(())
+    }
+
+    /// Finds an offset. One that was found stays where it is.
+    pub fn add(&mut self, offset: u32)
+        requires { offset < self.old.size }
+        ensures found { IsAdded self.old.found offset self.new.found }
+        ensures size { self.new.size ≡ self.old.size }
+    {
+        if !self.marks[offset as usize] {
+            self.marks[offset as usize] = true;
+            let Ok(()) = self.found.push(offset) else {
+                unreachable!()
+            };
+        }
+    }
+
+    /// Whether the offset was found.
+    pub fn has(&self, offset: u32) -> bool
+        requires { offset < self.now.size }
+        ensures { result ≡ list_any (nat_eq offset) self.now.found }
+    {
+        self.marks[offset as usize]
+    }
+
+    /// The offset that was found as number `number`, from 0 on.
+    pub fn offset(&self, number: usize) -> u32
+        requires { number < length self.now.found }
+        ensures offset { result ≡ slice_index self.now.found number }
+        ensures once { IsDistinct nat_eq self.now.found }
+        ensures below { (k : ℕ) → Contains self.now.found k → k < self.now.size }
+    {
+        // Read so that the invariant, which speaks of both fields, is at hand.
+        let _ = &self.marks;
+        self.found[number]
+    }
+
+    /// Whether no more than so many offsets were found.
+    pub fn ends_at(&self, number: usize) -> bool
+        ensures { IsTrue result ↔ (length self.now.found ≤ number) }
+    {
+        // Read so that the invariant, which speaks of both fields, is at hand.
+        let _ = &self.marks;
+        self.found.len() <= number
+    }
+
+    /// Forgets what was found.
+    pub fn clear(&mut self)
+        ensures once { IsDistinct nat_eq self.old.found }
+        ensures found { self.new.found ≡ [] }
+        ensures size { self.new.size ≡ self.old.size }
+    {
+        unmark(&mut self.marks, &self.found);
+        self.found.clear();
+    }
+}
+
+/// Takes the marks of these offsets away.
+fn unmark(marks: &mut [bool], found: &[u32])
+    requires { (k : ℕ) → Contains found.now k → k < length marks.old }
+    ensures { (k : ℕ) → slice_index_or marks.new k false ≡ true
+        → (slice_index_or marks.old k false ≡ true) × (¬ Contains found.now k) }
+{
+    for offset in found {
+        marks[*offset as usize] = false;
+    }
+}

@@ -1,0 +1,77 @@
+//! The walk that is shown, among the shortest ones.
+
+ghost use Rattle.std.specs.Prelude.{◌≡◌, ℕ, ◌<◌, ◌↔◌, length, Some, Contains};
+ghost use Rattle.std.specs.Prelude.{IsTrue, IfOk, MatchOption};
+ghost use Rattle.ld_graph.specs.Edges.{ComesBefore};
+ghost use Rattle.ld_graph.specs.Inner.Levels.{IsLeastAtLevel, level_at};
+ghost use Rattle.ld_graph.specs.Lists.{IsNear};
+ghost use Rattle.ld_graph.specs.Walks.{AreEnough, IsShownWalk};
+
+use crate::lists::{Lists, Steps};
+use std::alloc::{AllocError, Global};
+
+/// Whether `x` comes before `y`: by place, then by number.
+fn comes_before(x: u32, y: u32, places: &[u32]) -> bool
+    requires x { x < length places.now }
+    requires y { y < length places.now }
+    ensures { IsTrue result ↔ ComesBefore places.now x y }
+{
+    let (place, other) = (places[x as usize], places[y as usize]);
+    place < other || (place == other && x < y)
+}
+
+/// Of the neighbours of this level, the one that comes before the others.
+fn nearest(near: &[u32], level: u32, levels: &[Option<u32>], places: &[u32]) -> Option<u32>
+    requires levels { (x : ℕ) → Contains near.now x → x < length levels.now }
+    requires places { (x : ℕ) → Contains near.now x → x < length places.now }
+    ensures { MatchOption result
+        ((x : ℕ) → Contains near.now x → level_at levels.now x ≡ Some level → ⊥)
+        (IsLeastAtLevel (Contains near.now) level levels.now places.now) }
+{
+    let mut least: Option<u32> = None;
+    for x in near {
+        if levels[*x as usize] == Some(level) {
+            least = match least {
+                Some(old) if !comes_before(*x, old, places) => Some(old),
+                _ => Some(*x),
+            };
+        }
+    }
+    least
+}
+
+/// The shown walk from `a` to `b`, by levels that are enough of the distances to `b` for it.
+pub fn show(
+    alloc: Global,
+    lists: &Lists,
+    a: u32,
+    b: u32,
+    distance: u32,
+    levels: &[Option<u32>],
+    places: &[u32],
+) -> Result<Vec<u32>, AllocError>
+    requires a { a < length lists.now.after.lists }
+    requires levels { length levels.now ≡ length lists.now.after.lists }
+    requires places { length places.now ≡ length lists.now.after.lists }
+    requires ends { (x y : ℕ) → IsNear lists.now.after.lists x y → y < length lists.now.after.lists }
+    requires distances { AreEnough (IsNear lists.now.after.lists) a b (level_at levels.now) }
+    requires distance { level_at levels.now a ≡ Some distance }
+    ensures { IfOk result (λ walk.
+        IsShownWalk (IsNear lists.now.after.lists) (ComesBefore places.now) a b walk.items) }
+{
+    let mut walk = Vec::with_capacity(alloc, distance as usize + 1)?;
+    walk.push(a)?;
+    let mut last = a;
+    let mut left = distance;
+    let mut steps = Steps::new();
+    while left > 1 {
+        left -= 1;
+        let Some(near) = nearest(lists.after(last, &mut steps), left, levels, places) else {
+            unreachable!()
+        };
+        walk.push(near)?;
+        last = near;
+    }
+    walk.push(b)?;
+    Ok(walk)
+}

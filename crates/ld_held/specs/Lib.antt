@@ -1,0 +1,2 @@
+pub mod HeldAt
+pub mod Inner

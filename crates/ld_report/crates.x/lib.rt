@@ -1,0 +1,11 @@
+//! The report of the traces that a book lists, and what it comes to.
+#![tactic(auto)]
+
+mod labels;
+mod lengths;
+mod lines;
+mod text;
+mod verdict;
+
+pub use text::report;
+pub use verdict::{Verdict, verdict_of};

@@ -1,0 +1,229 @@
+//! Writes the lines of a report. Each call answers `AllocError` where memory for its text was refused.
+ghost use Rattle.std.specs.Prelude.{◌≡◌, ◌++◌, OnOk, decimal};
+ghost use Rattle.ld_class.specs.Names.{plain_class};
+ghost use Rattle.ld_rules.specs.declared.outcome.Outcome.TheVariants.{Refused};
+ghost use Rattle.ld_book.specs.Findings.{plain_conflict_row, plain_cycle_row, plain_forbidden_row};
+ghost use Rattle.ld_book.specs.Findings.{plain_names};
+ghost use Rattle.ld_report.specs.Report.{class_text, conflict_line, cycle_line, forbidden_line};
+ghost use Rattle.ld_report.specs.Report.{inversion_line, last_line, marked, place};
+ghost use Rattle.ld_report.specs.Report.{recursion_line, refused_line, state_name, steps};
+ghost use Rattle.ld_report.specs.Report.{summary_line, via};
+
+use crate::labels::label;
+use ld_book::{ClassName, ConflictRow, CycleRow, ForbiddenRow, Totals, Traces};
+use ld_rules::{TraceFault, Witness};
+use ld_trace::State;
+use std::alloc::AllocError;
+use std::io::Write;
+
+/// Writes how much the traces are and show.
+pub fn write_summary(text: &mut Vec<u8>, totals: &Totals) -> Result<(), AllocError>
+    ensures { OnOk result (text.new.items ≡ text.old.items ++ summary_line totals.now) }
+{
+    write_number(text, "traces ", totals.traces)?;
+    write_number(text, " refused ", totals.refused)?;
+    write_number(text, " events ", totals.events)?;
+    write_number(text, " classes ", totals.classes)?;
+    write_number(text, " dependencies ", totals.dependencies)?;
+    text.push(b'\n')?;
+    Ok(())
+}
+
+/// Writes why a trace is refused.
+pub fn write_refused(
+    text: &mut Vec<u8>,
+    label: &[u8],
+    line: u64,
+    fault: TraceFault,
+) -> Result<(), AllocError>
+    ensures { OnOk result (text.new.items ≡ text.old.items ++
+        refused_line label.now (Refused line fault)) }
+{
+    text.extend_from_slice(b"refused ")?;
+    text.extend_from_slice(label)?;
+    let name = fault.name();
+    writeln!(text, " line {line} {name}").map_err(|_| AllocError)
+}
+
+/// Writes a dependency on a cycle.
+pub fn write_cycle(
+    text: &mut Vec<u8>,
+    traces: &Traces<'_>,
+    row: &CycleRow<'_>,
+) -> Result<(), AllocError>
+    ensures { OnOk result (text.new.items ≡ text.old.items ++
+        cycle_line traces.now (plain_cycle_row row.now)) }
+{
+    if row.from == row.to {
+        write_recursion(text, traces, row)
+    } else {
+        write_inversion(text, traces, row)
+    }
+}
+
+/// Writes a dependency of a class on itself.
+fn write_recursion(
+    text: &mut Vec<u8>,
+    traces: &Traces<'_>,
+    row: &CycleRow<'_>,
+) -> Result<(), AllocError>
+    ensures { OnOk result (text.new.items ≡ text.old.items ++
+        recursion_line traces.now (plain_cycle_row row.now)) }
+{
+    write_name(text, "recursion ", row.from)?;
+    write_place(text, " at ", traces, row.at)?;
+    text.push(b'\n')?;
+    Ok(())
+}
+
+/// Writes a dependency between two classes.
+fn write_inversion(
+    text: &mut Vec<u8>,
+    traces: &Traces<'_>,
+    row: &CycleRow<'_>,
+) -> Result<(), AllocError>
+    ensures { OnOk result (text.new.items ≡ text.old.items ++
+        inversion_line traces.now (plain_cycle_row row.now)) }
+{
+    write_name(text, "inversion ", row.from)?;
+    write_name(text, " -> ", row.to)?;
+    write_place(text, " at ", traces, row.at)?;
+    write_walk(text, row.via.items())
+}
+
+/// Writes a class with both bits of a state.
+pub fn write_conflict(
+    text: &mut Vec<u8>,
+    traces: &Traces<'_>,
+    row: &ConflictRow<'_>,
+) -> Result<(), AllocError>
+    ensures { OnOk result (text.new.items ≡ text.old.items ++
+        conflict_line traces.now (plain_conflict_row row.now)) }
+{
+    write_state(text, "conflict ", row.state)?;
+    write_class(text, " ", row.class, &row.marks)?;
+    write_place(text, " in ", traces, row.safe_at)?;
+    write_place(text, " on ", traces, row.unsafe_at)?;
+    text.push(b'\n')?;
+    Ok(())
+}
+
+/// Writes a forbidden walk.
+pub fn write_forbidden(
+    text: &mut Vec<u8>,
+    traces: &Traces<'_>,
+    row: &ForbiddenRow<'_>,
+) -> Result<(), AllocError>
+    ensures { OnOk result (text.new.items ≡ text.old.items ++
+        forbidden_line traces.now (plain_forbidden_row row.now)) }
+{
+    write_state(text, "forbidden ", row.state)?;
+    write_class(text, " ", row.from, &row.from_marks)?;
+    write_place(text, " in ", traces, row.safe_at)?;
+    write_class(text, " -> ", row.to, &row.to_marks)?;
+    write_place(text, " on ", traces, row.unsafe_at)?;
+    write_walk(text, row.via.items())
+}
+
+/// Writes how many violations there are.
+pub fn write_last(text: &mut Vec<u8>, count: u64) -> Result<(), AllocError>
+    ensures { OnOk result (text.new.items ≡ text.old.items ++ last_line count) }
+{
+    if count == 0 {
+        writeln!(text, "clean")
+    } else {
+        writeln!(text, "violations {count}")
+    }
+    .map_err(|_| AllocError)
+}
+
+/// Writes a number behind these words.
+fn write_number(text: &mut Vec<u8>, words: &str, number: u64) -> Result<(), AllocError>
+    ensures { OnOk result (text.new.items ≡ text.old.items ++ words.now ++ decimal number) }
+{
+    write!(text, "{words}{number}").map_err(|_| AllocError)
+}
+
+/// Writes these bytes behind these words.
+fn write_bytes(text: &mut Vec<u8>, words: &str, bytes: &[u8]) -> Result<(), AllocError>
+    ensures { OnOk result (text.new.items ≡ text.old.items ++ words.now ++ bytes.now) }
+{
+    text.extend_from_slice(words.as_bytes())?;
+    text.extend_from_slice(bytes)?;
+    Ok(())
+}
+
+/// Writes the name of a class behind these words: `name`, or `name/N` where it is a subclass.
+fn write_name(text: &mut Vec<u8>, words: &str, class: ClassName<'_>) -> Result<(), AllocError>
+    ensures { OnOk result (text.new.items ≡ text.old.items ++ words.now ++
+        class_text (plain_class class.entry)) }
+{
+    write_bytes(text, words, class.name)?;
+    if class.sub == 0 {
+        return Ok(());
+    }
+    write_number(text, "/", u64::from(class.sub))
+}
+
+/// Writes where something was first seen, behind these words.
+fn write_place(
+    text: &mut Vec<u8>,
+    words: &str,
+    traces: &Traces<'_>,
+    at: Witness,
+) -> Result<(), AllocError>
+    ensures { OnOk result (text.new.items ≡ text.old.items ++ words.now ++ place traces.now at) }
+{
+    write_bytes(text, words, label(traces, at.number))?;
+    write_number(text, ":", at.line)
+}
+
+/// Writes a state, behind these words.
+fn write_state(text: &mut Vec<u8>, words: &str, state: State) -> Result<(), AllocError>
+    ensures { OnOk result (text.new.items ≡ text.old.items ++ words.now ++ state_name state) }
+{
+    let name = match state {
+        State::Hard => "hard",
+        State::Soft => "soft",
+    };
+    write_bytes(text, words, name.as_bytes())
+}
+
+/// Writes a class with its usage characters, behind these words.
+fn write_class(
+    text: &mut Vec<u8>,
+    words: &str,
+    class: ClassName<'_>,
+    marks: &[u8],
+) -> Result<(), AllocError>
+    ensures { OnOk result (text.new.items ≡ text.old.items ++ words.now ++
+        marked (plain_class class.entry) marks.now) }
+{
+    write_name(text, words, class)?;
+    write_bytes(text, " {", marks)?;
+    text.push(b'}')?;
+    Ok(())
+}
+
+/// Writes the names of a walk, and ends the line.
+fn write_walk(text: &mut Vec<u8>, names: &[ClassName<'_>]) -> Result<(), AllocError>
+    ensures { OnOk result (text.new.items ≡ text.old.items ++ via (plain_names names.now)) }
+{
+    text.extend_from_slice(b" via ")?;
+    if let Some((first, others)) = names.split_first() {
+        write_name(text, "", *first)?;
+        write_steps(text, others)?;
+    }
+    text.push(b'\n')?;
+    Ok(())
+}
+
+/// Writes names, each behind an arrow.
+fn write_steps(text: &mut Vec<u8>, names: &[ClassName<'_>]) -> Result<(), AllocError>
+    ensures { OnOk result (text.new.items ≡ text.old.items ++ steps (plain_names names.now)) }
+{
+    for name in names {
+        write_name(text, " -> ", *name)?;
+    }
+    Ok(())
+}

@@ -1,0 +1,133 @@
+//! The text of a report.
+ghost use Rattle.std.specs.Prelude.{◌≡◌, ◌++◌, ◌↔◌, IfOk, OnOk, flat_map, map};
+ghost use Rattle.ld_shown.specs.Batch.{AreOutcomes, sources_of};
+ghost use Rattle.ld_book.specs.Findings.{plain_conflict_row, plain_cycle_row, plain_findings};
+ghost use Rattle.ld_book.specs.Findings.{plain_forbidden_row};
+ghost use Rattle.ld_book.specs.Violations.{HasViolation};
+ghost use Rattle.ld_report.specs.Report.{IsReport, SaysClean, conflict_line, cycle_line};
+ghost use Rattle.ld_report.specs.Report.{forbidden_line, last_line, refused_lines, summary_line};
+ghost use Rattle.ld_report.specs.Report.{violation_lines, violations};
+
+use crate::lengths::length_of;
+use crate::lines::{
+    write_conflict, write_cycle, write_forbidden, write_last, write_refused, write_summary,
+};
+use ld_book::{Book, ConflictRow, CycleRow, Findings, ForbiddenRow, Totals, Traces};
+use ld_rules::{Listed, Outcome};
+use std::alloc::{AllocError, Global};
+
+/// The report of the traces that a book lists, in whatever order they came.
+///
+/// # Errors
+///
+/// `AllocError` where a growth of memory was refused.
+pub fn report(alloc: Global, book: &Book<'_>) -> Result<Vec<u8>, AllocError>
+    ensures text { IfOk result (λ text. IsReport book.now text.items) }
+    ensures clean { IfOk result (λ text. SaysClean text.items ↔ (¬ HasViolation book.now)) }
+{
+    let traces = Traces::new(alloc, book)?;
+    let findings = book.findings(alloc)?;
+    text_of(alloc, &book.totals(), &traces, &findings)
+}
+
+/// All lines, from the totals of the traces to how many violations there are.
+fn text_of(
+    alloc: Global,
+    totals: &Totals,
+    traces: &Traces<'_>,
+    findings: &Findings<'_>,
+) -> Result<Vec<u8>, AllocError>
+    ensures { IfOk result (λ text. text.items ≡
+        summary_line totals.now ++ refused_lines traces.now
+        ++ violation_lines traces.now (plain_findings findings.now)
+        ++ last_line (violations (plain_findings findings.now))) }
+{
+    let mut text = Vec::with_capacity(alloc, length_of(totals, traces, findings))?;
+    write_summary(&mut text, totals)?;
+    write_all_refused(&mut text, traces.listed())?;
+    write_violations(&mut text, traces, findings)?;
+    write_last(&mut text, count_of(findings))?;
+    Ok(text)
+}
+
+/// Writes which traces are refused, and why.
+fn write_all_refused(text: &mut Vec<u8>, listed: &[Listed<'_>]) -> Result<(), AllocError>
+    requires { AreOutcomes listed.now }
+    ensures { OnOk result (text.new.items ≡ text.old.items ++
+        refused_lines (sources_of listed.now)) }
+{
+    for trace in listed {
+        if let Outcome::Refused { line, fault } = trace.outcome {
+            write_refused(text, trace.source.name, line, fault)?;
+        }
+    }
+    Ok(())
+}
+
+/// Writes every violation.
+fn write_violations(
+    text: &mut Vec<u8>,
+    traces: &Traces<'_>,
+    findings: &Findings<'_>,
+) -> Result<(), AllocError>
+    ensures { OnOk result (text.new.items ≡ text.old.items ++
+        violation_lines traces.now (plain_findings findings.now)) }
+{
+    write_cycles(text, traces, findings.cycles.items())?;
+    write_conflicts(text, traces, findings.conflicts.items())?;
+    write_all_forbidden(text, traces, findings.forbidden.items())
+}
+
+/// Writes the dependencies on cycles.
+fn write_cycles(
+    text: &mut Vec<u8>,
+    traces: &Traces<'_>,
+    cycles: &[CycleRow<'_>],
+) -> Result<(), AllocError>
+    ensures { OnOk result (text.new.items ≡ text.old.items ++
+        flat_map (cycle_line traces.now) (map plain_cycle_row cycles.now)) }
+{
+    for cycle in cycles {
+        write_cycle(text, traces, cycle)?;
+    }
+    Ok(())
+}
+
+/// Writes the conflicts.
+fn write_conflicts(
+    text: &mut Vec<u8>,
+    traces: &Traces<'_>,
+    conflicts: &[ConflictRow<'_>],
+) -> Result<(), AllocError>
+    ensures { OnOk result (text.new.items ≡ text.old.items ++
+        flat_map (conflict_line traces.now) (map plain_conflict_row conflicts.now)) }
+{
+    for conflict in conflicts {
+        write_conflict(text, traces, conflict)?;
+    }
+    Ok(())
+}
+
+/// Writes the forbidden walks.
+fn write_all_forbidden(
+    text: &mut Vec<u8>,
+    traces: &Traces<'_>,
+    walks: &[ForbiddenRow<'_>],
+) -> Result<(), AllocError>
+    ensures { OnOk result (text.new.items ≡ text.old.items ++
+        flat_map (forbidden_line traces.now) (map plain_forbidden_row walks.now)) }
+{
+    for walk in walks {
+        write_forbidden(text, traces, walk)?;
+    }
+    Ok(())
+}
+
+/// How many violations there are.
+fn count_of(findings: &Findings<'_>) -> u64
+    ensures { result ≡ violations (plain_findings findings.now) }
+{
+    let conflicts = findings.conflicts.items().len();
+    let forbidden = findings.forbidden.items().len();
+    (findings.cycles.items().len() + conflicts + forbidden) as u64
+}

@@ -1,0 +1,63 @@
+//! Where a book had what the batches of a worker showed before.
+
+use std::alloc::Global;
+
+/// Where a book may have the classes and dependencies of a batch, by the numbers that the batch's scan
+/// has for them: where it had them when an earlier batch of this worker was added. One comparison
+/// confirms it, and where it isn't so, they are looked up.
+///
+/// It has no meaning: no clause says what is in it. Where memory for a guess is refused there is none.
+#[derive(Drop)]
+pub struct Guesses {
+    classes: Vec<u32>,
+    pairs: Vec<u32>,
+}
+
+impl Guesses {
+    /// No guess. Takes no memory.
+    pub fn new(alloc: Global) -> Guesses {
+        Guesses {
+            classes: Vec::new(alloc),
+            pairs: Vec::new(alloc),
+        }
+    }
+
+    /// Where the class of this number may be.
+    pub fn class(&self, number: u32) -> u32 {
+        at(&self.classes, number)
+    }
+
+    /// The class of this number is there.
+    pub fn keep_class(&mut self, number: u32, place: u32) {
+        keep(&mut self.classes, number, place);
+    }
+
+    /// Where the dependency between the classes of this pair may be.
+    pub fn pair(&self, number: u32) -> usize {
+        at(&self.pairs, number) as usize
+    }
+
+    /// The dependency between the classes of this pair is there.
+    pub fn keep_pair(&mut self, number: u32, place: usize) {
+        if let Ok(place) = u32::try_from(place) {
+            keep(&mut self.pairs, number, place);
+        }
+    }
+}
+
+/// What was kept for the number, else 0.
+fn at(kept: &[u32], number: u32) -> u32 {
+    match kept.get(number as usize) {
+        Some(place) => *place,
+        None => 0,
+    }
+}
+
+/// Keeps the place for the number, where there is memory for it.
+fn keep(kept: &mut Vec<u32>, number: u32, place: u32) {
+    let index = number as usize;
+    if kept.len() <= index && kept.resize(index + 1, 0).is_err() {
+        return;
+    }
+    kept[index] = place;
+}

@@ -1,0 +1,13 @@
+//! What a batch of a few traces shows, as it is handed to what puts it together with others: its classes, its
+//! dependencies and usage, each with its first witness, and guesses of where these were had before.
+#![tactic(auto)]
+
+mod guesses;
+mod names;
+mod rows;
+mod shown;
+
+pub use guesses::Guesses;
+pub use names::intern_all;
+pub use rows::{WitnessedEdge, WitnessedUse};
+pub use shown::Shown;

@@ -1,0 +1,53 @@
+//! Bytes and names that are compared where this is asked for, without a call.
+ghost use Rattle.std.specs.Prelude.{◌≡◌, Some};
+ghost use Rattle.std.specs.Bool.{OnTrue};
+ghost use Rattle.std.specs.Str.{bytes_eq};
+ghost use Rattle.ld_class.specs.Names.{AreDistinct, place_of, plain_class};
+
+use ld_class::{ClassName, Classes};
+
+/// Whether the name stands at the place, which may be past the end: as [`Classes::is_at`] says.
+#[inline(always)]
+pub fn is_at(names: &Classes<'_>, place: u32, name: ClassName<'_>) -> bool
+    ensures at { OnTrue result (place_of names.now (plain_class name.entry) ≡ Some place) }
+    ensures distinct { AreDistinct names.now }
+{
+    if names.len() <= place as usize {
+        return false;
+    }
+    let there = names.name(place);
+    there.sub == name.sub && same_bytes(there.name, name.name)
+}
+
+/// Whether these are the same bytes. Of 8 to 16, as most names have, the first eight and the last eight are
+/// compared.
+#[inline(always)]
+pub fn same_bytes(a: &[u8], b: &[u8]) -> bool
+    ensures { result ≡ bytes_eq a.now b.now }
+{
+    if a.len() != b.len() {
+        return false;
+    }
+    if a.len() > 16 {
+        return a == b;
+    }
+    match (
+        a.first_chunk(),
+        b.first_chunk(),
+        a.last_chunk(),
+        b.last_chunk(),
+    ) {
+        (Some(first), Some(other_first), Some(last), Some(other_last)) => {
+            same_word(first, other_first) && same_word(last, other_last)
+        }
+        _ => a == b,
+    }
+}
+
+/// Whether these eight bytes are the same.
+#[inline(always)]
+fn same_word(a: &[u8; 8], b: &[u8; 8]) -> bool
+    ensures { result ≡ bytes_eq a.now b.now }
+{
+    u64::from_le_bytes(*a) == u64::from_le_bytes(*b)
+}

@@ -1,0 +1,232 @@
+//! The locks that tasks hold, and the frames that they are in.
+ghost use Rattle.std.specs.Prelude.{◌≡◌, ◌<◌, ◌≤◌, ◌+◌, [], ◌∷◌, ◌++◌, length, false, map, remove};
+ghost use Rattle.std.specs.Prelude.{take, slice_index_or, slice_set, IfNone, IfSome, OnErr, OnOk};
+ghost use Rattle.std.specs.List.{list_any};
+ghost use Rattle.ld_trace.specs.Events.{plain_lock};
+ghost use Rattle.ld_rules.specs.Held.{same_lock};
+ghost use Rattle.ld_tables.specs.Inner.Interrupts.{fresh, start_now};
+ghost use Rattle.ld_tables.specs.Inner.Stacks.{empty_stack, holds, inner, plain_held};
+ghost use Rattle.ld_rules.specs.Inner.Scanned.{remove_last};
+ghost use Rattle.ld_rules.specs.declared.outcome.TheConstants.{MOST_HELD};
+
+use crate::bytes::same_bytes;
+use crate::context::Context;
+use crate::interrupts::Interrupts;
+use arrayvec::ArrayVec;
+use ld_rules::MOST_HELD;
+use ld_trace::Lock;
+use std::alloc::{AllocError, Global};
+use std::marker::Model;
+
+/// A lock that a task holds.
+#[derive(Clone, Copy)]
+pub struct Held<'a> {
+    pub lock: Lock<'a>,
+    /// The number of the lock's class.
+    pub class: u32,
+    /// The number of the chain of the classes that the task holds in the frame of this lock, up to
+    /// this one. `None` where it isn't known: it wasn't looked for yet, or there was no room for it.
+    pub chain: Option<u32>,
+}
+
+impl<'a> Default for Held<'a> {
+    fn default() -> Held<'a> {
+        let lock = Lock {
+            class: &[],
+            instance: None,
+        };
+        Held {
+            lock,
+            class: 0,
+            chain: None,
+        }
+    }
+}
+
+/// What a task holds and where it is.
+#[derive(Drop)]
+struct Stack<'a> {
+    /// The locks, in order of acquisition: those of outer frames lie below those of inner ones.
+    held: ArrayVec<Held<'a>, MOST_HELD>,
+    interrupts: Context,
+}
+
+impl<'a> Stack<'a> {
+    /// That of a task before its first event.
+    fn new() -> Stack<'a>
+        ensures held { result.held.items ≡ [] }
+        ensures interrupts { result.interrupts ≡ fresh }
+    {
+        Stack {
+            held: ArrayVec::new(),
+            interrupts: Context::new(),
+        }
+    }
+
+    /// The same, of a stack that was in use.
+    fn clear(&mut self)
+        ensures held { self.new.held.items ≡ [] }
+        ensures interrupts { self.new.interrupts ≡ fresh }
+    {
+        self.held.clear();
+        self.interrupts = Context::new();
+    }
+}
+
+/// The stacks of tasks, by the task's number.
+#[derive(Drop)]
+pub struct Stacks<'a> {
+    /// Those of the tasks first. The others are kept for tasks to come, for their memory alone.
+    stacks: Vec<Stack<'a>>,
+    /// How many tasks there are.
+    live: usize,
+}
+
+impl<'a> Model for Stacks<'a> {
+    ghost use Rattle.std.specs.Prelude.{◌≤◌, List, length, map, take};
+    ghost use Rattle.ld_tables.specs.Inner.Stacks.{PlainStack};
+
+    ghost Value = { List PlainStack };
+
+    ghost use Rattle.ld_tables.specs.Inner.Stacks.{plain_held};
+
+    ghost view = { λ s. map (λ stack. record {
+      held = map plain_held stack.held.items;
+      interrupts = stack.interrupts;
+    }) (take s.live s.stacks.items) };
+
+    ghost invariant = { λ s. s.live ≤ length s.stacks.items };
+}
+
+impl<'a> Stacks<'a> {
+    pub fn new(alloc: Global) -> Stacks<'a>
+        ensures { result ≡ [] }
+    {
+        Stacks {
+            stacks: Vec::new(alloc),
+            live: 0,
+        }
+    }
+
+    /// Begins anew, with no task. The memory stays.
+    pub fn begin(&mut self)
+        ensures { self.new ≡ [] }
+    {
+        self.live = 0;
+    }
+
+    /// One more task, which holds nothing and is outside frames.
+    pub fn grow(&mut self) -> Result<(), AllocError>
+        ensures grown { OnOk result (self.new ≡ self.old ++ empty_stack ∷ []) }
+        ensures refused { OnErr result (self.new ≡ self.old) }
+    {
+        if self.live < self.stacks.len() {
+            self.stacks[self.live].clear();
+        } else {
+            self.stacks.push(Stack::new())?;
+        }
+        self.live += 1;
+        Ok(())
+    }
+
+    /// What the task holds, in all its frames.
+    pub fn held(&self, task: u32) -> &[Held<'a>]
+        requires { task < length self.now }
+        ensures held { map plain_held result.now ≡ (slice_index_or self.now task empty_stack).held }
+        ensures depth { length result.now ≤ MOST_HELD }
+    {
+        self.stacks[task as usize].held.as_slice()
+    }
+
+    /// What the task holds in its innermost frame; outside frames, all that it holds.
+    pub fn innermost(&self, task: u32) -> &[Held<'a>]
+        requires task { task < length self.now }
+        requires start { start_now (slice_index_or self.now task empty_stack).interrupts
+            ≤ length (slice_index_or self.now task empty_stack).held }
+        ensures held { map plain_held result.now
+            ≡ inner (slice_index_or self.now task empty_stack) }
+        ensures depth { length result.now ≤ MOST_HELD }
+    {
+        let start = self.context(task).start();
+        &self.held(task)[start..]
+    }
+
+    /// The task's frames and flags.
+    pub fn interrupts(&self, task: u32) -> Interrupts
+        requires { task < length self.now }
+        ensures { result ≡ (slice_index_or self.now task empty_stack).interrupts }
+    {
+        self.stacks[task as usize].interrupts.interrupts()
+    }
+
+    /// The same, with what they make of an acquisition.
+    pub fn context(&self, task: u32) -> &Context
+        requires { task < length self.now }
+        ensures { result.now ≡ (slice_index_or self.now task empty_stack).interrupts }
+    {
+        &self.stacks[task as usize].interrupts
+    }
+
+    pub fn push(&mut self, task: u32, held: Held<'a>)
+        requires task { task < length self.old }
+        requires room { length (slice_index_or self.old task empty_stack).held < MOST_HELD }
+        ensures { self.new ≡ slice_set self.old task
+            (record (slice_index_or self.old task empty_stack) {
+              held = (slice_index_or self.old task empty_stack).held
+                  ++ plain_held held.entry ∷ [];
+            }) }
+    {
+        self.stacks[task as usize].held.push(held);
+    }
+
+    /// Takes the locks from this place on from the task's stack.
+    pub fn truncate(&mut self, task: u32, place: usize)
+        requires { task < length self.old }
+        ensures { self.new ≡ slice_set self.old task
+            (record (slice_index_or self.old task empty_stack) {
+              held = take place (slice_index_or self.old task empty_stack).held;
+            }) }
+    {
+        self.stacks[task as usize].held.truncate(place);
+    }
+
+    /// Puts these frames and flags in the place of the task's.
+    pub fn set_interrupts(&mut self, task: u32, interrupts: Interrupts)
+        requires { task < length self.old }
+        ensures { self.new ≡ slice_set self.old task
+            (record (slice_index_or self.old task empty_stack) { interrupts = interrupts }) }
+    {
+        self.stacks[task as usize].interrupts = Context::of(interrupts);
+    }
+}
+
+fn is_same(a: Lock<'_>, b: Lock<'_>) -> bool
+    ensures { result ≡ same_lock (plain_lock a.entry) (plain_lock b.entry) }
+{
+    if !same_bytes(a.class, b.class) {
+        return false;
+    }
+    match (a.instance, b.instance) {
+        (None, None) => true,
+        (Some(a), Some(b)) => a == b,
+        _ => false,
+    }
+}
+
+/// The place of the latest acquisition of the lock in a stack.
+pub fn latest(stack: &[Held<'_>], lock: Lock<'_>) -> Option<usize>
+    ensures none { IfNone result
+        (list_any (holds (plain_lock lock.entry)) (map plain_held stack.now) ≡ false) }
+    ensures place { IfSome result (λ i. i < length stack.now) }
+    ensures last { IfSome result (λ i. remove (map plain_held stack.now) i
+        ≡ remove_last (holds (plain_lock lock.entry)) (map plain_held stack.now)) }
+{
+    let mut place = stack.len();
+    while place > 0 {
+        place -= 1;
+        if is_same(lock, stack[place].lock) {
+            return Some(place);
+        }
+    }
+    None
+}

@@ -1,0 +1,118 @@
+//! How the chain of a stack is found, and what is kept with it.
+ghost use Rattle.std.specs.Prelude.{◌≡◌, ◌<◌, ◌≤◌, [], ◌∷◌, ◌++◌, length, List, map, option_map};
+ghost use Rattle.std.specs.Prelude.{slice_index_or, IfOk};
+ghost use Rattle.std.specs.Bool.{OnTrue};
+ghost use Rattle.ld_tables.specs.declared.edges.Pair.{Pair};
+ghost use Rattle.ld_tables.specs.Inner.Chains.{HasRoom, chains_of, link_with};
+ghost use Rattle.ld_tables.specs.Inner.Locks.{HasItsNumbers, IsChainIfAny, IsExtended, IsNumbered, chain_of};
+ghost use Rattle.ld_tables.specs.Inner.Stacks.{plain_held};
+ghost use Rattle.ld_rules.specs.declared.outcome.TheConstants.{MOST_HELD};
+
+use crate::chains::{Chains, Link};
+use crate::edges::Edges;
+use crate::held::Held;
+use std::alloc::{AllocError, Global};
+
+/// Takes all chains away, and the numbers of pairs, where there is no room for further ones. There is no
+/// dependency.
+pub fn make_room(chains: &mut Chains, edges: &mut Edges)
+    requires { edges.old.edges ≡ [] }
+    ensures room { HasRoom chains.new }
+    ensures edges { edges.new.edges ≡ [] }
+    ensures numbered { HasItsNumbers (chains_of chains.old.links) chains.old.numbers edges.old.pairs
+        → HasItsNumbers (chains_of chains.new.links) chains.new.numbers edges.new.pairs }
+{
+    if chains.has_room() {
+        return;
+    }
+    chains.clear();
+    edges.clear();
+}
+
+/// The number of the chain of a stack's classes and one more, which may be new. `None` where that of the
+/// stack isn't known, and where there is no room for a new one.
+#[inline(always)]
+pub fn linked(
+    chains: &mut Chains,
+    stack: &[Held<'_>],
+    class: u32,
+) -> Result<Option<u32>, AllocError>
+    requires { IsNumbered (chains_of chains.old.links) (map plain_held stack.now) }
+    ensures numbered { (pairs : List Pair)
+        → HasItsNumbers (chains_of chains.old.links) chains.old.numbers pairs
+        → HasItsNumbers (chains_of chains.new.links) chains.new.numbers pairs }
+    ensures more { IsExtended (chains_of chains.old.links) (chains_of chains.new.links) }
+    ensures chain { IfOk result (λ chain. IsChainIfAny (chains_of chains.new.links) chain
+        (map (λ held. held.class) stack.now ++ class ∷ [])) }
+{
+    let Some(link) = link_to(stack, class) else {
+        return Ok(None);
+    };
+    if let Some(chain) = chains.find(link) {
+        return Ok(Some(chain));
+    }
+    if chains.is_full() {
+        return Ok(None);
+    }
+    Ok(Some(chains.add(link)?))
+}
+
+/// May keep the numbers of the pairs of a chain, those from the classes of a stack to one more. It does where the
+/// chain is one of those `met` before, there is room for them and they aren't kept, since most chains are told once
+/// and never again; no clause says so.
+pub fn learn(
+    chains: &mut Chains,
+    edges: &mut Edges,
+    alloc: Global,
+    met: usize,
+    chain: u32,
+    stack: &[Held<'_>],
+    class: u32,
+) -> Result<(), AllocError>
+    requires within { chain < length (chains_of chains.old.links) }
+    requires is { slice_index_or (chains_of chains.old.links) chain []
+        ≡ map (λ held. held.class) stack.now ++ class ∷ [] }
+    requires depth { length stack.now ≤ MOST_HELD }
+    requires numbered { HasItsNumbers (chains_of chains.old.links) chains.old.numbers edges.old.pairs }
+    ensures numbered { HasItsNumbers (chains_of chains.new.links) chains.new.numbers edges.new.pairs }
+    ensures links { chains.new.links ≡ chains.old.links }
+    ensures edges { edges.new.edges ≡ edges.old.edges }
+{
+    if stack.is_empty() || chain as usize >= met || chains.numbers(chain).is_some() {
+        return Ok(());
+    }
+    if !chains.has_room() {
+        return Ok(());
+    }
+    let numbers = edges.numbers(alloc, stack, class)?;
+    chains.keep(chain, &numbers)
+}
+
+/// The chain of the classes of a stack and one more, where that of the stack is known.
+fn link_to(stack: &[Held<'_>], class: u32) -> Option<Link>
+    ensures { result ≡ option_map (link_with class) (chain_of (map plain_held stack.now)) }
+{
+    match stack.last() {
+        Some(held) => match held.chain {
+            Some(chain) => Some(Link {
+                before: Some(chain),
+                class,
+            }),
+            None => None,
+        },
+        None => Some(Link {
+            before: None,
+            class,
+        }),
+    }
+}
+
+/// Whether the last of the locks stands at this place or behind it, and its chain isn't known.
+pub fn is_unlinked(held: &[Held<'_>], start: usize) -> bool
+    ensures { OnTrue result (start < length held.now) }
+{
+    match held.last() {
+        Some(last) => start < held.len() && last.chain.is_none(),
+        None => false,
+    }
+}

@@ -1,0 +1,111 @@
+//! Events in their plainest form, read by one pass over the line: those of a lock but `nested`, and those of a state.
+ghost use Rattle.std.specs.Prelude.{◌≡◌, ◌++◌, ◌∷◌, Ok, Some, IfSome};
+ghost use Rattle.ld_trace.specs.Events.{plain_event, plain_lock};
+ghost use Rattle.ld_trace.specs.First.{IsFirstSaid};
+ghost use Rattle.ld_trace.specs.Inner.Plain.{IsLockLine, spelling_of_state};
+ghost use Rattle.ld_trace.specs.Inner.Reading.{spelling_of_lock_verb, spelling_of_state_verb};
+
+use crate::event::{Event, Lock, LockVerb, State, StateVerb};
+use crate::front::{next_name, next_word};
+
+/// The event of the first line, and what follows that line, where the line is `VERB TASK LOCK` with
+/// one blank between two of them and nothing else before its LF. `None` says nothing: whoever gets it
+/// reads the line by `next_line`, `text` and `read_event`.
+pub fn next_event(bytes: &[u8]) -> Option<(Event<'_>, &[u8])>
+    ensures { IfSome result (λ cut.
+        IsFirstSaid bytes.now (Ok (Some (plain_event cut.0))) cut.1.now) }
+{
+    let (verb, after) = next_verb(bytes)?;
+    let (task, after) = next_word(after)?;
+    let after = after.strip_prefix(b" ")?;
+    let (lock, rest) = next_lock(after)?;
+    let event = match verb {
+        LockVerb::Acquire => Event::Acquire { task, lock },
+        LockVerb::Try => Event::Try { task, lock },
+        LockVerb::Release => Event::Release { task, lock },
+    };
+    Some((event, rest))
+}
+
+/// The event of the first line, and what follows that line, where the line is `VERB TASK STATE` in the same form.
+/// `None` says nothing, as that of [`next_event`].
+#[inline(never)]
+pub fn next_state_event(bytes: &[u8]) -> Option<(Event<'_>, &[u8])>
+    ensures { IfSome result (λ cut.
+        IsFirstSaid bytes.now (Ok (Some (plain_event cut.0))) cut.1.now) }
+{
+    let (verb, after) = next_state_verb(bytes)?;
+    let (task, after) = next_word(after)?;
+    let after = after.strip_prefix(b" ")?;
+    let (state, rest) = next_state(after)?;
+    let event = match verb {
+        StateVerb::Enter => Event::Enter { task, state },
+        StateVerb::Exit => Event::Exit { task, state },
+        StateVerb::Enable => Event::Enable { task, state },
+        StateVerb::Disable => Event::Disable { task, state },
+    };
+    Some((event, rest))
+}
+
+/// The verb at the front, and what follows the blank after it.
+fn next_verb(bytes: &[u8]) -> Option<(LockVerb, &[u8])>
+    ensures { IfSome result (λ cut. bytes.now ≡ spelling_of_lock_verb cut.0 ++ 32 ∷ cut.1.now) }
+{
+    if let Some(rest) = bytes.strip_prefix(b"acquire ") {
+        Some((LockVerb::Acquire, rest))
+    } else if let Some(rest) = bytes.strip_prefix(b"release ") {
+        Some((LockVerb::Release, rest))
+    } else {
+        let rest = bytes.strip_prefix(b"try ")?;
+        Some((LockVerb::Try, rest))
+    }
+}
+
+/// The lock at the front, and what follows the LF after it.
+fn next_lock(bytes: &[u8]) -> Option<(Lock<'_>, &[u8])>
+    ensures { IfSome result (λ cut. IsLockLine bytes.now (plain_lock cut.0) cut.1.now) }
+{
+    let (class, after) = next_name(bytes)?;
+    if let Some(rest) = after.strip_prefix(b"\n") {
+        let lock = Lock {
+            class,
+            instance: None,
+        };
+        return Some((lock, rest));
+    }
+    let (name, after) = next_name(after.strip_prefix(b"@")?)?;
+    let rest = after.strip_prefix(b"\n")?;
+    let lock = Lock {
+        class,
+        instance: Some(name),
+    };
+    Some((lock, rest))
+}
+
+/// The verb at the front that takes a state, and what follows the blank after it.
+fn next_state_verb(bytes: &[u8]) -> Option<(StateVerb, &[u8])>
+    ensures { IfSome result (λ cut. bytes.now ≡ spelling_of_state_verb cut.0 ++ 32 ∷ cut.1.now) }
+{
+    if let Some(rest) = bytes.strip_prefix(b"enter ") {
+        Some((StateVerb::Enter, rest))
+    } else if let Some(rest) = bytes.strip_prefix(b"exit ") {
+        Some((StateVerb::Exit, rest))
+    } else if let Some(rest) = bytes.strip_prefix(b"enable ") {
+        Some((StateVerb::Enable, rest))
+    } else {
+        let rest = bytes.strip_prefix(b"disable ")?;
+        Some((StateVerb::Disable, rest))
+    }
+}
+
+/// The state at the front, and what follows the LF after it.
+fn next_state(bytes: &[u8]) -> Option<(State, &[u8])>
+    ensures { IfSome result (λ cut. bytes.now ≡ spelling_of_state cut.0 ++ 10 ∷ cut.1.now) }
+{
+    if let Some(rest) = bytes.strip_prefix(b"hard\n") {
+        Some((State::Hard, rest))
+    } else {
+        let rest = bytes.strip_prefix(b"soft\n")?;
+        Some((State::Soft, rest))
+    }
+}

@@ -1,0 +1,260 @@
+//! The dependencies between numbered classes, each with the place where it was first seen, and where
+//! they lead.
+ghost use Rattle.std.specs.Prelude.{◌≡◌, ℕ, ◌+◌, ◌<◌, ◌≤◌, List, Option, OnErr, OnOk, [], All};
+ghost use Rattle.std.specs.Prelude.{length, take, vec_len, vec_capacity, MatchOption};
+ghost use Rattle.ld_class.specs.Names.{PlainClass};
+ghost use Rattle.ld_graph.specs.declared.graph.TheConstants.{MOST_GRAPH_CLASSES};
+ghost use Rattle.ld_trace.specs.declared.event.State.{State};
+ghost use Rattle.ld_graph.specs.Edges.{IsEdge, IsEdgeNumber};
+ghost use Rattle.ld_graph.specs.Reach.{IsReach, no_reach};
+ghost use Rattle.ld_union.specs.Inner.Reached.{AreFurther, HaveClasses, IsSeeded, StayExact};
+ghost use Rattle.ld_union.specs.Inner.States.{of_state};
+ghost use Rattle.ld_graph.specs.Edges.{empty_graph, with_spares};
+ghost use Rattle.ld_rules.specs.Dependency.{Dependency};
+ghost use Rattle.ld_rules.specs.Usage.{IsBit};
+ghost use Rattle.ld_rules.specs.Union.{dependency_witness};
+ghost use Rattle.ld_shown.specs.Batch.{IsBatch};
+ghost use Rattle.ld_shown.specs.Inner.Names.{ArePlaces};
+ghost use Rattle.ld_graph.specs.Edges.{PlainGraph};
+ghost use Rattle.ld_graph.specs.Order.{IsInserted};
+ghost use Rattle.ld_union.specs.Inner.Union.{AreBetween, AreWitnessed, IsCycleEdge, edges_of, named_edge};
+ghost use Rattle.ld_union.specs.Inner.Union.{with_first, with_seen};
+
+use crate::news::NewBit;
+use crate::states::PerState;
+use ld_graph::{Edge, Graph, Insert, Reach};
+use ld_rules::Witness;
+use ld_shown::{Guesses, Shown};
+use std::alloc::{AllocError, Global};
+
+/// An edge of the graph, and where its dependency was first seen.
+#[derive(Clone, Copy, Debug)]
+pub struct Witnessed {
+    /// The edge, from the class that was held to the one that was acquired under it.
+    pub edge: Edge,
+    /// Where the dependency was first seen: the least trace number first, then the least line.
+    pub first: Witness,
+}
+
+/// The dependencies between some numbered classes.
+#[derive(Drop)]
+pub(crate) struct Dependencies {
+    pub(crate) graph: Graph,
+    /// The edges of the graph, by their numbers.
+    pub(crate) rows: Vec<Witnessed>,
+    /// The edge with which the first cycle came.
+    pub(crate) closing: Option<Edge>,
+    /// For each state what classes with the bit that its handlers acquire them lead to.
+    pub(crate) reach: PerState<Reach>,
+}
+
+impl Dependencies {
+    /// Those of no classes.
+    pub(crate) fn new(alloc: Global) -> Dependencies
+        ensures graph { result.graph ≡ empty_graph }
+        ensures rows { result.rows.items ≡ [] }
+        ensures closing { IsCycleEdge [] result.closing }
+        ensures hard { result.reach.hard ≡ no_reach }
+        ensures soft { result.reach.soft ≡ no_reach }
+        ensures exact { (state : State) → IsReach (IsEdge []) [] (of_state result.reach state) }
+    {
+        Dependencies {
+            graph: Graph::new(alloc),
+            rows: Vec::new(alloc),
+            closing: None,
+            reach: PerState::<Reach>::new(alloc),
+        }
+    }
+
+    /// Takes the memory for so many further classes and dependencies.
+    ///
+    /// `AllocError` where memory was refused. Nothing has changed in either case but spares.
+    pub(crate) fn room(&mut self, classes: usize, edges: usize) -> Result<(), AllocError>
+        requires classes { self.old.graph.classes + classes ≤ MOST_GRAPH_CLASSES }
+        requires reach { HaveClasses self.old.graph.classes self.old.reach }
+        ensures graph { self.new.graph
+            ≡ with_spares self.old.graph self.new.graph.spare_classes self.new.graph.spare_edges }
+        ensures rows { self.new.rows.items ≡ self.old.rows.items }
+        ensures closing { self.new.closing ≡ self.old.closing }
+        ensures spare_classes { OnOk result (classes ≤ self.new.graph.spare_classes) }
+        ensures spare_edges { OnOk result (edges ≤ self.new.graph.spare_edges) }
+        ensures spare_rows { OnOk result
+            (vec_len self.new.rows + edges ≤ vec_capacity self.new.rows) }
+        ensures hard { self.new.reach.hard
+            ≡ record self.old.reach.hard { spare = self.new.reach.hard.spare } }
+        ensures soft { self.new.reach.soft
+            ≡ record self.old.reach.soft { spare = self.new.reach.soft.spare } }
+        ensures reach { HaveClasses self.old.graph.classes self.new.reach }
+        ensures spare_hard { OnOk result (classes ≤ self.new.reach.hard.spare) }
+        ensures spare_soft { OnOk result (classes ≤ self.new.reach.soft.spare) }
+        ensures exact { (edges : List Edge)
+            → StayExact edges edges self.old.reach self.new.reach }
+    {
+        self.rows.reserve(edges)?;
+        self.reach.room(classes)?;
+        self.graph.room(classes, edges)
+    }
+
+    /// Adds classes until there are so many.
+    pub(crate) fn enter_classes(&mut self, count: usize)
+        requires fewer { self.old.graph.classes ≤ count }
+        requires room { count ≤ self.old.graph.classes + self.old.graph.spare_classes }
+        requires reach { HaveClasses self.old.graph.classes self.old.reach }
+        requires hard { count ≤ self.old.graph.classes + self.old.reach.hard.spare }
+        requires soft { count ≤ self.old.graph.classes + self.old.reach.soft.spare }
+        ensures count { self.new.graph.classes ≡ count }
+        ensures edges { self.new.graph.edges ≡ self.old.graph.edges }
+        ensures room { self.new.graph.spare_edges ≡ self.old.graph.spare_edges }
+        ensures rows { self.new.rows ≡ self.old.rows }
+        ensures closing { self.new.closing ≡ self.old.closing }
+        ensures reach { HaveClasses count self.new.reach }
+        ensures further { AreFurther self.old.reach self.new.reach }
+        ensures exact { (edges : List Edge)
+            → StayExact edges edges self.old.reach self.new.reach }
+    {
+        for _ in self.graph.len()..count {
+            self.graph.add_class();
+            self.reach.add_class();
+        }
+    }
+
+    /// Notes the dependencies of a batch whose classes have these numbers, each where it was seen
+    /// first.
+    pub(crate) fn add(&mut self, batch: &Shown<'_, '_>, places: &[u32], guesses: &mut Guesses)
+        requires edges { self.old.graph.edges ≡ edges_of self.old.rows.items }
+        requires count { length places.now ≡ length batch.now.classes }
+        requires within { All (λ place. place < self.old.graph.classes) places.now }
+        requires reach { HaveClasses self.old.graph.classes self.old.reach }
+        requires spare_edges { length batch.now.edges ≤ self.old.graph.spare_edges }
+        requires spare_rows { vec_len self.old.rows + length batch.now.edges
+            ≤ vec_capacity self.old.rows }
+        ensures known { IsBatch batch.now }
+        ensures classes { self.new.graph.classes ≡ self.old.graph.classes }
+        ensures edges { self.new.graph.edges ≡ edges_of self.new.rows.items }
+        ensures front { take (length self.old.rows.items) (edges_of self.new.rows.items)
+            ≡ edges_of self.old.rows.items }
+        ensures reach { HaveClasses self.new.graph.classes self.new.reach }
+        ensures further { AreFurther self.old.reach self.new.reach }
+        ensures exact { StayExact (edges_of self.old.rows.items) (edges_of self.new.rows.items)
+            self.old.reach self.new.reach }
+        ensures closing { IsCycleEdge (edges_of self.old.rows.items) self.old.closing
+            → IsCycleEdge (edges_of self.new.rows.items) self.new.closing }
+        ensures numbered { (classes : List PlainClass) → length classes ≡ self.old.graph.classes
+            → AreBetween classes self.old.rows.items → AreBetween classes self.new.rows.items }
+        ensures witnesses { (classes : List PlainClass) → length classes ≡ self.old.graph.classes
+            → AreBetween classes self.old.rows.items
+            → ArePlaces classes batch.now.classes places.now
+            → (first : Dependency → Option Witness)
+            → AreWitnessed classes self.old.rows.items first
+            → AreWitnessed classes self.new.rows.items
+            (with_first first (dependency_witness batch.now.sources)) }
+    {
+        let mut pairs = batch.pair_numbers().iter();
+        for seen in batch.edges() {
+            let edge = Edge {
+                from: places[seen.from as usize],
+                to: places[seen.to as usize],
+            };
+            // No clause says that there are as many. For a guess any number will do.
+            let pair = match pairs.next() {
+                Some(pair) => *pair,
+                None => 0,
+            };
+            let number = self.note(edge, seen.witness, guesses.pair(pair));
+            guesses.keep_pair(pair, number);
+        }
+    }
+
+    /// Notes that the dependency was seen there, unless it was seen earlier, and answers its number. It may
+    /// be at the place that is guessed.
+    fn note(&mut self, edge: Edge, witness: Witness, guess: usize) -> usize
+        requires edges { self.old.graph.edges ≡ edges_of self.old.rows.items }
+        requires from { edge.from < self.old.graph.classes }
+        requires to { edge.to < self.old.graph.classes }
+        requires reach { HaveClasses self.old.graph.classes self.old.reach }
+        requires spare_edges { 0 < self.old.graph.spare_edges }
+        requires spare_rows { vec_len self.old.rows < vec_capacity self.old.rows }
+        ensures classes { self.new.graph.classes ≡ self.old.graph.classes }
+        ensures edges { self.new.graph.edges ≡ edges_of self.new.rows.items }
+        ensures spare_edges { self.old.graph.spare_edges ≤ self.new.graph.spare_edges + 1 }
+        ensures spare_rows { (n : ℕ) → vec_len self.old.rows + (n + 1) ≤ vec_capacity self.old.rows
+            → vec_len self.new.rows + n ≤ vec_capacity self.new.rows }
+        ensures front { (n : ℕ) → n ≤ length self.old.rows.items
+            → take n (edges_of self.new.rows.items) ≡ take n (edges_of self.old.rows.items) }
+        ensures reach { HaveClasses self.new.graph.classes self.new.reach }
+        ensures further { AreFurther self.old.reach self.new.reach }
+        ensures exact { StayExact (edges_of self.old.rows.items) (edges_of self.new.rows.items)
+            self.old.reach self.new.reach }
+        ensures closing { IsCycleEdge (edges_of self.old.rows.items) self.old.closing
+            → IsCycleEdge (edges_of self.new.rows.items) self.new.closing }
+        ensures numbered { (classes : List PlainClass) → length classes ≡ self.old.graph.classes
+            → AreBetween classes self.old.rows.items → AreBetween classes self.new.rows.items }
+        ensures noted { (classes : List PlainClass) → length classes ≡ self.old.graph.classes
+            → AreBetween classes self.old.rows.items
+            → (first : Dependency → Option Witness)
+            → AreWitnessed classes self.old.rows.items first
+            → AreWitnessed classes self.new.rows.items
+            (with_seen first (named_edge classes edge) witness) }
+    {
+        match self.number(edge, guess) {
+            Some(number) => {
+                let known = &mut self.rows[number as usize];
+                known.first = known.first.earlier(witness);
+                number as usize
+            }
+            None => {
+                let answer = self.graph.insert(edge.from, edge.to);
+                self.closing = closing_then(self.closing, edge, answer);
+                self.reach.along(&self.graph, edge);
+                let seen = Witnessed {
+                    edge,
+                    first: witness,
+                };
+                let number = self.rows.len();
+                self.rows.push_reserved(seen);
+                number
+            }
+        }
+    }
+
+    /// The number of the edge, or `None` where there is no such edge. It is looked for at the guess first.
+    fn number(&self, edge: Edge, guess: usize) -> Option<u64>
+        requires { self.now.graph.edges ≡ edges_of self.now.rows.items }
+        ensures { MatchOption result (¬ IsEdge self.now.graph.edges edge.from edge.to)
+            (IsEdgeNumber self.now.graph.edges edge.from edge.to) }
+    {
+        if (guess as u64) < self.graph.edges() && self.rows[guess].edge == edge {
+            return Some(guess as u64);
+        }
+        self.graph.edge(edge.from, edge.to)
+    }
+
+    /// Makes each class a seed of the state of which it got the bit that handlers acquire it.
+    pub(crate) fn seed_all(&mut self, bits: &[NewBit])
+        requires reach { HaveClasses self.old.graph.classes self.old.reach }
+        requires within { All (λ told. told.class < self.old.graph.classes) bits.now }
+        requires one { All (λ told. IsBit told.bit) bits.now }
+        ensures graph { self.new.graph ≡ self.old.graph }
+        ensures rows { self.new.rows ≡ self.old.rows }
+        ensures closing { self.new.closing ≡ self.old.closing }
+        ensures reach { HaveClasses self.old.graph.classes self.new.reach }
+        ensures further { AreFurther self.old.reach self.new.reach }
+        ensures exact { (state : State) (seeds : List ℕ)
+            → IsReach (IsEdge self.old.graph.edges) seeds (of_state self.old.reach state)
+            → IsSeeded self.old.graph.edges seeds state bits.now
+            (of_state self.new.reach state) }
+    {
+        self.reach.seed_all(&self.graph, bits);
+    }
+}
+
+/// The edge with which the first cycle came, once the insert of an edge gave this answer.
+fn closing_then(closing: Option<Edge>, edge: Edge, answer: Insert) -> Option<Edge>
+    ensures { (old new : PlainGraph) → IsInserted old edge.from edge.to answer new
+        → IsCycleEdge old.edges closing → IsCycleEdge new.edges result }
+{
+    match answer {
+        Insert::Closed => Some(edge),
+        _ => closing,
+    }
+}

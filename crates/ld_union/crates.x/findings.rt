@@ -1,0 +1,70 @@
+//! Every violation, in the order of the report.
+ghost use Rattle.std.specs.Prelude.{IfOk, List};
+ghost use Rattle.ld_trace.specs.Sources.{PlainSource};
+ghost use Rattle.ld_rules.specs.Union.{dependency_witness, use_witness};
+ghost use Rattle.ld_union.specs.Findings.{AreFindings, plain_findings};
+ghost use Rattle.ld_union.specs.Inner.Rows.{IsOfEach};
+ghost use Rattle.ld_union.specs.Inner.Union.{Shows};
+
+mod conflicts;
+mod cycles;
+mod forbidden;
+mod used;
+mod walks;
+
+use crate::alarms::Found;
+use crate::by_name::ByName;
+use crate::findings::conflicts::conflict_rows;
+use crate::findings::cycles::cycle_rows;
+use crate::findings::forbidden::forbidden_rows;
+use crate::rows::Rows;
+use crate::union::Union;
+pub use conflicts::ConflictRow;
+pub use cycles::CycleRow;
+pub use forbidden::ForbiddenRow;
+use std::alloc::{AllocError, Global};
+
+/// Every violation that some traces show, in the order of the report.
+#[derive(Drop)]
+pub struct Findings<'a> {
+    /// The dependencies on cycles, by the names of their classes.
+    pub cycles: Rows<CycleRow<'a>>,
+    /// The conflicts, hard first, then by the name of the class.
+    pub conflicts: Rows<ConflictRow<'a>>,
+    /// The forbidden walks, hard first, then by the names of their ends.
+    pub forbidden: Rows<ForbiddenRow<'a>>,
+}
+
+/// Every violation of a union of which one of each kind was found, if it has one. Where no cycle or
+/// no forbidden walk of a state was found, none is searched for.
+///
+/// # Errors
+///
+/// `AllocError` where a growth of memory was refused.
+pub fn findings_of<'a>(
+    alloc: Global,
+    union: &Union<'a>,
+    found: &Found,
+) -> Result<Findings<'a>, AllocError>
+    ensures { IfOk result (λ findings. (sources : List PlainSource)
+        → Shows sources union.now
+        → IsOfEach sources found.now
+        → AreFindings sources (plain_findings findings)) }
+{
+    if found.is_nothing() {
+        return Ok(Findings {
+            cycles: Rows::from(Vec::new(alloc)),
+            conflicts: Rows::from(Vec::new(alloc)),
+            forbidden: Rows::from(Vec::new(alloc)),
+        });
+    }
+    let order = ByName::new(alloc, union.classes())?;
+    let cycles = cycle_rows(alloc, union, &order, found)?;
+    let conflicts = conflict_rows(alloc, union, &order)?;
+    let forbidden = forbidden_rows(alloc, union, &order, found)?;
+    Ok(Findings {
+        cycles: Rows::from(cycles),
+        conflicts: Rows::from(conflicts),
+        forbidden: Rows::from(forbidden),
+    })
+}

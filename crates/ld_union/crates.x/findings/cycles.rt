@@ -1,0 +1,192 @@
+//! The dependencies that are on cycles.
+ghost use Rattle.std.specs.Prelude.{◌≡◌, ◌↔◌, ◌<◌, ℕ, Contains, IfOk, List, MatchOption, length, map};
+ghost use Rattle.ld_trace.specs.Sources.{PlainSource};
+ghost use Rattle.ld_rules.specs.Union.{dependency_witness};
+ghost use Rattle.ld_union.specs.Findings.{AreCycleRows, plain_cycle_row};
+ghost use Rattle.ld_union.specs.Inner.ByName.{AreByName, AreRising, class_at, class_name, name_at};
+ghost use Rattle.ld_union.specs.Inner.Rows.{AreComponentsOf, AreCycleRowsOf, AreDistancesFrom, IsBackEdge, IsBackPlace, IsCycleRowOf, IsOfEach};
+ghost use Rattle.ld_union.specs.Inner.Union.{Shows};
+ghost use Rattle.ld_union.specs.Violations.{IsCycle};
+
+use crate::alarms::Found;
+use crate::by_name::ByName;
+use crate::findings::walks::walk_names;
+use crate::rows::Rows;
+use crate::union::Union;
+use ld_class::ClassName;
+use ld_graph::{Distances, Steps};
+use ld_rules::Witness;
+use std::alloc::{AllocError, Global};
+
+/// A dependency on a cycle.
+#[derive(Drop)]
+pub struct CycleRow<'a> {
+    /// The class of the lock that was held.
+    pub from: ClassName<'a>,
+    /// The class of the lock that was acquired under it.
+    pub to: ClassName<'a>,
+    /// Where the dependency was first seen.
+    pub at: Witness,
+    /// The shown walk back from `to` to `from`, or nothing where they are equal. A shown walk is a
+    /// shortest one, which goes on from each class to the least-named that is one step nearer.
+    pub via: Rows<ClassName<'a>>,
+}
+
+/// The dependencies that are on cycles, by the names of their classes, where one was found.
+pub(crate) fn cycle_rows<'a>(
+    alloc: Global,
+    union: &Union<'a>,
+    order: &ByName,
+    found: &Found,
+) -> Result<Vec<CycleRow<'a>>, AllocError>
+    requires order { AreByName union.now.classes order.now.numbers.items order.now.places.items }
+    ensures { IfOk result (λ rows. (sources : List PlainSource)
+        → Shows sources union.now
+        → IsOfEach sources found.now
+        → AreCycleRows sources (map plain_cycle_row rows.items)) }
+{
+    let mut rows = Vec::new(alloc);
+    if found.cycle.is_none() {
+        return Ok(rows);
+    }
+    let components = union.graph().components(alloc)?;
+    let mut distances = Distances::new(alloc, union.graph().len())?;
+    for from in &order.numbers {
+        let mut more = cycles_from(alloc, union, order, &components, &mut distances, *from)?;
+        rows.append(&mut more)?;
+    }
+    Ok(rows)
+}
+
+/// Those that leave this class, by the name of the other one. Where there is none, nothing is searched
+/// for.
+fn cycles_from<'a>(
+    alloc: Global,
+    union: &Union<'a>,
+    order: &ByName,
+    components: &[u32],
+    distances: &mut Distances,
+    from: u32,
+) -> Result<Vec<CycleRow<'a>>, AllocError>
+    requires order { AreByName union.now.classes order.now.numbers.items order.now.places.items }
+    requires components { AreComponentsOf union.now components.now }
+    requires distances { length distances.old ≡ length union.now.classes }
+    requires from { from < length union.now.classes }
+    ensures distances { length distances.new ≡ length union.now.classes }
+    ensures rows { IfOk result (λ rows. (sources : List PlainSource)
+        → Shows sources union.now
+        → AreCycleRowsOf sources (λ p. p.0 ≡ class_name union.now.classes from)
+        (map plain_cycle_row rows.items)) }
+{
+    let mut rows = Vec::new(alloc);
+    let ends = ends_on_cycle(alloc, union, order, components, from)?;
+    if ends.is_empty() {
+        return Ok(rows);
+    }
+    union
+        .graph()
+        .distances_inside(from, components, &ends, distances);
+    for to in &ends {
+        if let Some(row) = cycle_row(alloc, union, order, distances.levels(), from, *to)? {
+            rows.push(row)?;
+        }
+    }
+    Ok(rows)
+}
+
+/// The classes to which dependencies on cycles lead from this class, by name.
+fn ends_on_cycle(
+    alloc: Global,
+    union: &Union<'_>,
+    order: &ByName,
+    components: &[u32],
+    from: u32,
+) -> Result<Vec<u32>, AllocError>
+    requires order { AreByName union.now.classes order.now.numbers.items order.now.places.items }
+    requires components { AreComponentsOf union.now components.now }
+    requires from { from < length union.now.classes }
+    ensures exact { IfOk result (λ ends. (to : ℕ) → Contains ends.items to ↔ IsBackEdge union.now from to) }
+    ensures rising { IfOk result (λ ends. AreRising (name_at union.now.classes ends.items) (length ends.items)) }
+{
+    let places = places_on_cycle(alloc, union, order, components, from)?;
+    let mut ends = Vec::with_capacity(alloc, places.len())?;
+    for place in &places {
+        ends.push(order.numbers[*place as usize])?;
+    }
+    Ok(ends)
+}
+
+/// The places of these classes in the order of names, from the least on. The dependencies on cycles are those
+/// that stay in the component.
+fn places_on_cycle(
+    alloc: Global,
+    union: &Union<'_>,
+    order: &ByName,
+    components: &[u32],
+    from: u32,
+) -> Result<Vec<u32>, AllocError>
+    requires order { AreByName union.now.classes order.now.numbers.items order.now.places.items }
+    requires components { AreComponentsOf union.now components.now }
+    requires from { from < length union.now.classes }
+    ensures exact { IfOk result (λ places. (p : ℕ) →
+        Contains places.items p ↔ IsBackPlace union.now order.now.numbers.items from p) }
+    ensures ends { IfOk result (λ places. (to : ℕ) → IsBackEdge union.now from to
+        → to < length union.now.classes) }
+    ensures rising { IfOk result (λ places. (i j : ℕ) → i < j → j < length places.items
+        → class_at places.items i < class_at places.items j) }
+{
+    let mut places = Vec::new(alloc);
+    for &to in union.graph().lists().after(from, &mut Steps::new()) {
+        if components[to as usize] == components[from as usize] {
+            places.push(order.places[to as usize])?;
+        }
+    }
+    places.sort_unstable();
+    Ok(places)
+}
+
+/// The row of the dependency between these classes, by the distances to the first one, or `None` where
+/// there is none on a cycle.
+fn cycle_row<'a>(
+    alloc: Global,
+    union: &Union<'a>,
+    order: &ByName,
+    distances: &[Option<u32>],
+    from: u32,
+    to: u32,
+) -> Result<Option<CycleRow<'a>>, AllocError>
+    requires order { AreByName union.now.classes order.now.numbers.items order.now.places.items }
+    requires from { from < length union.now.classes }
+    requires distances { AreDistancesFrom union.now to from distances.now }
+    requires to { to < length union.now.classes }
+    ensures { IfOk result (λ row. (sources : List PlainSource)
+        → Shows sources union.now
+        → MatchOption row
+        (¬ IsCycle sources (class_name union.now.classes from)
+        (class_name union.now.classes to))
+        (λ r. IsCycleRowOf sources (class_name union.now.classes from)
+        (class_name union.now.classes to) (plain_cycle_row r))) }
+{
+    if distances[to as usize].is_none() {
+        return Ok(None);
+    }
+    let Some(number) = union.graph().edge(from, to) else {
+        return Ok(None);
+    };
+    let at = union.dependencies()[number as usize].first;
+    let via = if to == from {
+        // A class that is acquired under itself shows no walk.
+        Rows::from(Vec::new(alloc))
+    } else {
+        let Some(via) = walk_names(alloc, union, order, distances, to, from)? else {
+            return Ok(None);
+        };
+        via
+    };
+    Ok(Some(CycleRow {
+        from: union.classes().name(from),
+        to: union.classes().name(to),
+        at,
+        via,
+    }))
+}

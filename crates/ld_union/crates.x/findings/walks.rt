@@ -1,0 +1,64 @@
+//! The walks that rows show.
+ghost use Rattle.std.specs.Prelude.{◌≡◌, ◌<◌, All, IfOk, List, MatchOption, length, map};
+ghost use Rattle.ld_graph.specs.Edges.{IsEdge};
+ghost use Rattle.ld_graph.specs.Walks.{HasWalk};
+ghost use Rattle.ld_trace.specs.Sources.{PlainSource};
+ghost use Rattle.ld_rules.specs.Union.{dependency_witness};
+ghost use Rattle.ld_union.specs.Findings.{IsShown, plain_names};
+ghost use Rattle.ld_union.specs.Inner.ByName.{AreByName, class_name};
+ghost use Rattle.ld_union.specs.Inner.Rows.{AreDistancesFrom};
+ghost use Rattle.ld_union.specs.Inner.Union.{Shows, edges_of};
+
+use crate::by_name::ByName;
+use crate::rows::Rows;
+use crate::union::Union;
+use ld_class::{ClassName, Classes};
+use std::alloc::{AllocError, Global};
+
+/// The names of the shown walk between these classes, by distances to the second one that are enough for
+/// it, or `None` where no walk leads there.
+pub(crate) fn walk_names<'a>(
+    alloc: Global,
+    union: &Union<'a>,
+    order: &ByName,
+    distances: &[Option<u32>],
+    from: u32,
+    to: u32,
+) -> Result<Option<Rows<ClassName<'a>>>, AllocError>
+    requires order { AreByName union.now.classes order.now.numbers.items order.now.places.items }
+    requires to { to < length union.now.classes }
+    requires distances { AreDistancesFrom union.now from to distances.now }
+    requires from { from < length union.now.classes }
+    ensures { IfOk result (λ via. MatchOption via
+        (¬ HasWalk (IsEdge (edges_of union.now.dependencies)) from to)
+        (λ names. (sources : List PlainSource)
+        → Shows sources union.now
+        → IsShown sources (class_name union.now.classes from)
+        (class_name union.now.classes to) (plain_names names))) }
+{
+    let walk = union
+        .graph()
+        .walk_along(alloc, from, to, distances, &order.places)?;
+    let Some(walk) = walk else {
+        return Ok(None);
+    };
+    let names = names_of(alloc, union.classes(), &walk)?;
+    Ok(Some(Rows::from(names)))
+}
+
+/// The names of the classes.
+fn names_of<'a>(
+    alloc: Global,
+    classes: &Classes<'a>,
+    numbers: &[u32],
+) -> Result<Vec<ClassName<'a>>, AllocError>
+    requires { All (λ c. c < length classes.now) numbers.now }
+    ensures { IfOk result (λ names. plain_names names.items
+        ≡ map (class_name classes.now) numbers.now) }
+{
+    let mut names = Vec::with_capacity(alloc, numbers.len())?;
+    for class in numbers {
+        names.push(classes.name(*class))?;
+    }
+    Ok(names)
+}

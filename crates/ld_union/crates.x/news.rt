@@ -1,0 +1,70 @@
+//! What the batch that was added last showed for the first time.
+ghost use Rattle.std.specs.Prelude.{◌≡◌, [], OnErr, OnOk, vec_len, vec_capacity};
+ghost use Rattle.ld_union.specs.Inner.States.{of_state};
+
+use crate::states::PerState;
+use ld_class::Usage;
+use ld_trace::State;
+use std::alloc::{AllocError, Global};
+use std::marker::Model;
+
+/// A usage bit that a class didn't have before.
+#[derive(Clone, Copy, Debug, PartialEq, Eq)]
+pub struct NewBit {
+    /// The number of the class.
+    pub class: u32,
+    /// The bit, alone.
+    pub bit: Usage,
+}
+
+/// What was new to a union in the batch that was added last: usage bits, and for each state the classes
+/// that were reached from a place on. It keeps its memory for the next one.
+#[derive(Drop)]
+pub struct News {
+    pub(crate) bits: Vec<NewBit>,
+    pub(crate) first_reached: PerState<usize>,
+    /// The numbers of the batch's classes, by their places in the batch.
+    pub(crate) places: Vec<u32>,
+}
+
+impl Model for News {
+    ghost use Rattle.ld_union.specs.Inner.News.{PlainNews};
+
+    ghost Value = { PlainNews };
+
+    ghost view = { λ n. record {
+      bits = n.bits.items;
+      first_reached = n.first_reached;
+    } };
+}
+
+impl News {
+    /// Nothing new to a union of no traces. Takes no memory.
+    pub fn new(alloc: Global) -> News
+        ensures { result ≡ record {
+          bits = [];
+          first_reached = record { hard = 0; soft = 0 };
+        } }
+    {
+        News {
+            bits: Vec::new(alloc),
+            first_reached: PerState { hard: 0, soft: 0 },
+            places: Vec::new(alloc),
+        }
+    }
+
+    /// The new usage bits, in no promised order. Takes no memory.
+    pub fn bits(&self) -> &[NewBit]
+        ensures { result.now ≡ self.now.bits }
+    {
+        &self.bits
+    }
+
+    /// The place from which on the classes that the union tells as reached were reached by what was added
+    /// last. Takes no memory.
+    pub fn first_reached(&self, state: State) -> usize
+        ensures { result ≡ of_state self.now.first_reached state }
+    {
+        self.first_reached.get(state)
+    }
+}
