@@ -1,1 +1,2 @@
+pub mod Overview
 pub mod Places

@@ -81,6 +81,13 @@ impl<'a> Places<'a> {
         Ok(())
     }
 
+    /// How many files there are. Takes no memory.
+    pub fn count(&self) -> u64
+        ensures { result ≡ length self.now }
+    {
+        self.parts.len() as u64
+    }
+
     /// Where this line stands, counted from 1 over all files, or `None` where no file has it. Takes no memory.
     pub fn place(&self, line: u64) -> Option<Place<'a>>
         ensures { MatchOption result ((place : PlainPlace) → ¬ IsPlace self.now line place)

@@ -1,0 +1,82 @@
+//! Writes names and places. Each call answers `AllocError` where memory was refused.
+
+use crate::places::Places;
+use ld_book::{Book, ClassName, Traces, UsageRow, Witness};
+use std::alloc::{AllocError, Global};
+use std::io::Write;
+
+/// Where things were seen: traces by their labels, lines by their files.
+#[derive(Drop)]
+pub(crate) struct Seen<'p, 'f, 'a> {
+    traces: Traces<'a>,
+    places: &'p Places<'f>,
+}
+
+impl<'p, 'f, 'a> Seen<'p, 'f, 'a> {
+    /// What the traces of a book are, and the files are, whose lines they have.
+    pub(crate) fn new(
+        alloc: Global,
+        book: &Book<'a>,
+        places: &'p Places<'f>,
+    ) -> Result<Seen<'p, 'f, 'a>, AllocError> {
+        let traces = Traces::new(alloc, book)?;
+        Ok(Seen { traces, places })
+    }
+
+    /// The label of a trace. It is empty where there is no such trace.
+    pub(crate) fn label(&self, number: u64) -> &'a [u8] {
+        let in_order = self.traces.listed();
+        match in_order.binary_search_by_key(&number, |trace| trace.source.number) {
+            Ok(at) => in_order[at].source.name,
+            Err(_) => b"",
+        }
+    }
+
+    /// The file of a line, and the line's number there. Of a line of no file it is no name and that line.
+    pub(crate) fn place(&self, line: u64) -> (&'f str, u64) {
+        match self.places.place(line) {
+            Some(place) => (place.file, place.line),
+            None => ("", line),
+        }
+    }
+}
+
+/// Writes the name of a class: `name`, or `name/N` where it is a subclass.
+pub(crate) fn write_class(text: &mut Vec<u8>, class: ClassName<'_>) -> Result<(), AllocError> {
+    text.extend_from_slice(class.name)?;
+    if class.sub == 0 {
+        return Ok(());
+    }
+    let sub = class.sub;
+    write!(text, "/{sub}").map_err(|_| AllocError)
+}
+
+/// Whether a class has this name, as it is written.
+pub(crate) fn is_called(class: ClassName<'_>, name: &[u8]) -> bool {
+    if class.sub == 0 {
+        return class.name == name;
+    }
+    match name.strip_prefix(class.name) {
+        Some([b'/', digit]) => *digit == b'0'.wrapping_add(class.sub),
+        _ => false,
+    }
+}
+
+/// Writes the usage characters of a class, in braces.
+pub(crate) fn write_marks(text: &mut Vec<u8>, usage: &UsageRow) -> Result<(), AllocError> {
+    text.extend_from_slice(b"{")?;
+    text.extend_from_slice(&usage.bits.marks())?;
+    text.extend_from_slice(b"}")?;
+    Ok(())
+}
+
+/// Writes where something was first seen: `LABEL FILE:LINE`.
+pub(crate) fn write_at(
+    text: &mut Vec<u8>,
+    seen: &Seen<'_, '_, '_>,
+    at: Witness,
+) -> Result<(), AllocError> {
+    text.extend_from_slice(seen.label(at.number))?;
+    let (file, line) = seen.place(at.line);
+    write!(text, " {file}:{line}").map_err(|_| AllocError)
+}
