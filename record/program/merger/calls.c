@@ -73,7 +73,16 @@ static void add_frames(const struct module *module, uint64_t offset, void *argum
     }
 }
 
-/* A function that has no name is said by a place in it, as a class has that. */
+/* Names the function of a call in a module. One that has no name is said by a place in it, as a class has
+   that. */
+void name_function(char *name, size_t size, const struct call *call)
+{
+    if (call->frame.function)
+        short_function(name, size, call->frame.function);
+    else
+        snprintf(name, size, "%s:+0x%" PRIx64, base_of(call->module->path), call->offset + 1);
+}
+
 static bool is_through(const struct call *call)
 {
     char name[256];
@@ -81,10 +90,7 @@ static bool is_through(const struct call *call)
     const char *function = call->frame.function;
     if (!function && !call->module)
         return false;
-    if (function)
-        short_function(name, sizeof name, function);
-    else
-        snprintf(name, sizeof name, "%s:+0x%" PRIx64, base_of(call->module->path), call->offset + 1);
+    name_function(name, sizeof name, call);
     for (size_t number = 0; number < through_count; number++)
         if (strcmp(through[number], name) == 0 ||
             (function && strcmp(through[number], function) == 0))
@@ -106,9 +112,23 @@ static size_t behind_makers(const struct frames *frames, size_t start)
     return start;
 }
 
-/* Gives the call that tells a lock's class, or false where there is none in any module. */
+/* Gives a number for the calls from `start` on, by their source lines where these are known. */
+static uint64_t number_of_calls(const struct frames *frames, size_t start)
+{
+    uint64_t result = 0;
+    for (size_t number = start; number < frames->count; number++) {
+        const struct call *call = &frames->all[number];
+        result += call->frame.line ? call->frame.line : call->offset;
+        result += (uintptr_t)(call->module ? call->module->binary : NULL);
+        result *= UINT64_C(0x9e3779b97f4a7c15);
+    }
+    return result;
+}
+
+/* Gives the call that tells a lock's class, or false where there is none in any module; and where it is
+   asked for a number for the calls that led there. */
 bool telling_call(const struct modules *modules, const uint64_t *calls, unsigned count,
-                  struct call *call)
+                  struct call *call, uint64_t *callers)
 {
     struct frames frames = {.count = 0};
     size_t start = 0;
@@ -121,5 +141,7 @@ bool telling_call(const struct modules *modules, const uint64_t *calls, unsigned
         start = frames.count ? frames.count - 1 : 0;
     if (frames.count)
         *call = frames.all[start];
+    if (callers)
+        *callers = number_of_calls(&frames, start + 1);
     return frames.count && call->module;
 }

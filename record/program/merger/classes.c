@@ -108,17 +108,31 @@ static void append_source(char *places, const struct frame *frame)
     append(places, number);
 }
 
+/* Notes by which calls the function that made a lock of the class was reached. */
+static void note_callers(struct class *class, const struct call *call, uint64_t callers)
+{
+    char maker[1024];
+    if (!class->maker) {
+        name_function(maker, sizeof maker, call);
+        class->maker = must(strdup(maker));
+        class->callers = callers;
+    }
+    class->has_several_callers = class->has_several_callers || class->callers != callers;
+}
+
 struct class *class_of_calls(const struct modules *modules, const char *how,
                              const struct unit *first, unsigned following)
 {
     static char name[TEXT_BYTES], places[TEXT_BYTES];
     struct call call;
+    uint64_t callers;
     enum telling telling = TOLD_BY_ADDRESS;
     name[0] = 0;
     snprintf(places, sizeof places, "%s", how);
-    if (!telling_call(modules, (const uint64_t *)&first[1], 2 * following, &call)) {
+    if (!telling_call(modules, (const uint64_t *)&first[1], 2 * following, &call, &callers)) {
         append(name, "?");
         append(places, " ?");
+        call.module = NULL;
     } else {
         append_file(places, call.module, call.offset);
         if (call.frame.line) {
@@ -130,7 +144,10 @@ struct class *class_of_calls(const struct modules *modules, const char *how,
         }
     }
     cut_name(name, MOST_NAME);
-    return class_named(name, places, telling);
+    struct class *class = class_named(name, places, telling);
+    if (call.module)
+        note_callers(class, &call, callers);
+    return class;
 }
 
 /* Gives the class of a lock that stands in a module, or none where it stands in no module. */
@@ -171,6 +188,14 @@ size_t classes_told(enum telling telling)
     for (size_t number = 0; number < count; number++)
         used += classes[number]->trace != 0 && classes[number]->telling == telling;
     return used;
+}
+
+/* Goes over the classes that stand in a trace. */
+void each_class(void (*see)(const struct class *))
+{
+    for (size_t number = 0; number < count; number++)
+        if (classes[number]->trace)
+            see(classes[number]);
 }
 
 /* Says at the end of the stream, in lines that say nothing to lockcheck, what each class is. */

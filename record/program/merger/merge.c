@@ -63,6 +63,14 @@ static void say_limits(int64_t bytes)
         say("the stream has more than 2147483648 bytes, and lockcheck reads no more");
 }
 
+static void say_maker(const struct class *class)
+{
+    if (class->has_several_callers && class->under_itself)
+        say("%" PRIu64 " times a lock of %s was taken under another one; all calls of %s are one class: if "
+            "its locks are of several kinds, say --through %s",
+            class->under_itself, class->name, class->maker, class->maker);
+}
+
 static void say_classes(void)
 {
     size_t by_address = classes_told(TOLD_BY_ADDRESS), by_first = classes_told(TOLD_BY_FIRST);
@@ -75,6 +83,7 @@ static void say_classes(void)
         say("%zu of %zu classes go by the line that took a lock first, since no call initialised it: "
             "locks of a kind may be several classes, and orders are missed",
             by_first, class_count());
+    each_class(say_maker);
     for (size_t number = 0; number < through_count; number++)
         if (!through_met[number])
             say("no lock was made through %s", through[number]);

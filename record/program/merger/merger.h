@@ -27,14 +27,6 @@ enum telling {
     TOLD_BY_STATIC,  /* the variable that it is */
 };
 
-struct class {
-    char *name;
-    char *places; /* how and where its locks came to be, for a reader */
-    enum telling telling;
-    uint64_t instances;
-    uint64_t trace; /* the latest trace that it is in */
-};
-
 struct bytes {
     const unsigned char *at;
     const unsigned char *end;
@@ -81,6 +73,25 @@ struct modules {
     struct module *all;
     size_t count;
     size_t room;
+};
+
+/* A call that led to a lock's beginning. */
+struct call {
+    const struct module *module; /* NULL where the place is in none */
+    uint64_t offset;             /* in the file */
+    struct frame frame;
+};
+
+struct class {
+    char *name;
+    char *places; /* how and where its locks came to be, for a reader */
+    enum telling telling;
+    uint64_t instances;
+    uint64_t trace; /* the latest trace that it is in */
+    char *maker;              /* the function that makes its locks, as --through has it, or NULL */
+    uint64_t callers;         /* a number for the calls up to that function, the first time */
+    bool has_several_callers; /* they were others too */
+    uint64_t under_itself;    /* how often one of its locks was taken under another */
 };
 
 /* What the latest release of a lock changed, for the case that it failed. */
@@ -188,14 +199,10 @@ void add_module(struct modules *modules, const struct unit *first, unsigned foll
 const struct module *module_at(const struct modules *modules, uint64_t address);
 
 /* calls.c */
-struct call {
-    const struct module *module; /* NULL where the place is in none */
-    uint64_t offset;             /* in the file */
-    struct frame frame;
-};
 void ask_for_calls(const struct modules *modules, const uint64_t *calls, unsigned count);
+void name_function(char *name, size_t size, const struct call *call);
 bool telling_call(const struct modules *modules, const uint64_t *calls, unsigned count,
-                  struct call *call);
+                  struct call *call, uint64_t *callers);
 
 /* classes.c */
 struct class *class_of_calls(const struct modules *modules, const char *how,
@@ -203,6 +210,7 @@ struct class *class_of_calls(const struct modules *modules, const char *how,
 struct class *class_of_static(const struct modules *modules, uint64_t address);
 size_t class_count(void);
 size_t classes_told(enum telling telling);
+void each_class(void (*see)(const struct class *));
 void write_classes(void);
 
 /* locks.c */

@@ -104,7 +104,7 @@ void add_place(const struct modules *modules, const struct unit *first)
     uint64_t calls[MOST_INSIDE];
     struct call call;
     unsigned count = take_up(first, calls);
-    if (!telling_call(modules, calls, count, &call))
+    if (!telling_call(modules, calls, count, &call, NULL))
         return;
     const char *function = function_of(&call.frame);
     char end[32];

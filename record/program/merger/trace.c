@@ -126,11 +126,20 @@ void hold_from_start(uint32_t task, struct locks *locks, uint32_t number)
     push(task_at(task), number);
 }
 
+static bool holds_class(const struct task *task, const struct locks *locks, const struct class *class)
+{
+    for (size_t place = 0; place < task->held_count; place++)
+        if (locks->all[task->held[place]].class == class)
+            return true;
+    return false;
+}
+
 void write_got(const char *verb, uint32_t number, struct locks *locks, struct lock *lock)
 {
     struct task *task = task_at(number);
     if (must_open(task, lock->class))
         open_trace(locks);
+    lock->class->under_itself += holds_class(task, locks, lock->class);
     lock->holder = number;
     lock->level = 1;
     lock->written = task->written < MOST_HELD;
