@@ -16,8 +16,8 @@ no_fault : {A E : Type 0} (fault : Option StreamFault) (result : Result A E) (x 
 no_fault None result x of is told = refl
 no_fault (Some f) result x of is told = absurd (cc)
 
-pub reduction_in-requires : goal.reduction_in-requires
-reduction_in-requires g c =
+pub reduction_in-reduced-requires : goal.reduction_in-reduced-requires
+reduction_in-reduced-requires g c =
     let bytes = c.args.bytes.now in
     All-permutation IsTrace (sources bytes) c.in_ok-checked.checked.book c.in_ok-checked.ensures.book
     (sources-traces bytes (no_fault (stream_fault bytes) _ c.in_ok-checked.checked Stream refl c.in_ok-checked.ensures.fault))
