@@ -7,5 +7,6 @@ mod report;
 mod runs;
 
 pub use checked::{CheckFault, Checked, MOST_WORKERS, check};
+pub use ld_work::NoGate;
 pub use report::{Report, report_of};
 pub use runs::{RunFault, run};

@@ -1,3 +1,4 @@
+pub mod Streams
+pub mod Reduced
 pub mod Faults
 pub mod News
-pub mod Streams

@@ -1,6 +1,7 @@
 //! Why there is no answer.
 
 use crate::news::NewsFault;
+use crate::reduce::ReduceFault;
 use ld_trace::StreamFault;
 use std::alloc::AllocError;
 use std::io;
@@ -47,7 +48,7 @@ pub enum Fault<'a> {
 
 impl<'a> Fault<'a> {
     ghost use Rattle.std.specs.Prelude.{◌≡◌};
-    ghost use Rattle.lockgraph.specs.Faults.{fault_of_news};
+    ghost use Rattle.lockgraph.specs.Faults.{fault_of_news, fault_of_reduce};
     ghost use Rattle.lockgraph.specs.Streams.{fault_of_file};
 
     /// A fault of the stream that this file is.
@@ -72,6 +73,18 @@ impl<'a> Fault<'a> {
             NewsFault::Write => Fault::Write,
             NewsFault::Memory => Fault::Memory,
             NewsFault::Uneven(number) => Fault::Uneven(number),
+        }
+    }
+
+    /// Why there is no reduced stream.
+    pub fn of_reduce(fault: ReduceFault) -> Fault<'a>
+        ensures { result ≡ fault_of_reduce fault }
+    {
+        match fault {
+            ReduceFault::Stream(fault) => Fault::Together(fault),
+            ReduceFault::Write => Fault::Write,
+            ReduceFault::Memory => Fault::Memory,
+            ReduceFault::Uneven(number) => Fault::Uneven(number),
         }
     }
 }

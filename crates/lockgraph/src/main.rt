@@ -8,12 +8,14 @@ ghost use Rattle.clap.specs.declared.error.kind.ErrorKind.{ErrorKind};
 
 mod fault;
 mod news;
+mod reduce;
 mod streams;
 mod words;
 
 use fault::Fault;
 use ld_report::Verdict;
 use news::answer_new;
+use reduce::answer_reduce;
 use std::fmt::Display;
 use std::process::ExitCode;
 use std::rt::{Env, Files};
@@ -51,6 +53,7 @@ fn answer<'a, R: Files + io::Input + Print + AllocGlobal + Threads + Wait + Sync
 ) -> Result<Verdict, Fault<'a>> {
     match asked {
         Asked::New(words) => answer_new(rt, words),
+        Asked::Reduce(words) => answer_reduce(rt, words),
     }
 }
 

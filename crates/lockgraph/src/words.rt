@@ -3,6 +3,7 @@ ghost use Rattle.std.specs.Prelude.{◌≤◌};
 ghost use Rattle.ld_check.specs.declared.checked.TheConstants.{MOST_WORKERS};
 
 mod new;
+mod reduce;
 
 use crate::streams::STANDARD_INPUT;
 use clap::error::ErrorKind;
@@ -10,6 +11,8 @@ use clap::{Arg, ArgAction, ArgMatches, Command, Error, value_parser};
 use ld_check::MOST_WORKERS;
 pub use new::NewWords;
 use new::{new_command, read_new};
+pub use reduce::ReduceWords;
+use reduce::{read_reduce, reduce_command};
 use std::alloc::{AllocError, Global};
 use std::convert::AsStr;
 
@@ -31,13 +34,16 @@ Exit status:
   3  no violation that is told, and a trace is refused
 
 Example:
-  lockgraph new --known known.report run.trace";
+  lockgraph new --known known.report run.trace
+  lockgraph reduce run.trace other.trace > reduced.trace";
 
 /// What a call asks for.
 #[derive(Debug, Drop)]
 pub enum Asked<'a> {
     /// `new`.
     New(NewWords<'a>),
+    /// `reduce`.
+    Reduce(ReduceWords<'a>),
 }
 
 /// What each command is given.
@@ -61,6 +67,7 @@ pub fn read_words<'a, S: AsStr>(alloc: Global, words: &'a [S]) -> Result<Asked<'
     let matches = command.try_get_matches_from_mut(words)?;
     match matches.subcommand() {
         Some(("new", matches)) => Ok(Asked::New(read_new(alloc, &mut command, matches)?)),
+        Some(("reduce", matches)) => Ok(Asked::Reduce(read_reduce(alloc, &mut command, matches)?)),
         _ => Err(command.error(ErrorKind::MissingSubcommand, "a command is missing")?),
     }
 }
@@ -119,7 +126,8 @@ fn command_line<'a>(alloc: Global) -> Result<Command<'a>, AllocError> {
         .version(VERSION)
         .after_help(AFTER_HELP)
         .subcommand_required(true)
-        .subcommand(new_command(alloc)?)
+        .subcommand(new_command(alloc)?)?
+        .subcommand(reduce_command(alloc)?)
 }
 
 /// `--workers N`.

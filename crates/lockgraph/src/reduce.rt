@@ -1,0 +1,192 @@
+//! `reduce`: the stream of those traces in which something was first seen.
+ghost use Rattle.std.specs.Prelude.{◌≡◌, ◌≢◌, ◌≤◌, ◌<◌, ◌↔◌, ℕ, All, AllPairs, List, Err, IfOk, IfSome, IsErr, OnErr, OnOk, Some, true, false};
+ghost use Rattle.std.specs.Io.KnownBytes.{Appends};
+ghost use Rattle.ld_trace.specs.declared.source.StreamFault.{StreamFault};
+ghost use Rattle.ld_trace.specs.Sources.{sources, stream_fault};
+ghost use Rattle.ld_device.specs.Transfer.{AppendsPart};
+ghost use Rattle.ld_trace.specs.Sources.{PlainSource};
+ghost use Rattle.ld_reduce.specs.Written.{IsTrace};
+ghost use Rattle.std.specs.List.Sorted.{IsPermutation};
+ghost use Rattle.lockgraph.specs.Reduced.{IsReducedOf, verdict_of_reduced};
+
+use crate::fault::Fault;
+use crate::streams::read_streams;
+use crate::words::ReduceWords;
+use ld_book::Book;
+use ld_check::{CheckFault, MOST_WORKERS, NoGate, check};
+use ld_device::{Output, Std, send};
+use ld_reduce::reduction;
+use ld_report::Verdict;
+use ld_trace::StreamFault;
+use std::alloc::{AllocError, Global};
+use std::io;
+use std::rt::Files;
+use std::sync::Wait;
+use std::thread::Threads;
+
+/// A reduced stream.
+#[derive(Debug, Drop)]
+struct Reduced {
+    /// Its bytes.
+    text: Vec<u8>,
+    /// `Refused` where a refused trace was left out, else `Clean`.
+    verdict: Verdict,
+}
+
+/// Why there is no reduced stream, or no whole one.
+#[derive(Clone, Copy, Debug, PartialEq, Eq)]
+pub enum ReduceFault {
+    /// The stream has this fault.
+    Stream(StreamFault),
+    /// A write or the flush failed.
+    Write,
+    /// A growth of memory was refused.
+    Memory,
+    /// The workers' book doesn't list just the traces of the stream; this number is the least that
+    /// tells so.
+    Uneven(u64),
+}
+
+/// Writes the reduced stream of the files that are named. May wait.
+///
+/// # Errors
+///
+/// Those of `read_streams` and of `write_reduced`.
+pub fn answer_reduce<'a, R: Files + io::Input + Print + AllocGlobal + Threads + Wait + Sync>(
+    rt: &R,
+    words: &ReduceWords<'a>,
+) -> Result<Verdict, Fault<'a>> {
+    let streams = read_streams(rt, &words.given.files)?;
+    let mut output = Std::new(io::writer(rt));
+    let workers = words.given.workers;
+    let keep_refused = words.keep_refused;
+    match write_reduced(
+        rt,
+        rt.alloc(),
+        &streams.bytes,
+        keep_refused,
+        &mut output,
+        workers,
+    ) {
+        Ok(verdict) => Ok(verdict),
+        Err(fault) => Err(Fault::of_reduce(fault)),
+    }
+}
+
+/// What it comes to that so many traces are refused, and are kept or not.
+fn verdict_of_reduced(keep_refused: bool, refused: u64) -> Verdict
+    ensures { result ≡ verdict_of_reduced keep_refused refused }
+{
+    if keep_refused || refused == 0 {
+        Verdict::Clean
+    } else {
+        Verdict::Refused
+    }
+}
+
+/// The reduced stream of the traces that a book lists.
+fn reduction_in(alloc: Global, book: &Book<'_>, keep_refused: bool) -> Result<Reduced, ReduceFault>
+    requires { All IsTrace book.now }
+    ensures memory { OnErr result (result ≡ Err ReduceFault.Memory) }
+    ensures reduced { IfOk result (λ reduced. (in_order : List PlainSource) × IsPermutation book.now in_order
+        × AllPairs (λ a b. a.number < b.number) in_order × IsReducedOf keep_refused in_order reduced.text.items reduced.verdict) }
+{
+    let text = reduction(alloc, book, keep_refused)?;
+    let verdict = verdict_of_reduced(keep_refused, book.totals().refused);
+    Ok(Reduced { text, verdict })
+}
+
+/// The reduced stream of a stream, whose traces that many workers read at once. May wait.
+///
+/// # Errors
+///
+/// `Stream` exactly where the stream has a fault, whatever memory there is; `Memory` where a growth was
+/// refused; and `Uneven` where the workers' book isn't that of the stream.
+fn reduction_of<R: Threads + Wait + Sync>(
+    rt: &R,
+    alloc: Global,
+    bytes: &[u8],
+    keep_refused: bool,
+    workers: usize,
+) -> Result<Reduced, ReduceFault>
+    requires { (1 ≤ workers) × (workers ≤ MOST_WORKERS) }
+    ensures reduced { IfOk result (λ reduced.
+        IsReducedOf keep_refused (sources bytes.now) reduced.text.items reduced.verdict) }
+    ensures stream { IfSome (stream_fault bytes.now) (λ fault.
+        result ≡ Err (ReduceFault.Stream fault)) }
+    ensures sound { (fault : StreamFault) → result ≡ Err (ReduceFault.Stream fault) →
+        stream_fault bytes.now ≡ Some fault }
+    ensures unwritten { result ≢ Err ReduceFault.Write }
+{
+    let checked = check(rt, alloc, bytes, workers, &NoGate)?;
+    let reduced = reduction_in(alloc, &checked.book, keep_refused);
+    drop(checked);
+    reduced
+}
+
+/// Writes the reduced stream of a stream, whose traces that many workers read at once, and flushes it. No
+/// write or flush that fails is tried again. May wait.
+///
+/// It has the violations that the stream has, and joined with the reduced stream of another those that both
+/// streams have together.
+///
+/// # Errors
+///
+/// `Write` exactly where a write or the flush failed: a first part of the text was written then, and
+/// after any other fault nothing. The other faults are those of `reduction_of`.
+fn write_reduced<O: Output, R: Threads + Wait + Sync>(
+    rt: &R,
+    alloc: Global,
+    bytes: &[u8],
+    keep_refused: bool,
+    output: &mut O,
+    workers: usize,
+) -> Result<Verdict, ReduceFault>
+    requires sound { O.write_failed output.old ≡ false }
+    requires workers { (1 ≤ workers) × (workers ≤ MOST_WORKERS) }
+
+    ensures ok { IfOk result (λ verdict. (text : List ℕ)
+        × IsReducedOf keep_refused (sources bytes.now) text verdict
+        × Appends (O.held output.old) (O.held output.new) text) }
+    ensures flushed { OnOk result (O.is_flushed output.new ≡ true) }
+    ensures write { (result ≡ Err ReduceFault.Write) ↔ (O.write_failed output.new ≡ true) }
+    ensures part { result ≡ Err ReduceFault.Write → (text : List ℕ) × (verdict : Verdict)
+        × IsReducedOf keep_refused (sources bytes.now) text verdict
+        × AppendsPart (O.held output.old) (O.held output.new) text }
+    ensures nothing { IsErr result → result ≢ Err ReduceFault.Write → output.new ≡ output.old }
+
+    ensures stream { IfSome (stream_fault bytes.now) (λ fault.
+        result ≡ Err (ReduceFault.Stream fault)) }
+    ensures stream_sound { (fault : StreamFault) → result ≡ Err (ReduceFault.Stream fault) →
+        stream_fault bytes.now ≡ Some fault }
+{
+    let reduced = reduction_of(rt, alloc, bytes, keep_refused, workers)?;
+    match send(output, &reduced.text) {
+        Ok(()) => Ok(reduced.verdict),
+        Err(_) => Err(ReduceFault::Write),
+    }
+}
+
+impl From<CheckFault> for ReduceFault {
+    ghost use Rattle.lockgraph.specs.Faults.{reduce_fault_of_check};
+
+    ghost from_gives = { λ fault gives. gives ≡ reduce_fault_of_check fault };
+
+    fn from(fault: CheckFault) -> ReduceFault {
+        match fault {
+            CheckFault::Stream(fault) => ReduceFault::Stream(fault),
+            CheckFault::Memory => ReduceFault::Memory,
+            CheckFault::Uneven(number) => ReduceFault::Uneven(number),
+        }
+    }
+}
+
+impl From<AllocError> for ReduceFault {
+    ghost use Rattle.lockgraph.specs.declared.reduce.ReduceFault.TheVariants.{Memory};
+
+    ghost from_gives = { λ _ fault. fault ≡ Memory };
+
+    fn from(_refusal: AllocError) -> ReduceFault {
+        ReduceFault::Memory
+    }
+}

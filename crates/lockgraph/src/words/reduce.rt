@@ -1,0 +1,59 @@
+//! The words of `reduce`.
+
+use super::{Given, count_of_workers, named_files, read_given};
+use clap::{Arg, ArgAction, ArgMatches, Command, Error};
+use std::alloc::{AllocError, Global};
+
+/// What the help of `reduce` says behind its words.
+const AFTER_REDUCE: &str = "\
+Writes those traces in which a dependency, or a usage bit of a class, was first seen, whole and in their order,
+as a stream: lockcheck gives of it the same violations, with the same labels, and lines counted anew. What is
+joined of reduced streams by cat has the violations of all their traces together, and can be reduced again.
+Classes without dependencies and usage bits may be missing in it, and so may lines before the first header.
+
+Exit status: 3 where a refused trace is left out, 0 else, 2 where there is no whole answer.
+
+Example:
+  lockgraph reduce run.trace other.trace > reduced.trace
+  lockcheck < reduced.trace";
+
+/// What `reduce` is asked.
+#[derive(Debug, Drop)]
+pub struct ReduceWords<'a> {
+    /// Whether refused traces are written too.
+    pub keep_refused: bool,
+    /// The files with the streams, and how they are read.
+    pub given: Given<'a>,
+}
+
+/// `reduce [--keep-refused] [--workers N] [FILE]..`.
+pub fn reduce_command<'a>(alloc: Global) -> Result<Command<'a>, AllocError> {
+    let keep_refused = Arg::new(alloc, "keep-refused")
+        .long("keep-refused")
+        .help("Refused traces are written too")
+        .action(ArgAction::SetTrue);
+    Command::new(alloc, "reduce")
+        .about("Writes the traces that are the first to show something, as a stream")
+        .after_help(AFTER_REDUCE)
+        .arg(keep_refused)?
+        .arg(count_of_workers(alloc))?
+        .arg(named_files(alloc))
+}
+
+/// What the words behind `reduce` ask for.
+///
+/// # Errors
+///
+/// Those of `read_words`.
+pub fn read_reduce<'a>(
+    alloc: Global,
+    command: &mut Command<'a>,
+    matches: &ArgMatches<'a>,
+) -> Result<ReduceWords<'a>, Error> {
+    let keep_refused = matches.get_flag("keep-refused");
+    let given = read_given(alloc, command, matches, None)?;
+    Ok(ReduceWords {
+        keep_refused,
+        given,
+    })
+}
