@@ -52,7 +52,8 @@ def of_readers(text, names):
         if match:
             locks = held[match[1] if match[1] != '0' else 'idle ' + match[2]]
             numbers = [number for number, each in enumerate(locks) if each[0] == match[3]]
-            del locks[numbers[-1] if numbers else len(locks):]
+            if numbers:
+                del locks[numbers[-1]]
     return found
 
 
