@@ -74,9 +74,7 @@ fn copy_front(front: &[u32], start: usize, end: usize, row: &mut Vec<u32>)
     ensures capacity { vec_capacity row.old ≤ vec_capacity row.new }
 {
     for place in start..end {
-        let Ok(()) = row.push(front[front.len() - 1 - place]) else {
-            unreachable!()
-        };
+        row.push_reserved(front[front.len() - 1 - place]);
     }
 }
 
@@ -116,9 +114,7 @@ impl Line {
         ensures items { self.new.items ≡ class ∷ self.old.items }
         ensures kept { self.old.room ≤ self.new.room }
     {
-        let Ok(()) = self.front.push(class) else {
-            unreachable!()
-        };
+        self.front.push_reserved(class);
     }
 
     /// Puts a class behind all others.
@@ -127,9 +123,7 @@ impl Line {
         ensures items { self.new.items ≡ self.old.items ++ class ∷ [] }
         ensures kept { self.old.room ≤ self.new.room }
     {
-        let Ok(()) = self.back.push(class) else {
-            unreachable!()
-        };
+        self.back.push_reserved(class);
     }
 
     /// Copies the classes at these places.

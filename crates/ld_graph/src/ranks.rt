@@ -114,9 +114,7 @@ impl Ranks {
         ensures ranks { self.new.ranks ≡ self.old.ranks ++ 0 ∷ [] }
         ensures room { self.new.room ≡ self.old.room }
     {
-        let Ok(()) = self.ranks.push(0) else {
-            unreachable!()
-        };
+        self.ranks.push_reserved(0);
     }
 
     /// Ranks a class that has no rank before all others.

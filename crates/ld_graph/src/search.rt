@@ -64,9 +64,7 @@ impl Search {
     {
         if !self.marks[offset as usize] {
             self.marks[offset as usize] = true;
-            let Ok(()) = self.found.push(offset) else {
-                unreachable!()
-            };
+            self.found.push_reserved(offset);
         }
     }
 
