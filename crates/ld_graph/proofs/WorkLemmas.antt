@@ -1,9 +1,9 @@
 -- How much the search for components has left to do, and how it begins and ends.
 use Rattle.std.proofs.Common.{◌≡◌, ◌≢◌, ℕ, zero, suc, ◌+◌, ◌<◌, ◌≤◌, ◌⊎◌, inl, inr}
-use Rattle.std.proofs.Common.{List, [], ◌∷◌, ◌++◌, length, get_or, set, take, replicate, arith, cond, count_by}
+use Rattle.std.proofs.Common.{List, [], ◌∷◌, ◌++◌, length, get_or, set, take, arith, cond, count_by}
 use Rattle.std.proofs.Common.{refl, sym, ap, ◌∙◌}
 use Rattle.std.proofs.lemmas.Bool.{cases_lt, cases_eq}
-use Rattle.std.proofs.lemmas.List.{get_or-replicate, get_or_past, length-replicate, take_more, take_at, length-take-le}
+use Rattle.std.proofs.lemmas.List.{get_or_past, take_more, take_at, length-take-le}
 use Rattle.std.proofs.lemmas.List.{get_or_push, get_or-set_same, get_or-set_other, length-set}
 use Rattle.std.proofs.lemmas.List.Sums.{sum_by-set}
 use Rattle.ld_graph.specs.declared.trail.Stage.{Stage}
@@ -11,7 +11,7 @@ use Rattle.ld_graph.specs.declared.trail.Stage.TheVariants.{Fresh, Open, Closed}
 use Rattle.ld_graph.specs.Lists.{IsNear}
 use Rattle.ld_graph.specs.Components.{AreTogether, AreComponents}
 use Rattle.ld_graph.specs.Inner.Repairs.{IsOrReaches}
-use Rattle.ld_graph.specs.Inner.Trails.{PlainTrail, stage_at, frame_at, IsLimit, IsFrame, IsTrail, IsToldFrom, rest, is_fresh}
+use Rattle.ld_graph.specs.Inner.Trails.{PlainTrail, stage_at, IsTrail, IsToldFrom, rest, is_fresh}
 use Rattle.ld_graph.proofs.TrailLemmas.{reaches-on}
 use Rattle.ld_graph.proofs.WalkLemmas.{IsWalk-same}
 

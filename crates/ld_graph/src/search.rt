@@ -76,6 +76,16 @@ impl Search {
         self.marks[offset as usize]
     }
 
+    /// The offsets that were found.
+    pub fn found(&self) -> &[u32]
+        ensures found { result.now ≡ self.now.found }
+        ensures once { IsDistinct nat_eq self.now.found }
+    {
+        // Read so that the invariant, which speaks of both fields, is at hand.
+        let _ = &self.marks;
+        &self.found
+    }
+
     /// The offset that was found as number `number`, from 0 on.
     pub fn offset(&self, number: usize) -> u32
         requires { number < length self.now.found }
