@@ -71,6 +71,9 @@ module _ (step : ℕ → ℕ → Type 0) (ranks order : List ℕ) (first : ℕ) 
         ) in
         copied ∙ ap (λ m. row_of order start m) n
 
+    pub copy_length : length copy ≡ high + 1 - low
+    copy_length = ap length copy_is ∙ row_length
+
     pub copy_reaches : IsOrReaches step (get_or copy 0 0) (get_or copy (length copy - 1) 0)
         → IsOrReaches step b a
     copy_reaches r =

@@ -1,6 +1,6 @@
 //! Classes in a line that grows at both ends.
 
-ghost use Rattle.std.specs.Prelude.{◌≡◌, ◌≢◌, ℕ, ◌+◌, ◌-◌, ◌<◌, ◌≤◌, ◌⊎◌, [], ◌∷◌, ◌++◌, length};
+ghost use Rattle.std.specs.Prelude.{◌≡◌, ◌≢◌, ℕ, ◌+◌, ◌-◌, ◌^◌, ◌<◌, ◌≤◌, ◌⊎◌, [], ◌∷◌, ◌++◌, length};
 ghost use Rattle.std.specs.Prelude.{reverse, slice_index, slice_range, vec_capacity, OnOk};
 ghost use Rattle.ld_graph.specs.Inner.Lines.{IsWritten};
 
@@ -28,6 +28,27 @@ impl Model for Line {
       items = reverse l.front.items ++ l.back.items;
       room = min (vec_capacity l.front) (vec_capacity l.back);
     } };
+}
+
+/// The classes at some places of a line, read where they are.
+#[derive(Drop)]
+pub struct Row<'a> {
+    line: &'a Line,
+    start: usize,
+    end: usize,
+}
+
+impl<'a> Model for Row<'a> {
+    ghost use Rattle.std.specs.Prelude.{List, ℕ};
+
+    ghost Value = { List ℕ };
+
+    ghost use Rattle.std.specs.Prelude.{◌<◌, ◌≤◌, ◌^◌, length, slice_range};
+
+    ghost view = { λ r. slice_range r.line.now.items r.start r.end };
+
+    ghost invariant = { λ r. (r.start ≤ r.end) × (r.end ≤ length r.line.now.items)
+        × (r.start < 2 ^ 32) };
 }
 
 /// Writes these classes over those of the list before the end, from the last of these on.
@@ -126,6 +147,33 @@ impl Line {
         self.back.push_reserved(class);
     }
 
+    /// The classes at these places.
+    pub fn row(&self, start: usize, end: usize) -> Row<'_>
+        requires range { start ≤ end }
+        requires within { end ≤ length self.now.items }
+        requires few { start < 2 ^ 32 }
+        ensures { result ≡ slice_range self.now.items start end }
+    {
+        Row {
+            line: self,
+            start,
+            end,
+        }
+    }
+
+    /// The class at a place.
+    fn class(&self, place: usize) -> u32
+        requires { place < length self.now.items }
+        ensures { result ≡ slice_index self.now.items place }
+    {
+        let len = self.front.len();
+        if place < len {
+            self.front[len - 1 - place]
+        } else {
+            self.back[place - len]
+        }
+    }
+
     /// Copies the classes at these places.
     pub fn copy(&self, start: usize, end: usize, row: &mut Vec<u32>)
         requires range { start ≤ end }
@@ -171,5 +219,31 @@ impl Line {
         let from = start.saturating_sub(self.front.len());
         write_front(&mut self.front, end, &classes[..near]);
         write_back(&mut self.back, from, &classes[near..]);
+    }
+}
+
+impl<'a> Row<'a> {
+    /// How many classes there are.
+    pub fn len(&self) -> usize
+        ensures { result ≡ length self.now }
+    {
+        self.end - self.start
+    }
+
+    /// The class at an offset.
+    pub fn class(&self, offset: u32) -> u32
+        requires { offset < length self.now }
+        ensures { result ≡ slice_index self.now offset }
+    {
+        self.line.class(self.start + offset as usize)
+    }
+
+    /// Copies the classes.
+    pub fn copy(&self, row: &mut Vec<u32>)
+        requires { length self.now ≤ vec_capacity row.old }
+        ensures items { row.new.items ≡ self.now }
+        ensures capacity { vec_capacity row.old ≤ vec_capacity row.new }
+    {
+        self.line.copy(self.start, self.end, row);
     }
 }

@@ -5,7 +5,7 @@ ghost use Rattle.std.specs.Prelude.{slice_index, vec_capacity};
 ghost use Rattle.std.specs.List.{IsDistinct};
 ghost use Rattle.ld_graph.specs.Inner.Repairs.{AreRanked, AreShared, count, is_part, picked};
 
-use crate::line::Line;
+use crate::line::{Line, Row};
 use crate::repair::Part;
 use crate::search::Search;
 
@@ -33,7 +33,7 @@ fn join(behind: &[u32], ahead: &[u32], pool: &mut Vec<u32>)
 }
 
 /// Appends the classes at those offsets of the pool that are in one part, in their order.
-fn pick(row: &[u32], search: &Search, part: Part, pool: &[u32], classes: &mut Vec<u32>)
+fn pick(row: &Row<'_>, search: &Search, part: Part, pool: &[u32], classes: &mut Vec<u32>)
     requires size { length row.now ≤ search.now.size }
     requires pool { (k : ℕ) → k < length pool.now → slice_index pool.now k < length row.now }
     requires room { length classes.old.items
@@ -46,7 +46,7 @@ fn pick(row: &[u32], search: &Search, part: Part, pool: &[u32], classes: &mut Ve
 {
     for offset in pool {
         if part.has(search, *offset) {
-            classes.push_reserved(row[*offset as usize]);
+            classes.push_reserved(row.class(*offset));
         }
     }
 }
@@ -54,7 +54,7 @@ fn pick(row: &[u32], search: &Search, part: Part, pool: &[u32], classes: &mut Ve
 /// Puts the offsets that both searches have found into the pool, in their order, and the classes at them into a
 /// list, those that the search backward has found first.
 pub fn share(
-    row: &[u32],
+    row: &Row<'_>,
     behind: &Search,
     ahead: &Search,
     pool: &mut Vec<u32>,

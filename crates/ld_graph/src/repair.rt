@@ -10,7 +10,7 @@ ghost use Rattle.ld_graph.specs.Inner.Repairs.{IsRow, IsOrReaches};
 ghost use Rattle.ld_graph.specs.Inner.Repairs.{count, in_front, is_part, picked, split};
 ghost use Rattle.ld_graph.specs.Lists.{IsNear};
 
-use crate::line::Line;
+use crate::line::{Line, Row};
 use crate::lists::{Lists, Steps};
 use crate::pool::{deal, share};
 use crate::search::Search;
@@ -164,7 +164,8 @@ fn plan(
     lists: &Lists,
     ranks: &[u32],
     low: u32,
-    row: &[u32],
+    row: &Row<'_>,
+    copy: &mut Vec<u32>,
     space: &mut Space,
     steps: &mut Steps,
 ) -> Option<Dealt>
@@ -185,12 +186,14 @@ fn plan(
     requires rest { length row.now ≤ length space.old.rest.items }
     requires pool { length row.now ≤ vec_capacity space.old.pool }
     requires shared { length row.now ≤ vec_capacity space.old.shared }
+    requires copy { length row.now ≤ vec_capacity copy.old }
     requires steps { steps.old ≡ 0 }
     ensures plan { MatchOption result
         (IsOrReaches (IsNear lists.now.after.lists) (slice_index row.now 0)
         (slice_index row.now (length row.now - 1)))
         (λ kind. IsPlanned kind (IsNear lists.now.after.lists) ranks.now low row.now
         space.new.moved.items space.new.pool.items space.new.shared.items steps.new) }
+    ensures copy { vec_capacity copy.old ≤ vec_capacity copy.new }
     ensures behind { (space.new.behind.found ≡ [])
         × (space.new.behind.size ≡ space.old.behind.size) }
     ensures ahead { (space.new.ahead.found ≡ [])
@@ -215,7 +218,8 @@ fn plan(
         share(row, behind, ahead, pool, shared);
         Some(Dealt::Shared)
     } else {
-        reorder(searched.ended, row, behind, ahead, moved, rest);
+        row.copy(copy);
+        reorder(searched.ended, copy, behind, ahead, moved, rest);
         Some(Dealt::Whole)
     };
     behind.clear();
@@ -318,10 +322,9 @@ pub fn mend(
     let low = ranks[b as usize];
     let start = (low - first) as usize;
     let end = (ranks[a as usize] - first) as usize + 1;
-    order.copy(start, end, row);
-    let dealt = plan(lists, ranks, low, row, space, steps)?;
+    let dealt = plan(lists, ranks, low, &order.row(start, end), row, space, steps)?;
     match dealt {
-        Dealt::Whole => renumber(&space.moved[..row.len()], low, start, ranks, order),
+        Dealt::Whole => renumber(&space.moved[..end - start], low, start, ranks, order),
         Dealt::Shared => deal(&space.shared, &space.pool, low, start, ranks, order),
     }
     Some(steps.count())

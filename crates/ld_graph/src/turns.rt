@@ -8,6 +8,7 @@ ghost use Rattle.ld_graph.specs.Inner.Repairs.{HasAllNear, HasEnded, HaveEnded, 
 ghost use Rattle.ld_graph.specs.Inner.Repairs.{IsRow, IsSought, of_side, start_of};
 ghost use Rattle.ld_graph.specs.Lists.{IsNear, list_at};
 
+use crate::line::Row;
 use crate::lists::{Lists, Steps};
 use crate::search::Search;
 
@@ -74,7 +75,7 @@ fn search_in_turn(
     steps: &mut Steps,
     ranks: &[u32],
     low: u32,
-    row: &[u32],
+    row: &Row<'_>,
     behind: &mut Search,
     ahead: &mut Search,
 ) -> Turns
@@ -109,7 +110,7 @@ fn search_in_turn(
     let mut done = 0;
     loop {
         let last = behind.offset(done);
-        let near = lists.before(row[last as usize], steps);
+        let near = lists.before(row.class(last), steps);
         expand(near, ranks, low, row.len(), behind);
         if behind.ends_at(done + 1) {
             return Turns {
@@ -119,7 +120,7 @@ fn search_in_turn(
             };
         }
         let first = ahead.offset(done);
-        let near = lists.after(row[first as usize], steps);
+        let near = lists.after(row.class(first), steps);
         expand(near, ranks, low, row.len(), ahead);
         if ahead.ends_at(done + 1) {
             return Turns {
@@ -153,7 +154,7 @@ fn go_on(
     steps: &mut Steps,
     ranks: &[u32],
     low: u32,
-    row: &[u32],
+    row: &Row<'_>,
     search: &mut Search,
     read: usize,
     most: usize,
@@ -183,7 +184,7 @@ fn go_on(
             return false;
         }
         let offset = search.offset(done);
-        let near = neighbours_on(lists, side, row[offset as usize], steps);
+        let near = neighbours_on(lists, side, row.class(offset), steps);
         expand(near, ranks, low, row.len(), search);
         done += 1;
     }
@@ -197,7 +198,7 @@ pub fn search_range(
     steps: &mut Steps,
     ranks: &[u32],
     low: u32,
-    row: &[u32],
+    row: &Row<'_>,
     behind: &mut Search,
     ahead: &mut Search,
 ) -> Searched

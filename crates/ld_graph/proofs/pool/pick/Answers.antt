@@ -26,7 +26,8 @@ loop-offset-preserved c =
     let item : ℕ → ℕ = λ k. get_or c.args.row.now (get_or c.args.pool.now k 0) 0 in
     elim c.if-has.branch [
       | then-has w ↦ rw w.classes-is (record {
-        items = w.push_reserved.ensures.items ∙ ap (λ z. z ++ item c.loop-offset.offset-index ∷ []) i.items
+        items = w.push_reserved.ensures.items ∙ ap (λ x. c.loop-offset.classes.items ++ x ∷ []) w.class.ensures
+            ∙ ap (λ z. z ++ item c.loop-offset.offset-index ∷ []) i.items
             ∙ append_assoc c.args.classes.now.items (picked p item c.loop-offset.offset-index)
             (item c.loop-offset.offset-index ∷ [])
             ∙ ap (λ z. c.args.classes.now.items ++ z)

@@ -3,7 +3,7 @@ use Rattle.std.proofs.Common.{subst, sym, take}
 use Rattle.ld_graph.specs.declared.repair.Dealt.TheVariants.{Shared, Whole}
 use Rattle.ld_graph.specs.Inner.Repairs.{AreRanked, IsPlanned}
 use Rattle.ld_graph.specs.Lists.{IsNear}
-use Rattle.ld_graph.proofs.PlanLemmas.{copy_reaches, mended, mended_inverse, moved_ends, moved_fits}
+use Rattle.ld_graph.proofs.PlanLemmas.{copy_length, copy_reaches, mended, mended_inverse, moved_ends, moved_fits}
 use Rattle.ld_graph.proofs.PlanLemmas.{moved_once, moved_place}
 use Rattle.ld_graph.proofs.repair.mend.Goals as goal
 use Rattle.ld_graph.proofs.repair.mend.Goals.{in-Shared, in-Whole}
@@ -15,60 +15,72 @@ returns-in_err-dealt-clause-ranks c = rw c.from_residual.ensures (
       c.args.first c.requires.inverse c.args.a c.args.b (get_or c.args.ranks.now c.args.b 0)
       (get_or c.args.ranks.now c.args.a 0) (get_or c.args.ranks.now c.args.b 0 - c.args.first) refl
       refl refl c.requires.ranked c.requires.against c.requires.rises c.requires.ends _
-      (c.deref.ensures.value ∙ c.copy.ensures.items)
+      c.row.ensures
       c.in_err-dealt.ensures.plan,
 )
 
 pub renumber-requires-clause-ends : goal.renumber-requires-clause-ends
 renumber-requires-clause-ends c =
     let planned : IsPlanned Whole (IsNear c.args.lists.now.after.lists) c.args.ranks.now (get_or c.args.ranks.now
-    c.args.b 0) c.deref.result.now c.plan.new.space.moved.items c.plan.new.space.pool.items
+    c.args.b 0) c.row.result c.plan.new.space.moved.items c.plan.new.space.pool.items
     c.plan.new.space.shared.items c.plan.new.steps = subst (λ d. IsPlanned d (IsNear
-    c.args.lists.now.after.lists) c.args.ranks.now (get_or c.args.ranks.now c.args.b 0) c.deref.result.now
+    c.args.lists.now.after.lists) c.args.ranks.now (get_or c.args.ranks.now c.args.b 0) c.row.result
     c.plan.new.space.moved.items c.plan.new.space.pool.items
     c.plan.new.space.shared.items c.plan.new.steps) c.in-Whole.is c.in_ok-dealt.ensures.plan in
-    let n : c.len.result ≡ length c.deref.result.now = let e = ap length c.deref.ensures.value in
-    omega (arith, e, c.len.ensures, c.copy.new.row.ok.0) in
-    let same : take c.len.result c.deref-in-Whole.result.now
-    ≡ take (length c.deref.result.now) c.plan.new.space.moved.items =
-    ap (take c.len.result) c.deref-in-Whole.ensures.value
+    let n : get_or c.args.ranks.now c.args.a 0 - c.args.first + 1 - (get_or c.args.ranks.now c.args.b 0 - c.args.first) ≡ length c.row.result =
+    let e = copy_length (IsNear c.args.lists.now.after.lists) c.args.ranks.now c.args.order.now.items
+    c.args.first c.requires.inverse c.args.a c.args.b (get_or c.args.ranks.now c.args.b 0)
+    (get_or c.args.ranks.now c.args.a 0) (get_or c.args.ranks.now c.args.b 0 - c.args.first) refl
+    refl refl c.requires.ranked c.requires.against c.requires.rises c.requires.ends _
+    c.row.ensures in
+    let f = (c.requires.inverse.back c.args.b c.requires.ranked).0 in
+    omega (arith, e, f, c.requires.against) in
+    let same : take (get_or c.args.ranks.now c.args.a 0 - c.args.first + 1 - (get_or c.args.ranks.now c.args.b 0 - c.args.first)) c.deref.result.now
+    ≡ take (length c.row.result) c.plan.new.space.moved.items =
+    ap (take (get_or c.args.ranks.now c.args.a 0 - c.args.first + 1 - (get_or c.args.ranks.now c.args.b 0 - c.args.first))) c.deref.ensures.value
     ∙ ap (λ n. take n c.plan.new.space.moved.items) n in
     subst (λ (z : List ℕ). (k : ℕ) → k < length z → get_or z k 0 < length c.args.ranks.now) (sym same)
     (moved_ends (IsNear c.args.lists.now.after.lists) c.args.ranks.now c.args.order.now.items
     c.args.first c.requires.inverse c.args.a c.args.b (get_or c.args.ranks.now c.args.b 0)
     (get_or c.args.ranks.now c.args.a 0) (get_or c.args.ranks.now c.args.b 0 - c.args.first) refl
     refl refl c.requires.ranked c.requires.against c.requires.rises c.requires.ends _
-    (c.deref.ensures.value ∙ c.copy.ensures.items) _ (λ k. k)
+    c.row.ensures _ (λ k. k)
     c.plan.new.steps planned)
 
 pub renumber-requires-clause-once : goal.renumber-requires-clause-once
 renumber-requires-clause-once c =
     let planned : IsPlanned Whole (IsNear c.args.lists.now.after.lists) c.args.ranks.now (get_or c.args.ranks.now
-    c.args.b 0) c.deref.result.now c.plan.new.space.moved.items c.plan.new.space.pool.items
+    c.args.b 0) c.row.result c.plan.new.space.moved.items c.plan.new.space.pool.items
     c.plan.new.space.shared.items c.plan.new.steps = subst (λ d. IsPlanned d (IsNear
-    c.args.lists.now.after.lists) c.args.ranks.now (get_or c.args.ranks.now c.args.b 0) c.deref.result.now
+    c.args.lists.now.after.lists) c.args.ranks.now (get_or c.args.ranks.now c.args.b 0) c.row.result
     c.plan.new.space.moved.items c.plan.new.space.pool.items
     c.plan.new.space.shared.items c.plan.new.steps) c.in-Whole.is c.in_ok-dealt.ensures.plan in
-    let n : c.len.result ≡ length c.deref.result.now = let e = ap length c.deref.ensures.value in
-    omega (arith, e, c.len.ensures, c.copy.new.row.ok.0) in
-    let same : take c.len.result c.deref-in-Whole.result.now
-    ≡ take (length c.deref.result.now) c.plan.new.space.moved.items =
-    ap (take c.len.result) c.deref-in-Whole.ensures.value
+    let n : get_or c.args.ranks.now c.args.a 0 - c.args.first + 1 - (get_or c.args.ranks.now c.args.b 0 - c.args.first) ≡ length c.row.result =
+    let e = copy_length (IsNear c.args.lists.now.after.lists) c.args.ranks.now c.args.order.now.items
+    c.args.first c.requires.inverse c.args.a c.args.b (get_or c.args.ranks.now c.args.b 0)
+    (get_or c.args.ranks.now c.args.a 0) (get_or c.args.ranks.now c.args.b 0 - c.args.first) refl
+    refl refl c.requires.ranked c.requires.against c.requires.rises c.requires.ends _
+    c.row.ensures in
+    let f = (c.requires.inverse.back c.args.b c.requires.ranked).0 in
+    omega (arith, e, f, c.requires.against) in
+    let same : take (get_or c.args.ranks.now c.args.a 0 - c.args.first + 1 - (get_or c.args.ranks.now c.args.b 0 - c.args.first)) c.deref.result.now
+    ≡ take (length c.row.result) c.plan.new.space.moved.items =
+    ap (take (get_or c.args.ranks.now c.args.a 0 - c.args.first + 1 - (get_or c.args.ranks.now c.args.b 0 - c.args.first))) c.deref.ensures.value
     ∙ ap (λ n. take n c.plan.new.space.moved.items) n in
     subst (λ (z : List ℕ). (j k : ℕ) → j < k → k < length z → get_or z j 0 ≢ get_or z k 0) (sym same)
     (moved_once (IsNear c.args.lists.now.after.lists) c.args.ranks.now c.args.order.now.items
     c.args.first c.requires.inverse c.args.a c.args.b (get_or c.args.ranks.now c.args.b 0)
     (get_or c.args.ranks.now c.args.a 0) (get_or c.args.ranks.now c.args.b 0 - c.args.first) refl
     refl refl c.requires.ranked c.requires.against c.requires.rises c.requires.ends _
-    (c.deref.ensures.value ∙ c.copy.ensures.items) _ (λ k. k)
+    c.row.ensures _ (λ k. k)
     c.plan.new.steps planned)
 
 pub deal-requires-clause-fits : goal.deal-requires-clause-fits
 deal-requires-clause-fits c =
     let planned : IsPlanned Shared (IsNear c.args.lists.now.after.lists) c.args.ranks.now (get_or c.args.ranks.now
-    c.args.b 0) c.deref.result.now c.plan.new.space.moved.items c.plan.new.space.pool.items
+    c.args.b 0) c.row.result c.plan.new.space.moved.items c.plan.new.space.pool.items
     c.plan.new.space.shared.items c.plan.new.steps = subst (λ d. IsPlanned d (IsNear
-    c.args.lists.now.after.lists) c.args.ranks.now (get_or c.args.ranks.now c.args.b 0) c.deref.result.now
+    c.args.lists.now.after.lists) c.args.ranks.now (get_or c.args.ranks.now c.args.b 0) c.row.result
     c.plan.new.space.moved.items c.plan.new.space.pool.items
     c.plan.new.space.shared.items c.plan.new.steps) c.in-Shared.is c.in_ok-dealt.ensures.plan in
     let shared = c.deref-in-Shared.ensures.value in let pool = c.deref-in-Shared-2.ensures.value in
@@ -79,15 +91,15 @@ deal-requires-clause-fits c =
     c.args.first c.requires.inverse c.args.a c.args.b (get_or c.args.ranks.now c.args.b 0)
     (get_or c.args.ranks.now c.args.a 0) (get_or c.args.ranks.now c.args.b 0 - c.args.first) refl
     refl refl c.requires.ranked c.requires.against c.requires.rises c.requires.ends _
-    (c.deref.ensures.value ∙ c.copy.ensures.items) _ (λ k. get_or c.plan.new.space.pool.items k 0)
+    c.row.ensures _ (λ k. get_or c.plan.new.space.pool.items k 0)
     c.plan.new.steps planned.1 c.requires.fits))
 
 pub deal-requires-clause-places : goal.deal-requires-clause-places
 deal-requires-clause-places c =
     let planned : IsPlanned Shared (IsNear c.args.lists.now.after.lists) c.args.ranks.now (get_or c.args.ranks.now
-    c.args.b 0) c.deref.result.now c.plan.new.space.moved.items c.plan.new.space.pool.items
+    c.args.b 0) c.row.result c.plan.new.space.moved.items c.plan.new.space.pool.items
     c.plan.new.space.shared.items c.plan.new.steps = subst (λ d. IsPlanned d (IsNear
-    c.args.lists.now.after.lists) c.args.ranks.now (get_or c.args.ranks.now c.args.b 0) c.deref.result.now
+    c.args.lists.now.after.lists) c.args.ranks.now (get_or c.args.ranks.now c.args.b 0) c.row.result
     c.plan.new.space.moved.items c.plan.new.space.pool.items
     c.plan.new.space.shared.items c.plan.new.steps) c.in-Shared.is c.in_ok-dealt.ensures.plan in
     let shared = c.deref-in-Shared.ensures.value in let pool = c.deref-in-Shared-2.ensures.value in
@@ -99,15 +111,15 @@ deal-requires-clause-places c =
     c.args.first c.requires.inverse c.args.a c.args.b (get_or c.args.ranks.now c.args.b 0)
     (get_or c.args.ranks.now c.args.a 0) (get_or c.args.ranks.now c.args.b 0 - c.args.first) refl
     refl refl c.requires.ranked c.requires.against c.requires.rises c.requires.ends _
-    (c.deref.ensures.value ∙ c.copy.ensures.items) _ (λ k. get_or c.plan.new.space.pool.items k 0)
+    c.row.ensures _ (λ k. get_or c.plan.new.space.pool.items k 0)
     c.plan.new.steps planned.1))
 
 pub deal-requires-clause-rising : goal.deal-requires-clause-rising
 deal-requires-clause-rising c =
     let planned : IsPlanned Shared (IsNear c.args.lists.now.after.lists) c.args.ranks.now (get_or c.args.ranks.now
-    c.args.b 0) c.deref.result.now c.plan.new.space.moved.items c.plan.new.space.pool.items
+    c.args.b 0) c.row.result c.plan.new.space.moved.items c.plan.new.space.pool.items
     c.plan.new.space.shared.items c.plan.new.steps = subst (λ d. IsPlanned d (IsNear
-    c.args.lists.now.after.lists) c.args.ranks.now (get_or c.args.ranks.now c.args.b 0) c.deref.result.now
+    c.args.lists.now.after.lists) c.args.ranks.now (get_or c.args.ranks.now c.args.b 0) c.row.result
     c.plan.new.space.moved.items c.plan.new.space.pool.items
     c.plan.new.space.shared.items c.plan.new.steps) c.in-Shared.is c.in_ok-dealt.ensures.plan in
     let shared = c.deref-in-Shared.ensures.value in let pool = c.deref-in-Shared-2.ensures.value in
@@ -119,9 +131,9 @@ deal-requires-clause-rising c =
 pub deal-requires-clause-ends : goal.deal-requires-clause-ends
 deal-requires-clause-ends c =
     let planned : IsPlanned Shared (IsNear c.args.lists.now.after.lists) c.args.ranks.now (get_or c.args.ranks.now
-    c.args.b 0) c.deref.result.now c.plan.new.space.moved.items c.plan.new.space.pool.items
+    c.args.b 0) c.row.result c.plan.new.space.moved.items c.plan.new.space.pool.items
     c.plan.new.space.shared.items c.plan.new.steps = subst (λ d. IsPlanned d (IsNear
-    c.args.lists.now.after.lists) c.args.ranks.now (get_or c.args.ranks.now c.args.b 0) c.deref.result.now
+    c.args.lists.now.after.lists) c.args.ranks.now (get_or c.args.ranks.now c.args.b 0) c.row.result
     c.plan.new.space.moved.items c.plan.new.space.pool.items
     c.plan.new.space.shared.items c.plan.new.steps) c.in-Shared.is c.in_ok-dealt.ensures.plan in
     let shared = c.deref-in-Shared.ensures.value in let pool = c.deref-in-Shared-2.ensures.value in
@@ -130,15 +142,15 @@ deal-requires-clause-ends c =
     c.args.first c.requires.inverse c.args.a c.args.b (get_or c.args.ranks.now c.args.b 0)
     (get_or c.args.ranks.now c.args.a 0) (get_or c.args.ranks.now c.args.b 0 - c.args.first) refl
     refl refl c.requires.ranked c.requires.against c.requires.rises c.requires.ends _
-    (c.deref.ensures.value ∙ c.copy.ensures.items) _ (λ k. get_or c.plan.new.space.pool.items k 0)
+    c.row.ensures _ (λ k. get_or c.plan.new.space.pool.items k 0)
     c.plan.new.steps planned.1)
 
 pub deal-requires-clause-once : goal.deal-requires-clause-once
 deal-requires-clause-once c =
     let planned : IsPlanned Shared (IsNear c.args.lists.now.after.lists) c.args.ranks.now (get_or c.args.ranks.now
-    c.args.b 0) c.deref.result.now c.plan.new.space.moved.items c.plan.new.space.pool.items
+    c.args.b 0) c.row.result c.plan.new.space.moved.items c.plan.new.space.pool.items
     c.plan.new.space.shared.items c.plan.new.steps = subst (λ d. IsPlanned d (IsNear
-    c.args.lists.now.after.lists) c.args.ranks.now (get_or c.args.ranks.now c.args.b 0) c.deref.result.now
+    c.args.lists.now.after.lists) c.args.ranks.now (get_or c.args.ranks.now c.args.b 0) c.row.result
     c.plan.new.space.moved.items c.plan.new.space.pool.items
     c.plan.new.space.shared.items c.plan.new.steps) c.in-Shared.is c.in_ok-dealt.ensures.plan in
     let shared = c.deref-in-Shared.ensures.value in let pool = c.deref-in-Shared-2.ensures.value in
@@ -147,38 +159,44 @@ deal-requires-clause-once c =
     c.args.first c.requires.inverse c.args.a c.args.b (get_or c.args.ranks.now c.args.b 0)
     (get_or c.args.ranks.now c.args.a 0) (get_or c.args.ranks.now c.args.b 0 - c.args.first) refl
     refl refl c.requires.ranked c.requires.against c.requires.rises c.requires.ends _
-    (c.deref.ensures.value ∙ c.copy.ensures.items) _ (λ k. get_or c.plan.new.space.pool.items k 0)
+    c.row.ensures _ (λ k. get_or c.plan.new.space.pool.items k 0)
     c.plan.new.steps planned.1)
 
 pub returns-clause-ranks : goal.returns-clause-ranks
 returns-clause-ranks c = elim c.match-dealt.branch [
   | in-Whole w ↦
       let planned : IsPlanned Whole (IsNear c.args.lists.now.after.lists) c.args.ranks.now (get_or c.args.ranks.now
-      c.args.b 0) c.deref.result.now c.plan.new.space.moved.items c.plan.new.space.pool.items
+      c.args.b 0) c.row.result c.plan.new.space.moved.items c.plan.new.space.pool.items
       c.plan.new.space.shared.items c.plan.new.steps = subst (λ d. IsPlanned d (IsNear
-      c.args.lists.now.after.lists) c.args.ranks.now (get_or c.args.ranks.now c.args.b 0) c.deref.result.now
+      c.args.lists.now.after.lists) c.args.ranks.now (get_or c.args.ranks.now c.args.b 0) c.row.result
       c.plan.new.space.moved.items c.plan.new.space.pool.items
       c.plan.new.space.shared.items c.plan.new.steps) w.in-Whole.is c.in_ok-dealt.ensures.plan in
-      let n : w.len.result ≡ length c.deref.result.now = let e = ap length c.deref.ensures.value in
-      omega (arith, e, w.len.ensures, c.copy.new.row.ok.0) in
-      let same : take w.len.result w.deref-in-Whole.result.now
-      ≡ take (length c.deref.result.now) c.plan.new.space.moved.items =
-      ap (take w.len.result) w.deref-in-Whole.ensures.value
+      let n : get_or c.args.ranks.now c.args.a 0 - c.args.first + 1 - (get_or c.args.ranks.now c.args.b 0 - c.args.first) ≡ length c.row.result =
+      let e = copy_length (IsNear c.args.lists.now.after.lists) c.args.ranks.now c.args.order.now.items
+      c.args.first c.requires.inverse c.args.a c.args.b (get_or c.args.ranks.now c.args.b 0)
+      (get_or c.args.ranks.now c.args.a 0) (get_or c.args.ranks.now c.args.b 0 - c.args.first) refl
+      refl refl c.requires.ranked c.requires.against c.requires.rises c.requires.ends _
+      c.row.ensures in
+      let f = (c.requires.inverse.back c.args.b c.requires.ranked).0 in
+      omega (arith, e, f, c.requires.against) in
+      let same : take (get_or c.args.ranks.now c.args.a 0 - c.args.first + 1 - (get_or c.args.ranks.now c.args.b 0 - c.args.first)) w.deref.result.now
+      ≡ take (length c.row.result) c.plan.new.space.moved.items =
+      ap (take (get_or c.args.ranks.now c.args.a 0 - c.args.first + 1 - (get_or c.args.ranks.now c.args.b 0 - c.args.first))) w.deref.ensures.value
       ∙ ap (λ n. take n c.plan.new.space.moved.items) n in
       rw (c.count.ensures, w.ranks-is) (mended (IsNear c.args.lists.now.after.lists) c.args.ranks.now c.args.order.now.items
       c.args.first c.requires.inverse c.args.a c.args.b (get_or c.args.ranks.now c.args.b 0)
       (get_or c.args.ranks.now c.args.a 0) (get_or c.args.ranks.now c.args.b 0 - c.args.first) refl
       refl refl c.requires.ranked c.requires.against c.requires.rises c.requires.ends _
-      (c.deref.ensures.value ∙ c.copy.ensures.items) _ (λ k. k)
+      c.row.ensures _ (λ k. k)
       c.plan.new.steps planned w.renumber.new.ranks w.renumber.new.order.items
       (subst (λ (z : List ℕ). AreRanked z (λ k. k) (length z) (get_or c.args.ranks.now c.args.b 0 - c.args.first) (get_or c.args.ranks.now c.args.b 0) c.args.ranks.now c.args.order.now.items
       w.renumber.new.ranks w.renumber.new.order.items) same w.renumber.ensures.ranked)
       w.renumber.auto.ranks w.renumber.ensures.len)
   | in-Shared w ↦
       let planned : IsPlanned Shared (IsNear c.args.lists.now.after.lists) c.args.ranks.now (get_or c.args.ranks.now
-      c.args.b 0) c.deref.result.now c.plan.new.space.moved.items c.plan.new.space.pool.items
+      c.args.b 0) c.row.result c.plan.new.space.moved.items c.plan.new.space.pool.items
       c.plan.new.space.shared.items c.plan.new.steps = subst (λ d. IsPlanned d (IsNear
-      c.args.lists.now.after.lists) c.args.ranks.now (get_or c.args.ranks.now c.args.b 0) c.deref.result.now
+      c.args.lists.now.after.lists) c.args.ranks.now (get_or c.args.ranks.now c.args.b 0) c.row.result
       c.plan.new.space.moved.items c.plan.new.space.pool.items
       c.plan.new.space.shared.items c.plan.new.steps) w.in-Shared.is c.in_ok-dealt.ensures.plan in
       let shared = w.deref-in-Shared.ensures.value in let pool = w.deref-in-Shared-2.ensures.value in
@@ -186,7 +204,7 @@ returns-clause-ranks c = elim c.match-dealt.branch [
       c.args.first c.requires.inverse c.args.a c.args.b (get_or c.args.ranks.now c.args.b 0)
       (get_or c.args.ranks.now c.args.a 0) (get_or c.args.ranks.now c.args.b 0 - c.args.first) refl
       refl refl c.requires.ranked c.requires.against c.requires.rises c.requires.ends _
-      (c.deref.ensures.value ∙ c.copy.ensures.items) _ (λ k. get_or c.plan.new.space.pool.items k 0)
+      c.row.ensures _ (λ k. get_or c.plan.new.space.pool.items k 0)
       c.plan.new.steps planned.1 w.deal.new.ranks w.deal.new.order.items
       (subst (λ (z : List ℕ). AreRanked z (λ k. get_or c.plan.new.space.pool.items k 0) (length z) (get_or c.args.ranks.now c.args.b 0 - c.args.first) (get_or c.args.ranks.now c.args.b 0)
       c.args.ranks.now c.args.order.now.items w.deal.new.ranks w.deal.new.order.items) shared
@@ -199,31 +217,37 @@ pub returns-clause-inverse : goal.returns-clause-inverse
 returns-clause-inverse c = elim c.match-dealt.branch [
   | in-Whole w ↦
       let planned : IsPlanned Whole (IsNear c.args.lists.now.after.lists) c.args.ranks.now (get_or c.args.ranks.now
-      c.args.b 0) c.deref.result.now c.plan.new.space.moved.items c.plan.new.space.pool.items
+      c.args.b 0) c.row.result c.plan.new.space.moved.items c.plan.new.space.pool.items
       c.plan.new.space.shared.items c.plan.new.steps = subst (λ d. IsPlanned d (IsNear
-      c.args.lists.now.after.lists) c.args.ranks.now (get_or c.args.ranks.now c.args.b 0) c.deref.result.now
+      c.args.lists.now.after.lists) c.args.ranks.now (get_or c.args.ranks.now c.args.b 0) c.row.result
       c.plan.new.space.moved.items c.plan.new.space.pool.items
       c.plan.new.space.shared.items c.plan.new.steps) w.in-Whole.is c.in_ok-dealt.ensures.plan in
-      let n : w.len.result ≡ length c.deref.result.now = let e = ap length c.deref.ensures.value in
-      omega (arith, e, w.len.ensures, c.copy.new.row.ok.0) in
-      let same : take w.len.result w.deref-in-Whole.result.now
-      ≡ take (length c.deref.result.now) c.plan.new.space.moved.items =
-      ap (take w.len.result) w.deref-in-Whole.ensures.value
+      let n : get_or c.args.ranks.now c.args.a 0 - c.args.first + 1 - (get_or c.args.ranks.now c.args.b 0 - c.args.first) ≡ length c.row.result =
+      let e = copy_length (IsNear c.args.lists.now.after.lists) c.args.ranks.now c.args.order.now.items
+      c.args.first c.requires.inverse c.args.a c.args.b (get_or c.args.ranks.now c.args.b 0)
+      (get_or c.args.ranks.now c.args.a 0) (get_or c.args.ranks.now c.args.b 0 - c.args.first) refl
+      refl refl c.requires.ranked c.requires.against c.requires.rises c.requires.ends _
+      c.row.ensures in
+      let f = (c.requires.inverse.back c.args.b c.requires.ranked).0 in
+      omega (arith, e, f, c.requires.against) in
+      let same : take (get_or c.args.ranks.now c.args.a 0 - c.args.first + 1 - (get_or c.args.ranks.now c.args.b 0 - c.args.first)) w.deref.result.now
+      ≡ take (length c.row.result) c.plan.new.space.moved.items =
+      ap (take (get_or c.args.ranks.now c.args.a 0 - c.args.first + 1 - (get_or c.args.ranks.now c.args.b 0 - c.args.first))) w.deref.ensures.value
       ∙ ap (λ n. take n c.plan.new.space.moved.items) n in
       rw (w.ranks-is, w.order-is) (mended_inverse (IsNear c.args.lists.now.after.lists) c.args.ranks.now c.args.order.now.items
       c.args.first c.requires.inverse c.args.a c.args.b (get_or c.args.ranks.now c.args.b 0)
       (get_or c.args.ranks.now c.args.a 0) (get_or c.args.ranks.now c.args.b 0 - c.args.first) refl
       refl refl c.requires.ranked c.requires.against c.requires.rises c.requires.ends _
-      (c.deref.ensures.value ∙ c.copy.ensures.items) _ (λ k. k)
+      c.row.ensures _ (λ k. k)
       c.plan.new.steps planned w.renumber.new.ranks w.renumber.new.order.items
       (subst (λ (z : List ℕ). AreRanked z (λ k. k) (length z) (get_or c.args.ranks.now c.args.b 0 - c.args.first) (get_or c.args.ranks.now c.args.b 0) c.args.ranks.now c.args.order.now.items
       w.renumber.new.ranks w.renumber.new.order.items) same w.renumber.ensures.ranked)
       w.renumber.auto.ranks w.renumber.ensures.len)
   | in-Shared w ↦
       let planned : IsPlanned Shared (IsNear c.args.lists.now.after.lists) c.args.ranks.now (get_or c.args.ranks.now
-      c.args.b 0) c.deref.result.now c.plan.new.space.moved.items c.plan.new.space.pool.items
+      c.args.b 0) c.row.result c.plan.new.space.moved.items c.plan.new.space.pool.items
       c.plan.new.space.shared.items c.plan.new.steps = subst (λ d. IsPlanned d (IsNear
-      c.args.lists.now.after.lists) c.args.ranks.now (get_or c.args.ranks.now c.args.b 0) c.deref.result.now
+      c.args.lists.now.after.lists) c.args.ranks.now (get_or c.args.ranks.now c.args.b 0) c.row.result
       c.plan.new.space.moved.items c.plan.new.space.pool.items
       c.plan.new.space.shared.items c.plan.new.steps) w.in-Shared.is c.in_ok-dealt.ensures.plan in
       let shared = w.deref-in-Shared.ensures.value in let pool = w.deref-in-Shared-2.ensures.value in
@@ -231,7 +255,7 @@ returns-clause-inverse c = elim c.match-dealt.branch [
       c.args.first c.requires.inverse c.args.a c.args.b (get_or c.args.ranks.now c.args.b 0)
       (get_or c.args.ranks.now c.args.a 0) (get_or c.args.ranks.now c.args.b 0 - c.args.first) refl
       refl refl c.requires.ranked c.requires.against c.requires.rises c.requires.ends _
-      (c.deref.ensures.value ∙ c.copy.ensures.items) _ (λ k. get_or c.plan.new.space.pool.items k 0)
+      c.row.ensures _ (λ k. get_or c.plan.new.space.pool.items k 0)
       c.plan.new.steps planned.1 w.deal.new.ranks w.deal.new.order.items
       (subst (λ (z : List ℕ). AreRanked z (λ k. get_or c.plan.new.space.pool.items k 0) (length z) (get_or c.args.ranks.now c.args.b 0 - c.args.first) (get_or c.args.ranks.now c.args.b 0)
       c.args.ranks.now c.args.order.now.items w.deal.new.ranks w.deal.new.order.items) shared

@@ -1,5 +1,6 @@
-use Rattle.std.proofs.Common.{arith}
+use Rattle.std.proofs.Common.{◌≡◌, ◌∙◌, List, ℕ, arith, get_or, length, subst, take}
 use Rattle.std.proofs.lemmas.Bool.{OnTrue_at}
+use Rattle.ld_graph.specs.Inner.Repairs.{HasMet, in_front, split}
 use Rattle.ld_graph.proofs.EndedLemmas.{apart_both, apart_few, met_reached}
 use Rattle.ld_graph.proofs.PlannedLemmas.{shared_length, shared_plan, whole_plan}
 use Rattle.ld_graph.proofs.repair.plan.Goals as goal
@@ -18,7 +19,8 @@ share-requires-clause-apart c =
     apart_both c.args.lists.now c.requires.turned c.args.ranks.now c.args.low c.args.row.now c.requires.row
     c.requires.rises c.requires.ends c.requires.some c.search_range-searched.new.behind.found
     c.search_range-searched.new.ahead.found s.behind s.ahead
-    c.search_range-searched.result.ended s.ended c.if-have_met.ensures.apart
+    c.search_range-searched.result.ended s.ended (subst (λ n. ¬ HasMet c.search_range-searched.result.ended n c.search_range-searched.new.behind.found
+    c.search_range-searched.new.ahead.found) c.len.ensures c.if-have_met.ensures.apart)
 
 pub returns-clause-plan : goal.returns-clause-plan
 returns-clause-plan c =
@@ -26,15 +28,18 @@ returns-clause-plan c =
     elim c.if-have_met.branch [
       | then-have_met w ↦ rw w.plan-is (met_reached c.args.lists.now c.requires.turned c.args.ranks.now c.args.low c.args.row.now c.requires.row
           c.requires.rises c.requires.ends c.requires.some c.search_range-searched.new.behind.found
-          c.search_range-searched.new.ahead.found s.behind s.ahead c.search_range-searched.result.ended w.if-have_met.ensures.met)
+          c.search_range-searched.new.ahead.found s.behind s.ahead c.search_range-searched.result.ended (subst (λ n. HasMet c.search_range-searched.result.ended n c.search_range-searched.new.behind.found
+          c.search_range-searched.new.ahead.found) c.len.ensures w.if-have_met.ensures.met))
       | else-have_met+then-searched w ↦
           let few = apart_few c.args.lists.now c.requires.turned c.args.ranks.now c.args.low c.args.row.now c.requires.row
           c.requires.rises c.requires.ends c.requires.some c.search_range-searched.new.behind.found
-          c.search_range-searched.new.ahead.found s.behind s.ahead c.search_range-searched.result.ended s.ended w.if-have_met.ensures.apart
+          c.search_range-searched.new.ahead.found s.behind s.ahead c.search_range-searched.result.ended s.ended (subst (λ n. ¬ HasMet c.search_range-searched.result.ended n c.search_range-searched.new.behind.found
+          c.search_range-searched.new.ahead.found) c.len.ensures w.if-have_met.ensures.apart)
           c.clear.ensures.once c.clear-2.ensures.once in
           let apart = apart_both c.args.lists.now c.requires.turned c.args.ranks.now c.args.low c.args.row.now c.requires.row
           c.requires.rises c.requires.ends c.requires.some c.search_range-searched.new.behind.found
-          c.search_range-searched.new.ahead.found s.behind s.ahead c.search_range-searched.result.ended s.ended w.if-have_met.ensures.apart in
+          c.search_range-searched.new.ahead.found s.behind s.ahead c.search_range-searched.result.ended s.ended (subst (λ n. ¬ HasMet c.search_range-searched.result.ended n c.search_range-searched.new.behind.found
+          c.search_range-searched.new.ahead.found) c.len.ensures w.if-have_met.ensures.apart) in
           rw (w.plan-is, w.space-is) (
             shared_length c.args.lists.now c.requires.turned c.args.ranks.now c.args.low c.args.row.now c.requires.row
                 c.requires.rises c.requires.ends c.requires.some c.search_range-searched.new.behind.found
@@ -50,11 +55,16 @@ returns-clause-plan c =
       | else-have_met+else-searched w ↦
           let few = apart_few c.args.lists.now c.requires.turned c.args.ranks.now c.args.low c.args.row.now c.requires.row
           c.requires.rises c.requires.ends c.requires.some c.search_range-searched.new.behind.found
-          c.search_range-searched.new.ahead.found s.behind s.ahead c.search_range-searched.result.ended s.ended w.if-have_met.ensures.apart
+          c.search_range-searched.new.ahead.found s.behind s.ahead c.search_range-searched.result.ended s.ended (subst (λ n. ¬ HasMet c.search_range-searched.result.ended n c.search_range-searched.new.behind.found
+          c.search_range-searched.new.ahead.found) c.len.ensures w.if-have_met.ensures.apart)
           c.clear.ensures.once c.clear-2.ensures.once in
           rw (w.plan-is, w.space-is) (whole_plan c.args.lists.now c.requires.turned c.args.ranks.now c.args.low c.args.row.now c.requires.row
           c.requires.rises c.requires.ends c.requires.some c.search_range-searched.new.behind.found
           c.search_range-searched.new.ahead.found s.behind s.ahead c.search_range-searched.result.ended s.ended
-          w.if-have_met.ensures.apart _ w.reorder.ensures.items c.search_range-searched.new.steps
+          (subst (λ n. ¬ HasMet c.search_range-searched.result.ended n c.search_range-searched.new.behind.found
+          c.search_range-searched.new.ahead.found) c.len.ensures w.if-have_met.ensures.apart) _ (subst (λ (z : List ℕ). take (length z) w.reorder.new.moved.items ≡ split
+          (in_front c.search_range-searched.result.ended c.search_range-searched.new.behind.found
+          c.search_range-searched.new.ahead.found) (λ k. get_or z k 0) (length z))
+          (w.deref.ensures.value ∙ w.copy.ensures.items) w.reorder.ensures.items) c.search_range-searched.new.steps
           (omega (arith, s.some, c.requires.steps)) (omega (arith, few, s.most, c.requires.steps)))
     ]

@@ -1,6 +1,6 @@
-use Rattle.std.proofs.Common.{◌≤◌, Contains, length, arith, get_or, subst}
-use Rattle.ld_graph.specs.Inner.Repairs.{of_side, start_of}
-use Rattle.ld_graph.specs.Lists.{IsNear}
+use Rattle.std.proofs.Common.{ℕ, ◌-◌, ◌≤◌, ◌∙◌, ap, Contains, length, arith, get_or, subst}
+use Rattle.ld_graph.specs.Inner.Repairs.{IsGrown, IsInside, of_side, start_of}
+use Rattle.ld_graph.specs.Lists.{IsNear, list_at}
 use Rattle.ld_graph.proofs.SoughtLemmas.{Contains-read, beyond, sought_few, turn_closed, turn_sought}
 use Rattle.ld_graph.proofs.turns.go_on.Goals as goal
 
@@ -8,8 +8,8 @@ pub offset-offset-requires : goal.offset-offset-requires
 offset-offset-requires c =
     beyond c.loop-side.done c.loop-side.search.found c.ends_at.result c.ends_at.ensures c.loop-side-test.true
 
-pub bounds-row-offset : goal.bounds-row-offset
-bounds-row-offset c =
+pub class-requires : goal.class-requires
+class-requires c =
     let b = beyond c.loop-side.done c.loop-side.search.found c.ends_at.result c.ends_at.ensures c.loop-side-test.true in
     c.loop-side.invariant.sought.within c.offset-offset.result (Contains-read c.loop-side.search.found
     c.loop-side.done c.offset-offset.result b c.offset-offset.ensures.offset)
@@ -20,7 +20,7 @@ neighbours_on-near-requires-clause-class c =
     let w = c.loop-side.invariant.sought.within c.offset-offset.result (Contains-read c.loop-side.search.found
     c.loop-side.done c.offset-offset.result b c.offset-offset.ensures.offset) in
     let at = (c.requires.row.at c.offset-offset.result w).0 in
-    omega (arith, at, c.requires.classes)
+    omega (arith, at, c.class.ensures, c.requires.classes)
 
 pub neighbours_on-near-requires-clause-few : goal.neighbours_on-near-requires-clause-few
 neighbours_on-near-requires-clause-few c =
@@ -33,7 +33,7 @@ neighbours_on-near-requires-clause-few c =
 
 pub expand-requires-clause-ends : goal.expand-requires-clause-ends
 expand-requires-clause-ends c = λ x n. c.requires.ends (get_or c.args.row.now c.offset-offset.result 0) x
-    (subst (λ l. Contains l x) c.neighbours_on-near.ensures.near n)
+    (subst (λ l. Contains l x) (c.neighbours_on-near.ensures.near ∙ ap (list_at (of_side c.args.side c.args.lists.now)) c.class.ensures) n)
 
 pub overflow_add-done : goal.overflow_add-done
 overflow_add-done c =
@@ -55,12 +55,15 @@ loop-side-preserved c =
       upto = omega (arith, g, b);
       sought = turn_sought (of_side c.args.side c.args.lists.now) c.args.ranks.now c.args.low c.args.row.now
           c.requires.row c.requires.ends c.loop-side.done c.offset-offset.result c.neighbours_on-near.result.now
-          c.neighbours_on-near.ensures.near c.loop-side.search.found c.expand.new.search.found b
-          c.offset-offset.ensures.offset c.expand.ensures.grown (start_of c.args.side (length c.args.row.now)) i.sought;
+          (c.neighbours_on-near.ensures.near ∙ ap (list_at (of_side c.args.side c.args.lists.now)) c.class.ensures) c.loop-side.search.found c.expand.new.search.found b
+          c.offset-offset.ensures.offset (subst (λ n. IsGrown (Contains c.neighbours_on-near.result.now) (λ x. get_or c.args.ranks.now x 0) c.args.low n
+          c.loop-side.search.found c.expand.new.search.found) c.len.ensures c.expand.ensures.grown) (start_of c.args.side (length c.args.row.now)) i.sought;
       near = turn_closed (of_side c.args.side c.args.lists.now) c.args.ranks.now c.args.low c.args.row.now
           c.requires.row c.requires.ends c.loop-side.done c.offset-offset.result c.neighbours_on-near.result.now
-          c.neighbours_on-near.ensures.near c.loop-side.search.found c.expand.new.search.found b
-          c.offset-offset.ensures.offset c.expand.ensures.grown i.near c.expand.ensures.taken;
+          (c.neighbours_on-near.ensures.near ∙ ap (list_at (of_side c.args.side c.args.lists.now)) c.class.ensures) c.loop-side.search.found c.expand.new.search.found b
+          c.offset-offset.ensures.offset (subst (λ n. IsGrown (Contains c.neighbours_on-near.result.now) (λ x. get_or c.args.ranks.now x 0) c.args.low n
+          c.loop-side.search.found c.expand.new.search.found) c.len.ensures c.expand.ensures.grown) i.near (subst (λ n. (x : ℕ) → Contains c.neighbours_on-near.result.now x → IsInside c.args.low n (get_or c.args.ranks.now x 0)
+          → Contains c.expand.new.search.found (get_or c.args.ranks.now x 0 - c.args.low)) c.len.ensures c.expand.ensures.taken);
     }
 
 pub loop-side-smaller : goal.loop-side-smaller

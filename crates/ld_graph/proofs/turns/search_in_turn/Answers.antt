@@ -1,10 +1,11 @@
-use Rattle.std.proofs.Common.{◌+◌, ◌-◌, ◌≤◌, Contains, length, arith, get_or, subst}
-use Rattle.ld_graph.specs.Lists.{IsNear}
+use Rattle.std.proofs.Common.{ℕ, ◌+◌, ◌-◌, ◌≤◌, ◌∙◌, ap, Contains, length, arith, get_or, subst}
+use Rattle.ld_graph.specs.Inner.Repairs.{IsGrown, IsInside}
+use Rattle.ld_graph.specs.Lists.{IsNear, list_at}
 use Rattle.ld_graph.proofs.SoughtLemmas.{Contains-read, beyond, sought_few, turn_closed, turn_sought}
 use Rattle.ld_graph.proofs.turns.search_in_turn.Goals as goal
 
-pub bounds-row-last : goal.bounds-row-last
-bounds-row-last c = c.loop-low.invariant.behind.within c.offset-last.result (Contains-read
+pub class-requires : goal.class-requires
+class-requires c = c.loop-low.invariant.behind.within c.offset-last.result (Contains-read
     c.loop-low.behind.found c.loop-low.done c.offset-last.result
     c.loop-low.invariant.upto_behind c.offset-last.ensures.offset)
 
@@ -18,10 +19,10 @@ before-near-requires-clause-few c =
 
 pub expand-requires-clause-ends : goal.expand-requires-clause-ends
 expand-requires-clause-ends c = λ x n. c.requires.before (get_or c.args.row.now c.offset-last.result 0) x
-    (subst (λ l. Contains l x) c.before-near.ensures.near n)
+    (subst (λ l. Contains l x) (c.before-near.ensures.near ∙ ap (list_at c.args.lists.now.before.lists) c.class.ensures) n)
 
-pub bounds-row-first : goal.bounds-row-first
-bounds-row-first c = c.loop-low.invariant.ahead.within c.offset-first.result (Contains-read
+pub class-requires-in-loop-low : goal.class-requires-in-loop-low
+class-requires-in-loop-low c = c.loop-low.invariant.ahead.within c.offset-first.result (Contains-read
     c.loop-low.ahead.found c.loop-low.done c.offset-first.result
     c.loop-low.invariant.upto c.offset-first.ensures.offset)
 
@@ -37,8 +38,9 @@ pub returns-then-ends_at-clause-behind : goal.returns-then-ends_at-clause-behind
 returns-then-ends_at-clause-behind c =
     turn_sought c.args.lists.now.before.lists c.args.ranks.now c.args.low c.args.row.now
     c.requires.row c.requires.before c.loop-low.done c.offset-last.result c.before-near.result.now
-    c.before-near.ensures.near c.loop-low.behind.found c.expand.new.search.found
-    c.loop-low.invariant.upto_behind c.offset-last.ensures.offset c.expand.ensures.grown
+    (c.before-near.ensures.near ∙ ap (list_at c.args.lists.now.before.lists) c.class.ensures) c.loop-low.behind.found c.expand.new.search.found
+    c.loop-low.invariant.upto_behind c.offset-last.ensures.offset (subst (λ n. IsGrown (Contains c.before-near.result.now) (λ x. get_or c.args.ranks.now x 0) c.args.low n
+    c.loop-low.behind.found c.expand.new.search.found) c.len-in-loop-low.ensures c.expand.ensures.grown)
     (length c.args.row.now - 1) c.loop-low.invariant.behind
 
 pub returns-then-ends_at-clause-ended : goal.returns-then-ends_at-clause-ended
@@ -47,9 +49,11 @@ returns-then-ends_at-clause-ended c =
     c.ends_at.ensures.0 c.if-ends_at.true in
     let closed = turn_closed c.args.lists.now.before.lists c.args.ranks.now c.args.low
     c.args.row.now c.requires.row c.requires.before c.loop-low.done c.offset-last.result
-    c.before-near.result.now c.before-near.ensures.near c.loop-low.behind.found
+    c.before-near.result.now (c.before-near.ensures.near ∙ ap (list_at c.args.lists.now.before.lists) c.class.ensures) c.loop-low.behind.found
     c.expand.new.search.found c.loop-low.invariant.upto_behind c.offset-last.ensures.offset
-    c.expand.ensures.grown c.loop-low.invariant.behind_closed c.expand.ensures.taken in
+    (subst (λ n. IsGrown (Contains c.before-near.result.now) (λ x. get_or c.args.ranks.now x 0) c.args.low n
+    c.loop-low.behind.found c.expand.new.search.found) c.len-in-loop-low.ensures c.expand.ensures.grown) c.loop-low.invariant.behind_closed (subst (λ n. (x : ℕ) → Contains c.before-near.result.now x → IsInside c.args.low n (get_or c.args.ranks.now x 0)
+    → Contains c.expand.new.search.found (get_or c.args.ranks.now x 0 - c.args.low)) c.len-in-loop-low.ensures c.expand.ensures.taken) in
     λ i y l. closed i y (omega (arith, l, few))
 
 pub after-near-requires-clause-class : goal.after-near-requires-clause-class
@@ -58,7 +62,15 @@ after-near-requires-clause-class c =
     c.loop-low.ahead.found c.loop-low.done c.offset-first.result
     c.loop-low.invariant.upto c.offset-first.ensures.offset) in
     let at = (c.requires.row.at c.offset-first.result b).0 in
-    omega (arith, at, c.requires.classes.0)
+    omega (arith, at, c.class-in-loop-low.ensures, c.requires.classes.0)
+
+pub before-near-requires-clause-class : goal.before-near-requires-clause-class
+before-near-requires-clause-class c =
+    let b = c.loop-low.invariant.behind.within c.offset-last.result (Contains-read
+    c.loop-low.behind.found c.loop-low.done c.offset-last.result
+    c.loop-low.invariant.upto_behind c.offset-last.ensures.offset) in
+    let at = (c.requires.row.at c.offset-last.result b).0 in
+    omega (arith, at, c.class.ensures, c.requires.classes.1)
 
 pub after-near-requires-clause-few : goal.after-near-requires-clause-few
 after-near-requires-clause-few c =
@@ -70,7 +82,7 @@ after-near-requires-clause-few c =
 
 pub expand-requires-in-loop-low-clause-ends : goal.expand-requires-in-loop-low-clause-ends
 expand-requires-in-loop-low-clause-ends c = λ x n. c.requires.after (get_or c.args.row.now
-    c.offset-first.result 0) x (subst (λ l. Contains l x) c.after-near.ensures.near n)
+    c.offset-first.result 0) x (subst (λ l. Contains l x) (c.after-near.ensures.near ∙ ap (list_at c.args.lists.now.after.lists) c.class-in-loop-low.ensures) n)
 
 pub overflow_add-done-in-loop-low : goal.overflow_add-done-in-loop-low
 overflow_add-done-in-loop-low c =
@@ -84,16 +96,18 @@ pub returns-then-ends_at-2-clause-behind : goal.returns-then-ends_at-2-clause-be
 returns-then-ends_at-2-clause-behind c =
     turn_sought c.args.lists.now.before.lists c.args.ranks.now c.args.low c.args.row.now
     c.requires.row c.requires.before c.loop-low.done c.offset-last.result c.before-near.result.now
-    c.before-near.ensures.near c.loop-low.behind.found c.expand.new.search.found
-    c.loop-low.invariant.upto_behind c.offset-last.ensures.offset c.expand.ensures.grown
+    (c.before-near.ensures.near ∙ ap (list_at c.args.lists.now.before.lists) c.class.ensures) c.loop-low.behind.found c.expand.new.search.found
+    c.loop-low.invariant.upto_behind c.offset-last.ensures.offset (subst (λ n. IsGrown (Contains c.before-near.result.now) (λ x. get_or c.args.ranks.now x 0) c.args.low n
+    c.loop-low.behind.found c.expand.new.search.found) c.len-in-loop-low.ensures c.expand.ensures.grown)
     (length c.args.row.now - 1) c.loop-low.invariant.behind
 
 pub returns-then-ends_at-2-clause-ahead : goal.returns-then-ends_at-2-clause-ahead
 returns-then-ends_at-2-clause-ahead c =
     turn_sought c.args.lists.now.after.lists c.args.ranks.now c.args.low c.args.row.now
     c.requires.row c.requires.after c.loop-low.done c.offset-first.result c.after-near.result.now
-    c.after-near.ensures.near c.loop-low.ahead.found c.expand-in-loop-low.new.search.found
-    c.loop-low.invariant.upto c.offset-first.ensures.offset c.expand-in-loop-low.ensures.grown
+    (c.after-near.ensures.near ∙ ap (list_at c.args.lists.now.after.lists) c.class-in-loop-low.ensures) c.loop-low.ahead.found c.expand-in-loop-low.new.search.found
+    c.loop-low.invariant.upto c.offset-first.ensures.offset (subst (λ n. IsGrown (Contains c.after-near.result.now) (λ x. get_or c.args.ranks.now x 0) c.args.low n
+    c.loop-low.ahead.found c.expand-in-loop-low.new.search.found) c.len-in-loop-low-2.ensures c.expand-in-loop-low.ensures.grown)
     0 c.loop-low.invariant.ahead
 
 pub returns-then-ends_at-2-clause-ended : goal.returns-then-ends_at-2-clause-ended
@@ -102,10 +116,12 @@ returns-then-ends_at-2-clause-ended c =
     c.ends_at-in-loop-low.ensures.0 c.if-ends_at-2.true in
     let closed = turn_closed c.args.lists.now.after.lists c.args.ranks.now c.args.low
     c.args.row.now c.requires.row c.requires.after c.loop-low.done c.offset-first.result
-    c.after-near.result.now c.after-near.ensures.near c.loop-low.ahead.found
+    c.after-near.result.now (c.after-near.ensures.near ∙ ap (list_at c.args.lists.now.after.lists) c.class-in-loop-low.ensures) c.loop-low.ahead.found
     c.expand-in-loop-low.new.search.found c.loop-low.invariant.upto c.offset-first.ensures.offset
-    c.expand-in-loop-low.ensures.grown c.loop-low.invariant.ahead_closed
-    c.expand-in-loop-low.ensures.taken in
+    (subst (λ n. IsGrown (Contains c.after-near.result.now) (λ x. get_or c.args.ranks.now x 0) c.args.low n
+    c.loop-low.ahead.found c.expand-in-loop-low.new.search.found) c.len-in-loop-low-2.ensures c.expand-in-loop-low.ensures.grown) c.loop-low.invariant.ahead_closed
+    (subst (λ n. (x : ℕ) → Contains c.after-near.result.now x → IsInside c.args.low n (get_or c.args.ranks.now x 0)
+    → Contains c.expand-in-loop-low.new.search.found (get_or c.args.ranks.now x 0 - c.args.low)) c.len-in-loop-low-2.ensures c.expand-in-loop-low.ensures.taken) in
     λ i y l. closed i y (omega (arith, l, few))
 
 pub overflow_add-done-in-loop-low-2 : goal.overflow_add-done-in-loop-low-2
@@ -135,51 +151,63 @@ loop-low-preserved c =
       upto_behind = beyond (c.loop-low.done + 1) c.expand.new.search.found c.ends_at.result c.ends_at.ensures c.if-ends_at.false;
       behind = turn_sought c.args.lists.now.before.lists c.args.ranks.now c.args.low c.args.row.now
           c.requires.row c.requires.before c.loop-low.done c.offset-last.result c.before-near.result.now
-          c.before-near.ensures.near c.loop-low.behind.found c.expand.new.search.found
-          c.loop-low.invariant.upto_behind c.offset-last.ensures.offset c.expand.ensures.grown
+          (c.before-near.ensures.near ∙ ap (list_at c.args.lists.now.before.lists) c.class.ensures) c.loop-low.behind.found c.expand.new.search.found
+          c.loop-low.invariant.upto_behind c.offset-last.ensures.offset (subst (λ n. IsGrown (Contains c.before-near.result.now) (λ x. get_or c.args.ranks.now x 0) c.args.low n
+          c.loop-low.behind.found c.expand.new.search.found) c.len-in-loop-low.ensures c.expand.ensures.grown)
           (length c.args.row.now - 1) c.loop-low.invariant.behind;
       ahead = turn_sought c.args.lists.now.after.lists c.args.ranks.now c.args.low c.args.row.now
           c.requires.row c.requires.after c.loop-low.done c.offset-first.result c.after-near.result.now
-          c.after-near.ensures.near c.loop-low.ahead.found c.expand-in-loop-low.new.search.found
-          c.loop-low.invariant.upto c.offset-first.ensures.offset c.expand-in-loop-low.ensures.grown
+          (c.after-near.ensures.near ∙ ap (list_at c.args.lists.now.after.lists) c.class-in-loop-low.ensures) c.loop-low.ahead.found c.expand-in-loop-low.new.search.found
+          c.loop-low.invariant.upto c.offset-first.ensures.offset (subst (λ n. IsGrown (Contains c.after-near.result.now) (λ x. get_or c.args.ranks.now x 0) c.args.low n
+          c.loop-low.ahead.found c.expand-in-loop-low.new.search.found) c.len-in-loop-low-2.ensures c.expand-in-loop-low.ensures.grown)
           0 c.loop-low.invariant.ahead;
       behind_closed = turn_closed c.args.lists.now.before.lists c.args.ranks.now c.args.low
           c.args.row.now c.requires.row c.requires.before c.loop-low.done c.offset-last.result
-          c.before-near.result.now c.before-near.ensures.near c.loop-low.behind.found
+          c.before-near.result.now (c.before-near.ensures.near ∙ ap (list_at c.args.lists.now.before.lists) c.class.ensures) c.loop-low.behind.found
           c.expand.new.search.found c.loop-low.invariant.upto_behind c.offset-last.ensures.offset
-          c.expand.ensures.grown c.loop-low.invariant.behind_closed c.expand.ensures.taken;
+          (subst (λ n. IsGrown (Contains c.before-near.result.now) (λ x. get_or c.args.ranks.now x 0) c.args.low n
+          c.loop-low.behind.found c.expand.new.search.found) c.len-in-loop-low.ensures c.expand.ensures.grown) c.loop-low.invariant.behind_closed (subst (λ n. (x : ℕ) → Contains c.before-near.result.now x → IsInside c.args.low n (get_or c.args.ranks.now x 0)
+          → Contains c.expand.new.search.found (get_or c.args.ranks.now x 0 - c.args.low)) c.len-in-loop-low.ensures c.expand.ensures.taken);
       ahead_closed = turn_closed c.args.lists.now.after.lists c.args.ranks.now c.args.low
           c.args.row.now c.requires.row c.requires.after c.loop-low.done c.offset-first.result
-          c.after-near.result.now c.after-near.ensures.near c.loop-low.ahead.found
+          c.after-near.result.now (c.after-near.ensures.near ∙ ap (list_at c.args.lists.now.after.lists) c.class-in-loop-low.ensures) c.loop-low.ahead.found
           c.expand-in-loop-low.new.search.found c.loop-low.invariant.upto c.offset-first.ensures.offset
-          c.expand-in-loop-low.ensures.grown c.loop-low.invariant.ahead_closed
-          c.expand-in-loop-low.ensures.taken;
+          (subst (λ n. IsGrown (Contains c.after-near.result.now) (λ x. get_or c.args.ranks.now x 0) c.args.low n
+          c.loop-low.ahead.found c.expand-in-loop-low.new.search.found) c.len-in-loop-low-2.ensures c.expand-in-loop-low.ensures.grown) c.loop-low.invariant.ahead_closed
+          (subst (λ n. (x : ℕ) → Contains c.after-near.result.now x → IsInside c.args.low n (get_or c.args.ranks.now x 0)
+          → Contains c.expand-in-loop-low.new.search.found (get_or c.args.ranks.now x 0 - c.args.low)) c.len-in-loop-low-2.ensures c.expand-in-loop-low.ensures.taken);
     }
 
 pub returns-then-ends_at-clause-behind_read : goal.returns-then-ends_at-clause-behind_read
 returns-then-ends_at-clause-behind_read c =
     turn_closed c.args.lists.now.before.lists c.args.ranks.now c.args.low
     c.args.row.now c.requires.row c.requires.before c.loop-low.done c.offset-last.result
-    c.before-near.result.now c.before-near.ensures.near c.loop-low.behind.found
+    c.before-near.result.now (c.before-near.ensures.near ∙ ap (list_at c.args.lists.now.before.lists) c.class.ensures) c.loop-low.behind.found
     c.expand.new.search.found c.loop-low.invariant.upto_behind c.offset-last.ensures.offset
-    c.expand.ensures.grown c.loop-low.invariant.behind_closed c.expand.ensures.taken
+    (subst (λ n. IsGrown (Contains c.before-near.result.now) (λ x. get_or c.args.ranks.now x 0) c.args.low n
+    c.loop-low.behind.found c.expand.new.search.found) c.len-in-loop-low.ensures c.expand.ensures.grown) c.loop-low.invariant.behind_closed (subst (λ n. (x : ℕ) → Contains c.before-near.result.now x → IsInside c.args.low n (get_or c.args.ranks.now x 0)
+    → Contains c.expand.new.search.found (get_or c.args.ranks.now x 0 - c.args.low)) c.len-in-loop-low.ensures c.expand.ensures.taken)
 
 pub returns-then-ends_at-2-clause-behind_read : goal.returns-then-ends_at-2-clause-behind_read
 returns-then-ends_at-2-clause-behind_read c =
     turn_closed c.args.lists.now.before.lists c.args.ranks.now c.args.low
     c.args.row.now c.requires.row c.requires.before c.loop-low.done c.offset-last.result
-    c.before-near.result.now c.before-near.ensures.near c.loop-low.behind.found
+    c.before-near.result.now (c.before-near.ensures.near ∙ ap (list_at c.args.lists.now.before.lists) c.class.ensures) c.loop-low.behind.found
     c.expand.new.search.found c.loop-low.invariant.upto_behind c.offset-last.ensures.offset
-    c.expand.ensures.grown c.loop-low.invariant.behind_closed c.expand.ensures.taken
+    (subst (λ n. IsGrown (Contains c.before-near.result.now) (λ x. get_or c.args.ranks.now x 0) c.args.low n
+    c.loop-low.behind.found c.expand.new.search.found) c.len-in-loop-low.ensures c.expand.ensures.grown) c.loop-low.invariant.behind_closed (subst (λ n. (x : ℕ) → Contains c.before-near.result.now x → IsInside c.args.low n (get_or c.args.ranks.now x 0)
+    → Contains c.expand.new.search.found (get_or c.args.ranks.now x 0 - c.args.low)) c.len-in-loop-low.ensures c.expand.ensures.taken)
 
 pub returns-then-ends_at-2-clause-ahead_read : goal.returns-then-ends_at-2-clause-ahead_read
 returns-then-ends_at-2-clause-ahead_read c =
     turn_closed c.args.lists.now.after.lists c.args.ranks.now c.args.low
     c.args.row.now c.requires.row c.requires.after c.loop-low.done c.offset-first.result
-    c.after-near.result.now c.after-near.ensures.near c.loop-low.ahead.found
+    c.after-near.result.now (c.after-near.ensures.near ∙ ap (list_at c.args.lists.now.after.lists) c.class-in-loop-low.ensures) c.loop-low.ahead.found
     c.expand-in-loop-low.new.search.found c.loop-low.invariant.upto c.offset-first.ensures.offset
-    c.expand-in-loop-low.ensures.grown c.loop-low.invariant.ahead_closed
-    c.expand-in-loop-low.ensures.taken
+    (subst (λ n. IsGrown (Contains c.after-near.result.now) (λ x. get_or c.args.ranks.now x 0) c.args.low n
+    c.loop-low.ahead.found c.expand-in-loop-low.new.search.found) c.len-in-loop-low-2.ensures c.expand-in-loop-low.ensures.grown) c.loop-low.invariant.ahead_closed
+    (subst (λ n. (x : ℕ) → Contains c.after-near.result.now x → IsInside c.args.low n (get_or c.args.ranks.now x 0)
+    → Contains c.expand-in-loop-low.new.search.found (get_or c.args.ranks.now x 0 - c.args.low)) c.len-in-loop-low-2.ensures c.expand-in-loop-low.ensures.taken)
 
 pub returns-then-ends_at-clause-read : goal.returns-then-ends_at-clause-read
 returns-then-ends_at-clause-read c =
