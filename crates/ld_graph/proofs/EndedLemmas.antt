@@ -290,3 +290,22 @@ module _ (sides : Sides) (turned : (x y : ℕ) → IsNear sides.after.lists x y
       → in_front ended behind ahead 0 ≡ false
   back_first Before far = any_none behind 0 far
   back_first After far = ap not (Contains_any ahead 0 forth.begun)
+
+  -- where the search that ended has not met the other one nothing was found by both
+  pub apart_both : (ended : Side) → HasEnded ended sides ranks low row behind ahead
+      → ¬ HasMet ended (length row) behind ahead
+      → (k : ℕ) → Contains behind k → ¬ Contains ahead k
+  apart_both Before closed far k b a = far (behind_first closed k b a)
+  apart_both After closed far k b a = far (ahead_last closed k b a)
+
+  -- what leads to one that was found, and what one that was found leads to
+  pub behind_on : HasAllNear before ranks low row behind (length behind) → (x y : ℕ) → after x y
+      → IsInside low (length row) (rank x) → IsInside low (length row) (rank y)
+      → Contains behind (rank y - low) → Contains behind (rank x - low)
+  behind_on closed x y s i j f = (behind_closed closed x y ((ends x y s).1, (j, f)) s i.0).1.1
+
+  pub ahead_on : HasAllNear after ranks low row ahead (length ahead) → (x y : ℕ) → after x y
+      → IsInside low (length row) (rank x) → IsInside low (length row) (rank y)
+      → Contains ahead (rank x - low) → Contains ahead (rank y - low)
+  ahead_on closed x y s i j f =
+      let b = j.1 in (ahead_closed closed x y ((ends x y s).0, (i, f)) s (omega (arith, b))).1.1

@@ -17,6 +17,8 @@ pub mod PlanLemmas
 pub mod RankLemmas
 pub mod OrderLemmas
 pub mod EndedLemmas
+pub mod PlannedLemmas
+pub mod PoolLemmas
 pub mod ShownLemmas
 pub mod PlacedLemmas
 pub mod ReachLemmas

@@ -1,10 +1,10 @@
 -- Classes in a line are read and written by their places in its two lists.
-use Rattle.std.proofs.Common.{◌≡◌, ◌⊎◌, inl, inr, ℕ, ◌+◌, ◌-◌, ◌<◌, ◌≤◌, min, List, ◌++◌, reverse}
-use Rattle.std.proofs.Common.{length, get_or, take, drop, arith, sym, ap, ◌∙◌}
+use Rattle.std.proofs.Common.{◌≡◌, ◌≢◌, ◌⊎◌, inl, inr, ℕ, ◌+◌, ◌-◌, ◌<◌, ◌≤◌, min, List, ◌++◌, reverse}
+use Rattle.std.proofs.Common.{length, get_or, set, take, drop, arith, sym, ap, ◌∙◌}
 use Rattle.std.proofs.lemmas.Bool.{cases_lt}
 use Rattle.std.proofs.lemmas.List.{get_or_append_left, get_or-append_right, get_or-drop, get_or-reverse}
 use Rattle.std.proofs.lemmas.List.{get_or-take, length-append, length-drop, length-reverse}
-use Rattle.std.proofs.lemmas.List.{length-take-le}
+use Rattle.std.proofs.lemmas.List.{get_or-set_same, get_or-set_other, length-set, length-take-le}
 use Rattle.ld_graph.specs.Inner.Lines.{IsWritten}
 
 module _ (front back : List ℕ) where
@@ -22,6 +22,68 @@ module _ (front back : List ℕ) where
   pub line_back : (i : ℕ) → length front ≤ i
       → get_or (reverse front ++ back) i 0 ≡ get_or back (i - length front) 0
   line_back i l = get_or-append_right (reverse front) back (length front) i 0 (length-reverse front) l
+
+  -- a class is put to a place
+  module _ (place class : ℕ) where
+    abbrev near_set : List ℕ
+    near_set = set front (length front - 1 - place) class
+
+    abbrev far_set : List ℕ
+    far_set = set back (place - length front) class
+
+    pub set_front_here : place < length front
+        → get_or (reverse (set front (length front - 1 - place) class) ++ back) place 0 ≡ class
+    set_front_here l =
+        let m = length-set front (length front - 1 - place) class in
+        let r = length-reverse near_set in
+        let s : length near_set - 1 - place ≡ length front - 1 - place = omega (arith, m) in
+        get_or_append_left (reverse near_set) back 0 place (omega (arith, r, m, l))
+        ∙ get_or-reverse near_set place 0 (omega (arith, m, l)) ∙ ap (λ z. get_or near_set z 0) s
+        ∙ get_or-set_same front (length front - 1 - place) class 0 (omega (arith, l))
+
+    pub set_back_here : length front ≤ place → place < length (reverse front ++ back)
+        → get_or (reverse front ++ set back (place - length front) class) place 0 ≡ class
+    set_back_here l b =
+        let t = line_length in
+        get_or-append_right (reverse front) far_set (length front) place 0 (length-reverse front) l
+        ∙ get_or-set_same back (place - length front) class 0 (omega (arith, l, b, t))
+
+    pub set_front_rest : place < length front → (i : ℕ) → i ≢ place
+        → get_or (reverse (set front (length front - 1 - place) class) ++ back) i 0
+        ≡ get_or (reverse front ++ back) i 0
+    set_front_rest l i ne = by (cases_lt i (length front))
+      where
+        by : (i < length front) ⊎ (length front ≤ i)
+            → get_or (reverse near_set ++ back) i 0 ≡ get_or (reverse front ++ back) i 0
+        by (inl a) =
+            let m = length-set front (length front - 1 - place) class in
+            let r = length-reverse near_set in
+            let s : length near_set - 1 - i ≡ length front - 1 - i = omega (arith, m) in
+            get_or_append_left (reverse near_set) back 0 i (omega (arith, r, m, a))
+            ∙ get_or-reverse near_set i 0 (omega (arith, m, a)) ∙ ap (λ z. get_or near_set z 0) s
+            ∙ get_or-set_other front (length front - 1 - place) (length front - 1 - i) class 0
+            (λ e. ne (omega (arith, e, a, l))) ∙ sym (line_front i a)
+        by (inr a) =
+            let m = length-set front (length front - 1 - place) class in
+            let r = length-reverse near_set in
+            get_or-append_right (reverse near_set) back (length front) i 0 (r ∙ m) a
+            ∙ sym (line_back i a)
+
+    pub set_back_rest : length front ≤ place → (i : ℕ) → i ≢ place
+        → get_or (reverse front ++ set back (place - length front) class) i 0
+        ≡ get_or (reverse front ++ back) i 0
+    set_back_rest l i ne = by (cases_lt i (length front))
+      where
+        by : (i < length front) ⊎ (length front ≤ i)
+            → get_or (reverse front ++ far_set) i 0 ≡ get_or (reverse front ++ back) i 0
+        by (inl a) =
+            let r = length-reverse front in
+            get_or_append_left (reverse front) far_set 0 i (omega (arith, r, a))
+            ∙ sym (get_or_append_left (reverse front) back 0 i (omega (arith, r, a)))
+        by (inr a) =
+            get_or-append_right (reverse front) far_set (length front) i 0 (length-reverse front) a
+            ∙ get_or-set_other back (place - length front) (i - length front) class 0
+            (λ e. ne (omega (arith, e, a, l))) ∙ sym (line_back i a)
 
 module _ (front back new_front new_back classes : List ℕ) (start end near from : ℕ)
     (end_is : end ≡ length front - start) (near_is : near ≡ min end (length classes))

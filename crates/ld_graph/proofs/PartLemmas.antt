@@ -1,6 +1,6 @@
 -- The part of a row that was found, and its rest.
 use Rattle.std.proofs.Common.{◌≡◌, ◌⊎◌, inl, inr, ℕ, ◌+◌, ◌-◌, ◌<◌, ◌≤◌, Bool, true, false}
-use Rattle.std.proofs.Common.{not, List, [], ◌∷◌, ◌++◌, nat_eq, Contains, add-one, arith, length, sym}
+use Rattle.std.proofs.Common.{not, List, [], ◌∷◌, ◌++◌, nat_eq, Contains, add-one, arith, length, refl, sym}
 use Rattle.std.proofs.Common.{set, take, ap, ◌∙◌}
 use Rattle.std.proofs.lemmas.List.{append_assoc, length-append, length-take-le, take_more_set}
 use Rattle.std.proofs.lemmas.List.{take-set, take-take}
@@ -70,6 +70,15 @@ module _ (p : ℕ → Bool) (item : ℕ → ℕ) (n here : ℕ) (one : p n ≡ t
           let o = none e in
           let z : i + (1 - here) ≡ i + 1 = omega (arith, o) in
           rw (z, add-one n, e) (take_more_set xs i (item n) l ∙ ap (λ z. z ++ item n ∷ []) h)
+
+-- the next item is picked or isn't
+pub picked_yes : (p : ℕ → Bool) (item : ℕ → ℕ) (n : ℕ) → p n ≡ true
+    → picked p item (n + 1) ≡ picked p item n ++ item n ∷ []
+picked_yes p item n e = rw (add-one n, e) refl
+
+pub picked_no : (p : ℕ → Bool) (item : ℕ → ℕ) (n : ℕ) → p n ≡ false
+    → picked p item (n + 1) ≡ picked p item n
+picked_no p item n e = rw (add-one n, e) refl
 
 -- what was copied behind the items of a list
 pub joined : (xs part after end : List ℕ) (placed n len : ℕ) → placed ≤ length xs

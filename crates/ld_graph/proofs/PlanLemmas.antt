@@ -1,13 +1,12 @@
 -- A plan for the classes from the one that b has a rank with to the one of a.
-use Rattle.std.proofs.Common.{◌≡◌, ◌≢◌, ◌⊎◌, inl, inr, ℕ, ◌+◌, ◌-◌, ◌<◌, ◌≤◌}
+use Rattle.std.proofs.Common.{◌≡◌, ◌≢◌, ◌⊎◌, inl, inr, ℕ, ◌+◌, ◌-◌, ◌^◌, ◌<◌, ◌≤◌}
 use Rattle.std.proofs.Common.{List, length, get_or}
 use Rattle.std.proofs.Common.{slice_range, arith, sym, ap, subst, ◌∙◌}
-use Rattle.ld_graph.specs.Inner.Repairs.{AreInverse, AreRanked, IsOrReaches, IsPlan}
+use Rattle.ld_graph.specs.Inner.Repairs.{AreInverse, AreRanked, IsInside, IsOrReaches, IsPlan}
 use Rattle.ld_graph.specs.Inner.Repairs.{IsRepaired, split}
 use Rattle.ld_graph.proofs.MendLemmas.{AreInverse-given, length-row, new_outside, ranked_given}
 use Rattle.ld_graph.proofs.MendLemmas.{rises_given, row_of, row_read, split_ends, split_once}
 use Rattle.ld_graph.proofs.MendLemmas.{turned_given}
-use Rattle.ld_graph.proofs.SplitLemmas.{length-split}
 
 module _ (step : ℕ → ℕ → Type 0) (ranks order : List ℕ) (first : ℕ) (h : AreInverse ranks order first)
     (a b low high start : ℕ) (low_is : low ≡ get_or ranks b 0) (high_is : high ≡ get_or ranks a 0)
@@ -79,74 +78,86 @@ module _ (step : ℕ → ℕ → Type 0) (ranks order : List ℕ) (first : ℕ) 
         (subst (λ z. IsOrReaches step (get_or z 0 0) (get_or z (length z - 1) 0)) copy_is r))
 
   module _ (copy : List ℕ) (copied : copy ≡ slice_range order start (high - first + 1))
-      (moved : List ℕ) (k : ℕ) (planned : IsPlan step ranks low copy moved k) where
-    plan : IsPlan step ranks low row moved k
-    plan = subst (λ z. IsPlan step ranks low z moved k) (copy_is copy copied) planned
+      (moved : List ℕ) (at : ℕ → ℕ) (expanded : ℕ) (planned : IsPlan step ranks low copy moved at expanded) where
+    plan : IsPlan step ranks low row moved at expanded
+    plan = subst (λ z. IsPlan step ranks low z moved at expanded) (copy_is copy copied) planned
 
-    moved_is : moved ≡ split plan.front (λ i. get_or row i 0) (high + 1 - low)
-    moved_is = plan.in_order ∙ ap (split plan.front (λ i. get_or row i 0)) row_length
+    inside : (k : ℕ) → k < length moved → at k < high + 1 - low
+    inside k l = let b = plan.inside k l in let r = row_length in omega (arith, b, r)
 
-    pub moved_length : length moved ≡ high + 1 - low
-    moved_length = ap length moved_is ∙ length-split plan.front (λ i. get_or row i 0) (high + 1 - low)
+    some_or : (i : ℕ) → i < high + 1 - low → ((k : ℕ) × ((k < length moved) × (at k ≡ i)))
+        ⊎ ((k : ℕ) → k < length moved → at k ≢ i)
+    some_or i l = let r = row_length in plan.some_or i (omega (arith, l, r))
 
-    pub moved_within : start + length moved ≤ length order
-    moved_within = let l = moved_length in let w = plan_within in omega (arith, l, w)
+    pub moved_place : (k : ℕ) → k < length moved → start + at k < length order
+    moved_place k l = let w = plan_within in let b = inside k l in omega (arith, b, w)
+
+    pub moved_fits : first + length order < 2 ^ 32 → (k : ℕ) → k < length moved → low + at k < 2 ^ 32
+    moved_fits f k l = let b = moved_place k l in let e = plan_low in omega (arith, b, e, f)
 
     pub moved_ends : (i : ℕ) → i < length moved → get_or moved i 0 < length ranks
     moved_ends i l =
-        let n = moved_length in
-        subst (λ z. get_or z i 0 < length ranks) (sym moved_is)
-        (split_ends ranks order first low start (high + 1 - low) h plan_low plan_within plan.front i
-        (omega (arith, l, n)))
+        subst (λ z. get_or z i 0 < length ranks) (sym plan.in_order)
+        (split_ends ranks order first low start (high + 1 - low) h plan_low plan_within at (length moved)
+        plan.rising inside plan.front i l)
 
     pub moved_once : (i j : ℕ) → i < j → j < length moved → get_or moved i 0 ≢ get_or moved j 0
     moved_once i j l u =
-        let n = moved_length in
-        subst (λ z. get_or z i 0 ≢ get_or z j 0) (sym moved_is)
-        (split_once ranks order first low start (high + 1 - low) h plan_low plan_within plan.front i j l
-        (omega (arith, u, n)))
+        subst (λ z. get_or z i 0 ≢ get_or z j 0) (sym plan.in_order)
+        (split_once ranks order first low start (high + 1 - low) h plan_low plan_within at (length moved)
+        plan.rising inside plan.front i j l u)
 
     module _ (new_ranks new_order : List ℕ)
-        (given : AreRanked moved start low (length moved) ranks order new_ranks new_order)
+        (given : AreRanked moved at (length moved) start low ranks order new_ranks new_order)
         (same_ranks : length new_ranks ≡ length ranks)
         (same_order : length new_order ≡ length order) where
-      given_split : AreRanked (split plan.front (λ i. get_or row i 0) (high + 1 - low)) start low
-          (high + 1 - low) ranks order new_ranks new_order
-      given_split =
-          subst (λ n. AreRanked (split plan.front (λ i. get_or row i 0) (high + 1 - low)) start low n ranks
-          order new_ranks new_order) moved_length
-          (subst (λ z. AreRanked z start low (length moved) ranks order new_ranks new_order) moved_is
-          given)
+      given_split : AreRanked (split plan.front (λ k. get_or row (at k) 0) (length moved)) at
+          (length moved) start low ranks order new_ranks new_order
+      given_split = subst (λ z. AreRanked z at (length moved) start low ranks order new_ranks
+          new_order) plan.in_order given
 
       pub mended_inverse : AreInverse new_ranks new_order first
-      mended_inverse = AreInverse-given ranks order first low start (high + 1 - low) h plan_low plan_within plan.front
-          new_ranks new_order given_split same_ranks same_order
+      mended_inverse = AreInverse-given ranks order first low start (high + 1 - low) h plan_low plan_within at
+          (length moved) plan.rising inside plan.front some_or new_ranks new_order given_split same_ranks
+          same_order
 
-      pub mended : IsRepaired step a b ranks new_ranks k
+      -- the inside of the range, as it is said of the row
+      in_row : (r : ℕ) → IsInside low (high + 1 - low) r → IsInside low (length row) r
+      in_row r i = let l = row_length in let a = i.0 in let b = i.1 in (a, omega (arith, b, l))
+
+      rises_new : (x y : ℕ) → step x y → get_or new_ranks x 0 < get_or new_ranks y 0
+      rises_new x y s =
+          let e = ends x y s in
+          rises_given ranks order first low start (high + 1 - low) h plan_low plan_within at (length moved)
+          plan.rising inside plan.front some_or new_ranks new_order given_split same_ranks same_order x y
+          e.0 e.1 (rises x y s)
+          (λ i k w t. plan.closed_front x y k s (in_row (get_or ranks x 0) i) w t)
+          (λ i k w t. plan.closed_back x y k s (in_row (get_or ranks y 0) i) w t)
+
+      turned_new : get_or new_ranks a 0 < get_or new_ranks b 0
+      turned_new =
+          let l = row_length in
+          let i = plan.last in let k = plan.first in
+          let e : at i.0 ≡ high - low = let q = i.1.1.0 in omega (arith, q, l, against) in
+          let t = turned_given ranks order first low start (high + 1 - low) h plan_low plan_within at
+          (length moved) plan.rising inside plan.front some_or new_ranks new_order given_split same_ranks
+          same_order i.0 k.0 i.1.0 k.1.0 i.1.1.1 k.1.1.1 in
+          subst (λ z. get_or new_ranks z 0 < get_or new_ranks b 0)
+          (ap (λ z. get_or row z 0) e ∙ row_last)
+          (subst (λ z. get_or new_ranks (get_or row (at i.0) 0) 0 < get_or new_ranks z 0)
+          (ap (λ z. get_or row z 0) k.1.1.0 ∙ row_first) t)
+
+      pub mended : IsRepaired step a b ranks new_ranks expanded
       mended = record {
         len = same_ranks;
-        rises = λ x y s.
-            let e = ends x y s in
-            rises_given ranks order first low start (high + 1 - low) h plan_low plan_within plan.front new_ranks
-            new_order given_split same_ranks same_order x y e.0 e.1 (rises x y s)
-            (λ i j t.
-            let l = row_length in
-            let i1 = i.0 in let i2 = i.1 in let j1 = j.0 in let j2 = j.1 in
-            plan.closed x y s (i1, omega (arith, i2, l)) (j1, omega (arith, j2, l)) t);
-        turned =
-            let l = row_length in
-            let e : length row - 1 ≡ high - low = omega (arith, l, against) in
-            let t = turned_given ranks order first low start (high + 1 - low) h plan_low plan_within plan.front
-            new_ranks new_order given_split same_ranks same_order (high - low) 0
-            (omega (arith, against)) (omega (arith, against))
-            (ap plan.front (sym e) ∙ plan.last) plan.first in
-            subst (λ z. get_or new_ranks z 0 < get_or new_ranks b 0) row_last
-            (subst (λ z. get_or new_ranks (get_or row (high - low) 0) 0 < get_or new_ranks z 0)
-            row_first t);
-        outside = λ x l o. new_outside ranks order first low start (high + 1 - low) h plan_low plan_within plan.front
-            new_ranks new_order given_split same_ranks same_order x l (out x o);
-        ranked = ranked_given ranks order first low start (high + 1 - low) h plan_low plan_within
-            plan.front new_ranks new_order given_split same_ranks same_order;
+        rises = rises_new;
+        turned = turned_new;
+        outside = λ x l o. new_outside ranks order first low start (high + 1 - low) h plan_low plan_within at
+            (length moved) plan.rising inside plan.front some_or new_ranks new_order given_split same_ranks
+            same_order x l (out x o);
+        ranked = ranked_given ranks order first low start (high + 1 - low) h plan_low plan_within at
+            (length moved) plan.rising inside plan.front some_or new_ranks new_order given_split same_ranks
+            same_order;
         some = plan.some;
         few = let f = plan.few in let l = row_length in
             omega (arith, f, l, low_is, high_is, against);

@@ -73,19 +73,6 @@ module _ (ranks order : List ℕ) (first : ℕ) (h : AreInverse ranks order firs
       sym (h.back c u).1.1 ∙ ap (λ z. get_or order (z - first) 0) e
       ∙ (h.back d (omega (arith, u, e))).1.1
 
-  pub AreInverse-class : AreInverse (ranks ++ 0 ∷ []) order first
-  AreInverse-class = record {
-    some = h.some;
-    back = λ c u. subst (λ r. (first ≤ r) × ((r < first + length order)
-        × (get_or order (r - first) 0 ≡ c))) (sym (read_more ranks c))
-        (h.back c (subst (λ r. 0 < r) (read_more ranks c) u));
-    forth = λ i l.
-        let f = h.forth i l in let n = length_push ranks 0 in let b = f.0 in (
-          omega (arith, b, n),
-          read_more ranks (get_or order i 0) ∙ f.1,
-        );
-  }
-
   module _ (class : ℕ) (within : class < length ranks) (free : get_or ranks class 0 ≡ 0) where
     -- a class of the order is another one
     other : (i : ℕ) → i < length order → get_or order i 0 ≢ class
@@ -217,16 +204,6 @@ module _ (ranks order : List ℕ) (first : ℕ) (h : AreInverse ranks order firs
 
 -- the ranks fit an edge from a to b
 module _ (a b : ℕ) (old : List ℕ) where
-  pub fit_none : 0 < get_or old a 0 → get_or old a 0 < get_or old b 0 → AreFit a b old old
-  fit_none u l = record {
-    len = refl;
-    below = λ _ _. l;
-    stays = λ _ _. refl;
-    others = λ _ _ _. refl;
-    some = u;
-    up = l;
-  }
-
   pub fit_first : (new : List ℕ) → get_or old a 0 ≡ 0 → 0 < get_or old b 0 → IsPut a old new
       → ((c : ℕ) → 0 < get_or old c 0 → get_or new a 0 < get_or old c 0) → AreFit a b old new
   fit_first new free u put first = record {

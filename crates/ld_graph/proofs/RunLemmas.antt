@@ -246,9 +246,6 @@ module _ (runs : List Run) (old : List ℕ) (count c : ℕ) (h : AreRuns runs ol
     there : (i : ℕ) → i ≢ c → run_at more_runs i ≡ run_at runs i
     there i ne = get_or-set_other runs c i longer_run no_run ne
 
-    IsFit : Run → Type 0
-    IsFit r = (r.len ≤ r.room) × (r.room ≤ 2 * r.len) × (r.start + r.room ≤ length more_slots)
-
     fits : (i : ℕ) → i < length runs → (i ≡ c) ⊎ (i ≢ c)
         → ((run_at more_runs i).len ≤ (run_at more_runs i).room)
         × ((run_at more_runs i).room ≤ 2 * (run_at more_runs i).len)

@@ -17,7 +17,7 @@ module _ (p : ℕ → Bool) where
       by h true e = rw e (omega (arith, h))
       by h false e = rw e (omega (arith, h))
 
-  count-more : (i n : ℕ) → i ≤ n → count p i ≤ count p n
+  pub count-more : (i n : ℕ) → i ≤ n → count p i ≤ count p n
   count-more i zero l = let e : i ≡ 0 = omega arith in rw e (omega arith)
   count-more i (suc n) l = by (λ a. count-more i n a) (cases_eq i (suc n)) (p n) refl
     where

@@ -39,9 +39,6 @@ module _ (lists : List (List ℕ)) (t : PlainTrail) (h : IsTrail lists t) (some 
     to_top : to ≡ get_or (list_at lists C) (next_at t C) 0
     to_top = ap (λ l. get_or l next 0) near_top ∙ ap (λ n. get_or (list_at lists C) n 0) next_top
 
-    pub all_seen : length near ≤ next → length (list_at lists C) ≤ next_at t C
-    all_seen l = subst (λ n. length (list_at lists C) ≤ n) next_top (subst (λ z. length z ≤ next) near_top l)
-
     module _ (more : next < length near) where
       step_to : IsNear lists C to
       step_to = subst (λ l. Contains l to) near_top (Contains-get_or near next 0 more)

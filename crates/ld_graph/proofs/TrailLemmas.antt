@@ -266,10 +266,3 @@ module _ (lists : List (List ℕ)) where
         first = entered_first;
         none = λ e. absurd (let p = path_len in omega (arith, p, e));
       }
-
-      pub entered-met : (y : ℕ) → stage_at (entered t x) y ≡ Fresh → stage_at t y ≡ Fresh
-      entered-met y e = by (cases_eq y x)
-        where
-          by : (y ≡ x) ⊎ (y ≢ x) → stage_at t y ≡ Fresh
-          by (inl s) = ap (λ z. stage_at t z) s ∙ fresh
-          by (inr s) = sym (stage_else y s) ∙ e

@@ -1,9 +1,9 @@
 -- How much the search for components has left to do, and how it begins and ends.
 use Rattle.std.proofs.Common.{◌≡◌, ◌≢◌, ℕ, zero, suc, ◌+◌, ◌<◌, ◌≤◌, ◌⊎◌, inl, inr}
-use Rattle.std.proofs.Common.{List, [], ◌∷◌, ◌++◌, length, get_or, set, take, replicate, arith, cond, count_by}
+use Rattle.std.proofs.Common.{List, [], ◌∷◌, ◌++◌, length, get_or, set, take, arith, cond, count_by}
 use Rattle.std.proofs.Common.{refl, sym, ap, ◌∙◌}
 use Rattle.std.proofs.lemmas.Bool.{cases_lt, cases_eq}
-use Rattle.std.proofs.lemmas.List.{get_or-replicate, get_or_past, length-replicate, take_more, take_at, length-take-le}
+use Rattle.std.proofs.lemmas.List.{get_or_past, take_more, take_at, length-take-le}
 use Rattle.std.proofs.lemmas.List.{get_or_push, get_or-set_same, get_or-set_other, length-set}
 use Rattle.std.proofs.lemmas.List.Sums.{sum_by-set}
 use Rattle.ld_graph.specs.declared.trail.Stage.{Stage}
@@ -11,7 +11,7 @@ use Rattle.ld_graph.specs.declared.trail.Stage.TheVariants.{Fresh, Open, Closed}
 use Rattle.ld_graph.specs.Lists.{IsNear}
 use Rattle.ld_graph.specs.Components.{AreTogether, AreComponents}
 use Rattle.ld_graph.specs.Inner.Repairs.{IsOrReaches}
-use Rattle.ld_graph.specs.Inner.Trails.{PlainTrail, stage_at, frame_at, IsLimit, IsFrame, IsTrail, IsToldFrom, rest, is_fresh}
+use Rattle.ld_graph.specs.Inner.Trails.{PlainTrail, stage_at, IsTrail, IsToldFrom, rest, is_fresh}
 use Rattle.ld_graph.proofs.TrailLemmas.{reaches-on}
 use Rattle.ld_graph.proofs.WalkLemmas.{IsWalk-same}
 
@@ -46,48 +46,6 @@ rest_next [] nexts x a b c = absurd (omega (arith, b))
 rest_next (near ∷ lists) [] x a b c = absurd (omega (arith, a))
 rest_next (near ∷ lists) (n ∷ nexts) zero a b c = omega (arith, c)
 rest_next (near ∷ lists) (n ∷ nexts) (suc x) a b c = let r = rest_next lists nexts x (omega (arith, a)) (omega (arith, b)) c in omega (arith, r)
-
--- nothing was met yet
-fresh_at : (n x : ℕ) → get_or (replicate n Fresh) x Fresh ≡ Fresh
-fresh_at n x = by (cases_lt x n)
-  where
-    by : (x < n) ⊎ (n ≤ x) → get_or (replicate n Fresh) x Fresh ≡ Fresh
-    by (inl l) = get_or-replicate n x Fresh Fresh l
-    by (inr l) = get_or_past (replicate n Fresh) x Fresh (let e = length-replicate n Fresh in omega (arith, e, l))
-
-none_at : (n x : ℕ) → ◌≡◌ {A = ℕ} (get_or (replicate n 0) x 0) 0
-none_at n x = by (cases_lt x n)
-  where
-    by : (x < n) ⊎ (n ≤ x) → ◌≡◌ {A = ℕ} (get_or (replicate n 0) x 0) 0
-    by (inl l) = get_or-replicate n x 0 0 l
-    by (inr l) = get_or_past (replicate n 0) x 0 (let e = length-replicate {A = ℕ} n 0 in omega (arith, e, l))
-
-abbrev pub begun : ℕ → PlainTrail
-begun n = record { stages = replicate n Fresh; nexts = replicate n 0; waiting = []; path = [] }
-
-pub begun-is : (lists : List (List ℕ)) (n : ℕ) → length lists ≡ n → IsTrail lists (begun n)
-begun-is lists n e = record {
-  stages_len = length-replicate n Fresh ∙ sym e;
-  nexts_len = length-replicate {A = ℕ} n 0 ∙ sym e;
-  stages = record {
-    at = λ i b. absurd (omega (arith, b));
-    back = λ x i s. let f = fresh_at n x in cc;
-    fresh = λ x s. none_at n x;
-  };
-  closed = record {
-    sound = λ x r s. let f = fresh_at n x in cc;
-    whole = λ x y r s a b. let f = fresh_at n x in cc;
-    ahead = λ x y r s m. let f = fresh_at n x in cc;
-  };
-  frames = λ k limit is. none k limit is;
-  rising = λ k l a b. absurd (omega (arith, b));
-  first = λ b. absurd (omega (arith, b));
-  none = λ s. refl;
-}
-  where
-    none : (k limit : ℕ) → IsLimit (begun n) k limit → IsFrame lists (begun n) limit (frame_at (begun n) k)
-    none k limit (inl a) = absurd (let b = a.0 in omega (arith, b))
-    none k limit (inr a) = absurd (let b = a.0 in omega (arith, b))
 
 -- where the walk has ended, no class waits
 pub ended_known : (lists : List (List ℕ)) (t : PlainTrail) → IsTrail lists t → length t.path ≡ 0 → (x : ℕ)
@@ -177,14 +135,6 @@ module _ (waiting : List ℕ) (stages : List Stage) (waits : (i : ℕ) → i < l
           by : (j ≡ n) ⊎ (j ≢ n) → get_or new (get_or waiting j 0) Fresh ≡ Closed class
           by (inl e) = absurd (ne (ap (λ z. get_or waiting z 0) e ∙ sym is))
           by (inr m) = h.told j (omega (arith, m)) b
-
--- before anything is told
-pub tell_none : (waiting : List ℕ) (stages : List Stage) (n class : ℕ) → length waiting ≤ n → IsToldFrom waiting n class stages stages
-tell_none waiting stages n class l = record {
-  len = refl;
-  told = λ j a b. absurd (omega arith);
-  rest = λ x g. refl;
-}
 
 -- the components of the same steps
 pub AreComponents-same : (s t : ℕ → ℕ → Type 0) → ((a b : ℕ) → s a b → t a b) → ((a b : ℕ) → t a b → s a b)

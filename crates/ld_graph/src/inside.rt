@@ -154,9 +154,7 @@ fn expand_inside(
         if levels[*x as usize].is_none() {
             if components[*x as usize] == component {
                 levels[*x as usize] = Distance::of(level);
-                let Ok(()) = queue.push(*x) else {
-                    unreachable!()
-                };
+                queue.push_reserved(*x);
             }
         }
     }

@@ -27,9 +27,7 @@ fn expand(near: &[u32], level: u32, levels: &mut [Distance], queue: &mut Vec<u32
     for x in near {
         if levels[*x as usize].is_none() {
             levels[*x as usize] = Distance::of(level);
-            let Ok(()) = queue.push(*x) else {
-                unreachable!()
-            };
+            queue.push_reserved(*x);
         }
     }
 }

@@ -11,6 +11,7 @@ mod line;
 mod lists;
 mod neighbours;
 mod placed;
+mod pool;
 mod ranks;
 mod reach;
 mod repair;

@@ -1,6 +1,6 @@
 //! Classes in a line that grows at both ends.
 
-ghost use Rattle.std.specs.Prelude.{◌≡◌, ℕ, ◌+◌, ◌-◌, ◌<◌, ◌≤◌, ◌⊎◌, [], ◌∷◌, ◌++◌, length};
+ghost use Rattle.std.specs.Prelude.{◌≡◌, ◌≢◌, ℕ, ◌+◌, ◌-◌, ◌<◌, ◌≤◌, ◌⊎◌, [], ◌∷◌, ◌++◌, length};
 ghost use Rattle.std.specs.Prelude.{reverse, slice_index, slice_range, vec_capacity, OnOk};
 ghost use Rattle.ld_graph.specs.Inner.Lines.{IsWritten};
 
@@ -74,9 +74,7 @@ fn copy_front(front: &[u32], start: usize, end: usize, row: &mut Vec<u32>)
     ensures capacity { vec_capacity row.old ≤ vec_capacity row.new }
 {
     for place in start..end {
-        let Ok(()) = row.push(front[front.len() - 1 - place]) else {
-            unreachable!()
-        };
+        row.push_reserved(front[front.len() - 1 - place]);
     }
 }
 
@@ -116,9 +114,7 @@ impl Line {
         ensures items { self.new.items ≡ class ∷ self.old.items }
         ensures kept { self.old.room ≤ self.new.room }
     {
-        let Ok(()) = self.front.push(class) else {
-            unreachable!()
-        };
+        self.front.push_reserved(class);
     }
 
     /// Puts a class behind all others.
@@ -127,9 +123,7 @@ impl Line {
         ensures items { self.new.items ≡ self.old.items ++ class ∷ [] }
         ensures kept { self.old.room ≤ self.new.room }
     {
-        let Ok(()) = self.back.push(class) else {
-            unreachable!()
-        };
+        self.back.push_reserved(class);
     }
 
     /// Copies the classes at these places.
@@ -147,6 +141,23 @@ impl Line {
         let Ok(()) = row.extend_from_slice(&self.back[from..to]) else {
             unreachable!()
         };
+    }
+
+    /// Puts a class to a place, in place of the one there.
+    pub fn set(&mut self, place: usize, class: u32)
+        requires { place < length self.old.items }
+        ensures len { length self.new.items ≡ length self.old.items }
+        ensures here { slice_index self.new.items place ≡ class }
+        ensures rest { (i : ℕ) → i ≢ place
+            → slice_index self.new.items i ≡ slice_index self.old.items i }
+        ensures room { self.new.room ≡ self.old.room }
+    {
+        let len = self.front.len();
+        if place < len {
+            self.front[len - 1 - place] = class;
+        } else {
+            self.back[place - len] = class;
+        }
     }
 
     /// Writes these classes to the places from `start` on.

@@ -92,9 +92,7 @@ impl Neighbours {
             len: 0,
             room: 0,
         };
-        let Ok(()) = self.runs.push(run) else {
-            unreachable!()
-        };
+        self.runs.push_reserved(run);
     }
 
     /// Adds a neighbour to the list of a class.
@@ -135,9 +133,7 @@ fn copy_to_end(slots: &mut Vec<u32>, start: usize, len: usize)
 {
     for i in 0..len {
         let item = slots[start + i];
-        let Ok(()) = slots.push(item) else {
-            unreachable!()
-        };
+        slots.push_reserved(item);
     }
 }
 

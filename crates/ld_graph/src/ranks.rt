@@ -52,6 +52,8 @@ impl Ranks {
             ahead: Search::new(alloc),
             moved: Vec::new(alloc),
             rest: Vec::new(alloc),
+            pool: Vec::new(alloc),
+            shared: Vec::new(alloc),
         };
         Ranks {
             ranks: Vec::new(alloc),
@@ -104,6 +106,10 @@ impl Ranks {
         self.space.ahead.room(classes)?;
         self.space.moved.resize(classes, 0)?;
         self.space.rest.resize(classes, 0)?;
+        self.space.pool.clear();
+        self.space.pool.reserve(classes)?;
+        self.space.shared.clear();
+        self.space.shared.reserve(classes)?;
         self.room = classes;
         Ok(())
     }
@@ -114,9 +120,7 @@ impl Ranks {
         ensures ranks { self.new.ranks ≡ self.old.ranks ++ 0 ∷ [] }
         ensures room { self.new.room ≡ self.old.room }
     {
-        let Ok(()) = self.ranks.push(0) else {
-            unreachable!()
-        };
+        self.ranks.push_reserved(0);
     }
 
     /// Ranks a class that has no rank before all others.

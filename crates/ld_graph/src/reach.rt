@@ -106,9 +106,8 @@ impl Reach {
         ensures exact { (edges : List Edge) (seeds : List ℕ) → IsReach (IsEdge edges) seeds self.old
             → IsReach (IsEdge edges) seeds self.new }
     {
-        let (Ok(()), Ok(())) = (self.sources.push(None), self.marks.push(false)) else {
-            unreachable!()
-        };
+        self.sources.push_reserved(None);
+        self.marks.push_reserved(false);
         self.spare -= 1;
     }
 
@@ -223,9 +222,7 @@ fn give(class: u32, from: u32, sources: &mut [Option<u32>], reached: &mut Vec<u3
         return;
     }
     sources[class as usize] = Some(from);
-    let Ok(()) = reached.push(class) else {
-        unreachable!()
-    };
+    reached.push_reserved(class);
 }
 
 /// Expands a class: gives this source to its successors.

@@ -5,15 +5,16 @@ ghost use Rattle.std.specs.Prelude.{length, take, slice_index, vec_capacity};
 ghost use Rattle.std.specs.Prelude.{IfSome, MatchOption};
 ghost use Rattle.std.specs.Bool.{OnTrue, OnFalse};
 ghost use Rattle.ld_graph.specs.declared.graph.TheConstants.{MOST_GRAPH_CLASSES};
-ghost use Rattle.ld_graph.specs.Inner.Repairs.{AreInverse, HasMet, IsPlan, IsRepaired};
+ghost use Rattle.ld_graph.specs.Inner.Repairs.{AreInverse, AreRanked, HasMet, IsPlanned, IsRepaired};
 ghost use Rattle.ld_graph.specs.Inner.Repairs.{IsRow, IsOrReaches};
 ghost use Rattle.ld_graph.specs.Inner.Repairs.{count, in_front, is_part, picked, split};
 ghost use Rattle.ld_graph.specs.Lists.{IsNear};
 
 use crate::line::Line;
 use crate::lists::{Lists, Steps};
+use crate::pool::{deal, share};
 use crate::search::Search;
-use crate::turns::{Side, search_in_turn};
+use crate::turns::{Side, search_range};
 
 /// Room for a repair.
 #[derive(Drop)]
@@ -26,11 +27,24 @@ pub struct Space {
     pub moved: Vec<u32>,
     /// At its front those of them that come behind, until they are joined to the others.
     pub rest: Vec<u32>,
+    /// The offsets that both searches have found, in their order.
+    pub pool: Vec<u32>,
+    /// The classes at these offsets in their new order.
+    pub shared: Vec<u32>,
+}
+
+/// Which classes get new ranks.
+#[derive(Clone, Copy)]
+pub enum Dealt {
+    /// All of the range, in the order that `moved` has.
+    Whole,
+    /// Those that both searches have found, among themselves, in the order that `shared` has.
+    Shared,
 }
 
 /// A part of a row, by what a search has found.
 #[derive(Clone, Copy)]
-enum Part {
+pub enum Part {
     /// The classes whose offsets were found.
     Found,
     /// The others.
@@ -39,7 +53,7 @@ enum Part {
 
 impl Part {
     /// Whether the class at the offset is in the part.
-    fn has(self, search: &Search, offset: u32) -> bool
+    pub fn has(self, search: &Search, offset: u32) -> bool
         requires { offset < search.now.size }
         ensures { result ≡ is_part search.now.found self offset }
     {
@@ -101,8 +115,22 @@ fn split_row(row: &[u32], search: &Search, front: Part, moved: &mut Vec<u32>, re
     moved[placed..row.len()].copy_from_slice(&rest[..left]);
 }
 
-/// Puts the classes of the row in their new order, by the search that has ended, and answers whether
-/// the searches are apart. Where they have met there is no such order.
+/// Whether the search that has ended has found the offset that the other one began at.
+fn have_met(ended: Side, len: usize, behind: &Search, ahead: &Search) -> bool
+    requires some { 0 < len }
+    requires few { len ≤ MOST_GRAPH_CLASSES }
+    requires behind { len ≤ behind.now.size }
+    requires ahead { len ≤ ahead.now.size }
+    ensures met { OnTrue result (HasMet ended len behind.now.found ahead.now.found) }
+    ensures apart { OnFalse result (¬ HasMet ended len behind.now.found ahead.now.found) }
+{
+    match ended {
+        Side::Before => behind.has(0),
+        Side::After => ahead.has(len as u32 - 1),
+    }
+}
+
+/// Puts the classes of the row in their new order, by the search that has ended.
 fn reorder(
     ended: Side,
     row: &[u32],
@@ -110,43 +138,28 @@ fn reorder(
     ahead: &Search,
     moved: &mut Vec<u32>,
     rest: &mut Vec<u32>,
-) -> bool
-    requires some { 0 < length row.now }
+)
     requires behind { length row.now ≤ behind.now.size }
     requires ahead { length row.now ≤ ahead.now.size }
     requires few { length row.now ≤ MOST_GRAPH_CLASSES }
     requires moved { length row.now ≤ length moved.old.items }
     requires rest { length row.now ≤ length rest.old.items }
-    ensures met { OnFalse result (HasMet ended (length row.now) behind.now.found ahead.now.found) }
-    ensures apart { OnTrue result
-        (¬ HasMet ended (length row.now) behind.now.found ahead.now.found) }
-    ensures items { OnTrue result (take (length row.now) moved.new.items
+    ensures items { take (length row.now) moved.new.items
         ≡ split (in_front ended behind.now.found ahead.now.found) (slice_index row.now)
-        (length row.now)) }
+        (length row.now) }
     ensures len { (length moved.new.items ≡ length moved.old.items)
         × (length rest.new.items ≡ length rest.old.items) }
 {
     match ended {
-        Side::Before => {
-            if behind.has(0) {
-                return false;
-            }
-            split_row(row, behind, Part::Found, moved, rest);
-        }
-        Side::After => {
-            if ahead.has(row.len() as u32 - 1) {
-                return false;
-            }
-            split_row(row, ahead, Part::Rest, moved, rest);
-        }
+        Side::Before => split_row(row, behind, Part::Found, moved, rest),
+        Side::After => split_row(row, ahead, Part::Rest, moved, rest),
     }
-    true
 }
 
-/// Finds a new order of the classes of the row, in which no edge goes back and the last one comes
-/// before the first, leaves it at the front of `space.moved` and answers how many lists were read, which
-/// `steps` has counted from 0 on. Answers `None` where there is no such order, since a walk leads from the
-/// first class to the last.
+/// Finds a new order of classes of the row, in which no edge goes back and the last one of the row comes
+/// before the first, and answers which part of the space has it. The lists that are read are counted by
+/// `steps`, from 0 on. Answers `None` where there is no such order, since a walk leads from the first class to
+/// the last.
 fn plan(
     lists: &Lists,
     ranks: &[u32],
@@ -154,7 +167,7 @@ fn plan(
     row: &[u32],
     space: &mut Space,
     steps: &mut Steps,
-) -> Option<u64>
+) -> Option<Dealt>
     requires row { IsRow ranks.now low row.now }
     requires some { 0 < length row.now }
     requires few { length row.now ≤ MOST_GRAPH_CLASSES }
@@ -170,31 +183,44 @@ fn plan(
     requires ahead { (space.old.ahead.found ≡ []) × (length row.now ≤ space.old.ahead.size) }
     requires moved { length row.now ≤ length space.old.moved.items }
     requires rest { length row.now ≤ length space.old.rest.items }
+    requires pool { length row.now ≤ vec_capacity space.old.pool }
+    requires shared { length row.now ≤ vec_capacity space.old.shared }
     requires steps { steps.old ≡ 0 }
-    ensures told { IfSome result (λ expanded. expanded ≡ steps.new) }
     ensures plan { MatchOption result
         (IsOrReaches (IsNear lists.now.after.lists) (slice_index row.now 0)
         (slice_index row.now (length row.now - 1)))
-        (IsPlan (IsNear lists.now.after.lists) ranks.now low row.now
-        (take (length row.now) space.new.moved.items)) }
+        (λ kind. IsPlanned kind (IsNear lists.now.after.lists) ranks.now low row.now
+        space.new.moved.items space.new.pool.items space.new.shared.items steps.new) }
     ensures behind { (space.new.behind.found ≡ [])
         × (space.new.behind.size ≡ space.old.behind.size) }
     ensures ahead { (space.new.ahead.found ≡ [])
         × (space.new.ahead.size ≡ space.old.ahead.size) }
     ensures len { (length space.new.moved.items ≡ length space.old.moved.items)
         × (length space.new.rest.items ≡ length space.old.rest.items) }
+    ensures room { (vec_capacity space.old.pool ≤ vec_capacity space.new.pool)
+        × (vec_capacity space.old.shared ≤ vec_capacity space.new.shared) }
 {
     let Space {
         behind,
         ahead,
         moved,
         rest,
+        pool,
+        shared,
     } = space;
-    let ended = search_in_turn(lists, steps, ranks, low, row, behind, ahead);
-    let apart = reorder(ended, row, behind, ahead, moved, rest);
+    let searched = search_range(lists, steps, ranks, low, row, behind, ahead);
+    let plan = if have_met(searched.ended, row.len(), behind, ahead) {
+        None
+    } else if searched.both {
+        share(row, behind, ahead, pool, shared);
+        Some(Dealt::Shared)
+    } else {
+        reorder(searched.ended, row, behind, ahead, moved, rest);
+        Some(Dealt::Whole)
+    };
     behind.clear();
     ahead.clear();
-    if apart { Some(steps.count()) } else { None }
+    plan
 }
 
 /// Gives these classes the ranks from `low` on, in this order.
@@ -214,6 +240,23 @@ fn give_ranks(moved: &[u32], low: u32, ranks: &mut [u32])
         ranks[*class as usize] = rank;
         rank += 1;
     }
+}
+
+/// Gives these classes the ranks from `low` on, and the places in the order from `start` on.
+fn renumber(moved: &[u32], low: u32, start: usize, ranks: &mut [u32], order: &mut Line)
+    requires fits { low + length moved.now < 2 ^ 32 }
+    requires within { start + length moved.now ≤ length order.old.items }
+    requires ends { (k : ℕ) → k < length moved.now
+        → slice_index moved.now k < length ranks.old }
+    requires once { (j k : ℕ) → j < k → k < length moved.now
+        → slice_index moved.now j ≢ slice_index moved.now k }
+    ensures ranked { AreRanked moved.now (λ k. k) (length moved.now) start low
+        ranks.old order.old.items ranks.new order.new.items }
+    ensures len { length order.new.items ≡ length order.old.items }
+    ensures room { order.new.room ≡ order.old.room }
+{
+    give_ranks(moved, low, ranks);
+    order.write(start, moved);
 }
 
 /// Repairs the ranks, and the order, for an edge from `a` to `b` that goes against them, and answers
@@ -252,29 +295,34 @@ pub fn mend(
     requires ahead { (space.old.ahead.found ≡ []) × (length ranks.old ≤ space.old.ahead.size) }
     requires moved { length ranks.old ≤ length space.old.moved.items }
     requires rest { length ranks.old ≤ length space.old.rest.items }
+    requires pool { length ranks.old ≤ vec_capacity space.old.pool }
+    requires shared { length ranks.old ≤ vec_capacity space.old.shared }
     requires steps { steps.old ≡ 0 }
     ensures told { IfSome result (λ expanded. expanded ≡ steps.new) }
     ensures ranks { MatchOption result
         ((ranks.new ≡ ranks.old) × IsOrReaches (IsNear lists.now.after.lists) b a)
         (IsRepaired (IsNear lists.now.after.lists) a b ranks.old ranks.new) }
     ensures inverse { AreInverse ranks.new order.new.items first }
-    ensures len { length order.new.items ≡ length order.old.items }
+    ensures order_len { length order.new.items ≡ length order.old.items }
     ensures order_room { order.new.room ≡ order.old.room }
     ensures row { vec_capacity row.old ≤ vec_capacity row.new }
     ensures behind { (space.new.behind.found ≡ [])
         × (space.new.behind.size ≡ space.old.behind.size) }
     ensures ahead { (space.new.ahead.found ≡ [])
         × (space.new.ahead.size ≡ space.old.ahead.size) }
-    ensures room { (length space.new.moved.items ≡ length space.old.moved.items)
+    ensures len { (length space.new.moved.items ≡ length space.old.moved.items)
         × (length space.new.rest.items ≡ length space.old.rest.items) }
+    ensures room { (vec_capacity space.old.pool ≤ vec_capacity space.new.pool)
+        × (vec_capacity space.old.shared ≤ vec_capacity space.new.shared) }
 {
     let low = ranks[b as usize];
     let start = (low - first) as usize;
     let end = (ranks[a as usize] - first) as usize + 1;
     order.copy(start, end, row);
-    let expanded = plan(lists, ranks, low, row, space, steps)?;
-    let moved = &space.moved[..row.len()];
-    give_ranks(moved, low, ranks);
-    order.write(start, moved);
-    Some(expanded)
+    let dealt = plan(lists, ranks, low, row, space, steps)?;
+    match dealt {
+        Dealt::Whole => renumber(&space.moved[..row.len()], low, start, ranks, order),
+        Dealt::Shared => deal(&space.shared, &space.pool, low, start, ranks, order),
+    }
+    Some(steps.count())
 }

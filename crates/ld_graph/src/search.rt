@@ -64,9 +64,7 @@ impl Search {
     {
         if !self.marks[offset as usize] {
             self.marks[offset as usize] = true;
-            let Ok(()) = self.found.push(offset) else {
-                unreachable!()
-            };
+            self.found.push_reserved(offset);
         }
     }
 
@@ -76,6 +74,16 @@ impl Search {
         ensures { result ≡ list_any (nat_eq offset) self.now.found }
     {
         self.marks[offset as usize]
+    }
+
+    /// The offsets that were found.
+    pub fn found(&self) -> &[u32]
+        ensures found { result.now ≡ self.now.found }
+        ensures once { IsDistinct nat_eq self.now.found }
+    {
+        // Read so that the invariant, which speaks of both fields, is at hand.
+        let _ = &self.marks;
+        &self.found
     }
 
     /// The offset that was found as number `number`, from 0 on.

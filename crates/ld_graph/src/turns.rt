@@ -2,9 +2,11 @@
 
 ghost use Rattle.std.specs.Prelude.{◌≡◌, ℕ, ◌+◌, ◌-◌, ◌*◌, ◌^◌, ◌<◌, ◌≤◌, [], length, slice_index};
 ghost use Rattle.std.specs.Prelude.{Contains, MatchOption};
+ghost use Rattle.std.specs.Bool.{OnTrue};
 ghost use Rattle.ld_graph.specs.declared.graph.TheConstants.{MOST_GRAPH_CLASSES};
-ghost use Rattle.ld_graph.specs.Inner.Repairs.{HasEnded, IsGrown, IsInside, IsRow, IsSought};
-ghost use Rattle.ld_graph.specs.Lists.{IsNear};
+ghost use Rattle.ld_graph.specs.Inner.Repairs.{HasAllNear, HasEnded, HaveEnded, IsGrown, IsInside};
+ghost use Rattle.ld_graph.specs.Inner.Repairs.{IsRow, IsSought, of_side, start_of};
+ghost use Rattle.ld_graph.specs.Lists.{IsNear, list_at};
 
 use crate::lists::{Lists, Steps};
 use crate::search::Search;
@@ -16,6 +18,23 @@ pub enum Side {
     After,
     /// The predecessors.
     Before,
+}
+
+/// The search that has ended, and how many lists each of the two has read.
+#[derive(Clone, Copy)]
+struct Turns {
+    ended: Side,
+    behind: usize,
+    ahead: usize,
+}
+
+/// What became of two searches.
+#[derive(Clone, Copy)]
+pub struct Searched {
+    /// The one that ended first.
+    pub ended: Side,
+    /// Whether the other one has ended too.
+    pub both: bool,
 }
 
 /// The offset of a rank in the range of so many ranks from the least one on, if it is in it.
@@ -49,8 +68,8 @@ fn expand(near: &[u32], ranks: &[u32], low: u32, len: usize, search: &mut Search
 }
 
 /// Searches backward from the last class of the range and forward from its first, one class each in
-/// turn and within the range alone, until one side has ended, and answers which.
-pub fn search_in_turn(
+/// turn and within the range alone, until one side has ended.
+fn search_in_turn(
     lists: &Lists,
     steps: &mut Steps,
     ranks: &[u32],
@@ -58,7 +77,7 @@ pub fn search_in_turn(
     row: &[u32],
     behind: &mut Search,
     ahead: &mut Search,
-) -> Side
+) -> Turns
     requires row { IsRow ranks.now low row.now }
     requires some { 0 < length row.now }
     requires few { length row.now ≤ MOST_GRAPH_CLASSES }
@@ -73,10 +92,17 @@ pub fn search_in_turn(
     ensures behind { IsSought (IsNear lists.now.before.lists) row.now (length row.now - 1)
         behind.new.found }
     ensures ahead { IsSought (IsNear lists.now.after.lists) row.now 0 ahead.new.found }
-    ensures ended { HasEnded result lists.now ranks.now low row.now
+    ensures ended { HasEnded result.ended lists.now ranks.now low row.now
         behind.new.found ahead.new.found }
-    ensures most { steps.new ≤ steps.old + length behind.new.found + length ahead.new.found }
-    ensures some { steps.old < steps.new }
+    ensures behind_read { HasAllNear (IsNear lists.now.before.lists) ranks.now low row.now
+        behind.new.found result.behind }
+    ensures ahead_read { HasAllNear (IsNear lists.now.after.lists) ranks.now low row.now
+        ahead.new.found result.ahead }
+    ensures read { (result.behind ≤ length behind.new.found)
+        × (result.ahead ≤ length ahead.new.found) }
+    ensures few { (result.behind ≤ length row.now) × (result.ahead ≤ length row.now) }
+    ensures steps { steps.new ≡ steps.old + result.behind + result.ahead }
+    ensures some { 0 < result.behind }
 {
     behind.add(row.len() as u32 - 1);
     ahead.add(0);
@@ -86,14 +112,151 @@ pub fn search_in_turn(
         let near = lists.before(row[last as usize], steps);
         expand(near, ranks, low, row.len(), behind);
         if behind.ends_at(done + 1) {
-            return Side::Before;
+            return Turns {
+                ended: Side::Before,
+                behind: done + 1,
+                ahead: done,
+            };
         }
         let first = ahead.offset(done);
         let near = lists.after(row[first as usize], steps);
         expand(near, ranks, low, row.len(), ahead);
         if ahead.ends_at(done + 1) {
-            return Side::After;
+            return Turns {
+                ended: Side::After,
+                behind: done + 1,
+                ahead: done + 1,
+            };
         }
         done += 1;
+    }
+}
+
+/// The neighbours of a class on this side. Adds one to the count.
+fn neighbours_on<'a>(lists: &'a Lists, side: Side, class: u32, steps: &mut Steps) -> &'a [u32]
+    requires class { class < length (of_side side lists.now) }
+    requires few { steps.old + 1 < 2 ^ 64 }
+    ensures near { result.now ≡ list_at (of_side side lists.now) class }
+    ensures step { steps.new ≡ steps.old + 1 }
+{
+    match side {
+        Side::After => lists.after(class, steps),
+        Side::Before => lists.before(class, steps),
+    }
+}
+
+/// Goes on with one search that has read so many lists, until it has ended or has read the most that it may,
+/// and answers whether it has ended.
+fn go_on(
+    side: Side,
+    lists: &Lists,
+    steps: &mut Steps,
+    ranks: &[u32],
+    low: u32,
+    row: &[u32],
+    search: &mut Search,
+    read: usize,
+    most: usize,
+) -> bool
+    requires row { IsRow ranks.now low row.now }
+    requires few { length row.now ≤ MOST_GRAPH_CLASSES }
+    requires classes { length (of_side side lists.now) ≡ length ranks.now }
+    requires ends { (x y : ℕ) → IsNear (of_side side lists.now) x y → y < length ranks.now }
+    requires size { length row.now ≤ search.old.size }
+    requires sought { IsSought (IsNear (of_side side lists.now)) row.now
+        (start_of side (length row.now)) search.old.found }
+    requires near { HasAllNear (IsNear (of_side side lists.now)) ranks.now low row.now
+        search.old.found read }
+    requires read { read ≤ length search.old.found }
+    requires steps { steps.old + length row.now < 2 ^ 64 }
+    ensures size { search.new.size ≡ search.old.size }
+    ensures sought { IsSought (IsNear (of_side side lists.now)) row.now
+        (start_of side (length row.now)) search.new.found }
+    ensures ended { OnTrue result (HasAllNear (IsNear (of_side side lists.now)) ranks.now low row.now
+        search.new.found (length search.new.found)) }
+    ensures most { steps.new + read ≤ steps.old + length search.new.found }
+    ensures kept { steps.old ≤ steps.new }
+{
+    let mut done = read;
+    while !search.ends_at(done) {
+        if done >= most {
+            return false;
+        }
+        let offset = search.offset(done);
+        let near = neighbours_on(lists, side, row[offset as usize], steps);
+        expand(near, ranks, low, row.len(), search);
+        done += 1;
+    }
+    true
+}
+
+/// Searches from both ends of the range within it, in turn until one side has ended. Then the other one may go
+/// on for as many lists as it has read and a small part of the range.
+pub fn search_range(
+    lists: &Lists,
+    steps: &mut Steps,
+    ranks: &[u32],
+    low: u32,
+    row: &[u32],
+    behind: &mut Search,
+    ahead: &mut Search,
+) -> Searched
+    requires row { IsRow ranks.now low row.now }
+    requires some { 0 < length row.now }
+    requires few { length row.now ≤ MOST_GRAPH_CLASSES }
+    requires classes { (length lists.now.after.lists ≡ length ranks.now)
+        × (length lists.now.before.lists ≡ length ranks.now) }
+    requires after { (x y : ℕ) → IsNear lists.now.after.lists x y → y < length ranks.now }
+    requires before { (x y : ℕ) → IsNear lists.now.before.lists x y → y < length ranks.now }
+    requires behind { (behind.old.found ≡ []) × (length row.now ≤ behind.old.size) }
+    requires ahead { (ahead.old.found ≡ []) × (length row.now ≤ ahead.old.size) }
+    requires steps { steps.old + 3 * length row.now < 2 ^ 64 }
+    ensures size { (behind.new.size ≡ behind.old.size) × (ahead.new.size ≡ ahead.old.size) }
+    ensures behind { IsSought (IsNear lists.now.before.lists) row.now (length row.now - 1)
+        behind.new.found }
+    ensures ahead { IsSought (IsNear lists.now.after.lists) row.now 0 ahead.new.found }
+    ensures ended { HasEnded result.ended lists.now ranks.now low row.now
+        behind.new.found ahead.new.found }
+    ensures both { OnTrue result.both
+        (HaveEnded lists.now ranks.now low row.now behind.new.found ahead.new.found) }
+    ensures most { steps.new ≤ steps.old + length behind.new.found + length ahead.new.found }
+    ensures some { steps.old < steps.new }
+{
+    let turns = search_in_turn(lists, steps, ranks, low, row, behind, ahead);
+    // That much reading costs about what it costs to part the range.
+    let more = row.len() / 64;
+    let both = match turns.ended {
+        Side::Before => {
+            let most = 2 * turns.ahead + 1 + more;
+            go_on(
+                Side::After,
+                lists,
+                steps,
+                ranks,
+                low,
+                row,
+                ahead,
+                turns.ahead,
+                most,
+            )
+        }
+        Side::After => {
+            let most = 2 * turns.behind + 1 + more;
+            go_on(
+                Side::Before,
+                lists,
+                steps,
+                ranks,
+                low,
+                row,
+                behind,
+                turns.behind,
+                most,
+            )
+        }
+    };
+    Searched {
+        ended: turns.ended,
+        both,
     }
 }

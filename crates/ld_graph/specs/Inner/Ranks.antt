@@ -28,5 +28,7 @@ pub record IsRanked (r : Inside) : Type 0 where
   pub ahead_room : r.room ≤ r.space.ahead.size
   pub moved_room : r.room ≤ length r.space.moved.items
   pub rest_room : r.room ≤ length r.space.rest.items
+  pub pool_room : r.room ≤ vec_capacity r.space.pool
+  pub shared_room : r.room ≤ vec_capacity r.space.shared
   pub behind_none : r.space.behind.found ≡ []
   pub ahead_none : r.space.ahead.found ≡ []

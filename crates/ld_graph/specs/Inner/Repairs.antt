@@ -1,10 +1,12 @@
 -- What a repair of the ranks says of its working space. No public contract cites this file.
 use Rattle.std.specs.Prelude.{◌≡◌, ◌≢◌, true, false, nat_eq, ℕ, zero, suc, ◌+◌, ◌<◌, ◌≤◌, Bool, not, if◌then◌else◌, List, []}
 use Rattle.std.specs.Prelude.{Option, None, Some}
-use Rattle.std.specs.Prelude.{◌∷◌, ◌++◌, ◌-◌, ◌⊎◌, length, slice_index, Contains}
+use Rattle.std.specs.Prelude.{◌∷◌, ◌++◌, ◌-◌, ◌⊎◌, ◌↔◌, length, slice_index, take, Contains}
 use Rattle.std.specs.List.{list_any}
 use Rattle.ld_graph.specs.declared.repair.Part.{Part}
 use Rattle.ld_graph.specs.declared.repair.Part.TheVariants.{Found, Rest}
+use Rattle.ld_graph.specs.declared.repair.Dealt.{Dealt}
+use Rattle.ld_graph.specs.declared.repair.Dealt.TheVariants.{Whole, Shared}
 use Rattle.ld_graph.specs.declared.turns.Side.{Side}
 use Rattle.ld_graph.specs.declared.turns.Side.TheVariants.{After, Before}
 use Rattle.ld_graph.specs.Lists.{IsNear, Sides}
@@ -76,6 +78,23 @@ HasAllNear near ranks low row found n = (i y : ℕ) → i < n
     → IsInside low (length row) (slice_index ranks y)
     → Contains found (slice_index ranks y - low)
 
+-- the lists of the neighbours that a search follows
+abbrev pub of_side : Side → Sides → List (List ℕ)
+of_side After sides = sides.after.lists
+of_side Before sides = sides.before.lists
+
+-- the offset that a search begins at
+abbrev pub start_of : Side → (len : ℕ) → ℕ
+start_of After len = 0
+start_of Before len = len - 1
+
+-- both searches have ended
+abbrev pub HaveEnded : (sides : Sides) → (ranks : List ℕ) → (low : ℕ) → (row behind ahead : List ℕ)
+    → Type 0
+HaveEnded sides ranks low row behind ahead =
+    HasAllNear (IsNear sides.before.lists) ranks low row behind (length behind)
+    × HasAllNear (IsNear sides.after.lists) ranks low row ahead (length ahead)
+
 -- the search on this side has ended
 abbrev pub HasEnded : Side → (sides : Sides) → (ranks : List ℕ) → (low : ℕ)
     → (row behind ahead : List ℕ) → Type 0
@@ -99,14 +118,13 @@ abbrev pub HasMet : Side → (len : ℕ) → (behind ahead : List ℕ) → Type 
 HasMet Before len behind ahead = Contains behind 0
 HasMet After len behind ahead = Contains ahead (len - 1)
 
--- the first n of these classes have the ranks from the least one on, and stand in the order from a
--- place on; all else is as before
-pub record AreRanked (moved : List ℕ) (start low n : ℕ) (ranks order new_ranks new_order : List ℕ) : Type 0 where
-  pub rank_at : (k : ℕ) → k < n → slice_index new_ranks (slice_index moved k) ≡ low + k
+-- classes have the ranks, and the places of the order, of these offsets; all else is as before
+pub record AreRanked (moved : List ℕ) (at : ℕ → ℕ) (n start low : ℕ) (ranks order new_ranks new_order : List ℕ) : Type 0 where
+  pub rank_at : (k : ℕ) → k < n → slice_index new_ranks (slice_index moved k) ≡ low + at k
   pub rank_else : (c : ℕ) → ((k : ℕ) → k < n → slice_index moved k ≢ c)
       → slice_index new_ranks c ≡ slice_index ranks c
-  pub class_at : (k : ℕ) → k < n → slice_index new_order (start + k) ≡ slice_index moved k
-  pub class_else : (i : ℕ) → (i < start) ⊎ (start + n ≤ i)
+  pub class_at : (k : ℕ) → k < n → slice_index new_order (start + at k) ≡ slice_index moved k
+  pub class_else : (i : ℕ) → ((k : ℕ) → k < n → i ≢ start + at k)
       → slice_index new_order i ≡ slice_index order i
 
 -- the rank of each class, 0 being none, and the ranked classes in their order, whose first one has
@@ -130,18 +148,47 @@ pub record IsPut (class : ℕ) (old new : List ℕ) : Type 0 where
   pub some : 0 < slice_index new class
   pub others : (c : ℕ) → class ≢ c → slice_index new c ≡ slice_index old c
 
--- the row has a new order, in which no step goes back and its last class comes before its first
-pub record IsPlan (step : ℕ → ℕ → Type 0) (ranks : List ℕ) (low : ℕ) (row moved : List ℕ)
+-- the rank is that of one of the first n of these offsets
+abbrev pub IsOne : (low : ℕ) → (at : ℕ → ℕ) → (n r k : ℕ) → Type 0
+IsOne low at n r k = (k < n) × (r ≡ low + at k)
+
+-- the classes at some offsets of the row have a new order among themselves, in which no step goes back
+-- and the last class of the row comes before its first
+pub record IsPlan (step : ℕ → ℕ → Type 0) (ranks : List ℕ) (low : ℕ) (row moved : List ℕ) (at : ℕ → ℕ)
     (expanded : ℕ) : Type 0 where
   pub front : ℕ → Bool
-  pub in_order : moved ≡ split front (slice_index row) (length row)
-  pub closed : (x y : ℕ) → step x y → IsInside low (length row) (slice_index ranks x)
-      → IsInside low (length row) (slice_index ranks y)
-      → front (slice_index ranks y - low) ≡ true → front (slice_index ranks x - low) ≡ true
-  pub last : front (length row - 1) ≡ true
-  pub first : front 0 ≡ false
+  pub in_order : moved ≡ split front (λ k. slice_index row (at k)) (length moved)
+  pub inside : (k : ℕ) → k < length moved → at k < length row
+  pub rising : (i k : ℕ) → i < k → k < length moved → at i < at k
+  pub some_or : (i : ℕ) → i < length row → ((k : ℕ) × ((k < length moved) × (at k ≡ i)))
+      ⊎ ((k : ℕ) → k < length moved → at k ≢ i)
+  -- what leads to one in front is in front too, and what one of the others leads to is one of these
+  pub closed_front : (x y k : ℕ) → step x y → IsInside low (length row) (slice_index ranks x)
+      → IsOne low at (length moved) (slice_index ranks y) k → front k ≡ true
+      → (i : ℕ) × (IsOne low at (length moved) (slice_index ranks x) i × (front i ≡ true))
+  pub closed_back : (x y k : ℕ) → step x y → IsInside low (length row) (slice_index ranks y)
+      → IsOne low at (length moved) (slice_index ranks x) k → front k ≡ false
+      → (i : ℕ) × (IsOne low at (length moved) (slice_index ranks y) i × (front i ≡ false))
+  pub last : (k : ℕ) × ((k < length moved) × ((at k ≡ length row - 1) × (front k ≡ true)))
+  pub first : (k : ℕ) × ((k < length moved) × ((at k ≡ 0) × (front k ≡ false)))
   pub some : 0 < expanded
   pub few : expanded ≤ length row
+
+-- the offsets that both searches have found, in their order, and the classes at them, those that the
+-- search backward has found first
+pub record AreShared (row behind ahead pool shared : List ℕ) : Type 0 where
+  pub rising : (i k : ℕ) → i < k → k < length pool → slice_index pool i < slice_index pool k
+  pub has : (k : ℕ) → Contains pool k ↔ (Contains behind k ⊎ Contains ahead k)
+  pub in_order : shared ≡ split (λ k. is_part behind Found (slice_index pool k))
+      (λ k. slice_index row (slice_index pool k)) (length pool)
+
+-- what a plan leaves where, by what is dealt out
+abbrev pub IsPlanned : Dealt → (step : ℕ → ℕ → Type 0) → (ranks : List ℕ) → (low : ℕ)
+    → (row moved pool shared : List ℕ) → (expanded : ℕ) → Type 0
+IsPlanned Whole step ranks low row moved pool shared expanded =
+    IsPlan step ranks low row (take (length row) moved) (λ k. k) expanded
+IsPlanned Shared step ranks low row moved pool shared expanded =
+    (length shared ≡ length pool) × IsPlan step ranks low row shared (slice_index pool) expanded
 
 -- what is seen of the ranks: the rank of each class, the ranked classes in their order, the rank of
 -- the first of them, and for how many classes there is memory

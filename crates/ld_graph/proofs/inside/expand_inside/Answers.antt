@@ -7,7 +7,7 @@ use Rattle.ld_graph.specs.Inner.Levels.{level_at, HasLevel}
 use Rattle.ld_graph.proofs.SpreadLemmas.{near_here, Spreads-more, some_is, none_is}
 use Rattle.ld_graph.proofs.SpreadLemmas.{count_marked, kept_marked}
 use Rattle.ld_graph.proofs.inside.expand_inside.Goals as goal
-use Rattle.ld_graph.proofs.inside.expand_inside.Goals.{then-is_none+then-components-x+in-Ok, then-is_none+else-components-x, else-is_none}
+use Rattle.ld_graph.proofs.inside.expand_inside.Goals.{then-is_none+then-components-x, then-is_none+else-components-x, else-is_none}
 
 pub bounds-components-x : goal.bounds-components-x
 bounds-components-x c =
@@ -29,8 +29,8 @@ bounds-levels-x-then-components-x c =
     let l = c.loop-x.auto.levels in
     omega (arith, n, l)
 
-pub unreachable-requires : goal.unreachable-requires
-unreachable-requires c =
+pub push_reserved-requires : goal.push_reserved-requires
+push_reserved-requires c =
     let n = c.requires.ends (get_or c.args.near.now c.loop-x.x-index 0)
     (near_here c.args.near.now c.loop-x.x-index c.loop-x-test.true) in
     let l = c.loop-x.auto.levels in
@@ -41,7 +41,7 @@ unreachable-requires c =
     let m = count_marked c.loop-x.levels (get_or c.args.near.now c.loop-x.x-index 0)
     c.args.level (omega (arith, n, l)) free in
     let i = c.loop-x.invariant in
-    omega (arith, m, i.count, i.capacity, c.requires.room, c.in_default.ensures.full)
+    omega (arith, m, i.count, i.capacity, c.requires.room)
 
 pub loop-x-preserved : goal.loop-x-preserved
 loop-x-preserved c =
@@ -52,12 +52,12 @@ loop-x-preserved c =
     let within : x < length c.loop-x.levels = omega (arith, n, l) in
     let i = c.loop-x.invariant in
     elim c.if-is_none.branch [
-      | then-is_none+then-components-x+in-Ok w ↦
+      | then-is_none+then-components-x w ↦
           let free : level_at c.loop-x.levels x ≡ None = none_is (level_at c.loop-x.levels x) (ap (λ o. is_some o) (get_or_default c.loop-x.levels x None c.index-levels-x.result within) ∙ w.if-is_none.ensures) in
           rw (w.levels-is, w.queue-is, w.of.ensures) (record {
-            count = let m = count_marked c.loop-x.levels x c.args.level within free in omega (arith, m, i.count, w.in-Ok.ensures.len);
-            capacity = omega (arith, i.capacity, w.in-Ok.ensures.capacity);
-            spread = rw w.in-Ok.ensures.items (Spreads-more (IsInsideOf c.args.components.now c.args.component c.args.near.now) c.args.level c.args.levels.now c.args.queue.now.items
+            count = let m = count_marked c.loop-x.levels x c.args.level within free in omega (arith, m, i.count, w.push_reserved.ensures.len);
+            capacity = omega (arith, i.capacity, w.push_reserved.ensures.capacity);
+            spread = rw w.push_reserved.ensures.items (Spreads-more (IsInsideOf c.args.components.now c.args.component c.args.near.now) c.args.level c.args.levels.now c.args.queue.now.items
                 c.loop-x.levels c.loop-x.queue.items i.spread x (here, w.if-components-x.true) within free);
             reached = below_more (λ k. get_or c.args.components.now (get_or c.args.near.now k 0) 0 ≡ c.args.component
                 → HasLevel (set c.loop-x.levels x (Some c.args.level)) (get_or c.args.near.now k 0)) _

@@ -6,7 +6,7 @@ use Rattle.ld_graph.specs.Inner.Levels.{level_at}
 use Rattle.ld_graph.proofs.SpreadLemmas.{near_all, near_here, Spreads-more, some_is, none_is}
 use Rattle.ld_graph.proofs.SpreadLemmas.{count_marked, kept_marked}
 use Rattle.ld_graph.proofs.levels.expand.Goals as goal
-use Rattle.ld_graph.proofs.levels.expand.Goals.{then-is_none+in-Ok, else-is_none}
+use Rattle.ld_graph.proofs.levels.expand.Goals.{then-is_none, else-is_none}
 
 pub bounds-levels-x : goal.bounds-levels-x
 bounds-levels-x c =
@@ -22,8 +22,8 @@ bounds-levels-x-then-is_none c =
     let l = c.loop-x.auto.levels in
     omega (arith, n, l)
 
-pub unreachable-requires : goal.unreachable-requires
-unreachable-requires c =
+pub push_reserved-requires : goal.push_reserved-requires
+push_reserved-requires c =
     let n = c.requires.ends (get_or c.args.near.now c.loop-x.x-index 0)
     (near_here c.args.near.now c.loop-x.x-index c.loop-x-test.true) in
     let l = c.loop-x.auto.levels in
@@ -34,7 +34,7 @@ unreachable-requires c =
     let m = count_marked c.loop-x.levels (get_or c.args.near.now c.loop-x.x-index 0)
     c.args.level (omega (arith, n, l)) free in
     let i = c.loop-x.invariant in
-    omega (arith, m, i.count, i.capacity, c.requires.room, c.in_default.ensures.full)
+    omega (arith, m, i.count, i.capacity, c.requires.room)
 
 pub loop-x-preserved : goal.loop-x-preserved
 loop-x-preserved c =
@@ -45,7 +45,7 @@ loop-x-preserved c =
     (arith, n, l) in
     let i = c.loop-x.invariant in
     elim c.if-is_none.branch [
-      | then-is_none+in-Ok w ↦
+      | then-is_none w ↦
           let free : level_at c.loop-x.levels (get_or c.args.near.now c.loop-x.x-index 0) ≡
           None = none_is (level_at c.loop-x.levels (get_or c.args.near.now c.loop-x.x-index
           0)) (ap (λ o. is_some o) (get_or_default c.loop-x.levels (get_or c.args.near.now c.loop-x.x-index 0) None c.index-levels-x.result within)
@@ -53,9 +53,9 @@ loop-x-preserved c =
           rw (w.levels-is, w.queue-is, w.of.ensures) (record {
             count = let m = count_marked c.loop-x.levels (get_or c.args.near.now
                 c.loop-x.x-index 0) c.args.level within free
-                in omega (arith, m, i.count, w.in-Ok.ensures.len);
-            capacity = omega (arith, i.capacity, w.in-Ok.ensures.capacity);
-            spread = rw w.in-Ok.ensures.items (Spreads-more (Contains c.args.near.now) c.args.level c.args.levels.now c.args.queue.now.items
+                in omega (arith, m, i.count, w.push_reserved.ensures.len);
+            capacity = omega (arith, i.capacity, w.push_reserved.ensures.capacity);
+            spread = rw w.push_reserved.ensures.items (Spreads-more (Contains c.args.near.now) c.args.level c.args.levels.now c.args.queue.now.items
                 c.loop-x.levels c.loop-x.queue.items i.spread (get_or c.args.near.now
                 c.loop-x.x-index 0) here within free);
             reached = below_more _ _

@@ -5,6 +5,6 @@ use Rattle.ld_graph.proofs.reach.give.Goals as goal
 
 pub returns-clause-listed : goal.returns-clause-listed
 returns-clause-listed c =
-    subst (AreReached (set c.args.sources.now c.args.class (Some c.args.from))) (sym c.in-Ok.ensures.items)
+    subst (AreReached (set c.args.sources.now c.args.class (Some c.args.from))) (sym c.push_reserved.ensures.items)
     (AreReached-given c.args.sources.now c.args.reached.now.items c.args.class c.args.from c.requires.listed c.requires.class
     (sym c.is_some.ensures ∙ c.if-is_some.false))

@@ -1,135 +1,241 @@
-use Rattle.std.proofs.Common.{◌≡◌, ◌≢◌, ◌+◌, ◌-◌, ◌<◌, ◌≤◌, ◌∙◌, ℕ, ap, arith, get_or, length, refl}
+use Rattle.std.proofs.Common.{◌≡◌, ◌≢◌, ◌+◌, ◌-◌, ◌<◌, ◌^◌, ◌∙◌, List, ℕ, ap, arith, get_or, length, refl}
 use Rattle.std.proofs.Common.{subst, sym, take}
-use Rattle.ld_graph.specs.Inner.Repairs.{AreRanked}
+use Rattle.ld_graph.specs.declared.repair.Dealt.TheVariants.{Shared, Whole}
+use Rattle.ld_graph.specs.Inner.Repairs.{AreRanked, IsPlanned}
 use Rattle.ld_graph.specs.Lists.{IsNear}
-use Rattle.ld_graph.proofs.PlanLemmas.{copy_reaches, mended, mended_inverse, moved_ends}
-use Rattle.ld_graph.proofs.PlanLemmas.{moved_once, moved_within}
+use Rattle.ld_graph.proofs.PlanLemmas.{copy_reaches, mended, mended_inverse, moved_ends, moved_fits}
+use Rattle.ld_graph.proofs.PlanLemmas.{moved_once, moved_place}
 use Rattle.ld_graph.proofs.repair.mend.Goals as goal
+use Rattle.ld_graph.proofs.repair.mend.Goals.{in-Shared, in-Whole}
 
-pub returns-in_err-expanded-clause-ranks : goal.returns-in_err-expanded-clause-ranks
-returns-in_err-expanded-clause-ranks c = rw c.from_residual.ensures (
+pub returns-in_err-dealt-clause-ranks : goal.returns-in_err-dealt-clause-ranks
+returns-in_err-dealt-clause-ranks c = rw c.from_residual.ensures (
   refl,
   copy_reaches (IsNear c.args.lists.now.after.lists) c.args.ranks.now c.args.order.now.items
       c.args.first c.requires.inverse c.args.a c.args.b (get_or c.args.ranks.now c.args.b 0)
       (get_or c.args.ranks.now c.args.a 0) (get_or c.args.ranks.now c.args.b 0 - c.args.first) refl
       refl refl c.requires.ranked c.requires.against c.requires.rises c.requires.ends _
       (c.deref.ensures.value ∙ c.copy.ensures.items)
-      c.in_err-expanded.ensures.plan,
+      c.in_err-dealt.ensures.plan,
 )
 
-pub write-requires : goal.write-requires
-write-requires c =
+pub renumber-requires-clause-ends : goal.renumber-requires-clause-ends
+renumber-requires-clause-ends c =
+    let planned : IsPlanned Whole (IsNear c.args.lists.now.after.lists) c.args.ranks.now (get_or c.args.ranks.now
+    c.args.b 0) c.deref.result.now c.plan.new.space.moved.items c.plan.new.space.pool.items
+    c.plan.new.space.shared.items c.plan.new.steps = subst (λ d. IsPlanned d (IsNear
+    c.args.lists.now.after.lists) c.args.ranks.now (get_or c.args.ranks.now c.args.b 0) c.deref.result.now
+    c.plan.new.space.moved.items c.plan.new.space.pool.items
+    c.plan.new.space.shared.items c.plan.new.steps) c.in-Whole.is c.in_ok-dealt.ensures.plan in
     let n : c.len.result ≡ length c.deref.result.now = let e = ap length c.deref.ensures.value in
     omega (arith, e, c.len.ensures, c.copy.new.row.ok.0) in
-    let same : take c.len.result c.deref-2.result.now
+    let same : take c.len.result c.deref-in-Whole.result.now
     ≡ take (length c.deref.result.now) c.plan.new.space.moved.items =
-    ap (take c.len.result) c.deref-2.ensures.value
+    ap (take c.len.result) c.deref-in-Whole.ensures.value
     ∙ ap (λ n. take n c.plan.new.space.moved.items) n in
-    let w = moved_within (IsNear c.args.lists.now.after.lists) c.args.ranks.now c.args.order.now.items
-    c.args.first c.requires.inverse c.args.a c.args.b (get_or c.args.ranks.now c.args.b 0)
-    (get_or c.args.ranks.now c.args.a 0) (get_or c.args.ranks.now c.args.b 0 - c.args.first) refl
-    refl refl c.requires.ranked c.requires.against c.requires.rises c.requires.ends _
-    (c.deref.ensures.value ∙ c.copy.ensures.items) _
-    c.in_ok-expanded.expanded c.in_ok-expanded.ensures.plan in
-    subst (λ z. get_or c.args.ranks.now c.args.b 0 - c.args.first + length z ≤ length
-    c.args.order.now.items) (sym same) w
-
-pub give_ranks-requires-clause-fits : goal.give_ranks-requires-clause-fits
-give_ranks-requires-clause-fits c =
-    let n : c.len.result ≡ length c.deref.result.now = let e = ap length c.deref.ensures.value in
-    omega (arith, e, c.len.ensures, c.copy.new.row.ok.0) in
-    let same : take c.len.result c.deref-2.result.now
-    ≡ take (length c.deref.result.now) c.plan.new.space.moved.items =
-    ap (take c.len.result) c.deref-2.ensures.value
-    ∙ ap (λ n. take n c.plan.new.space.moved.items) n in
-    let w = moved_within (IsNear c.args.lists.now.after.lists) c.args.ranks.now c.args.order.now.items
-    c.args.first c.requires.inverse c.args.a c.args.b (get_or c.args.ranks.now c.args.b 0)
-    (get_or c.args.ranks.now c.args.a 0) (get_or c.args.ranks.now c.args.b 0 - c.args.first) refl
-    refl refl c.requires.ranked c.requires.against c.requires.rises c.requires.ends _
-    (c.deref.ensures.value ∙ c.copy.ensures.items) _
-    c.in_ok-expanded.expanded c.in_ok-expanded.ensures.plan in
-    let l = ap length same in
-    let low = (c.requires.inverse.back c.args.b c.requires.ranked).0 in
-    omega (arith, w, l, low, c.requires.fits)
-
-pub give_ranks-requires-clause-ends : goal.give_ranks-requires-clause-ends
-give_ranks-requires-clause-ends c =
-    let n : c.len.result ≡ length c.deref.result.now = let e = ap length c.deref.ensures.value in
-    omega (arith, e, c.len.ensures, c.copy.new.row.ok.0) in
-    let same : take c.len.result c.deref-2.result.now
-    ≡ take (length c.deref.result.now) c.plan.new.space.moved.items =
-    ap (take c.len.result) c.deref-2.ensures.value
-    ∙ ap (λ n. take n c.plan.new.space.moved.items) n in
-    subst (λ z. (k : ℕ) → k < length z → get_or z k 0 < length c.args.ranks.now)
-    (sym same)
+    subst (λ (z : List ℕ). (k : ℕ) → k < length z → get_or z k 0 < length c.args.ranks.now) (sym same)
     (moved_ends (IsNear c.args.lists.now.after.lists) c.args.ranks.now c.args.order.now.items
     c.args.first c.requires.inverse c.args.a c.args.b (get_or c.args.ranks.now c.args.b 0)
     (get_or c.args.ranks.now c.args.a 0) (get_or c.args.ranks.now c.args.b 0 - c.args.first) refl
     refl refl c.requires.ranked c.requires.against c.requires.rises c.requires.ends _
-    (c.deref.ensures.value ∙ c.copy.ensures.items) _
-    c.in_ok-expanded.expanded c.in_ok-expanded.ensures.plan)
+    (c.deref.ensures.value ∙ c.copy.ensures.items) _ (λ k. k)
+    c.plan.new.steps planned)
 
-pub give_ranks-requires-clause-once : goal.give_ranks-requires-clause-once
-give_ranks-requires-clause-once c =
+pub renumber-requires-clause-once : goal.renumber-requires-clause-once
+renumber-requires-clause-once c =
+    let planned : IsPlanned Whole (IsNear c.args.lists.now.after.lists) c.args.ranks.now (get_or c.args.ranks.now
+    c.args.b 0) c.deref.result.now c.plan.new.space.moved.items c.plan.new.space.pool.items
+    c.plan.new.space.shared.items c.plan.new.steps = subst (λ d. IsPlanned d (IsNear
+    c.args.lists.now.after.lists) c.args.ranks.now (get_or c.args.ranks.now c.args.b 0) c.deref.result.now
+    c.plan.new.space.moved.items c.plan.new.space.pool.items
+    c.plan.new.space.shared.items c.plan.new.steps) c.in-Whole.is c.in_ok-dealt.ensures.plan in
     let n : c.len.result ≡ length c.deref.result.now = let e = ap length c.deref.ensures.value in
     omega (arith, e, c.len.ensures, c.copy.new.row.ok.0) in
-    let same : take c.len.result c.deref-2.result.now
+    let same : take c.len.result c.deref-in-Whole.result.now
     ≡ take (length c.deref.result.now) c.plan.new.space.moved.items =
-    ap (take c.len.result) c.deref-2.ensures.value
+    ap (take c.len.result) c.deref-in-Whole.ensures.value
     ∙ ap (λ n. take n c.plan.new.space.moved.items) n in
-    subst (λ z. (j k : ℕ) → j < k → k < length z → get_or z j 0 ≢ get_or z k 0)
-    (sym same)
+    subst (λ (z : List ℕ). (j k : ℕ) → j < k → k < length z → get_or z j 0 ≢ get_or z k 0) (sym same)
     (moved_once (IsNear c.args.lists.now.after.lists) c.args.ranks.now c.args.order.now.items
     c.args.first c.requires.inverse c.args.a c.args.b (get_or c.args.ranks.now c.args.b 0)
     (get_or c.args.ranks.now c.args.a 0) (get_or c.args.ranks.now c.args.b 0 - c.args.first) refl
     refl refl c.requires.ranked c.requires.against c.requires.rises c.requires.ends _
-    (c.deref.ensures.value ∙ c.copy.ensures.items) _
-    c.in_ok-expanded.expanded c.in_ok-expanded.ensures.plan)
+    (c.deref.ensures.value ∙ c.copy.ensures.items) _ (λ k. k)
+    c.plan.new.steps planned)
+
+pub deal-requires-clause-fits : goal.deal-requires-clause-fits
+deal-requires-clause-fits c =
+    let planned : IsPlanned Shared (IsNear c.args.lists.now.after.lists) c.args.ranks.now (get_or c.args.ranks.now
+    c.args.b 0) c.deref.result.now c.plan.new.space.moved.items c.plan.new.space.pool.items
+    c.plan.new.space.shared.items c.plan.new.steps = subst (λ d. IsPlanned d (IsNear
+    c.args.lists.now.after.lists) c.args.ranks.now (get_or c.args.ranks.now c.args.b 0) c.deref.result.now
+    c.plan.new.space.moved.items c.plan.new.space.pool.items
+    c.plan.new.space.shared.items c.plan.new.steps) c.in-Shared.is c.in_ok-dealt.ensures.plan in
+    let shared = c.deref-in-Shared.ensures.value in let pool = c.deref-in-Shared-2.ensures.value in
+    subst (λ (z : List ℕ). (k : ℕ) → k < length z → (get_or c.args.ranks.now c.args.b 0) + get_or c.deref-in-Shared-2.result.now k 0 < 2 ^ 32)
+    (sym shared) (subst (λ (z : List ℕ). (k : ℕ) → k < length c.plan.new.space.shared.items
+    → (get_or c.args.ranks.now c.args.b 0) + get_or z k 0 < 2 ^ 32) (sym pool)
+    (moved_fits (IsNear c.args.lists.now.after.lists) c.args.ranks.now c.args.order.now.items
+    c.args.first c.requires.inverse c.args.a c.args.b (get_or c.args.ranks.now c.args.b 0)
+    (get_or c.args.ranks.now c.args.a 0) (get_or c.args.ranks.now c.args.b 0 - c.args.first) refl
+    refl refl c.requires.ranked c.requires.against c.requires.rises c.requires.ends _
+    (c.deref.ensures.value ∙ c.copy.ensures.items) _ (λ k. get_or c.plan.new.space.pool.items k 0)
+    c.plan.new.steps planned.1 c.requires.fits))
+
+pub deal-requires-clause-places : goal.deal-requires-clause-places
+deal-requires-clause-places c =
+    let planned : IsPlanned Shared (IsNear c.args.lists.now.after.lists) c.args.ranks.now (get_or c.args.ranks.now
+    c.args.b 0) c.deref.result.now c.plan.new.space.moved.items c.plan.new.space.pool.items
+    c.plan.new.space.shared.items c.plan.new.steps = subst (λ d. IsPlanned d (IsNear
+    c.args.lists.now.after.lists) c.args.ranks.now (get_or c.args.ranks.now c.args.b 0) c.deref.result.now
+    c.plan.new.space.moved.items c.plan.new.space.pool.items
+    c.plan.new.space.shared.items c.plan.new.steps) c.in-Shared.is c.in_ok-dealt.ensures.plan in
+    let shared = c.deref-in-Shared.ensures.value in let pool = c.deref-in-Shared-2.ensures.value in
+    subst (λ (z : List ℕ). (k : ℕ) → k < length z → (get_or c.args.ranks.now c.args.b 0 - c.args.first) + get_or c.deref-in-Shared-2.result.now k 0 < length
+    c.args.order.now.items)
+    (sym shared) (subst (λ (z : List ℕ). (k : ℕ) → k < length c.plan.new.space.shared.items
+    → (get_or c.args.ranks.now c.args.b 0 - c.args.first) + get_or z k 0 < length c.args.order.now.items) (sym pool)
+    (moved_place (IsNear c.args.lists.now.after.lists) c.args.ranks.now c.args.order.now.items
+    c.args.first c.requires.inverse c.args.a c.args.b (get_or c.args.ranks.now c.args.b 0)
+    (get_or c.args.ranks.now c.args.a 0) (get_or c.args.ranks.now c.args.b 0 - c.args.first) refl
+    refl refl c.requires.ranked c.requires.against c.requires.rises c.requires.ends _
+    (c.deref.ensures.value ∙ c.copy.ensures.items) _ (λ k. get_or c.plan.new.space.pool.items k 0)
+    c.plan.new.steps planned.1))
+
+pub deal-requires-clause-rising : goal.deal-requires-clause-rising
+deal-requires-clause-rising c =
+    let planned : IsPlanned Shared (IsNear c.args.lists.now.after.lists) c.args.ranks.now (get_or c.args.ranks.now
+    c.args.b 0) c.deref.result.now c.plan.new.space.moved.items c.plan.new.space.pool.items
+    c.plan.new.space.shared.items c.plan.new.steps = subst (λ d. IsPlanned d (IsNear
+    c.args.lists.now.after.lists) c.args.ranks.now (get_or c.args.ranks.now c.args.b 0) c.deref.result.now
+    c.plan.new.space.moved.items c.plan.new.space.pool.items
+    c.plan.new.space.shared.items c.plan.new.steps) c.in-Shared.is c.in_ok-dealt.ensures.plan in
+    let shared = c.deref-in-Shared.ensures.value in let pool = c.deref-in-Shared-2.ensures.value in
+    subst (λ (z : List ℕ). (i k : ℕ) → i < k → k < length z → get_or c.deref-in-Shared-2.result.now i 0 < get_or
+    c.deref-in-Shared-2.result.now k 0)
+    (sym shared) (subst (λ (z : List ℕ). (i k : ℕ) → i < k → k < length c.plan.new.space.shared.items
+    → get_or z i 0 < get_or z k 0) (sym pool) planned.1.rising)
+
+pub deal-requires-clause-ends : goal.deal-requires-clause-ends
+deal-requires-clause-ends c =
+    let planned : IsPlanned Shared (IsNear c.args.lists.now.after.lists) c.args.ranks.now (get_or c.args.ranks.now
+    c.args.b 0) c.deref.result.now c.plan.new.space.moved.items c.plan.new.space.pool.items
+    c.plan.new.space.shared.items c.plan.new.steps = subst (λ d. IsPlanned d (IsNear
+    c.args.lists.now.after.lists) c.args.ranks.now (get_or c.args.ranks.now c.args.b 0) c.deref.result.now
+    c.plan.new.space.moved.items c.plan.new.space.pool.items
+    c.plan.new.space.shared.items c.plan.new.steps) c.in-Shared.is c.in_ok-dealt.ensures.plan in
+    let shared = c.deref-in-Shared.ensures.value in let pool = c.deref-in-Shared-2.ensures.value in
+    subst (λ (z : List ℕ). (k : ℕ) → k < length z → get_or z k 0 < length c.args.ranks.now) (sym shared)
+    (moved_ends (IsNear c.args.lists.now.after.lists) c.args.ranks.now c.args.order.now.items
+    c.args.first c.requires.inverse c.args.a c.args.b (get_or c.args.ranks.now c.args.b 0)
+    (get_or c.args.ranks.now c.args.a 0) (get_or c.args.ranks.now c.args.b 0 - c.args.first) refl
+    refl refl c.requires.ranked c.requires.against c.requires.rises c.requires.ends _
+    (c.deref.ensures.value ∙ c.copy.ensures.items) _ (λ k. get_or c.plan.new.space.pool.items k 0)
+    c.plan.new.steps planned.1)
+
+pub deal-requires-clause-once : goal.deal-requires-clause-once
+deal-requires-clause-once c =
+    let planned : IsPlanned Shared (IsNear c.args.lists.now.after.lists) c.args.ranks.now (get_or c.args.ranks.now
+    c.args.b 0) c.deref.result.now c.plan.new.space.moved.items c.plan.new.space.pool.items
+    c.plan.new.space.shared.items c.plan.new.steps = subst (λ d. IsPlanned d (IsNear
+    c.args.lists.now.after.lists) c.args.ranks.now (get_or c.args.ranks.now c.args.b 0) c.deref.result.now
+    c.plan.new.space.moved.items c.plan.new.space.pool.items
+    c.plan.new.space.shared.items c.plan.new.steps) c.in-Shared.is c.in_ok-dealt.ensures.plan in
+    let shared = c.deref-in-Shared.ensures.value in let pool = c.deref-in-Shared-2.ensures.value in
+    subst (λ (z : List ℕ). (j k : ℕ) → j < k → k < length z → get_or z j 0 ≢ get_or z k 0) (sym shared)
+    (moved_once (IsNear c.args.lists.now.after.lists) c.args.ranks.now c.args.order.now.items
+    c.args.first c.requires.inverse c.args.a c.args.b (get_or c.args.ranks.now c.args.b 0)
+    (get_or c.args.ranks.now c.args.a 0) (get_or c.args.ranks.now c.args.b 0 - c.args.first) refl
+    refl refl c.requires.ranked c.requires.against c.requires.rises c.requires.ends _
+    (c.deref.ensures.value ∙ c.copy.ensures.items) _ (λ k. get_or c.plan.new.space.pool.items k 0)
+    c.plan.new.steps planned.1)
 
 pub returns-clause-ranks : goal.returns-clause-ranks
-returns-clause-ranks c =
-    let n : c.len.result ≡ length c.deref.result.now = let e = ap length c.deref.ensures.value in
-    omega (arith, e, c.len.ensures, c.copy.new.row.ok.0) in
-    let same : take c.len.result c.deref-2.result.now
-    ≡ take (length c.deref.result.now) c.plan.new.space.moved.items =
-    ap (take c.len.result) c.deref-2.ensures.value
-    ∙ ap (λ n. take n c.plan.new.space.moved.items) n in
-    mended (IsNear c.args.lists.now.after.lists) c.args.ranks.now c.args.order.now.items
-    c.args.first c.requires.inverse c.args.a c.args.b (get_or c.args.ranks.now c.args.b 0)
-    (get_or c.args.ranks.now c.args.a 0) (get_or c.args.ranks.now c.args.b 0 - c.args.first) refl
-    refl refl c.requires.ranked c.requires.against c.requires.rises c.requires.ends _
-    (c.deref.ensures.value ∙ c.copy.ensures.items) _
-    c.in_ok-expanded.expanded c.in_ok-expanded.ensures.plan
-    c.give_ranks.new.ranks c.write.new.self.items
-    (subst (λ z. AreRanked z (get_or c.args.ranks.now c.args.b 0 - c.args.first) (get_or
-    c.args.ranks.now c.args.b 0) (length z) c.args.ranks.now c.args.order.now.items
-    c.give_ranks.new.ranks c.write.new.self.items) same (record {
-      rank_at = c.give_ranks.ensures.at;
-      rank_else = c.give_ranks.ensures.rest;
-      class_at = c.write.ensures.written.at;
-      class_else = c.write.ensures.written.rest;
-    })) c.give_ranks.auto.ranks c.write.ensures.written.len
+returns-clause-ranks c = elim c.match-dealt.branch [
+  | in-Whole w ↦
+      let planned : IsPlanned Whole (IsNear c.args.lists.now.after.lists) c.args.ranks.now (get_or c.args.ranks.now
+      c.args.b 0) c.deref.result.now c.plan.new.space.moved.items c.plan.new.space.pool.items
+      c.plan.new.space.shared.items c.plan.new.steps = subst (λ d. IsPlanned d (IsNear
+      c.args.lists.now.after.lists) c.args.ranks.now (get_or c.args.ranks.now c.args.b 0) c.deref.result.now
+      c.plan.new.space.moved.items c.plan.new.space.pool.items
+      c.plan.new.space.shared.items c.plan.new.steps) w.in-Whole.is c.in_ok-dealt.ensures.plan in
+      let n : w.len.result ≡ length c.deref.result.now = let e = ap length c.deref.ensures.value in
+      omega (arith, e, w.len.ensures, c.copy.new.row.ok.0) in
+      let same : take w.len.result w.deref-in-Whole.result.now
+      ≡ take (length c.deref.result.now) c.plan.new.space.moved.items =
+      ap (take w.len.result) w.deref-in-Whole.ensures.value
+      ∙ ap (λ n. take n c.plan.new.space.moved.items) n in
+      rw (c.count.ensures, w.ranks-is) (mended (IsNear c.args.lists.now.after.lists) c.args.ranks.now c.args.order.now.items
+      c.args.first c.requires.inverse c.args.a c.args.b (get_or c.args.ranks.now c.args.b 0)
+      (get_or c.args.ranks.now c.args.a 0) (get_or c.args.ranks.now c.args.b 0 - c.args.first) refl
+      refl refl c.requires.ranked c.requires.against c.requires.rises c.requires.ends _
+      (c.deref.ensures.value ∙ c.copy.ensures.items) _ (λ k. k)
+      c.plan.new.steps planned w.renumber.new.ranks w.renumber.new.order.items
+      (subst (λ (z : List ℕ). AreRanked z (λ k. k) (length z) (get_or c.args.ranks.now c.args.b 0 - c.args.first) (get_or c.args.ranks.now c.args.b 0) c.args.ranks.now c.args.order.now.items
+      w.renumber.new.ranks w.renumber.new.order.items) same w.renumber.ensures.ranked)
+      w.renumber.auto.ranks w.renumber.ensures.len)
+  | in-Shared w ↦
+      let planned : IsPlanned Shared (IsNear c.args.lists.now.after.lists) c.args.ranks.now (get_or c.args.ranks.now
+      c.args.b 0) c.deref.result.now c.plan.new.space.moved.items c.plan.new.space.pool.items
+      c.plan.new.space.shared.items c.plan.new.steps = subst (λ d. IsPlanned d (IsNear
+      c.args.lists.now.after.lists) c.args.ranks.now (get_or c.args.ranks.now c.args.b 0) c.deref.result.now
+      c.plan.new.space.moved.items c.plan.new.space.pool.items
+      c.plan.new.space.shared.items c.plan.new.steps) w.in-Shared.is c.in_ok-dealt.ensures.plan in
+      let shared = w.deref-in-Shared.ensures.value in let pool = w.deref-in-Shared-2.ensures.value in
+      rw (c.count.ensures, w.ranks-is) (mended (IsNear c.args.lists.now.after.lists) c.args.ranks.now c.args.order.now.items
+      c.args.first c.requires.inverse c.args.a c.args.b (get_or c.args.ranks.now c.args.b 0)
+      (get_or c.args.ranks.now c.args.a 0) (get_or c.args.ranks.now c.args.b 0 - c.args.first) refl
+      refl refl c.requires.ranked c.requires.against c.requires.rises c.requires.ends _
+      (c.deref.ensures.value ∙ c.copy.ensures.items) _ (λ k. get_or c.plan.new.space.pool.items k 0)
+      c.plan.new.steps planned.1 w.deal.new.ranks w.deal.new.order.items
+      (subst (λ (z : List ℕ). AreRanked z (λ k. get_or c.plan.new.space.pool.items k 0) (length z) (get_or c.args.ranks.now c.args.b 0 - c.args.first) (get_or c.args.ranks.now c.args.b 0)
+      c.args.ranks.now c.args.order.now.items w.deal.new.ranks w.deal.new.order.items) shared
+      (subst (λ (z : List ℕ). AreRanked w.deref-in-Shared.result.now (λ k. get_or z k 0) (length w.deref-in-Shared.result.now) (get_or c.args.ranks.now c.args.b 0 - c.args.first) (get_or c.args.ranks.now c.args.b 0)
+      c.args.ranks.now c.args.order.now.items w.deal.new.ranks w.deal.new.order.items) pool w.deal.ensures.ranked))
+      w.deal.auto.ranks w.deal.ensures.len)
+]
 
 pub returns-clause-inverse : goal.returns-clause-inverse
-returns-clause-inverse c =
-    let n : c.len.result ≡ length c.deref.result.now = let e = ap length c.deref.ensures.value in
-    omega (arith, e, c.len.ensures, c.copy.new.row.ok.0) in
-    let same : take c.len.result c.deref-2.result.now
-    ≡ take (length c.deref.result.now) c.plan.new.space.moved.items =
-    ap (take c.len.result) c.deref-2.ensures.value
-    ∙ ap (λ n. take n c.plan.new.space.moved.items) n in
-    mended_inverse (IsNear c.args.lists.now.after.lists) c.args.ranks.now c.args.order.now.items
-    c.args.first c.requires.inverse c.args.a c.args.b (get_or c.args.ranks.now c.args.b 0)
-    (get_or c.args.ranks.now c.args.a 0) (get_or c.args.ranks.now c.args.b 0 - c.args.first) refl
-    refl refl c.requires.ranked c.requires.against c.requires.rises c.requires.ends _
-    (c.deref.ensures.value ∙ c.copy.ensures.items) _
-    c.in_ok-expanded.expanded c.in_ok-expanded.ensures.plan
-    c.give_ranks.new.ranks c.write.new.self.items
-    (subst (λ z. AreRanked z (get_or c.args.ranks.now c.args.b 0 - c.args.first) (get_or
-    c.args.ranks.now c.args.b 0) (length z) c.args.ranks.now c.args.order.now.items
-    c.give_ranks.new.ranks c.write.new.self.items) same (record {
-      rank_at = c.give_ranks.ensures.at;
-      rank_else = c.give_ranks.ensures.rest;
-      class_at = c.write.ensures.written.at;
-      class_else = c.write.ensures.written.rest;
-    })) c.give_ranks.auto.ranks c.write.ensures.written.len
+returns-clause-inverse c = elim c.match-dealt.branch [
+  | in-Whole w ↦
+      let planned : IsPlanned Whole (IsNear c.args.lists.now.after.lists) c.args.ranks.now (get_or c.args.ranks.now
+      c.args.b 0) c.deref.result.now c.plan.new.space.moved.items c.plan.new.space.pool.items
+      c.plan.new.space.shared.items c.plan.new.steps = subst (λ d. IsPlanned d (IsNear
+      c.args.lists.now.after.lists) c.args.ranks.now (get_or c.args.ranks.now c.args.b 0) c.deref.result.now
+      c.plan.new.space.moved.items c.plan.new.space.pool.items
+      c.plan.new.space.shared.items c.plan.new.steps) w.in-Whole.is c.in_ok-dealt.ensures.plan in
+      let n : w.len.result ≡ length c.deref.result.now = let e = ap length c.deref.ensures.value in
+      omega (arith, e, w.len.ensures, c.copy.new.row.ok.0) in
+      let same : take w.len.result w.deref-in-Whole.result.now
+      ≡ take (length c.deref.result.now) c.plan.new.space.moved.items =
+      ap (take w.len.result) w.deref-in-Whole.ensures.value
+      ∙ ap (λ n. take n c.plan.new.space.moved.items) n in
+      rw (w.ranks-is, w.order-is) (mended_inverse (IsNear c.args.lists.now.after.lists) c.args.ranks.now c.args.order.now.items
+      c.args.first c.requires.inverse c.args.a c.args.b (get_or c.args.ranks.now c.args.b 0)
+      (get_or c.args.ranks.now c.args.a 0) (get_or c.args.ranks.now c.args.b 0 - c.args.first) refl
+      refl refl c.requires.ranked c.requires.against c.requires.rises c.requires.ends _
+      (c.deref.ensures.value ∙ c.copy.ensures.items) _ (λ k. k)
+      c.plan.new.steps planned w.renumber.new.ranks w.renumber.new.order.items
+      (subst (λ (z : List ℕ). AreRanked z (λ k. k) (length z) (get_or c.args.ranks.now c.args.b 0 - c.args.first) (get_or c.args.ranks.now c.args.b 0) c.args.ranks.now c.args.order.now.items
+      w.renumber.new.ranks w.renumber.new.order.items) same w.renumber.ensures.ranked)
+      w.renumber.auto.ranks w.renumber.ensures.len)
+  | in-Shared w ↦
+      let planned : IsPlanned Shared (IsNear c.args.lists.now.after.lists) c.args.ranks.now (get_or c.args.ranks.now
+      c.args.b 0) c.deref.result.now c.plan.new.space.moved.items c.plan.new.space.pool.items
+      c.plan.new.space.shared.items c.plan.new.steps = subst (λ d. IsPlanned d (IsNear
+      c.args.lists.now.after.lists) c.args.ranks.now (get_or c.args.ranks.now c.args.b 0) c.deref.result.now
+      c.plan.new.space.moved.items c.plan.new.space.pool.items
+      c.plan.new.space.shared.items c.plan.new.steps) w.in-Shared.is c.in_ok-dealt.ensures.plan in
+      let shared = w.deref-in-Shared.ensures.value in let pool = w.deref-in-Shared-2.ensures.value in
+      rw (w.ranks-is, w.order-is) (mended_inverse (IsNear c.args.lists.now.after.lists) c.args.ranks.now c.args.order.now.items
+      c.args.first c.requires.inverse c.args.a c.args.b (get_or c.args.ranks.now c.args.b 0)
+      (get_or c.args.ranks.now c.args.a 0) (get_or c.args.ranks.now c.args.b 0 - c.args.first) refl
+      refl refl c.requires.ranked c.requires.against c.requires.rises c.requires.ends _
+      (c.deref.ensures.value ∙ c.copy.ensures.items) _ (λ k. get_or c.plan.new.space.pool.items k 0)
+      c.plan.new.steps planned.1 w.deal.new.ranks w.deal.new.order.items
+      (subst (λ (z : List ℕ). AreRanked z (λ k. get_or c.plan.new.space.pool.items k 0) (length z) (get_or c.args.ranks.now c.args.b 0 - c.args.first) (get_or c.args.ranks.now c.args.b 0)
+      c.args.ranks.now c.args.order.now.items w.deal.new.ranks w.deal.new.order.items) shared
+      (subst (λ (z : List ℕ). AreRanked w.deref-in-Shared.result.now (λ k. get_or z k 0) (length w.deref-in-Shared.result.now) (get_or c.args.ranks.now c.args.b 0 - c.args.first) (get_or c.args.ranks.now c.args.b 0)
+      c.args.ranks.now c.args.order.now.items w.deal.new.ranks w.deal.new.order.items) pool w.deal.ensures.ranked))
+      w.deal.auto.ranks w.deal.ensures.len)
+]

@@ -155,3 +155,79 @@ loop-low-preserved c =
           c.expand-in-loop-low.ensures.grown c.loop-low.invariant.ahead_closed
           c.expand-in-loop-low.ensures.taken;
     }
+
+pub returns-then-ends_at-clause-behind_read : goal.returns-then-ends_at-clause-behind_read
+returns-then-ends_at-clause-behind_read c =
+    turn_closed c.args.lists.now.before.lists c.args.ranks.now c.args.low
+    c.args.row.now c.requires.row c.requires.before c.loop-low.done c.offset-last.result
+    c.before-near.result.now c.before-near.ensures.near c.loop-low.behind.found
+    c.expand.new.search.found c.loop-low.invariant.upto_behind c.offset-last.ensures.offset
+    c.expand.ensures.grown c.loop-low.invariant.behind_closed c.expand.ensures.taken
+
+pub returns-then-ends_at-2-clause-behind_read : goal.returns-then-ends_at-2-clause-behind_read
+returns-then-ends_at-2-clause-behind_read c =
+    turn_closed c.args.lists.now.before.lists c.args.ranks.now c.args.low
+    c.args.row.now c.requires.row c.requires.before c.loop-low.done c.offset-last.result
+    c.before-near.result.now c.before-near.ensures.near c.loop-low.behind.found
+    c.expand.new.search.found c.loop-low.invariant.upto_behind c.offset-last.ensures.offset
+    c.expand.ensures.grown c.loop-low.invariant.behind_closed c.expand.ensures.taken
+
+pub returns-then-ends_at-2-clause-ahead_read : goal.returns-then-ends_at-2-clause-ahead_read
+returns-then-ends_at-2-clause-ahead_read c =
+    turn_closed c.args.lists.now.after.lists c.args.ranks.now c.args.low
+    c.args.row.now c.requires.row c.requires.after c.loop-low.done c.offset-first.result
+    c.after-near.result.now c.after-near.ensures.near c.loop-low.ahead.found
+    c.expand-in-loop-low.new.search.found c.loop-low.invariant.upto c.offset-first.ensures.offset
+    c.expand-in-loop-low.ensures.grown c.loop-low.invariant.ahead_closed
+    c.expand-in-loop-low.ensures.taken
+
+pub returns-then-ends_at-clause-read : goal.returns-then-ends_at-clause-read
+returns-then-ends_at-clause-read c =
+    let i = c.loop-low.invariant in let g = c.expand.ensures.grown.longer in
+    (omega (arith, g, i.upto_behind), omega (arith, i.upto))
+
+pub returns-then-ends_at-2-clause-read : goal.returns-then-ends_at-2-clause-read
+returns-then-ends_at-2-clause-read c =
+    let i = c.loop-low.invariant in
+    let g = c.expand.ensures.grown.longer in let f = c.expand-in-loop-low.ensures.grown.longer in
+    (omega (arith, g, i.upto_behind), omega (arith, f, i.upto))
+
+pub overflow_add-result : goal.overflow_add-result
+overflow_add-result c =
+    let i = c.loop-low.invariant in
+    let few = sought_few (IsNear c.args.lists.now.before.lists) c.args.ranks.now c.args.low
+    c.args.row.now c.requires.row c.requires.before (length c.args.row.now - 1)
+    c.loop-low.behind.found i.behind c.offset-last.ensures.once in
+    omega (arith, few, i.upto_behind, c.requires.few)
+
+pub overflow_add-result-then-ends_at-2 : goal.overflow_add-result-then-ends_at-2
+overflow_add-result-then-ends_at-2 c =
+    let i = c.loop-low.invariant in
+    let few = sought_few (IsNear c.args.lists.now.before.lists) c.args.ranks.now c.args.low
+    c.args.row.now c.requires.row c.requires.before (length c.args.row.now - 1)
+    c.loop-low.behind.found i.behind c.offset-last.ensures.once in
+    omega (arith, few, i.upto_behind, c.requires.few)
+
+pub overflow_add-result-then-ends_at-2-2 : goal.overflow_add-result-then-ends_at-2-2
+overflow_add-result-then-ends_at-2-2 c =
+    let i = c.loop-low.invariant in
+    let few = sought_few (IsNear c.args.lists.now.before.lists) c.args.ranks.now c.args.low
+    c.args.row.now c.requires.row c.requires.before (length c.args.row.now - 1)
+    c.loop-low.behind.found i.behind c.offset-last.ensures.once in
+    omega (arith, few, i.upto_behind, c.requires.few)
+
+pub returns-then-ends_at-clause-few : goal.returns-then-ends_at-clause-few
+returns-then-ends_at-clause-few c =
+    let i = c.loop-low.invariant in
+    let few = sought_few (IsNear c.args.lists.now.before.lists) c.args.ranks.now c.args.low
+    c.args.row.now c.requires.row c.requires.before (length c.args.row.now - 1)
+    c.loop-low.behind.found i.behind c.offset-last.ensures.once in
+    (omega (arith, few, i.upto_behind), omega (arith, few, i.upto_behind))
+
+pub returns-then-ends_at-2-clause-few : goal.returns-then-ends_at-2-clause-few
+returns-then-ends_at-2-clause-few c =
+    let i = c.loop-low.invariant in
+    let few = sought_few (IsNear c.args.lists.now.before.lists) c.args.ranks.now c.args.low
+    c.args.row.now c.requires.row c.requires.before (length c.args.row.now - 1)
+    c.loop-low.behind.found i.behind c.offset-last.ensures.once in
+    (omega (arith, few, i.upto_behind), omega (arith, few, i.upto_behind))

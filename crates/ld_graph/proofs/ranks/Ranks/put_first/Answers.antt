@@ -52,6 +52,8 @@ invariant_of-self c =
       ahead_room = i.ahead_room;
       moved_room = i.moved_room;
       rest_room = i.rest_room;
+      pool_room = i.pool_room;
+      shared_room = i.shared_room;
       behind_none = i.behind_none;
       ahead_none = i.ahead_none;
     }

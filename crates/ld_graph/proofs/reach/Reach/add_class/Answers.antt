@@ -8,7 +8,7 @@ use Rattle.ld_graph.proofs.reach.Reach.add_class.Goals as goal
 
 pub returns-clause-exact : goal.returns-clause-exact
 returns-clause-exact c = λ edges seeds exact.
-    rw (c.in-Ok-Ok.ensures.items, c.in-Ok-Ok.ensures'.items) (IsReach-added (IsEdge edges) seeds (reach_of c.self.inside) (c.self.inside.spare - 1)
+    rw (c.push_reserved.ensures.items, c.push_reserved-2.ensures.items) (IsReach-added (IsEdge edges) seeds (reach_of c.self.inside) (c.self.inside.spare - 1)
     (subst (IsReach (IsEdge edges) seeds) (sym c.self.view_is) exact))
 
 pub invariant_of-self : goal.invariant_of-self
@@ -18,12 +18,12 @@ invariant_of-self c =
     let sources = sum_by-append (λ (o : Option ℕ). cond {A = ℕ} (is_none o) 1 0) c.self.inside.sources.items (None ∷ []) in
     let marks = sum_by-append (λ m. cond {A = ℕ} m 1 0) c.self.inside.marks.items (false ∷ []) in
     record {
-      same = omega (arith, i.same, c.in-Ok-Ok.ensures.len, c.in-Ok-Ok.ensures'.len);
-      counted = rw (c.in-Ok-Ok.ensures'.items) (omega (arith, i.counted, marks));
-      listed = rw (c.in-Ok-Ok.ensures.items) (AreReached-added c.self.inside.sources.items c.self.inside.reached.items i.listed);
-      each_once = rw (c.in-Ok-Ok.ensures.items) (omega (arith, i.each_once, sources, c.in-Ok-Ok.ensures'.len));
-      room_sources = omega (arith, i.room_sources, c.requires, c.in-Ok-Ok.ensures'.len, c.push.ensures.capacity, less);
-      room_marks = omega (arith, i.room_marks, c.requires, c.in-Ok-Ok.ensures'.len, c.push-2.ensures.capacity, less);
-      room_reached = omega (arith, i.room_reached, c.requires, c.in-Ok-Ok.ensures'.len, less);
-      few = omega (arith, i.few, c.requires, c.in-Ok-Ok.ensures'.len, less);
+      same = omega (arith, i.same, c.push_reserved.ensures.len, c.push_reserved-2.ensures.len);
+      counted = rw (c.push_reserved-2.ensures.items) (omega (arith, i.counted, marks));
+      listed = rw (c.push_reserved.ensures.items) (AreReached-added c.self.inside.sources.items c.self.inside.reached.items i.listed);
+      each_once = rw (c.push_reserved.ensures.items) (omega (arith, i.each_once, sources, c.push_reserved-2.ensures.len));
+      room_sources = omega (arith, i.room_sources, c.requires, c.push_reserved-2.ensures.len, c.push_reserved.ensures.capacity, less);
+      room_marks = omega (arith, i.room_marks, c.requires, c.push_reserved-2.ensures.len, c.push_reserved-2.ensures.capacity, less);
+      room_reached = omega (arith, i.room_reached, c.requires, c.push_reserved-2.ensures.len, less);
+      few = omega (arith, i.few, c.requires, c.push_reserved-2.ensures.len, less);
     }

@@ -12,14 +12,14 @@ invariant_of-self c =
     let free : get_or c.self.inside.marks.items c.args.offset false ≡ false =
     sym (get_or_read c.self.inside.marks.items c.args.offset c.index.result.now within
     c.index.ensures false) ∙ c.if-not-index.true in (
-      subst (AreMarked (set c.self.inside.marks.items c.args.offset true)) (sym c.in-Ok.ensures.items)
+      subst (AreMarked (set c.self.inside.marks.items c.args.offset true)) (sym c.push_reserved.ensures.items)
           (AreMarked-add c.self.inside.marks.items c.self.inside.found.items c.self.invariant.0
           c.args.offset within free),
-      omega (arith, c.self.invariant.1, c.in-Ok.ensures.capacity),
+      omega (arith, c.self.invariant.1, c.push_reserved.ensures.capacity),
     )
 
-pub unreachable-requires : goal.unreachable-requires
-unreachable-requires c =
+pub push_reserved-requires : goal.push_reserved-requires
+push_reserved-requires c =
     let size = ap (λ s. s.size) c.self.view_is in
     let within : c.args.offset < length c.self.inside.marks.items = omega (arith, size, c.requires) in
     let free : get_or c.self.inside.marks.items c.args.offset false ≡ false =
@@ -27,7 +27,7 @@ unreachable-requires c =
     c.index.ensures false) ∙ c.if-not-index.true in
     let less = found_less c.self.inside.marks.items c.self.inside.found.items c.args.offset
     c.self.invariant.0 within free in
-    omega (arith, less, c.self.invariant.1, c.in_default.ensures.full)
+    omega (arith, less, c.self.invariant.1)
 
 pub returns-else-not-index-clause-found : goal.returns-else-not-index-clause-found
 returns-else-not-index-clause-found c =
