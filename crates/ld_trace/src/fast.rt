@@ -1,5 +1,6 @@
 //! Events in their plainest form, read by one pass over the line: those of a lock but `nested`, and those of a state.
 ghost use Rattle.std.specs.Prelude.{◌≡◌, ◌++◌, ◌∷◌, Ok, Some, IfSome};
+ghost use Rattle.std.specs.Bool.{OnTrue};
 ghost use Rattle.ld_trace.specs.Events.{plain_event, plain_lock};
 ghost use Rattle.ld_trace.specs.First.{IsFirstSaid};
 ghost use Rattle.ld_trace.specs.Inner.Front.{AreEnds};
@@ -53,14 +54,34 @@ pub fn next_state_event(bytes: &[u8]) -> Option<(Event<'_>, &[u8])>
 fn next_verb(bytes: &[u8]) -> Option<(LockVerb, &[u8])>
     ensures { IfSome result (λ cut. bytes.now ≡ spelling_of_lock_verb cut.0 ++ 32 ∷ cut.1.now) }
 {
-    if let Some(rest) = bytes.strip_prefix(b"acquire ") {
+    if let Some(rest) = behind_eight(bytes, b"acquire ") {
         Some((LockVerb::Acquire, rest))
-    } else if let Some(rest) = bytes.strip_prefix(b"release ") {
+    } else if let Some(rest) = behind_eight(bytes, b"release ") {
         Some((LockVerb::Release, rest))
     } else {
         let rest = bytes.strip_prefix(b"try ")?;
         Some((LockVerb::Try, rest))
     }
+}
+
+/// What follows these eight bytes, where they stand at the front.
+#[inline(always)]
+fn behind_eight<'a>(bytes: &'a [u8], eight: &[u8; 8]) -> Option<&'a [u8]>
+    ensures { IfSome result (λ rest. bytes.entry.now ≡ eight.now ++ rest.now) }
+{
+    let (first, rest) = bytes.split_first_chunk()?;
+    if !same_eight(first, eight) {
+        return None;
+    }
+    Some(rest)
+}
+
+/// Whether these eight bytes are the same: they are compared as one number.
+#[inline(always)]
+fn same_eight(a: &[u8; 8], b: &[u8; 8]) -> bool
+    ensures { OnTrue result (a.now ≡ b.now) }
+{
+    u64::from_le_bytes(*a) == u64::from_le_bytes(*b)
 }
 
 /// The lock at the front, and what follows the LF after it, by the ends of names that were seen.

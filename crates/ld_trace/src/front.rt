@@ -1,5 +1,5 @@
 //! The words and names at the front of some bytes, by a vector of them.
-ghost use Rattle.std.specs.Prelude.{◌≡◌, ◌≤◌, ◌++◌, ℕ, List, true, not, drop, length, map, IfSome};
+ghost use Rattle.std.specs.Prelude.{◌≡◌, ◌<◌, ◌≤◌, ◌++◌, ℕ, List, true, not, drop, length, map, take, IfSome};
 ghost use Rattle.std.specs.Char.{is_ascii_graphic};
 ghost use Rattle.std.specs.List.{prefix_len};
 ghost use Rattle.std.specs.Simd.Lanes.{mask_l};
@@ -23,23 +23,34 @@ pub struct Ends {
 }
 
 impl Ends {
-    /// Those of as many bytes as a vector has; of none, where there are fewer.
+    /// Those of as many bytes as a vector has, or of all where there are fewer.
     #[inline(always)]
     pub fn of(bytes: &[u8]) -> Ends
         ensures { AreEnds bytes.now result }
     {
         if bytes.len() < LANES {
-            return Ends {
-                seen: 0,
-                words: 0,
-                names: 0,
-            };
+            return Ends::of_few(bytes);
         }
         let front = u8x32::from_slice(bytes);
         Ends {
             seen: LANES,
             words: outside_words(front),
             names: outside_names(front),
+        }
+    }
+
+    /// Those of fewer bytes than a vector has.
+    #[inline(never)]
+    fn of_few(bytes: &[u8]) -> Ends
+        requires { length bytes.now < LANES }
+        ensures { AreEnds bytes.now result }
+    {
+        let front = u8x32::from_array(padded(bytes));
+        let known = (1 << bytes.len()) - 1;
+        Ends {
+            seen: bytes.len(),
+            words: outside_words(front) & known,
+            names: outside_names(front) & known,
         }
     }
 
@@ -62,6 +73,16 @@ impl Ends {
             names: self.names >> count,
         }
     }
+}
+
+/// As many bytes as a vector has, of which these are the first.
+fn padded(bytes: &[u8]) -> [u8; LANES]
+    requires { length bytes.now < LANES }
+    ensures { take (length bytes.now) result ≡ bytes.now }
+{
+    let mut front = [0; LANES];
+    front[..bytes.len()].copy_from_slice(bytes);
+    front
 }
 
 /// Which of these bytes stand in no word, as bits.
