@@ -23,8 +23,8 @@ pub kept-added : (old new : Fields) (batch : PlainBatch) → IsKept old → IsBa
 kept-added old new batch is exact few adds sources found = record {
   shows = subst (λ all. Shows all new.union) (sym sources) (adds.shows old.sources is.shows);
   few =
-      let were : length old.union.classes ≤ length old.sources * 8191 = is.few in
-      let more : length batch.classes ≤ length batch.sources * 8191 = few in
+      let were : length old.union.classes ≤ length old.sources * MOST_CLASSES = is.few in
+      let more : length batch.classes ≤ length batch.sources * MOST_CLASSES = few in
       omega (arith, were, more, adds.longer.most, ap length exact.classes, ap length sources, length-append old.sources batch.sources);
   exact = found;
 }

@@ -69,8 +69,8 @@ pub events_fit : (listed : List Listed) (keys : List ℕ) (count more : ℕ) (so
     (λ l. Fits (plain l.source)) listed → IsDistinct nat_eq keys
     → count ≡ event_count (sources_of listed) → more ≡ events_read (outcome source) → Fits source → count + more < 2 ^ 64
 events_fit listed keys count more source numbers fit distinct counted more_is fits =
-    let few : length listed ≤ 65535 = few_listed listed keys numbers fit distinct in
+    let few : length listed ≤ MOST_TRACES = few_listed listed keys numbers fit distinct in
     let same : length (sources_of listed) ≡ length listed = length-map listed (λ l. plain l.source) in
-    let old : event_count (sources_of listed) ≤ length (sources_of listed) * 2147483648 = events_bounded (sources_of listed) (All-map Fits (λ (l : Listed). plain l.source) listed fit) in
-    let new : events_read (outcome source) ≤ 2147483648 = few_events source fits in
+    let old : event_count (sources_of listed) ≤ length (sources_of listed) * LONGEST_STREAM = events_bounded (sources_of listed) (All-map Fits (λ (l : Listed). plain l.source) listed fit) in
+    let new : events_read (outcome source) ≤ LONGEST_STREAM = few_events source fits in
     omega arith

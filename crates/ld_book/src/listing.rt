@@ -98,9 +98,7 @@ impl<'a> Listing<'a> {
         self.events += events_of(trace.outcome);
         self.refused += refused_of(trace.outcome);
         self.marks[trace.source.number as usize] = true;
-        let Ok(()) = self.traces.push(trace) else {
-            unreachable!()
-        };
+        self.traces.push_reserved(trace);
         self.spare -= 1;
     }
 

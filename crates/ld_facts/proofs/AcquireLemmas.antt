@@ -28,9 +28,9 @@ use Rattle.ld_rules.specs.Inner.Levels.{stack, state_of_frame}
 use Rattle.ld_tables.specs.Inner.Locks.{Hold}
 use Rattle.ld_rules.specs.Outcome.{classes, events}
 use Rattle.ld_facts.specs.declared.taking.Taking.{Taking}
-use Rattle.ld_facts.specs.Inner.Scan.{AreMany, HasTask, HeldLock, IsAt, IsTask, IsBetween, Start, acquisition, class_taken, classes_after, edges_after, happens}
+use Rattle.ld_facts.specs.Inner.Scan.{AreMany, HasTask, HeldLock, IsAt, IsTask, Start, acquisition, class_taken, classes_after, edges_after, happens}
 use Rattle.ld_facts.specs.Inner.Scan.{lock_held, named_hold, names_at, own_names, uses_after, waits}
-use Rattle.ld_facts.specs.Named.{named_dependency, named_use}
+use Rattle.ld_facts.specs.Named.{IsBetween, named_dependency, named_use}
 use Rattle.ld_rules.specs.Inner.Scanned.{same_dependency_seen, same_use_seen, with_new}
 use Rattle.ld_facts.specs.Named.{IsUse}
 use Rattle.ld_tables.specs.Inner.Uses.{in_facts, on_facts, with_use}

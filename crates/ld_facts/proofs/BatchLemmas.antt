@@ -1,18 +1,21 @@
 -- A batch to which one more trace is added.
-use Rattle.std.proofs.Common.{◌≡◌, ◌≢◌, ◌+◌, ◌<◌, ◌≤◌, ◌++◌, ◌∷◌, [], ◌⊎◌, inl, inr, All, Bool, List, ℕ, zero, suc, None, IfSome}
+use Rattle.std.proofs.Common.{◌≡◌, ◌≢◌, ◌+◌, ◌*◌, ◌<◌, ◌≤◌, ◌++◌, ◌∷◌, [], ◌⊎◌, inl, inr, All, Bool, List, ℕ, zero, suc, None, IfSome}
 use Rattle.std.proofs.Common.{drop, length, map, fold, flat_map, get_or, refl, ap, sym, subst, ◌∙◌, arith, length-append}
 use Rattle.std.proofs.lemmas.Bool.{cases_order}
 use Rattle.std.proofs.lemmas.List.{drop_all, get_or_push, length-map, length_push, map-append}
 use Rattle.std.proofs.lemmas.List.Elements.{All-append, All-drop, All-nil, All-push, All-weaker}
 use Rattle.std.proofs.lemmas.List.Quantifiers.{all_pairs_push}
 use Rattle.std.specs.List.{last_or}
+use Rattle.ld_class.specs.declared.names.TheConstants.{MOST_NAMES}
 use Rattle.ld_class.specs.Names.{PlainClass, no_class, same_class}
+use Rattle.ld_trace.specs.declared.source.TheConstants.{MOST_TRACES}
 use Rattle.ld_trace.specs.Events.{PlainEvent, positions}
 use Rattle.ld_trace.specs.Sources.{Fits, PlainSource, plain}
 use Rattle.ld_trace.proofs.PositionLemmas.{positions-ascend}
 use Rattle.ld_rules.specs.declared.fault.TraceFault.{TraceFault}
 use Rattle.ld_rules.specs.declared.outcome.Listed.{Listed}
 use Rattle.ld_rules.specs.declared.outcome.Outcome.{Outcome}
+use Rattle.ld_rules.specs.declared.outcome.TheConstants.{MOST_CLASSES}
 use Rattle.ld_rules.specs.declared.outcome.Outcome.TheVariants.{Read, Refused}
 use Rattle.ld_rules.specs.Dependency.{dependencies_at, same_dependency, seen}
 use Rattle.ld_rules.specs.Inner.Scanned.{same_dependency_seen, same_use_seen, with_new}
@@ -81,17 +84,17 @@ few_below sources number rise below = by (length sources) refl
         omega (arith, below n none within, at_least sources none rise n within)
 
 -- rising numbers of sources that fit are few
-pub few_sources : (sources : List PlainSource) → All Fits sources → AreRising sources → length sources ≤ 65535
+pub few_sources : (sources : List PlainSource) → All Fits sources → AreRising sources → length sources ≤ MOST_TRACES
 few_sources sources fit rise = by (length sources) refl
   where
     none : PlainSource
     none = record { number = 0; label = []; first_line = 0; bytes = [] }
 
-    by : (n : ℕ) → length sources ≡ n → n ≤ 65535
+    by : (n : ℕ) → length sources ≡ n → n ≤ MOST_TRACES
     by zero is = omega arith
     by (suc n) is =
         let within : n < length sources = omega (arith, is) in
-        let low : (get_or sources n none).number < 65535 = (fit n none within).number in
+        let low : (get_or sources n none).number < MOST_TRACES = (fit n none within).number in
         omega (arith, at_least sources none rise n within, low)
 
 -- A scan with more has no fewer rows.
@@ -110,7 +113,7 @@ more-edges old new source shows = omega (
 )
 
 -- nor does it have many more names
-pub room-left : (old new : Scan) (source : PlainSource) → IsRead old source new → length old.classes + 16382 ≤ 1073741824 → length new.classes ≤ 1073733633
+pub room-left : (old new : Scan) (source : PlainSource) → IsRead old source new → length old.classes + 2 * MOST_CLASSES ≤ MOST_NAMES → length new.classes + MOST_CLASSES ≤ MOST_NAMES
 room-left old new source shows room =
     let longer = longer_all old.classes (classes_of source) in
     omega (arith, shows.few, ap length shows.names, longer.most, room)
@@ -145,8 +148,8 @@ pub record IsPushed (old new : Fields) (last : Listed) : Type 0 where
   pub begun : IsAt (start_of new.scan) [] new.scan
 
 -- A trace begins where a scan is ready for it.
-pub begins : (old new : Scan) (source : PlainSource) → IsReady new → IsRead old source new → length new.classes ≤ 1073733633 → IsAt (start_of new) [] new
-begins old new source is shows room = subst (IsAt (start_of new) []) (sym is) (begun-at new shows.distinct shows.within shows.used (omega (arith, room)))
+pub begins : (old new : Scan) (source : PlainSource) → IsReady new → IsRead old source new → length new.classes + MOST_CLASSES ≤ MOST_NAMES → IsAt (start_of new) [] new
+begins old new source is shows room = subst (IsAt (start_of new) []) (sym is) (begun-at new shows.distinct shows.within shows.used room)
 
 -- what a scan has where it read the source to its end
 pub shows-read : (old new : Scan) (source : PlainSource) (count : ℕ) → outcome source ≡ Read count → IsAt (start_of old) (positions source) new → IsRead old source new
@@ -299,8 +302,8 @@ module _ (old new : Fields) (last : Listed) (kept : IsKept old) (adds : IsPushed
   kept-added = record {
     exact = subst IsBatch (λ i. record { sources = sym all_sources i; classes = names; edges = sym adds.edges i; usage = sym adds.usage i }) exact;
     outcomes = subst AreOutcomes (sym adds.listed) (All-push (λ (l : Listed). l.outcome ≡ outcome (plain l.source)) old.listed last kept.outcomes adds.outcome);
-    few = let more : length (classes_of source) ≤ 8191 = adds.shows.few in omega (arith, kept.few, longer.most, more, ap length adds.listed, length_push old.listed last);
-    known = let more : length (classes_of source) ≤ 8191 = adds.shows.few in omega (arith, kept.known, longer_known.most, more, ap length adds.listed, length_push old.listed last);
+    few = let more : length (classes_of source) ≤ MOST_CLASSES = adds.shows.few in omega (arith, kept.few, longer.most, more, ap length adds.listed, length_push old.listed last);
+    known = let more : length (classes_of source) ≤ MOST_CLASSES = adds.shows.few in omega (arith, kept.known, longer_known.most, more, ap length adds.listed, length_push old.listed last);
     names = adds.names;
     ready = adds.ready;
     begun = adds.begun;

@@ -25,7 +25,7 @@ use Rattle.ld_facts.specs.Facts.{IsKnown}
 use Rattle.ld_rules.specs.Usage.{Use, bit_of, same_use, uses_at}
 use Rattle.ld_rules.specs.Inner.Scanned.{same_dependency_seen, same_use_seen}
 use Rattle.ld_tables.specs.declared.uses.UsageFact.{UsageFact}
-use Rattle.ld_facts.specs.Inner.Scan.{IsAt, Start, fresh_scan, happens, no_start}
+use Rattle.ld_facts.specs.Inner.Scan.{IsAt, IsStep, Start, fresh_scan, happens, no_start}
 use Rattle.ld_facts.specs.Inner.Reading.{IsReadTo, positions_from}
 use Rattle.ld_rules.proofs.OutcomeLemmas.{first_fault}
 use Rattle.ld_rules.proofs.PlaceLemmas.{alike_from_decides, by_pushes, each_once-append, each_once-more}
@@ -118,8 +118,7 @@ module _ (source : PlainSource) (line : ℕ) (rest : List ℕ) (old scan : Scan)
   }
 
   -- an event without a fault, which leaves another scan
-  pub read-event : (text : List ℕ) (event : Event) (next : Scan) → text ≡ text_of first →
-      ((start : Start) (all : List Position) → IsAt start all scan → IsAt start (all ++ happens line (plain_event event) ∷ []) next) → said_by text ≡ Ok
+  pub read-event : (text : List ℕ) (event : Event) (next : Scan) → text ≡ text_of first → IsStep scan line (plain_event event) next → said_by text ≡ Ok
       (Some (plain_event event)) → IsReadTo source (line + 1) others old next (count + 1)
   read-event text event next shown scanned says = record {
     before = read.before ++ happens line (plain_event event) ∷ [];

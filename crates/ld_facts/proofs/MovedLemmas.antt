@@ -10,11 +10,11 @@ use Rattle.ld_rules.specs.declared.outcome.TheConstants.{MOST_CLASSES, MOST_HELD
 use Rattle.ld_facts.specs.declared.scan.Scan.{Scan}
 use Rattle.ld_rules.specs.Frames.{task_of}
 use Rattle.ld_rules.specs.Dependency.{Dependency, dependencies_at}
-use Rattle.ld_facts.specs.Named.{named_dependency, named_use}
+use Rattle.ld_facts.specs.Named.{IsBetween, named_dependency, named_use}
 use Rattle.ld_tables.specs.Inner.Interrupts.{fresh}
 use Rattle.ld_rules.specs.Outcome.{classes, event_fault, events, is_one_too_many, tasks}
 use Rattle.ld_rules.specs.Held.{class_acquired}
-use Rattle.ld_facts.specs.Inner.Scan.{AreMany, HasTask, IsAt, IsTask, IsBetween, Start, classes_after, edges_after, happens, names_at, own_names, uses_after}
+use Rattle.ld_facts.specs.Inner.Scan.{AreMany, HasTask, IsAt, IsTask, Start, classes_after, edges_after, happens, names_at, own_names, uses_after}
 use Rattle.ld_rules.specs.Inner.Scanned.{same_dependency_seen, with_new}
 use Rattle.ld_facts.specs.Named.{IsUse}
 use Rattle.ld_rules.proofs.OutcomeLemmas.{events-push, no_fault}

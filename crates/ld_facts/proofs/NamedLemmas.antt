@@ -13,8 +13,8 @@ use Rattle.ld_tables.specs.declared.edges.EdgeFact.{EdgeFact}
 use Rattle.ld_tables.specs.Inner.Edges.{edge_to, same_pair, with_edge_fact}
 use Rattle.ld_tables.specs.Inner.Locks.{Hold}
 use Rattle.ld_rules.specs.Inner.Scanned.{same_dependency_seen, with_new}
-use Rattle.ld_facts.specs.Inner.Scan.{HeldLock, IsBetween, named_hold}
-use Rattle.ld_facts.specs.Named.{named_dependency}
+use Rattle.ld_facts.specs.Inner.Scan.{HeldLock, named_hold}
+use Rattle.ld_facts.specs.Named.{IsBetween, named_dependency}
 
 -- two tests that pass together are one
 same_test : (a b : Bool) → (a ≡ true → b ≡ true) → (b ≡ true → a ≡ true) → a ≡ b

@@ -1,6 +1,6 @@
 -- The trace's own classes, by their names among all names.
-use Rattle.std.proofs.Common.{◌≡◌, ◌+◌, ◌<◌, ◌≤◌, ◌++◌, ◌∷◌, [], ◌||◌, List, ℕ, Bool, true, false, None, Some, Option}
-use Rattle.std.proofs.Common.{All, length, get_or, nat_eq, refl, ap, sym, subst, ◌∙◌, arith, if◌then◌else◌, is_some, length-append}
+use Rattle.std.proofs.Common.{◌≡◌, ◌+◌, ◌<◌, ◌++◌, ◌∷◌, [], ◌||◌, List, ℕ, Bool, true, false, None, Some, Option}
+use Rattle.std.proofs.Common.{All, length, get_or, nat_eq, refl, ap, sym, subst, ◌∙◌, arith, if◌then◌else◌}
 use Rattle.std.proofs.lemmas.Bool.{true≢false, eq-eqb, false_from_ne_true, or_left, or_right}
 use Rattle.std.proofs.lemmas.Bool.Decides.{Decides-eqb}
 use Rattle.std.proofs.lemmas.List.{append-nil, get_or-map, length-map, map-append}
@@ -27,14 +27,6 @@ module _ (names : List PlainClass) (name : PlainClass) where
       by : (r : Option ℕ) → place_of names name ≡ r → r ≡ None
       by None h = refl
       by (Some id) h = absurd (true≢false (sym (list_any-known names name id h) ∙ is))
-
--- one more name at most
-pub length-more : (names : List PlainClass) (name : PlainClass) → length (with_name names name) ≤ length names + 1
-length-more names name = by (is_some (place_of names name))
-  where
-    by : (b : Bool) → length (if b then names else names ++ name ∷ []) ≤ length names + 1
-    by true = omega arith
-    by false = omega (arith, length-append names (name ∷ []))
 
 -- the names of these classes have that of each
 any-own : (names : List PlainClass) (own : List ℕ) (id : ℕ) (name : PlainClass) → list_any (nat_eq id) own ≡ true →

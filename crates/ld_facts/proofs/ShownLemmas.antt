@@ -1,9 +1,9 @@
 -- What a trace shows is of its own classes.
-use Rattle.std.proofs.Common.{◌≡◌, ◌<◌, ◌++◌, ◌∷◌, [], ◌||◌, All, Bool, true, false, cond, List, ℕ, Some, Result, Ok, Err, nat_eq}
+use Rattle.std.proofs.Common.{◌≡◌, ◌<◌, ◌++◌, ◌∷◌, [], ◌||◌, All, Bool, true, false, List, ℕ, Some, Result, Ok, Err, nat_eq}
 use Rattle.std.proofs.Common.{drop, fold, filter_map, length, map, get_or, refl, ap, sym, subst, ◌∙◌, arith, if◌then◌else◌, append_assoc}
 use Rattle.std.proofs.lemmas.Bool.{eq-eqb, or_left, or_right}
 use Rattle.std.proofs.lemmas.List.{append-nil, drop-map, get_or_default, get_or-map, length-map}
-use Rattle.std.proofs.lemmas.List.Elements.{All-append, All-cons, All-drop, All-filter, All-head, All-map, All-nil, All-push, All-tail, All-weaker, filter_map-append}
+use Rattle.std.proofs.lemmas.List.Elements.{All-append, All-drop, All-filter, All-head, All-map, All-nil, All-push, All-tail, All-weaker, filter_map-append}
 use Rattle.std.proofs.lemmas.List.Folds.{Any-from_list_any, list_any-append, list_any_at}
 use Rattle.std.proofs.Math.Seq.{drop-append_seam}
 use Rattle.std.specs.List.{cons_option, list_any}
@@ -17,7 +17,7 @@ use Rattle.ld_trace.specs.Events.PlainEvent.{Acquire, Try, Nested, Release, Ente
 use Rattle.ld_rules.specs.Dependency.{Dependency, Seen, dependencies_at, seen, seen_at}
 use Rattle.ld_rules.specs.Frames.{contexts, frame_of, task_of}
 use Rattle.ld_rules.specs.Held.{Acquisition, class_with, held, held_in, held_by, lock_acquired, same_frame, sub_taken}
-use Rattle.ld_rules.specs.Inner.Scanned.{remove_last, same_dependency_seen, same_use_seen, with_new}
+use Rattle.ld_rules.specs.Inner.Scanned.{same_dependency_seen, same_use_seen, with_new}
 use Rattle.ld_rules.specs.Outcome.{event_said, events}
 use Rattle.ld_rules.specs.Held.{class_acquired}
 use Rattle.ld_rules.specs.Usage.{Use, in_uses, on_uses, uses_at, uses_in}
@@ -27,9 +27,9 @@ use Rattle.ld_rules.proofs.OutcomeLemmas.{events-push, seen-push}
 use Rattle.ld_rules.proofs.PlaceLemmas.{alike_from_decides, any_each_once, by_pushes}
 use Rattle.ld_facts.specs.declared.scan.Scan.{Scan}
 use Rattle.ld_facts.specs.Named as scans
-use Rattle.ld_facts.specs.Inner.Scan as scanned
-use Rattle.ld_facts.specs.Inner.Scan.{IsAt, Start, names_at, own_names}
+use Rattle.ld_facts.specs.Inner.Scan.{IsAt, Start, own_names}
 use Rattle.ld_facts.specs.Inner.Rows.{IsOwnEdge, IsOwnUse}
+use Rattle.ld_facts.proofs.ReleaseLemmas.{All-remove_last}
 
 -- the class is one of those that these events acquire
 abbrev IsClass : List PlainEvent → PlainClass → Type 0
@@ -47,16 +47,6 @@ new_class past e class is =
     ∙ list_any-append (same_class class) (filter_map class_acquired past) (class ∷ [])
     ∙ or_right (list_any (same_class class) (filter_map class_acquired past)) (same_class class class || false)
     (or_left (same_class class class) false ((same_class-Decides class class).1 refl))
-
--- what is left of a list is of it
-All-removed : {X : Type 0} (P : X → Type 0) (p : X → Bool) (xs : List X) → All P xs → All P (remove_last p xs)
-All-removed P p [] all = all
-All-removed P p (x ∷ xs) all = by (list_any p xs) (p x) (All-removed P p xs (All-tail P x xs all))
-  where
-    by : (later now : Bool) → All P (remove_last p xs) → All P (cond later (x ∷ remove_last p xs) (cond now xs (x ∷ xs)))
-    by true now left = All-cons P x (remove_last p xs) (All-head P x xs all) left
-    by false true left = All-tail P x xs all
-    by false false left = all
 
 -- the classes of what is held
 held_classes : (past : List PlainEvent) → All (λ one. IsClass past one.class) (held past)
@@ -78,7 +68,7 @@ held_classes = by_pushes (λ past. All (λ one. IsClass past one.class) (held pa
         by (Try task lock) all = acquired (Try task lock) lock refl refl (all (Try task lock))
         by (Nested task lock sub) all = acquired (Nested task lock sub) lock refl refl (all (Nested task lock sub))
         by (Release task lock) all = subst (Holds (Release task lock)) (sym (held-releases past task lock))
-            (All-removed (λ one. IsClass (past ++ Release task lock ∷ []) one.class) (has_key (record { task = task; frame = frame_of past task; lock = lock })) (held past) (all (Release task lock)))
+            (All-remove_last (λ one. IsClass (past ++ Release task lock ∷ []) one.class) (has_key (record { task = task; frame = frame_of past task; lock = lock })) (held past) (all (Release task lock)))
         by (Enter task state) all = subst (Holds (Enter task state)) (sym (held-other past (Enter task state) refl refl)) (all (Enter task state))
         by (Exit task state) all = subst (Holds (Exit task state)) (sym (held-other past (Exit task state) refl refl)) (all (Exit task state))
         by (Enable task state) all = subst (Holds (Enable task state)) (sym (held-other past (Enable task state) refl refl)) (all (Enable task state))
@@ -194,7 +184,7 @@ module _ (start : Start) (all : List Position) (scan : Scan) (at : IsAt start al
   pub own_edges : All (IsOwnEdge scan.own) (drop (length start.edges) scan.locks.edges)
   own_edges k d within =
       let edge = get_or (drop (length start.edges) scan.locks.edges) k d in
-      let inside = All-drop (scanned.IsBetween scan.classes) (length start.edges) scan.locks.edges at.within k d within in
+      let inside = All-drop (scans.IsBetween scan.classes) (length start.edges) scan.locks.edges at.within k d within in
       let shown = by_name k (scans.named_dependency scan.classes d) (omega (arith, within, length-map (drop (length start.edges) scan.locks.edges) (scans.named_dependency scan.classes))) in
       let here : get_or (map (scans.named_dependency scan.classes) (drop (length start.edges) scan.locks.edges)) k (scans.named_dependency scan.classes d) ≡ scans.named_dependency scan.classes edge =
       get_or-map (scans.named_dependency scan.classes) (drop (length start.edges) scan.locks.edges) k d (scans.named_dependency scan.classes d) within in

@@ -4,8 +4,8 @@ use Rattle.ld_class.specs.Names.{AreDistinct}
 use Rattle.ld_class.specs.declared.names.TheConstants.{MOST_NAMES}
 use Rattle.ld_rules.specs.declared.outcome.TheConstants.{MOST_CLASSES}
 use Rattle.ld_facts.specs.declared.scan.Scan.{Scan}
-use Rattle.ld_facts.specs.Named.{IsUse}
-use Rattle.ld_facts.specs.Inner.Scan.{IsAt, IsBetween, begun, start_of}
+use Rattle.ld_facts.specs.Named.{IsBetween, IsUse}
+use Rattle.ld_facts.specs.Inner.Scan.{IsAt, begun, start_of}
 
 -- it is at what the scan has, before its first event
 pub begun-at : (scan : Scan) → AreDistinct scan.classes → All (IsBetween scan.classes) scan.locks.edges → All (IsUse scan.classes) scan.uses →

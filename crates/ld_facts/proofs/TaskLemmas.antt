@@ -1,5 +1,5 @@
 -- The tasks of a scan before and after the task of one more event, and what a task that is new to the trace holds.
-use Rattle.std.proofs.Common.{◌≡◌, ◌≢◌, ◌<◌, ◌≤◌, ◌++◌, ◌∷◌, [], ◌||◌, ◌&&◌, List, ℕ, Bool, true, false, not, length, map, get_or, Option, Some, None}
+use Rattle.std.proofs.Common.{◌≡◌, ◌≢◌, ◌<◌, ◌≤◌, ◌++◌, ◌∷◌, [], ◌||◌, ◌&&◌, List, ℕ, Bool, true, false, not, length, map, get_or, Option, Some, None, Result, Err}
 use Rattle.std.proofs.Common.{refl, ap, sym, subst, ◌∙◌, ◌⊎◌, inl, inr, arith, eqb, length-append}
 use Rattle.std.proofs.Math.Bool.{and-false}
 use Rattle.std.proofs.Math.Seq.{get_or-append_seam}
@@ -17,6 +17,7 @@ use Rattle.ld_trace.specs.Events.{PlainEvent, PlainLock, Position}
 use Rattle.ld_trace.specs.Events.PlainEvent.{Acquire, Try, Nested}
 use Rattle.ld_trace.specs.declared.event.State.{State}
 use Rattle.ld_trace.specs.declared.event.State.TheVariants.{Hard, Soft}
+use Rattle.ld_rules.specs.declared.fault.TraceFault.{TraceFault}
 use Rattle.ld_rules.specs.declared.fault.TraceFault.TheVariants.{TooManyTasks}
 use Rattle.ld_rules.specs.declared.outcome.TheConstants.{MOST_TASKS}
 use Rattle.ld_facts.specs.declared.scan.Scan.{Scan}
@@ -28,9 +29,11 @@ use Rattle.ld_tables.specs.Inner.Interrupts.{fresh, levels_of, starts_of, states
 use Rattle.ld_rules.specs.Inner.Levels.{levels, stack, starts_in, state_of_frame}
 use Rattle.ld_tables.specs.Inner.Locks.{Hold}
 use Rattle.ld_rules.specs.Outcome.{is_one_too_many, event_fault, events, tasks}
+use Rattle.ld_facts.specs.declared.stop.Stop.{Stop}
+use Rattle.ld_facts.specs.declared.stop.Stop.TheVariants.{Fault}
 use Rattle.ld_facts.specs.declared.taking.Taking.{Taking}
 use Rattle.ld_facts.specs.declared.taking.Taking.TheVariants.{Nesting, Trying, Waiting}
-use Rattle.ld_facts.specs.Inner.Scan.{IsAt, IsTask, Start, acquisition, lock_held, named_hold}
+use Rattle.ld_facts.specs.Inner.Scan.{IsAt, IsItsFault, IsTask, Start, acquisition, lock_held, named_hold}
 use Rattle.ld_facts.proofs.NamedLemmas.{holds-stay, holds-stay_within}
 use Rattle.ld_rules.proofs.PlaceLemmas.{alike_from_decides, any_each_once, by_pushes}
 use Rattle.ld_rules.proofs.FlagLemmas.{last_said-other, levels-other, stack-other, states-other}
@@ -171,7 +174,17 @@ scan_too_many_tasks all scan e is_at new full =
     too_many_tasks (events all) e (ap (λ ns. is_one_too_many bytes_eq MOST_TASKS ns (task_of e)) (sym is_at.tasks)
     ∙ is_one_too_many-full bytes_eq [] bytes_eq-Decides MOST_TASKS scan.tasks (task_of e) new full is_at.few_tasks)
 
--- the same of an acquisition
+-- an answer that hands on the refusal of a task tells the event's fault
+pub task-refused : {A : Type 0} (scan : Scan) (event : PlainEvent) (told : Stop) (answer : Result A Stop)
+    → ((fault : TraceFault) → told ≡ Fault fault
+    → (fault ≡ TooManyTasks) × (place_of_task scan.tasks (task_of event) ≡ None) × (MOST_TASKS ≤ length scan.tasks))
+    → (stop : Stop) × (answer ≡ Err stop) × (stop ≡ told) → IsItsFault scan event answer
+task-refused scan event told answer why handed fault is start all is_at =
+    let same : told ≡ Fault fault = cc (handed.1, handed.2, is) in
+    let at = why fault same in
+    scan_too_many_tasks all scan event is_at at.1 at.2 ∙ ap Some (sym at.0)
+
+-- one task too many for an acquisition
 pub acquisition_too_many_tasks : {start : Start} (all : List Position) (scan : Scan) (how : Taking) (name : List ℕ) (lock : PlainLock) → IsAt start all scan → place_of_task
     scan.tasks name ≡ None → MOST_TASKS ≤ length scan.tasks → event_fault (events all) (acquisition how name lock) ≡ Some TooManyTasks
 acquisition_too_many_tasks all scan Trying name lock is_at new full = scan_too_many_tasks all scan (Try name lock) is_at new full

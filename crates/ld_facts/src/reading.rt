@@ -85,9 +85,19 @@ fn next_said(bytes: &[u8]) -> Option<(Result<Option<Event<'_>>, LineFault>, &[u8
     ensures { MatchOption result (bytes.now ≡ []) (λ cut.
         IsFirstSaid bytes.now (answer_seen cut.0) cut.1.now) }
 {
-    if let Some((event, rest)) = next_event(bytes) {
-        return Some((Ok(Some(event)), rest));
+    match next_event(bytes) {
+        Some((event, rest)) => Some((Ok(Some(event)), rest)),
+        None => next_other_said(bytes),
     }
+}
+
+/// The same, of a line that isn't read in one pass as an event of a lock.
+// What is read in several ways takes room of its own for each, which is cleared for each line.
+#[inline(never)]
+fn next_other_said(bytes: &[u8]) -> Option<(Result<Option<Event<'_>>, LineFault>, &[u8])>
+    ensures { MatchOption result (bytes.now ≡ []) (λ cut.
+        IsFirstSaid bytes.now (answer_seen cut.0) cut.1.now) }
+{
     if let Some((event, others)) = next_state_event(bytes) {
         return Some((Ok(Some(event)), others));
     }

@@ -1,14 +1,13 @@
 //! The scan of a trace: what its events so far leave, one event at a time.
-ghost use Rattle.std.specs.Prelude.{◌≡◌, ◌<◌, ◌≤◌, ◌++◌, ◌∷◌, ℕ, List, [], None, Some, Err, fold};
+ghost use Rattle.std.specs.Prelude.{◌≡◌, ◌<◌, ◌≤◌, ℕ, [], None, Err, fold};
 ghost use Rattle.std.specs.Prelude.{length, map, slice_index_or, IfOk, OnOk};
 ghost use Rattle.ld_class.specs.Names.{place_of, plain_class, with_name, IsNameAt};
 ghost use Rattle.ld_class.specs.declared.names.TheConstants.{MOST_NAMES};
-ghost use Rattle.ld_trace.specs.Events.{Position, plain_event, plain_lock};
+ghost use Rattle.ld_trace.specs.Events.{plain_event, plain_lock};
 ghost use Rattle.ld_trace.specs.Events.PlainEvent.{Begin, Disable, Enable, Enter, Exit, Release};
 ghost use Rattle.ld_tables.specs.Inner.Interrupts.{fresh};
-ghost use Rattle.ld_rules.specs.Outcome.{event_fault, events};
-ghost use Rattle.ld_facts.specs.Inner.Scan.{AreMany, IsAt, Start, acquisition, happens};
-ghost use Rattle.ld_facts.specs.Inner.Scan.{StandsOn, fresh_scan, own_names, taken, waited};
+ghost use Rattle.ld_facts.specs.Inner.Scan.{AreMany, IsItsFault, IsStep, StandsOn, acquisition};
+ghost use Rattle.ld_facts.specs.Inner.Scan.{fresh_scan, own_names, taken, waited};
 ghost use Rattle.ld_tables.specs.Inner.Uses.{on_facts, with_use};
 ghost use Rattle.ld_rules.specs.declared.fault.TraceFault.{TraceFault};
 ghost use Rattle.ld_rules.specs.declared.outcome.TheConstants.{MOST_CLASSES, MOST_HELD};
@@ -67,12 +66,8 @@ impl<'a> Scan<'a> {
     pub fn step(&mut self, event: Event<'a>, line: u64) -> Result<(), Stop>
         requires many { AreMany self.old }
         ensures many { OnOk result (AreMany self.new) }
-        ensures ok { OnOk result ((start : Start) (all : List Position) →
-            IsAt start all self.old →
-            IsAt start (all ++ happens line (plain_event event.entry) ∷ []) self.new) }
-        ensures fault { (fault : TraceFault) → result ≡ Err (Stop.Fault fault) →
-            (start : Start) (all : List Position) → IsAt start all self.old →
-            event_fault (events all) (plain_event event.entry) ≡ Some fault }
+        ensures ok { OnOk result (IsStep self.old line (plain_event event.entry) self.new) }
+        ensures fault { IsItsFault self.old (plain_event event.entry) result }
         ensures first { StandsOn self.old self.new }
     {
         match event {
@@ -100,13 +95,10 @@ impl<'a> Scan<'a> {
     ) -> Result<(), Stop>
         requires many { AreMany self.old }
         ensures many { OnOk result (AreMany self.new) }
-        ensures ok { OnOk result ((start : Start) (all : List Position) → IsAt start all self.old →
-            IsAt start (all ++
-            happens line (acquisition how task.entry.now (plain_lock lock.entry)) ∷ []) self.new) }
-        ensures fault { (fault : TraceFault) → result ≡ Err (Stop.Fault fault) →
-            (start : Start) (all : List Position) → IsAt start all self.old →
-            event_fault (events all) (acquisition how task.entry.now (plain_lock lock.entry))
-            ≡ Some fault }
+        ensures ok { OnOk result (IsStep self.old line
+            (acquisition how task.entry.now (plain_lock lock.entry)) self.new) }
+        ensures fault { IsItsFault self.old
+            (acquisition how task.entry.now (plain_lock lock.entry)) result }
         ensures first { StandsOn self.old self.new }
     {
         let task = self.task(task)?;
@@ -148,13 +140,9 @@ impl<'a> Scan<'a> {
     fn release(&mut self, task: &'a [u8], lock: Lock<'a>) -> Result<(), Stop>
         requires many { AreMany self.old }
         ensures many { OnOk result (AreMany self.new) }
-        ensures ok { OnOk result ((start : Start) (all : List Position) (line : ℕ) →
-            IsAt start all self.old →
-            IsAt start (all ++ happens line (Release task.entry.now (plain_lock lock.entry)) ∷ [])
-            self.new) }
-        ensures fault { (fault : TraceFault) → result ≡ Err (Stop.Fault fault) →
-            (start : Start) (all : List Position) → IsAt start all self.old →
-            event_fault (events all) (Release task.entry.now (plain_lock lock.entry)) ≡ Some fault }
+        ensures ok { OnOk result ((line : ℕ) → IsStep self.old line
+            (Release task.entry.now (plain_lock lock.entry)) self.new) }
+        ensures fault { IsItsFault self.old (Release task.entry.now (plain_lock lock.entry)) result }
         ensures first { StandsOn self.old self.new }
     {
         let task = self.task(task)?;
@@ -169,12 +157,9 @@ impl<'a> Scan<'a> {
     fn enter(&mut self, task: &'a [u8], state: State) -> Result<(), Stop>
         requires many { AreMany self.old }
         ensures many { OnOk result (AreMany self.new) }
-        ensures ok { OnOk result ((start : Start) (all : List Position) (line : ℕ) →
-            IsAt start all self.old →
-            IsAt start (all ++ happens line (Enter task.entry.now state) ∷ []) self.new) }
-        ensures fault { (fault : TraceFault) → result ≡ Err (Stop.Fault fault) →
-            (start : Start) (all : List Position) → IsAt start all self.old →
-            event_fault (events all) (Enter task.entry.now state) ≡ Some fault }
+        ensures ok { OnOk result ((line : ℕ) →
+            IsStep self.old line (Enter task.entry.now state) self.new) }
+        ensures fault { IsItsFault self.old (Enter task.entry.now state) result }
         ensures first { StandsOn self.old self.new }
     {
         let task = self.task(task)?;
@@ -193,12 +178,8 @@ impl<'a> Scan<'a> {
     fn exit(&mut self, task: &'a [u8], state: State, line: u64) -> Result<(), Stop>
         requires many { AreMany self.old }
         ensures many { OnOk result (AreMany self.new) }
-        ensures ok { OnOk result ((start : Start) (all : List Position) →
-            IsAt start all self.old →
-            IsAt start (all ++ happens line (Exit task.entry.now state) ∷ []) self.new) }
-        ensures fault { (fault : TraceFault) → result ≡ Err (Stop.Fault fault) →
-            (start : Start) (all : List Position) → IsAt start all self.old →
-            event_fault (events all) (Exit task.entry.now state) ≡ Some fault }
+        ensures ok { OnOk result (IsStep self.old line (Exit task.entry.now state) self.new) }
+        ensures fault { IsItsFault self.old (Exit task.entry.now state) result }
         ensures first { StandsOn self.old self.new }
     {
         let task = self.task(task)?;
@@ -218,12 +199,8 @@ impl<'a> Scan<'a> {
     fn enable(&mut self, task: &'a [u8], state: State, line: u64) -> Result<(), Stop>
         requires many { AreMany self.old }
         ensures many { OnOk result (AreMany self.new) }
-        ensures ok { OnOk result ((start : Start) (all : List Position) →
-            IsAt start all self.old →
-            IsAt start (all ++ happens line (Enable task.entry.now state) ∷ []) self.new) }
-        ensures fault { (fault : TraceFault) → result ≡ Err (Stop.Fault fault) →
-            (start : Start) (all : List Position) → IsAt start all self.old →
-            event_fault (events all) (Enable task.entry.now state) ≡ Some fault }
+        ensures ok { OnOk result (IsStep self.old line (Enable task.entry.now state) self.new) }
+        ensures fault { IsItsFault self.old (Enable task.entry.now state) result }
         ensures first { StandsOn self.old self.new }
     {
         let task = self.task(task)?;
@@ -239,12 +216,9 @@ impl<'a> Scan<'a> {
     fn disable(&mut self, task: &'a [u8], state: State) -> Result<(), Stop>
         requires many { AreMany self.old }
         ensures many { OnOk result (AreMany self.new) }
-        ensures ok { OnOk result ((start : Start) (all : List Position) (line : ℕ) →
-            IsAt start all self.old →
-            IsAt start (all ++ happens line (Disable task.entry.now state) ∷ []) self.new) }
-        ensures fault { (fault : TraceFault) → result ≡ Err (Stop.Fault fault) →
-            (start : Start) (all : List Position) → IsAt start all self.old →
-            event_fault (events all) (Disable task.entry.now state) ≡ Some fault }
+        ensures ok { OnOk result ((line : ℕ) →
+            IsStep self.old line (Disable task.entry.now state) self.new) }
+        ensures fault { IsItsFault self.old (Disable task.entry.now state) result }
         ensures first { StandsOn self.old self.new }
     {
         let task = self.task(task)?;
@@ -256,12 +230,9 @@ impl<'a> Scan<'a> {
     fn begin_task(&mut self, task: &'a [u8], hard: bool, soft: bool) -> Result<(), Stop>
         requires many { AreMany self.old }
         ensures many { OnOk result (AreMany self.new) }
-        ensures ok { OnOk result ((start : Start) (all : List Position) (line : ℕ) →
-            IsAt start all self.old →
-            IsAt start (all ++ happens line (Begin task.entry.now hard soft) ∷ []) self.new) }
-        ensures fault { (fault : TraceFault) → result ≡ Err (Stop.Fault fault) →
-            (start : Start) (all : List Position) → IsAt start all self.old →
-            event_fault (events all) (Begin task.entry.now hard soft) ≡ Some fault }
+        ensures ok { OnOk result ((line : ℕ) →
+            IsStep self.old line (Begin task.entry.now hard soft) self.new) }
+        ensures fault { IsItsFault self.old (Begin task.entry.now hard soft) result }
         ensures first { StandsOn self.old self.new }
     {
         if self.tasks.find(task).is_some() {

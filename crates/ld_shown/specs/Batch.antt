@@ -1,7 +1,8 @@
 -- What a batch is, without where it lies in memory.
-use Rattle.std.specs.Prelude.{◌≡◌, ◌<◌, Bool, List, [], map, length, slice_index_or, All, AllPairs}
+use Rattle.std.specs.Prelude.{◌≡◌, ◌<◌, ℕ, Bool, List, [], map, length, slice_index_or, All, AllPairs}
 use Rattle.std.specs.Prelude.{Option, option_map}
 use Rattle.std.specs.List.{find}
+use Rattle.ld_class.specs.declared.usage.Usage.{Usage}
 use Rattle.ld_class.specs.Names.{PlainClass, no_class}
 use Rattle.ld_trace.specs.Sources.{Fits, PlainSource, plain}
 use Rattle.ld_rules.specs.declared.outcome.Listed.{Listed}
@@ -44,30 +45,42 @@ pub record Met (A : Type 0) : Type 0 where
 abbrev pub witness_of : {A : Type 0} → (A → A → Bool) → List (Met A) → A → Option Witness
 witness_of same all what = option_map (λ m. m.witness) (find (λ m. same what m.what) all)
 
+-- Of rows with a witness, and of those with a line:
+
+-- the dependency between the classes with these numbers
+abbrev pub dependency_between : List PlainClass → ℕ → ℕ → Dependency
+dependency_between classes from to = record {
+  from = slice_index_or classes from no_class;
+  to = slice_index_or classes to no_class;
+}
+
+-- the usage bit of the class with this number
+abbrev pub use_by : List PlainClass → ℕ → Usage → Use
+use_by classes class bit = record { class = slice_index_or classes class no_class; bit = bit_of bit }
+
+-- both are numbers of classes
+abbrev pub AreClasses : List PlainClass → ℕ → ℕ → Type 0
+AreClasses classes from to = (from < length classes) × (to < length classes)
+
+-- it is one bit of a class
+abbrev pub IsBitOf : List PlainClass → ℕ → Usage → Type 0
+IsBitOf classes class bit = (class < length classes) × IsBit bit
+
 -- a dependency by the names of its classes, with its witness
 abbrev pub named_dependency : List PlainClass → WitnessedEdge → Met Dependency
-named_dependency classes edge = record {
-  what = record {
-    from = slice_index_or classes edge.from no_class;
-    to = slice_index_or classes edge.to no_class;
-  };
-  witness = edge.witness;
-}
+named_dependency classes edge = record { what = dependency_between classes edge.from edge.to; witness = edge.witness }
 
 -- a usage bit by the name of its class, with its witness
 abbrev pub named_use : List PlainClass → WitnessedUse → Met Use
-named_use classes used = record {
-  what = record { class = slice_index_or classes used.class no_class; bit = bit_of used.bit };
-  witness = used.witness;
-}
+named_use classes used = record { what = use_by classes used.class used.bit; witness = used.witness }
 
 -- both classes are among these
 abbrev pub IsBetween : List PlainClass → WitnessedEdge → Type 0
-IsBetween classes edge = (edge.from < length classes) × (edge.to < length classes)
+IsBetween classes edge = AreClasses classes edge.from edge.to
 
 -- it is one bit of one of these classes
 abbrev pub IsUse : List PlainClass → WitnessedUse → Type 0
-IsUse classes used = (used.class < length classes) × IsBit used.bit
+IsUse classes used = IsBitOf classes used.class used.bit
 
 -- The sources fit, and their numbers rise. The classes are those of their union, each once, in the
 -- order in which they come; and each dependency and each usage bit of the union stands there once,

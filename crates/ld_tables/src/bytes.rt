@@ -1,5 +1,5 @@
 //! Bytes and names that are compared where this is asked for, without a call.
-ghost use Rattle.std.specs.Prelude.{◌≡◌, Some};
+ghost use Rattle.std.specs.Prelude.{◌≡◌, length, Some};
 ghost use Rattle.std.specs.Bool.{OnTrue};
 ghost use Rattle.std.specs.Str.{bytes_eq};
 ghost use Rattle.ld_class.specs.Names.{AreDistinct, place_of, plain_class};
@@ -20,7 +20,7 @@ pub fn is_at(names: &Classes<'_>, place: u32, name: ClassName<'_>) -> bool
 }
 
 /// Whether these are the same bytes. Of 8 to 16, as most names have, the first eight and the last eight are
-/// compared.
+/// compared, and fewer likewise.
 #[inline(always)]
 pub fn same_bytes(a: &[u8], b: &[u8]) -> bool
     ensures { result ≡ bytes_eq a.now b.now }
@@ -40,8 +40,39 @@ pub fn same_bytes(a: &[u8], b: &[u8]) -> bool
         (Some(first), Some(other_first), Some(last), Some(other_last)) => {
             same_word(first, other_first) && same_word(last, other_last)
         }
+        _ => same_short(a, b),
+    }
+}
+
+/// The same, of as many bytes on either side. Of two to four, as most instances have, the first two and the last two are
+/// compared.
+#[inline(always)]
+fn same_short(a: &[u8], b: &[u8]) -> bool
+    requires { length a.now ≡ length b.now }
+    ensures { result ≡ bytes_eq a.now b.now }
+{
+    if a.len() > 4 {
+        return a == b;
+    }
+    match (
+        a.first_chunk(),
+        b.first_chunk(),
+        a.last_chunk(),
+        b.last_chunk(),
+    ) {
+        (Some(first), Some(other_first), Some(last), Some(other_last)) => {
+            same_two(first, other_first) && same_two(last, other_last)
+        }
         _ => a == b,
     }
+}
+
+/// Whether these two bytes are the same.
+#[inline(always)]
+fn same_two(a: &[u8; 2], b: &[u8; 2]) -> bool
+    ensures { result ≡ bytes_eq a.now b.now }
+{
+    u16::from_le_bytes(*a) == u16::from_le_bytes(*b)
 }
 
 /// Whether these eight bytes are the same.

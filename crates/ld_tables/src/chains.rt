@@ -25,10 +25,10 @@ pub struct Link {
 pub const MOST_KEPT: usize = 1 << 19;
 
 /// How many chains there are at most.
-pub const MOST_CHAINS: usize = 1 << 18;
+pub const MOST_CHAINS: usize = 1 << 17;
 
 // Clauses cite the constants, so they would hold with any other numbers that fit.
-const _: () = prove!(MOST_KEPT == 524_288 && MOST_CHAINS == 262_144);
+const _: () = prove!(MOST_KEPT == 524_288 && MOST_CHAINS == 131_072);
 
 /// Where the numbers of a chain's pairs stand among those of all chains; from a place to itself where they
 /// aren't kept.

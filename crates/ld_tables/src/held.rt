@@ -208,7 +208,7 @@ fn is_same(a: Lock<'_>, b: Lock<'_>) -> bool
     }
     match (a.instance, b.instance) {
         (None, None) => true,
-        (Some(a), Some(b)) => a == b,
+        (Some(a), Some(b)) => same_bytes(a, b),
         _ => false,
     }
 }

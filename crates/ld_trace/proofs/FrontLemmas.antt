@@ -1,6 +1,7 @@
 -- What is cut off at the front is a word, or a name.
-use Rattle.std.proofs.Common.{ℕ, ◌≡◌, ◌<◌, ◌≤◌, Bool, true, false, not, List, [], ◌∷◌, length, take, refl, arith, Some, None}
+use Rattle.std.proofs.Common.{ℕ, ◌≡◌, ◌<◌, ◌≤◌, Bool, true, false, not, ◌+◌, ◌++◌, List, [], ◌∷◌, length, take, drop, refl, subst, ◌∙◌, arith, Some, None}
 use Rattle.std.proofs.Math.Numerals.{one-add}
+use Rattle.std.proofs.Math.Seq.{drop-append-add}
 use Rattle.std.proofs.lemmas.Bool.{and_from, and_parts}
 use Rattle.std.proofs.lemmas.Bool.Decides.{nat_tests}
 use Rattle.std.specs.Prelude.{IfSome, Option, nat_le}
@@ -9,7 +10,8 @@ use Rattle.std.specs.Char.{is_ascii_graphic}
 use Rattle.std.specs.List.{list_all, list_any, prefix_len}
 use Rattle.ld_trace.specs.declared.line.TheConstants.{LONGEST_WORD}
 use Rattle.ld_trace.specs.Lines.{is_name, is_separator, is_word}
-use Rattle.ld_trace.specs.Inner.Front.{IsFront, in_name}
+use Rattle.ld_trace.specs.declared.front.Ends.{Ends}
+use Rattle.ld_trace.specs.Inner.Front.{AreEnds, IsFront, in_name}
 
 -- the bytes that pass a test, up to the first that doesn't
 list_all-front : (p : ℕ → Bool) (bytes : List ℕ) → list_all p (take (prefix_len p bytes) bytes) ≡ true
@@ -60,3 +62,9 @@ cut-name bytes len None all front = tt
 cut-name bytes len (Some cut) all front =
     let passes : list_all in_name (take len bytes) ≡ true = rw all (list_all-front in_name bytes) in
     name cut.0.now len front.long front.some front.few (rw front.is passes)
+
+-- the ends behind a word and one byte more
+pub ends-after : (bytes word rest : List ℕ) (b count : ℕ) (ends later : Ends) → bytes ≡ word ++ b ∷ rest → count ≡ length word + 1
+    → ((bytes : List ℕ) → AreEnds bytes ends → AreEnds (drop count bytes) later) → AreEnds bytes ends → AreEnds rest later
+ends-after bytes word rest b count ends later is many moved are =
+    subst (λ o. AreEnds o later) ((λ i. drop (many i) (is i)) ∙ drop-append-add word (b ∷ rest) 1) (moved bytes are)

@@ -1,11 +1,15 @@
 -- A run of bytes, by a vector of those at the front and the bits of those that end it.
-use Rattle.std.proofs.Common.{◌≡◌, ℕ, ◌+◌, ◌*◌, ◌%◌, ◌^◌, ◌<◌, ◌≤◌, Bool, true, false, not, cond, eqb, List, [], ◌∷◌, map, length, take, drop, replicate, refl, sym, ap, ap₂, ◌∙◌, arith, w8, Fits}
+use Rattle.std.proofs.Common.{◌≡◌, ℕ, ◌+◌, ◌*◌, ◌-◌, ◌/◌, ◌%◌, ◌^◌, ◌<◌, ◌≤◌, Bool, true, false, not, cond, eqb, List, [], ◌∷◌, ◌++◌, map, length, take, drop, replicate, refl, sym, ap, ap₂, ◌∙◌, arith, w8, Fits}
 use Rattle.std.proofs.lemmas.Bool.{agree_below, agree_below_at, ne_eqb}
-use Rattle.std.proofs.lemmas.Simd.{map-map, mask_l-mod, trailing_mask_l, zip2_splat_left}
-use Rattle.std.proofs.lemmas.List.{length-map, take-append-drop}
+use Rattle.std.proofs.lemmas.Simd.{map-map, mask_l-lt, mask_l-mod, trailing_mask_l, zip2_splat_left}
+use Rattle.std.proofs.lemmas.List.{drop-map, drop-take, length-map, take-append-drop}
+use Rattle.std.proofs.Math.Nat.{mul_left_comm}
+use Rattle.std.proofs.lemmas.Nat.{mod_low, pow-add, shr-shr}
+use Rattle.std.proofs.lemmas.List.{map-append}
 use Rattle.std.proofs.lemmas.List.Folds.{prefix_len-append}
 use Rattle.std.proofs.lemmas.List.Sums.{prefix_len-le-length}
 use Rattle.std.specs.List.{prefix_len}
+use lib.Bits.{and_mask, bit_and}
 use lib.Count.{count_trailing_zeros}
 use lib.Lanes.{zip2, mask_l, top, Each1}
 
@@ -51,3 +55,51 @@ module _ (p : ℕ → Bool) where
       ap (prefix_len p) (sym (take-append-drop n xs)) ∙ prefix_len-append p front (drop n xs)
       ∙ ap (λ b. cond b (length front + prefix_len p (drop n xs)) (prefix_len p front)) less in
       trailing_mask_l (λ x. not (p x)) 64 front (omega (arith, long)) some ∙ same_run front ∙ sym whole
+
+-- the bits of the lanes behind some
+mask-drop : (ms : List Bool) (k : ℕ) → mask_l ms / 2 ^ k ≡ mask_l (drop k ms)
+mask-drop ms ℕ.zero = omega arith
+mask-drop [] (ℕ.suc k) = omega arith
+mask-drop (m ∷ ms) (ℕ.suc k) =
+    ap (λ n. mask_l (m ∷ ms) / 2 ^ n) next ∙ sym (shr-shr (mask_l (m ∷ ms)) 1 k)
+    ∙ ap (λ n. n / 2 ^ k) (half m (mask_l ms)) ∙ mask-drop ms k
+  where
+    next : ℕ.suc k ≡ 1 + k
+    next = omega arith
+
+    half : (b : Bool) (n : ℕ) → (cond b 1 0 + 2 * n) / 2 ^ 1 ≡ n
+    half true n = omega arith
+    half false n = omega arith
+
+-- and so of the bytes behind some
+pub mask-behind : (p : ℕ → Bool) (bytes : List ℕ) (seen count bits : ℕ) → count ≤ seen → bits ≡ mask_l (map p (take seen bytes))
+    → bits / 2 ^ count ≡ mask_l (map p (take (seen - count) (drop count bytes)))
+mask-behind p bytes seen count bits within is =
+    let whole : count + (seen - count) ≡ seen = omega (arith, within) in
+    ap (λ b. b / 2 ^ count) is
+    ∙ mask-drop (map p (take seen bytes)) count
+    ∙ ap mask_l (drop-map p count (take seen bytes))
+    ∙ ap (λ n. mask_l (map p (drop count (take n bytes)))) (sym whole)
+    ∙ ap (λ xs. mask_l (map p xs)) (drop-take count (seen - count) bytes)
+
+-- the bits of some lanes, and of others behind them
+mask-both : (a b : List Bool) → mask_l (a ++ b) ≡ mask_l b * 2 ^ length a + mask_l a
+mask-both [] b = omega arith
+mask-both (m ∷ a) b = omega (arith, mask-both a b, twice)
+  where
+    next : length (m ∷ a) ≡ 1 + length a
+    next = omega arith
+
+    twice : mask_l b * 2 ^ length (m ∷ a) ≡ 2 * (mask_l b * 2 ^ length a)
+    twice = ap (λ n. mask_l b * 2 ^ n) next ∙ ap (λ n. mask_l b * n) (pow-add 2 1 (length a)) ∙ mul_left_comm (mask_l b) 2 (2 ^ length a)
+
+-- so the lower bits are those of the lanes at the front
+pub mask-front : (p : ℕ → Bool) (front more : List ℕ) (count bits : ℕ) → length front ≡ count → bits ≡ mask_l (map p (front ++ more))
+    → bit_and bits (2 ^ count - 1) ≡ mask_l (map p front)
+mask-front p front more count bits long is =
+    let many : length (map p front) ≡ count = length-map front p ∙ long in
+    and_mask bits count
+    ∙ (λ i. is i % 2 ^ sym many i)
+    ∙ ap (λ ms. mask_l ms % 2 ^ length (map p front)) (map-append p front more)
+    ∙ ap (λ n. n % 2 ^ length (map p front)) (mask-both (map p front) (map p more))
+    ∙ mod_low (mask_l (map p more)) (length (map p front)) (mask_l (map p front)) (mask_l-lt (map p front))

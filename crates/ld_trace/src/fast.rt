@@ -1,12 +1,14 @@
 //! Events in their plainest form, read by one pass over the line: those of a lock but `nested`, and those of a state.
 ghost use Rattle.std.specs.Prelude.{◌≡◌, ◌++◌, ◌∷◌, Ok, Some, IfSome};
+ghost use Rattle.std.specs.Bool.{OnTrue};
 ghost use Rattle.ld_trace.specs.Events.{plain_event, plain_lock};
 ghost use Rattle.ld_trace.specs.First.{IsFirstSaid};
+ghost use Rattle.ld_trace.specs.Inner.Front.{AreEnds};
 ghost use Rattle.ld_trace.specs.Inner.Plain.{IsLockLine, spelling_of_state};
 ghost use Rattle.ld_trace.specs.Inner.Reading.{spelling_of_lock_verb, spelling_of_state_verb};
 
 use crate::event::{Event, Lock, LockVerb, State, StateVerb};
-use crate::front::{next_name, next_word};
+use crate::front::{Ends, next_name, next_word};
 
 /// The event of the first line, and what follows that line, where the line is `VERB TASK LOCK` with
 /// one blank between two of them and nothing else before its LF. `None` says nothing: whoever gets it
@@ -16,9 +18,10 @@ pub fn next_event(bytes: &[u8]) -> Option<(Event<'_>, &[u8])>
         IsFirstSaid bytes.now (Ok (Some (plain_event cut.0))) cut.1.now) }
 {
     let (verb, after) = next_verb(bytes)?;
-    let (task, after) = next_word(after)?;
+    let ends = Ends::of(after);
+    let (task, after) = next_word(after, ends)?;
     let after = after.strip_prefix(b" ")?;
-    let (lock, rest) = next_lock(after)?;
+    let (lock, rest) = next_lock(after, ends.behind(task.len() + 1))?;
     let event = match verb {
         LockVerb::Acquire => Event::Acquire { task, lock },
         LockVerb::Try => Event::Try { task, lock },
@@ -29,13 +32,13 @@ pub fn next_event(bytes: &[u8]) -> Option<(Event<'_>, &[u8])>
 
 /// The event of the first line, and what follows that line, where the line is `VERB TASK STATE` in the same form.
 /// `None` says nothing, as that of [`next_event`].
-#[inline(never)]
+#[inline(always)]
 pub fn next_state_event(bytes: &[u8]) -> Option<(Event<'_>, &[u8])>
     ensures { IfSome result (λ cut.
         IsFirstSaid bytes.now (Ok (Some (plain_event cut.0))) cut.1.now) }
 {
     let (verb, after) = next_state_verb(bytes)?;
-    let (task, after) = next_word(after)?;
+    let (task, after) = next_word(after, Ends::of(after))?;
     let after = after.strip_prefix(b" ")?;
     let (state, rest) = next_state(after)?;
     let event = match verb {
@@ -51,9 +54,9 @@ pub fn next_state_event(bytes: &[u8]) -> Option<(Event<'_>, &[u8])>
 fn next_verb(bytes: &[u8]) -> Option<(LockVerb, &[u8])>
     ensures { IfSome result (λ cut. bytes.now ≡ spelling_of_lock_verb cut.0 ++ 32 ∷ cut.1.now) }
 {
-    if let Some(rest) = bytes.strip_prefix(b"acquire ") {
+    if let Some(rest) = behind_eight(bytes, b"acquire ") {
         Some((LockVerb::Acquire, rest))
-    } else if let Some(rest) = bytes.strip_prefix(b"release ") {
+    } else if let Some(rest) = behind_eight(bytes, b"release ") {
         Some((LockVerb::Release, rest))
     } else {
         let rest = bytes.strip_prefix(b"try ")?;
@@ -61,11 +64,32 @@ fn next_verb(bytes: &[u8]) -> Option<(LockVerb, &[u8])>
     }
 }
 
-/// The lock at the front, and what follows the LF after it.
-fn next_lock(bytes: &[u8]) -> Option<(Lock<'_>, &[u8])>
+/// What follows these eight bytes, where they stand at the front.
+#[inline(always)]
+fn behind_eight<'a>(bytes: &'a [u8], eight: &[u8; 8]) -> Option<&'a [u8]>
+    ensures { IfSome result (λ rest. bytes.entry.now ≡ eight.now ++ rest.now) }
+{
+    let (first, rest) = bytes.split_first_chunk()?;
+    if !same_eight(first, eight) {
+        return None;
+    }
+    Some(rest)
+}
+
+/// Whether these eight bytes are the same: they are compared as one number.
+#[inline(always)]
+fn same_eight(a: &[u8; 8], b: &[u8; 8]) -> bool
+    ensures { OnTrue result (a.now ≡ b.now) }
+{
+    u64::from_le_bytes(*a) == u64::from_le_bytes(*b)
+}
+
+/// The lock at the front, and what follows the LF after it, by the ends of names that were seen.
+fn next_lock(bytes: &[u8], ends: Ends) -> Option<(Lock<'_>, &[u8])>
+    requires { AreEnds bytes.now ends }
     ensures { IfSome result (λ cut. IsLockLine bytes.now (plain_lock cut.0) cut.1.now) }
 {
-    let (class, after) = next_name(bytes)?;
+    let (class, after) = next_name(bytes, ends)?;
     if let Some(rest) = after.strip_prefix(b"\n") {
         let lock = Lock {
             class,
@@ -73,7 +97,8 @@ fn next_lock(bytes: &[u8]) -> Option<(Lock<'_>, &[u8])>
         };
         return Some((lock, rest));
     }
-    let (name, after) = next_name(after.strip_prefix(b"@")?)?;
+    let after = after.strip_prefix(b"@")?;
+    let (name, after) = next_name(after, ends.behind(class.len() + 1))?;
     let rest = after.strip_prefix(b"\n")?;
     let lock = Lock {
         class,
@@ -86,15 +111,23 @@ fn next_lock(bytes: &[u8]) -> Option<(Lock<'_>, &[u8])>
 fn next_state_verb(bytes: &[u8]) -> Option<(StateVerb, &[u8])>
     ensures { IfSome result (λ cut. bytes.now ≡ spelling_of_state_verb cut.0 ++ 32 ∷ cut.1.now) }
 {
-    if let Some(rest) = bytes.strip_prefix(b"enter ") {
-        Some((StateVerb::Enter, rest))
-    } else if let Some(rest) = bytes.strip_prefix(b"exit ") {
-        Some((StateVerb::Exit, rest))
-    } else if let Some(rest) = bytes.strip_prefix(b"enable ") {
-        Some((StateVerb::Enable, rest))
-    } else {
-        let rest = bytes.strip_prefix(b"disable ")?;
-        Some((StateVerb::Disable, rest))
+    match bytes {
+        [_, b'n', b't', ..] => {
+            let rest = bytes.strip_prefix(b"enter ")?;
+            Some((StateVerb::Enter, rest))
+        }
+        [_, b'x', ..] => {
+            let rest = bytes.strip_prefix(b"exit ")?;
+            Some((StateVerb::Exit, rest))
+        }
+        [_, b'n', ..] => {
+            let rest = bytes.strip_prefix(b"enable ")?;
+            Some((StateVerb::Enable, rest))
+        }
+        _ => {
+            let rest = bytes.strip_prefix(b"disable ")?;
+            Some((StateVerb::Disable, rest))
+        }
     }
 }
 

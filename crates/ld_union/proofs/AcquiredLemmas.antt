@@ -15,13 +15,6 @@ pub record AreOfKind (classes : List PlainClass) (numbers : List ℕ) (kind : �
   pub rising : AreRising (name_at classes found) (length found)
 
 module _ (classes : List PlainClass) (numbers : List ℕ) (kind : ℕ → Type 0) where
-  pub AreOfKind-none : AreOfKind classes numbers kind 0 []
-  AreOfKind-none = record {
-    each = λ j l. absurd (omega (arith, l));
-    all = λ k l. absurd (omega (arith, l));
-    rising = λ i j less l. absurd (omega (arith, l));
-  }
-
   module _ (count : ℕ) (found : List ℕ) (are : AreOfKind classes numbers kind count found) where
     pub AreOfKind-other : ¬ kind (class_at numbers count) → AreOfKind classes numbers kind (count + 1) found
     AreOfKind-other other = record {
@@ -91,6 +84,5 @@ module _ (classes : List PlainClass) (numbers : List ℕ) (kind : ℕ → Type 0
         back : (c < length classes) × kind c → Contains found c
         back h =
             let there = order.every c h.0 in
-            let l = there.1 in
-            let at : class_at numbers there.0 ≡ c = get_or_default numbers there.0 0 c l ∙ there.2 in
-            subst (Contains found) at (are.all there.0 (omega (arith, l, past)) (subst kind (sym at) h.1))
+            let l = there.0 in
+            subst (Contains found) there.1 (are.all (class_at places c) (omega (arith, l, past)) (subst kind (sym there.1) h.1))

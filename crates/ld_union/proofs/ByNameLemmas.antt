@@ -11,8 +11,8 @@ use Rattle.ld_class.specs.declared.class_name.ClassName.{ClassName}
 use Rattle.ld_class.specs.Names.{AreDistinct, IsNameAt, PlainClass, plain_class}
 use Rattle.ld_graph.specs.Edges.{ComesBefore}
 use Rattle.ld_union.specs.Findings.{IsBefore}
-use Rattle.ld_union.specs.Inner.ByName.{AreByName, class_name}
-use Rattle.ld_union.proofs.NameOrderLemmas.{before_from_less, class_cmp, class_cmp-Decides, class_cmp_total, not_before_both, not_before_itself}
+use Rattle.ld_union.specs.Inner.ByName.{AreByName, AreRising, class_at, class_cmp, class_name, name_at}
+use Rattle.ld_union.proofs.NameOrderLemmas.{before_from_less, class_cmp-Decides, class_cmp_total, less_from_before, not_before_both, not_before_itself}
 use Rattle.ld_union.proofs.SortedLemmas.{rising}
 
 module _ (classes : List PlainClass) (numbers places : List ℕ) (is : AreByName classes numbers places) where
@@ -20,26 +20,22 @@ module _ (classes : List PlainClass) (numbers places : List ℕ) (is : AreByName
   abbrev place_in_order : ℕ → ℕ
   place_in_order c = get_or places c 0
 
-  -- the class stands at its place
-  at_place : (c : ℕ) → c < length classes → (place_in_order c < length numbers) × (get_or numbers (place_in_order c) 0 ≡ c)
-  at_place c within =
-      let there = is.every c within in
-      let number : get_or numbers there.0 0 ≡ c = get_or_default numbers there.0 0 c there.1 ∙ there.2 in
-      let place : place_in_order c ≡ there.0 = ap place_in_order (sym number) ∙ is.place there.0 there.1 in
-      (subst (λ k. k < length numbers) (sym place) there.1, ap (λ k. get_or numbers k 0) place ∙ number)
+  -- the names come one after the other
+  pub names-rise : AreRising (name_at classes numbers) (length numbers)
+  names-rise i j lower below = before_from_less (name_at classes numbers i) (name_at classes numbers j) (is.rising i j lower below)
 
   -- two classes have two places
   pub place-once : (c d : ℕ) → c < length classes → d < length classes → place_in_order c ≡ place_in_order d → c ≡ d
   place-once c d at_c at_d same =
-      sym (at_place c at_c).1 ∙ ap (λ k. get_or numbers k 0) same ∙ (at_place d at_d).1
+      sym (is.every c at_c).1 ∙ ap (λ k. get_or numbers k 0) same ∙ (is.every d at_d).1
 
   -- the class whose place is first has the name that comes first
   pub before_from_place : (c d : ℕ) → c < length classes → d < length classes → place_in_order c < place_in_order d → IsBefore (class_name classes c) (class_name classes d)
   before_from_place c d at_c at_d lower =
-      let p = at_place c at_c in
-      let q = at_place d at_d in
+      let p = is.every c at_c in
+      let q = is.every d at_d in
       subst (λ k. IsBefore (class_name classes k) (class_name classes d)) p.1
-      (subst (λ k. IsBefore (class_name classes (get_or numbers (place_in_order c) 0)) (class_name classes k)) q.1 (is.rising (place_in_order c) (place_in_order d) lower q.0))
+      (subst (λ k. IsBefore (class_name classes (get_or numbers (place_in_order c) 0)) (class_name classes k)) q.1 (names-rise (place_in_order c) (place_in_order d) lower q.0))
 
   -- and the other way round
   pub place_from_before : (c d : ℕ) → c < length classes → d < length classes → IsBefore (class_name classes c) (class_name classes d) → place_in_order c < place_in_order d
@@ -62,8 +58,28 @@ apart_from_rising classes numbers rising i j d lower within same =
     let equal : get_or numbers i 0 ≡ get_or numbers j 0 = get_or_default numbers i 0 d at_i ∙ same ∙ get_or_default numbers j d 0 within in
     not_before_itself (class_name classes (get_or numbers j 0)) (subst (λ k. IsBefore (class_name classes k) (class_name classes (get_or numbers j 0))) equal (rising i j lower within))
 
+-- the order by numbers whose names rise, and places of these
+pub by_name : (classes : List PlainClass) (numbers places : List ℕ) → length numbers ≡ length classes → All (λ c. c < length classes) numbers
+    → ((c : ℕ) → c < length classes → Contains numbers c) → AreRising (name_at classes numbers) (length numbers)
+    → length places ≡ length classes → ((i : ℕ) → i < length numbers → class_at places (class_at numbers i) ≡ i) → AreByName classes numbers places
+by_name classes numbers places count within every rising placed place = record {
+  count = count;
+  within = within;
+  rising = λ i j lower below. less_from_before (name_at classes numbers i) (name_at classes numbers j) (rising i j lower below);
+  placed = placed;
+  place = place;
+  every = back;
+}
+  where
+    back : (c : ℕ) → c < length classes → (class_at places c < length numbers) × (class_at numbers (class_at places c) ≡ c)
+    back c inside =
+        let there = every c inside in
+        let number : class_at numbers there.0 ≡ c = get_or_default numbers there.0 0 c there.1 ∙ there.2 in
+        let at : class_at places c ≡ there.0 = ap (class_at places) (sym number) ∙ place there.0 there.1 in
+        (subst (λ k. k < length numbers) (sym at) there.1, ap (class_at numbers) at ∙ number)
+
 -- an element of a list that has one
-element : {X : Type 0} (xs : List X) (k : ℕ) → k < length xs → X
+pub element : {X : Type 0} (xs : List X) (k : ℕ) → k < length xs → X
 element [] k within = absurd (omega (arith, within))
 element (x ∷ xs) k within = x
 

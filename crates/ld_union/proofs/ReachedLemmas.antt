@@ -190,16 +190,15 @@ reach-kept classes edges usage state old new is once exact = record { once = onc
 -- a union whose graph and reaches got other spares
 pub union-kept : {classes : List PlainClass} {graph : PlainGraph} {rows : List Witnessed} {usage : List UsageRow}
     {closing : Option Edge} {reach : PerState PlainReach} {spare_classes spare_edges : ℕ} (more : PerState PlainReach)
-    → IsUnion classes graph rows usage closing reach → HaveClasses graph.classes more → StayExact (edges_of rows) (edges_of rows) reach more
+    → IsUnion classes graph rows usage closing reach → (count : ℕ) → count ≡ graph.classes → HaveClasses count more → StayExact (edges_of rows) (edges_of rows) reach more
     → IsUnion classes (with_spares graph spare_classes spare_edges) rows usage closing more
-union-kept {classes} {graph} {rows} {usage} {closing} {reach} more is once exact = record {
+union-kept {classes} {graph} {rows} {usage} {closing} {reach} more is count same once exact = record {
   numbered = is.numbered;
   few = is.few;
   count = is.count;
-  edges = is.edges;
   rows = is.rows;
   closing = is.closing;
-  reached = λ state. reach-kept (length classes) (edges_of rows) (bits_of usage) state (of_state reach state) (of_state more state) (is.reached state) (subst (λ n. ExpandsOnce n (of_state more state)) is.count (once state)) (exact state);
+  reached = λ state. reach-kept (length classes) (edges_of rows) (bits_of usage) state (of_state reach state) (of_state more state) (is.reached state) (subst (λ n. ExpandsOnce n (of_state more state)) (same ∙ is.count) (once state)) (exact state);
 }
 
 module _ (classes : ℕ) (edges : List Edge) (usage : List Usage) (state : State) (reach : PlainReach) (is : IsReachOf classes edges usage state reach) where

@@ -15,7 +15,8 @@ use Rattle.ld_trace.specs.Sources.{PlainSource}
 use Rattle.ld_union.specs.Findings.{IsPairBefore, PlainForbiddenRow, forbidden_key}
 use Rattle.ld_union.specs.Inner.Rows.{AreForbiddenRowsOf, AreTurnedRows, IsRowIn, turned_key}
 use Rattle.ld_union.specs.Violations.{IsForbidden}
-use Rattle.ld_union.proofs.NameOrderLemmas.{before_from_less, class_cmp, class_cmp_total, not_before_itself, same_from_equal}
+use Rattle.ld_union.specs.Inner.ByName.{class_cmp}
+use Rattle.ld_union.proofs.NameOrderLemmas.{before_from_less, class_cmp_total, not_before_itself, same_from_equal}
 
 AllPairs-map : {X Y : Type 0} (R : Y → Y → Type 0) (f : X → Y) (xs : List X) → AllPairs (λ x y. R (f x) (f y)) xs → AllPairs R (map f xs)
 AllPairs-map R f [] all i j d before within = absurd (omega (arith, within))
@@ -31,7 +32,7 @@ AllPairs-from_map R f xs all i j d before within =
     subst (λ a. R a (f (get_or xs j d))) (get_or-map f xs i d (f d) at_i)
     (subst (λ b. R (get_or (map f xs) i (f d)) b) (get_or-map f xs j d (f d) within) (all i j (f d) before (subst (λ n. j < n) (sym (length-map xs f)) within)))
 
-Any-permutation : {X : Type 0} (P : X → Type 0) (xs ys : List X) → IsPermutation xs ys → Any P xs → Any P ys
+pub Any-permutation : {X : Type 0} (P : X → Type 0) (xs ys : List X) → IsPermutation xs ys → Any P xs → Any P ys
 Any-permutation P xs ys moved h =
     let there = Contains-permutation xs ys h.1 moved (h.0, h.2, h.3) in
     (there.0, h.1, there.1, there.2, h.4)
@@ -68,7 +69,7 @@ module _ {Key : Type 0} (cmp : Key → Key → Ordering) (total : IsTotalOrder c
 abbrev pub pair_cmp : PlainClass × PlainClass → PlainClass × PlainClass → Ordering
 pair_cmp p q = ordering_then (class_cmp p.0 q.0) (class_cmp p.1 q.1)
 
-pair_cmp_total : IsTotalOrder pair_cmp
+pub pair_cmp_total : IsTotalOrder pair_cmp
 pair_cmp_total = then_total (on_total (λ p. p.0) class_cmp_total) (on_total (λ p. p.1) class_cmp_total)
 
 same_pair : (p q : PlainClass × PlainClass) → is_eq (pair_cmp p q) ≡ true → p ≡ q
@@ -81,10 +82,10 @@ same_pair p q is = by (class_cmp p.0 q.0) (class_cmp p.1 q.1) refl refl is
     by Equal Greater first second h = absurd (true≢false (sym h))
     by Equal Equal first second h = λ i. (same_from_equal p.0 q.0 first i, same_from_equal p.1 q.1 second i)
 
-pair_cmp-Decides : (p q : PlainClass × PlainClass) → Decides (is_eq (pair_cmp p q)) (p ≡ q)
+pub pair_cmp-Decides : (p q : PlainClass × PlainClass) → Decides (is_eq (pair_cmp p q)) (p ≡ q)
 pair_cmp-Decides p q = (same_pair p q, λ same. subst (λ r. is_eq (pair_cmp p r) ≡ true) same (ap is_eq (tied_itself pair_cmp_total p)))
 
-pair_before_from_less : (p q : PlainClass × PlainClass) → pair_cmp p q ≡ Less → IsPairBefore p q
+pub pair_before_from_less : (p q : PlainClass × PlainClass) → pair_cmp p q ≡ Less → IsPairBefore p q
 pair_before_from_less p q is = by (class_cmp p.0 q.0) refl is
   where
     by : (r : Ordering) → class_cmp p.0 q.0 ≡ r → ordering_then r (class_cmp p.1 q.1) ≡ Less → IsPairBefore p q

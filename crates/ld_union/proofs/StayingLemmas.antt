@@ -3,24 +3,14 @@ use Rattle.std.proofs.Common.{◌≡◌, ◌≢◌, ◌⊎◌, inl, inr, ◌+◌
 use Rattle.std.proofs.Common.{map, arith, ap, length, nat_cmp, nat_eq, subst, sym}
 use Rattle.std.specs.List.{IsDistinct}
 use Rattle.std.proofs.lemmas.Bool.{cases_eq, cases_lt, eq-eqb, true≢false}
-use Rattle.std.proofs.lemmas.List.{get_or-map, get_or_default, length-map}
+use Rattle.std.proofs.lemmas.List.{get_or-map, length-map}
 use Rattle.std.proofs.lemmas.List.Elements.{Contains-append_left, Contains-get_or, Contains-push, Contains-push_cases}
 use Rattle.std.proofs.lemmas.List.Sorted.{IsNonDecreasingBy-from_sort}
 use Rattle.std.proofs.lemmas.Map.Keys.{IsDistinct-IsPermutation, apart_from_distinct}
 use Rattle.ld_class.specs.Names.{PlainClass}
 use Rattle.ld_graph.proofs.OnceLemmas.{IsDistinct-none, IsDistinct-one_more}
 use Rattle.ld_union.specs.Findings.{IsBefore}
-use Rattle.ld_union.specs.Inner.ByName.{AreByName, AreRising, class_at, class_name, name_at}
-
--- a class stands at its place
-pub place_back : (classes : List PlainClass) (numbers places : List ℕ) → AreByName classes numbers places → (c : ℕ) → c < length classes
-    → (class_at places c < length numbers) × (class_at numbers (class_at places c) ≡ c)
-place_back classes numbers places order c within =
-    let there = order.every c within in
-    let b = there.1 in
-    let at : class_at numbers there.0 ≡ c = get_or_default numbers there.0 0 c b ∙ there.2 in
-    let place : class_at places c ≡ there.0 = sym (ap (class_at places) at) ∙ order.place there.0 b in
-    (subst (λ n. n < length numbers) (sym place) b, ap (class_at numbers) place ∙ at)
+use Rattle.ld_union.specs.Inner.ByName.{AreRising, class_at, class_name, name_at}
 
 -- the places of those of the first so many successors whose component is this one
 pub record AreStaying (near components places : List ℕ) (component count : ℕ) (found : List ℕ) : Type 0 where

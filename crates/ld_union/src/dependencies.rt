@@ -46,6 +46,8 @@ pub(crate) struct Dependencies {
     pub(crate) closing: Option<Edge>,
     /// For each state what classes with the bit that its handlers acquire them lead to.
     pub(crate) reach: PerState<Reach>,
+    ghost numbered: { graph.edges ≡ edges_of rows.items },
+    ghost counted: { HaveClasses graph.classes reach },
 }
 
 impl Dependencies {
@@ -71,7 +73,6 @@ impl Dependencies {
     /// `AllocError` where memory was refused. Nothing has changed in either case but spares.
     pub(crate) fn room(&mut self, classes: usize, edges: usize) -> Result<(), AllocError>
         requires classes { self.old.graph.classes + classes ≤ MOST_GRAPH_CLASSES }
-        requires reach { HaveClasses self.old.graph.classes self.old.reach }
         ensures graph { self.new.graph
             ≡ with_spares self.old.graph self.new.graph.spare_classes self.new.graph.spare_edges }
         ensures rows { self.new.rows.items ≡ self.old.rows.items }
@@ -84,7 +85,6 @@ impl Dependencies {
             ≡ record self.old.reach.hard { spare = self.new.reach.hard.spare } }
         ensures soft { self.new.reach.soft
             ≡ record self.old.reach.soft { spare = self.new.reach.soft.spare } }
-        ensures reach { HaveClasses self.old.graph.classes self.new.reach }
         ensures spare_hard { OnOk result (classes ≤ self.new.reach.hard.spare) }
         ensures spare_soft { OnOk result (classes ≤ self.new.reach.soft.spare) }
         ensures exact { (edges : List Edge)
@@ -99,7 +99,6 @@ impl Dependencies {
     pub(crate) fn enter_classes(&mut self, count: usize)
         requires fewer { self.old.graph.classes ≤ count }
         requires room { count ≤ self.old.graph.classes + self.old.graph.spare_classes }
-        requires reach { HaveClasses self.old.graph.classes self.old.reach }
         requires hard { count ≤ self.old.graph.classes + self.old.reach.hard.spare }
         requires soft { count ≤ self.old.graph.classes + self.old.reach.soft.spare }
         ensures count { self.new.graph.classes ≡ count }
@@ -107,7 +106,6 @@ impl Dependencies {
         ensures room { self.new.graph.spare_edges ≡ self.old.graph.spare_edges }
         ensures rows { self.new.rows ≡ self.old.rows }
         ensures closing { self.new.closing ≡ self.old.closing }
-        ensures reach { HaveClasses count self.new.reach }
         ensures further { AreFurther self.old.reach self.new.reach }
         ensures exact { (edges : List Edge)
             → StayExact edges edges self.old.reach self.new.reach }
@@ -121,19 +119,15 @@ impl Dependencies {
     /// Notes the dependencies of a batch whose classes have these numbers, each where it was seen
     /// first.
     pub(crate) fn add(&mut self, batch: &Shown<'_, '_>, places: &[u32], guesses: &mut Guesses)
-        requires edges { self.old.graph.edges ≡ edges_of self.old.rows.items }
         requires count { length places.now ≡ length batch.now.classes }
         requires within { All (λ place. place < self.old.graph.classes) places.now }
-        requires reach { HaveClasses self.old.graph.classes self.old.reach }
         requires spare_edges { length batch.now.edges ≤ self.old.graph.spare_edges }
         requires spare_rows { vec_len self.old.rows + length batch.now.edges
             ≤ vec_capacity self.old.rows }
         ensures known { IsBatch batch.now }
         ensures classes { self.new.graph.classes ≡ self.old.graph.classes }
-        ensures edges { self.new.graph.edges ≡ edges_of self.new.rows.items }
         ensures front { take (length self.old.rows.items) (edges_of self.new.rows.items)
             ≡ edges_of self.old.rows.items }
-        ensures reach { HaveClasses self.new.graph.classes self.new.reach }
         ensures further { AreFurther self.old.reach self.new.reach }
         ensures exact { StayExact (edges_of self.old.rows.items) (edges_of self.new.rows.items)
             self.old.reach self.new.reach }
@@ -168,20 +162,16 @@ impl Dependencies {
     /// Notes that the dependency was seen there, unless it was seen earlier, and answers its number. It may
     /// be at the place that is guessed.
     fn note(&mut self, edge: Edge, witness: Witness, guess: usize) -> usize
-        requires edges { self.old.graph.edges ≡ edges_of self.old.rows.items }
         requires from { edge.from < self.old.graph.classes }
         requires to { edge.to < self.old.graph.classes }
-        requires reach { HaveClasses self.old.graph.classes self.old.reach }
         requires spare_edges { 0 < self.old.graph.spare_edges }
         requires spare_rows { vec_len self.old.rows < vec_capacity self.old.rows }
         ensures classes { self.new.graph.classes ≡ self.old.graph.classes }
-        ensures edges { self.new.graph.edges ≡ edges_of self.new.rows.items }
         ensures spare_edges { self.old.graph.spare_edges ≤ self.new.graph.spare_edges + 1 }
         ensures spare_rows { (n : ℕ) → vec_len self.old.rows + (n + 1) ≤ vec_capacity self.old.rows
             → vec_len self.new.rows + n ≤ vec_capacity self.new.rows }
         ensures front { (n : ℕ) → n ≤ length self.old.rows.items
             → take n (edges_of self.new.rows.items) ≡ take n (edges_of self.old.rows.items) }
-        ensures reach { HaveClasses self.new.graph.classes self.new.reach }
         ensures further { AreFurther self.old.reach self.new.reach }
         ensures exact { StayExact (edges_of self.old.rows.items) (edges_of self.new.rows.items)
             self.old.reach self.new.reach }
@@ -219,7 +209,6 @@ impl Dependencies {
 
     /// The number of the edge, or `None` where there is no such edge. It is looked for at the guess first.
     fn number(&self, edge: Edge, guess: usize) -> Option<u64>
-        requires { self.now.graph.edges ≡ edges_of self.now.rows.items }
         ensures { MatchOption result (¬ IsEdge self.now.graph.edges edge.from edge.to)
             (IsEdgeNumber self.now.graph.edges edge.from edge.to) }
     {
@@ -231,13 +220,11 @@ impl Dependencies {
 
     /// Makes each class a seed of the state of which it got the bit that handlers acquire it.
     pub(crate) fn seed_all(&mut self, bits: &[NewBit])
-        requires reach { HaveClasses self.old.graph.classes self.old.reach }
         requires within { All (λ told. told.class < self.old.graph.classes) bits.now }
         requires one { All (λ told. IsBit told.bit) bits.now }
         ensures graph { self.new.graph ≡ self.old.graph }
         ensures rows { self.new.rows ≡ self.old.rows }
         ensures closing { self.new.closing ≡ self.old.closing }
-        ensures reach { HaveClasses self.old.graph.classes self.new.reach }
         ensures further { AreFurther self.old.reach self.new.reach }
         ensures exact { (state : State) (seeds : List ℕ)
             → IsReach (IsEdge self.old.graph.edges) seeds (of_state self.old.reach state)

@@ -9,6 +9,7 @@ ghost use Rattle.ld_union.specs.Inner.Union.{Shows};
 mod conflicts;
 mod cycles;
 mod forbidden;
+mod indexed;
 mod used;
 mod walks;
 
@@ -17,6 +18,7 @@ use crate::by_name::ByName;
 use crate::findings::conflicts::conflict_rows;
 use crate::findings::cycles::cycle_rows;
 use crate::findings::forbidden::forbidden_rows;
+use crate::findings::indexed::Indexed;
 use crate::rows::Rows;
 use crate::union::Union;
 pub use conflicts::ConflictRow;
@@ -59,9 +61,13 @@ pub fn findings_of<'a>(
         });
     }
     let order = ByName::new(alloc, union.classes())?;
-    let cycles = cycle_rows(alloc, union, &order, found)?;
-    let conflicts = conflict_rows(alloc, union, &order)?;
-    let forbidden = forbidden_rows(alloc, union, &order, found)?;
+    let indexed = Indexed {
+        union,
+        order: &order,
+    };
+    let cycles = cycle_rows(alloc, indexed, found)?;
+    let conflicts = conflict_rows(alloc, indexed)?;
+    let forbidden = forbidden_rows(alloc, indexed, found)?;
     Ok(Findings {
         cycles: Rows::from(cycles),
         conflicts: Rows::from(conflicts),

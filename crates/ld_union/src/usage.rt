@@ -121,8 +121,6 @@ fn note_use(rows: &mut [UsageRow], shown: NewBit, witness: Witness, bits: &mut V
         → TellsBits before (bits_of rows.new) bits.new.items }
 {
     if rows[shown.class as usize].note(shown.bit, witness) {
-        let Ok(()) = bits.push(shown) else {
-            unreachable!()
-        };
+        bits.push_reserved(shown);
     }
 }

@@ -8,7 +8,6 @@ use Rattle.ld_rules.specs.Inner.Scanned.{same_dependency_seen, same_use_seen, wi
 use Rattle.ld_rules.specs.Union.{classes_of, dependencies_of, uses_of}
 use Rattle.ld_facts.specs.declared.scan.Scan.{Scan}
 use Rattle.ld_facts.specs.Named as scans
-use Rattle.ld_facts.specs.Inner.Scan as scanned
 use Rattle.ld_facts.specs.Inner.Scan.{IsAt, begun, names_at, start_of}
 use Rattle.ld_facts.specs.declared.bounds.TheConstants.{MOST_KNOWN}
 use Rattle.ld_shown.specs.declared.rows.WitnessedEdge.{WitnessedEdge}
@@ -66,7 +65,7 @@ pub record IsRead (old : Scan) (source : PlainSource) (new : Scan) : Type 0 wher
   pub distinct : AreDistinct new.classes
   pub edges : (start_of new).edges
       ≡ fold (with_new same_dependency_seen) (start_of old).edges (dependencies_of source)
-  pub within : All (scanned.IsBetween new.classes) new.locks.edges
+  pub within : All (scans.IsBetween new.classes) new.locks.edges
   pub uses : (start_of new).uses
       ≡ fold (with_new same_use_seen) (start_of old).uses (uses_of source)
   pub used : All (scans.IsUse new.classes) new.uses

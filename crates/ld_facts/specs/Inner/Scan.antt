@@ -1,6 +1,6 @@
 -- What the scan of a trace keeps, against what it had when the trace began and the positions so far. No
 -- promise cites this file.
-use Rattle.std.specs.Prelude.{◌≡◌, ◌<◌, ◌≤◌, ◌+◌, ℕ, Bool, None, Ok, List, [], ◌∷◌, ◌++◌}
+use Rattle.std.specs.Prelude.{◌≡◌, ◌<◌, ◌≤◌, ◌+◌, ℕ, Bool, None, Some, Result, Ok, Err, List, [], ◌∷◌, ◌++◌}
 use Rattle.std.specs.Prelude.{All, drop, fold, map, length, slice_index_or, slice_set, take}
 use Rattle.ld_class.specs.Names.{AreDistinct, IsTaskAt, PlainClass, no_class, place_of_task}
 use Rattle.ld_class.specs.Names.{with_name, with_task}
@@ -8,21 +8,23 @@ use Rattle.ld_class.specs.declared.names.TheConstants.{MOST_NAMES}
 use Rattle.ld_trace.specs.declared.event.State.{State}
 use Rattle.ld_trace.specs.Events.{PlainEvent, PlainLock, Position}
 use Rattle.ld_trace.specs.Events.PlainEvent.{Acquire, Try, Nested}
-use Rattle.ld_tables.specs.declared.edges.EdgeFact.{EdgeFact}
 use Rattle.ld_rules.specs.declared.outcome.TheConstants.{MOST_CLASSES, MOST_HELD, MOST_TASKS}
 use Rattle.ld_tables.specs.declared.interrupts.Interrupts.{Interrupts}
 use Rattle.ld_facts.specs.declared.scan.Scan.{Scan}
+use Rattle.ld_facts.specs.declared.stop.Stop.{Stop}
+use Rattle.ld_facts.specs.declared.stop.Stop.TheVariants.{Fault}
 use Rattle.ld_facts.specs.declared.taking.Taking.{Taking}
 use Rattle.ld_facts.specs.declared.taking.Taking.TheVariants.{Nesting, Trying, Waiting}
 use Rattle.ld_tables.specs.Inner.Edges.{edge_to, with_edge_fact}
 use Rattle.ld_tables.specs.Inner.Interrupts.{fresh, levels_of, start_now, starts_of, states_of}
 use Rattle.ld_rules.specs.Inner.Levels.{levels, starts, states}
-use Rattle.ld_facts.specs.Named.{IsUse, named_dependency, named_use}
+use Rattle.ld_facts.specs.Named.{IsBetween, IsUse, named_dependency, named_use}
 use Rattle.ld_tables.specs.Inner.Uses.{in_facts, on_facts, with_use}
 use Rattle.ld_rules.specs.Usage.{uses_at}
 use Rattle.ld_rules.specs.Held.{Acquisition, class_with, held_by, may_wait, sub_taken}
 use Rattle.ld_tables.specs.Inner.Locks.{Hold}
-use Rattle.ld_rules.specs.Outcome.{classes, events, faulty_lines, tasks}
+use Rattle.ld_rules.specs.declared.fault.TraceFault.{TraceFault}
+use Rattle.ld_rules.specs.Outcome.{classes, event_fault, events, faulty_lines, tasks}
 use Rattle.ld_rules.specs.Dependency.{Dependency, Seen, dependencies_at, seen}
 use Rattle.ld_rules.specs.Usage.{Use}
 use Rattle.ld_rules.specs.Inner.Scanned.{same_dependency_seen, same_use_seen, with_new}
@@ -55,10 +57,6 @@ names_at names numbers = map (λ n. slice_index_or names n no_class) numbers
 -- the trace's own classes
 abbrev pub own_names : Scan → List PlainClass
 own_names scan = names_at scan.classes scan.own
-
--- the numbers of a dependency's classes are numbers of classes
-abbrev pub IsBetween : List PlainClass → EdgeFact → Type 0
-IsBetween classes edge = (edge.from < length classes) × (edge.to < length classes)
 
 -- a lock that is held, and the class by which it was acquired
 pub record HeldLock : Type 0 where
@@ -111,6 +109,23 @@ pub record IsAt (start : Start) (all : List Position) (scan : Scan) : Type 0 whe
   pub within : All (IsBetween scan.classes) scan.locks.edges
   pub uses : map (named_use scan.classes) scan.uses ≡ uses_after start all
   pub used : All (IsUse scan.classes) scan.uses
+
+-- the position of an event at this line
+abbrev pub happens : ℕ → PlainEvent → Position
+happens line event = record { line = line; says = Ok event }
+
+-- wherever the old scan was, the new one is one event further, which stands at this line
+abbrev pub IsStep : Scan → ℕ → PlainEvent → Scan → Type 0
+IsStep old line event new =
+    (start : Start) (all : List Position) → IsAt start all old
+    → IsAt start (all ++ happens line event ∷ []) new
+
+-- a fault that is answered is that of the event, wherever the old scan was
+abbrev pub IsItsFault : {A : Type 0} → Scan → PlainEvent → Result A Stop → Type 0
+IsItsFault old event answer =
+    (fault : TraceFault) → answer ≡ Err (Fault fault)
+    → (start : Start) (all : List Position) → IsAt start all old
+    → event_fault (events all) event ≡ Some fault
 
 -- a scan before the first trace, which knows these names already
 abbrev pub fresh_scan : List PlainClass → Scan
@@ -170,10 +185,6 @@ pub record HasTask (old : Scan) (name : List ℕ) (id : ℕ) (new : Scan) : Type
       → slice_index_or new.locks.interrupts k fresh ≡ slice_index_or old.locks.interrupts k fresh
   pub edges : new.locks.edges ≡ old.locks.edges
   pub uses : new.uses ≡ old.uses
-
--- the position of an event at this line
-abbrev pub happens : ℕ → PlainEvent → Position
-happens line event = record { line = line; says = Ok event }
 
 -- an acquisition by this way of taking a lock
 abbrev pub acquisition : Taking → List ℕ → PlainLock → PlainEvent

@@ -90,15 +90,14 @@ IsCycleAt edges e = graphs.IsEdge edges e.from e.to × HasWalk (graphs.IsEdge ed
 abbrev pub IsCycleEdge : List Edge → Option Edge → Type 0
 IsCycleEdge edges closing = MatchOption closing (¬ ((e : Edge) × IsCycleAt edges e)) (IsCycleAt edges)
 
--- What a union keeps true of its fields: there aren't too many classes, the graph has them and the edges, each
--- class has a row of usage, an edge on a cycle is noted where there is one, and for each state it is known what
+-- What a union keeps true of its fields, beside what its dependencies do: there aren't too many classes, the graph has
+-- them, each class has a row of usage, an edge on a cycle is noted where there is one, and for each state it is known what
 -- is reached.
 pub record IsUnion (classes : List PlainClass) (graph : graphs.PlainGraph) (dependencies : List Witnessed)
     (usage : List UsageRow) (closed_by : Option Edge) (reach : PerState PlainReach) : Type 0 where
   pub numbered : AreBetween classes dependencies
   pub few : length classes ≤ MOST_NAMES
   pub count : graph.classes ≡ length classes
-  pub edges : graph.edges ≡ edges_of dependencies
   pub rows : length usage ≡ length classes
   pub closing : IsCycleEdge (edges_of dependencies) closed_by
   pub reached : (state : State) → IsReachOf (length classes) (edges_of dependencies) (bits_of usage) state (of_state reach state)

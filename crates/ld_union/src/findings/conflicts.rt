@@ -3,13 +3,13 @@ ghost use Rattle.std.specs.Prelude.{◌≡◌, ◌<◌, IfOk, List, MatchOption,
 ghost use Rattle.ld_trace.specs.Sources.{PlainSource};
 ghost use Rattle.ld_rules.specs.Union.{use_witness};
 ghost use Rattle.ld_union.specs.Findings.{AreConflictRows, plain_conflict_row};
-ghost use Rattle.ld_union.specs.Inner.ByName.{AreByName, class_name};
+ghost use Rattle.ld_union.specs.Inner.ByName.{class_name};
 ghost use Rattle.ld_union.specs.Inner.Rows.{AreConflictRowsOf, IsConflictRowOf};
 ghost use Rattle.ld_union.specs.Inner.Union.{Shows};
 ghost use Rattle.ld_union.specs.Violations.{IsConflict};
 
 use crate::alarms::{in_bit, on_bit};
-use crate::by_name::ByName;
+use crate::findings::indexed::Indexed;
 use crate::findings::used::noted;
 use crate::union::Union;
 use ld_class::ClassName;
@@ -35,16 +35,14 @@ pub struct ConflictRow<'a> {
 /// The conflicts, by state, then by the name of the class.
 pub(crate) fn conflict_rows<'a>(
     alloc: Global,
-    union: &Union<'a>,
-    order: &ByName,
+    indexed: Indexed<'_, 'a>,
 ) -> Result<Vec<ConflictRow<'a>>, AllocError>
-    requires order { AreByName union.now.classes order.now.numbers.items order.now.places.items }
     ensures { IfOk result (λ rows. (sources : List PlainSource)
-        → Shows sources union.now
+        → Shows sources indexed.entry.union.now
         → AreConflictRows sources (map plain_conflict_row rows.items)) }
 {
-    let mut rows = conflicts_of(alloc, union, order, State::Hard)?;
-    let mut soft = conflicts_of(alloc, union, order, State::Soft)?;
+    let mut rows = conflicts_of(alloc, indexed, State::Hard)?;
+    let mut soft = conflicts_of(alloc, indexed, State::Soft)?;
     rows.append(&mut soft)?;
     Ok(rows)
 }
@@ -52,18 +50,16 @@ pub(crate) fn conflict_rows<'a>(
 /// The conflicts of a state, by the name of the class.
 fn conflicts_of<'a>(
     alloc: Global,
-    union: &Union<'a>,
-    order: &ByName,
+    indexed: Indexed<'_, 'a>,
     state: State,
 ) -> Result<Vec<ConflictRow<'a>>, AllocError>
-    requires order { AreByName union.now.classes order.now.numbers.items order.now.places.items }
     ensures { IfOk result (λ rows. (sources : List PlainSource)
-        → Shows sources union.now
+        → Shows sources indexed.entry.union.now
         → AreConflictRowsOf sources (λ p. p.0 ≡ state) (map plain_conflict_row rows.items)) }
 {
     let mut rows = Vec::new(alloc);
-    for class in &order.numbers {
-        if let Some(row) = conflict_row(union, *class, state) {
+    for class in &indexed.order.numbers {
+        if let Some(row) = conflict_row(indexed.union, *class, state) {
             rows.push(row)?;
         }
     }

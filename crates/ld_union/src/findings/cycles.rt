@@ -3,13 +3,13 @@ ghost use Rattle.std.specs.Prelude.{◌≡◌, ◌↔◌, ◌<◌, ℕ, Contains
 ghost use Rattle.ld_trace.specs.Sources.{PlainSource};
 ghost use Rattle.ld_rules.specs.Union.{dependency_witness};
 ghost use Rattle.ld_union.specs.Findings.{AreCycleRows, plain_cycle_row};
-ghost use Rattle.ld_union.specs.Inner.ByName.{AreByName, AreRising, class_at, class_name, name_at};
+ghost use Rattle.ld_union.specs.Inner.ByName.{AreRising, class_at, class_name, name_at};
 ghost use Rattle.ld_union.specs.Inner.Rows.{AreComponentsOf, AreCycleRowsOf, AreEnoughFrom, IsBackEdge, IsBackPlace, IsCycleRowOf, IsOfEach};
 ghost use Rattle.ld_union.specs.Inner.Union.{Shows};
 ghost use Rattle.ld_union.specs.Violations.{IsCycle};
 
 use crate::alarms::Found;
-use crate::by_name::ByName;
+use crate::findings::indexed::Indexed;
 use crate::findings::walks::walk_names;
 use crate::rows::Rows;
 use crate::union::Union;
@@ -35,13 +35,11 @@ pub struct CycleRow<'a> {
 /// The dependencies that are on cycles, by the names of their classes, where one was found.
 pub(crate) fn cycle_rows<'a>(
     alloc: Global,
-    union: &Union<'a>,
-    order: &ByName,
+    indexed: Indexed<'_, 'a>,
     found: &Found,
 ) -> Result<Vec<CycleRow<'a>>, AllocError>
-    requires order { AreByName union.now.classes order.now.numbers.items order.now.places.items }
     ensures { IfOk result (λ rows. (sources : List PlainSource)
-        → Shows sources union.now
+        → Shows sources indexed.entry.union.now
         → IsOfEach sources found.now
         → AreCycleRows sources (map plain_cycle_row rows.items)) }
 {
@@ -49,10 +47,10 @@ pub(crate) fn cycle_rows<'a>(
     if found.cycle.is_none() {
         return Ok(rows);
     }
-    let components = union.graph().components(alloc)?;
-    let mut distances = Distances::new(alloc, union.graph().len())?;
-    for from in &order.numbers {
-        let mut more = cycles_from(alloc, union, order, &components, &mut distances, *from)?;
+    let components = indexed.union.graph().components(alloc)?;
+    let mut distances = Distances::new(alloc, indexed.union.graph().len())?;
+    for from in &indexed.order.numbers {
+        let mut more = cycles_from(alloc, indexed, &components, &mut distances, *from)?;
         rows.append(&mut more)?;
     }
     Ok(rows)
@@ -62,32 +60,31 @@ pub(crate) fn cycle_rows<'a>(
 /// for.
 fn cycles_from<'a>(
     alloc: Global,
-    union: &Union<'a>,
-    order: &ByName,
+    indexed: Indexed<'_, 'a>,
     components: &[u32],
     distances: &mut Distances,
     from: u32,
 ) -> Result<Vec<CycleRow<'a>>, AllocError>
-    requires order { AreByName union.now.classes order.now.numbers.items order.now.places.items }
-    requires components { AreComponentsOf union.now components.now }
-    requires distances { length distances.old ≡ length union.now.classes }
-    requires from { from < length union.now.classes }
-    ensures distances { length distances.new ≡ length union.now.classes }
+    requires components { AreComponentsOf indexed.union.now components.now }
+    requires distances { length distances.old ≡ length indexed.union.now.classes }
+    requires from { from < length indexed.union.now.classes }
+    ensures distances { length distances.new ≡ length indexed.entry.union.now.classes }
     ensures rows { IfOk result (λ rows. (sources : List PlainSource)
-        → Shows sources union.now
-        → AreCycleRowsOf sources (λ p. p.0 ≡ class_name union.now.classes from)
+        → Shows sources indexed.entry.union.now
+        → AreCycleRowsOf sources (λ p. p.0 ≡ class_name indexed.entry.union.now.classes from)
         (map plain_cycle_row rows.items)) }
 {
     let mut rows = Vec::new(alloc);
-    let ends = ends_on_cycle(alloc, union, order, components, from)?;
+    let ends = ends_on_cycle(alloc, indexed, components, from)?;
     if ends.is_empty() {
         return Ok(rows);
     }
-    union
+    indexed
+        .union
         .graph()
         .distances_inside(from, components, &ends, distances);
     for to in &ends {
-        if let Some(row) = cycle_row(alloc, union, order, distances.levels(), from, *to)? {
+        if let Some(row) = cycle_row(alloc, indexed, distances.levels(), from, *to)? {
             rows.push(row)?;
         }
     }
@@ -97,21 +94,21 @@ fn cycles_from<'a>(
 /// The classes to which dependencies on cycles lead from this class, by name.
 fn ends_on_cycle(
     alloc: Global,
-    union: &Union<'_>,
-    order: &ByName,
+    indexed: Indexed<'_, '_>,
     components: &[u32],
     from: u32,
 ) -> Result<Vec<u32>, AllocError>
-    requires order { AreByName union.now.classes order.now.numbers.items order.now.places.items }
-    requires components { AreComponentsOf union.now components.now }
-    requires from { from < length union.now.classes }
-    ensures exact { IfOk result (λ ends. (to : ℕ) → Contains ends.items to ↔ IsBackEdge union.now from to) }
-    ensures rising { IfOk result (λ ends. AreRising (name_at union.now.classes ends.items) (length ends.items)) }
+    requires components { AreComponentsOf indexed.union.now components.now }
+    requires from { from < length indexed.union.now.classes }
+    ensures exact { IfOk result (λ ends. (to : ℕ) →
+        Contains ends.items to ↔ IsBackEdge indexed.entry.union.now from to) }
+    ensures rising { IfOk result (λ ends.
+        AreRising (name_at indexed.entry.union.now.classes ends.items) (length ends.items)) }
 {
-    let places = places_on_cycle(alloc, union, order, components, from)?;
+    let places = places_on_cycle(alloc, indexed, components, from)?;
     let mut ends = Vec::with_capacity(alloc, places.len())?;
     for place in &places {
-        ends.push(order.numbers[*place as usize])?;
+        ends.push(indexed.order.numbers[*place as usize])?;
     }
     Ok(ends)
 }
@@ -120,25 +117,24 @@ fn ends_on_cycle(
 /// that stay in the component.
 fn places_on_cycle(
     alloc: Global,
-    union: &Union<'_>,
-    order: &ByName,
+    indexed: Indexed<'_, '_>,
     components: &[u32],
     from: u32,
 ) -> Result<Vec<u32>, AllocError>
-    requires order { AreByName union.now.classes order.now.numbers.items order.now.places.items }
-    requires components { AreComponentsOf union.now components.now }
-    requires from { from < length union.now.classes }
+    requires components { AreComponentsOf indexed.union.now components.now }
+    requires from { from < length indexed.union.now.classes }
     ensures exact { IfOk result (λ places. (p : ℕ) →
-        Contains places.items p ↔ IsBackPlace union.now order.now.numbers.items from p) }
-    ensures ends { IfOk result (λ places. (to : ℕ) → IsBackEdge union.now from to
-        → to < length union.now.classes) }
+        Contains places.items p
+        ↔ IsBackPlace indexed.entry.union.now indexed.entry.order.now.numbers.items from p) }
+    ensures ends { IfOk result (λ places. (to : ℕ) → IsBackEdge indexed.entry.union.now from to
+        → to < length indexed.entry.union.now.classes) }
     ensures rising { IfOk result (λ places. (i j : ℕ) → i < j → j < length places.items
         → class_at places.items i < class_at places.items j) }
 {
     let mut places = Vec::new(alloc);
-    for &to in union.graph().lists().after(from, &mut Steps::new()) {
+    for &to in indexed.union.graph().lists().after(from, &mut Steps::new()) {
         if components[to as usize] == components[from as usize] {
-            places.push(order.places[to as usize])?;
+            places.push(indexed.order.places[to as usize])?;
         }
     }
     places.sort_unstable();
@@ -149,43 +145,41 @@ fn places_on_cycle(
 /// there is none on a cycle.
 fn cycle_row<'a>(
     alloc: Global,
-    union: &Union<'a>,
-    order: &ByName,
+    indexed: Indexed<'_, 'a>,
     distances: &[Distance],
     from: u32,
     to: u32,
 ) -> Result<Option<CycleRow<'a>>, AllocError>
-    requires order { AreByName union.now.classes order.now.numbers.items order.now.places.items }
-    requires from { from < length union.now.classes }
-    requires distances { AreEnoughFrom union.now to from distances.now }
-    requires to { to < length union.now.classes }
+    requires from { from < length indexed.union.now.classes }
+    requires distances { AreEnoughFrom indexed.union.now to from distances.now }
+    requires to { to < length indexed.union.now.classes }
     ensures { IfOk result (λ row. (sources : List PlainSource)
-        → Shows sources union.now
+        → Shows sources indexed.entry.union.now
         → MatchOption row
-        (¬ IsCycle sources (class_name union.now.classes from)
-        (class_name union.now.classes to))
-        (λ r. IsCycleRowOf sources (class_name union.now.classes from)
-        (class_name union.now.classes to) (plain_cycle_row r))) }
+        (¬ IsCycle sources (class_name indexed.entry.union.now.classes from)
+        (class_name indexed.entry.union.now.classes to))
+        (λ r. IsCycleRowOf sources (class_name indexed.entry.union.now.classes from)
+        (class_name indexed.entry.union.now.classes to) (plain_cycle_row r))) }
 {
     if distances[to as usize].is_none() {
         return Ok(None);
     }
-    let Some(number) = union.graph().edge(from, to) else {
+    let Some(number) = indexed.union.graph().edge(from, to) else {
         return Ok(None);
     };
-    let at = union.dependencies()[number as usize].first;
+    let at = indexed.union.dependencies()[number as usize].first;
     let via = if to == from {
         // A class that is acquired under itself shows no walk.
         Rows::from(Vec::new(alloc))
     } else {
-        let Some(via) = walk_names(alloc, union, order, distances, to, from)? else {
+        let Some(via) = walk_names(alloc, indexed, distances, to, from)? else {
             return Ok(None);
         };
         via
     };
     Ok(Some(CycleRow {
-        from: union.classes().name(from),
-        to: union.classes().name(to),
+        from: indexed.union.classes().name(from),
+        to: indexed.union.classes().name(to),
         at,
         via,
     }))

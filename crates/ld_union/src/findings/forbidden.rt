@@ -5,14 +5,14 @@ ghost use Rattle.ld_trace.specs.Sources.{PlainSource};
 ghost use Rattle.ld_rules.specs.Union.{dependency_witness, use_witness};
 ghost use Rattle.ld_rules.specs.Usage.Bit.{On};
 ghost use Rattle.ld_union.specs.Findings.{AreForbiddenRows, plain_forbidden_row};
-ghost use Rattle.ld_union.specs.Inner.ByName.{AreByName, class_name};
+ghost use Rattle.ld_union.specs.Inner.ByName.{class_name};
 ghost use Rattle.ld_union.specs.Inner.Rows.{AreAcquired, AreEnoughFrom, AreForbiddenRowsOf, AreTurnedRows};
 ghost use Rattle.ld_union.specs.Inner.Rows.{AreTurnedRowsOf, IsNoted, IsOfEach, IsTurnedRowOf};
 ghost use Rattle.ld_union.specs.Inner.Union.{Shows};
 ghost use Rattle.ld_union.specs.Violations.{IsForbidden};
 
 use crate::alarms::{Found, has, in_bit, on_bit};
-use crate::by_name::ByName;
+use crate::findings::indexed::Indexed;
 use crate::findings::used::{UsedClass, noted};
 use crate::findings::walks::walk_names;
 use crate::rows::Rows;
@@ -55,18 +55,16 @@ struct Target<'d> {
 /// The forbidden walks, by state, then by the names of their ends.
 pub(crate) fn forbidden_rows<'a>(
     alloc: Global,
-    union: &Union<'a>,
-    order: &ByName,
+    indexed: Indexed<'_, 'a>,
     found: &Found,
 ) -> Result<Vec<ForbiddenRow<'a>>, AllocError>
-    requires order { AreByName union.now.classes order.now.numbers.items order.now.places.items }
     ensures { IfOk result (λ rows. (sources : List PlainSource)
-        → Shows sources union.now
+        → Shows sources indexed.entry.union.now
         → IsOfEach sources found.now
         → AreForbiddenRows sources (map plain_forbidden_row rows.items)) }
 {
-    let mut rows = forbidden_of(alloc, union, order, State::Hard, found)?;
-    let mut soft = forbidden_of(alloc, union, order, State::Soft, found)?;
+    let mut rows = forbidden_of(alloc, indexed, State::Hard, found)?;
+    let mut soft = forbidden_of(alloc, indexed, State::Soft, found)?;
     rows.append(&mut soft)?;
     Ok(rows)
 }
@@ -74,21 +72,19 @@ pub(crate) fn forbidden_rows<'a>(
 /// The forbidden walks of a state, by the names of their ends, where one was found.
 fn forbidden_of<'a>(
     alloc: Global,
-    union: &Union<'a>,
-    order: &ByName,
+    indexed: Indexed<'_, 'a>,
     state: State,
     found: &Found,
 ) -> Result<Vec<ForbiddenRow<'a>>, AllocError>
-    requires order { AreByName union.now.classes order.now.numbers.items order.now.places.items }
     ensures { IfOk result (λ rows. (sources : List PlainSource)
-        → Shows sources union.now
+        → Shows sources indexed.entry.union.now
         → IsOfEach sources found.now
         → AreForbiddenRowsOf sources (λ p. p.0 ≡ state) (map plain_forbidden_row rows.items)) }
 {
     if found.forbidden.get(state).is_none() {
         return Ok(Vec::new(alloc));
     }
-    let mut rows = forbidden_by_end(alloc, union, order, state)?;
+    let mut rows = forbidden_by_end(alloc, indexed, state)?;
     rows.sort_unstable_by_key(|row| (row.from, row.to));
     Ok(rows)
 }
@@ -96,20 +92,18 @@ fn forbidden_of<'a>(
 /// The same, by the names of the second ends, so that one search serves all the walks to a class.
 fn forbidden_by_end<'a>(
     alloc: Global,
-    union: &Union<'a>,
-    order: &ByName,
+    indexed: Indexed<'_, 'a>,
     state: State,
 ) -> Result<Vec<ForbiddenRow<'a>>, AllocError>
-    requires order { AreByName union.now.classes order.now.numbers.items order.now.places.items }
     ensures { IfOk result (λ rows. (sources : List PlainSource)
-        → Shows sources union.now
+        → Shows sources indexed.entry.union.now
         → AreTurnedRows sources state (map plain_forbidden_row rows.items)) }
 {
     let mut rows = Vec::new(alloc);
-    let acquired = acquired_by_name(alloc, union, order, state)?;
-    let mut distances = Distances::new(alloc, union.graph().len())?;
-    for to in &order.numbers {
-        let mut more = forbidden_to(alloc, union, order, state, &acquired, &mut distances, *to)?;
+    let acquired = acquired_by_name(alloc, indexed, state)?;
+    let mut distances = Distances::new(alloc, indexed.union.graph().len())?;
+    for to in &indexed.order.numbers {
+        let mut more = forbidden_to(alloc, indexed, state, &acquired, &mut distances, *to)?;
         rows.append(&mut more)?;
     }
     Ok(rows)
@@ -118,16 +112,14 @@ fn forbidden_by_end<'a>(
 /// The classes that handlers of the state acquire, by name.
 fn acquired_by_name(
     alloc: Global,
-    union: &Union<'_>,
-    order: &ByName,
+    indexed: Indexed<'_, '_>,
     state: State,
 ) -> Result<Vec<u32>, AllocError>
-    requires order { AreByName union.now.classes order.now.numbers.items order.now.places.items }
-    ensures { IfOk result (λ classes. AreAcquired union.now state classes.items) }
+    ensures { IfOk result (λ classes. AreAcquired indexed.entry.union.now state classes.items) }
 {
     let mut classes = Vec::new(alloc);
-    for class in &order.numbers {
-        if has(union.usage(), *class as usize, in_bit(state)) {
+    for class in &indexed.order.numbers {
+        if has(indexed.union.usage(), *class as usize, in_bit(state)) {
             classes.push(*class)?;
         }
     }
@@ -138,38 +130,36 @@ fn acquired_by_name(
 /// the same for all of them.
 fn forbidden_to<'a>(
     alloc: Global,
-    union: &Union<'a>,
-    order: &ByName,
+    indexed: Indexed<'_, 'a>,
     state: State,
     acquired: &[u32],
     distances: &mut Distances,
     to: u32,
 ) -> Result<Vec<ForbiddenRow<'a>>, AllocError>
-    requires order { AreByName union.now.classes order.now.numbers.items order.now.places.items }
-    requires acquired { AreAcquired union.now state acquired.now }
-    requires distances { length distances.old ≡ length union.now.classes }
-    requires to { to < length union.now.classes }
-    ensures distances { length distances.new ≡ length union.now.classes }
+    requires acquired { AreAcquired indexed.union.now state acquired.now }
+    requires distances { length distances.old ≡ length indexed.union.now.classes }
+    requires to { to < length indexed.union.now.classes }
+    ensures distances { length distances.new ≡ length indexed.entry.union.now.classes }
     ensures rows { IfOk result (λ rows. (sources : List PlainSource)
-        → Shows sources union.now
-        → AreTurnedRowsOf sources state (λ p. p.0 ≡ class_name union.now.classes to)
+        → Shows sources indexed.entry.union.now
+        → AreTurnedRowsOf sources state (λ p. p.0 ≡ class_name indexed.entry.union.now.classes to)
         (map plain_forbidden_row rows.items)) }
 {
     let mut rows = Vec::new(alloc);
-    let Some(held) = noted(union, to, on_bit(state)) else {
+    let Some(held) = noted(indexed.union, to, on_bit(state)) else {
         return Ok(rows);
     };
     // Where no walk leads here from a class that handlers acquire, none is searched for.
-    if union.source(state, to).is_none() {
+    if indexed.union.source(state, to).is_none() {
         return Ok(rows);
     }
-    union.graph().distances_to(to, acquired, distances);
+    indexed.union.graph().distances_to(to, acquired, distances);
     let target = Target {
         class: to,
         distances: distances.levels(),
     };
     for from in acquired {
-        if let Some(row) = forbidden_row(alloc, union, order, &target, held, state, *from)? {
+        if let Some(row) = forbidden_row(alloc, indexed, &target, held, state, *from)? {
             rows.push(row)?;
         }
     }
@@ -180,33 +170,31 @@ fn forbidden_to<'a>(
 /// where there is none.
 fn forbidden_row<'a>(
     alloc: Global,
-    union: &Union<'a>,
-    order: &ByName,
+    indexed: Indexed<'_, 'a>,
     target: &Target<'_>,
     held: UsedClass<'a>,
     state: State,
     from: u32,
 ) -> Result<Option<ForbiddenRow<'a>>, AllocError>
-    requires order { AreByName union.now.classes order.now.numbers.items order.now.places.items }
-    requires class { target.now.class < length union.now.classes }
-    requires distances { AreEnoughFrom union.now from target.now.class target.now.distances.now }
+    requires class { target.now.class < length indexed.union.now.classes }
+    requires distances { AreEnoughFrom indexed.union.now from target.now.class target.now.distances.now }
     requires held { (sources : List PlainSource)
-        → Shows sources union.now
-        → IsNoted sources (class_name union.now.classes target.now.class) (On state)
+        → Shows sources indexed.union.now
+        → IsNoted sources (class_name indexed.union.now.classes target.now.class) (On state)
         (plain_class held.name) held.marks held.at }
-    requires from { from < length union.now.classes }
+    requires from { from < length indexed.union.now.classes }
     ensures { IfOk result (λ row. (sources : List PlainSource)
-        → Shows sources union.now
+        → Shows sources indexed.entry.union.now
         → MatchOption row
-        (¬ IsForbidden sources state (class_name union.now.classes from)
-        (class_name union.now.classes target.now.class))
-        (λ r. IsTurnedRowOf sources state (class_name union.now.classes target.now.class)
-        (class_name union.now.classes from) (plain_forbidden_row r))) }
+        (¬ IsForbidden sources state (class_name indexed.entry.union.now.classes from)
+        (class_name indexed.entry.union.now.classes target.now.class))
+        (λ r. IsTurnedRowOf sources state (class_name indexed.entry.union.now.classes target.now.class)
+        (class_name indexed.entry.union.now.classes from) (plain_forbidden_row r))) }
 {
-    let Some(acquired) = noted(union, from, in_bit(state)) else {
+    let Some(acquired) = noted(indexed.union, from, in_bit(state)) else {
         return Ok(None);
     };
-    let Some(via) = walk_names(alloc, union, order, target.distances, from, target.class)? else {
+    let Some(via) = walk_names(alloc, indexed, target.distances, from, target.class)? else {
         return Ok(None);
     };
     Ok(Some(ForbiddenRow {

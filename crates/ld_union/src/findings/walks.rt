@@ -5,11 +5,11 @@ ghost use Rattle.ld_graph.specs.Walks.{HasWalk};
 ghost use Rattle.ld_trace.specs.Sources.{PlainSource};
 ghost use Rattle.ld_rules.specs.Union.{dependency_witness};
 ghost use Rattle.ld_union.specs.Findings.{IsShown, plain_names};
-ghost use Rattle.ld_union.specs.Inner.ByName.{AreByName, class_name};
+ghost use Rattle.ld_union.specs.Inner.ByName.{class_name};
 ghost use Rattle.ld_union.specs.Inner.Rows.{AreEnoughFrom};
 ghost use Rattle.ld_union.specs.Inner.Union.{Shows, edges_of};
 
-use crate::by_name::ByName;
+use crate::findings::indexed::Indexed;
 use crate::rows::Rows;
 use crate::union::Union;
 use ld_class::{ClassName, Classes};
@@ -20,30 +20,29 @@ use std::alloc::{AllocError, Global};
 /// it, or `None` where no walk leads there.
 pub(crate) fn walk_names<'a>(
     alloc: Global,
-    union: &Union<'a>,
-    order: &ByName,
+    indexed: Indexed<'_, 'a>,
     distances: &[Distance],
     from: u32,
     to: u32,
 ) -> Result<Option<Rows<ClassName<'a>>>, AllocError>
-    requires order { AreByName union.now.classes order.now.numbers.items order.now.places.items }
-    requires to { to < length union.now.classes }
-    requires distances { AreEnoughFrom union.now from to distances.now }
-    requires from { from < length union.now.classes }
+    requires to { to < length indexed.union.now.classes }
+    requires distances { AreEnoughFrom indexed.union.now from to distances.now }
+    requires from { from < length indexed.union.now.classes }
     ensures { IfOk result (λ via. MatchOption via
-        (¬ HasWalk (IsEdge (edges_of union.now.dependencies)) from to)
+        (¬ HasWalk (IsEdge (edges_of indexed.entry.union.now.dependencies)) from to)
         (λ names. (sources : List PlainSource)
-        → Shows sources union.now
-        → IsShown sources (class_name union.now.classes from)
-        (class_name union.now.classes to) (plain_names names))) }
+        → Shows sources indexed.entry.union.now
+        → IsShown sources (class_name indexed.entry.union.now.classes from)
+        (class_name indexed.entry.union.now.classes to) (plain_names names))) }
 {
-    let walk = union
+    let walk = indexed
+        .union
         .graph()
-        .walk_along(alloc, from, to, distances, &order.places)?;
+        .walk_along(alloc, from, to, distances, &indexed.order.places)?;
     let Some(walk) = walk else {
         return Ok(None);
     };
-    let names = names_of(alloc, union.classes(), &walk)?;
+    let names = names_of(alloc, indexed.union.classes(), &walk)?;
     Ok(Some(Rows::from(names)))
 }
 

@@ -1,4 +1,4 @@
-use Rattle.std.proofs.Common.{rules, ◌≤◌, arith, length, subst, sym}
+use Rattle.std.proofs.Common.{rules, arith, length, subst, sym}
 use Rattle.ld_trace.specs.Sources.{plain}
 use Rattle.ld_rules.specs.Union.{classes_of}
 use Rattle.ld_shown.specs.Inner.Names.{IsLonger}
@@ -17,8 +17,7 @@ returns-clause-begun c =
 pub add-requires-clause-few : goal.add-requires-clause-few
 add-requires-clause-few c =
     let few = room-left c.args.scan.now c.scan_source.new.scan (plain c.args.source) c.in_ok-outcome.ensures.shows (omega (arith, c.requires.room)) in
-    let most : length c.scan_source.new.scan.classes ≤ 1073741824 = omega (arith, few) in
-    most
+    omega (arith, few)
 
 pub add-requires-clause-names : goal.add-requires-clause-names
 add-requires-clause-names c =

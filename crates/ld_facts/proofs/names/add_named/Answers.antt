@@ -2,6 +2,7 @@ use Rattle.std.proofs.Common.{◌≡◌, ◌≤◌, ◌+◌, All, true, length, 
 use Rattle.std.proofs.lemmas.List.{length-map, length-take-le, take_more}
 use Rattle.std.proofs.lemmas.List.Elements.{All-push, All-weaker}
 use Rattle.std.specs.List.{list_any}
+use Rattle.ld_class.specs.declared.names.TheConstants.{MOST_NAMES}
 use Rattle.ld_class.specs.Names.{no_class}
 use Rattle.ld_facts.specs.Inner.Scan.{names_at}
 use Rattle.ld_facts.proofs.StandsLemmas.{take-first}
@@ -13,7 +14,7 @@ pub add_one-requires-clause-room : goal.add_one-requires-clause-room
 add_one-requires-clause-room c =
     let part = names_at c.args.known.now (take c.loop-number.number-index c.args.own.now) in
     let longer = longer_all c.args.names.now part in
-    let room : length c.args.names.now + length c.args.own.now ≤ 1073741824 = c.requires.room in
+    let room : length c.args.names.now + length c.args.own.now ≤ MOST_NAMES = c.requires.room in
     let many : length part ≡ c.loop-number.number-index = length-map (take c.loop-number.number-index c.args.own.now) (λ n. get_or c.args.known.now n no_class)
     ∙ length-take-le c.loop-number.number-index c.args.own.now (omega (arith, c.loop-number-test.true)) in
     omega (arith, longer.most, ap length c.loop-number.invariant.made, many, room, c.loop-number-test.true)

@@ -1,4 +1,4 @@
-use Rattle.std.proofs.Common.{◌-◌, length, drop, sym, ap, ◌∙◌}
+use Rattle.std.proofs.Common.{◌-◌, length, drop, sym, ap, ◌∙◌, arith}
 use Rattle.std.proofs.lemmas.Slice.Eq.{bytes_eq-Decides}
 use Rattle.std.specs.Bool.{one_answer}
 use Rattle.ld_tables.proofs.ByteLemmas.{ends-same}
@@ -16,7 +16,7 @@ returns-then-same_word c =
     let same_first = bytes_eq-Decides m.first.now m.other_first.now in
     let same_last = bytes_eq-Decides m.last.now m.other_last.now in
     one_answer _ _ (
-      λ t. ends-same a b c.if-a-b.false last.0 c.if-a-gt16.false
+      λ t. ends-same 8 a b c.if-a-b.false last.0 (omega (arith, c.if-a-gt16.false))
           (sym first.same ∙ same_first.0 (sym c.if-same_word.ensures) ∙ other_first.same)
           (sym last.1.same ∙ same_last.0 (sym c.same_word-then-same_word.ensures ∙ t) ∙ other_last.1.same),
       λ same. c.same_word-then-same_word.ensures ∙ same_last.1 (last.1.same ∙ ap (λ l. drop (length l - 8) l) same ∙ sym other_last.1.same),

@@ -1,12 +1,13 @@
 -- A class, `@`, an instance and an LF.
-use Rattle.std.proofs.Common.{◌≡◌, ◌∷◌, ◌++◌, rules, ◌∙◌, ap, sym, append_assoc}
+use Rattle.std.proofs.Common.{◌≡◌, ◌∷◌, ◌++◌, refl, rules, ◌∙◌, ap, sym, append_assoc}
+use Rattle.ld_trace.proofs.FrontLemmas.{ends-after}
 use Rattle.ld_trace.proofs.fast.next_lock.Goals as goal
 
 pub returns : goal.returns
 returns c =
     let class = c.in_ok-class.class.now in
     let name = c.in_ok-name.name.now in
-    let sign : c.in_ok-class.after.now ≡ 64 ∷ c.in_ok-strip_prefix.field-0.now = search rules in
+    let sign : c.in_ok-class.after.now ≡ 64 ∷ c.in_ok-after.after.now = search rules in
     let end : c.in_ok-name.after.now ≡ 10 ∷ c.in_ok-rest.rest.now = search rules in
     record {
       whole =
@@ -15,3 +16,9 @@ returns c =
       class = c.in_ok-class.ensures.spelled;
       instance = c.in_ok-name.ensures.spelled;
     }
+
+pub next_name-requires-2 : goal.next_name-requires-2
+next_name-requires-2 c =
+    let sign : c.in_ok-class.after.now ≡ 64 ∷ c.in_ok-after.after.now = search rules in
+    ends-after c.args.bytes.now c.in_ok-class.class.now c.in_ok-after.after.now 64 _ _ _
+    (c.in_ok-class.ensures.whole ∙ ap (λ o. c.in_ok-class.class.now ++ o) sign) refl c.behind.ensures c.requires

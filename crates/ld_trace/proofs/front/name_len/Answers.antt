@@ -1,17 +1,19 @@
 -- The lowest bit that is set is where the run ends.
-use Rattle.std.proofs.Common.{◌≡◌, ap, ◌∙◌, arith, rules}
+use Rattle.std.proofs.Common.{◌≡◌, ap, ◌∙◌, arith}
+use Rattle.std.proofs.lemmas.List.{length-take-le}
 use Rattle.std.proofs.lemmas.List.Sums.{prefix_len-le-length}
-use Rattle.std.proofs.lemmas.Simd.{length-chunk}
 use Rattle.ld_trace.specs.Inner.Front.{in_name}
 use Rattle.std.specs.List.{prefix_len}
 use Rattle.ld_trace.proofs.VectorLemmas.{run-ends}
 use Rattle.ld_trace.proofs.front.name_len.Goals as goal
 use lib.Count.{count_trailing_zeros}
 
-pub returns-then-outside-ne0 : goal.returns-then-outside-ne0
-returns-then-outside-ne0 c =
+pub returns-then-ends-ne0 : goal.returns-then-ends-ne0
+returns-then-ends-ne0 c =
     let bytes = c.args.bytes.now in
-    let outside = c.outside_names-outside in
-    let run : count_trailing_zeros 64 outside.result ≡ prefix_len in_name bytes =
-    ap (count_trailing_zeros 64) outside.ensures ∙ run-ends in_name bytes 32 (omega arith) (length-chunk 0 32 bytes (search rules)) (omega (arith, outside.ensures)) in
+    let ends = c.args.ends in
+    let are = c.requires in
+    let run : count_trailing_zeros 64 ends.names ≡ prefix_len in_name bytes =
+    ap (count_trailing_zeros 64) are.names
+    ∙ run-ends in_name bytes ends.seen (omega (arith, are.few)) (length-take-le ends.seen bytes are.within) (omega (arith, are.names)) in
     record { front = run; within = omega (arith, run, prefix_len-le-length in_name bytes) }

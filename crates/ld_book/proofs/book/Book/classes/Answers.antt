@@ -1,4 +1,5 @@
 use Rattle.std.proofs.Common.{◌≤◌, ◌∙◌, IsSome, ap, length, subst}
+use Rattle.ld_class.specs.declared.names.TheConstants.{MOST_NAMES}
 use Rattle.ld_class.specs.Names.{AreDistinct, place_of}
 use Rattle.ld_facts.specs.Union.{union_classes, use_witness}
 use Rattle.ld_facts.specs.Usage.{Use}
@@ -11,7 +12,7 @@ pub returns-clause-distinct : goal.returns-clause-distinct
 returns-clause-distinct c = subst AreDistinct (c.self.invariant.shows.classes ∙ ap union_classes c.self.view_is) c.self.invariant.shows.numbered.distinct
 
 pub returns-clause-few : goal.returns-clause-few
-returns-clause-few c = subst (λ classes. length classes ≤ 1073741824) (c.self.invariant.shows.classes ∙ ap union_classes c.self.view_is) c.classes.ensures.few
+returns-clause-few c = subst (λ classes. length classes ≤ MOST_NAMES) (c.self.invariant.shows.classes ∙ ap union_classes c.self.view_is) c.classes.ensures.few
 
 pub returns-clause-used : goal.returns-clause-used
 returns-clause-used c =

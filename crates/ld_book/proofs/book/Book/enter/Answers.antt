@@ -1,5 +1,7 @@
 use Rattle.std.proofs.Common.{◌≢◌, ◌*◌, ◌≤◌, ◌++◌, ◌∙◌, All, AllPairs, arith, length, subst, sym}
+use Rattle.ld_trace.specs.declared.source.TheConstants.{MOST_TRACES}
 use Rattle.ld_trace.specs.Sources.{Fits}
+use Rattle.ld_rules.specs.declared.outcome.TheConstants.{MOST_CLASSES}
 use Rattle.ld_shown.specs.Batch.{PlainBatch}
 use Rattle.ld_facts.proofs.BatchLemmas.{few_sources}
 use Rattle.ld_union.specs.Inner.Union.{Adds}
@@ -12,11 +14,11 @@ pub add-requires : goal.add-requires
 add-requires c =
     let batch = c.args.batch.now in
     let told = c.listed-traces.ensures in
-    let traces : length c.self.inside.listing.sources ≤ 65535 = c.room.ensures.few in
-    let classes : length c.self.inside.union.classes ≤ length c.self.inside.listing.sources * 8191 = c.self.invariant.few in
-    let more : length c.shown.result.classes ≤ length batch.sources * 8191 =
-    subst (λ (shown : PlainBatch). length shown.classes ≤ length batch.sources * 8191) (sym c.shown.ensures) told.few in
-    let sources : length batch.sources ≤ 65535 = few_sources batch.sources told.exact.fit told.exact.rise in
+    let traces : length c.self.inside.listing.sources ≤ MOST_TRACES = c.room.ensures.few in
+    let classes : length c.self.inside.union.classes ≤ length c.self.inside.listing.sources * MOST_CLASSES = c.self.invariant.few in
+    let more : length c.shown.result.classes ≤ length batch.sources * MOST_CLASSES =
+    subst (λ (shown : PlainBatch). length shown.classes ≤ length batch.sources * MOST_CLASSES) (sym c.shown.ensures) told.few in
+    let sources : length batch.sources ≤ MOST_TRACES = few_sources batch.sources told.exact.fit told.exact.rise in
     omega arith
 
 pub note-requires : goal.note-requires

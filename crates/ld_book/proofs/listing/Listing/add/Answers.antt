@@ -31,8 +31,8 @@ invariant_of-self c =
     let number = trace.source.number in
     let absent : list_any (nat_eq number) keys ≡ false =
     listed_any list.traces.items keys number refl ∙ ap (λ l. is_listed l.sources number) c.self.view_is ∙ c.requires.fresh in
-    let traces : c.push.new.self.items ≡ list.traces.items ++ trace ∷ [] = c.in-Ok.ensures.items in
-    let numbered : map (λ (l : Listed). l.source.number) c.push.new.self.items ≡ keys ++ number ∷ [] =
+    let traces : c.push_reserved.new.self.items ≡ list.traces.items ++ trace ∷ [] = c.push_reserved.ensures.items in
+    let numbered : map (λ (l : Listed). l.source.number) c.push_reserved.new.self.items ≡ keys ++ number ∷ [] =
     ap (map (λ (l : Listed). l.source.number)) traces ∙ map-append (λ (l : Listed). l.source.number) list.traces.items (trace ∷ []) in
     let room : 0 < list.spare = omega (arith, c.requires.room, ap (λ l. l.spare) c.self.view_is) in
     let marked : number < length list.marks.items = omega (arith, is.room_marks room, c.requires.fits.number) in
@@ -50,13 +50,13 @@ invariant_of-self c =
           (λ i. is.refused i + c.refused_of.ensures i)
           ∙ sym (refused-push list.traces.items trace c.requires.outcome)
           ∙ ap (λ all. refused_count (sources_of all)) (sym traces);
-      room_traces = omega (arith, is.room_traces, c.requires.room, spare, c.in-Ok.ensures.len, c.push.ensures.capacity);
+      room_traces = omega (arith, is.room_traces, c.requires.room, spare, c.push_reserved.ensures.len, c.push_reserved.ensures.capacity);
       most_marks = omega (arith, is.most_marks, length-set list.marks.items number true);
       room_marks = λ more. omega (arith, is.room_marks room, length-set list.marks.items number true);
     }
 
 pub returns-clause-sources : goal.returns-clause-sources
 returns-clause-sources c =
-    ap sources_of c.in-Ok.ensures.items
+    ap sources_of c.push_reserved.ensures.items
     ∙ sources-push c.self.inside.traces.items c.args.trace
     ∙ ap (λ l. l.sources ++ plain c.args.trace.source ∷ []) c.self.view_is

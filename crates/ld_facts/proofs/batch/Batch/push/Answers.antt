@@ -1,9 +1,12 @@
 use Rattle.std.proofs.Common.{◌≡◌, ◌*◌, ◌+◌, ◌<◌, ◌≤◌, ◌++◌, ◌∷◌, [], ◌∙◌, List, ℕ, None, IfSome, ap, arith, length, subst, sym}
 use Rattle.std.proofs.lemmas.List.{length-map}
 use Rattle.std.specs.List.{last_or}
+use Rattle.ld_trace.specs.declared.source.TheConstants.{MOST_TRACES}
 use Rattle.ld_trace.specs.Sources.{PlainSource, plain}
 use Rattle.ld_rules.specs.declared.outcome.Listed.{Listed}
+use Rattle.ld_rules.specs.declared.outcome.TheConstants.{MOST_CLASSES}
 use Rattle.ld_shown.specs.Batch.{PlainBatch, sources_of}
+use Rattle.ld_facts.specs.declared.bounds.TheConstants.{MOST_KNOWN}
 use Rattle.ld_facts.proofs.BatchLemmas.{above_all, few_below, kept-added, many-edges, many-uses}
 use Rattle.ld_facts.proofs.batch.Batch.push.Goals as goal
 
@@ -20,8 +23,8 @@ read-requires-clause-room c =
     let low = above_all sources number rise (above sources number c.args.self.now (ap (λ b. b.sources) c.self.view_is) c.requires.above) in
     let few = few_below sources number rise low in
     let listed = length-map c.self.inside.listed.items (λ (l : Listed). plain l.source) in
-    let traces : number < 65535 = c.requires.fits.number in
-    let classes : length c.self.inside.scan.classes ≤ 65536 + length c.self.inside.listed.items * 8191 = c.self.invariant.known in
+    let traces : number < MOST_TRACES = c.requires.fits.number in
+    let classes : length c.self.inside.scan.classes ≤ MOST_KNOWN + length c.self.inside.listed.items * MOST_CLASSES = c.self.invariant.known in
     omega (arith, few, listed, traces, classes)
 
 pub read-requires-clause-few : goal.read-requires-clause-few
@@ -32,8 +35,8 @@ read-requires-clause-few c =
     let low = above_all sources number rise (above sources number c.args.self.now (ap (λ b. b.sources) c.self.view_is) c.requires.above) in
     let few = few_below sources number rise low in
     let listed = length-map c.self.inside.listed.items (λ (l : Listed). plain l.source) in
-    let traces : number < 65535 = c.requires.fits.number in
-    let classes : length c.self.inside.rows.classes ≤ length c.self.inside.listed.items * 8191 = c.self.invariant.few in
+    let traces : number < MOST_TRACES = c.requires.fits.number in
+    let classes : length c.self.inside.rows.classes ≤ length c.self.inside.listed.items * MOST_CLASSES = c.self.invariant.few in
     omega (arith, few, listed, traces, classes)
 
 pub read-requires-clause-edges : goal.read-requires-clause-edges

@@ -1,5 +1,6 @@
 use Rattle.std.proofs.Common.{◌+◌, ◌≤◌, All, drop, length, get_or, ap, sym, subst, arith}
 use Rattle.std.proofs.lemmas.List.{length-map}
+use Rattle.ld_class.specs.declared.names.TheConstants.{MOST_NAMES}
 use Rattle.ld_class.specs.Names.{no_class}
 use Rattle.ld_facts.specs.Inner.Scan.{names_at}
 use Rattle.ld_facts.specs.Inner.Rows.{IsOwnEdge, IsOwnUse}
@@ -11,7 +12,7 @@ pub add_edges-requires-clause-few : goal.add_edges-requires-clause-few
 add_edges-requires-clause-few c =
     let own = names_at c.args.scan.now.classes c.as_slice-2.result.now in
     let longer = longer_all c.args.self.now.classes own in
-    let room : length c.args.self.now.classes + length c.args.scan.now.own ≤ 1073741824 = c.requires.room in
+    let room : length c.args.self.now.classes + length c.args.scan.now.own ≤ MOST_NAMES = c.requires.room in
     omega (
       arith,
       as_many c.args.scan.now.classes c.add_named.new.numbers c.add_named.new.names c.in_ok-add_named.ensures.same,
@@ -26,7 +27,7 @@ pub add_uses-requires-clause-few : goal.add_uses-requires-clause-few
 add_uses-requires-clause-few c =
     let own = names_at c.args.scan.now.classes c.as_slice-2.result.now in
     let longer = longer_all c.args.self.now.classes own in
-    let room : length c.args.self.now.classes + length c.args.scan.now.own ≤ 1073741824 = c.requires.room in
+    let room : length c.args.self.now.classes + length c.args.scan.now.own ≤ MOST_NAMES = c.requires.room in
     omega (
       arith,
       as_many c.args.scan.now.classes c.add_named.new.numbers c.add_named.new.names c.in_ok-add_named.ensures.same,

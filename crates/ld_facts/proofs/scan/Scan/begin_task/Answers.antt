@@ -26,7 +26,7 @@ returns-in_err-task-clause-fault c fault is start all is_at =
     scan_too_many_tasks all (record c.args.self.now { tasks = c.find.new.self }) (Begin c.args.task.now c.args.hard c.args.soft) found at.1 at.2 ∙ ap Some (sym at.0)
 
 pub returns-clause-ok : goal.returns-clause-ok
-returns-clause-ok c start all line is_at =
+returns-clause-ok c line start all is_at =
     let new = ap is_some (sym c.find.ensures.place) ∙ sym c.is_some.ensures ∙ c.if-is_some.false in
     let has = subst (λ (ts : List (List ℕ)). HasTask (record c.args.self.now { tasks = ts }) c.args.task.now c.in_ok-task.task c.task.new.self) c.find.ensures.same c.in_ok-task.ensures.task in
     let first = subst (λ (b : Bool). IsSet Hard b (get_or c.task.new.self.locks.interrupts c.in_ok-task.task fresh) (get_or c.set.new.self.interrupts c.in_ok-task.task fresh))

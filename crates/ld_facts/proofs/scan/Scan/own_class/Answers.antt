@@ -3,7 +3,8 @@ use Rattle.std.specs.List.{list_any}
 use Rattle.ld_class.specs.Names.{plain_class}
 use Rattle.ld_facts.specs.declared.scan.Scan.{Scan}
 use Rattle.ld_facts.specs.Inner.Scan.{names_at}
-use Rattle.ld_facts.proofs.OwnLemmas.{length-more, own-more, own-new, own-within}
+use Rattle.ld_facts.proofs.OwnLemmas.{own-more, own-new, own-within}
+use Rattle.ld_shown.proofs.NameLemmas.{length-with_name}
 use Rattle.ld_facts.proofs.scan.Scan.own_class.Goals as goal
 
 pub add-requires : goal.add-requires
@@ -24,7 +25,7 @@ returns-clause-many c = (
     ap length added,
     length-append c.args.self.now.own (c.in_ok-class.class ∷ []),
     ap length c.in_ok-class.ensures.classes,
-    length-more c.args.self.now.classes (plain_class c.args.name),
+    (length-with_name c.args.self.now.classes (plain_class c.args.name)).1,
     c.requires.many.3,
   ),
 )

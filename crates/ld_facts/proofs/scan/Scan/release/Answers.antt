@@ -3,20 +3,16 @@ use Rattle.std.proofs.lemmas.Result.{err_from_is_err_and}
 use Rattle.ld_trace.specs.Events.{plain_lock}
 use Rattle.ld_trace.specs.Events.PlainEvent.{Release}
 use Rattle.ld_rules.specs.declared.fault.TraceFault.TheVariants.{NotHeld}
-use Rattle.ld_facts.specs.declared.stop.Stop.TheVariants.{Fault}
 use Rattle.ld_tables.specs.Inner.Locks.{HeldByTasks}
 use Rattle.ld_facts.specs.Inner.Scan.{IsAt, happens}
-use Rattle.ld_facts.proofs.TaskLemmas.{scan_too_many_tasks}
+use Rattle.ld_facts.proofs.TaskLemmas.{task-refused}
 use Rattle.ld_facts.proofs.ReleaseLemmas.{release-not_held, release-at}
 use Rattle.ld_facts.proofs.scan.Scan.release.Goals as goal
 
 pub returns-in_err-task-clause-fault : goal.returns-in_err-task-clause-fault
-returns-in_err-task-clause-fault c fault is start all is_at =
-    let h = c.in_err-task.ensures.fault fault in
-    let p = err_from_is_err_and c.from_residual.result c.from_residual.ensures.1 in
-    let same : c.in_err-task.field-0.0 ≡ Fault fault = cc (p.1, p.2, is) in
-    let at = h (ap Err same) in
-    scan_too_many_tasks all c.args.self.now (Release c.args.task.now (plain_lock c.args.lock)) is_at at.1 at.2 ∙ ap Some (sym at.0)
+returns-in_err-task-clause-fault c =
+    task-refused c.args.self.now (Release c.args.task.now (plain_lock c.args.lock)) c.in_err-task.field-0.0 c.from_residual.result
+    (λ fault same. c.in_err-task.ensures.fault fault (ap Err same)) (err_from_is_err_and c.from_residual.result c.from_residual.ensures.1)
 
 pub returns-else-let_go-clause-fault : goal.returns-else-let_go-clause-fault
 returns-else-let_go-clause-fault c fault is start all is_at =
@@ -25,7 +21,7 @@ returns-else-let_go-clause-fault c fault is start all is_at =
     (sym c.let_go.ensures.held ∙ c.if-let_go.false) ∙ ap Some same
 
 pub returns-then-let_go-clause-ok : goal.returns-then-let_go-clause-ok
-returns-then-let_go-clause-ok c start all line is_at =
+returns-then-let_go-clause-ok c line start all is_at =
     subst (λ (locks : HeldByTasks). IsAt start (all ++ happens line (Release c.args.task.now (plain_lock c.args.lock)) ∷ [])
     (record {
       tasks = c.task.new.self.tasks;

@@ -1,8 +1,8 @@
-use Rattle.std.proofs.Common.{◌++◌, ◌∷◌, [], ap, subst, sym, ◌∙◌}
+use Rattle.std.proofs.Common.{ap, subst, sym, ◌∙◌}
 use Rattle.std.proofs.lemmas.Result.{on_ok_weaker}
 use Rattle.ld_trace.specs.Events.{plain_event}
 use Rattle.ld_rules.specs.Outcome.{event_fault, events}
-use Rattle.ld_facts.specs.Inner.Scan.{IsAt, happens}
+use Rattle.ld_facts.specs.Inner.Scan.{IsStep}
 use Rattle.ld_facts.proofs.scan.Scan.step.Goals as goal
 
 pub returns-in-Acquire-clause-fault : goal.returns-in-Acquire-clause-fault
@@ -19,7 +19,7 @@ returns-in-Nested-clause-fault c fault is start all is_at =
 
 pub returns-in-Release-clause-ok : goal.returns-in-Release-clause-ok
 returns-in-Release-clause-ok c = on_ok_weaker c.release.result
-    (λ h start all is_at. subst (λ e. IsAt start (all ++ happens c.args.line (plain_event e) ∷ []) c.release.new.self) (sym c.in-Release.is) (h start all c.args.line is_at))
+    (λ h. subst (λ e. IsStep c.args.self.now c.args.line (plain_event e) c.release.new.self) (sym c.in-Release.is) (h c.args.line))
     c.release.ensures.ok
 
 pub returns-in-Release-clause-fault : goal.returns-in-Release-clause-fault
@@ -36,7 +36,7 @@ returns-in-Exit-clause-fault c fault is start all is_at =
 
 pub returns-in-Enter-clause-ok : goal.returns-in-Enter-clause-ok
 returns-in-Enter-clause-ok c = on_ok_weaker c.enter.result
-    (λ h start all is_at. subst (λ e. IsAt start (all ++ happens c.args.line (plain_event e) ∷ []) c.enter.new.self) (sym c.in-Enter.is) (h start all c.args.line is_at))
+    (λ h. subst (λ e. IsStep c.args.self.now c.args.line (plain_event e) c.enter.new.self) (sym c.in-Enter.is) (h c.args.line))
     c.enter.ensures.ok
 
 pub returns-in-Enable-clause-fault : goal.returns-in-Enable-clause-fault
@@ -45,7 +45,7 @@ returns-in-Enable-clause-fault c fault is start all is_at =
 
 pub returns-in-Disable-clause-ok : goal.returns-in-Disable-clause-ok
 returns-in-Disable-clause-ok c = on_ok_weaker c.disable.result
-    (λ h start all is_at. subst (λ e. IsAt start (all ++ happens c.args.line (plain_event e) ∷ []) c.disable.new.self) (sym c.in-Disable.is) (h start all c.args.line is_at))
+    (λ h. subst (λ e. IsStep c.args.self.now c.args.line (plain_event e) c.disable.new.self) (sym c.in-Disable.is) (h c.args.line))
     c.disable.ensures.ok
 
 pub returns-in-Disable-clause-fault : goal.returns-in-Disable-clause-fault
@@ -54,7 +54,7 @@ returns-in-Disable-clause-fault c fault is start all is_at =
 
 pub returns-in-Begin-clause-ok : goal.returns-in-Begin-clause-ok
 returns-in-Begin-clause-ok c = on_ok_weaker c.begin_task.result
-    (λ h start all is_at. subst (λ e. IsAt start (all ++ happens c.args.line (plain_event e) ∷ []) c.begin_task.new.self) (sym c.in-Begin.is) (h start all c.args.line is_at))
+    (λ h. subst (λ e. IsStep c.args.self.now c.args.line (plain_event e) c.begin_task.new.self) (sym c.in-Begin.is) (h c.args.line))
     c.begin_task.ensures.ok
 
 pub returns-in-Begin-clause-fault : goal.returns-in-Begin-clause-fault

@@ -17,11 +17,9 @@ no_edge = record { from = 0; to = 0; witness = record { number = 0; line = 0 } }
 pub loop-seen-init : goal.loop-seen-init
 loop-seen-init c = record {
   count = search rules;
-  edges = search rules;
   spare_edges = search rules;
   spare_rows = search rules;
   front = let rows = c.args.self.now.rows.items in ap (λ n. take n (edges_of rows)) (length_rows rows) ∙ take-length (edges_of rows);
-  reach = search rules;
   further = further-same c.args.self.now.reach;
   exact = λ state seeds is. is;
   closing = λ was. was;
@@ -44,7 +42,6 @@ loop-seen-preserved c =
     let left : length batch.edges - i ≡ (length batch.edges - (i + 1)) + 1 = omega arith in
     record {
       count = search rules;
-      edges = c.note-number.ensures.edges;
       spare_edges = omega (arith, c.loop-seen.invariant.spare_edges, c.note-number.ensures.spare_edges);
       spare_rows = c.note-number.ensures.spare_rows (length batch.edges - (i + 1)) (omega (arith, c.loop-seen.invariant.spare_rows, left));
       front =
@@ -52,7 +49,6 @@ loop-seen-preserved c =
           c.note-number.ensures.front (length old)
           (omega (arith, ap length c.loop-seen.invariant.front, length-take (length old) (edges_of c.loop-seen.self.rows.items), length_rows old, length_rows c.loop-seen.self.rows.items))
           ∙ c.loop-seen.invariant.front;
-      reach = c.note-number.ensures.reach;
       further = further-then c.args.self.now.reach c.loop-seen.self.reach c.note-number.new.self.reach c.loop-seen.invariant.further c.note-number.ensures.further;
       exact = λ state seeds is. c.note-number.ensures.exact state seeds (c.loop-seen.invariant.exact state seeds is);
       closing = λ was. c.note-number.ensures.closing (c.loop-seen.invariant.closing was);

@@ -4,18 +4,16 @@ use Rattle.ld_rules.specs.declared.outcome.Witness.{Witness}
 use Rattle.ld_rules.specs.Dependency.{Dependency, same_dependency}
 use Rattle.ld_shown.specs.Batch.{named_dependency, witness_of}
 use Rattle.ld_shown.specs.Inner.Names.{ArePlaces}
-use Rattle.ld_union.specs.Inner.Reached.{AreFurther, HaveClasses, StayExact}
+use Rattle.ld_union.specs.Inner.Reached.{AreFurther, StayExact}
 use Rattle.ld_union.specs.Inner.Union.{AreBetween, AreWitnessed, IsCycleEdge, edges_of, with_first}
 use Rattle.ld_union.proofs.dependencies.Dependencies.add.Given as goal
 
 abbrev pub invariant-loop-seen : goal.invariant-loop-seen
 invariant-loop-seen l = record {
   count : l.self.graph.classes ≡ l.fn.self.graph.classes;
-  edges : l.self.graph.edges ≡ edges_of l.self.rows.items;
   spare_edges : length l.batch.edges ≤ l.self.graph.spare_edges + l.seen-index;
   spare_rows : vec_len l.self.rows + (length l.batch.edges - l.seen-index) ≤ vec_capacity l.self.rows;
   front : take (length l.fn.self.rows.items) (edges_of l.self.rows.items) ≡ edges_of l.fn.self.rows.items;
-  reach : HaveClasses l.self.graph.classes l.self.reach;
   further : AreFurther l.fn.self.reach l.self.reach;
   exact : StayExact (edges_of l.fn.self.rows.items) (edges_of l.self.rows.items) l.fn.self.reach l.self.reach;
   closing : IsCycleEdge (edges_of l.fn.self.rows.items) l.fn.self.closing → IsCycleEdge (edges_of l.self.rows.items) l.self.closing;

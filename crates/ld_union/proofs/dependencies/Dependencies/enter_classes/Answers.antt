@@ -1,7 +1,6 @@
-use Rattle.std.proofs.Common.{rules, ◌≡◌, ◌+◌, ap, arith, subst, sym}
+use Rattle.std.proofs.Common.{rules, ◌≡◌, ◌+◌, ap, arith}
 use Rattle.ld_graph.specs.Edges.{PlainGraph}
 use Rattle.ld_graph.specs.Reach.{PlainReach}
-use Rattle.ld_union.specs.Inner.Reached.{HaveClasses}
 use Rattle.ld_union.proofs.ReachedLemmas.{further-same, further-then}
 use Rattle.ld_union.proofs.dependencies.Dependencies.enter_classes.Goals as goal
 
@@ -19,7 +18,6 @@ loop-preserved c =
       spare = search rules;
       rows = was.rows;
       closing = was.closing;
-      reach = subst (λ n. HaveClasses n c.add_class-in-loop.new.self) (sym classes) (c.add_class-in-loop.ensures.classes c.loop.self.graph.classes was.reach);
       room_hard = omega (arith, was.room_hard, was.so_far, classes, ap (λ (r : PlainReach). r.spare) hard);
       room_soft = omega (arith, was.room_soft, was.so_far, classes, ap (λ (r : PlainReach). r.spare) soft);
       further = further-then c.args.self.now.reach c.loop.self.reach c.add_class-in-loop.new.self was.further c.add_class-in-loop.ensures.further;
@@ -34,7 +32,6 @@ loop-init c = record {
   spare = search rules;
   rows = search rules;
   closing = search rules;
-  reach = search rules;
   room_hard = search rules;
   room_soft = search rules;
   further = further-same c.args.self.now.reach;

@@ -1,6 +1,6 @@
 use Rattle.std.proofs.Common.{◌≡◌, ◌+◌, ◌≤◌, List}
 use Rattle.ld_graph.specs.declared.Edge.{Edge}
-use Rattle.ld_union.specs.Inner.Reached.{AreFurther, HaveClasses, StayExact}
+use Rattle.ld_union.specs.Inner.Reached.{AreFurther, StayExact}
 use Rattle.ld_union.proofs.dependencies.Dependencies.enter_classes.Given as goal
 
 abbrev pub invariant-loop : goal.invariant-loop
@@ -11,7 +11,6 @@ invariant-loop l = record {
   spare : l.self.graph.spare_edges ≡ l.fn.self.graph.spare_edges;
   rows : l.self.rows ≡ l.fn.self.rows;
   closing : l.self.closing ≡ l.fn.self.closing;
-  reach : HaveClasses l.self.graph.classes l.self.reach;
   room_hard : l.count ≤ l.self.graph.classes + l.self.reach.hard.spare;
   room_soft : l.count ≤ l.self.graph.classes + l.self.reach.soft.spare;
   further : AreFurther l.fn.self.reach l.self.reach;

@@ -1,16 +1,24 @@
-use Rattle.std.proofs.Common.{◌+◌, ◌≤◌, subst, sym}
+use Rattle.std.proofs.Common.{◌+◌, ◌≤◌, ap, subst, sym, ◌∙◌}
+use Rattle.ld_graph.specs.Edges.{PlainGraph}
 use Rattle.ld_graph.specs.declared.graph.TheConstants.{MOST_GRAPH_CLASSES}
 use Rattle.ld_trace.specs.declared.event.State.TheVariants.{Hard, Soft}
+use Rattle.ld_union.specs.Inner.Reached.{HaveClasses}
+use Rattle.ld_union.specs.Inner.Union.{edges_of}
 use Rattle.ld_union.proofs.dependencies.Dependencies.room.Goals as goal
 
 pub room-requires-clause-hard : goal.room-requires-clause-hard
-room-requires-clause-hard c = subst (λ n. n + c.args.classes ≤ MOST_GRAPH_CLASSES) (sym (c.requires.reach Hard).count) c.requires.classes
+room-requires-clause-hard c = subst (λ n. n + c.args.classes ≤ MOST_GRAPH_CLASSES) (sym (c.args.self.now.counted Hard).count) c.requires.classes
 
 pub room-requires-clause-soft : goal.room-requires-clause-soft
-room-requires-clause-soft c = subst (λ n. n + c.args.classes ≤ MOST_GRAPH_CLASSES) (sym (c.requires.reach Soft).count) c.requires.classes
+room-requires-clause-soft c = subst (λ n. n + c.args.classes ≤ MOST_GRAPH_CLASSES) (sym (c.args.self.now.counted Soft).count) c.requires.classes
 
-pub returns-in_err-room-clause-reach : goal.returns-in_err-room-clause-reach
-returns-in_err-room-clause-reach c = c.room.ensures.classes c.args.self.now.graph.classes c.requires.reach
+pub invariant_of-self-in-Break-branch-2 : goal.invariant_of-self-in-Break-branch-2
+invariant_of-self-in-Break-branch-2 c = record {
+  numbered = c.args.self.now.numbered ∙ sym (ap edges_of c.in_ok-reserve.ensures.items);
+  counted = c.room.ensures.classes c.args.self.now.graph.classes c.args.self.now.counted;
+}
 
-pub returns-clause-reach : goal.returns-clause-reach
-returns-clause-reach c = c.room.ensures.classes c.args.self.now.graph.classes c.requires.reach
+pub invariant_of-self-2-clause-counted : goal.invariant_of-self-2-clause-counted
+invariant_of-self-2-clause-counted c =
+    subst (λ n. HaveClasses n c.room.new.self) (sym (ap (λ (g : PlainGraph). g.classes) c.room-2.ensures.same))
+    (c.room.ensures.classes c.args.self.now.graph.classes c.args.self.now.counted)

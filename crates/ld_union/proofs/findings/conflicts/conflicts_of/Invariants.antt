@@ -7,5 +7,5 @@ use Rattle.ld_union.specs.Inner.Union.{Shows}
 use Rattle.ld_union.proofs.findings.conflicts.conflicts_of.Given as goal
 
 abbrev pub invariant-loop-class : goal.invariant-loop-class
-invariant-loop-class l = (sources : List PlainSource) → Shows sources l.union
-    → AreConflictRowsOf sources (λ p. (p.0 ≡ l.state) × IsPassed (name_at l.union.classes l.order.numbers.items) l.class-index p.1) (map plain_conflict_row l.rows.items)
+invariant-loop-class l = (sources : List PlainSource) → Shows sources l.fn.indexed.union.now
+    → AreConflictRowsOf sources (λ p. (p.0 ≡ l.state) × IsPassed (name_at l.fn.indexed.union.now.classes l.fn.indexed.order.now.numbers.items) l.class-index p.1) (map plain_conflict_row l.rows.items)

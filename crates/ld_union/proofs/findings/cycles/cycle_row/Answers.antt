@@ -19,7 +19,7 @@ no_row = record { edge = edge 0 0; first = record { number = 0; line = 0 } }
 
 pub returns-then-is_none : goal.returns-then-is_none
 returns-then-is_none c sources shows =
-    let union = c.args.union.now in
+    let union = c.args.indexed.union.now in
     let distances = c.args.distances.now in
     no_cycle-back union.classes union.dependencies shows.numbered sources shows.witnesses c.args.from c.args.to c.requires.from c.requires.to
     (λ there. no_walk (IsEdge (edges_of union.dependencies)) c.args.to c.args.from (get_or distances c.args.to None)
@@ -28,19 +28,19 @@ returns-then-is_none c sources shows =
 
 pub returns-in_default : goal.returns-in_default
 returns-in_default c sources shows =
-    let union = c.args.union.now in
+    let union = c.args.indexed.union.now in
     no_cycle-edge union.classes union.dependencies shows.numbered sources shows.witnesses c.args.from c.args.to c.requires.from c.requires.to
     (subst (λ edges. ¬ IsEdge edges c.args.from c.args.to) c.graph.ensures.edges c.in_default.ensures)
 
 pub returns-in_default-2 : goal.returns-in_default-2
 returns-in_default-2 c sources shows =
-    let union = c.args.union.now in
+    let union = c.args.indexed.union.now in
     no_cycle-walk union.classes union.dependencies shows.numbered sources shows.witnesses c.args.from c.args.to c.requires.from c.requires.to
     (MatchOption-at_none _ _ c.in_default-2.is c.in_ok-via.ensures)
 
 pub returns : goal.returns
 returns c sources shows =
-    let union = c.args.union.now in
+    let union = c.args.indexed.union.now in
     let a = c.args.from in
     let b = c.args.to in
     let what : Dependency = record { from = class_name union.classes a; to = class_name union.classes b } in

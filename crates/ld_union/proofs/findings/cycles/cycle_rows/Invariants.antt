@@ -8,7 +8,7 @@ use Rattle.ld_union.proofs.findings.cycles.cycle_rows.Given as goal
 
 abbrev pub invariant-loop-from : goal.invariant-loop-from
 invariant-loop-from l = record {
-  len : length l.distances ≡ length l.union.classes;
-  rows : (sources : List PlainSource) → Shows sources l.union
-      → AreCycleRowsOf sources (λ p. IsPassed (name_at l.union.classes l.order.numbers.items) l.from-index p.0) (map plain_cycle_row l.rows.items);
+  len : length l.distances ≡ length l.fn.indexed.union.now.classes;
+  rows : (sources : List PlainSource) → Shows sources l.fn.indexed.union.now
+      → AreCycleRowsOf sources (λ p. IsPassed (name_at l.fn.indexed.union.now.classes l.fn.indexed.order.now.numbers.items) l.from-index p.0) (map plain_cycle_row l.rows.items);
 }

@@ -19,7 +19,7 @@ use Rattle.ld_union.proofs.findings.cycles.cycles_from.Goals.{After-deref-to-ite
 
 pub returns-then-is_empty-clause-rows : goal.returns-then-is_empty-clause-rows
 returns-then-is_empty-clause-rows c sources shows =
-    let union = c.args.union.now in
+    let union = c.args.indexed.union.now in
     let a = c.args.from in
     let none : length c.in_ok-ends.ends.items ≡ 0 = search rules in
     subst (AreCycleRowsOf sources (λ p. p.0 ≡ class_name union.classes a)) (sym (ap (map plain_cycle_row) c.new-rows.ensures.items))
@@ -31,15 +31,15 @@ returns-then-is_empty-clause-rows c sources shows =
     omega (arith, l, none)))
 
 -- each class that is gone over is one to which a dependency on a cycle leads
-edge_is : (c : After-deref-to-items) → (k : ℕ) (d : ℕ) → k < length c.deref-to-items.result.now → IsBackEdge c.args.union.now c.args.from (get_or c.deref-to-items.result.now k d)
+edge_is : (c : After-deref-to-items) → (k : ℕ) (d : ℕ) → k < length c.deref-to-items.result.now → IsBackEdge c.args.indexed.union.now c.args.from (get_or c.deref-to-items.result.now k d)
 edge_is c k d within =
     (c.in_ok-ends.ensures.exact (get_or c.deref-to-items.result.now k d)).0
     (subst (λ ends. Contains ends (get_or c.deref-to-items.result.now k d)) c.deref-to-items.ensures.value (Contains-get_or c.deref-to-items.result.now k d within))
 
-end_is : (c : After-deref-to-items) → (k : ℕ) → k < length c.deref-to-items.result.now → class_at c.deref-to-items.result.now k < length c.args.union.now.classes
+end_is : (c : After-deref-to-items) → (k : ℕ) → k < length c.deref-to-items.result.now → class_at c.deref-to-items.result.now k < length c.args.indexed.union.now.classes
 end_is c k within =
     let e = (edge_is c k 0 within).0 in
-    (subst (λ (x : Edge). (x.from < length c.args.union.now.classes) × (x.to < length c.args.union.now.classes)) e.2
+    (subst (λ (x : Edge). (x.from < length c.args.indexed.union.now.classes) × (x.to < length c.args.indexed.union.now.classes)) e.2
     (c.graph.ensures.numbered.ends e.0 (edge c.args.from (class_at c.deref-to-items.result.now k)) e.1)).1
 
 pub cycle_row-requires-clause-to : goal.cycle_row-requires-clause-to
@@ -47,7 +47,7 @@ cycle_row-requires-clause-to c = end_is (goal.at.cycle_row-requires-clause-to c)
 
 pub loop-to-preserved : goal.loop-to-preserved
 loop-to-preserved c sources shows =
-    let union = c.args.union.now in
+    let union = c.args.indexed.union.now in
     let classes = union.classes in
     let from = class_name classes c.args.from in
     let i = c.loop-to.to-index in
@@ -85,7 +85,7 @@ loop-to-preserved c sources shows =
 
 pub returns-clause-rows : goal.returns-clause-rows
 returns-clause-rows c sources shows =
-    let union = c.args.union.now in
+    let union = c.args.indexed.union.now in
     let from = class_name union.classes c.args.from in
     let ends = c.deref-to-items.result.now in
     let i = c.loop-to.to-index in
@@ -105,7 +105,7 @@ cycle_row-requires-clause-distances c =
     let i = c.loop-to.to-index in
     let to = class_at ends i in
     let back = edge_is (goal.at.cycle_row-requires-clause-distances c).After-deref-to-items i 0 c.loop-to-test.true in
-    subst (AreEnoughFrom c.args.union.now to a) (sym c.levels.ensures) (record {
+    subst (AreEnoughFrom c.args.indexed.union.now to a) (sym c.levels.ensures) (record {
       len = c.distances_inside.ensures.len ∙ c.graph.ensures.classes;
       enough = subst (λ es. AreEnough (IsEdge es) to a (λ x. get_or c.distances_inside.new.distances x None)) c.graph.ensures.edges
           (subst (All (λ w. Reaches (IsEdge c.graph.result.now.edges) a w → AreEnough (IsEdge c.graph.result.now.edges) w a (λ x. get_or c.distances_inside.new.distances x None)))
@@ -117,6 +117,6 @@ pub distances_inside-requires-clause-wanted : goal.distances_inside-requires-cla
 distances_inside-requires-clause-wanted c = λ k d within.
     let to = get_or c.deref.result.now k d in
     let there = ((c.in_ok-ends.ensures.exact to).0 (subst (λ ends. Contains ends to) c.deref.ensures.value (Contains-get_or c.deref.result.now k d within))).0 in
-    let low = (subst (λ (x : Edge). (x.from < length c.args.union.now.classes) × (x.to < length c.args.union.now.classes)) there.2
+    let low = (subst (λ (x : Edge). (x.from < length c.args.indexed.union.now.classes) × (x.to < length c.args.indexed.union.now.classes)) there.2
     (c.graph.ensures.numbered.ends there.0 (edge c.args.from to) there.1)).1 in
     omega (arith, low, c.graph.ensures.classes)

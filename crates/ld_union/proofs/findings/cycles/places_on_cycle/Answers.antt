@@ -8,40 +8,40 @@ use Rattle.ld_union.specs.Inner.ByName.{class_at}
 use Rattle.ld_union.specs.Inner.Rows.{IsBackEdge, IsBackPlace}
 use Rattle.ld_union.specs.Inner.Union.{edges_of}
 use Rattle.ld_union.proofs.CycleLemmas.{back-together, together-back}
-use Rattle.ld_union.proofs.StayingLemmas.{AreStaying, AreStaying-none, AreStaying-one_more, AreStaying-other, increasing_from_sort, place_back}
+use Rattle.ld_union.proofs.StayingLemmas.{AreStaying, AreStaying-none, AreStaying-one_more, AreStaying-other, increasing_from_sort}
 use Rattle.ld_union.proofs.findings.cycles.places_on_cycle.Goals as goal
 use Rattle.ld_union.proofs.findings.cycles.places_on_cycle.Goals.{After-after-to-items, then-components-to+in_ok-push, else-components-to}
 
 -- each successor that is read is one
 edge_at : (c : After-after-to-items) → (k : ℕ) → k < length c.after-to-items.result.now
-    → IsEdge (edges_of c.args.union.now.dependencies) c.args.from (get_or c.after-to-items.result.now k 0)
+    → IsEdge (edges_of c.args.indexed.union.now.dependencies) c.args.from (get_or c.after-to-items.result.now k 0)
 edge_at c k within =
     let to = get_or c.after-to-items.result.now k 0 in
     let near : Contains (list_at c.lists.result.now.after.lists c.args.from) to = subst (λ l. Contains l to) c.after-to-items.ensures.near
     (Contains-get_or c.after-to-items.result.now k 0 within) in
     subst (λ edges. IsEdge edges c.args.from to) c.graph.ensures.edges ((c.lists.ensures.after c.args.from to).0 near)
 
-end_at : (c : After-after-to-items) → (to : ℕ) → IsEdge (edges_of c.args.union.now.dependencies) c.args.from to → to < length c.args.union.now.classes
+end_at : (c : After-after-to-items) → (to : ℕ) → IsEdge (edges_of c.args.indexed.union.now.dependencies) c.args.from to → to < length c.args.indexed.union.now.classes
 end_at c to there =
     let e = (c.lists.ensures.ends c.args.from to (subst (λ edges. IsEdge edges c.args.from to) (sym c.graph.ensures.edges) there)).1 in
     omega (arith, e, c.graph.ensures.classes)
 
-near_at : (c : After-after-to-items) → (to : ℕ) → IsEdge (edges_of c.args.union.now.dependencies) c.args.from to → Contains c.after-to-items.result.now to
+near_at : (c : After-after-to-items) → (to : ℕ) → IsEdge (edges_of c.args.indexed.union.now.dependencies) c.args.from to → Contains c.after-to-items.result.now to
 near_at c to there = subst (λ l. Contains l to) (sym c.after-to-items.ensures.near) ((c.lists.ensures.after c.args.from to).1
     (subst (λ edges. IsEdge edges c.args.from to) (sym c.graph.ensures.edges) there))
 
 -- a successor stands at its place
 back_at : (c : After-after-to-items) → (k : ℕ) → k < length c.after-to-items.result.now
-    → (class_at c.args.order.now.places.items (get_or c.after-to-items.result.now k 0) < length c.args.order.now.numbers.items)
-    × (class_at c.args.order.now.numbers.items (class_at c.args.order.now.places.items (get_or c.after-to-items.result.now k 0)) ≡ get_or c.after-to-items.result.now k 0)
+    → (class_at c.args.indexed.order.now.places.items (get_or c.after-to-items.result.now k 0) < length c.args.indexed.order.now.numbers.items)
+    × (class_at c.args.indexed.order.now.numbers.items (class_at c.args.indexed.order.now.places.items (get_or c.after-to-items.result.now k 0)) ≡ get_or c.after-to-items.result.now k 0)
 back_at c k within =
     let to = get_or c.after-to-items.result.now k 0 in
-    place_back c.args.union.now.classes c.args.order.now.numbers.items c.args.order.now.places.items c.requires.order to (end_at c to (edge_at c k within))
+    c.args.indexed.named.every to (end_at c to (edge_at c k within))
 
 pub loop-to-init : goal.loop-to-init
-loop-to-init c = subst (AreStaying c.after-to-items.result.now c.args.components.now c.args.order.now.places.items (get_or c.args.components.now c.args.from 0) 0)
+loop-to-init c = subst (AreStaying c.after-to-items.result.now c.args.components.now c.args.indexed.order.now.places.items (get_or c.args.components.now c.args.from 0) 0)
     (sym c.new-places.ensures.items)
-    (AreStaying-none c.after-to-items.result.now c.args.components.now c.args.order.now.places.items (get_or c.args.components.now c.args.from 0))
+    (AreStaying-none c.after-to-items.result.now c.args.components.now c.args.indexed.order.now.places.items (get_or c.args.components.now c.args.from 0))
 
 pub bounds-components-to : goal.bounds-components-to
 bounds-components-to c =
@@ -55,24 +55,24 @@ index-requires c =
     let a = (goal.at.index-requires c).After-after-to-items in
     let to = get_or c.after-to-items.result.now c.loop-to.to-index 0 in
     let e = end_at a to (edge_at a c.loop-to.to-index c.loop-to-test.true) in
-    omega (arith, e, c.requires.order.placed)
+    omega (arith, e, c.args.indexed.named.placed)
 
 pub loop-to-preserved : goal.loop-to-preserved
 loop-to-preserved c =
     let a = (goal.at.loop-to-preserved c).After-after-to-items in
     let near = c.after-to-items.result.now in
     let components = c.args.components.now in
-    let places = c.args.order.now.places.items in
+    let places = c.args.indexed.order.now.places.items in
     let own = get_or components c.args.from 0 in
     let i = c.loop-to.to-index in
     elim c.if-components-to.branch [
       | then-components-to+in_ok-push w ↦
           let value : c.if-components-to.places.items ≡ c.loop-to.places.items ++ class_at places (get_or near i 0) ∷ [] =
           ap (λ (v : Vec _ _). v.items) w.places-is ∙ w.in_ok-push.ensures.items ∙ ap (λ p. c.loop-to.places.items ++ p ∷ [])
-          (w.index.ensures ∙ get_or_default places (get_or near i 0) w.index.result.now 0 (let e = end_at a (get_or near i 0) (edge_at a i c.loop-to-test.true) in omega (arith, e, c.requires.order.placed))) in
+          (w.index.ensures ∙ get_or_default places (get_or near i 0) w.index.result.now 0 (let e = end_at a (get_or near i 0) (edge_at a i c.loop-to-test.true) in omega (arith, e, c.args.indexed.named.placed))) in
           subst (AreStaying near components places own (i + 1)) (sym value)
           (AreStaying-one_more near components places own i c.loop-to.places.items c.loop-to.invariant c.after-to-items.ensures.once c.loop-to-test.true
-          (λ j k at_j at_k same. sym (back_at a j at_j).1 ∙ ap (class_at c.args.order.now.numbers.items) same ∙ (back_at a k at_k).1)
+          (λ j k at_j at_k same. sym (back_at a j at_j).1 ∙ ap (class_at c.args.indexed.order.now.numbers.items) same ∙ (back_at a k at_k).1)
           w.if-components-to.true)
       | else-components-to w ↦
           subst (AreStaying near components places own (i + 1)) (sym (ap (λ (v : Vec _ _). v.items) w.places-is))
@@ -88,7 +88,7 @@ returns-clause-exact c = λ p. (λ h. forth p h, λ b. back p b)
     a : After-after-to-items
     a = (goal.at.returns-clause-exact c).After-after-to-items
 
-    forth : (p : ℕ) → Contains c.sort_unstable.new.self.items p → IsBackPlace c.args.union.now c.args.order.now.numbers.items c.args.from p
+    forth : (p : ℕ) → Contains c.sort_unstable.new.self.items p → IsBackPlace c.args.indexed.union.now c.args.indexed.order.now.numbers.items c.args.from p
     forth p h =
         let e = c.loop-to.invariant.each p (Contains-permutation c.sort_unstable.new.self.items c.loop-to.places.items p
         (IsPermutation-sym c.loop-to.places.items c.sort_unstable.new.self.items c.sort_unstable.ensures.permutation) h) in
@@ -97,26 +97,26 @@ returns-clause-exact c = λ p. (λ h. forth p h, λ b. back p b)
         let to = get_or near e.0 0 in
         let there = edge_at a e.0 within in
         let at = back_at a e.0 within in
-        let edge : IsBackEdge c.args.union.now c.args.from to = (
+        let edge : IsBackEdge c.args.indexed.union.now c.args.from to = (
           there,
-          back-together (IsEdge (edges_of c.args.union.now.dependencies)) (length c.args.union.now.classes)
+          back-together (IsEdge (edges_of c.args.indexed.union.now.dependencies)) (length c.args.indexed.union.now.classes)
               c.args.components.now c.requires.components c.args.from to c.requires.from (end_at a to there) there e.1.1.0,
         ) in
-        subst (IsBackPlace c.args.union.now c.args.order.now.numbers.items c.args.from) e.1.1.1
-        (at.0, subst (IsBackEdge c.args.union.now c.args.from) (sym at.1) edge)
+        subst (IsBackPlace c.args.indexed.union.now c.args.indexed.order.now.numbers.items c.args.from) e.1.1.1
+        (at.0, subst (IsBackEdge c.args.indexed.union.now c.args.from) (sym at.1) edge)
 
-    back : (p : ℕ) → IsBackPlace c.args.union.now c.args.order.now.numbers.items c.args.from p → Contains c.sort_unstable.new.self.items p
+    back : (p : ℕ) → IsBackPlace c.args.indexed.union.now c.args.indexed.order.now.numbers.items c.args.from p → Contains c.sort_unstable.new.self.items p
     back p b =
-        let to = class_at c.args.order.now.numbers.items p in
+        let to = class_at c.args.indexed.order.now.numbers.items p in
         let there = b.1.0 in
         let k = near_at a to there in
         let l = k.1 in
         let at : get_or near k.0 0 ≡ to = get_or_default near k.0 0 to l ∙ k.2 in
         let found = c.loop-to.invariant.all k.0 (omega (arith, l, c.loop-to-test.false))
-        (ap (λ z. get_or c.args.components.now z 0) at ∙ together-back (IsEdge (edges_of c.args.union.now.dependencies)) (length c.args.union.now.classes) c.args.components.now
+        (ap (λ z. get_or c.args.components.now z 0) at ∙ together-back (IsEdge (edges_of c.args.indexed.union.now.dependencies)) (length c.args.indexed.union.now.classes) c.args.components.now
         c.requires.components c.args.from to c.requires.from (end_at a to there) there b.1.1) in
         Contains-permutation c.loop-to.places.items c.sort_unstable.new.self.items p c.sort_unstable.ensures.permutation
-        (subst (Contains c.loop-to.places.items) (ap (class_at c.args.order.now.places.items) at ∙ c.requires.order.place p b.0) found)
+        (subst (Contains c.loop-to.places.items) (ap (class_at c.args.indexed.order.now.places.items) at ∙ c.args.indexed.named.place p b.0) found)
 
 pub returns-clause-rising : goal.returns-clause-rising
 returns-clause-rising c = increasing_from_sort c.loop-to.places.items c.sort_unstable.new.self.items c.loop-to.invariant.once c.sort_unstable.ensures.permutation

@@ -6,14 +6,15 @@ use Rattle.ld_rules.specs.Usage.Bit.{In}
 use Rattle.ld_union.specs.Inner.Bits.{HasBitAt}
 use Rattle.ld_union.specs.Inner.ByName.{class_at}
 use Rattle.ld_union.specs.Usage.{bits_of}
+use Rattle.ld_union.proofs.ByNameLemmas.{names-rise}
 use Rattle.ld_union.proofs.AcquiredLemmas.{AreOfKind, AreOfKind-all, AreOfKind-one_more, AreOfKind-other}
 use Rattle.ld_union.proofs.findings.forbidden.acquired_by_name.Goals as goal
-use Rattle.ld_union.proofs.findings.forbidden.acquired_by_name.Goals.{After-has, then-has+in_ok-push, else-has}
+use Rattle.ld_union.proofs.findings.forbidden.acquired_by_name.Goals.{then-has+in_ok-push, else-has}
 
 pub loop-class-preserved : goal.loop-class-preserved
 loop-class-preserved c =
-    let union = c.args.union.now in
-    let numbers = c.args.order.now.numbers.items in
+    let union = c.args.indexed.union.now in
+    let numbers = c.args.indexed.order.now.numbers.items in
     let i = c.loop-class.class-index in
     let class : get_or c.deref-class-items.result.now i 0 ≡ class_at numbers i = ap (λ ns. get_or ns i 0) c.deref-class-items.ensures.value in
     let within : i < length numbers = subst (λ ns. i < length ns) c.deref-class-items.ensures.value c.loop-class-test.true in
@@ -25,7 +26,7 @@ loop-class-preserved c =
           ap (λ (v : Vec _ _). v.items) w.classes-is ∙ w.in_ok-push.ensures.items ∙ ap (λ k. c.loop-class.classes.items ++ k ∷ []) class in
           subst (AreOfKind union.classes numbers (λ k. HasBitAt (bits_of union.usage) k (In c.args.state)) (i + 1)) (sym value)
           (AreOfKind-one_more union.classes numbers (λ k. HasBitAt (bits_of union.usage) k (In c.args.state)) i c.loop-class.classes.items c.loop-class.invariant
-          c.requires.order.rising within (sym same ∙ w.if-has.true))
+          (names-rise union.classes numbers c.args.indexed.order.now.places.items c.args.indexed.named) within (sym same ∙ w.if-has.true))
       | else-has w ↦
           subst (AreOfKind union.classes numbers (λ k. HasBitAt (bits_of union.usage) k (In c.args.state)) (i + 1)) (sym (ap (λ (v : Vec _ _). v.items) w.classes-is))
           (AreOfKind-other union.classes numbers (λ k. HasBitAt (bits_of union.usage) k (In c.args.state)) i c.loop-class.classes.items c.loop-class.invariant
@@ -34,13 +35,13 @@ loop-class-preserved c =
 
 pub returns : goal.returns
 returns c =
-    let union = c.args.union.now in
-    let numbers = c.args.order.now.numbers.items in
+    let union = c.args.indexed.union.now in
+    let numbers = c.args.indexed.order.now.numbers.items in
     let i = c.loop-class.class-index in
     let past : length numbers ≤ i = subst (λ ns. length ns ≤ i) c.deref-class-items.ensures.value c.loop-class-test.false in
     let upto : i ≤ length numbers = subst (λ ns. i ≤ length ns) c.deref-class-items.ensures.value c.loop-class.auto.class-index-end in
     record {
       each = AreOfKind-all union.classes numbers (λ k. HasBitAt (bits_of union.usage) k (In c.args.state)) i c.loop-class.classes.items c.loop-class.invariant
-          c.args.order.now.places.items c.requires.order past upto;
+          c.args.indexed.order.now.places.items c.args.indexed.named past upto;
       rising = c.loop-class.invariant.rising;
     }

@@ -8,7 +8,7 @@ use Rattle.ld_union.proofs.findings.forbidden.forbidden_by_end.Given as goal
 
 abbrev pub invariant-loop-to : goal.invariant-loop-to
 invariant-loop-to l = record {
-  len : length l.distances ≡ length l.union.classes;
-  rows : (sources : List PlainSource) → Shows sources l.union
-      → AreTurnedRowsOf sources l.state (λ p. IsPassed (name_at l.union.classes l.order.numbers.items) l.to-index p.0) (map plain_forbidden_row l.rows.items);
+  len : length l.distances ≡ length l.fn.indexed.union.now.classes;
+  rows : (sources : List PlainSource) → Shows sources l.fn.indexed.union.now
+      → AreTurnedRowsOf sources l.state (λ p. IsPassed (name_at l.fn.indexed.union.now.classes l.fn.indexed.order.now.numbers.items) l.to-index p.0) (map plain_forbidden_row l.rows.items);
 }

@@ -11,13 +11,13 @@ use Rattle.ld_union.proofs.findings.forbidden.forbidden_row.Goals as goal
 
 pub returns-in_default-2 : goal.returns-in_default-2
 returns-in_default-2 c sources shows =
-    let union = c.args.union.now in
+    let union = c.args.indexed.union.now in
     no_forbidden-walk union.classes union.dependencies shows.numbered sources shows.witnesses c.args.state c.args.from c.args.target.now.class c.requires.from c.requires.class
     (MatchOption-at_none _ _ c.in_default-2.is c.in_ok-via.ensures)
 
 pub returns : goal.returns
 returns c sources shows =
-    let union = c.args.union.now in
+    let union = c.args.indexed.union.now in
     let a = class_name union.classes c.args.from in
     let b = class_name union.classes c.args.target.now.class in
     let acquired = c.in-Some.acquired in

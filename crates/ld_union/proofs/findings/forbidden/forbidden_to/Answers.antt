@@ -26,7 +26,7 @@ use Rattle.ld_union.proofs.findings.forbidden.forbidden_to.Goals.{in-Some-2+in_o
 
 pub forbidden_row-requires-clause-held : goal.forbidden_row-requires-clause-held
 forbidden_row-requires-clause-held c sources shows =
-    let classes = c.args.union.now.classes in
+    let classes = c.args.indexed.union.now.classes in
     let held = c.in-Some.held in
     subst (λ bit. IsNoted sources (class_name classes c.args.to) bit (plain_class held.name) held.marks held.at)
     (bit_of-usage_of (On c.args.state) c.on_bit.result c.on_bit.ensures) (c.in-Some.ensures sources shows)
@@ -34,7 +34,7 @@ forbidden_row-requires-clause-held c sources shows =
 pub forbidden_row-requires-clause-distances : goal.forbidden_row-requires-clause-distances
 forbidden_row-requires-clause-distances c =
     let from = class_at c.args.acquired.now c.loop-from.from-index in
-    subst (AreEnoughFrom c.args.union.now from c.args.to) (sym c.levels.ensures) (record {
+    subst (AreEnoughFrom c.args.indexed.union.now from c.args.to) (sym c.levels.ensures) (record {
       len = c.distances_to.ensures.len ∙ c.graph.ensures.classes;
       enough = subst (λ es. AreEnough (IsEdge es) from c.args.to (λ x. get_or c.distances_to.new.distances x None)) c.graph.ensures.edges
           (c.distances_to.ensures.enough c.loop-from.from-index 0 c.loop-from-test.true);
@@ -51,7 +51,7 @@ forbidden_row-requires-clause-from c =
 
 pub loop-from-preserved : goal.loop-from-preserved
 loop-from-preserved c sources shows =
-    let classes = c.args.union.now.classes in
+    let classes = c.args.indexed.union.now.classes in
     let numbers = c.args.acquired.now in
     let state = c.args.state in
     let to = class_name classes c.args.to in
@@ -91,7 +91,7 @@ loop-from-preserved c sources shows =
 
 pub returns-clause-rows : goal.returns-clause-rows
 returns-clause-rows c sources shows =
-    let union = c.args.union.now in
+    let union = c.args.indexed.union.now in
     let numbers = c.args.acquired.now in
     let state = c.args.state in
     let to = class_name union.classes c.args.to in
@@ -110,7 +110,7 @@ returns-clause-rows c sources shows =
 
 pub returns-then-is_none-clause-rows : goal.returns-then-is_none-clause-rows
 returns-then-is_none-clause-rows c sources shows =
-    let union = c.args.union.now in
+    let union = c.args.indexed.union.now in
     let state = c.args.state in
     let to = class_name union.classes c.args.to in
     let none : (from : ℕ) → ¬ IsSourceAt (edges_of union.dependencies) (bits_of union.usage) state c.args.to from = search rules in

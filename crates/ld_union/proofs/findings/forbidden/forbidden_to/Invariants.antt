@@ -7,5 +7,5 @@ use Rattle.ld_union.specs.Inner.Union.{Shows}
 use Rattle.ld_union.proofs.findings.forbidden.forbidden_to.Given as goal
 
 abbrev pub invariant-loop-from : goal.invariant-loop-from
-invariant-loop-from l = (sources : List PlainSource) → Shows sources l.union
-    → AreTurnedRowsOf sources l.state (λ p. (p.0 ≡ class_name l.union.classes l.to) × IsPassed (name_at l.union.classes l.acquired) l.from-index p.1) (map plain_forbidden_row l.rows.items)
+invariant-loop-from l = (sources : List PlainSource) → Shows sources l.fn.indexed.union.now
+    → AreTurnedRowsOf sources l.state (λ p. (p.0 ≡ class_name l.fn.indexed.union.now.classes l.to) × IsPassed (name_at l.fn.indexed.union.now.classes l.acquired) l.from-index p.1) (map plain_forbidden_row l.rows.items)

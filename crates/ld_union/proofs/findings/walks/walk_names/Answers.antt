@@ -9,7 +9,7 @@ use Rattle.ld_union.proofs.findings.walks.walk_names.Goals as goal
 
 pub names_of-requires : goal.names_of-requires
 names_of-requires c =
-    let union = c.args.union.now in
+    let union = c.args.indexed.union.now in
     let told = subst (λ edges. MatchOption c.in_ok-walk.walk (¬ HasWalk (IsEdge edges) c.args.from c.args.to)
     (λ w. IsShownWalk (IsEdge edges) (ComesBefore c.deref.result.now) c.args.from c.args.to w.items)) c.graph.ensures.edges c.in_ok-walk.ensures in
     let shown = subst (λ walk. MatchOption walk (¬ HasWalk (IsEdge (edges_of union.dependencies)) c.args.from c.args.to)
@@ -20,8 +20,8 @@ names_of-requires c =
 
 pub returns : goal.returns
 returns c sources shows =
-    let union = c.args.union.now in
-    let order = c.args.order.now in
+    let union = c.args.indexed.union.now in
+    let order = c.args.indexed.order.now in
     let told = subst (λ edges. MatchOption c.in_ok-walk.walk (¬ HasWalk (IsEdge edges) c.args.from c.args.to)
     (λ w. IsShownWalk (IsEdge edges) (ComesBefore c.deref.result.now) c.args.from c.args.to w.items)) c.graph.ensures.edges c.in_ok-walk.ensures in
     let shown = subst (λ walk. MatchOption walk (¬ HasWalk (IsEdge (edges_of union.dependencies)) c.args.from c.args.to)
@@ -31,7 +31,7 @@ returns c sources shows =
     (λ i. map (class_name (c.classes.ensures.same i)) (c.deref-2.ensures.value i)) in
     subst (IsShown sources (class_name union.classes c.args.from) (class_name union.classes c.args.to)) (sym names)
     (shown_named union.classes union.dependencies shows.numbered sources shows.witnesses order.numbers.items order.places.items
-    c.requires.order c.args.from c.args.to c.in-Some.walk.items c.requires.from c.requires.to placed)
+    c.args.indexed.named c.args.from c.args.to c.in-Some.walk.items c.requires.from c.requires.to placed)
 
 pub walk_along-requires-clause-enough : goal.walk_along-requires-clause-enough
 walk_along-requires-clause-enough c =

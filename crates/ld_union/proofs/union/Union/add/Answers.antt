@@ -2,7 +2,7 @@ use Rattle.std.proofs.Common.{rules, All, Contains, ◌<◌, ◌≡◌, ◌-◌,
 use Rattle.std.proofs.lemmas.List.{take_all, with_items_is}
 use Rattle.std.specs.Vec.{with_items}
 use Rattle.ld_class.specs.Names.{PlainClass}
-use Rattle.ld_graph.specs.Edges.{IsEdge}
+use Rattle.ld_graph.specs.Edges.{IsEdge, PlainGraph}
 use Rattle.ld_graph.specs.Reach.{IsReach}
 use Rattle.ld_trace.specs.declared.event.State.{State}
 use Rattle.ld_trace.specs.declared.event.State.TheVariants.{Hard, Soft}
@@ -109,7 +109,7 @@ module _ (c : goal.After-seed_all) where
 
   -- no class was expanded twice
   once : (state : State) → ExpandsOnce (length classes) (of_state c.seed_all.new.self.reach state)
-  once state = subst (λ n. ExpandsOnce n (of_state c.seed_all.new.self.reach state)) (c.add.ensures.classes ∙ sym entered) (c.seed_all.ensures.reach state)
+  once state = subst (λ n. ExpandsOnce n (of_state c.seed_all.new.self.reach state)) (ap (λ (g : PlainGraph). g.classes) c.seed_all.ensures.graph ∙ c.add.ensures.classes ∙ sym entered) (c.seed_all.new.self.counted state)
 
   counted : (state : State) → of_state c.counts-news-inside.result state ≡ length (of_state (reached_by c.self.inside.dependencies.reach) state)
   counted Hard = c.counts-news-inside.ensures.hard
@@ -126,9 +126,9 @@ module _ (c : goal.After-seed_all) where
       reach-seeded (edges_of c.add.new.self.rows.items) (bits_of old_usage) (bits_of (with_items c.resize.new.self c.add_usage.new.rows).items)
       c.add_usage.new.bits.items told state (length classes) was.seeds was.seeded (of_state c.seed_all.new.self.reach state)
       (once state)
-      (subst (λ edges. IsSeeded edges was.seeds state c.add_usage.new.bits.items (of_state c.seed_all.new.self.reach state)) c.add.ensures.edges
+      (subst (λ edges. IsSeeded edges was.seeds state c.add_usage.new.bits.items (of_state c.seed_all.new.self.reach state)) c.add.new.self.numbered
       (rw (← c.deref-3.ensures.value) (c.seed_all.ensures.exact state was.seeds
-      (subst (λ edges. IsReach (IsEdge edges) was.seeds (of_state c.add.new.self.reach state)) (sym c.add.ensures.edges) added))))
+      (subst (λ edges. IsReach (IsEdge edges) was.seeds (of_state c.add.new.self.reach state)) (sym c.add.new.self.numbered) added))))
 
 pub returns-clause-added : goal.returns-clause-added
 returns-clause-added c =
@@ -171,9 +171,6 @@ returns-clause-told c =
       once = λ state. expanded_at more state ∙ (once c state).each ∙ ap (count_by (λ mark. mark)) (sym (marks_at more state));
     })
 
-pub enter_classes-requires-clause-reach : goal.enter_classes-requires-clause-reach
-enter_classes-requires-clause-reach c = rw c.in_ok-room.ensures.graph c.in_ok-room.ensures.reach
-
 pub seed_all-requires-clause-within : goal.seed_all-requires-clause-within
 seed_all-requires-clause-within c =
     let rows = c.add_usage.new.rows in
@@ -195,29 +192,28 @@ seed_all-requires-clause-within c =
 pub invariant_of-self : goal.invariant_of-self
 invariant_of-self c =
     rw (c.room.ensures.graph, c.room.ensures.rows, c.room.ensures.closing)
-    (union-kept c.room.new.self.reach c.self.invariant c.room.ensures.reach (c.room.ensures.exact (edges_of c.self.inside.dependencies.rows.items)))
+    (union-kept c.room.new.self.reach c.self.invariant c.room.new.self.graph.classes (ap (λ (g : PlainGraph). g.classes) c.room.ensures.graph) c.room.new.self.counted (c.room.ensures.exact (edges_of c.self.inside.dependencies.rows.items)))
 
 pub invariant_of-self-in_err-reserve : goal.invariant_of-self-in_err-reserve
 invariant_of-self-in_err-reserve c =
     rw (c.room.ensures.graph, c.room.ensures.rows, c.room.ensures.closing, c.in_err-reserve.ensures.items)
-    (union-kept c.room.new.self.reach c.self.invariant c.room.ensures.reach (c.room.ensures.exact (edges_of c.self.inside.dependencies.rows.items)))
+    (union-kept c.room.new.self.reach c.self.invariant c.room.new.self.graph.classes (ap (λ (g : PlainGraph). g.classes) c.room.ensures.graph) c.room.new.self.counted (c.room.ensures.exact (edges_of c.self.inside.dependencies.rows.items)))
 
 pub invariant_of-self-in_err-reserve-2 : goal.invariant_of-self-in_err-reserve-2
 invariant_of-self-in_err-reserve-2 c =
     rw (c.room.ensures.graph, c.room.ensures.rows, c.room.ensures.closing, c.in_ok-reserve.ensures.items)
-    (union-kept c.room.new.self.reach c.self.invariant c.room.ensures.reach (c.room.ensures.exact (edges_of c.self.inside.dependencies.rows.items)))
+    (union-kept c.room.new.self.reach c.self.invariant c.room.new.self.graph.classes (ap (λ (g : PlainGraph). g.classes) c.room.ensures.graph) c.room.new.self.counted (c.room.ensures.exact (edges_of c.self.inside.dependencies.rows.items)))
 
 pub invariant_of-self-in_err-intern_all : goal.invariant_of-self-in_err-intern_all
 invariant_of-self-in_err-intern_all c =
     rw (c.room.ensures.graph, c.room.ensures.rows, c.room.ensures.closing, c.in_ok-reserve.ensures.items, c.in_err-intern_all.ensures.refused)
-    (union-kept c.room.new.self.reach c.self.invariant c.room.ensures.reach (c.room.ensures.exact (edges_of c.self.inside.dependencies.rows.items)))
+    (union-kept c.room.new.self.reach c.self.invariant c.room.new.self.graph.classes (ap (λ (g : PlainGraph). g.classes) c.room.ensures.graph) c.room.new.self.counted (c.room.ensures.exact (edges_of c.self.inside.dependencies.rows.items)))
 
 pub invariant_of-self-2 : goal.invariant_of-self-2
 invariant_of-self-2 c = rw (c.seed_all.ensures.graph, c.seed_all.ensures.rows, c.seed_all.ensures.closing) (record {
   numbered = c.add.ensures.numbered (classes c) (entered c) (numbered c);
   few = search rules;
   count = c.add.ensures.classes ∙ sym (entered c);
-  edges = c.add.ensures.edges;
   rows = omega (arith, ap length (written c), c.add_usage.ensures.len, ap length c.deref_mut.ensures.value, c.resize.new.self.ok.0, c.in-Ok.ensures.len, c.len-2.ensures.len);
   closing = c.add.ensures.closing
       (subst {A = List Witnessed} (λ all. IsCycleEdge (edges_of all) c.enter_classes.new.self.closing) (sym (rows c))

@@ -1,0 +1,13 @@
+//! A union with its classes by name.
+ghost use Rattle.ld_union.specs.Inner.ByName.{AreByName};
+
+use crate::by_name::ByName;
+use crate::union::Union;
+
+/// A union, and its classes in the order of their names.
+#[derive(Clone, Copy)]
+pub(crate) struct Indexed<'u, 'a> {
+    pub(crate) union: &'u Union<'a>,
+    pub(crate) order: &'u ByName,
+    ghost named: { AreByName union.now.classes order.now.numbers.items order.now.places.items },
+}
