@@ -1,62 +1,24 @@
 -- Every class and every dependency, once they are put in order.
-use Rattle.std.proofs.Common.{◌≡◌, ◌≢◌, inl, inr, ◌<◌, ◌∙◌, [], ◌∷◌, List, ℕ, All, AllPairs, Any, Contains, Decides, IsPermutation, IsSortedByKey, Less, Equal, Greater, Ordering}
-use Rattle.std.proofs.Common.{true, false, is_eq, is_lt, length, map, get_or, refl, sym, ap, subst, arith}
-use Rattle.std.proofs.lemmas.Bool.{true≢false}
-use Rattle.std.proofs.lemmas.Cmp.{on_total, then_total, tied_itself}
+use Rattle.std.proofs.Common.{◌≡◌, ◌≢◌, ◌<◌, ◌∙◌, List, ℕ, All, AllPairs, Any, Contains, IsPermutation, IsSortedByKey}
+use Rattle.std.proofs.Common.{length, map, get_or, sym, ap, subst, arith}
 use Rattle.std.proofs.lemmas.List.{get_or_default, get_or-map, length-map}
-use Rattle.std.proofs.lemmas.List.Sorted.{All-permutation, Contains-permutation}
-use Rattle.std.specs.Cmp.{IsTotalOrder}
-use Rattle.std.specs.Ordering.{ordering_then}
+use Rattle.std.proofs.lemmas.List.Sorted.{All-permutation}
 use Rattle.ld_class.specs.Names.{IsNameAt, PlainClass, no_class, plain_class}
 use Rattle.ld_trace.specs.Sources.{PlainSource}
 use Rattle.ld_rules.specs.Union.{union_classes}
 use Rattle.ld_union.specs.declared.dependencies.Witnessed.{Witnessed}
-use Rattle.ld_union.specs.Findings.{IsPairBefore}
-use Rattle.ld_union.specs.Violations.{Depends}
-use Rattle.ld_union.proofs.NameOrderLemmas.{before_from_less, class_cmp, class_cmp-Decides, class_cmp_total, same_from_equal}
-use Rattle.ld_union.proofs.SortedLemmas.{pair_cmp, rising}
+use Rattle.ld_union.specs.Inner.ByName.{class_cmp}
+use Rattle.ld_union.proofs.ByNameLemmas.{element}
+use Rattle.ld_union.proofs.NameOrderLemmas.{before_from_less, class_cmp-Decides, class_cmp_total}
+use Rattle.ld_union.proofs.SortedLemmas.{Any-permutation, pair_before_from_less, pair_cmp, pair_cmp-Decides, pair_cmp_total, rising}
 use Rattle.ld_book.specs.Dependencies.{AreDependencies, class_at, dependency_at}
 use Rattle.ld_texts.specs.declared.overview.ClassRow.{ClassRow}
 use Rattle.ld_texts.specs.declared.overview.DependencyRow.{DependencyRow}
 use Rattle.ld_texts.specs.Overview.{AreClassRows, AreDependencyRows, AreNamedRows, AreNumberedRows, IsClassRow, IsDependencyRow, ends}
 
--- an element of a list that has one
-element : {X : Type 0} (xs : List X) (k : ℕ) → k < length xs → X
-element [] k within = absurd (omega (arith, within))
-element (x ∷ xs) k within = x
-
-any_moved : {X : Type 0} (P : X → Type 0) (xs ys : List X) → IsPermutation xs ys → Any P xs → Any P ys
-any_moved P xs ys moved h =
-    let there = Contains-permutation xs ys h.1 moved (h.0, h.2, h.3) in
-    (there.0, h.1, there.1, there.2, h.4)
-
 -- the element at a place, where this holds of it
 any_at : {X : Type 0} (P : X → Type 0) (xs : List X) (k : ℕ) (d : X) → k < length xs → P (get_or xs k d) → Any P xs
 any_at P xs k d within holds = (k, get_or xs k d, within, get_or_default xs k (get_or xs k d) d within, holds)
-
-pair_cmp_total : IsTotalOrder pair_cmp
-pair_cmp_total = then_total (on_total (λ p. p.0) class_cmp_total) (on_total (λ p. p.1) class_cmp_total)
-
-same_pair : (p q : PlainClass × PlainClass) → is_eq (pair_cmp p q) ≡ true → p ≡ q
-same_pair p q is = by (class_cmp p.0 q.0) (class_cmp p.1 q.1) refl refl is
-  where
-    by : (r s : Ordering) → class_cmp p.0 q.0 ≡ r → class_cmp p.1 q.1 ≡ s → is_eq (ordering_then r s) ≡ true → p ≡ q
-    by Less s first second h = absurd (true≢false (sym h))
-    by Greater s first second h = absurd (true≢false (sym h))
-    by Equal Less first second h = absurd (true≢false (sym h))
-    by Equal Greater first second h = absurd (true≢false (sym h))
-    by Equal Equal first second h = λ i. (same_from_equal p.0 q.0 first i, same_from_equal p.1 q.1 second i)
-
-pair_cmp-Decides : (p q : PlainClass × PlainClass) → Decides (is_eq (pair_cmp p q)) (p ≡ q)
-pair_cmp-Decides p q = (same_pair p q, λ same. subst (λ r. is_eq (pair_cmp p r) ≡ true) same (ap is_eq (tied_itself pair_cmp_total p)))
-
-pair_before_from_less : (p q : PlainClass × PlainClass) → pair_cmp p q ≡ Less → IsPairBefore p q
-pair_before_from_less p q is = by (class_cmp p.0 q.0) refl is
-  where
-    by : (r : Ordering) → class_cmp p.0 q.0 ≡ r → ordering_then r (class_cmp p.1 q.1) ≡ Less → IsPairBefore p q
-    by Less first h = inl (before_from_less p.0 q.0 first)
-    by Equal first h = inr (same_from_equal p.0 q.0 first, before_from_less p.1 q.1 h)
-    by Greater first h = absurd (true≢false (sym (ap is_lt h)))
 
 -- the classes in their order in the union, and then by their names
 module _ (sources : List PlainSource) (old rows : List ClassRow) (are : AreNumberedRows sources old) (moved : IsPermutation old rows) where
@@ -82,7 +44,7 @@ module _ (sources : List PlainSource) (old rows : List ClassRow) (are : AreNumbe
   pub class_rows-sorted : IsSortedByKey (λ row. plain_class row.class) class_cmp rows → AreClassRows sources rows
   class_rows-sorted sorted = record {
     each = All-permutation (IsClassRow sources) old rows moved are.each;
-    all = λ k there. any_moved (λ row. plain_class row.class ≡ k) old rows moved (owed_there k there);
+    all = λ k there. Any-permutation (λ row. plain_class row.class ≡ k) old rows moved (owed_there k there);
     ordered = λ i j d before within.
         before_from_less (plain_class (get_or rows i d).class) (plain_class (get_or rows j d).class)
         (rising class_cmp class_cmp_total class_cmp-Decides (λ row. plain_class row.class) old rows moved apart sorted i j d before within);
@@ -93,7 +55,7 @@ pub dependency_rows-sorted : (sources : List PlainSource) (old rows : List Depen
     → IsSortedByKey ends pair_cmp rows → AreDependencyRows sources rows
 dependency_rows-sorted sources old rows are moved sorted = record {
   each = All-permutation (IsDependencyRow sources) old rows moved are.each;
-  all = λ p owed. any_moved (λ row. ends row ≡ p) old rows moved (are.all p owed);
+  all = λ p owed. Any-permutation (λ row. ends row ≡ p) old rows moved (are.all p owed);
   ordered = λ i j d before within.
       pair_before_from_less (ends (get_or rows i d)) (ends (get_or rows j d))
       (rising pair_cmp pair_cmp_total pair_cmp-Decides ends old rows moved are.once sorted i j d before within);

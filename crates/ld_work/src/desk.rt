@@ -60,31 +60,6 @@ impl<'a, T: Ledger, E: Ledger> Locked<'a, T, E> {
         Ok(())
     }
 
-    /// Adds the traces of a batch to the book, and to the tally of the feeder.
-    fn submit_batch(
-        &mut self,
-        feeder: &mut Feeder<T, E>,
-        mut batch: Batch<'a>,
-    ) -> Result<(), BatchRefusal<'a>>
-        ensures ok { OnOk result
-            (IsSubmitted batch.entry.sources self.old self.new feeder.old feeder.new) }
-        ensures err { OnErr result (self.new ≡ self.old) }
-        ensures not_counted { OnErr result (feeder.new ≡ feeder.old) }
-        ensures twice { is_any_listed self.old batch.entry.sources ≡ true
-            → result ≡ Err (BatchRefusal.Twice batch.entry) }
-        ensures memory { is_any_listed self.old batch.entry.sources ≡ false
-            → OnErr result (result ≡ Err (BatchRefusal.Memory batch.entry)) }
-    {
-        match self.take(feeder, &mut batch) {
-            Ok(()) => {
-                drop(batch);
-                Ok(())
-            }
-            Err(TakeRefusal::Twice) => Err(BatchRefusal::Twice(batch)),
-            Err(TakeRefusal::Memory) => Err(BatchRefusal::Memory(batch)),
-        }
-    }
-
     /// Adds the traces of a batch to the book, and to the tally of the feeder, and leaves the batch
     /// without traces.
     fn take(&mut self, feeder: &mut Feeder<T, E>, batch: &mut Batch<'a>) -> Result<(), TakeRefusal>
@@ -291,7 +266,7 @@ impl<'d, 'a, T: Ledger, E: Ledger> Look<'d, 'a, T, E> {
     pub fn submit_batch(
         &mut self,
         feeder: &mut Feeder<T, E>,
-        batch: Batch<'a>,
+        mut batch: Batch<'a>,
     ) -> Result<(), BatchRefusal<'a>>
         ensures ok { OnOk result
             (IsSubmitted batch.entry.sources self.old self.new feeder.old feeder.new) }
@@ -303,7 +278,14 @@ impl<'d, 'a, T: Ledger, E: Ledger> Look<'d, 'a, T, E> {
             → OnErr result (result ≡ Err (BatchRefusal.Memory batch.entry)) }
         ensures event { IsEvent self.old self.new feeder.old feeder.new }
     {
-        self.guard.submit_batch(feeder, batch)
+        match self.guard.take(feeder, &mut batch) {
+            Ok(()) => {
+                drop(batch);
+                Ok(())
+            }
+            Err(TakeRefusal::Twice) => Err(BatchRefusal::Twice(batch)),
+            Err(TakeRefusal::Memory) => Err(BatchRefusal::Memory(batch)),
+        }
     }
 
     /// Adds the traces of a batch to the desk's book, as `Book::take` does, and counts them in the
