@@ -44,3 +44,9 @@ fault_of_reduce (reduce_faults.Stream fault) = faults.Together fault
 fault_of_reduce reduce_faults.Write = faults.Write
 fault_of_reduce reduce_faults.Memory = faults.Memory
 fault_of_reduce (reduce_faults.Uneven number) = faults.Uneven number
+
+-- the same fault
+abbrev pub fault_of_check : CheckFault → Fault
+fault_of_check (check_faults.Stream fault) = faults.Together fault
+fault_of_check check_faults.Memory = faults.Memory
+fault_of_check (check_faults.Uneven number) = faults.Uneven number
