@@ -1,4 +1,5 @@
 //! How often some traces acquire each class.
+ghost use Rattle.std.specs.Prelude.{◌≤◌};
 
 use crate::numbered::Numbered;
 use crate::told::{acquired_class, next_told};
@@ -62,20 +63,23 @@ fn counts_of(
 /// Counts the acquisitions of a trace.
 fn count(counts: &mut [u64], numbered: &mut Numbered<'_, '_>, source: Source<'_>) {
     let mut left = source.bytes;
-    while let Some((event, rest)) = next_told(left) {
-        if let Some(event) = event {
-            if let Some(class) = acquired_class(&event) {
-                if let Some(number) = numbered.find(class) {
-                    raise(counts, number);
-                }
-            }
+    // Each line has a byte.
+    for _ in 0..source.bytes.len() {
+        let Some((event, rest)) = next_told(left) else {
+            return;
+        };
+        if let Some(class) = event.and_then(acquired_class) {
+            raise(counts, numbered.find(class));
         }
         left = rest;
     }
 }
 
-/// Counts one more of this number.
-fn raise(counts: &mut [u64], number: u32) {
+/// Counts one more of this number, if there is one.
+fn raise(counts: &mut [u64], number: Option<u32>) {
+    let Some(number) = number else {
+        return;
+    };
     if let Some(count) = counts.get_mut(number as usize) {
         *count = count.saturating_add(1);
     }

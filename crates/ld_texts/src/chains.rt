@@ -4,7 +4,7 @@ use crate::guesses::{Guesses, mixed};
 use indexmap::IndexSet;
 use std::alloc::{AllocError, Global};
 
-/// The number that stands for no class.
+/// The number that stands for a chain of no class.
 pub(crate) const NO_CHAIN: u64 = 0;
 
 /// The number that stands for a chain, that of what is held before it and its last class. Different chains have
@@ -17,12 +17,12 @@ pub(crate) fn chain_of(before: u64, class: u32) -> u64 {
 #[derive(Drop)]
 pub(crate) struct Chains {
     chains: IndexSet<u64>,
-    guesses: Guesses<u64>,
+    guesses: Guesses,
 }
 
 impl Chains {
     pub(crate) fn new(alloc: Global) -> Result<Chains, AllocError> {
-        let guesses = Guesses::new(alloc, NO_CHAIN)?;
+        let guesses = Guesses::new(alloc)?;
         Ok(Chains {
             chains: IndexSet::new(alloc),
             guesses,
@@ -36,7 +36,7 @@ impl Chains {
 
     /// The chain was seen.
     pub(crate) fn add(&mut self, chain: u64) -> Result<(), AllocError> {
-        if self.guesses.of(chain) != Some(chain) {
+        if self.guesses.of(chain) != chain {
             self.chains.insert(chain)?;
             self.guesses.note(chain, chain);
         }

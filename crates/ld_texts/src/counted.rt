@@ -157,7 +157,11 @@ impl<'c, 'a> Counting<'c, 'a> {
     fn trace(&mut self, source: Source<'a>) -> Result<(), AllocError> {
         self.tasks.clear();
         let mut left = source.bytes;
-        while let Some((event, rest)) = next_told(left) {
+        // Each line has a byte.
+        for _ in 0..source.bytes.len() {
+            let Some((event, rest)) = next_told(left) else {
+                break;
+            };
             if let Some(event) = event {
                 self.counted.verbs.count(&event);
                 self.event(event)?;
@@ -170,7 +174,9 @@ impl<'c, 'a> Counting<'c, 'a> {
     /// What an event does.
     fn event(&mut self, event: Event<'a>) -> Result<(), AllocError> {
         match event {
-            Event::Acquire { task, lock } | Event::Try { task, lock } => self.acquire(task, lock, 0),
+            Event::Acquire { task, lock } | Event::Try { task, lock } => self.acquire(
+                task, lock, 0,
+            ),
             Event::Nested { task, lock, sub } => self.acquire(task, lock, sub),
             Event::Release { task, lock } => self.tasks.release(task, lock),
             Event::Enter { task, .. } => self.tasks.enter(task),

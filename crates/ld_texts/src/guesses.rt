@@ -8,32 +8,29 @@ const GUESSES: usize = 1 << 12;
 /// An odd number by which bits are spread.
 const SPREAD: u64 = 0x9e37_79b9_7f4a_7c15;
 
-/// By a number that is made of a key, the value that was noted last for a key of this number. A guess has no
-/// meaning: whoever reads one looks whether it is right.
+/// By a number that is made of a key, the number that was noted last for a key like it. A guess has no meaning:
+/// whoever reads one looks whether it is right.
 #[derive(Drop)]
-pub(crate) struct Guesses<T: Copy> {
-    values: Vec<T>,
+pub(crate) struct Guesses {
+    numbers: Vec<u64>,
 }
 
-impl<T: Copy> Guesses<T> {
-    /// This value for every key.
-    pub(crate) fn new(alloc: Global, value: T) -> Result<Guesses<T>, AllocError> {
-        let mut values = Vec::with_capacity(alloc, GUESSES)?;
-        for _ in 0..GUESSES {
-            values.push(value)?;
-        }
-        Ok(Guesses { values })
+impl Guesses {
+    /// 0 for every key.
+    pub(crate) fn new(alloc: Global) -> Result<Guesses, AllocError> {
+        let numbers = vec![in alloc; 0; GUESSES]?;
+        Ok(Guesses { numbers })
     }
 
     /// What was noted last for a key like this one.
-    pub(crate) fn of(&self, key: u64) -> Option<T> {
-        self.values.get(slot(key)).copied()
+    pub(crate) fn of(&self, key: u64) -> u64 {
+        self.numbers.get(slot(key)).copied().unwrap_or(0)
     }
 
-    /// The key has this value.
-    pub(crate) fn note(&mut self, key: u64, value: T) {
-        if let Some(noted) = self.values.get_mut(slot(key)) {
-            *noted = value;
+    /// The key has this number.
+    pub(crate) fn note(&mut self, key: u64, number: u64) {
+        if let Some(noted) = self.numbers.get_mut(slot(key)) {
+            *noted = number;
         }
     }
 }
@@ -45,7 +42,10 @@ fn slot(key: u64) -> usize {
 
 /// A key of which each bit is touched by those of both numbers.
 pub(crate) fn mixed(first: u64, second: u64) -> u64 {
-    let product = first.wrapping_mul(SPREAD).wrapping_add(second).wrapping_mul(SPREAD);
+    let product = first
+        .wrapping_mul(SPREAD)
+        .wrapping_add(second)
+        .wrapping_mul(SPREAD);
     (product ^ (product >> 32)).wrapping_mul(SPREAD)
 }
 

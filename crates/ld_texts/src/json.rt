@@ -1,5 +1,6 @@
 //! The report as one JSON object a line.
 
+use crate::places::Places;
 use crate::writing::Seen;
 use ld_book::{Book, ClassName, ConflictRow, CycleRow, Findings, ForbiddenRow, Totals, Witness};
 use ld_rules::{Listed, Outcome};
@@ -20,9 +21,15 @@ enum Line<'a> {
         dependencies: u64,
     },
     /// A refused trace, and its first fault.
-    Refused { at: At<'a>, fault: &'a str },
+    Refused {
+        at: At<'a>,
+        fault: &'a str,
+    },
     /// A dependency of a class on itself.
-    Recursion { class: Class<'a>, at: At<'a> },
+    Recursion {
+        class: Class<'a>,
+        at: At<'a>,
+    },
     /// A dependency on a cycle, and a shortest walk back.
     Inversion {
         from: Class<'a>,
@@ -54,7 +61,9 @@ enum Line<'a> {
         walk: Vec<Class<'a>>,
     },
     /// How many violations there are.
-    End { violations: u64 },
+    End {
+        violations: u64,
+    },
 }
 
 /// A class.
@@ -77,19 +86,20 @@ struct At<'a> {
     file_line: u64,
 }
 
-/// The report of a book, each line as an object.
+/// The report of a book of a stream whose lines stand at these places, each line as an object.
 pub(crate) fn json_text(
     alloc: Global,
     book: &Book<'_>,
-    seen: &Seen<'_, '_, '_>,
+    places: &Places<'_>,
 ) -> Result<Vec<u8>, AllocError> {
+    let seen = Seen::new(alloc, book, places)?;
     let findings = book.findings(alloc)?;
     let mut text = Vec::new(alloc);
     write_totals(alloc, &mut text, &book.totals())?;
     for trace in seen.listed() {
-        write_refused(alloc, &mut text, seen, trace)?;
+        write_refused(alloc, &mut text, &seen, trace)?;
     }
-    write_violations(alloc, &mut text, seen, &findings)?;
+    write_violations(alloc, &mut text, &seen, &findings)?;
     let violations = (findings.cycles.items().len() as u64)
         .saturating_add(findings.conflicts.items().len() as u64)
         .saturating_add(findings.forbidden.items().len() as u64);
@@ -119,16 +129,16 @@ fn write_totals(alloc: Global, text: &mut Vec<u8>, totals: &Totals) -> Result<()
 }
 
 /// Writes why a trace is refused, if it is.
-fn write_refused(
+fn write_refused<'x>(
     alloc: Global,
     text: &mut Vec<u8>,
-    seen: &Seen<'_, '_, '_>,
-    trace: &Listed<'_>,
+    seen: &Seen<'_, 'x, 'x>,
+    trace: &Listed<'x>,
 ) -> Result<(), AllocError> {
     let Outcome::Refused { line, fault } = trace.outcome else {
         return Ok(());
     };
-    let at = at(
+    let at = placed(
         seen,
         Witness {
             number: trace.source.number,
@@ -140,11 +150,11 @@ fn write_refused(
 }
 
 /// Writes every violation.
-fn write_violations(
+fn write_violations<'x>(
     alloc: Global,
     text: &mut Vec<u8>,
-    seen: &Seen<'_, '_, '_>,
-    findings: &Findings<'_>,
+    seen: &Seen<'_, 'x, 'x>,
+    findings: &'x Findings<'x>,
 ) -> Result<(), AllocError> {
     for row in findings.cycles.items() {
         write_cycle(alloc, text, seen, row)?;
@@ -159,20 +169,20 @@ fn write_violations(
 }
 
 /// Writes a dependency on a cycle.
-fn write_cycle(
+fn write_cycle<'x>(
     alloc: Global,
     text: &mut Vec<u8>,
-    seen: &Seen<'_, '_, '_>,
-    row: &CycleRow<'_>,
+    seen: &Seen<'_, 'x, 'x>,
+    row: &'x CycleRow<'x>,
 ) -> Result<(), AllocError> {
-    let at = at(seen, row.at);
+    let at = placed(seen, row.at);
     if row.from == row.to {
-        let class = class(row.from);
+        let class = named(row.from);
         return write_line(alloc, text, &Line::Recursion { class, at });
     }
     let line = Line::Inversion {
-        from: class(row.from),
-        to: class(row.to),
+        from: named(row.from),
+        to: named(row.to),
         at,
         walk: walk(alloc, row.via.items())?,
     };
@@ -180,44 +190,44 @@ fn write_cycle(
 }
 
 /// Writes a class with both usage bits of a state.
-fn write_conflict(
+fn write_conflict<'x>(
     alloc: Global,
     text: &mut Vec<u8>,
-    seen: &Seen<'_, '_, '_>,
-    row: &ConflictRow<'_>,
+    seen: &Seen<'_, 'x, 'x>,
+    row: &'x ConflictRow<'x>,
 ) -> Result<(), AllocError> {
     let line = Line::Conflict {
         state: state_name(row.state),
-        class: class(row.class),
+        class: named(row.class),
         usage: word(&row.marks),
-        acquired: at(seen, row.safe_at),
-        held: at(seen, row.unsafe_at),
+        acquired: placed(seen, row.safe_at),
+        held: placed(seen, row.unsafe_at),
     };
     write_line(alloc, text, &line)
 }
 
 /// Writes a forbidden walk.
-fn write_forbidden(
+fn write_forbidden<'x>(
     alloc: Global,
     text: &mut Vec<u8>,
-    seen: &Seen<'_, '_, '_>,
-    row: &ForbiddenRow<'_>,
+    seen: &Seen<'_, 'x, 'x>,
+    row: &'x ForbiddenRow<'x>,
 ) -> Result<(), AllocError> {
     let line = Line::Forbidden {
         state: state_name(row.state),
-        from: class(row.from),
+        from: named(row.from),
         from_usage: word(&row.from_marks),
-        acquired: at(seen, row.safe_at),
-        to: class(row.to),
+        acquired: placed(seen, row.safe_at),
+        to: named(row.to),
         to_usage: word(&row.to_marks),
-        held: at(seen, row.unsafe_at),
+        held: placed(seen, row.unsafe_at),
         walk: walk(alloc, row.via.items())?,
     };
     write_line(alloc, text, &line)
 }
 
 /// Where something was first seen.
-fn at<'a>(seen: &Seen<'_, 'a, 'a>, witness: Witness) -> At<'a> {
+fn placed<'x>(seen: &Seen<'_, 'x, 'x>, witness: Witness) -> At<'x> {
     let (file, file_line) = seen.place(witness.line);
     At {
         label: word(seen.label(witness.number)),
@@ -228,7 +238,7 @@ fn at<'a>(seen: &Seen<'_, 'a, 'a>, witness: Witness) -> At<'a> {
 }
 
 /// A class by its name.
-fn class(class: ClassName<'_>) -> Class<'_> {
+fn named(class: ClassName<'_>) -> Class<'_> {
     Class {
         name: word(class.name),
         subclass: class.sub,
@@ -239,7 +249,7 @@ fn class(class: ClassName<'_>) -> Class<'_> {
 fn walk<'a>(alloc: Global, names: &[ClassName<'a>]) -> Result<Vec<Class<'a>>, AllocError> {
     let mut walk = Vec::with_capacity(alloc, names.len())?;
     for name in names {
-        walk.push(class(*name))?;
+        walk.push(named(*name))?;
     }
     Ok(walk)
 }

@@ -91,7 +91,11 @@ fn write_row(text: &mut Vec<u8>, counts: &Counts, row: &ClassRow<'_>) -> Result<
     let acquired = counts.acquired(row.number);
     let from = counts.walks.reached_from(row.number);
     let to = counts.walks.reaches(row.number);
-    writeln!(text, " acquired {acquired} reached-from {from} reaches {to}").map_err(|_| AllocError)
+    writeln!(
+        text,
+        " acquired {acquired} reached-from {from} reaches {to}"
+    )
+    .map_err(|_| AllocError)
 }
 
 /// Writes what was acquired under a class, `  -> CLASS at LABEL FILE:LINE`: of the rows from this place on

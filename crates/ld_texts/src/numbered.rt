@@ -9,7 +9,7 @@ use std::alloc::{AllocError, Global};
 #[derive(Drop)]
 pub(crate) struct Numbered<'c, 'a> {
     classes: &'c Classes<'a>,
-    guesses: Guesses<u32>,
+    guesses: Guesses,
 }
 
 impl<'c, 'a> Numbered<'c, 'a> {
@@ -17,20 +17,20 @@ impl<'c, 'a> Numbered<'c, 'a> {
         alloc: Global,
         classes: &'c Classes<'a>,
     ) -> Result<Numbered<'c, 'a>, AllocError> {
-        let guesses = Guesses::new(alloc, 0)?;
+        let guesses = Guesses::new(alloc)?;
         Ok(Numbered { classes, guesses })
     }
 
     /// The number of a class.
     pub(crate) fn find(&mut self, class: ClassName<'_>) -> Option<u32> {
         let key = key_of(class.name).wrapping_add((class.sub as u64) << 52);
-        if let Some(guess) = self.guesses.of(key) {
+        if let Ok(guess) = u32::try_from(self.guesses.of(key)) {
             if self.classes.is_at(guess, class) {
                 return Some(guess);
             }
         }
         let found = self.classes.find(class)?;
-        self.guesses.note(key, found);
+        self.guesses.note(key, found as u64);
         Some(found)
     }
 }

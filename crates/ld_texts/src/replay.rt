@@ -30,13 +30,13 @@ pub(crate) struct Task<'a> {
 pub(crate) struct Tasks<'a> {
     alloc: Global,
     tasks: IndexMap<&'a [u8], Task<'a>>,
-    guesses: Guesses<u32>,
+    guesses: Guesses,
 }
 
 impl<'a> Tasks<'a> {
     /// No task.
     pub(crate) fn new(alloc: Global) -> Result<Tasks<'a>, AllocError> {
-        let guesses = Guesses::new(alloc, 0)?;
+        let guesses = Guesses::new(alloc)?;
         Ok(Tasks {
             alloc,
             tasks: IndexMap::new(alloc),
@@ -94,23 +94,17 @@ impl<'a> Tasks<'a> {
     /// The place of the task of this name, which is new where it has none.
     fn place(&mut self, name: &'a [u8]) -> Result<usize, AllocError> {
         let key = key_of(name);
-        if let Some(guess) = self.guesses.of(key) {
-            if let Some((there, _)) = self.tasks.get_index(guess as usize) {
-                if *there == name {
-                    return Ok(guess as usize);
-                }
+        let guess = self.guesses.of(key) as usize;
+        if let Some((there, _)) = self.tasks.get_index(guess) {
+            if *there == name {
+                return Ok(guess);
             }
         }
         let place = match self.tasks.get_index_of(&name) {
             Some(place) => place,
-            None => {
-                let task = Task::new(self.alloc);
-                self.tasks.insert_full(name, task)?.0
-            }
+            None => self.tasks.insert_full(name, Task::new(self.alloc))?.0,
         };
-        if let Ok(number) = u32::try_from(place) {
-            self.guesses.note(key, number);
-        }
+        self.guesses.note(key, place as u64);
         Ok(place)
     }
 }
@@ -162,9 +156,10 @@ impl<'a> Task<'a> {
     fn link_from(&mut self, start: usize) {
         let mut chain = self.chain_before(start);
         for place in start..self.holds.len() {
-            let class = self.holds[place].class;
-            chain = chain_of(chain, class);
-            self.holds[place].chain = chain;
+            if let Some(hold) = self.holds.get_mut(place) {
+                chain = chain_of(chain, hold.class);
+                hold.chain = chain;
+            }
         }
     }
 }

@@ -61,12 +61,7 @@ fn write_figure(text: &mut Vec<u8>, name: &str, figure: u64) -> Result<(), Alloc
 }
 
 /// Writes `GROUP-NAME FIGURE`.
-fn write_part(
-    text: &mut Vec<u8>,
-    group: &str,
-    name: &str,
-    figure: u64,
-) -> Result<(), AllocError> {
+fn write_part(text: &mut Vec<u8>, group: &str, name: &str, figure: u64) -> Result<(), AllocError> {
     writeln!(text, "{group}-{name} {figure}").map_err(|_| AllocError)
 }
 
@@ -119,25 +114,28 @@ fn write_classes(text: &mut Vec<u8>, book: &Book<'_>) -> Result<(), AllocError> 
     let subclasses = (0..classes.len() as u32).filter(|number| classes.name(*number).sub != 0);
     write_figure(text, "subclasses", subclasses.count() as u64)?;
     for bit in 0..BITS.len() {
-        let used = book.usage_rows().iter().filter(|row| row.first[bit].is_some());
+        let used = book
+            .usage_rows()
+            .iter()
+            .filter(|row| row.first[bit].is_some());
         write_part(text, "classes", BITS[bit], used.count() as u64)?;
     }
     Ok(())
 }
 
 /// Writes how many cyclic components there are, and how many of each number of classes.
-fn write_components(
-    alloc: Global,
-    text: &mut Vec<u8>,
-    book: &Book<'_>,
-) -> Result<(), AllocError> {
+fn write_components(alloc: Global, text: &mut Vec<u8>, book: &Book<'_>) -> Result<(), AllocError> {
     let sizes = cyclic_sizes(alloc, book)?;
     write_figure(text, "cyclic-components", sizes.len() as u64)?;
     let mut left = sizes.as_slice();
-    while let Some(size) = left.first().copied() {
+    // Those of one number of classes stand together.
+    for _ in 0..sizes.len() {
+        let Some(size) = left.first().copied() else {
+            break;
+        };
         let count = left.iter().take_while(|other| **other == size).count();
         writeln!(text, "cyclic-components-of-{size} {count}").map_err(|_| AllocError)?;
-        left = &left[count..];
+        left = left.get(count..).unwrap_or(&[]);
     }
     Ok(())
 }
@@ -173,16 +171,34 @@ fn write_violations(text: &mut Vec<u8>, findings: &Findings<'_>) -> Result<(), A
     let conflicts = findings.conflicts.items();
     let forbidden = findings.forbidden.items();
     let recursions = cycles.iter().filter(|row| row.from == row.to).count();
-    let hard = conflicts.iter().filter(|row| row.state == State::Hard).count();
-    let hard_walks = forbidden.iter().filter(|row| row.state == State::Hard).count();
+    let hard = conflicts
+        .iter()
+        .filter(|row| row.state == State::Hard)
+        .count();
+    let hard_walks = forbidden
+        .iter()
+        .filter(|row| row.state == State::Hard)
+        .count();
     let all = (cycles.len() as u64)
         .saturating_add(conflicts.len() as u64)
         .saturating_add(forbidden.len() as u64);
     write_figure(text, "violations", all)?;
     write_figure(text, "recursions", recursions as u64)?;
-    write_figure(text, "inversions", cycles.len().saturating_sub(recursions) as u64)?;
+    write_figure(
+        text,
+        "inversions",
+        cycles.len().saturating_sub(recursions) as u64,
+    )?;
     write_figure(text, "conflicts-hard", hard as u64)?;
-    write_figure(text, "conflicts-soft", conflicts.len().saturating_sub(hard) as u64)?;
+    write_figure(
+        text,
+        "conflicts-soft",
+        conflicts.len().saturating_sub(hard) as u64,
+    )?;
     write_figure(text, "forbidden-hard", hard_walks as u64)?;
-    write_figure(text, "forbidden-soft", forbidden.len().saturating_sub(hard_walks) as u64)
+    write_figure(
+        text,
+        "forbidden-soft",
+        forbidden.len().saturating_sub(hard_walks) as u64,
+    )
 }

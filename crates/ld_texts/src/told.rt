@@ -16,10 +16,10 @@ pub(crate) fn next_told(bytes: &[u8]) -> Option<(Option<Event<'_>>, &[u8])> {
 }
 
 /// The class that an event acquires.
-pub(crate) fn acquired_class<'a>(event: &Event<'a>) -> Option<ClassName<'a>> {
+pub(crate) fn acquired_class(event: Event<'_>) -> Option<ClassName<'_>> {
     match event {
-        Event::Acquire { lock, .. } | Event::Try { lock, .. } => Some(class_of(*lock, 0)),
-        Event::Nested { lock, sub, .. } => Some(class_of(*lock, *sub)),
+        Event::Acquire { lock, .. } | Event::Try { lock, .. } => Some(class_of(lock, 0)),
+        Event::Nested { lock, sub, .. } => Some(class_of(lock, sub)),
         _ => None,
     }
 }

@@ -137,7 +137,7 @@ fn turned(alloc: Global, edges: &[Edge]) -> Result<Vec<Edge>, AllocError> {
 /// The components that have a dependency, by the classes that stand for them, each before those that it leads to.
 fn in_order(alloc: Global, of: &[u32], followers: &Followers) -> Result<Vec<u32>, AllocError> {
     let mut before = vec![in alloc; 0; of.len()]?;
-    for part in 0..of.len() as u32 {
+    for part in 0..count_of(of) {
         for follower in followers.of_class(part) {
             if *follower != part {
                 raise(&mut before, *follower);
@@ -145,7 +145,7 @@ fn in_order(alloc: Global, of: &[u32], followers: &Followers) -> Result<Vec<u32>
         }
     }
     let mut order = Vec::with_capacity(alloc, of.len())?;
-    for part in 0..of.len() as u32 {
+    for part in 0..count_of(of) {
         let is_first = before.get(part as usize).copied() == Some(0);
         if is_first && !followers.of_class(part).is_empty() {
             order.push(part)?;
@@ -163,6 +163,11 @@ fn in_order(alloc: Global, of: &[u32], followers: &Followers) -> Result<Vec<u32>
         }
     }
     Ok(order)
+}
+
+/// How many these are: classes, of which there are never 2^32.
+fn count_of(of: &[u32]) -> u32 {
+    u32::try_from(of.len()).unwrap_or(u32::MAX)
 }
 
 /// One more stands before this one.
@@ -197,7 +202,7 @@ fn counts(
         counts: vec![in alloc; 0; of.len()]?,
     };
     let mut followed = Vec::new(alloc);
-    for class in 0..of.len() as u32 {
+    for class in 0..count_of(of) {
         let part = of.get(class as usize).copied().unwrap_or(class);
         if !followers.of_class(part).is_empty() {
             followed.push(class)?;

@@ -44,11 +44,10 @@ pub fn text_of<R: Threads + Sync>(
     wanted: Wanted<'_>,
     threads: usize,
 ) -> Result<Vec<u8>, AllocError> {
-    let seen = Seen::new(alloc, book, places)?;
     match wanted {
-        Wanted::List(listing) => list_of(rt, alloc, book, &seen, listing, threads),
+        Wanted::List(listing) => list_of(rt, alloc, book, places, listing, threads),
         Wanted::Stats => stats_text(rt, alloc, book, places, threads),
-        Wanted::Json => json_text(alloc, book, &seen),
+        Wanted::Json => json_text(alloc, book, places),
     }
 }
 
@@ -57,14 +56,15 @@ fn list_of<R: Threads + Sync>(
     rt: &R,
     alloc: Global,
     book: &Book<'_>,
-    seen: &Seen<'_, '_, '_>,
+    places: &Places<'_>,
     listing: Listing<'_>,
     threads: usize,
 ) -> Result<Vec<u8>, AllocError> {
+    let seen = Seen::new(alloc, book, places)?;
     let counts = Counts::of(rt, alloc, book, threads)?;
     match listing {
-        Listing::Classes => list_text(alloc, book, seen, &counts, false),
-        Listing::Dependencies => list_text(alloc, book, seen, &counts, true),
-        Listing::Class(name) => class_text(alloc, book, seen, &counts, name.as_bytes()),
+        Listing::Classes => list_text(alloc, book, &seen, &counts, false),
+        Listing::Dependencies => list_text(alloc, book, &seen, &counts, true),
+        Listing::Class(name) => class_text(alloc, book, &seen, &counts, name.as_bytes()),
     }
 }

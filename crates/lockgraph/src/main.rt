@@ -14,6 +14,7 @@ mod reduce;
 mod shown;
 mod stats;
 mod streams;
+mod told;
 mod words;
 
 use fault::Fault;

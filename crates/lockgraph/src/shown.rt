@@ -1,15 +1,17 @@
-//! What `list`, `stats` and `json` have in common: a text on the traces of some files, written whole.
-ghost use Rattle.std.specs.Prelude.{◌≡◌, ◌≢◌, ◌≤◌, ◌↔◌, Err, IfOk, IfSome, IsErr, OnErr, OnOk, Some, false, true};
+//! What `list`, `stats` and `json` have in common: a text on the traces of some files.
+ghost use Rattle.std.specs.Prelude.{◌≡◌, ◌≢◌, ◌≤◌, Err, IfOk, IfSome, Some};
 ghost use Rattle.ld_trace.specs.declared.source.StreamFault.{StreamFault};
 ghost use Rattle.ld_trace.specs.Sources.{stream_fault};
-ghost use Rattle.lockgraph.specs.Shown.{IsVerdictOf};
+ghost use Rattle.lockgraph.specs.declared.fault.Fault.TheVariants.{Together, Write};
+ghost use Rattle.lockgraph.specs.Shown.{IsVerdictOf, verdict_of_read};
 
 use crate::fault::Fault;
 use crate::streams::{Streams, read_streams};
+use crate::told::{Told, write_told};
 use crate::words::Given;
 use ld_book::Book;
 use ld_check::{MOST_WORKERS, NoGate, check};
-use ld_device::{Output, Std, send};
+use ld_device::Std;
 use ld_report::{Verdict, verdict_of};
 use ld_texts::{Places, Wanted, text_of};
 use std::alloc::{AllocError, Global};
@@ -18,95 +20,50 @@ use std::rt::Files;
 use std::sync::Wait;
 use std::thread::Threads;
 
-/// A text on some traces.
-#[derive(Debug, Drop)]
-struct Shown {
-    /// Its bytes.
-    text: Vec<u8>,
-    /// What the traces come to, as far as the text tells it.
-    verdict: Verdict,
-}
-
 /// Writes what is wanted of the files that are named. May wait.
 ///
 /// # Errors
 ///
-/// Those of `read_streams` and of `write_shown`.
+/// Those of `read_streams`, `shown_of` and `write_told`.
 pub fn answer_shown<'a, R: Files + io::Input + Print + AllocGlobal + Threads + Wait + Sync>(
     rt: &R,
     given: &Given<'a>,
     wanted: Wanted<'a>,
 ) -> Result<Verdict, Fault<'a>> {
     let streams = read_streams(rt, &given.files)?;
+    let told = shown_of(rt, rt.alloc(), &streams, wanted, given.workers)?;
     let mut output = Std::new(io::writer(rt));
-    write_shown(
-        rt,
-        rt.alloc(),
-        &streams,
-        wanted,
-        &mut output,
-        given.workers,
-    )
+    write_told(&mut output, &told)
 }
 
-/// Writes what is wanted of some streams, whose traces that many workers read at once, and flushes it. No
-/// write or flush that fails is tried again. May wait.
+/// What is wanted of these streams, whose traces that many workers read at once. May wait.
 ///
 /// # Errors
 ///
-/// `Write` exactly where a write or the flush failed: a first part of the text was written then, and
-/// after any other fault nothing. The other faults are those of `shown_of`.
-fn write_shown<'a, O: Output, R: Threads + Wait + Sync>(
-    rt: &R,
-    alloc: Global,
-    streams: &Streams<'a>,
-    wanted: Wanted<'_>,
-    output: &mut O,
-    workers: usize,
-) -> Result<Verdict, Fault<'a>>
-    requires sound { O.write_failed output.old ≡ false }
-    requires workers { (1 ≤ workers) × (workers ≤ MOST_WORKERS) }
-    ensures flushed { OnOk result (O.is_flushed output.new ≡ true) }
-    ensures write { (result ≡ Err Fault.Write) ↔ (O.write_failed output.new ≡ true) }
-    ensures nothing { IsErr result → result ≢ Err Fault.Write → output.new ≡ output.old }
-    ensures stream { IfSome (stream_fault streams.now.bytes.items) (λ fault.
-        result ≡ Err (Fault.Together fault)) }
-    ensures stream_sound { (fault : StreamFault) → result ≡ Err (Fault.Together fault) →
-        stream_fault streams.now.bytes.items ≡ Some fault }
-{
-    let shown = shown_of(rt, alloc, &streams.bytes, &streams.places, wanted, workers)?;
-    match send(output, &shown.text) {
-        Ok(()) => Ok(shown.verdict),
-        Err(_) => Err(Fault::Write),
-    }
-}
-
-/// What is wanted of a stream, whose lines stand at these places and whose traces that many workers read at
-/// once. May wait.
-///
-/// # Errors
-///
-/// `Together` exactly where the stream has a fault, whatever memory there is; `Memory` where a growth was
+/// `Together` exactly where they are no stream together, whatever memory there is; `Memory` where a growth was
 /// refused; and `Uneven` where the workers' book isn't that of the stream.
 fn shown_of<'a, R: Threads + Wait + Sync>(
     rt: &R,
     alloc: Global,
-    bytes: &[u8],
-    places: &Places<'_>,
+    streams: &Streams<'_>,
     wanted: Wanted<'_>,
     workers: usize,
-) -> Result<Shown, Fault<'a>>
+) -> Result<Told, Fault<'a>>
     requires { (1 ≤ workers) × (workers ≤ MOST_WORKERS) }
-    ensures stream { IfSome (stream_fault bytes.now) (λ fault.
-        result ≡ Err (Fault.Together fault)) }
-    ensures sound { (fault : StreamFault) → result ≡ Err (Fault.Together fault) →
-        stream_fault bytes.now ≡ Some fault }
-    ensures unwritten { result ≢ Err Fault.Write }
+    ensures stream { IfSome (stream_fault streams.now.bytes.items) (λ fault.
+        result ≡ Err (Together fault)) }
+    ensures sound { (fault : StreamFault) → result ≡ Err (Together fault) →
+        stream_fault streams.now.bytes.items ≡ Some fault }
+    ensures unwritten { result ≢ Err Write }
 {
-    let checked = check(rt, alloc, bytes, workers, &NoGate)?;
-    let shown = shown_in(rt, alloc, &checked.book, places, wanted, workers);
-    drop(checked);
-    Ok(shown?)
+    match check(rt, alloc, &streams.bytes, workers, &NoGate) {
+        Ok(checked) => {
+            let told = shown_in(rt, alloc, &checked.book, &streams.places, wanted, workers);
+            drop(checked);
+            Ok(told?)
+        }
+        Err(fault) => Err(Fault::of_check(fault)),
+    }
 }
 
 /// What is wanted of the traces that a book lists.
@@ -116,22 +73,32 @@ fn shown_in<R: Threads + Sync>(
     book: &Book<'_>,
     places: &Places<'_>,
     wanted: Wanted<'_>,
-    workers: usize,
-) -> Result<Shown, AllocError>
-    ensures { IfOk result (λ shown. IsVerdictOf wanted.entry book.now shown.verdict) }
+    threads: usize,
+) -> Result<Told, AllocError>
+    ensures { IfOk result (λ told. IsVerdictOf wanted.entry book.now told.verdict) }
 {
-    let text = text_of(rt, alloc, book, places, wanted, workers)?;
+    let text = text_of(rt, alloc, book, places, wanted, threads)?;
     let verdict = verdict_of_shown(wanted, book);
-    Ok(Shown { text, verdict })
+    Ok(Told { text, verdict })
 }
 
-/// What it comes to that this is told of the traces that a book lists: violations count where the text tells them.
+/// What it comes to that this is told of the traces that a book lists.
 fn verdict_of_shown(wanted: Wanted<'_>, book: &Book<'_>) -> Verdict
     ensures { IsVerdictOf wanted.entry book.now result }
 {
     match wanted {
+        Wanted::List(_) | Wanted::Stats => verdict_of_read(book.totals().refused),
         Wanted::Json => verdict_of(book),
-        _ if book.totals().refused > 0 => Verdict::Refused,
-        _ => Verdict::Clean,
+    }
+}
+
+/// What it comes to that so many traces are refused, where no violation is told.
+fn verdict_of_read(refused: u64) -> Verdict
+    ensures { result ≡ verdict_of_read refused }
+{
+    if refused > 0 {
+        Verdict::Refused
+    } else {
+        Verdict::Clean
     }
 }
