@@ -2,14 +2,23 @@
 //! shown, it is that of its own file.
 #![tactic(auto)]
 
-mod events;
+mod acquisitions;
+mod chains;
+mod components;
+mod counted;
+mod guesses;
+mod json;
 mod list;
+mod numbered;
 mod overview;
 mod places;
+mod replay;
+mod stats;
+mod told;
 mod walks;
 mod wanted;
 mod writing;
 
 pub use overview::{ClassRow, DependencyRow, Overview};
 pub use places::{Place, Places};
-pub use wanted::{Wanted, text_of};
+pub use wanted::{Listing, Wanted, text_of};

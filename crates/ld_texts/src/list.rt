@@ -1,25 +1,38 @@
 //! The list of classes.
 
-use crate::events::Events;
+use crate::acquisitions::acquisitions;
 use crate::overview::{ClassRow, DependencyRow, Overview};
 use crate::walks::Walks;
 use crate::writing::{Seen, is_called, write_at, write_class, write_marks};
 use ld_book::{Book, ClassName, Witness};
 use std::alloc::{AllocError, Global};
 use std::io::Write;
+use std::thread::Threads;
 
 /// What is counted of each class.
 #[derive(Drop)]
-struct Counts {
-    events: Events,
+pub(crate) struct Counts {
+    /// How often each is acquired, by the numbers of the classes.
+    acquired: Vec<u64>,
     walks: Walks,
 }
 
 impl Counts {
-    fn of(alloc: Global, book: &Book<'_>) -> Result<Counts, AllocError> {
-        let events = Events::of(alloc, book)?;
+    /// Those of the classes of a book, whose traces that many threads read at once.
+    pub(crate) fn of<R: Threads + Sync>(
+        rt: &R,
+        alloc: Global,
+        book: &Book<'_>,
+        threads: usize,
+    ) -> Result<Counts, AllocError> {
+        let acquired = acquisitions(rt, alloc, book, threads)?;
         let walks = Walks::of(alloc, book)?;
-        Ok(Counts { events, walks })
+        Ok(Counts { acquired, walks })
+    }
+
+    /// How often a class is acquired.
+    fn acquired(&self, class: u32) -> u64 {
+        self.acquired.get(class as usize).copied().unwrap_or(0)
     }
 }
 
@@ -28,14 +41,14 @@ pub(crate) fn list_text(
     alloc: Global,
     book: &Book<'_>,
     seen: &Seen<'_, '_, '_>,
+    counts: &Counts,
     dependencies: bool,
 ) -> Result<Vec<u8>, AllocError> {
     let overview = Overview::new(alloc, book)?;
-    let counts = Counts::of(alloc, book)?;
     let mut text = Vec::new(alloc);
     let mut start = 0;
     for class in &overview.classes {
-        write_row(&mut text, &counts, class)?;
+        write_row(&mut text, counts, class)?;
         if dependencies {
             start = write_followers(&mut text, seen, &overview.dependencies, start, class.number)?;
         }
@@ -49,16 +62,16 @@ pub(crate) fn class_text(
     alloc: Global,
     book: &Book<'_>,
     seen: &Seen<'_, '_, '_>,
+    counts: &Counts,
     name: &[u8],
 ) -> Result<Vec<u8>, AllocError> {
     let overview = Overview::new(alloc, book)?;
-    let counts = Counts::of(alloc, book)?;
     let mut text = Vec::new(alloc);
     let mut is_there = false;
     for class in &overview.classes {
         if is_called(class.class, name) {
             is_there = true;
-            write_row(&mut text, &counts, class)?;
+            write_row(&mut text, counts, class)?;
             write_usage(&mut text, seen, class)?;
             write_around(&mut text, seen, &overview.dependencies, class.number)?;
         }
@@ -70,15 +83,19 @@ pub(crate) fn class_text(
     Ok(text)
 }
 
-/// Writes `CLASS {MARKS} acquired N after N before N`.
+/// Writes `CLASS {USAGE} acquired N reached-from N reaches N`.
 fn write_row(text: &mut Vec<u8>, counts: &Counts, row: &ClassRow<'_>) -> Result<(), AllocError> {
     write_class(text, row.class)?;
     text.extend_from_slice(b" ")?;
     write_marks(text, &row.usage)?;
-    let acquired = counts.events.acquired(row.number);
-    let before = counts.walks.before(row.number);
-    let behind = counts.walks.behind(row.number);
-    writeln!(text, " acquired {acquired} after {before} before {behind}").map_err(|_| AllocError)
+    let acquired = counts.acquired(row.number);
+    let from = counts.walks.reached_from(row.number);
+    let to = counts.walks.reaches(row.number);
+    writeln!(
+        text,
+        " acquired {acquired} reached-from {from} reaches {to}"
+    )
+    .map_err(|_| AllocError)
 }
 
 /// Writes what was acquired under a class, `  -> CLASS at LABEL FILE:LINE`: of the rows from this place on

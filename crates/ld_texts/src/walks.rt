@@ -1,134 +1,227 @@
-//! How many classes walks lead to from each, and how many lead to it.
+//! To how many classes walks of dependencies lead from each, and from how many they lead to it.
+//!
+//! Classes are followed 512 at a time, a bit each, through the components of the dependencies. So the time is that
+//! of one pass over the dependencies for each 512 classes that a dependency enters, and again for each 512 that
+//! one leaves: linear for some thousand classes, and in general not.
 
-use ld_book::{Book, Edge, Witnessed};
+use crate::components::{Components, Followers};
+use ld_book::{Book, Edge};
 use std::alloc::{AllocError, Global};
 
-/// For each class, by their numbers, how far the dependencies lead.
+/// How many words the bits of a pass have.
+const WORDS: usize = 8;
+
+/// How many classes a pass follows.
+const BITS: usize = 64 * WORDS;
+
+/// A bit for each class that a pass follows.
+type Bits = [u64; WORDS];
+
+/// For each class, by their numbers, how far walks of dependencies lead. A class on a cycle leads to itself.
 #[derive(Drop)]
 pub(crate) struct Walks {
-    /// How many classes a walk leads to from it.
-    behind: Vec<usize>,
-    /// From how many classes a walk leads to it.
-    before: Vec<u32>,
+    /// To how many classes walks lead from it.
+    reaches: Vec<u64>,
+    /// From how many classes walks lead to it.
+    reached_from: Vec<u64>,
 }
 
-/// The classes that directly follow each, by their numbers.
+/// A pass over the components, in the order of what each leads to.
 #[derive(Drop)]
-struct Followers {
-    /// Where those of a class begin.
-    starts: Vec<usize>,
-    classes: Vec<u32>,
-}
-
-/// A search from one class after another.
-#[derive(Drop)]
-struct Search {
-    /// The classes that were reached, in turn.
-    found: Vec<u32>,
-    /// For each class from which one it was reached last, counted from 1.
-    marks: Vec<u32>,
+struct Pass {
+    /// For each class that stands for a component, which of the followed classes are in it or are reached from it.
+    bits: Vec<Bits>,
+    /// For each how many classes are reached from it, over all passes so far.
+    counts: Vec<u64>,
 }
 
 impl Walks {
-    /// Those of the classes of a book. It takes a search for each class.
+    /// Those of the classes of a book.
     pub(crate) fn of(alloc: Global, book: &Book<'_>) -> Result<Walks, AllocError> {
-        let count = book.classes().len();
-        let followers = Followers::of(alloc, count, book.dependencies())?;
-        let mut search = Search {
-            found: Vec::with_capacity(alloc, count)?,
-            marks: vec![in alloc; 0; count]?,
-        };
-        let mut walks = Walks {
-            behind: Vec::with_capacity(alloc, count)?,
-            before: vec![in alloc; 0; count]?,
-        };
-        for class in 0..count as u32 {
-            search.go(&followers, class)?;
-            walks.behind.push(search.found.len())?;
-            for reached in &search.found {
-                if let Some(count) = walks.before.get_mut(*reached as usize) {
-                    *count = count.saturating_add(1);
-                }
-            }
-        }
-        Ok(walks)
+        let components = Components::of(alloc, book)?;
+        let classes = components.of.len();
+        let turned = turned(alloc, &components.edges)?;
+        let followers = Followers::of(alloc, classes, components.edges)?;
+        let leaders = Followers::of(alloc, classes, turned)?;
+        let mut order = in_order(alloc, &components.of, &followers)?;
+        let reached_from = counts(alloc, &components.of, &followers, &leaders, &order)?;
+        order.reverse();
+        let reaches = counts(alloc, &components.of, &leaders, &followers, &order)?;
+        Ok(Walks {
+            reaches,
+            reached_from,
+        })
     }
 
-    /// How many classes a walk leads to from this one.
-    pub(crate) fn behind(&self, class: u32) -> usize {
-        self.behind.get(class as usize).copied().unwrap_or(0)
+    /// To how many classes walks lead from this one.
+    pub(crate) fn reaches(&self, class: u32) -> u64 {
+        self.reaches.get(class as usize).copied().unwrap_or(0)
     }
 
-    /// From how many classes a walk leads to this one.
-    pub(crate) fn before(&self, class: u32) -> u32 {
-        self.before.get(class as usize).copied().unwrap_or(0)
+    /// From how many classes walks lead to this one.
+    pub(crate) fn reached_from(&self, class: u32) -> u64 {
+        self.reached_from.get(class as usize).copied().unwrap_or(0)
     }
 }
 
-impl Followers {
-    fn of(
-        alloc: Global,
-        classes: usize,
-        dependencies: &[Witnessed],
-    ) -> Result<Followers, AllocError> {
-        let mut edges: Vec<Edge> = Vec::with_capacity(alloc, dependencies.len())?;
-        for dependency in dependencies {
-            edges.push(dependency.edge)?;
-        }
-        edges.sort_unstable_by_key(|edge| edge.from);
-        let mut followers = Followers {
-            starts: Vec::with_capacity(alloc, classes)?,
-            classes: Vec::with_capacity(alloc, edges.len())?,
-        };
-        for edge in &edges {
-            // Those between the last class with followers and this one have none.
-            for _ in followers.starts.len()..(edge.from as usize).saturating_add(1) {
-                followers.starts.push(followers.classes.len())?;
+impl Pass {
+    /// Counts which of these classes, no more than a pass follows, are reached from each component.
+    fn follow(&mut self, of: &[u32], followed: &[u32], followers: &Followers, order: &[u32]) {
+        for part in order {
+            if let Some(bits) = self.bits.get_mut(*part as usize) {
+                *bits = [0; WORDS];
             }
-            followers.classes.push(edge.to)?;
         }
-        Ok(followers)
+        for (bit, class) in followed.iter().enumerate() {
+            self.mark(of.get(*class as usize).copied().unwrap_or(*class), bit);
+        }
+        for part in order {
+            self.reach(*part, followers.of_class(*part));
+        }
     }
 
-    /// Those of a class.
-    fn of_class(&self, class: u32) -> &[u32] {
-        let Some(start) = self.starts.get(class as usize) else {
-            return &[];
-        };
-        let end = match self.starts.get((class as usize).saturating_add(1)) {
-            Some(end) => *end,
-            None => self.classes.len(),
-        };
-        self.classes.get(*start..end).unwrap_or(&[])
+    /// A followed class, of this bit, is in this component.
+    fn mark(&mut self, part: u32, bit: usize) {
+        if let Some(bits) = self.bits.get_mut(part as usize) {
+            if let Some(word) = bits.get_mut(bit / 64) {
+                *word |= 1 << (bit % 64);
+            }
+        }
+    }
+
+    /// Counts which followed classes are reached from this component, by what is reached from those that follow it.
+    fn reach(&mut self, part: u32, followers: &[u32]) {
+        let mut reached = [0; WORDS];
+        for follower in followers {
+            if let Some(bits) = self.bits.get(*follower as usize) {
+                join(&mut reached, bits);
+            }
+        }
+        if let Some(count) = self.counts.get_mut(part as usize) {
+            *count = count.saturating_add(ones(&reached));
+        }
+        if let Some(bits) = self.bits.get_mut(part as usize) {
+            join(bits, &reached);
+        }
     }
 }
 
-impl Search {
-    /// Finds the classes to which a walk leads from this one.
-    fn go(&mut self, followers: &Followers, class: u32) -> Result<(), AllocError> {
-        self.found.clear();
-        self.note(followers.of_class(class), class)?;
-        // Each class is found once at most.
-        for at in 0..self.marks.len() {
-            let Some(next) = self.found.get(at).copied() else {
-                break;
-            };
-            self.note(followers.of_class(next), class)?;
-        }
-        Ok(())
+/// Adds the bits of the other one.
+fn join(bits: &mut Bits, other: &Bits) {
+    for at in 0..WORDS {
+        bits[at] |= other[at];
     }
+}
 
-    /// Notes which of these classes are new in the search from `start`.
-    fn note(&mut self, classes: &[u32], start: u32) -> Result<(), AllocError> {
-        let mark = start.saturating_add(1);
-        for class in classes {
-            if let Some(last) = self.marks.get_mut(*class as usize) {
-                if *last != mark {
-                    *last = mark;
-                    self.found.push(*class)?;
-                }
+/// How many bits there are.
+fn ones(bits: &Bits) -> u64 {
+    let mut count: u64 = 0;
+    for word in bits {
+        count = count.saturating_add(word.count_ones() as u64);
+    }
+    count
+}
+
+/// The edges in the other direction.
+fn turned(alloc: Global, edges: &[Edge]) -> Result<Vec<Edge>, AllocError> {
+    let mut turned = Vec::with_capacity(alloc, edges.len())?;
+    for edge in edges {
+        turned.push(Edge {
+            from: edge.to,
+            to: edge.from,
+        })?;
+    }
+    Ok(turned)
+}
+
+/// The components that have a dependency, by the classes that stand for them, each before those that it leads to.
+fn in_order(alloc: Global, of: &[u32], followers: &Followers) -> Result<Vec<u32>, AllocError> {
+    let mut before = vec![in alloc; 0; of.len()]?;
+    for part in 0..count_of(of) {
+        for follower in followers.of_class(part) {
+            if *follower != part {
+                raise(&mut before, *follower);
             }
         }
-        Ok(())
     }
+    let mut order = Vec::with_capacity(alloc, of.len())?;
+    for part in 0..count_of(of) {
+        let is_first = before.get(part as usize).copied() == Some(0);
+        if is_first && !followers.of_class(part).is_empty() {
+            order.push(part)?;
+        }
+    }
+    // Each component is put in order once at most.
+    for at in 0..of.len() {
+        let Some(part) = order.get(at).copied() else {
+            break;
+        };
+        for follower in followers.of_class(part) {
+            if *follower != part && is_last_before(&mut before, *follower) {
+                order.push(*follower)?;
+            }
+        }
+    }
+    Ok(order)
+}
+
+/// How many these are: classes, of which there are never 2^32.
+fn count_of(of: &[u32]) -> u32 {
+    u32::try_from(of.len()).unwrap_or(u32::MAX)
+}
+
+/// One more stands before this one.
+fn raise(before: &mut [u32], part: u32) {
+    if let Some(count) = before.get_mut(part as usize) {
+        *count = count.saturating_add(1);
+    }
+}
+
+/// Whether all that stand before this one were counted down, this one with them.
+fn is_last_before(before: &mut [u32], part: u32) -> bool {
+    match before.get_mut(part as usize) {
+        Some(count) => {
+            *count = count.saturating_sub(1);
+            *count == 0
+        }
+        None => false,
+    }
+}
+
+/// For each class, from how many of those that `leaders` says are led to walks lead to it. The order of the
+/// components is that in which what leads to each stands before it.
+fn counts(
+    alloc: Global,
+    of: &[u32],
+    followers: &Followers,
+    leaders: &Followers,
+    order: &[u32],
+) -> Result<Vec<u64>, AllocError> {
+    let mut pass = Pass {
+        bits: Vec::new(alloc),
+        counts: vec![in alloc; 0; of.len()]?,
+    };
+    let mut followed = Vec::new(alloc);
+    for class in 0..count_of(of) {
+        let part = of.get(class as usize).copied().unwrap_or(class);
+        if !followers.of_class(part).is_empty() {
+            followed.push(class)?;
+        }
+    }
+    if !followed.is_empty() {
+        pass.bits = vec![in alloc; [0; WORDS]; of.len()]?;
+    }
+    for some in followed.chunks(BITS) {
+        pass.follow(of, some, leaders, order);
+    }
+    of_classes(alloc, of, &pass.counts)
+}
+
+/// For each class what was counted of its component.
+fn of_classes(alloc: Global, of: &[u32], counts: &[u64]) -> Result<Vec<u64>, AllocError> {
+    let mut all = Vec::with_capacity(alloc, of.len())?;
+    for part in of {
+        all.push(counts.get(*part as usize).copied().unwrap_or(0))?;
+    }
+    Ok(all)
 }

@@ -1,14 +1,28 @@
 //! What is asked of a book, and the text that answers it.
 
-use crate::list::{class_text, list_text};
+use crate::json::json_text;
+use crate::list::{Counts, class_text, list_text};
 use crate::places::Places;
+use crate::stats::stats_text;
 use crate::writing::Seen;
 use ld_book::Book;
 use std::alloc::{AllocError, Global};
+use std::thread::Threads;
 
 /// What is asked of a book.
 #[derive(Clone, Copy, Debug, PartialEq, Eq)]
 pub enum Wanted<'w> {
+    /// The list of its classes.
+    List(Listing<'w>),
+    /// How much the traces are and show, one figure a line.
+    Stats,
+    /// The report, one JSON object a line.
+    Json,
+}
+
+/// What is listed.
+#[derive(Clone, Copy, Debug, PartialEq, Eq)]
+pub enum Listing<'w> {
     /// Every class, in the order of a report.
     Classes,
     /// Every class, and under each the dependencies that begin with it.
@@ -17,21 +31,40 @@ pub enum Wanted<'w> {
     Class(&'w str),
 }
 
-/// The answer on a book of a stream whose lines stand at these places.
+/// The answer on a book of a stream whose lines stand at these places. That many threads read its traces at once.
 ///
 /// # Errors
 ///
 /// `AllocError` where memory was refused.
-pub fn text_of(
+pub fn text_of<R: Threads + Sync>(
+    rt: &R,
     alloc: Global,
     book: &Book<'_>,
     places: &Places<'_>,
     wanted: Wanted<'_>,
+    threads: usize,
+) -> Result<Vec<u8>, AllocError> {
+    match wanted {
+        Wanted::List(listing) => list_of(rt, alloc, book, places, listing, threads),
+        Wanted::Stats => stats_text(rt, alloc, book, places, threads),
+        Wanted::Json => json_text(alloc, book, places),
+    }
+}
+
+/// The list that is wanted.
+fn list_of<R: Threads + Sync>(
+    rt: &R,
+    alloc: Global,
+    book: &Book<'_>,
+    places: &Places<'_>,
+    listing: Listing<'_>,
+    threads: usize,
 ) -> Result<Vec<u8>, AllocError> {
     let seen = Seen::new(alloc, book, places)?;
-    match wanted {
-        Wanted::Classes => list_text(alloc, book, &seen, false),
-        Wanted::Dependencies => list_text(alloc, book, &seen, true),
-        Wanted::Class(name) => class_text(alloc, book, &seen, name.as_bytes()),
+    let counts = Counts::of(rt, alloc, book, threads)?;
+    match listing {
+        Listing::Classes => list_text(alloc, book, &seen, &counts, false),
+        Listing::Dependencies => list_text(alloc, book, &seen, &counts, true),
+        Listing::Class(name) => class_text(alloc, book, &seen, &counts, name.as_bytes()),
     }
 }

@@ -2,6 +2,7 @@
 
 use crate::places::Places;
 use ld_book::{Book, ClassName, Traces, UsageRow, Witness};
+use ld_rules::Listed;
 use std::alloc::{AllocError, Global};
 use std::io::Write;
 
@@ -21,6 +22,11 @@ impl<'p, 'f, 'a> Seen<'p, 'f, 'a> {
     ) -> Result<Seen<'p, 'f, 'a>, AllocError> {
         let traces = Traces::new(alloc, book)?;
         Ok(Seen { traces, places })
+    }
+
+    /// The traces, in their order.
+    pub(crate) fn listed(&self) -> &[Listed<'a>] {
+        self.traces.listed()
     }
 
     /// The label of a trace. It is empty where there is no such trace.

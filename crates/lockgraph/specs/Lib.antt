@@ -1,4 +1,5 @@
 pub mod Streams
 pub mod Reduced
+pub mod Shown
 pub mod Faults
 pub mod News

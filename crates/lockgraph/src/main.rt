@@ -7,15 +7,23 @@ ghost use Rattle.clap.specs.Values.{kind_of};
 ghost use Rattle.clap.specs.declared.error.kind.ErrorKind.{ErrorKind};
 
 mod fault;
+mod json;
+mod list;
 mod news;
 mod reduce;
+mod shown;
+mod stats;
 mod streams;
+mod told;
 mod words;
 
 use fault::Fault;
+use json::answer_json;
 use ld_report::Verdict;
+use list::answer_list;
 use news::answer_new;
 use reduce::answer_reduce;
+use stats::answer_stats;
 use std::fmt::Display;
 use std::process::ExitCode;
 use std::rt::{Env, Files};
@@ -52,8 +60,11 @@ fn answer<'a, R: Files + io::Input + Print + AllocGlobal + Threads + Wait + Sync
     asked: &Asked<'a>,
 ) -> Result<Verdict, Fault<'a>> {
     match asked {
+        Asked::Json(words) => answer_json(rt, words),
+        Asked::List(words) => answer_list(rt, words),
         Asked::New(words) => answer_new(rt, words),
         Asked::Reduce(words) => answer_reduce(rt, words),
+        Asked::Stats(words) => answer_stats(rt, words),
     }
 }
 

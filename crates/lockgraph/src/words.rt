@@ -2,17 +2,26 @@
 ghost use Rattle.std.specs.Prelude.{◌≤◌};
 ghost use Rattle.ld_check.specs.declared.checked.TheConstants.{MOST_WORKERS};
 
+mod json;
+mod list;
 mod new;
 mod reduce;
+mod stats;
 
 use crate::streams::STANDARD_INPUT;
 use clap::error::ErrorKind;
 use clap::{Arg, ArgAction, ArgMatches, Command, Error, value_parser};
+pub use json::JsonWords;
+use json::{json_command, read_json};
 use ld_check::MOST_WORKERS;
+pub use list::ListWords;
+use list::{list_command, read_list};
 pub use new::NewWords;
 use new::{new_command, read_new};
 pub use reduce::ReduceWords;
 use reduce::{read_reduce, reduce_command};
+pub use stats::StatsWords;
+use stats::{read_stats, stats_command};
 use std::alloc::{AllocError, Global};
 use std::convert::AsStr;
 
@@ -34,16 +43,25 @@ Exit status:
   3  no violation that is told, and a trace is refused
 
 Example:
+  lockgraph list --class rx_lock run.trace
+  lockgraph stats run.trace other.trace
+  lockgraph json run.trace > report.jsonl
   lockgraph new --known known.report run.trace
   lockgraph reduce run.trace other.trace > reduced.trace";
 
 /// What a call asks for.
 #[derive(Debug, Drop)]
 pub enum Asked<'a> {
+    /// `json`.
+    Json(JsonWords<'a>),
+    /// `list`.
+    List(ListWords<'a>),
     /// `new`.
     New(NewWords<'a>),
     /// `reduce`.
     Reduce(ReduceWords<'a>),
+    /// `stats`.
+    Stats(StatsWords<'a>),
 }
 
 /// What each command is given.
@@ -66,8 +84,11 @@ pub fn read_words<'a, S: AsStr>(alloc: Global, words: &'a [S]) -> Result<Asked<'
     let mut command = command_line(alloc)?;
     let matches = command.try_get_matches_from_mut(words)?;
     match matches.subcommand() {
+        Some(("json", matches)) => Ok(Asked::Json(read_json(alloc, &mut command, matches)?)),
+        Some(("list", matches)) => Ok(Asked::List(read_list(alloc, &mut command, matches)?)),
         Some(("new", matches)) => Ok(Asked::New(read_new(alloc, &mut command, matches)?)),
         Some(("reduce", matches)) => Ok(Asked::Reduce(read_reduce(alloc, &mut command, matches)?)),
+        Some(("stats", matches)) => Ok(Asked::Stats(read_stats(alloc, &mut command, matches)?)),
         _ => Err(command.error(ErrorKind::MissingSubcommand, "a command is missing")?),
     }
 }
@@ -126,8 +147,11 @@ fn command_line<'a>(alloc: Global) -> Result<Command<'a>, AllocError> {
         .version(VERSION)
         .after_help(AFTER_HELP)
         .subcommand_required(true)
+        .subcommand(json_command(alloc)?)?
+        .subcommand(list_command(alloc)?)?
         .subcommand(new_command(alloc)?)?
-        .subcommand(reduce_command(alloc)?)
+        .subcommand(reduce_command(alloc)?)?
+        .subcommand(stats_command(alloc)?)
 }
 
 /// `--workers N`.

@@ -1,0 +1,36 @@
+//! Finds the number of a class by its name.
+
+use crate::guesses::{Guesses, key_of};
+use ld_book::{ClassName, Classes};
+use std::alloc::{AllocError, Global};
+
+/// Finds the numbers of classes by their names; of those that are met again and again mostly without a search
+/// of all.
+#[derive(Drop)]
+pub(crate) struct Numbered<'c, 'a> {
+    classes: &'c Classes<'a>,
+    guesses: Guesses,
+}
+
+impl<'c, 'a> Numbered<'c, 'a> {
+    pub(crate) fn new(
+        alloc: Global,
+        classes: &'c Classes<'a>,
+    ) -> Result<Numbered<'c, 'a>, AllocError> {
+        let guesses = Guesses::new(alloc)?;
+        Ok(Numbered { classes, guesses })
+    }
+
+    /// The number of a class.
+    pub(crate) fn find(&mut self, class: ClassName<'_>) -> Option<u32> {
+        let key = key_of(class.name).wrapping_add((class.sub as u64) << 52);
+        if let Ok(guess) = u32::try_from(self.guesses.of(key)) {
+            if self.classes.is_at(guess, class) {
+                return Some(guess);
+            }
+        }
+        let found = self.classes.find(class)?;
+        self.guesses.note(key, found as u64);
+        Some(found)
+    }
+}

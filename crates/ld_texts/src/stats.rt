@@ -1,0 +1,204 @@
+//! How much some traces are and show, one figure a line.
+
+use crate::components::Components;
+use crate::counted::{Counted, Verbs};
+use crate::places::Places;
+use ld_book::{Book, Findings, Totals};
+use ld_rules::{Listed, Outcome, TraceFault};
+use ld_trace::State;
+use std::alloc::{AllocError, Global};
+use std::io::Write;
+use std::thread::Threads;
+
+/// Each fault of a trace, in their order.
+const FAULTS: [TraceFault; 14] = [
+    TraceFault::BadVerb,
+    TraceFault::BadCount,
+    TraceFault::BadName,
+    TraceFault::BadState,
+    TraceFault::TooManyTasks,
+    TraceFault::TooManyClasses,
+    TraceFault::TooDeep,
+    TraceFault::NotHeld,
+    TraceFault::BadNest,
+    TraceFault::Masked,
+    TraceFault::BadExit,
+    TraceFault::HeldAtExit,
+    TraceFault::BadEnable,
+    TraceFault::LateBegin,
+];
+
+/// The names of the usage bits, in the order in which a row of usage has them.
+const BITS: [&str; 4] = ["in-hard", "on-hard", "in-soft", "on-soft"];
+
+/// The figures of a book of a stream whose lines stand at these places. That many threads read its traces at once.
+pub(crate) fn stats_text<R: Threads + Sync>(
+    rt: &R,
+    alloc: Global,
+    book: &Book<'_>,
+    places: &Places<'_>,
+    threads: usize,
+) -> Result<Vec<u8>, AllocError> {
+    let counted = Counted::of(rt, alloc, book, threads)?;
+    let findings = book.findings(alloc)?;
+    let totals = book.totals();
+    let mut text = Vec::new(alloc);
+    write_figure(&mut text, "files", places.count())?;
+    write_traces(&mut text, &totals, book.listed())?;
+    write_events(&mut text, &totals, &counted.verbs)?;
+    write_classes(&mut text, book)?;
+    write_figure(&mut text, "dependencies", totals.dependencies)?;
+    write_figure(&mut text, "chains", counted.chains.count())?;
+    write_figure(&mut text, "depth", counted.depth)?;
+    write_components(alloc, &mut text, book)?;
+    write_violations(&mut text, &findings)?;
+    Ok(text)
+}
+
+/// Writes `NAME FIGURE`.
+fn write_figure(text: &mut Vec<u8>, name: &str, figure: u64) -> Result<(), AllocError> {
+    writeln!(text, "{name} {figure}").map_err(|_| AllocError)
+}
+
+/// Writes `GROUP-NAME FIGURE`.
+fn write_part(text: &mut Vec<u8>, group: &str, name: &str, figure: u64) -> Result<(), AllocError> {
+    writeln!(text, "{group}-{name} {figure}").map_err(|_| AllocError)
+}
+
+/// Writes how many traces there are, and how many of them are refused by each fault.
+fn write_traces(
+    text: &mut Vec<u8>,
+    totals: &Totals,
+    listed: &[Listed<'_>],
+) -> Result<(), AllocError> {
+    write_figure(text, "traces", totals.traces)?;
+    write_figure(text, "refused", totals.refused)?;
+    for fault in &FAULTS {
+        write_part(text, "refused", fault.name(), refused_by(listed, *fault))?;
+    }
+    Ok(())
+}
+
+/// How many traces are refused by a fault.
+fn refused_by(listed: &[Listed<'_>], wanted: TraceFault) -> u64 {
+    let refused = listed.iter().filter(|trace| is_refused_by(trace, wanted));
+    refused.count() as u64
+}
+
+/// Whether a trace is refused by a fault.
+fn is_refused_by(trace: &Listed<'_>, wanted: TraceFault) -> bool {
+    match trace.outcome {
+        Outcome::Refused { fault, .. } => fault == wanted,
+        Outcome::Read { .. } => false,
+    }
+}
+
+/// Writes how many events the traces have that are read, and how many of each verb.
+fn write_events(text: &mut Vec<u8>, totals: &Totals, verbs: &Verbs) -> Result<(), AllocError> {
+    write_figure(text, "events", totals.events)?;
+    write_part(text, "events", "acquire", verbs.acquire)?;
+    write_part(text, "events", "nested", verbs.nested)?;
+    write_part(text, "events", "try", verbs.tries)?;
+    write_part(text, "events", "release", verbs.release)?;
+    write_part(text, "events", "enter", verbs.enter)?;
+    write_part(text, "events", "exit", verbs.exit)?;
+    write_part(text, "events", "enable", verbs.enable)?;
+    write_part(text, "events", "disable", verbs.disable)?;
+    write_part(text, "events", "begin", verbs.begin)
+}
+
+/// Writes how many classes there are, how many of them are subclasses, and how many have each usage bit.
+fn write_classes(text: &mut Vec<u8>, book: &Book<'_>) -> Result<(), AllocError> {
+    let classes = book.classes();
+    write_figure(text, "classes", classes.len() as u64)?;
+    let subclasses = (0..classes.len() as u32).filter(|number| classes.name(*number).sub != 0);
+    write_figure(text, "subclasses", subclasses.count() as u64)?;
+    for bit in 0..BITS.len() {
+        let used = book
+            .usage_rows()
+            .iter()
+            .filter(|row| row.first[bit].is_some());
+        write_part(text, "classes", BITS[bit], used.count() as u64)?;
+    }
+    Ok(())
+}
+
+/// Writes how many cyclic components there are, and how many of each number of classes.
+fn write_components(alloc: Global, text: &mut Vec<u8>, book: &Book<'_>) -> Result<(), AllocError> {
+    let sizes = cyclic_sizes(alloc, book)?;
+    write_figure(text, "cyclic-components", sizes.len() as u64)?;
+    let mut left = sizes.as_slice();
+    // Those of one number of classes stand together.
+    for _ in 0..sizes.len() {
+        let Some(size) = left.first().copied() else {
+            break;
+        };
+        let count = left.iter().take_while(|other| **other == size).count();
+        writeln!(text, "cyclic-components-of-{size} {count}").map_err(|_| AllocError)?;
+        left = left.get(count..).unwrap_or(&[]);
+    }
+    Ok(())
+}
+
+/// How many classes each component has that has a cycle, the least first.
+fn cyclic_sizes(alloc: Global, book: &Book<'_>) -> Result<Vec<u32>, AllocError> {
+    let components = Components::of(alloc, book)?;
+    let mut sizes: Vec<u32> = vec![in alloc; 0; components.of.len()]?;
+    for part in &components.of {
+        if let Some(size) = sizes.get_mut(*part as usize) {
+            *size = size.saturating_add(1);
+        }
+    }
+    let mut cyclic = Vec::new(alloc);
+    for edge in &components.edges {
+        if edge.from == edge.to {
+            // Taken, so that it isn't told again.
+            if let Some(size) = sizes.get_mut(edge.from as usize) {
+                if *size > 0 {
+                    cyclic.push(*size)?;
+                    *size = 0;
+                }
+            }
+        }
+    }
+    cyclic.sort_unstable();
+    Ok(cyclic)
+}
+
+/// Writes how many violations there are, and how many of each kind.
+fn write_violations(text: &mut Vec<u8>, findings: &Findings<'_>) -> Result<(), AllocError> {
+    let cycles = findings.cycles.items();
+    let conflicts = findings.conflicts.items();
+    let forbidden = findings.forbidden.items();
+    let recursions = cycles.iter().filter(|row| row.from == row.to).count();
+    let hard = conflicts
+        .iter()
+        .filter(|row| row.state == State::Hard)
+        .count();
+    let hard_walks = forbidden
+        .iter()
+        .filter(|row| row.state == State::Hard)
+        .count();
+    let all = (cycles.len() as u64)
+        .saturating_add(conflicts.len() as u64)
+        .saturating_add(forbidden.len() as u64);
+    write_figure(text, "violations", all)?;
+    write_figure(text, "recursions", recursions as u64)?;
+    write_figure(
+        text,
+        "inversions",
+        cycles.len().saturating_sub(recursions) as u64,
+    )?;
+    write_figure(text, "conflicts-hard", hard as u64)?;
+    write_figure(
+        text,
+        "conflicts-soft",
+        conflicts.len().saturating_sub(hard) as u64,
+    )?;
+    write_figure(text, "forbidden-hard", hard_walks as u64)?;
+    write_figure(
+        text,
+        "forbidden-soft",
+        forbidden.len().saturating_sub(hard_walks) as u64,
+    )
+}

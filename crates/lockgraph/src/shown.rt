@@ -1,0 +1,104 @@
+//! What `list`, `stats` and `json` have in common: a text on the traces of some files.
+ghost use Rattle.std.specs.Prelude.{◌≡◌, ◌≢◌, ◌≤◌, Err, IfOk, IfSome, Some};
+ghost use Rattle.ld_trace.specs.declared.source.StreamFault.{StreamFault};
+ghost use Rattle.ld_trace.specs.Sources.{stream_fault};
+ghost use Rattle.lockgraph.specs.declared.fault.Fault.TheVariants.{Together, Write};
+ghost use Rattle.lockgraph.specs.Shown.{IsVerdictOf, verdict_of_read};
+
+use crate::fault::Fault;
+use crate::streams::{Streams, read_streams};
+use crate::told::{Told, write_told};
+use crate::words::Given;
+use ld_book::Book;
+use ld_check::{MOST_WORKERS, NoGate, check};
+use ld_device::Std;
+use ld_report::{Verdict, verdict_of};
+use ld_texts::{Places, Wanted, text_of};
+use std::alloc::{AllocError, Global};
+use std::io;
+use std::rt::Files;
+use std::sync::Wait;
+use std::thread::Threads;
+
+/// Writes what is wanted of the files that are named. May wait.
+///
+/// # Errors
+///
+/// Those of `read_streams`, `shown_of` and `write_told`.
+pub fn answer_shown<'a, R: Files + io::Input + Print + AllocGlobal + Threads + Wait + Sync>(
+    rt: &R,
+    given: &Given<'a>,
+    wanted: Wanted<'a>,
+) -> Result<Verdict, Fault<'a>> {
+    let streams = read_streams(rt, &given.files)?;
+    let told = shown_of(rt, rt.alloc(), &streams, wanted, given.workers)?;
+    let mut output = Std::new(io::writer(rt));
+    write_told(&mut output, &told)
+}
+
+/// What is wanted of these streams, whose traces that many workers read at once. May wait.
+///
+/// # Errors
+///
+/// `Together` exactly where they are no stream together, whatever memory there is; `Memory` where a growth was
+/// refused; and `Uneven` where the workers' book isn't that of the stream.
+fn shown_of<'a, R: Threads + Wait + Sync>(
+    rt: &R,
+    alloc: Global,
+    streams: &Streams<'_>,
+    wanted: Wanted<'_>,
+    workers: usize,
+) -> Result<Told, Fault<'a>>
+    requires { (1 ≤ workers) × (workers ≤ MOST_WORKERS) }
+    ensures stream { IfSome (stream_fault streams.now.bytes.items) (λ fault.
+        result ≡ Err (Together fault)) }
+    ensures sound { (fault : StreamFault) → result ≡ Err (Together fault) →
+        stream_fault streams.now.bytes.items ≡ Some fault }
+    ensures unwritten { result ≢ Err Write }
+{
+    match check(rt, alloc, &streams.bytes, workers, &NoGate) {
+        Ok(checked) => {
+            let told = shown_in(rt, alloc, &checked.book, &streams.places, wanted, workers);
+            drop(checked);
+            Ok(told?)
+        }
+        Err(fault) => Err(Fault::of_check(fault)),
+    }
+}
+
+/// What is wanted of the traces that a book lists.
+fn shown_in<R: Threads + Sync>(
+    rt: &R,
+    alloc: Global,
+    book: &Book<'_>,
+    places: &Places<'_>,
+    wanted: Wanted<'_>,
+    threads: usize,
+) -> Result<Told, AllocError>
+    ensures { IfOk result (λ told. IsVerdictOf wanted.entry book.now told.verdict) }
+{
+    let text = text_of(rt, alloc, book, places, wanted, threads)?;
+    let verdict = verdict_of_shown(wanted, book);
+    Ok(Told { text, verdict })
+}
+
+/// What it comes to that this is told of the traces that a book lists.
+fn verdict_of_shown(wanted: Wanted<'_>, book: &Book<'_>) -> Verdict
+    ensures { IsVerdictOf wanted.entry book.now result }
+{
+    match wanted {
+        Wanted::List(_) | Wanted::Stats => verdict_of_read(book.totals().refused),
+        Wanted::Json => verdict_of(book),
+    }
+}
+
+/// What it comes to that so many traces are refused, where no violation is told.
+fn verdict_of_read(refused: u64) -> Verdict
+    ensures { result ≡ verdict_of_read refused }
+{
+    if refused > 0 {
+        Verdict::Refused
+    } else {
+        Verdict::Clean
+    }
+}

@@ -1,0 +1,76 @@
+//! The words of `list`.
+
+use super::{Given, count_of_workers, named_files, read_given};
+use clap::{Arg, ArgAction, ArgMatches, Command, Error};
+use ld_texts::Listing;
+use std::alloc::{AllocError, Global};
+
+/// What the help of `list` says behind its words.
+const AFTER_LIST: &str = "\
+Writes a line for each class that the traces acquire, in the order of a report:
+  CLASS {USAGE} acquired N reached-from N reaches N
+N are how often it is acquired, from how many classes walks of dependencies lead to it, and to how many they
+lead from it; a class on a cycle counts itself. Under it stand with --dependencies those that begin with it,
+each with the place where it was first seen:
+  -> CLASS at LABEL FILE:LINE
+Of one class --class writes where each usage bit was first seen, under which classes it was acquired (under),
+and which ones were acquired under it (over), or `NAME not seen`.
+
+Exit status: 3 where a trace is refused, of which nothing is listed, 0 else, 2 where there is no whole answer.
+
+Example:
+  lockgraph list --dependencies run.trace
+  lockgraph list --class rx_lock run.trace other.trace";
+
+/// What `list` is asked.
+#[derive(Debug, Drop)]
+pub struct ListWords<'a> {
+    /// What is to be listed.
+    pub listing: Listing<'a>,
+    /// The files with the streams, and how they are read.
+    pub given: Given<'a>,
+}
+
+/// `list [--dependencies] [--class NAME] [--workers N] [FILE]..`.
+pub fn list_command<'a>(alloc: Global) -> Result<Command<'a>, AllocError> {
+    let dependencies = Arg::new(alloc, "dependencies")
+        .long("dependencies")
+        .help("Under each class the dependencies that begin with it")
+        .action(ArgAction::SetTrue);
+    let class = Arg::new(alloc, "class")
+        .long("class")
+        .value_name("NAME")
+        .help("This class alone, and what was held around it")
+        .action(ArgAction::Set);
+    Command::new(alloc, "list")
+        .about("Writes the classes that the traces acquire, and what each leads to")
+        .after_help(AFTER_LIST)
+        .arg(dependencies)?
+        .arg(class)?
+        .arg(count_of_workers(alloc))?
+        .arg(named_files(alloc))
+}
+
+/// What the words behind `list` ask for.
+///
+/// # Errors
+///
+/// Those of `read_words`.
+pub fn read_list<'a>(
+    alloc: Global,
+    command: &mut Command<'a>,
+    matches: &ArgMatches<'a>,
+) -> Result<ListWords<'a>, Error> {
+    let listing = listing(matches);
+    let given = read_given(alloc, command, matches, None)?;
+    Ok(ListWords { listing, given })
+}
+
+/// What is to be listed. What is told of one class has its dependencies.
+fn listing<'a>(matches: &ArgMatches<'a>) -> Listing<'a> {
+    match matches.get_str("class") {
+        Some(name) => Listing::Class(name),
+        None if matches.get_flag("dependencies") => Listing::Dependencies,
+        None => Listing::Classes,
+    }
+}
