@@ -70,19 +70,19 @@ impl<'a> Scan<'a> {
         ensures fault { IsItsFault self.old (plain_event event.entry) result }
         ensures first { StandsOn self.old self.new }
     {
-        match event {
-            Event::Acquire { task, lock } => self.acquire(task, lock, line, Taking::Waiting),
-            Event::Try { task, lock } => self.acquire(task, lock, line, Taking::Trying),
-            Event::Nested { task, lock, sub } => {
-                self.acquire(task, lock, line, Taking::Nesting(sub))
-            }
-            Event::Release { task, lock } => self.release(task, lock),
-            Event::Enter { task, state } => self.enter(task, state),
-            Event::Exit { task, state } => self.exit(task, state, line),
-            Event::Enable { task, state } => self.enable(task, state, line),
-            Event::Disable { task, state } => self.disable(task, state),
-            Event::Begin { task, hard, soft } => self.begin_task(task, hard, soft),
-        }
+        let acquired = match event {
+            Event::Acquire { task, lock } => (task, lock, Taking::Waiting),
+            Event::Try { task, lock } => (task, lock, Taking::Trying),
+            Event::Nested { task, lock, sub } => (task, lock, Taking::Nesting(sub)),
+            Event::Release { task, lock } => return self.release(task, lock),
+            Event::Enter { task, state } => return self.enter(task, state),
+            Event::Exit { task, state } => return self.exit(task, state, line),
+            Event::Enable { task, state } => return self.enable(task, state, line),
+            Event::Disable { task, state } => return self.disable(task, state),
+            Event::Begin { task, hard, soft } => return self.begin_task(task, hard, soft),
+        };
+        let (task, lock, how) = acquired;
+        self.acquire(task, lock, line, how)
     }
 
     /// An acquisition.

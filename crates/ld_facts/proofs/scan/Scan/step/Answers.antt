@@ -1,21 +1,33 @@
-use Rattle.std.proofs.Common.{ap, subst, sym, ◌∙◌}
+use Rattle.std.proofs.Common.{List, ℕ, Bor, ap, subst, sym, ◌∙◌}
 use Rattle.std.proofs.lemmas.Result.{on_ok_weaker}
-use Rattle.ld_trace.specs.Events.{plain_event}
+use Rattle.ld_trace.specs.Events.{PlainEvent, plain_event, plain_lock}
+use Rattle.ld_trace.specs.declared.event.Lock.{Lock}
 use Rattle.ld_rules.specs.Outcome.{event_fault, events}
-use Rattle.ld_facts.specs.Inner.Scan.{IsStep}
+use Rattle.ld_facts.specs.declared.taking.Taking.{Taking}
+use Rattle.ld_facts.specs.Inner.Scan.{IsStep, acquisition}
+use Rattle.ld_facts.proofs.scan.Scan.step.Goals.{in-Acquire, in-Try, in-Nested}
 use Rattle.ld_facts.proofs.scan.Scan.step.Goals as goal
 
-pub returns-in-Acquire-clause-fault : goal.returns-in-Acquire-clause-fault
-returns-in-Acquire-clause-fault c fault is start all is_at =
-    ap (λ e. event_fault (events all) (plain_event e)) c.in-Acquire.is ∙ c.acquire.ensures.fault fault is start all is_at
+-- the event of what is taken: a task, a lock, and how it is taken
+abbrev event_taken : Bor (List ℕ) × Lock × Taking → PlainEvent
+event_taken taken = acquisition taken.2 taken.0.now (plain_lock taken.1)
 
-pub returns-in-Try-clause-fault : goal.returns-in-Try-clause-fault
-returns-in-Try-clause-fault c fault is start all is_at =
-    ap (λ e. event_fault (events all) (plain_event e)) c.in-Try.is ∙ c.acquire-in-Try.ensures.fault fault is start all is_at
-
-pub returns-in-Nested-clause-fault : goal.returns-in-Nested-clause-fault
-returns-in-Nested-clause-fault c fault is start all is_at =
-    ap (λ e. event_fault (events all) (plain_event e)) c.in-Nested.is ∙ c.acquire-in-Nested.ensures.fault fault is start all is_at
+pub returns-clause-fault : goal.returns-clause-fault
+returns-clause-fault c fault is start all is_at =
+    elim c.match-event.branch [
+      | in-Acquire w ↦
+          ap (λ e. event_fault (events all) (plain_event e)) w.in-Acquire.is
+          ∙ ap (λ t. event_fault (events all) (event_taken t)) (sym w.acquired-is)
+          ∙ c.acquire.ensures.fault fault is start all is_at
+      | in-Try w ↦
+          ap (λ e. event_fault (events all) (plain_event e)) w.in-Try.is
+          ∙ ap (λ t. event_fault (events all) (event_taken t)) (sym w.acquired-is)
+          ∙ c.acquire.ensures.fault fault is start all is_at
+      | in-Nested w ↦
+          ap (λ e. event_fault (events all) (plain_event e)) w.in-Nested.is
+          ∙ ap (λ t. event_fault (events all) (event_taken t)) (sym w.acquired-is)
+          ∙ c.acquire.ensures.fault fault is start all is_at
+    ]
 
 pub returns-in-Release-clause-ok : goal.returns-in-Release-clause-ok
 returns-in-Release-clause-ok c = on_ok_weaker c.release.result
