@@ -7,8 +7,8 @@ ghost use Rattle.ld_graph.specs.Inner.Lines.{IsWritten};
 use std::alloc::{AllocError, Global};
 use std::marker::Model;
 
-/// Classes in a line. A place in it is a place in one of two lists, so that a range of it is read and
-/// written as plain lists are, without a look at each place for where the line wraps around.
+/// Classes in a line. A place in it is a place in one of two lists: a whole range is copied and written as
+/// plain lists are, and a single place is read or set by a look at which of them has it.
 #[derive(Drop)]
 pub struct Line {
     /// The classes that were put before all others, the last one last.

@@ -51,7 +51,7 @@ fn pick(row: &Row<'_>, search: &Search, part: Part, pool: &[u32], classes: &mut 
     }
 }
 
-/// Puts the offsets that both searches have found into the pool, in their order, and the classes at them into a
+/// Puts the offsets that either search has found into the pool, in their order, and the classes at them into a
 /// list, those that the search backward has found first.
 pub fn share(
     row: &Row<'_>,

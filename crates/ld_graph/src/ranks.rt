@@ -22,7 +22,7 @@ pub struct Ranks {
     order: Line,
     /// The rank of the first class in the order.
     first: u32,
-    /// The classes of a range, while it is repaired.
+    /// The classes of a range, where all of its ranks are dealt out.
     row: Vec<u32>,
     space: Space,
     /// For how many classes there is memory.

@@ -23,11 +23,11 @@ pub struct Space {
     pub behind: Search,
     /// What the search forward has found.
     pub ahead: Search,
-    /// At its front the classes of the range in their new order.
+    /// At its front the classes of the range in their new order, where all of its ranks are dealt out.
     pub moved: Vec<u32>,
     /// At its front those of them that come behind, until they are joined to the others.
     pub rest: Vec<u32>,
-    /// The offsets that both searches have found, in their order.
+    /// The offsets that either search has found, in their order.
     pub pool: Vec<u32>,
     /// The classes at these offsets in their new order.
     pub shared: Vec<u32>,
@@ -38,7 +38,7 @@ pub struct Space {
 pub enum Dealt {
     /// All of the range, in the order that `moved` has.
     Whole,
-    /// Those that both searches have found, among themselves, in the order that `shared` has.
+    /// Those that either search has found, among themselves, in the order that `shared` has.
     Shared,
 }
 

@@ -192,7 +192,7 @@ fn go_on(
 }
 
 /// Searches from both ends of the range within it, in turn until one side has ended. Then the other one may go
-/// on for as many lists as it has read and a small part of the range.
+/// on for as many lists as it has read, one more, and a 64th of the range.
 pub fn search_range(
     lists: &Lists,
     steps: &mut Steps,

@@ -162,7 +162,8 @@ pub record IsPlan (step : ℕ → ℕ → Type 0) (ranks : List ℕ) (low : ℕ)
   pub rising : (i k : ℕ) → i < k → k < length moved → at i < at k
   pub some_or : (i : ℕ) → i < length row → ((k : ℕ) × ((k < length moved) × (at k ≡ i)))
       ⊎ ((k : ℕ) → k < length moved → at k ≢ i)
-  -- what leads to one in front is in front too, and what one of the others leads to is one of these
+  -- what leads to one in front, from within the range, is in front too; and what one of the others leads to, within
+  -- the range, is one of the others
   pub closed_front : (x y k : ℕ) → step x y → IsInside low (length row) (slice_index ranks x)
       → IsOne low at (length moved) (slice_index ranks y) k → front k ≡ true
       → (i : ℕ) × (IsOne low at (length moved) (slice_index ranks x) i × (front i ≡ true))
@@ -174,7 +175,7 @@ pub record IsPlan (step : ℕ → ℕ → Type 0) (ranks : List ℕ) (low : ℕ)
   pub some : 0 < expanded
   pub few : expanded ≤ length row
 
--- the offsets that both searches have found, in their order, and the classes at them, those that the
+-- the offsets that either search has found, in their order, and the classes at them, those that the
 -- search backward has found first
 pub record AreShared (row behind ahead pool shared : List ℕ) : Type 0 where
   pub rising : (i k : ℕ) → i < k → k < length pool → slice_index pool i < slice_index pool k
