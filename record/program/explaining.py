@@ -22,6 +22,12 @@ def both_ways(forth, back, lock, other):
             + witness(16, lock, back[1], 15, other, back[0]))
 
 
+def callers(maker):
+    """What `explain` says of a class of which several callers of a function made locks."""
+    return (f"    all calls of {maker} are this class: if its locks are of several kinds, record with "
+            f"--through {maker}\n")
+
+
 SOURCE = "../planted"
 # The symbol of Pair::open(int), and a place in the program, whose path has an address behind it.
 OPEN = "pairs:_ZN4Pair4openEi+HEX"
@@ -40,9 +46,9 @@ new_lock:recursion.c:18
                "Pair::open:pairs.cc:44", "Pair::open:pairs.cc:48") + f"""\
 Pair::open:pairs.cc:44
     first locked in Pair::open(int) at {SOURCE}/pairs.cc:44
-Pair::open:pairs.cc:48
+{callers("Pair::open")}Pair::open:pairs.cc:48
     first locked in Pair::open(int) at {SOURCE}/pairs.cc:48
-"""),
+{callers("Pair::open")}"""),
     # A variable, whose symbol isn't its name.
     ("links.cc", ["-O0"], f"""\
 inversion conn_init:links.cc:28 -> links:_ZL5table at links-1:8 via links:_ZL5table -> conn_init:links.cc:28
@@ -53,14 +59,27 @@ inversion links:_ZL5table -> conn_init:links.cc:28 at links-1:4 via conn_init:li
         and holds links:_ZL5table since line 3, taken in {TAKE_BOTH} at {SOURCE}/planted.h:20
 conn_init:links.cc:28
     initialised in conn_init.. at {SOURCE}/links.cc:28
-links:_ZL5table
+{callers("conn_init")}links:_ZL5table
     is the variable table of ../links
 """),
+    # Locks of two kinds by one function, which isn't said: the inversion is none.
+    ("kinds.c", ["-O2"], f"""\
+inversion kinds:table -> lock_new:kinds.c:25 at kinds-1:8 via lock_new:kinds.c:25 -> kinds:table
+    kinds-1:8 takes lock_new:kinds.c:25 in take_both at {SOURCE}/planted.h:21
+        and holds kinds:table since line 7, taken in take_both at {SOURCE}/planted.h:20
+inversion lock_new:kinds.c:25 -> kinds:table at kinds-1:4 via kinds:table -> lock_new:kinds.c:25
+    kinds-1:4 takes kinds:table in take_both at {SOURCE}/planted.h:21
+        and holds lock_new:kinds.c:25 since line 3, taken in take_both at {SOURCE}/planted.h:20
+kinds:table
+    is the variable table of ../kinds
+lock_new:kinds.c:25
+    initialised in lock_new at {SOURCE}/kinds.c:25
+{callers("lock_new")}"""),
     # Without debug information there are functions where there are symbols, and no lines.
     ("pairs.cc", ["-O0", "-g0"],
      both_ways(("Pair::forth() at ../pairs+HEX",) * 2, ("Pair::back() at ../pairs+HEX",) * 2,
                OPEN, OPEN)
-     + f"{OPEN}\n    first locked in Pair::open(int) at ../pairs+HEX\n" * 2),
+     + f"{OPEN}\n    first locked in Pair::open(int) at ../pairs+HEX\n{callers('Pair::open')}" * 2),
 ]
 
 

@@ -198,12 +198,22 @@ void each_class(void (*see)(const struct class *))
             see(classes[number]);
 }
 
+/* Says what a class is, and by which function its locks were made where that was called from several places. */
+static void write_class(const struct class *class)
+{
+    static char maker[TEXT_BYTES];
+    fprintf(stream, "# class %s %s\n", class->name, class->places);
+    end_line(0, NULL);
+    if (!class->has_several_callers)
+        return;
+    maker[0] = 0;
+    append_clean(maker, sizeof maker, class->maker, "");
+    fprintf(stream, "# maker %s %s\n", class->name, maker);
+    end_line(0, NULL);
+}
+
 /* Says at the end of the stream, in lines that say nothing to lockcheck, what each class is. */
 void write_classes(void)
 {
-    for (size_t number = 0; number < count; number++)
-        if (classes[number]->trace) {
-            fprintf(stream, "# class %s %s\n", classes[number]->name, classes[number]->places);
-            end_line(0, NULL);
-        }
+    each_class(write_class);
 }
