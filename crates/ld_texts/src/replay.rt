@@ -142,14 +142,29 @@ impl<'a> Task<'a> {
 
     /// Lets the latest acquisition of the lock in its frame go.
     fn release(&mut self, lock: Lock<'_>) {
-        let start = self.frame_start();
-        for place in (start..self.holds.len()).rev() {
-            if self.holds[place].lock == lock {
+        match self.latest(lock) {
+            Some(place) if place < self.holds.len() => {
                 self.holds.remove(place);
                 self.link_from(place);
-                return;
+            }
+            _ => {}
+        }
+    }
+
+    /// The place of the latest acquisition of the lock in its frame.
+    fn latest(&self, lock: Lock<'_>) -> Option<usize> {
+        let start = self.frame_start();
+        let count = self.holds.len();
+        for behind in 0..count {
+            let place = count - 1 - behind;
+            if place < start {
+                break;
+            }
+            if self.holds[place].lock == lock {
+                return Some(place);
             }
         }
+        None
     }
 
     /// Makes anew what stands for the classes that it holds in its frame up to each from this place on.

@@ -1,5 +1,5 @@
 //! What a text tells of some traces, and how it is written.
-ghost use Rattle.std.specs.Prelude.{◌≡◌, ◌≢◌, ◌↔◌, ◌×◌, Err, Ok, IfOk, IsErr, OnOk, false, true};
+ghost use Rattle.std.specs.Prelude.{◌≡◌, ◌≢◌, ◌↔◌, Err, Ok, IfOk, IsErr, OnOk, false, true};
 ghost use Rattle.std.specs.Io.KnownBytes.{Appends};
 ghost use Rattle.ld_device.specs.Transfer.{AppendsPart};
 ghost use Rattle.lockgraph.specs.declared.fault.Fault.TheVariants.{Write};
