@@ -24,6 +24,12 @@ abbrev pub news_fault_of_select : SelectFault → NewsFault
 news_fault_of_select (select_faults.UnknownLine line) = UnknownLine line
 news_fault_of_select select_faults.Memory = Memory
 
+-- the same fault
+abbrev pub fault_of_check : CheckFault → Fault
+fault_of_check (check_faults.Stream fault) = faults.Together fault
+fault_of_check check_faults.Memory = faults.Memory
+fault_of_check (check_faults.Uneven number) = faults.Uneven number
+
 -- the same fault, that of the known text with its name
 abbrev pub fault_of_news : Bor (List ℕ) → NewsFault → Fault
 fault_of_news known (Stream fault) = faults.Together fault

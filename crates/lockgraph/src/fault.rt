@@ -2,6 +2,7 @@
 
 use crate::news::NewsFault;
 use crate::reduce::ReduceFault;
+use ld_check::CheckFault;
 use ld_trace::StreamFault;
 use std::alloc::AllocError;
 use std::io;
@@ -85,6 +86,21 @@ impl<'a> Fault<'a> {
             ReduceFault::Write => Fault::Write,
             ReduceFault::Memory => Fault::Memory,
             ReduceFault::Uneven(number) => Fault::Uneven(number),
+        }
+    }
+}
+
+impl From<CheckFault> for Fault<'_> {
+    ghost use Rattle.std.specs.Prelude.{◌≡◌};
+    ghost use Rattle.lockgraph.specs.Faults.{fault_of_check};
+
+    ghost from_gives = { λ fault gives. gives ≡ fault_of_check fault };
+
+    fn from(fault: CheckFault) -> Self {
+        match fault {
+            CheckFault::Stream(fault) => Fault::Together(fault),
+            CheckFault::Memory => Fault::Memory,
+            CheckFault::Uneven(number) => Fault::Uneven(number),
         }
     }
 }

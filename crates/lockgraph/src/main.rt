@@ -6,14 +6,19 @@ ghost use Rattle.std.specs.Process.{exit_status};
 ghost use Rattle.clap.specs.Values.{kind_of};
 ghost use Rattle.clap.specs.declared.error.kind.ErrorKind.{ErrorKind};
 
+mod dot;
+mod explain;
 mod fault;
 mod news;
 mod reduce;
 mod streams;
+mod told;
 mod words;
 
+use dot::answer_dot;
+use explain::answer_explain;
 use fault::Fault;
-use ld_report::Verdict;
+use ld_check::Verdict;
 use news::answer_new;
 use reduce::answer_reduce;
 use std::fmt::Display;
@@ -52,6 +57,8 @@ fn answer<'a, R: Files + io::Input + Print + AllocGlobal + Threads + Wait + Sync
     asked: &Asked<'a>,
 ) -> Result<Verdict, Fault<'a>> {
     match asked {
+        Asked::Dot(words) => answer_dot(rt, words),
+        Asked::Explain(words) => answer_explain(rt, words),
         Asked::New(words) => answer_new(rt, words),
         Asked::Reduce(words) => answer_reduce(rt, words),
     }

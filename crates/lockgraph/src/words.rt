@@ -2,12 +2,18 @@
 ghost use Rattle.std.specs.Prelude.{◌≤◌};
 ghost use Rattle.ld_check.specs.declared.checked.TheConstants.{MOST_WORKERS};
 
+mod dot;
+mod explain;
 mod new;
 mod reduce;
 
 use crate::streams::STANDARD_INPUT;
 use clap::error::ErrorKind;
 use clap::{Arg, ArgAction, ArgMatches, Command, Error, value_parser};
+pub use dot::DotWords;
+use dot::{dot_command, read_dot};
+pub use explain::ExplainWords;
+use explain::{explain_command, read_explain};
 use ld_check::MOST_WORKERS;
 pub use new::NewWords;
 use new::{new_command, read_new};
@@ -34,12 +40,18 @@ Exit status:
   3  no violation that is told, and a trace is refused
 
 Example:
+  lockgraph dot run.trace | dot -Tsvg > run.svg
+  lockgraph explain --class rx_lock run.trace
   lockgraph new --known known.report run.trace
   lockgraph reduce run.trace other.trace > reduced.trace";
 
 /// What a call asks for.
 #[derive(Debug, Drop)]
 pub enum Asked<'a> {
+    /// `dot`.
+    Dot(DotWords<'a>),
+    /// `explain`.
+    Explain(ExplainWords<'a>),
     /// `new`.
     New(NewWords<'a>),
     /// `reduce`.
@@ -66,6 +78,10 @@ pub fn read_words<'a, S: AsStr>(alloc: Global, words: &'a [S]) -> Result<Asked<'
     let mut command = command_line(alloc)?;
     let matches = command.try_get_matches_from_mut(words)?;
     match matches.subcommand() {
+        Some(("dot", matches)) => Ok(Asked::Dot(read_dot(alloc, &mut command, matches)?)),
+        Some(("explain", matches)) => {
+            Ok(Asked::Explain(read_explain(alloc, &mut command, matches)?))
+        }
         Some(("new", matches)) => Ok(Asked::New(read_new(alloc, &mut command, matches)?)),
         Some(("reduce", matches)) => Ok(Asked::Reduce(read_reduce(alloc, &mut command, matches)?)),
         _ => Err(command.error(ErrorKind::MissingSubcommand, "a command is missing")?),
@@ -126,6 +142,8 @@ fn command_line<'a>(alloc: Global) -> Result<Command<'a>, AllocError> {
         .version(VERSION)
         .after_help(AFTER_HELP)
         .subcommand_required(true)
+        .subcommand(dot_command(alloc)?)?
+        .subcommand(explain_command(alloc)?)?
         .subcommand(new_command(alloc)?)?
         .subcommand(reduce_command(alloc)?)
 }
