@@ -1,1 +1,2 @@
+pub use Rattle.ld_report.proofs as OfReport
 pub mod StreamFaults

@@ -1,2 +1,3 @@
+pub use Rattle.ld_report.specs as OfReport
 pub mod Faults
 pub mod Run

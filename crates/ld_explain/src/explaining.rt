@@ -1,20 +1,21 @@
 //! Explains the violations of a report, one after another.
 
 use crate::groups::{Member, grouped, most_shared};
-use crate::violations::{Choice, Ends, Step, Violation, chosen};
-use crate::writing::{state_name, write_class, write_handler, write_hold, write_seen};
-use ld_book::{Book, ClassName, Findings, Witness};
-use ld_held::{Hold, event_at, held_at, task_before, task_of};
-use ld_report::report;
+use crate::sightings::{Sightings, Texts};
+use crate::violations::{Choice, Dependency, Ends, Step, Violation, chosen};
+use crate::writing::{state_name, write_class, write_lock, write_place};
+use indexmap::IndexSet;
+use ld_book::{Book, ClassName, Witness};
+use ld_held::{Before, Flag, Hold, task_of};
 use ld_texts::Places;
-use ld_trace::Source;
+use ld_trace::{Source, State};
 use std::alloc::{AllocError, Global};
 use std::io::Write;
 
 /// What stands behind the violations of the report of a book: the line of each, and under it its
 /// dependencies in turn, at their first witnesses, with the locks that were held there; and where it has a
-/// state, both ends. Violations that share dependencies stand together. The last line says how many are
-/// explained, and how many are not.
+/// state, both ends. Violations that share dependencies stand together, and what was told before isn't told
+/// again. The last line says how many are explained, and how many are not.
 ///
 /// `sources` are the traces of the book, each at the place of its number, and `places` says where the lines
 /// stand in files.
@@ -22,58 +23,125 @@ use std::io::Write;
 /// # Errors
 ///
 /// `AllocError` where a growth of memory was refused.
-pub fn explain<'a>(
+pub fn explain<'t, 'a>(
     alloc: Global,
     book: &Book<'a>,
-    sources: &[Source<'a>],
-    places: &Places<'_>,
+    sources: &'t [Source<'a>],
+    places: &'t Places<'t>,
+    report: &[u8],
     choice: &Choice<'_>,
 ) -> Result<Vec<u8>, AllocError> {
-    let report = report(alloc, book)?;
-    let findings = book.findings(alloc)?;
-    let refused = book.totals().refused;
+    let violations = chosen(alloc, book, report, choice)?;
+    let members = grouped(alloc, &violations)?;
+    let told = count_told(&members, choice.most);
+    let explained = members.get(..told).unwrap_or(&[]);
+    let wanted = witnesses(alloc, &violations, explained)?;
+    let sightings = Sightings::of(alloc, sources, wanted)?;
+    let texts = Texts::of(alloc, sources, lines_of(alloc, &sightings)?)?;
     let mut telling = Telling {
         alloc,
-        book,
         sources,
         places,
+        sightings: &sightings,
+        texts: &texts,
+        above: IndexSet::new(alloc),
         text: Vec::new(alloc),
     };
-    let told = telling.all(&findings, &report, refused, choice);
-    drop(findings);
-    told?;
+    telling.all(&violations, &members, told)?;
     Ok(telling.text)
+}
+
+/// How many of these are explained, where so many are at most.
+fn count_told(members: &[Member], most: u64) -> usize {
+    let count = members.len();
+    if most == 0 || count as u64 <= most {
+        count
+    } else {
+        most as usize
+    }
+}
+
+/// Where what stands behind these violations was first seen.
+fn witnesses(
+    alloc: Global,
+    violations: &[Violation<'_, '_>],
+    members: &[Member],
+) -> Result<Vec<Witness>, AllocError> {
+    let mut wanted = Vec::new(alloc);
+    for member in members {
+        if let Some(violation) = violations.get(member.place) {
+            for step in &violation.steps {
+                wanted.push(step.first)?;
+            }
+            if let Some(ends) = &violation.ends {
+                wanted.push(ends.safe_at)?;
+                wanted.push(ends.exposed_at)?;
+            }
+        }
+    }
+    Ok(wanted)
+}
+
+/// The lines that may be told of these: their own, and those at which something was opened or put on.
+fn lines_of(alloc: Global, sightings: &Sightings<'_>) -> Result<Vec<Witness>, AllocError> {
+    let mut wanted = Vec::new(alloc);
+    for (at, before) in sightings.all() {
+        wanted.push(*at)?;
+        if let Some(before) = before {
+            add_lines(&mut wanted, at.number, before)?;
+        }
+    }
+    Ok(wanted)
+}
+
+/// Adds the lines at which what is open there was opened, and its flags were put on.
+fn add_lines(
+    wanted: &mut Vec<Witness>,
+    number: u64,
+    before: &Before<'_>,
+) -> Result<(), AllocError> {
+    for hold in before.task.holds() {
+        let line = hold.line;
+        wanted.push(Witness { number, line })?;
+    }
+    for handler in before.task.handlers() {
+        let line = handler.line;
+        wanted.push(Witness { number, line })?;
+    }
+    let flags = before.flags();
+    for flag in [flags.hard, flags.soft] {
+        if let Flag::Since(line) = flag {
+            wanted.push(Witness { number, line })?;
+        }
+    }
+    Ok(())
 }
 
 /// The text so far, and what it is about.
 #[derive(Drop)]
 struct Telling<'t, 'a> {
     alloc: Global,
-    book: &'t Book<'a>,
     sources: &'t [Source<'a>],
     places: &'t Places<'t>,
+    sightings: &'t Sightings<'a>,
+    texts: &'t Texts<'a>,
+    /// What was told already.
+    above: IndexSet<Dependency<'a>>,
     text: Vec<u8>,
 }
 
 impl<'t, 'a> Telling<'t, 'a> {
-    /// The violations that are chosen, by groups.
+    /// The first so many violations, by groups.
     fn all(
         &mut self,
-        findings: &Findings<'a>,
-        report: &[u8],
-        refused: u64,
-        choice: &Choice<'_>,
+        violations: &[Violation<'_, 'a>],
+        members: &[Member],
+        most: usize,
     ) -> Result<(), AllocError> {
-        let violations = chosen(self.alloc, findings, report, refused, choice)?;
-        let members = grouped(self.alloc, &violations)?;
-        let most = match choice.most {
-            0 => u64::MAX,
-            most => most,
-        };
         let mut told = 0;
         for group in members.chunk_by(|one, other| one.group == other.group) {
             if told < most {
-                self.heading(&violations, group)?;
+                self.heading(violations, group)?;
             }
             for member in group {
                 if told < most {
@@ -84,7 +152,7 @@ impl<'t, 'a> Telling<'t, 'a> {
                 }
             }
         }
-        let left = (members.len() as u64).saturating_sub(told);
+        let left = members.len().saturating_sub(told);
         writeln!(self.text, "explained {told}, not explained {left}").map_err(|_| AllocError)
     }
 
@@ -97,12 +165,12 @@ impl<'t, 'a> Telling<'t, 'a> {
         if group.len() < 2 {
             return Ok(());
         }
-        let Some((step, count)) = most_shared(self.alloc, violations, group)? else {
+        let Some((dependency, count)) = most_shared(self.alloc, violations, group)? else {
             return Ok(());
         };
         let together = group.len();
         write!(self.text, "together {together}, of which {count} have ").map_err(|_| AllocError)?;
-        self.step_name(step)?;
+        self.dependency(dependency)?;
         self.text.extend_from_slice(b"\n\n")?;
         Ok(())
     }
@@ -111,8 +179,13 @@ impl<'t, 'a> Telling<'t, 'a> {
     fn violation(&mut self, violation: &Violation<'_, 'a>) -> Result<(), AllocError> {
         self.text.extend_from_slice(violation.line)?;
         self.text.push(b'\n')?;
-        for step in &violation.steps {
-            self.step(*step)?;
+        if self.are_above(&violation.steps) {
+            self.text
+                .extend_from_slice(b"  its dependencies are above\n")?;
+        } else {
+            for step in &violation.steps {
+                self.step(*step)?;
+            }
         }
         if let Some(ends) = violation.ends {
             self.safe_end(&ends)?;
@@ -122,35 +195,38 @@ impl<'t, 'a> Telling<'t, 'a> {
         Ok(())
     }
 
-    fn step_name(&mut self, step: Step<'_>) -> Result<(), AllocError> {
-        write_class(&mut self.text, step.from)?;
+    /// Whether these are several, and all of them were told already.
+    fn are_above(&self, steps: &[Step<'a>]) -> bool {
+        steps.len() > 1
+            && steps
+                .iter()
+                .all(|step| self.above.contains(&step.dependency))
+    }
+
+    fn dependency(&mut self, dependency: Dependency<'_>) -> Result<(), AllocError> {
+        write_class(&mut self.text, dependency.from)?;
         self.text.extend_from_slice(b" -> ")?;
-        write_class(&mut self.text, step.to)
+        write_class(&mut self.text, dependency.to)
     }
 
     /// A dependency at its first witness, with the locks that its task held there in the same frame.
     fn step(&mut self, step: Step<'a>) -> Result<(), AllocError> {
         self.text.extend_from_slice(b"  ")?;
-        self.step_name(step)?;
+        self.dependency(step.dependency)?;
+        if !self.above.insert(step.dependency)? {
+            self.text.extend_from_slice(b", above\n")?;
+            return Ok(());
+        }
         self.text.push(b'\n')?;
-        let Some(at) = self.book.edge(step.from, step.to) else {
+        let Some(before) = self.sightings.at(step.first) else {
             return Ok(());
         };
-        let Some(source) = self.source(at) else {
-            return Ok(());
-        };
-        let Some(held) = held_at(self.alloc, source, at.line)? else {
-            return Ok(());
-        };
-        write_seen(
-            &mut self.text,
-            self.places,
-            source,
-            task_of(&held.event),
-            at.line,
-        )?;
-        for hold in &held.holds {
-            write_hold(&mut self.text, self.places, source, hold)?;
+        self.seen(step.first, before)?;
+        let frame = innermost(before);
+        for hold in before.task.holds() {
+            if hold.frame == frame {
+                self.hold(step.first.number, hold)?;
+            }
         }
         Ok(())
     }
@@ -161,22 +237,20 @@ impl<'t, 'a> Telling<'t, 'a> {
         write!(self.text, "  {state} handlers acquire ").map_err(|_| AllocError)?;
         write_class(&mut self.text, ends.safe)?;
         self.text.push(b'\n')?;
-        let Some(source) = self.source(ends.safe_at) else {
+        let Some(before) = self.sightings.at(ends.safe_at) else {
             return Ok(());
         };
-        let Some(held) = held_at(self.alloc, source, ends.safe_at.line)? else {
-            return Ok(());
-        };
-        let task = task_of(&held.event);
-        write_seen(&mut self.text, self.places, source, task, ends.safe_at.line)?;
-        for handler in &held.handlers {
-            write_handler(&mut self.text, self.places, source, handler)?;
+        self.seen(ends.safe_at, before)?;
+        for handler in before.task.handlers() {
+            let state = state_name(handler.state);
+            write!(self.text, "    in a {state} handler, ").map_err(|_| AllocError)?;
+            self.line(ends.safe_at.number, handler.line)?;
         }
         Ok(())
     }
 
-    /// Where a lock of its class was held while such a handler could interrupt, and the locks of the class
-    /// that its task held there already, in whatever frame.
+    /// Where a lock of its class was held while such a handler could interrupt, the locks of the class that
+    /// its task held there already, in whatever frame, and since when such a handler could.
     fn exposed_end(&mut self, ends: &Ends<'a>) -> Result<(), AllocError> {
         self.text.extend_from_slice(b"  ")?;
         write_class(&mut self.text, ends.exposed)?;
@@ -184,26 +258,82 @@ impl<'t, 'a> Telling<'t, 'a> {
         writeln!(self.text, " is held where {state} handlers can interrupt").map_err(
             |_| AllocError,
         )?;
-        let Some(source) = self.source(ends.exposed_at) else {
+        let Some(before) = self.sightings.at(ends.exposed_at) else {
             return Ok(());
         };
-        let line = ends.exposed_at.line;
-        let Some(event) = event_at(source, line) else {
-            return Ok(());
-        };
-        write_seen(&mut self.text, self.places, source, task_of(&event), line)?;
-        let task = task_before(self.alloc, source, task_of(&event), line)?;
-        for hold in task.holds() {
+        self.seen(ends.exposed_at, before)?;
+        let number = ends.exposed_at.number;
+        for hold in before.task.holds() {
             if is_of(hold, ends.exposed) {
-                write_hold(&mut self.text, self.places, source, hold)?;
+                self.hold(number, hold)?;
             }
         }
+        let flags = before.flags();
+        self.flag(number, State::Hard, flags.hard)?;
+        match ends.state {
+            State::Hard => Ok(()),
+            State::Soft => self.flag(number, State::Soft, flags.soft),
+        }
+    }
+
+    /// Since when the handlers of a state can interrupt.
+    fn flag(&mut self, number: u64, state: State, flag: Flag) -> Result<(), AllocError> {
+        let state = state_name(state);
+        match flag {
+            Flag::Off => Ok(()),
+            Flag::FromStart => {
+                writeln!(self.text, "    {state} on since the trace began").map_err(|_| AllocError)
+            }
+            Flag::Since(line) => {
+                write!(self.text, "    {state} on since ").map_err(|_| AllocError)?;
+                self.line(number, line)
+            }
+        }
+    }
+
+    /// The line of a trace at which something was seen.
+    fn seen(&mut self, at: Witness, before: &Before<'a>) -> Result<(), AllocError> {
+        let label = self.label(at.number);
+        self.text.extend_from_slice(b"    ")?;
+        self.text.extend_from_slice(label)?;
+        self.text.extend_from_slice(b", task ")?;
+        self.text.extend_from_slice(task_of(&before.event))?;
+        self.text.extend_from_slice(b", ")?;
+        self.line(at.number, at.line)
+    }
+
+    /// A lock that is held, and the line of its acquisition.
+    fn hold(&mut self, number: u64, hold: &Hold<'_>) -> Result<(), AllocError> {
+        self.text.extend_from_slice(b"    holds ")?;
+        write_lock(&mut self.text, hold)?;
+        self.text.extend_from_slice(b", ")?;
+        self.line(number, hold.line)
+    }
+
+    /// A line of a trace: where it stands in its file, and what it says.
+    fn line(&mut self, number: u64, line: u64) -> Result<(), AllocError> {
+        write_place(&mut self.text, self.places, line)?;
+        self.text.extend_from_slice(b": ")?;
+        self.text
+            .extend_from_slice(self.texts.at(Witness { number, line }))?;
+        self.text.push(b'\n')?;
         Ok(())
     }
 
-    /// The trace of a witness.
-    fn source(&self, at: Witness) -> Option<Source<'a>> {
-        self.sources.get(at.number as usize).copied()
+    /// The label of a trace.
+    fn label(&self, number: u64) -> &'a [u8] {
+        match self.sources.get(number as usize) {
+            Some(source) => source.name,
+            None => &[],
+        }
+    }
+}
+
+/// The frame that the task of a line is in there.
+fn innermost(before: &Before<'_>) -> Option<u64> {
+    match before.task.handlers().last() {
+        Some(handler) => Some(handler.place),
+        None => None,
     }
 }
 

@@ -1,6 +1,9 @@
 //! The violations of a report, with the dependencies that they stand on.
+ghost use Rattle.std.specs.Prelude.{◌≡◌, [], All, IfOk, List, OnOk};
+ghost use Rattle.ld_trace.specs.Sources.{PlainSource};
+ghost use Rattle.ld_explain.specs.Steps.{AreFirst, IsAtFirst};
 
-use ld_book::{ClassName, ConflictRow, CycleRow, Findings, ForbiddenRow, Witness};
+use ld_book::{Book, ClassName, ConflictRow, CycleRow, Findings, ForbiddenRow, Witness};
 use ld_trace::{State, next_line, text};
 use std::alloc::{AllocError, Global};
 
@@ -28,11 +31,29 @@ pub struct Choice<'w> {
     pub most: u64,
 }
 
+impl Choice<'_> {
+    /// Every violation.
+    pub(crate) fn all() -> Choice<'static> {
+        Choice {
+            kind: None,
+            class: None,
+            most: 0,
+        }
+    }
+}
+
 /// A dependency, by the names of its classes.
 #[derive(Clone, Copy, Debug, PartialEq, Eq, Hash)]
-pub struct Step<'a> {
+pub struct Dependency<'a> {
     pub from: ClassName<'a>,
     pub to: ClassName<'a>,
+}
+
+/// A dependency of a circle or a walk, and where it was first seen.
+#[derive(Clone, Copy, Debug)]
+pub struct Step<'a> {
+    pub dependency: Dependency<'a>,
+    pub first: Witness,
 }
 
 /// Both ends of a conflict or of a forbidden walk.
@@ -64,13 +85,15 @@ pub struct Violation<'r, 'a> {
 impl<'r, 'a> Violation<'r, 'a> {
     fn of_cycle(
         alloc: Global,
+        book: &Book<'a>,
         line: &'r [u8],
         row: &CycleRow<'a>,
-    ) -> Result<Violation<'r, 'a>, AllocError> {
-        let first = Step {
-            from: row.from,
-            to: row.to,
-        };
+    ) -> Result<Violation<'r, 'a>, AllocError>
+        ensures { IfOk result (λ violation. AreFirst book.now violation) }
+    {
+        let mut steps = Vec::new(alloc);
+        add_step(book, &mut steps, row.from, row.to)?;
+        add_steps(book, &mut steps, row.via.items())?;
         let kind = if row.from == row.to {
             Kind::Recursion
         } else {
@@ -79,12 +102,14 @@ impl<'r, 'a> Violation<'r, 'a> {
         Ok(Violation {
             kind,
             line,
-            steps: steps_of(alloc, Some(first), row.via.items())?,
+            steps,
             ends: None,
         })
     }
 
-    fn of_conflict(alloc: Global, line: &'r [u8], row: &ConflictRow<'a>) -> Violation<'r, 'a> {
+    fn of_conflict(alloc: Global, line: &'r [u8], row: &ConflictRow<'a>) -> Violation<'r, 'a>
+        ensures { result.steps.items ≡ [] }
+    {
         Violation {
             kind: Kind::Conflict,
             line,
@@ -101,13 +126,18 @@ impl<'r, 'a> Violation<'r, 'a> {
 
     fn of_forbidden(
         alloc: Global,
+        book: &Book<'a>,
         line: &'r [u8],
         row: &ForbiddenRow<'a>,
-    ) -> Result<Violation<'r, 'a>, AllocError> {
+    ) -> Result<Violation<'r, 'a>, AllocError>
+        ensures { IfOk result (λ violation. AreFirst book.now violation) }
+    {
+        let mut steps = Vec::new(alloc);
+        add_steps(book, &mut steps, row.via.items())?;
         Ok(Violation {
             kind: Kind::Forbidden,
             line,
-            steps: steps_of(alloc, None, row.via.items())?,
+            steps,
             ends: Some(Ends {
                 state: row.state,
                 safe: row.from,
@@ -133,8 +163,8 @@ impl<'r, 'a> Violation<'r, 'a> {
 
     /// Whether a class of this name is on its circle or walk, or is one of its ends.
     fn has_class(&self, word: &[u8]) -> bool {
-        let on_walk = self.steps.iter().any(|step| is_named(step.from, word)
-            || is_named(step.to, word));
+        let on_walk = self.steps.iter().any(|step| is_named(step.dependency.from, word)
+            || is_named(step.dependency.to, word));
         on_walk
             || match &self.ends {
                 Some(ends) => is_named(ends.safe, word) || is_named(ends.exposed, word),
@@ -143,29 +173,43 @@ impl<'r, 'a> Violation<'r, 'a> {
     }
 }
 
-/// The dependency that comes first, if there is one, and those of a walk.
-fn steps_of<'a>(
-    alloc: Global,
-    first: Option<Step<'a>>,
-    walk: &[ClassName<'a>],
-) -> Result<Vec<Step<'a>>, AllocError> {
-    let mut steps = Vec::new(alloc);
-    if let Some(first) = first {
-        steps.push(first)?;
+/// Adds a dependency at its first witness.
+fn add_step<'a>(
+    book: &Book<'a>,
+    steps: &mut Vec<Step<'a>>,
+    from: ClassName<'a>,
+    to: ClassName<'a>,
+) -> Result<(), AllocError>
+    requires { All (IsAtFirst book.now) steps.old.items }
+    ensures { OnOk result (All (IsAtFirst book.now) steps.new.items) }
+{
+    // Each dependency of a violation is one of the book.
+    if let Some(first) = book.edge(from, to) {
+        let dependency = Dependency { from, to };
+        steps.push(Step { dependency, first })?;
     }
+    Ok(())
+}
+
+/// Adds the dependencies of a walk.
+fn add_steps<'a>(
+    book: &Book<'a>,
+    steps: &mut Vec<Step<'a>>,
+    walk: &[ClassName<'a>],
+) -> Result<(), AllocError>
+    requires { All (IsAtFirst book.now) steps.old.items }
+    ensures { OnOk result (All (IsAtFirst book.now) steps.new.items) }
+{
     for pair in walk.windows(2) {
         if let [from, to] = pair {
-            steps.push(Step {
-                from: *from,
-                to: *to,
-            })?;
+            add_step(book, steps, *from, *to)?;
         }
     }
-    Ok(steps)
+    Ok(())
 }
 
 /// Whether a report writes the class so: `name`, or `name/N` where it is a subclass.
-fn is_named(class: ClassName<'_>, word: &[u8]) -> bool {
+pub fn is_named(class: ClassName<'_>, word: &[u8]) -> bool {
     match word.strip_prefix(class.name) {
         Some([]) => class.sub == 0,
         Some([b'/', digit @ b'1'..=b'7']) => class.sub == *digit - b'0',
@@ -192,33 +236,48 @@ impl<'r> Lines<'r> {
     }
 }
 
-/// The violations that are chosen, in the order of their lines in the report, which so many traces that
-/// are refused stand before.
+/// The violations that are chosen, in the order of their lines in the report of the book. Each dependency of
+/// their circles and walks stands at its first witness.
 pub fn chosen<'r, 'a>(
     alloc: Global,
-    findings: &Findings<'a>,
+    book: &Book<'a>,
     report: &'r [u8],
-    refused: u64,
     choice: &Choice<'_>,
-) -> Result<Vec<Violation<'r, 'a>>, AllocError> {
+) -> Result<Vec<Violation<'r, 'a>>, AllocError>
+    ensures { IfOk result (λ all. All (AreFirst book.now) all.items) }
+{
+    let findings = book.findings(alloc)?;
     let mut lines = Lines { rest: report };
-    for _ in 0..=refused {
+    // The first line, and those of refused traces.
+    for _ in 0..=book.totals().refused {
         lines.next_text();
     }
+    let all = chosen_of(alloc, book, &findings, &mut lines, choice);
+    drop(findings);
+    all
+}
+
+/// Those of these findings, whose lines come next.
+fn chosen_of<'r, 'a>(
+    alloc: Global,
+    book: &Book<'a>,
+    findings: &Findings<'a>,
+    lines: &mut Lines<'r>,
+    choice: &Choice<'_>,
+) -> Result<Vec<Violation<'r, 'a>>, AllocError>
+    ensures { IfOk result (λ all. All (AreFirst book.now) all.items) }
+{
     let mut all = Vec::new(alloc);
     for row in findings.cycles.items() {
-        let violation = Violation::of_cycle(alloc, lines.next_text(), row)?;
+        let violation = Violation::of_cycle(alloc, book, lines.next_text(), row)?;
         add(&mut all, violation, choice)?;
     }
     for row in findings.conflicts.items() {
-        add(
-            &mut all,
-            Violation::of_conflict(alloc, lines.next_text(), row),
-            choice,
-        )?;
+        let violation = Violation::of_conflict(alloc, lines.next_text(), row);
+        add(&mut all, violation, choice)?;
     }
     for row in findings.forbidden.items() {
-        let violation = Violation::of_forbidden(alloc, lines.next_text(), row)?;
+        let violation = Violation::of_forbidden(alloc, book, lines.next_text(), row)?;
         add(&mut all, violation, choice)?;
     }
     Ok(all)
@@ -229,7 +288,10 @@ fn add<'r, 'a>(
     all: &mut Vec<Violation<'r, 'a>>,
     violation: Violation<'r, 'a>,
     choice: &Choice<'_>,
-) -> Result<(), AllocError> {
+) -> Result<(), AllocError>
+    ensures { (sources : List PlainSource) → All (AreFirst sources) all.old.items
+        → AreFirst sources violation.entry → OnOk result (All (AreFirst sources) all.new.items) }
+{
     if violation.is_chosen(choice) {
         all.push(violation)?;
     }

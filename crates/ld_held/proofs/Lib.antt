@@ -6,3 +6,4 @@ pub mod StepLemmas
 pub mod ReplayLemmas
 pub mod LatestLemmas
 pub mod TaskLemmas
+pub mod TasksLemmas

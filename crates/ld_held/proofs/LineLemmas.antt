@@ -8,7 +8,7 @@ use Rattle.ld_trace.specs.declared.event.Event.{Event}
 use Rattle.ld_trace.specs.Events.{PlainEvent, Said, plain_event, position_of, said_by}
 use Rattle.ld_rules.specs.Outcome.{events}
 use Rattle.ld_held.specs.HeldAt.{before_line, events_at}
-use Rattle.ld_held.specs.Inner.Replay.{lines_from, positions_from}
+use Rattle.ld_held.specs.Inner.Replay.{event_of, lines_from, positions_from}
 
 -- no line passes a test that no number from its first on passes
 none_from : (test : ℕ → Bool) (n : ℕ) (all : List (List ℕ)) → ((m : ℕ) → n ≤ m → test m ≡ false) → filter (λ p. test p.0) (enumerate_from n all) ≡ []
@@ -37,11 +37,6 @@ line-behind n first others line low =
 
 pub line-above : (n : ℕ) (all : List (List ℕ)) (line : ℕ) → line < n → lines_from n all line ≡ []
 line-above n all line low = ap (map (λ p. p.1)) (none_from (λ m. eqb m line) n all (λ m at. ne_eqb m line (λ e. omega arith)))
-
--- what a line says as an event
-abbrev pub event_of : Said → Option PlainEvent
-event_of (Ok event) = event
-event_of (Err fault) = None
 
 -- the events at a line are what the lines with its number say
 pub events-at : (n : ℕ) (all : List (List ℕ)) (line : ℕ) → events_at (positions_from n all) line ≡ filter_map (λ found. event_of (said_by (text_of found))) (lines_from n all line)

@@ -19,7 +19,7 @@ use Rattle.ld_rules.proofs.FrameLemmas.{frames-other}
 use Rattle.ld_held.specs.HeldAt.{event_lines, opened_at}
 use Rattle.ld_held.specs.Inner.Task.{InnerHandler, IsAfter, PlainTask, changed, frame_now, handler_of, has_key, stepped}
 use Rattle.ld_held.proofs.HeldLemmas.{by-acquires, by-another, by-other, by-releases, happens}
-use Rattle.ld_held.proofs.LineLemmas.{event_of}
+use Rattle.ld_held.specs.Inner.Replay.{event_of}
 use Rattle.ld_held.proofs.HandlerLemmas.{lined-another, lined-enter, lined-exit, lined-same}
 
 -- the task is in the frame of *Frames*

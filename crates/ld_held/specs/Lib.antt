@@ -1,2 +1,3 @@
 pub mod HeldAt
+pub mod Before
 pub mod Inner

@@ -1,5 +1,6 @@
 //! What a task has open, each with the line of its event.
 
+use crate::flags::Flags;
 use ld_trace::{Event, Lock, State};
 
 /// A lock that a task holds, and where it acquired it.
@@ -23,6 +24,8 @@ pub struct Handler {
     pub line: u64,
     /// How many events of the trace stand before its enter.
     pub place: u64,
+    /// The flags of the task around it.
+    pub outer: Flags,
 }
 
 /// What the task of a line holds there.

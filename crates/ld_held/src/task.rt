@@ -1,13 +1,14 @@
 //! What one task has open, one event after another.
-ghost use Rattle.std.specs.Prelude.{◌≡◌, ◌<◌, ◌+◌, ◌-◌, [], ◌∷◌, ◌++◌, false, length, map, remove, take, IfNone, IfSome, List, None, OnOk};
+ghost use Rattle.std.specs.Prelude.{◌≡◌, ◌<◌, ◌+◌, ◌-◌, [], ◌∷◌, ◌++◌, false, length, map, remove, IfNone, IfOk, IfSome, List, None, OnOk};
 ghost use Rattle.std.specs.List.{last_or, list_any};
 ghost use Rattle.ld_trace.specs.Events.{Position, plain_event, plain_lock};
 ghost use Rattle.ld_rules.specs.Frames.{task_of};
 ghost use Rattle.ld_rules.specs.Held.{same_frame, same_lock};
 ghost use Rattle.ld_rules.specs.Inner.Scanned.{remove_last};
 ghost use Rattle.ld_held.specs.HeldAt.{IsHeldAt, plain_hold};
-ghost use Rattle.ld_held.specs.Inner.Task.{IsAfter, acquired, frame_now, has_key, inner_handler, is_under, key_now, stepped};
+ghost use Rattle.ld_held.specs.Inner.Task.{IsAfter, acquired, entered, exited, frame_now, has_key, inner_handler, is_under, key_now, stepped};
 
+use crate::flags::Flags;
 use crate::hold::{Handler, HeldAt, Hold};
 use ld_trace::{Event, Lock, State};
 use std::alloc::{AllocError, Global};
@@ -21,6 +22,8 @@ pub struct Task<'a> {
     handlers: Vec<Handler>,
     /// In order of acquisition, over all frames.
     holds: Vec<Hold<'a>>,
+    /// Those of the frame that it is in.
+    flags: Flags,
 }
 
 impl<'a> Model for Task<'a> {
@@ -48,7 +51,20 @@ impl<'a> Task<'a> {
             name,
             handlers: Vec::new(alloc),
             holds: Vec::new(alloc),
+            flags: Flags::at_start(),
         }
+    }
+
+    /// The same once more.
+    pub(crate) fn copied(&self, alloc: Global) -> Result<Task<'a>, AllocError>
+        ensures { IfOk result (λ task. task ≡ self.now) }
+    {
+        Ok(Task {
+            name: self.name,
+            handlers: self.handlers.to_vec(alloc)?,
+            holds: self.holds.to_vec(alloc)?,
+            flags: self.flags,
+        })
     }
 
     /// The locks that it holds, over all its frames, in order of acquisition.
@@ -65,6 +81,15 @@ impl<'a> Task<'a> {
         &self.handlers
     }
 
+    /// Its flags after this event of its own, at this line of the stream.
+    pub fn flags_after(&self, event: &Event<'_>, line: u64) -> Flags {
+        let outer = match self.handlers.last() {
+            Some(handler) => Some(handler.outer),
+            None => None,
+        };
+        self.flags.after(event, line, outer)
+    }
+
     /// The frame that it is in.
     fn frame(&self) -> Option<u64>
         ensures { result ≡ frame_now self.now }
@@ -74,26 +99,48 @@ impl<'a> Task<'a> {
 
     /// The trace's next event, with so many events before it, at this line.
     pub(crate) fn step(&mut self, event: Event<'a>, place: u64, line: u64) -> Result<(), AllocError>
-        ensures { OnOk result (self.new ≡ stepped self.old (plain_event event.entry) place line) }
+        ensures next { OnOk result (self.new ≡ stepped self.old (plain_event event.entry) place line) }
+        ensures name { self.new.name ≡ self.old.name }
     {
         if self.name != task_of(&event) {
             return Ok(());
         }
+        let flags = self.flags_after(&event, line);
         match event {
             Event::Acquire { lock, .. } | Event::Try { lock, .. } => self.acquire(lock, 0, line)?,
             Event::Nested { lock, sub, .. } => self.acquire(lock, sub, line)?,
             Event::Release { lock, .. } => self.release(lock),
-            Event::Enter { state, .. } => self.handlers.push(Handler { state, line, place })?,
-            Event::Exit { .. } => {
-                self.handlers.pop();
-            }
+            Event::Enter { state, .. } => self.enter(state, place, line)?,
+            Event::Exit { .. } => self.exit(),
             Event::Enable { .. } | Event::Disable { .. } | Event::Begin { .. } => {}
         }
+        self.flags = flags;
         Ok(())
     }
 
+    fn enter(&mut self, state: State, place: u64, line: u64) -> Result<(), AllocError>
+        ensures next { OnOk result (self.new ≡ entered self.old state place line) }
+        ensures name { self.new.name ≡ self.old.name }
+    {
+        let outer = self.flags;
+        self.handlers.push(Handler {
+            state,
+            line,
+            place,
+            outer,
+        })?;
+        Ok(())
+    }
+
+    fn exit(&mut self)
+        ensures { self.new ≡ exited self.old }
+    {
+        self.handlers.pop();
+    }
+
     fn acquire(&mut self, lock: Lock<'a>, sub: u8, line: u64) -> Result<(), AllocError>
-        ensures { OnOk result (self.new ≡ acquired self.old (plain_lock lock.entry) sub line) }
+        ensures next { OnOk result (self.new ≡ acquired self.old (plain_lock lock.entry) sub line) }
+        ensures name { self.new.name ≡ self.old.name }
     {
         let frame = self.frame();
         self.holds.push(Hold {

@@ -2,9 +2,9 @@
 use Rattle.std.specs.Prelude.{◌≡◌, ℕ, ◌==◌, List, if◌then◌else◌}
 use Rattle.ld_trace.specs.Sources.{PlainSource}
 use Rattle.ld_book.specs.Totals.{refused_count}
-use Rattle.ld_report.specs.Report.{IsReport}
-use Rattle.ld_report.specs.declared.verdict.Verdict.{Verdict}
-use Rattle.ld_report.specs.declared.verdict.Verdict.TheVariants.{Clean, Refused, Violations}
+use Rattle.ld_check.specs.OfReport.Report.{IsReport}
+use Rattle.ld_check.specs.OfReport.declared.verdict.Verdict.{Verdict}
+use Rattle.ld_check.specs.OfReport.declared.verdict.Verdict.TheVariants.{Clean, Refused, Violations}
 use Rattle.ld_select.specs.News.{count_new, new_report}
 
 -- `Violations` where some are new, else `Refused` where a trace is refused, else `Clean`

@@ -2,9 +2,9 @@
 use Rattle.std.specs.Prelude.{◌≡◌, ◌==◌, ℕ, List, if◌then◌else◌}
 use Rattle.ld_trace.specs.Sources.{PlainSource}
 use Rattle.ld_book.specs.Totals.{refused_count}
-use Rattle.ld_report.specs.Verdict.{VerdictIs}
-use Rattle.ld_report.specs.declared.verdict.Verdict.{Verdict}
-use Rattle.ld_report.specs.declared.verdict.Verdict.TheVariants.{Clean, Refused}
+use Rattle.ld_check.specs.OfReport.Verdict.{VerdictIs}
+use Rattle.ld_check.specs.OfReport.declared.verdict.Verdict.{Verdict}
+use Rattle.ld_check.specs.OfReport.declared.verdict.Verdict.TheVariants.{Clean, Refused}
 use Rattle.ld_texts.specs.declared.wanted.Wanted.{Wanted}
 use Rattle.ld_texts.specs.declared.wanted.Wanted.TheVariants as wanted
 

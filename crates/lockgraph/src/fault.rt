@@ -101,6 +101,21 @@ impl<'a> Fault<'a> {
     }
 }
 
+impl From<CheckFault> for Fault<'_> {
+    ghost use Rattle.std.specs.Prelude.{◌≡◌};
+    ghost use Rattle.lockgraph.specs.Faults.{fault_of_check};
+
+    ghost from_gives = { λ fault gives. gives ≡ fault_of_check fault };
+
+    fn from(fault: CheckFault) -> Self {
+        match fault {
+            CheckFault::Stream(fault) => Fault::Together(fault),
+            CheckFault::Memory => Fault::Memory,
+            CheckFault::Uneven(number) => Fault::Uneven(number),
+        }
+    }
+}
+
 impl From<AllocError> for Fault<'_> {
     ghost use Rattle.std.specs.Prelude.{◌≡◌};
     ghost use Rattle.lockgraph.specs.declared.fault.Fault.TheVariants.{Memory};

@@ -6,6 +6,8 @@ ghost use Rattle.std.specs.Process.{exit_status};
 ghost use Rattle.clap.specs.Values.{kind_of};
 ghost use Rattle.clap.specs.declared.error.kind.ErrorKind.{ErrorKind};
 
+mod dot;
+mod explain;
 mod fault;
 mod json;
 mod list;
@@ -17,9 +19,11 @@ mod streams;
 mod told;
 mod words;
 
+use dot::answer_dot;
+use explain::answer_explain;
 use fault::Fault;
 use json::answer_json;
-use ld_report::Verdict;
+use ld_check::Verdict;
 use list::answer_list;
 use news::answer_new;
 use reduce::answer_reduce;
@@ -60,6 +64,8 @@ fn answer<'a, R: Files + io::Input + Print + AllocGlobal + Threads + Wait + Sync
     asked: &Asked<'a>,
 ) -> Result<Verdict, Fault<'a>> {
     match asked {
+        Asked::Dot(words) => answer_dot(rt, words),
+        Asked::Explain(words) => answer_explain(rt, words),
         Asked::Json(words) => answer_json(rt, words),
         Asked::List(words) => answer_list(rt, words),
         Asked::New(words) => answer_new(rt, words),

@@ -11,9 +11,8 @@ use crate::fault::Fault;
 use crate::streams::{read_known, read_streams};
 use crate::words::NewWords;
 use ld_book::Book;
-use ld_check::{CheckFault, MOST_WORKERS, NoGate, check};
+use ld_check::{CheckFault, MOST_WORKERS, NoGate, Verdict, check, report_in};
 use ld_device::{Output, Std, send};
-use ld_report::{Verdict, report};
 use ld_select::{SelectFault, new_report};
 use ld_trace::StreamFault;
 use std::alloc::{AllocError, Global};
@@ -152,7 +151,7 @@ fn news_in(alloc: Global, book: &Book<'_>, known: &[u8]) -> Result<News, NewsFau
     ensures stream { (fault : StreamFault) → result ≢ Err (NewsFault.Stream fault) }
     ensures unwritten { result ≢ Err NewsFault.Write }
 {
-    let report = report(alloc, book)?;
+    let report = report_in(alloc, book)?;
     let new = new_report(alloc, &report, known)?;
     let verdict = verdict_of_new(new.count, book.totals().refused);
     Ok(News {

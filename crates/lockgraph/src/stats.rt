@@ -3,7 +3,7 @@
 use crate::fault::Fault;
 use crate::shown::answer_shown;
 use crate::words::StatsWords;
-use ld_report::Verdict;
+use ld_check::Verdict;
 use ld_texts::Wanted;
 use std::io;
 use std::rt::Files;

@@ -5,8 +5,8 @@ ghost use Rattle.ld_device.specs.Transfer.{AppendsPart};
 ghost use Rattle.lockgraph.specs.declared.fault.Fault.TheVariants.{Write};
 
 use crate::fault::Fault;
+use ld_check::Verdict;
 use ld_device::{Output, send};
-use ld_report::Verdict;
 
 /// What is told of some traces.
 #[derive(Debug, Drop)]

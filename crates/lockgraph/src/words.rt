@@ -2,6 +2,8 @@
 ghost use Rattle.std.specs.Prelude.{◌≤◌};
 ghost use Rattle.ld_check.specs.declared.checked.TheConstants.{MOST_WORKERS};
 
+mod dot;
+mod explain;
 mod json;
 mod list;
 mod new;
@@ -11,6 +13,10 @@ mod stats;
 use crate::streams::STANDARD_INPUT;
 use clap::error::ErrorKind;
 use clap::{Arg, ArgAction, ArgMatches, Command, Error, value_parser};
+pub use dot::DotWords;
+use dot::{dot_command, read_dot};
+pub use explain::ExplainWords;
+use explain::{explain_command, read_explain};
 pub use json::JsonWords;
 use json::{json_command, read_json};
 use ld_check::MOST_WORKERS;
@@ -43,6 +49,8 @@ Exit status:
   3  no violation that is told, and a trace is refused
 
 Example:
+  lockgraph dot run.trace | dot -Tsvg > run.svg
+  lockgraph explain --class rx_lock run.trace
   lockgraph list --class rx_lock run.trace
   lockgraph stats run.trace other.trace
   lockgraph json run.trace > report.jsonl
@@ -52,6 +60,10 @@ Example:
 /// What a call asks for.
 #[derive(Debug, Drop)]
 pub enum Asked<'a> {
+    /// `dot`.
+    Dot(DotWords<'a>),
+    /// `explain`.
+    Explain(ExplainWords<'a>),
     /// `json`.
     Json(JsonWords<'a>),
     /// `list`.
@@ -84,6 +96,10 @@ pub fn read_words<'a, S: AsStr>(alloc: Global, words: &'a [S]) -> Result<Asked<'
     let mut command = command_line(alloc)?;
     let matches = command.try_get_matches_from_mut(words)?;
     match matches.subcommand() {
+        Some(("dot", matches)) => Ok(Asked::Dot(read_dot(alloc, &mut command, matches)?)),
+        Some(("explain", matches)) => {
+            Ok(Asked::Explain(read_explain(alloc, &mut command, matches)?))
+        }
         Some(("json", matches)) => Ok(Asked::Json(read_json(alloc, &mut command, matches)?)),
         Some(("list", matches)) => Ok(Asked::List(read_list(alloc, &mut command, matches)?)),
         Some(("new", matches)) => Ok(Asked::New(read_new(alloc, &mut command, matches)?)),
@@ -147,6 +163,8 @@ fn command_line<'a>(alloc: Global) -> Result<Command<'a>, AllocError> {
         .version(VERSION)
         .after_help(AFTER_HELP)
         .subcommand_required(true)
+        .subcommand(dot_command(alloc)?)?
+        .subcommand(explain_command(alloc)?)?
         .subcommand(json_command(alloc)?)?
         .subcommand(list_command(alloc)?)?
         .subcommand(new_command(alloc)?)?

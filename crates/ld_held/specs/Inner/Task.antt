@@ -54,16 +54,24 @@ acquired task lock sub line = record task {
       } ∷ [];
 }
 
+-- the task in one more handler, entered at this line, with so many events before it
+abbrev pub entered : PlainTask → State → ℕ → ℕ → PlainTask
+entered task state place line = record task {
+  handlers = task.handlers ++ record { place = place; seen = record { what = Some state; line = line } } ∷ [];
+}
+
+-- the task without its innermost handler
+abbrev pub exited : PlainTask → PlainTask
+exited task = record task { handlers = take (length task.handlers - 1) task.handlers }
+
 -- the task after an event of its own, with so many events before it, at this line
 abbrev pub changed : PlainTask → PlainEvent → ℕ → ℕ → PlainTask
 changed task (Acquire by lock) place line = acquired task lock 0 line
 changed task (Try by lock) place line = acquired task lock 0 line
 changed task (Nested by lock sub) place line = acquired task lock sub line
 changed task (Release by lock) place line = record task { holds = remove_last (has_key (key_now task lock)) task.holds }
-changed task (Enter by state) place line = record task {
-  handlers = task.handlers ++ record { place = place; seen = record { what = Some state; line = line } } ∷ [];
-}
-changed task (Exit by state) place line = record task { handlers = take (length task.handlers - 1) task.handlers }
+changed task (Enter by state) place line = entered task state place line
+changed task (Exit by state) place line = exited task
 changed task other place line = task
 
 -- the same after an event of any task
@@ -81,3 +89,12 @@ handler_of lines frame = record {
 pub record IsAfter (past : List Position) (task : PlainTask) : Type 0 where
   pub handlers : task.handlers ≡ map (handler_of (event_lines past)) (frames (events past) task.name)
   pub holds : task.holds ≡ held_lines_by past task.name
+
+-- a task of this name before its first event
+abbrev pub idle : List ℕ → PlainTask
+idle name = record { name = name; handlers = []; holds = [] }
+
+-- what the task of this name has open, where these tasks had events
+abbrev pub task_in : List PlainTask → List ℕ → PlainTask
+task_in [] name = idle name
+task_in (task ∷ tasks) name = if bytes_eq name task.name then task else task_in tasks name

@@ -1,0 +1,79 @@
+//! `dot`: a graph of the classes and dependencies of some traces.
+ghost use Rattle.std.specs.Prelude.{◌≡◌, ◌≤◌, ◌×◌, Err, IfOk, IfSome};
+ghost use Rattle.ld_trace.specs.Sources.{sources, stream_fault};
+ghost use Rattle.ld_check.specs.OfReport.Verdict.{VerdictIs};
+ghost use Rattle.lockgraph.specs.declared.fault.Fault.TheVariants.{Together};
+
+use crate::fault::Fault;
+use crate::streams::read_streams;
+use crate::told::{Told, write_told};
+use crate::words::DotWords;
+use ld_check::{Checked, MOST_WORKERS, NoGate, Verdict, check, verdict_of};
+use ld_device::Std;
+use ld_explain::{Drawn, dot};
+use ld_texts::Places;
+use std::alloc::Global;
+use std::io;
+use std::rt::Files;
+use std::sync::Wait;
+use std::thread::Threads;
+
+/// Writes a graph of the files that are named. May wait.
+///
+/// # Errors
+///
+/// Those of `read_streams`, `drawn_of` and `write_told`.
+pub fn answer_dot<'a, R: Files + io::Input + Print + AllocGlobal + Threads + Wait + Sync>(
+    rt: &R,
+    words: &DotWords<'a>,
+) -> Result<Verdict, Fault<'a>> {
+    let streams = read_streams(rt, &words.given.files)?;
+    let told = drawn_of(
+        rt,
+        rt.alloc(),
+        &streams.bytes,
+        &streams.places,
+        words.drawn,
+        words.given.workers,
+    )?;
+    let mut output = Std::new(io::writer(rt));
+    write_told(&mut output, &told)
+}
+
+/// A graph of these streams, whose traces that many workers read at once. May wait.
+///
+/// # Errors
+///
+/// `Together` exactly where they are no stream together, whatever memory there is; `Memory` where a growth was
+/// refused; and `Uneven` where the workers' book isn't that of the stream.
+fn drawn_of<'a, R: Threads + Wait + Sync>(
+    rt: &R,
+    alloc: Global,
+    bytes: &[u8],
+    places: &Places<'_>,
+    drawn: Drawn<'_>,
+    workers: usize,
+) -> Result<Told, Fault<'a>>
+    requires { (1 ≤ workers) × (workers ≤ MOST_WORKERS) }
+    ensures verdict { IfOk result (λ told. VerdictIs (sources bytes.now) told.verdict) }
+    ensures stream { IfSome (stream_fault bytes.now) (λ fault. result ≡ Err (Together fault)) }
+{
+    let checked = check(rt, alloc, bytes, workers, &NoGate)?;
+    let told = drawn_in(alloc, &checked, places, drawn);
+    drop(checked);
+    told
+}
+
+/// A graph of the traces that a book lists.
+fn drawn_in<'a>(
+    alloc: Global,
+    checked: &Checked<'_>,
+    places: &Places<'_>,
+    drawn: Drawn<'_>,
+) -> Result<Told, Fault<'a>>
+    ensures { IfOk result (λ told. VerdictIs checked.now.book told.verdict) }
+{
+    let text = dot(alloc, &checked.book, &checked.sources, places, drawn)?;
+    let verdict = verdict_of(&checked.book);
+    Ok(Told { text, verdict })
+}

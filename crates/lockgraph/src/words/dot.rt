@@ -1,0 +1,92 @@
+//! The words of `dot`.
+
+use super::explain::class_named;
+use super::{Given, count_of_workers, named_files, read_given};
+use clap::error::ErrorKind;
+use clap::{Arg, ArgAction, ArgMatches, Command, Error, value_parser};
+use ld_explain::Drawn;
+use std::alloc::{AllocError, Global};
+
+/// How far a neighbourhood goes where no word says it.
+const DEFAULT_AROUND: u64 = 1;
+
+/// What the help of `dot` says behind its words.
+const AFTER_DOT: &str = "\
+Writes a graph in the language of Graphviz. A class is a node, with its usage characters. A dependency is an edge,
+with the trace and FILE:LINE at which it was first seen. Recursions and the steps of inversions are red, other
+steps of forbidden walks orange, and the ends of a conflict have a double line around them.
+
+Without --class and --all it shows what stands on violations. --class NAME shows the class and all that is at most
+N steps away from it, in either direction, and the dependencies between these.
+
+Exit status, whatever is shown: 1 where there is a violation, 3 where there is none and a trace is refused, 0
+else, 2 where there is no whole answer.
+
+Example:
+  lockgraph dot run.trace | dot -Tsvg > run.svg";
+
+/// What `dot` is asked.
+#[derive(Debug, Drop)]
+pub struct DotWords<'a> {
+    /// What is drawn.
+    pub drawn: Drawn<'a>,
+    /// The files with the streams, and how they are read.
+    pub given: Given<'a>,
+}
+
+/// `dot [--all | --class NAME [--around N]] [--workers N] [FILE]..`.
+pub fn dot_command<'a>(alloc: Global) -> Result<Command<'a>, AllocError> {
+    let all = Arg::new(alloc, "all")
+        .long("all")
+        .help("All classes and all dependencies")
+        .action(ArgAction::SetTrue)
+        .conflicts_with("class")?;
+    let class = Arg::new(alloc, "class")
+        .long("class")
+        .value_name("NAME")
+        .help("What is around this class, NAME or NAME/N")
+        .action(ArgAction::Set);
+    let around = Arg::new(alloc, "around")
+        .long("around")
+        .value_name("N")
+        .help("How many steps away from it, 1 without this")
+        .action(ArgAction::Set)
+        .value_parser(value_parser!(u64));
+    Command::new(alloc, "dot")
+        .about("Draws classes and dependencies, in the language of Graphviz")
+        .after_help(AFTER_DOT)
+        .arg(all)?
+        .arg(class)?
+        .arg(around)?
+        .arg(count_of_workers(alloc))?
+        .arg(named_files(alloc))
+}
+
+/// What the words behind `dot` ask for.
+///
+/// # Errors
+///
+/// Those of `read_words`, and where `--around` stands without `--class`.
+pub fn read_dot<'a>(
+    alloc: Global,
+    command: &mut Command<'a>,
+    matches: &ArgMatches<'a>,
+) -> Result<DotWords<'a>, Error> {
+    let around = matches.get_one::<u64>("around");
+    let drawn = match class_named(matches) {
+        Some(name) => Drawn::Around {
+            name,
+            steps: around.unwrap_or(DEFAULT_AROUND),
+        },
+        None if around.is_some() => {
+            return Err(command.error(
+                ErrorKind::MissingRequiredArgument,
+                "--around is without --class",
+            )?);
+        }
+        None if matches.get_flag("all") => Drawn::All,
+        None => Drawn::Violations,
+    };
+    let given = read_given(alloc, command, matches, None)?;
+    Ok(DotWords { drawn, given })
+}

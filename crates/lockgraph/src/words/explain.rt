@@ -1,0 +1,106 @@
+//! The words of `explain`.
+
+use super::{Given, count_of_workers, named_files, read_given};
+use clap::{Arg, ArgAction, ArgMatches, Command, Error, value_parser};
+use ld_explain::{Choice, Kind};
+use std::alloc::{AllocError, Global};
+
+/// The names of the kinds of violations.
+const KINDS: [&str; 4] = ["recursion", "inversion", "conflict", "forbidden"];
+
+/// How many violations are explained where no word says it.
+const DEFAULT_MOST: u64 = 20;
+
+/// What the help of `explain` says behind its words.
+const AFTER_EXPLAIN: &str = "\
+Under the line of each violation stand the dependencies of its circle or walk, in turn, each where it was first
+seen: the trace's label, the task, FILE:LINE and what the line says, and the locks that the task held there in
+the same handler, or outside any, each with the line of its acquisition. Of a conflict and of a forbidden walk
+both ends follow: where a handler acquires the class, and which handlers its task was in; and where the class is
+held while handlers can interrupt, and since when they could.
+
+Violations that share dependencies stand together, and the heading names the one that most of them have. What
+was told before is `above`. The last line says how many violations are explained, and how many are not.
+
+Exit status, whatever is chosen: 1 where there is a violation, 3 where there is none and a trace is refused, 0
+else, 2 where there is no whole answer.
+
+Example:
+  lockgraph explain --class rx_lock --most 5 run.trace other.trace";
+
+/// What `explain` is asked.
+#[derive(Debug, Drop)]
+pub struct ExplainWords<'a> {
+    /// Which violations are explained.
+    pub choice: Choice<'a>,
+    /// The files with the streams, and how they are read.
+    pub given: Given<'a>,
+}
+
+/// `explain [--only KIND] [--class NAME] [--most N] [--workers N] [FILE]..`.
+pub fn explain_command<'a>(alloc: Global) -> Result<Command<'a>, AllocError> {
+    let only = Arg::new(alloc, "only")
+        .long("only")
+        .value_name("KIND")
+        .help("The violations of this kind alone")
+        .action(ArgAction::Set)
+        .value_parser(KINDS.as_slice());
+    let class = Arg::new(alloc, "class")
+        .long("class")
+        .value_name("NAME")
+        .help("Those that this class is part of alone, NAME or NAME/N")
+        .action(ArgAction::Set);
+    let most = Arg::new(alloc, "most")
+        .long("most")
+        .value_name("N")
+        .help("How many violations are explained at most, 0 for all")
+        .action(ArgAction::Set)
+        .default_value("20")
+        .value_parser(value_parser!(u64));
+    Command::new(alloc, "explain")
+        .about("Says what stands behind each violation: who held what where")
+        .after_help(AFTER_EXPLAIN)
+        .arg(only)?
+        .arg(class)?
+        .arg(most)?
+        .arg(count_of_workers(alloc))?
+        .arg(named_files(alloc))
+}
+
+/// What the words behind `explain` ask for.
+///
+/// # Errors
+///
+/// Those of `read_words`.
+pub fn read_explain<'a>(
+    alloc: Global,
+    command: &mut Command<'a>,
+    matches: &ArgMatches<'a>,
+) -> Result<ExplainWords<'a>, Error> {
+    let choice = Choice {
+        kind: kind_named(matches.get_str("only")),
+        class: class_named(matches),
+        most: matches.get_one::<u64>("most").unwrap_or(DEFAULT_MOST),
+    };
+    let given = read_given(alloc, command, matches, None)?;
+    Ok(ExplainWords { choice, given })
+}
+
+/// The bytes of the class that `--class` names, if it is there.
+pub fn class_named<'a>(matches: &ArgMatches<'a>) -> Option<&'a [u8]> {
+    match matches.get_str("class") {
+        Some(name) => Some(name.as_bytes()),
+        None => None,
+    }
+}
+
+/// The kind of this name; `None` where there is no name.
+fn kind_named(name: Option<&str>) -> Option<Kind> {
+    match name {
+        Some("recursion") => Some(Kind::Recursion),
+        Some("inversion") => Some(Kind::Inversion),
+        Some("conflict") => Some(Kind::Conflict),
+        Some("forbidden") => Some(Kind::Forbidden),
+        _ => None,
+    }
+}
