@@ -1,5 +1,5 @@
 //! `explain`: what stands behind the violations of some traces.
-ghost use Rattle.std.specs.Prelude.{◌≡◌, ◌≤◌, ◌×◌, Err, IfOk, IfSome};
+ghost use Rattle.std.specs.Prelude.{◌≡◌, ◌≤◌, Err, IfOk, IfSome};
 ghost use Rattle.ld_trace.specs.Sources.{sources, stream_fault};
 ghost use Rattle.ld_check.specs.OfReport.Verdict.{VerdictIs};
 ghost use Rattle.lockgraph.specs.declared.fault.Fault.TheVariants.{Together};
