@@ -49,7 +49,7 @@ pub enum Fault<'a> {
 
 impl<'a> Fault<'a> {
     ghost use Rattle.std.specs.Prelude.{◌≡◌};
-    ghost use Rattle.lockgraph.specs.Faults.{fault_of_check, fault_of_news, fault_of_reduce};
+    ghost use Rattle.lockgraph.specs.Faults.{fault_of_news, fault_of_reduce};
     ghost use Rattle.lockgraph.specs.Streams.{fault_of_file};
 
     /// A fault of the stream that this file is.
@@ -61,17 +61,6 @@ impl<'a> Fault<'a> {
             StreamFault::BadHeader(line) => Fault::BadHeader(name, line),
             StreamFault::Memory => Fault::Memory,
             fault => Fault::File(name, fault),
-        }
-    }
-
-    /// Why there is no book of the files together.
-    pub fn of_check(fault: CheckFault) -> Fault<'a>
-        ensures { result ≡ fault_of_check fault }
-    {
-        match fault {
-            CheckFault::Stream(fault) => Fault::Together(fault),
-            CheckFault::Memory => Fault::Memory,
-            CheckFault::Uneven(number) => Fault::Uneven(number),
         }
     }
 

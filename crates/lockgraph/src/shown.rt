@@ -61,7 +61,7 @@ fn shown_of<'a, R: Threads + Wait + Sync>(
             drop(checked);
             Ok(told?)
         }
-        Err(fault) => Err(Fault::of_check(fault)),
+        Err(fault) => Err(Fault::from(fault)),
     }
 }
 
