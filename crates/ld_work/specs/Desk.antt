@@ -1,5 +1,6 @@
 -- *Desk machine*, and what its feeders' tallies add up to.
-use Rattle.std.specs.Prelude.{◌≡◌, ◌+◌, ◌⊎◌, false, List, [], ◌∷◌, ◌++◌, length}
+use Rattle.std.specs.Prelude.{◌≡◌, ◌+◌, ◌⊎◌, true, false, List, [], ◌∷◌, ◌++◌, length}
+use Rattle.std.specs.Prelude.{Result, Err, OnErr, OnOk}
 use Rattle.std.specs.List.{sum_by}
 use Rattle.ld_trace.specs.Sources.{PlainSource}
 use Rattle.ld_book.specs.Book.{is_any_listed}
@@ -27,6 +28,16 @@ pub record IsSubmitted (sources list list' : List PlainSource) (tally tally' : T
   pub unlisted : is_any_listed list sources ≡ false
   pub listed : list' ≡ list ++ sources
   pub counted : tally' ≡ plus tally (tally_of sources)
+
+-- What a call answers by which a feeder adds some sources. Answering Ok it submitted them. Else list and tally are
+-- as before, and the answer is `repeated` where one of the numbers was listed, and `out_of_memory` where none was.
+pub record IsAddition {A R : Type 0} (sources : List PlainSource) (repeated out_of_memory : R) (answer : Result A R)
+    (list list' : List PlainSource) (tally tally' : Tally) : Type 0 where
+  pub ok : OnOk answer (IsSubmitted sources list list' tally tally')
+  pub err : OnErr answer (list' ≡ list)
+  pub not_counted : OnErr answer (tally' ≡ tally)
+  pub twice : is_any_listed list sources ≡ true → answer ≡ Err repeated
+  pub memory : is_any_listed list sources ≡ false → OnErr answer (answer ≡ Err out_of_memory)
 
 -- an event of the desk machine, by one feeder: it adds some sources, or nothing changes
 abbrev pub IsEvent : List PlainSource → List PlainSource → Tally → Tally → Type 0

@@ -1,10 +1,9 @@
 //! A book behind a lock, which several threads feed.
-ghost use Rattle.std.specs.Prelude.{◌≡◌, ◌≢◌, ◌≤◌, ◌<◌, ◌+◌, ◌^◌, ◌↔◌, ◌∷◌, [], true, false, length, All, Err};
+ghost use Rattle.std.specs.Prelude.{◌≡◌, ◌≢◌, ◌≤◌, ◌<◌, ◌+◌, ◌^◌, ◌↔◌, ◌∷◌, [], length, All};
 ghost use Rattle.std.specs.Prelude.{IfErr, IfOk, IsErr, OnErr, OnOk};
 ghost use Rattle.ld_shown.specs.Batch.{empty_batch};
-ghost use Rattle.ld_book.specs.Book.{is_any_listed, is_listed};
 ghost use Rattle.ld_book.specs.Totals.{event_count};
-ghost use Rattle.ld_work.specs.Desk.{IsEvent, IsSubmitted, sum_of, tally_of};
+ghost use Rattle.ld_work.specs.Desk.{IsAddition, IsEvent, sum_of, tally_of};
 
 use crate::feeder::{Feeder, MOST_FEEDERS, Tally};
 use crate::sums::{added_since, audited, count, joined};
@@ -44,14 +43,9 @@ impl<'a, T: Ledger, E: Ledger> Model for Locked<'a, T, E> {
 impl<'a, T: Ledger, E: Ledger> Locked<'a, T, E> {
     /// Adds a trace to the book, and to the tally of the feeder.
     fn submit(&mut self, feeder: &mut Feeder<T, E>, facts: Facts<'a>) -> Result<(), Refusal<'a>>
-        ensures ok { OnOk result
-            (IsSubmitted (facts.entry.source ∷ []) self.old self.new feeder.old feeder.new) }
-        ensures err { OnErr result (self.new ≡ self.old) }
-        ensures not_counted { OnErr result (feeder.new ≡ feeder.old) }
-        ensures twice { is_listed self.old facts.entry.source.number ≡ true
-            → result ≡ Err (Refusal.Twice facts.entry) }
-        ensures memory { is_listed self.old facts.entry.source.number ≡ false
-            → OnErr result (result ≡ Err (Refusal.Memory facts.entry)) }
+        ensures added { IsAddition (facts.entry.source ∷ [])
+            (Refusal.Twice facts.entry) (Refusal.Memory facts.entry) result
+            self.old self.new feeder.old feeder.new }
     {
         let before = self.book.totals();
         self.book.add(facts)?;
@@ -63,16 +57,10 @@ impl<'a, T: Ledger, E: Ledger> Locked<'a, T, E> {
     /// Adds the traces of a batch to the book, and to the tally of the feeder, and leaves the batch
     /// without traces.
     fn take(&mut self, feeder: &mut Feeder<T, E>, batch: &mut Batch<'a>) -> Result<(), TakeRefusal>
-        ensures ok { OnOk result
-            (IsSubmitted batch.old.sources self.old self.new feeder.old feeder.new) }
+        ensures added { IsAddition batch.old.sources TakeRefusal.Twice TakeRefusal.Memory result
+            self.old self.new feeder.old feeder.new }
         ensures emptied { OnOk result (batch.new ≡ empty_batch) }
-        ensures err { OnErr result (self.new ≡ self.old) }
         ensures back { OnErr result (batch.new ≡ batch.old) }
-        ensures not_counted { OnErr result (feeder.new ≡ feeder.old) }
-        ensures twice { is_any_listed self.old batch.old.sources ≡ true
-            → result ≡ Err TakeRefusal.Twice }
-        ensures memory { is_any_listed self.old batch.old.sources ≡ false
-            → OnErr result (result ≡ Err TakeRefusal.Memory) }
     {
         let before = self.book.totals();
         self.book.take(batch)?;
@@ -244,14 +232,9 @@ impl<'d, 'a, T: Ledger, E: Ledger> Look<'d, 'a, T, E> {
     ///
     /// Those of `Book::add`: the facts come back, and the book and the tally are as before.
     pub fn submit(&mut self, feeder: &mut Feeder<T, E>, facts: Facts<'a>) -> Result<(), Refusal<'a>>
-        ensures ok { OnOk result
-            (IsSubmitted (facts.entry.source ∷ []) self.old self.new feeder.old feeder.new) }
-        ensures err { OnErr result (self.new ≡ self.old) }
-        ensures not_counted { OnErr result (feeder.new ≡ feeder.old) }
-        ensures twice { is_listed self.old facts.entry.source.number ≡ true
-            → result ≡ Err (Refusal.Twice facts.entry) }
-        ensures memory { is_listed self.old facts.entry.source.number ≡ false
-            → OnErr result (result ≡ Err (Refusal.Memory facts.entry)) }
+        ensures added { IsAddition (facts.entry.source ∷ [])
+            (Refusal.Twice facts.entry) (Refusal.Memory facts.entry) result
+            self.old self.new feeder.old feeder.new }
         ensures event { IsEvent self.old self.new feeder.old feeder.new }
     {
         self.guard.submit(feeder, facts)
@@ -268,14 +251,9 @@ impl<'d, 'a, T: Ledger, E: Ledger> Look<'d, 'a, T, E> {
         feeder: &mut Feeder<T, E>,
         mut batch: Batch<'a>,
     ) -> Result<(), BatchRefusal<'a>>
-        ensures ok { OnOk result
-            (IsSubmitted batch.entry.sources self.old self.new feeder.old feeder.new) }
-        ensures err { OnErr result (self.new ≡ self.old) }
-        ensures not_counted { OnErr result (feeder.new ≡ feeder.old) }
-        ensures twice { is_any_listed self.old batch.entry.sources ≡ true
-            → result ≡ Err (BatchRefusal.Twice batch.entry) }
-        ensures memory { is_any_listed self.old batch.entry.sources ≡ false
-            → OnErr result (result ≡ Err (BatchRefusal.Memory batch.entry)) }
+        ensures added { IsAddition batch.entry.sources
+            (BatchRefusal.Twice batch.entry) (BatchRefusal.Memory batch.entry) result
+            self.old self.new feeder.old feeder.new }
         ensures event { IsEvent self.old self.new feeder.old feeder.new }
     {
         match self.guard.take(feeder, &mut batch) {
@@ -299,16 +277,10 @@ impl<'d, 'a, T: Ledger, E: Ledger> Look<'d, 'a, T, E> {
         feeder: &mut Feeder<T, E>,
         batch: &mut Batch<'a>,
     ) -> Result<(), TakeRefusal>
-        ensures ok { OnOk result
-            (IsSubmitted batch.old.sources self.old self.new feeder.old feeder.new) }
+        ensures added { IsAddition batch.old.sources TakeRefusal.Twice TakeRefusal.Memory result
+            self.old self.new feeder.old feeder.new }
         ensures emptied { OnOk result (batch.new ≡ empty_batch) }
-        ensures err { OnErr result (self.new ≡ self.old) }
         ensures back { OnErr result (batch.new ≡ batch.old) }
-        ensures not_counted { OnErr result (feeder.new ≡ feeder.old) }
-        ensures twice { is_any_listed self.old batch.old.sources ≡ true
-            → result ≡ Err TakeRefusal.Twice }
-        ensures memory { is_any_listed self.old batch.old.sources ≡ false
-            → OnErr result (result ≡ Err TakeRefusal.Memory) }
         ensures event { IsEvent self.old self.new feeder.old feeder.new }
     {
         self.guard.take(feeder, batch)

@@ -6,6 +6,7 @@
 
 #include "next.h"
 #include "recorder.h"
+#include "wrappers.h"
 
 /* A robust mutex whose owner died is held all the same. */
 static int got(enum operation operation, const void *lock, int answer,
@@ -16,42 +17,13 @@ static int got(enum operation operation, const void *lock, int answer,
     return answer;
 }
 
-EXPORTED int pthread_mutex_init(pthread_mutex_t *mutex, const pthread_mutexattr_t *attributes)
-{
-    int answer = NEXT(pthread_mutex_init)(mutex, attributes);
-    if (answer == 0)
-        record_init(mutex);
-    return answer;
-}
+WRAP_INIT(pthread_mutex_init, pthread_mutex_t, const pthread_mutexattr_t *)
+WRAP_DESTROY(pthread_mutex_destroy, pthread_mutex_t)
 
-EXPORTED int pthread_mutex_destroy(pthread_mutex_t *mutex)
-{
-    int answer = NEXT(pthread_mutex_destroy)(mutex);
-    if (answer == 0)
-        record_destroy(mutex);
-    return answer;
-}
-
-EXPORTED int pthread_mutex_lock(pthread_mutex_t *mutex)
-{
-    return got(RECORD_ACQUIRE, mutex, NEXT(pthread_mutex_lock)(mutex), HERE);
-}
-
-EXPORTED int pthread_mutex_trylock(pthread_mutex_t *mutex)
-{
-    return got(RECORD_TRY, mutex, NEXT(pthread_mutex_trylock)(mutex), HERE);
-}
-
-EXPORTED int pthread_mutex_timedlock(pthread_mutex_t *mutex, const struct timespec *until)
-{
-    return got(RECORD_ACQUIRE, mutex, NEXT(pthread_mutex_timedlock)(mutex, until), HERE);
-}
-
-EXPORTED int pthread_mutex_clocklock(pthread_mutex_t *mutex, clockid_t clock,
-                                     const struct timespec *until)
-{
-    return got(RECORD_ACQUIRE, mutex, NEXT(pthread_mutex_clocklock)(mutex, clock, until), HERE);
-}
+WRAP_TAKE(RECORD_ACQUIRE, got, pthread_mutex_lock, pthread_mutex_t)
+WRAP_TAKE(RECORD_TRY, got, pthread_mutex_trylock, pthread_mutex_t)
+WRAP_TIMED(got, pthread_mutex_timedlock, pthread_mutex_t)
+WRAP_CLOCKED(got, pthread_mutex_clocklock, pthread_mutex_t)
 
 EXPORTED int pthread_mutex_unlock(pthread_mutex_t *mutex)
 {
@@ -111,13 +83,7 @@ EXPORTED int pthread_cond_clockwait(pthread_cond_t *condition, pthread_mutex_t *
     return waited(mutex, answer, HERE);
 }
 
-EXPORTED int mtx_init(mtx_t *mutex, int type)
-{
-    int answer = NEXT(mtx_init)(mutex, type);
-    if (answer == thrd_success)
-        record_init(mutex);
-    return answer;
-}
+WRAP_INIT(mtx_init, mtx_t, int)
 
 EXPORTED void mtx_destroy(mtx_t *mutex)
 {
@@ -133,20 +99,9 @@ static int got_c11(enum operation operation, const void *mutex, int answer,
     return answer;
 }
 
-EXPORTED int mtx_lock(mtx_t *mutex)
-{
-    return got_c11(RECORD_ACQUIRE, mutex, NEXT(mtx_lock)(mutex), HERE);
-}
-
-EXPORTED int mtx_trylock(mtx_t *mutex)
-{
-    return got_c11(RECORD_TRY, mutex, NEXT(mtx_trylock)(mutex), HERE);
-}
-
-EXPORTED int mtx_timedlock(mtx_t *restrict mutex, const struct timespec *restrict until)
-{
-    return got_c11(RECORD_ACQUIRE, mutex, NEXT(mtx_timedlock)(mutex, until), HERE);
-}
+WRAP_TAKE(RECORD_ACQUIRE, got_c11, mtx_lock, mtx_t)
+WRAP_TAKE(RECORD_TRY, got_c11, mtx_trylock, mtx_t)
+WRAP_TIMED(got_c11, mtx_timedlock, mtx_t)
 
 EXPORTED int mtx_unlock(mtx_t *mutex)
 {

@@ -4,22 +4,10 @@
 
 #include "next.h"
 #include "recorder.h"
+#include "wrappers.h"
 
-EXPORTED int pthread_spin_init(pthread_spinlock_t *lock, int shared)
-{
-    int answer = NEXT(pthread_spin_init)(lock, shared);
-    if (answer == 0)
-        record_init((const void *)lock);
-    return answer;
-}
-
-EXPORTED int pthread_spin_destroy(pthread_spinlock_t *lock)
-{
-    int answer = NEXT(pthread_spin_destroy)(lock);
-    if (answer == 0)
-        record_destroy((const void *)lock);
-    return answer;
-}
+WRAP_INIT(pthread_spin_init, pthread_spinlock_t, int)
+WRAP_DESTROY(pthread_spin_destroy, pthread_spinlock_t)
 
 static int got(enum operation operation, const volatile void *lock, int answer,
                const struct frame *frame)
@@ -29,15 +17,8 @@ static int got(enum operation operation, const volatile void *lock, int answer,
     return answer;
 }
 
-EXPORTED int pthread_spin_lock(pthread_spinlock_t *lock)
-{
-    return got(RECORD_ACQUIRE, lock, NEXT(pthread_spin_lock)(lock), HERE);
-}
-
-EXPORTED int pthread_spin_trylock(pthread_spinlock_t *lock)
-{
-    return got(RECORD_TRY, lock, NEXT(pthread_spin_trylock)(lock), HERE);
-}
+WRAP_TAKE(RECORD_ACQUIRE, got, pthread_spin_lock, pthread_spinlock_t)
+WRAP_TAKE(RECORD_TRY, got, pthread_spin_trylock, pthread_spinlock_t)
 
 EXPORTED int pthread_spin_unlock(pthread_spinlock_t *lock)
 {
@@ -45,21 +26,8 @@ EXPORTED int pthread_spin_unlock(pthread_spinlock_t *lock)
     return NEXT(pthread_spin_unlock)(lock);
 }
 
-EXPORTED int pthread_rwlock_init(pthread_rwlock_t *lock, const pthread_rwlockattr_t *attributes)
-{
-    int answer = NEXT(pthread_rwlock_init)(lock, attributes);
-    if (answer == 0)
-        record_init(lock);
-    return answer;
-}
-
-EXPORTED int pthread_rwlock_destroy(pthread_rwlock_t *lock)
-{
-    int answer = NEXT(pthread_rwlock_destroy)(lock);
-    if (answer == 0)
-        record_destroy(lock);
-    return answer;
-}
+WRAP_INIT(pthread_rwlock_init, pthread_rwlock_t, const pthread_rwlockattr_t *)
+WRAP_DESTROY(pthread_rwlock_destroy, pthread_rwlock_t)
 
 /* One call gives back read locks and write locks. A thread that never took a write lock has none to
    give back, so what it does with read locks costs nothing; of another's unlocks those of read locks
@@ -74,26 +42,10 @@ static int wrote(enum operation operation, pthread_rwlock_t *lock, int answer,
     return got(operation, lock, answer, frame);
 }
 
-EXPORTED int pthread_rwlock_wrlock(pthread_rwlock_t *lock)
-{
-    return wrote(RECORD_ACQUIRE, lock, NEXT(pthread_rwlock_wrlock)(lock), HERE);
-}
-
-EXPORTED int pthread_rwlock_trywrlock(pthread_rwlock_t *lock)
-{
-    return wrote(RECORD_TRY, lock, NEXT(pthread_rwlock_trywrlock)(lock), HERE);
-}
-
-EXPORTED int pthread_rwlock_timedwrlock(pthread_rwlock_t *lock, const struct timespec *until)
-{
-    return wrote(RECORD_ACQUIRE, lock, NEXT(pthread_rwlock_timedwrlock)(lock, until), HERE);
-}
-
-EXPORTED int pthread_rwlock_clockwrlock(pthread_rwlock_t *lock, clockid_t clock,
-                                        const struct timespec *until)
-{
-    return wrote(RECORD_ACQUIRE, lock, NEXT(pthread_rwlock_clockwrlock)(lock, clock, until), HERE);
-}
+WRAP_TAKE(RECORD_ACQUIRE, wrote, pthread_rwlock_wrlock, pthread_rwlock_t)
+WRAP_TAKE(RECORD_TRY, wrote, pthread_rwlock_trywrlock, pthread_rwlock_t)
+WRAP_TIMED(wrote, pthread_rwlock_timedwrlock, pthread_rwlock_t)
+WRAP_CLOCKED(wrote, pthread_rwlock_clockwrlock, pthread_rwlock_t)
 
 EXPORTED int pthread_rwlock_unlock(pthread_rwlock_t *lock)
 {
