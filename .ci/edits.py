@@ -10,6 +10,8 @@ FUNCTION = re.compile(r"( *)(?:pub(?:\([^)]*\))? )?(?:const )?fn (\w+)")
 OPEN = re.compile(r"note: (src/\S+?):(\d+):\d+: (it is not proved .*)")
 ERROR = re.compile(r"(?:\./)?(proofs|specs|src)/(\S+?):(\d+):\d+: error: (.*)")
 UNCOMPILED = re.compile(r"(?m)^(src/\S+?):(\d+):\d+: error\[")
+# A `use` of several names, in one line, by which nothing is handed on.
+USE = re.compile(r"((?:ghost )?use [\w:.]+\{)([^{}]*)(?=\};$)")
 # What is said where goals of a function have other names than before.
 ANEW = "(goals of this function are named anew)"
 # The most edits of a round: one with more gains little, and others would wait for its end.
@@ -25,11 +27,11 @@ class Wrong(Exception):
 
 
 class Function:
-    """A function: its name, what the checker's names have before it, and where it stands in its file, by
-    numbers of lines from 0."""
+    """A function: its name, what the checker's names have before it, whether only its crate can name it, and
+    where it stands in its file, by numbers of lines from 0."""
 
-    def __init__(self, file, name, owner, lines):
-        self.file, self.name, self.owner = file, name, owner
+    def __init__(self, file, name, owner, is_own, lines):
+        self.file, self.name, self.owner, self.is_own = file, name, owner, is_own
         self.first, self.head, self.last = lines
 
     def has(self, file, line):
@@ -58,12 +60,16 @@ def end_of(lines, first, indent):
     raise Wrong(f"no end was found of the function in the line '{lines[first]}'")
 
 
-def owner_of(file, lines, first, indent):
+def block_of(lines, first, indent):
+    """The line that begins the block of a function: its impl, trait or module; none at the top of a file."""
+    return next(it for it in reversed(lines[:first]) if re.match(r"(impl|(pub )?(trait|mod))\b", it)) if indent else ""
+
+
+def owner_of(file, head):
     """What the checker's names have before the name of a function: its type and trait, or its module."""
-    if not indent:
+    if not head:
         stem = os.path.basename(file).removesuffix(".rt")
         return "" if stem in ("lib", "main") else stem
-    head = next(it for it in reversed(lines[:first]) if re.match(r"(impl|(pub )?(trait|mod))\b", it))
     head = re.sub(r"^(impl(<.*?>)? |(pub )?(trait|mod) )|'\w+|[{&]", "", head)
     trait, _, owner = head.rpartition(" for ")
     # As `StopFromAllocError` is `impl From<AllocError> for Stop`.
@@ -77,26 +83,38 @@ def functions_of(file):
         begins = FUNCTION.match(lines[at])
         if begins:
             head, last = end_of(lines, at, begins[1])
-            owner = owner_of(file, lines, at, begins[1])
+            block = block_of(lines, at, begins[1])
+            of_trait = " for " in block or re.match(r"(pub )?trait\b", block)
+            is_own = not (of_trait or lines[at].lstrip().startswith("pub "))
             # What is open of a function is said to be at its first attribute, where it has one.
             first = at
             while lines[first - 1].startswith(f"{begins[1]}#["):
                 first -= 1
-            found.append(Function(file, begins[2], owner, (first, head, last)))
+            found.append(Function(file, begins[2], owner_of(file, block), is_own, (first, head, last)))
             at = last
         at += 1
     return found
 
 
 def shown_of(file):
-    """What a file of a crate shows to those above: all but the bodies of its functions and lines of comments. A
-    constant function's body stays, since it may be worked out in a type."""
+    """What a file of a crate shows to those above: all but functions that only the crate can name, the bodies of
+    the others, lines of comments, and what its `use` lines have for these alone. A constant function stays, since
+    it may be worked out in a type."""
     lines = read(file).split("\n")
     for it in functions_of(file) if file.endswith(".rt") else []:
         if not any(re.search(rf"\bconst fn {it.name}\b", line) for line in lines[it.first : it.head + 1]):
-            lines[it.head + 1 : it.last] = [""] * max(it.last - it.head - 1, 0)
+            first, end = (it.first, it.last + 1) if it.is_own else (it.head + 1, it.last)
+            lines[first:end] = [""] * max(end - first, 0)
     comment = "//" if file.endswith(".rt") else "--"
-    return "\n".join(it for it in lines if it and not it.lstrip().startswith(comment))
+    lines = [it for it in lines if it and not it.lstrip().startswith(comment)]
+    text = "\n".join(it for it in lines if not USE.match(it))
+    return "\n".join(USE.sub(lambda use: with_names(*use.groups(), text), it) for it in lines)
+
+
+def with_names(path, names, text):
+    """A `use` line with those of its names that stand in a text."""
+    parts = {it: it.rpartition(" as ")[2].split("◌") for it in names.split(", ")}
+    return path + ", ".join(it for it, those in parts.items() if all(part in text for part in those))
 
 
 class Edit:
@@ -147,7 +165,7 @@ class Edit:
         # A function more, before the comment of another one.
         added = FUNCTION.match(new)
         if added and was.strip().startswith("///") and new.endswith(was.strip()):
-            return Function(file, added[2], "", (at, at, at))
+            return Function(file, added[2], "", True, (at, at, at))
         return None
 
     def places(self):
