@@ -247,21 +247,18 @@ cycle_kept g h = (h.cycle, λ w. by (bool_cases g.has_cycle) w)
     by (inl t) w = t
     by (inr f) w = absurd (acyclic (IsEdge g.edges.keys) g.ranks.ranks (h.rises f) w)
 
+-- where there is one, there is no order
+pub order_none : (g : Inside) → IsKept g → g.has_cycle ≡ true
+    → MatchOption (order_of g.has_cycle g.ranks.ranks) (HasCycle (IsEdge g.edges.keys))
+    (IsOrder (IsEdge g.edges.keys) g.classes)
+order_none g h t = subst (λ z. MatchOption (order_of z g.ranks.ranks) (HasCycle (IsEdge g.edges.keys))
+    (IsOrder (IsEdge g.edges.keys) g.classes)) (sym t) (h.cycle t)
+
 -- and where there is none, the ranks are an order
-pub order_kept : (g : Inside) → IsKept g → (order : List ℕ) (first : ℕ)
-    → AreInverse g.ranks.ranks order first
-    → MatchOption (order_of g.has_cycle g.ranks.ranks) (g.has_cycle ≡ true)
-    (λ ranks. (g.has_cycle ≡ false) × IsOrder (IsEdge g.edges.keys) g.classes ranks)
-order_kept g h order first i = by (bool_cases g.has_cycle)
-  where
-    by : (g.has_cycle ≡ true) ⊎ (g.has_cycle ≡ false)
-        → MatchOption (order_of g.has_cycle g.ranks.ranks) (g.has_cycle ≡ true)
-        (λ ranks. (g.has_cycle ≡ false) × IsOrder (IsEdge g.edges.keys) g.classes ranks)
-    by (inl t) = subst (λ z. MatchOption (order_of z g.ranks.ranks) (g.has_cycle ≡ true)
-        (λ ranks. (g.has_cycle ≡ false) × IsOrder (IsEdge g.edges.keys) g.classes ranks)) (sym t) t
-    by (inr f) = subst (λ z. MatchOption (order_of z g.ranks.ranks) (g.has_cycle ≡ true)
-        (λ ranks. (g.has_cycle ≡ false) × IsOrder (IsEdge g.edges.keys) g.classes ranks)) (sym f) (
-          f,
-          IsOrder-told (IsEdge g.edges.keys) g.classes g.ranks.ranks order first i h.ranked
-              (h.rises f) (h.free f),
-        )
+pub order_some : (g : Inside) → IsKept g → (order : List ℕ) (first : ℕ)
+    → AreInverse g.ranks.ranks order first → g.has_cycle ≡ false
+    → MatchOption (order_of g.has_cycle g.ranks.ranks) (HasCycle (IsEdge g.edges.keys))
+    (IsOrder (IsEdge g.edges.keys) g.classes)
+order_some g h order first i f = subst (λ z. MatchOption (order_of z g.ranks.ranks)
+    (HasCycle (IsEdge g.edges.keys)) (IsOrder (IsEdge g.edges.keys) g.classes)) (sym f)
+    (IsOrder-told (IsEdge g.edges.keys) g.classes g.ranks.ranks order first i h.ranked (h.rises f) (h.free f))

@@ -1,12 +1,28 @@
 -- A plan for the classes from the one that b has a rank with to the one of a.
-use Rattle.std.proofs.Common.{◌≡◌, ◌≢◌, ◌⊎◌, inl, inr, ℕ, ◌+◌, ◌-◌, ◌^◌, ◌<◌, ◌≤◌}
+use Rattle.std.proofs.Common.{◌≡◌, ◌≢◌, ◌⊎◌, inl, inr, ℕ, zero, suc, ◌+◌, ◌-◌, ◌^◌, ◌<◌, ◌≤◌}
 use Rattle.std.proofs.Common.{List, length, get_or}
 use Rattle.std.proofs.Common.{slice_range, arith, sym, ap, subst, ◌∙◌}
+use Rattle.std.proofs.lemmas.Bool.{cases_eq}
 use Rattle.ld_graph.specs.Inner.Repairs.{AreInverse, AreRanked, IsInside, IsOrReaches, IsPlan}
 use Rattle.ld_graph.specs.Inner.Repairs.{IsRepaired, split}
 use Rattle.ld_graph.proofs.MendLemmas.{AreInverse-given, length-row, new_outside, ranked_given}
 use Rattle.ld_graph.proofs.MendLemmas.{rises_given, row_of, row_read, split_ends, split_once}
 use Rattle.ld_graph.proofs.MendLemmas.{turned_given}
+
+-- one of the first n is this one, or none of them is
+one_or_none : (at : ℕ → ℕ) (n i : ℕ) → ((k : ℕ) × ((k < n) × (at k ≡ i))) ⊎ ((k : ℕ) → k < n → at k ≢ i)
+one_or_none at zero i = inr (λ k l e. omega (arith, l))
+one_or_none at (suc n) i = by (one_or_none at n i) (cases_eq (at n) i)
+  where
+    by : ((k : ℕ) × ((k < n) × (at k ≡ i))) ⊎ ((k : ℕ) → k < n → at k ≢ i) → (at n ≡ i) ⊎ (at n ≢ i)
+        → ((k : ℕ) × ((k < suc n) × (at k ≡ i))) ⊎ ((k : ℕ) → k < suc n → at k ≢ i)
+    by (inl o) _ = let a = o.1.0 in inl (o.0, (omega (arith, a), o.1.1))
+    by (inr _) (inl e) = inl (n, (omega arith, e))
+    by (inr none) (inr e) = inr (λ k l q. last k l q (cases_eq k n))
+      where
+        last : (k : ℕ) → k < suc n → at k ≡ i → (k ≡ n) ⊎ (k ≢ n) → ⊥
+        last k l q (inl s) = e (ap at (sym s) ∙ q)
+        last k l q (inr s) = none k (omega (arith, l, s)) q
 
 module _ (step : ℕ → ℕ → Type 0) (ranks order : List ℕ) (first : ℕ) (h : AreInverse ranks order first)
     (a b low high start : ℕ) (low_is : low ≡ get_or ranks b 0) (high_is : high ≡ get_or ranks a 0)
@@ -90,7 +106,7 @@ module _ (step : ℕ → ℕ → Type 0) (ranks order : List ℕ) (first : ℕ) 
 
     some_or : (i : ℕ) → i < high + 1 - low → ((k : ℕ) × ((k < length moved) × (at k ≡ i)))
         ⊎ ((k : ℕ) → k < length moved → at k ≢ i)
-    some_or i l = let r = row_length in plan.some_or i (omega (arith, l, r))
+    some_or i l = one_or_none at (length moved) i
 
     pub moved_place : (k : ℕ) → k < length moved → start + at k < length order
     moved_place k l = let w = plan_within in let b = inside k l in omega (arith, b, w)

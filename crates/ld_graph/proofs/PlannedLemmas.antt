@@ -60,18 +60,6 @@ module _ (sides : Sides) (turned : (x y : ℕ) → IsNear sides.after.lists x y
     not_front : (k : ℕ) → Contains ahead (get_or pool k 0) → front k ≡ false
     not_front k f = any_none behind (get_or pool k 0) (λ b. apart (get_or pool k 0) b f)
 
-    some_or : (i : ℕ) → i < length row → ((k : ℕ) × ((k < length shared) × (get_or pool k 0 ≡ i)))
-        ⊎ ((k : ℕ) → k < length shared → get_or pool k 0 ≢ i)
-    some_or i _ = by (bool_cases (list_any (nat_eq i) pool))
-      where
-        by : (list_any (nat_eq i) pool ≡ true) ⊎ (list_any (nat_eq i) pool ≡ false)
-            → ((k : ℕ) × ((k < length shared) × (get_or pool k 0 ≡ i)))
-            ⊎ ((k : ℕ) → k < length shared → get_or pool k 0 ≢ i)
-        by (inl e) = inl (place_of i ((s.has i).0 (any_Contains pool i e)))
-        by (inr e) = inr (λ k l q. let n = shared_length in
-            true≢false (sym (Contains_any pool i (subst (Contains pool) q (Contains-get_or pool k 0 (omega
-            (arith, l, n))))) ∙ e))
-
     -- a rank at an offset of the row
     inside_of : (r i : ℕ) → r ≡ low + i → i < length row → IsInside low (length row) r
     inside_of r i e l = (omega (arith, e), omega (arith, e, l))
@@ -119,7 +107,6 @@ module _ (sides : Sides) (turned : (x y : ℕ) → IsNear sides.after.lists x y
       in_order = s.in_order ∙ ap (split front (λ k. get_or row (get_or pool k 0) 0)) (sym shared_length);
       inside = λ k l. in_row (get_or pool k 0) (of_place k l);
       rising = λ i k l b. let e = shared_length in s.rising i k l (omega (arith, b, e));
-      some_or = some_or;
       closed_front = closed_front;
       closed_back = closed_back;
       last = let p = place_of (length row - 1) (inl back.begun) in (
@@ -149,7 +136,6 @@ module _ (sides : Sides) (turned : (x y : ℕ) → IsNear sides.after.lists x y
     in_order = is ∙ ap (split (in_front ended behind ahead) (λ k. get_or row k 0)) (sym size);
     inside = λ k l. let e = size in omega (arith, l, e);
     rising = λ i k l b. l;
-    some_or = λ i l. let e = size in inl (i, (omega (arith, l, e), refl));
     closed_front = λ x y k s i w t. let q = w.1 in let b = w.0 in let e = size in
         let same : rank y - low ≡ k = omega (arith, q) in
         let a = i.0 in let c = i.1 in (

@@ -195,22 +195,20 @@ impl Graph {
         answer
     }
 
-    /// Whether there is a cycle. Where there is none, the ranks are an order: every edge goes from a
-    /// lesser to a greater one. Takes no memory.
+    /// Whether there is a cycle. Takes no memory.
     pub fn has_cycle(&self) -> bool
         ensures cycle { IsTrue result ↔ HasCycle (IsEdge self.now.edges) }
-        ensures order { MatchOption self.now.order (result ≡ true) (λ ranks. (result ≡ false)
-            × IsOrder (IsEdge self.now.edges) self.now.classes ranks) }
     {
-        // Asked so that what is known of the ranks is at hand.
-        let _ = self.ranks.ranked();
         self.has_cycle
     }
 
-    /// The rank of the class, or `None` where it has no edge or there is a cycle. Takes no memory.
+    /// The rank of the class, or `None` where it has no edge or there is a cycle. Where there is none, the
+    /// ranks are an order: every edge goes from a lesser to a greater one. Takes no memory.
     pub fn rank(&self, class: u32) -> Option<u32>
         requires { class < self.now.classes }
-        ensures { MatchOption self.now.order (result ≡ None) (λ ranks. result ≡ rank_of ranks class) }
+        ensures rank { MatchOption self.now.order (result ≡ None) (λ ranks. result ≡ rank_of ranks class) }
+        ensures order { MatchOption self.now.order (HasCycle (IsEdge self.now.edges))
+            (IsOrder (IsEdge self.now.edges) self.now.classes) }
     {
         if self.has_cycle {
             return None;

@@ -66,14 +66,6 @@ impl Ranks {
         }
     }
 
-    /// How many classes have a rank.
-    pub fn ranked(&self) -> usize
-        ensures count { result ≡ length self.now.order }
-        ensures inverse { AreInverse self.now.ranks self.now.order self.now.first }
-    {
-        self.order.len()
-    }
-
     /// The rank of the class, if it has one.
     pub fn rank(&self, class: u32) -> Option<u32>
         requires { class < length self.now.ranks }

@@ -69,7 +69,7 @@ pub fn show(
         IsShownWalk (IsNear lists.now.after.lists) (ComesBefore places.now) a b walk.items) }
 {
     let mut walk = Vec::with_capacity(alloc, distance as usize + 1)?;
-    walk.push(a)?;
+    walk.push_reserved(a);
     let mut last = a;
     let mut left = distance;
     let mut steps = Steps::new();
@@ -78,9 +78,9 @@ pub fn show(
         let Some(near) = nearest(lists.after(last, &mut steps), left, levels, places) else {
             unreachable!()
         };
-        walk.push(near)?;
+        walk.push_reserved(near);
         last = near;
     }
-    walk.push(b)?;
+    walk.push_reserved(b);
     Ok(walk)
 }

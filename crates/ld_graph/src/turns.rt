@@ -175,7 +175,7 @@ fn go_on(
         (start_of side (length row.now)) search.new.found }
     ensures ended { OnTrue result (HasAllNear (IsNear (of_side side lists.now)) ranks.now low row.now
         search.new.found (length search.new.found)) }
-    ensures most { steps.new + read ≤ steps.old + length search.new.found }
+    ensures read_more { steps.new + read ≤ steps.old + length search.new.found }
     ensures kept { steps.old ≤ steps.new }
 {
     let mut done = read;

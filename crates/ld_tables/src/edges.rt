@@ -94,6 +94,13 @@ impl Edges {
         self.theirs.as_slice()
     }
 
+    /// How many pairs have numbers.
+    pub fn numbered(&self) -> usize
+        ensures { result ≡ length self.now.pairs }
+    {
+        self.pairs.len()
+    }
+
     /// Whether there is room for the numbers of further pairs.
     pub fn has_room(&self) -> bool
         ensures room { OnTrue result (length self.now.pairs < MOST_PAIRS) }

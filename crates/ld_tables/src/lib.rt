@@ -21,7 +21,7 @@ pub use context::Context;
 pub use edges::EdgeFact;
 pub use held::Held;
 pub use interrupts::{Flag, Interrupts};
-pub use locks::Locks;
+pub use locks::{Kept, Locks};
 pub use marked::Marked;
 pub use numbers::Numbers;
 pub use tasks::{MOST_KNOWN_TASKS, TaskNames};

@@ -6,6 +6,8 @@ ghost use Rattle.std.specs.Prelude.{◌≡◌, ◌<◌, ◌+◌, true, [], ◌�
 ghost use Rattle.std.specs.Prelude.{map, take, slice_index_or, slice_set, OnOk};
 ghost use Rattle.std.specs.Bool.{OnTrue};
 ghost use Rattle.ld_trace.specs.Events.{plain_lock};
+ghost use Rattle.ld_tables.specs.declared.chains.TheConstants.{MOST_CHAINS};
+ghost use Rattle.ld_tables.specs.declared.edges.TheConstants.{MOST_PAIRS};
 ghost use Rattle.ld_tables.specs.Inner.Edges.{edge_to, with_edge_fact};
 ghost use Rattle.ld_tables.specs.Inner.Interrupts.{IsEntered, IsLeft, IsSet, fresh, nests_in, start_now};
 ghost use Rattle.ld_tables.specs.Inner.Interrupts.{is_on, states_of};
@@ -35,6 +37,15 @@ struct Before {
     edges: usize,
     /// How many chains had the dependencies of their last class told.
     told: usize,
+}
+
+/// What stays of the cache where all else is taken away.
+#[derive(Clone, Copy, Debug, PartialEq, Eq)]
+pub struct Kept {
+    /// How many chains.
+    pub chains: usize,
+    /// How many pairs of classes have numbers.
+    pub pairs: usize,
 }
 
 /// What each task of a trace holds and where it is, by the task's number, and the dependencies so
@@ -133,15 +144,22 @@ impl<'a> Locks<'a> {
     }
 
     /// Takes all away. The memory stays; and so do the chains that were met and the numbers of
-    /// pairs, while there is room for further ones ([`Chains::has_room`]).
-    pub fn clear(&mut self)
-        ensures { self.new ≡ record { stacks = []; interrupts = []; edges = []; before = [] } }
+    /// pairs, while there is room for further ones of both ([`Chains::has_room`], [`Edges::has_room`]).
+    /// Answers how many of them there still are.
+    pub fn clear(&mut self) -> Kept
+        ensures empty { self.new ≡ record { stacks = []; interrupts = []; edges = []; before = [] } }
+        ensures chains { result.chains < MOST_CHAINS }
+        ensures pairs { result.pairs < MOST_PAIRS }
     {
         self.stacks.begin();
         self.told.cut(0);
         self.edges.cut(0);
         make_room(&mut self.chains, &mut self.edges);
         self.before = Before { edges: 0, told: 0 };
+        Kept {
+            chains: self.chains.len(),
+            pairs: self.edges.numbered(),
+        }
     }
 
     /// One more task, which holds nothing and is outside frames.

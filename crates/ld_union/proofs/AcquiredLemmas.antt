@@ -6,7 +6,7 @@ use Rattle.std.proofs.lemmas.List.{get_or_append_left, get_or_default, get_or_pu
 use Rattle.std.proofs.lemmas.List.Elements.{Contains-append_left, Contains-push}
 use Rattle.ld_class.specs.Names.{PlainClass}
 use Rattle.ld_union.specs.Findings.{IsBefore}
-use Rattle.ld_union.specs.Inner.ByName.{AreByName, AreRising, class_at, class_name, name_at}
+use Rattle.ld_union.specs.Inner.ByName.{AreByName, AreRising, class_at, class_name, name_at, place_of_class}
 
 -- of the first so many classes by name those of a kind
 pub record AreOfKind (classes : List PlainClass) (numbers : List ℕ) (kind : ℕ → Type 0) (count : ℕ) (found : List ℕ) : Type 0 where
@@ -85,4 +85,4 @@ module _ (classes : List PlainClass) (numbers : List ℕ) (kind : ℕ → Type 0
         back h =
             let there = order.every c h.0 in
             let l = there.0 in
-            subst (Contains found) there.1 (are.all (class_at places c) (omega (arith, l, past)) (subst kind (sym there.1) h.1))
+            subst (Contains found) there.1 (are.all (place_of_class places c) (omega (arith, l, past)) (subst kind (sym there.1) h.1))

@@ -11,18 +11,18 @@ use Rattle.ld_class.specs.declared.class_name.ClassName.{ClassName}
 use Rattle.ld_class.specs.Names.{AreDistinct, IsNameAt, PlainClass, plain_class}
 use Rattle.ld_graph.specs.Edges.{ComesBefore}
 use Rattle.ld_union.specs.Findings.{IsBefore}
-use Rattle.ld_union.specs.Inner.ByName.{AreByName, AreRising, class_at, class_cmp, class_name, name_at}
-use Rattle.ld_union.proofs.NameOrderLemmas.{before_from_less, class_cmp-Decides, class_cmp_total, less_from_before, not_before_both, not_before_itself}
+use Rattle.ld_union.specs.Inner.ByName.{AreByName, AreRising, class_at, class_name, name_at, place_of_class}
+use Rattle.ld_union.proofs.NameOrderLemmas.{before_from_less, class_cmp, class_cmp-Decides, class_cmp_total, not_before_both, not_before_itself}
 use Rattle.ld_union.proofs.SortedLemmas.{rising}
 
 module _ (classes : List PlainClass) (numbers places : List ℕ) (is : AreByName classes numbers places) where
   -- a class's place in the order
   abbrev place_in_order : ℕ → ℕ
-  place_in_order c = get_or places c 0
+  place_in_order c = place_of_class places c
 
   -- the names come one after the other
   pub names-rise : AreRising (name_at classes numbers) (length numbers)
-  names-rise i j lower below = before_from_less (name_at classes numbers i) (name_at classes numbers j) (is.rising i j lower below)
+  names-rise = is.rising
 
   -- two classes have two places
   pub place-once : (c d : ℕ) → c < length classes → d < length classes → place_in_order c ≡ place_in_order d → c ≡ d
@@ -61,21 +61,21 @@ apart_from_rising classes numbers rising i j d lower within same =
 -- the order by numbers whose names rise, and places of these
 pub by_name : (classes : List PlainClass) (numbers places : List ℕ) → length numbers ≡ length classes → All (λ c. c < length classes) numbers
     → ((c : ℕ) → c < length classes → Contains numbers c) → AreRising (name_at classes numbers) (length numbers)
-    → length places ≡ length classes → ((i : ℕ) → i < length numbers → class_at places (class_at numbers i) ≡ i) → AreByName classes numbers places
+    → length places ≡ length classes → ((i : ℕ) → i < length numbers → place_of_class places (class_at numbers i) ≡ i) → AreByName classes numbers places
 by_name classes numbers places count within every rising placed place = record {
   count = count;
   within = within;
-  rising = λ i j lower below. less_from_before (name_at classes numbers i) (name_at classes numbers j) (rising i j lower below);
+  rising = rising;
   placed = placed;
   place = place;
   every = back;
 }
   where
-    back : (c : ℕ) → c < length classes → (class_at places c < length numbers) × (class_at numbers (class_at places c) ≡ c)
+    back : (c : ℕ) → c < length classes → (place_of_class places c < length numbers) × (class_at numbers (place_of_class places c) ≡ c)
     back c inside =
         let there = every c inside in
         let number : class_at numbers there.0 ≡ c = get_or_default numbers there.0 0 c there.1 ∙ there.2 in
-        let at : class_at places c ≡ there.0 = ap (class_at places) (sym number) ∙ place there.0 there.1 in
+        let at : place_of_class places c ≡ there.0 = ap (place_of_class places) (sym number) ∙ place there.0 there.1 in
         (subst (λ k. k < length numbers) (sym at) there.1, ap (class_at numbers) at ∙ number)
 
 -- an element of a list that has one

@@ -10,7 +10,10 @@ use Rattle.std.specs.Cmp.Lexicographic.{slice_cmp}
 use Rattle.std.specs.Ordering.{ordering_then}
 use Rattle.ld_class.specs.Names.{PlainClass}
 use Rattle.ld_union.specs.Findings.{IsBefore}
-use Rattle.ld_union.specs.Inner.ByName.{class_cmp}
+
+-- how a sort compares names: by their texts, and where these are equal by their subclasses
+abbrev pub class_cmp : PlainClass → PlainClass → Ordering
+class_cmp a b = ordering_then (slice_cmp nat_cmp a.name b.name) (nat_cmp a.sub b.sub)
 
 pub class_cmp_total : IsTotalOrder class_cmp
 class_cmp_total = then_total (on_total (λ a. a.name) nat_list_cmp_total) (on_total (λ a. a.sub) nat_cmp_total)

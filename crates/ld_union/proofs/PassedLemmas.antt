@@ -4,7 +4,7 @@ use Rattle.std.proofs.lemmas.Bool.{cases_order}
 use Rattle.std.proofs.lemmas.List.{get_or_default}
 use Rattle.ld_class.specs.Names.{IsNameAt, PlainClass}
 use Rattle.ld_union.specs.Findings.{InTurn, IsBefore}
-use Rattle.ld_union.specs.Inner.ByName.{AreByName, AreRising, class_at, class_name, name_at}
+use Rattle.ld_union.specs.Inner.ByName.{AreByName, AreRising, class_at, class_name, name_at, place_of_class}
 use Rattle.ld_union.specs.Inner.Rows.{AreRowsOf, IsPassed}
 use Rattle.ld_union.proofs.RowLemmas.{rows-append}
 
@@ -21,7 +21,7 @@ pub passed_all : (classes : List PlainClass) (numbers places : List ℕ) → Are
 passed_all classes numbers places order c i name past at =
     let there = order.every c at.0 in
     let b = there.0 in
-    (class_at places c, (omega (arith, past, b), ap (class_name classes) there.1 ∙ at.1))
+    (place_of_class places c, (omega (arith, past, b), ap (class_name classes) there.1 ∙ at.1))
 
 module _ (names : ℕ → PlainClass) where
   passed_more : (i : ℕ) (name : PlainClass) → IsPassed names i name → IsPassed names (i + 1) name

@@ -15,8 +15,7 @@ use Rattle.ld_trace.specs.Sources.{PlainSource}
 use Rattle.ld_union.specs.Findings.{IsPairBefore, PlainForbiddenRow, forbidden_key}
 use Rattle.ld_union.specs.Inner.Rows.{AreForbiddenRowsOf, AreTurnedRows, IsRowIn, turned_key}
 use Rattle.ld_union.specs.Violations.{IsForbidden}
-use Rattle.ld_union.specs.Inner.ByName.{class_cmp}
-use Rattle.ld_union.proofs.NameOrderLemmas.{before_from_less, class_cmp_total, not_before_itself, same_from_equal}
+use Rattle.ld_union.proofs.NameOrderLemmas.{before_from_less, class_cmp, class_cmp_total, not_before_itself, same_from_equal}
 
 AllPairs-map : {X Y : Type 0} (R : Y → Y → Type 0) (f : X → Y) (xs : List X) → AllPairs (λ x y. R (f x) (f y)) xs → AllPairs R (map f xs)
 AllPairs-map R f [] all i j d before within = absurd (omega (arith, within))

@@ -14,8 +14,7 @@ use Rattle.ld_union.specs.Findings.{AreFindings, AreRows, InTurn, IsBefore, IsCo
 use Rattle.ld_union.specs.Findings.{PlainConflictRow, PlainCycleRow, PlainFindings, PlainForbiddenRow, conflict_key, cycle_key, forbidden_key}
 use Rattle.ld_union.specs.Findings.{shown_marks}
 use Rattle.ld_union.specs.Violations.{Depends, IsConflict, IsCycle, IsForbidden}
-use Rattle.ld_union.specs.Inner.ByName.{class_cmp}
-use Rattle.ld_union.proofs.NameOrderLemmas.{before_from_less, class_cmp_total, not_before_both, same_from_equal}
+use Rattle.ld_union.proofs.NameOrderLemmas.{before_from_less, class_cmp, class_cmp_total, not_before_both, same_from_equal}
 
 module _ {X : Type 0} (R : X → X → Type 0) (apart : (x y : X) → R x y → ¬ R y x) where
   ordered-tail : (x : X) (xs : List X) → AllPairs R (x ∷ xs) → AllPairs R xs

@@ -4,7 +4,7 @@ ghost use Rattle.std.specs.Prelude.{IfOk};
 ghost use Rattle.std.specs.List.{range_with_len};
 ghost use Rattle.ld_class.specs.Names.{AreDistinct, IsNameAt, plain_class};
 ghost use Rattle.ld_union.specs.Findings.{IsBefore};
-ghost use Rattle.ld_union.specs.Inner.ByName.{AreByName, class_at, class_name};
+ghost use Rattle.ld_union.specs.Inner.ByName.{AreByName, class_at, class_name, place_of_class};
 
 use ld_class::{ClassName, Classes};
 use std::alloc::{AllocError, Global};
@@ -77,7 +77,7 @@ fn places_of(alloc: Global, classes: &Classes<'_>, numbers: &[u32]) -> Result<Ve
     requires once { AllPairs (λ c d. c ≢ d) numbers.now }
     ensures len { IfOk result (λ places. length places.items ≡ length classes.now) }
     ensures each { IfOk result (λ places. (i : ℕ) → i < length numbers.now
-        → class_at places.items (class_at numbers.now i) ≡ i) }
+        → place_of_class places.items (class_at numbers.now i) ≡ i) }
 {
     let mut places = vec![in alloc; 0; classes.len()]?;
     for (place, &class) in numbers.iter().enumerate() {

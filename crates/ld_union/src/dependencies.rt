@@ -46,7 +46,7 @@ pub(crate) struct Dependencies {
     pub(crate) closing: Option<Edge>,
     /// For each state what classes with the bit that its handlers acquire them lead to.
     pub(crate) reach: PerState<Reach>,
-    ghost numbered: { graph.edges ≡ edges_of rows.items },
+    ghost same_edges: { graph.edges ≡ edges_of rows.items },
     ghost counted: { HaveClasses graph.classes reach },
 }
 

@@ -160,8 +160,6 @@ pub record IsPlan (step : ℕ → ℕ → Type 0) (ranks : List ℕ) (low : ℕ)
   pub in_order : moved ≡ split front (λ k. slice_index row (at k)) (length moved)
   pub inside : (k : ℕ) → k < length moved → at k < length row
   pub rising : (i k : ℕ) → i < k → k < length moved → at i < at k
-  pub some_or : (i : ℕ) → i < length row → ((k : ℕ) × ((k < length moved) × (at k ≡ i)))
-      ⊎ ((k : ℕ) → k < length moved → at k ≢ i)
   -- what leads to one in front, from within the range, is in front too; and what one of the others leads to, within
   -- the range, is one of the others
   pub closed_front : (x y k : ℕ) → step x y → IsInside low (length row) (slice_index ranks x)

@@ -106,6 +106,11 @@ IsBackEdge union a b = IsEdge (edges_of union.dependencies) a b × HasWalk (IsEd
 abbrev pub IsBackPlace : PlainUnion → List ℕ → (a p : ℕ) → Type 0
 IsBackPlace union numbers a p = (p < length numbers) × IsBackEdge union a (class_at numbers p)
 
+-- these are the places of all classes to which such edges from a lead
+pub record AreBackPlaces (union : PlainUnion) (numbers : List ℕ) (a : ℕ) (places : List ℕ) : Type 0 where
+  pub each : (p : ℕ) → Contains places p → IsBackPlace union numbers a p
+  pub all : (b : ℕ) → IsBackEdge union a b → (p : ℕ) × (Contains places p × (class_at numbers p ≡ b))
+
 -- the name is one of the first so many of these
 abbrev pub IsPassed : (ℕ → PlainClass) → ℕ → PlainClass → Type 0
 IsPassed names count name = (j : ℕ) × ((j < count) × (names j ≡ name))

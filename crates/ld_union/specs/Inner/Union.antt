@@ -1,5 +1,6 @@
 -- What is kept of some traces, with numbers for their classes. No contract of a `Book` cites this file.
-use Rattle.std.specs.Prelude.{◌≡◌, ◌≢◌, ℕ, ◌<◌, ◌≤◌, ◌++◌, Bool, List, length, map, slice_index_or, All, AllPairs, Any, Option, Some, None, IsSome, MatchOption, if◌then◌else◌}
+use Rattle.std.specs.Prelude.{◌≡◌, ◌≢◌, ℕ, ◌<◌, ◌≤◌, ◌++◌, Bool, List, length, map, slice_index_or, All, AllPairs}
+use Rattle.std.specs.Prelude.{Any, Option, Some, None, IsSome, MatchOption, if◌then◌else◌}
 use Rattle.std.specs.Option.{is_some}
 use Rattle.ld_class.specs.declared.names.TheConstants.{MOST_NAMES}
 use Rattle.ld_class.specs.Names.{AreDistinct, PlainClass, no_class, place_of}
@@ -24,10 +25,14 @@ use Rattle.ld_union.specs.Usage.{bits_of, row_of}
 
 -- the dependency that an edge stands for
 abbrev pub named_edge : List PlainClass → Edge → Dependency
-named_edge classes edge = record { from = slice_index_or classes edge.from no_class; to = slice_index_or classes edge.to no_class }
+named_edge classes edge = record {
+  from = slice_index_or classes edge.from no_class;
+  to = slice_index_or classes edge.to no_class;
+}
 
 -- The rows are the dependencies that have a first witness, each with that witness.
-pub record AreWitnessed (classes : List PlainClass) (rows : List Witnessed) (first : Dependency → Option Witness) : Type 0 where
+pub record AreWitnessed (classes : List PlainClass) (rows : List Witnessed)
+    (first : Dependency → Option Witness) : Type 0 where
   pub each : All (λ r. first (named_edge classes r.edge) ≡ Some r.first) rows
   pub all : (what : Dependency) → IsSome (first what) → Any (λ r. named_edge classes r.edge ≡ what) rows
 
@@ -90,9 +95,9 @@ IsCycleAt edges e = graphs.IsEdge edges e.from e.to × HasWalk (graphs.IsEdge ed
 abbrev pub IsCycleEdge : List Edge → Option Edge → Type 0
 IsCycleEdge edges closing = MatchOption closing (¬ ((e : Edge) × IsCycleAt edges e)) (IsCycleAt edges)
 
--- What a union keeps true of its fields, beside what its dependencies do: there aren't too many classes, the graph has
--- them, each class has a row of usage, an edge on a cycle is noted where there is one, and for each state it is known what
--- is reached.
+-- What a union keeps true of its fields, beside what its dependencies do: there aren't too many classes, the graph
+-- has them, each class has a row of usage, an edge on a cycle is noted where there is one, and for each state it is
+-- known what is reached.
 pub record IsUnion (classes : List PlainClass) (graph : graphs.PlainGraph) (dependencies : List Witnessed)
     (usage : List UsageRow) (closed_by : Option Edge) (reach : PerState PlainReach) : Type 0 where
   pub numbered : AreBetween classes dependencies
@@ -100,7 +105,8 @@ pub record IsUnion (classes : List PlainClass) (graph : graphs.PlainGraph) (depe
   pub count : graph.classes ≡ length classes
   pub rows : length usage ≡ length classes
   pub closing : IsCycleEdge (edges_of dependencies) closed_by
-  pub reached : (state : State) → IsReachOf (length classes) (edges_of dependencies) (bits_of usage) state (of_state reach state)
+  pub reached : (state : State) → IsReachOf (length classes) (edges_of dependencies) (bits_of usage) state
+      (of_state reach state)
 
 -- The union is what these sources show together. Each union is numbered: it is said here for what knows of a
 -- union no more than this.

@@ -1,10 +1,11 @@
 //! The dependencies that are on cycles.
-ghost use Rattle.std.specs.Prelude.{◌≡◌, ◌↔◌, ◌<◌, ℕ, Contains, IfOk, List, MatchOption, length, map};
+ghost use Rattle.std.specs.Prelude.{◌≡◌, ◌↔◌, ◌<◌, ℕ, Contains, IfOk, List, MatchOption, length, map, slice_index_or};
 ghost use Rattle.ld_trace.specs.Sources.{PlainSource};
 ghost use Rattle.ld_rules.specs.Union.{dependency_witness};
 ghost use Rattle.ld_union.specs.Findings.{AreCycleRows, plain_cycle_row};
-ghost use Rattle.ld_union.specs.Inner.ByName.{AreRising, class_at, class_name, name_at};
-ghost use Rattle.ld_union.specs.Inner.Rows.{AreComponentsOf, AreCycleRowsOf, AreEnoughFrom, IsBackEdge, IsBackPlace, IsCycleRowOf, IsOfEach};
+ghost use Rattle.ld_union.specs.Inner.ByName.{AreRising, class_name, name_at};
+ghost use Rattle.ld_union.specs.Inner.Rows.{AreBackPlaces, AreComponentsOf, AreCycleRowsOf, AreEnoughFrom};
+ghost use Rattle.ld_union.specs.Inner.Rows.{IsBackEdge, IsCycleRowOf, IsOfEach};
 ghost use Rattle.ld_union.specs.Inner.Union.{Shows};
 ghost use Rattle.ld_union.specs.Violations.{IsCycle};
 
@@ -123,13 +124,10 @@ fn places_on_cycle(
 ) -> Result<Vec<u32>, AllocError>
     requires components { AreComponentsOf indexed.union.now components.now }
     requires from { from < length indexed.union.now.classes }
-    ensures exact { IfOk result (λ places. (p : ℕ) →
-        Contains places.items p
-        ↔ IsBackPlace indexed.entry.union.now indexed.entry.order.now.numbers.items from p) }
-    ensures ends { IfOk result (λ places. (to : ℕ) → IsBackEdge indexed.entry.union.now from to
-        → to < length indexed.entry.union.now.classes) }
+    ensures exact { IfOk result (λ places. AreBackPlaces indexed.entry.union.now
+        indexed.entry.order.now.numbers.items from places.items) }
     ensures rising { IfOk result (λ places. (i j : ℕ) → i < j → j < length places.items
-        → class_at places.items i < class_at places.items j) }
+        → slice_index_or places.items i 0 < slice_index_or places.items j 0) }
 {
     let mut places = Vec::new(alloc);
     for &to in indexed.union.graph().lists().after(from, &mut Steps::new()) {

@@ -1,5 +1,5 @@
 //! A union with its classes by name.
-ghost use Rattle.ld_union.specs.Inner.ByName.{AreByName};
+ghost use Rattle.ld_union.specs.Inner.ByName.{AreByName, by_name_props};
 
 use crate::by_name::ByName;
 use crate::union::Union;
@@ -9,5 +9,5 @@ use crate::union::Union;
 pub(crate) struct Indexed<'u, 'a> {
     pub(crate) union: &'u Union<'a>,
     pub(crate) order: &'u ByName,
-    ghost named: { AreByName union.now.classes order.now.numbers.items order.now.places.items },
+    ghost named: { AreByName union.now.classes order.now.numbers.items order.now.places.items } by { Prim.hlevel by_name_props },
 }

@@ -58,7 +58,7 @@ fn names_of<'a>(
 {
     let mut names = Vec::with_capacity(alloc, numbers.len())?;
     for class in numbers {
-        names.push(classes.name(*class))?;
+        names.push_reserved(classes.name(*class));
     }
     Ok(names)
 }

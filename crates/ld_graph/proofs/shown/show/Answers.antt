@@ -51,9 +51,10 @@ loop-left-preserved c =
       distance = next_distance c.args.lists.now.after.lists c.args.places.now c.args.levels.now c.args.b
           c.loop-left.last c.loop-left.left c.loop-left-test.true (known_at (goal.at.loop-left-preserved c).At-loop-left c.loop-left-test.true) (right_at (goal.at.loop-left-preserved c).At-loop-left)
           c.loop-left.invariant.distance c.in-Some.near least;
-      shown = rw c.in_ok-push-2.ensures.items
+      shown = rw c.push_reserved-in-loop-left.ensures.items
           (next_shown c.args.lists.now.after.lists c.args.places.now c.args.levels.now c.args.b
           c.loop-left.last c.loop-left.left c.loop-left-test.true (known_at (goal.at.loop-left-preserved c).At-loop-left c.loop-left-test.true) (right_at (goal.at.loop-left-preserved c).At-loop-left)
           c.loop-left.invariant.distance c.in-Some.near least c.args.a c.loop-left.walk.items
           c.loop-left.invariant.shown);
+      room = omega (arith, c.loop-left.invariant.room, c.push_reserved-in-loop-left.ensures.len, c.push_reserved-in-loop-left.ensures.capacity);
     }

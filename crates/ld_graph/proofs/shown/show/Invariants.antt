@@ -1,4 +1,4 @@
-use Rattle.std.proofs.Common.{◌≡◌, ◌+◌, ◌<◌, ◌≤◌, ℕ, List, ◌++◌, length}
+use Rattle.std.proofs.Common.{◌≡◌, ◌+◌, ◌<◌, ◌≤◌, ℕ, List, ◌++◌, length, vec_len, vec_capacity}
 use Rattle.ld_graph.specs.Edges.{ComesBefore}
 use Rattle.ld_graph.specs.Lists.{IsNear}
 use Rattle.ld_graph.specs.Walks.{Reaches, IsDistance, ShownFrom, IsShownWalk}
@@ -13,6 +13,7 @@ invariant-loop-left l = record {
   distance : IsDistance (IsNear l.lists.after.lists) l.last l.b l.left;
   shown : (rest : List ℕ) → ShownFrom (IsNear l.lists.after.lists) (ComesBefore l.places) l.last l.b rest
       → IsShownWalk (IsNear l.lists.after.lists) (ComesBefore l.places) l.a l.b (l.walk.items ++ rest);
+  room : vec_len l.walk + l.left ≤ vec_capacity l.walk;
 }
 
 abbrev pub decreases-loop-left : goal.decreases-loop-left

@@ -4,8 +4,9 @@ use Rattle.std.proofs.lemmas.Result.{IfOk-weaker}
 use Rattle.ld_class.specs.declared.class_name.ClassName.{ClassName}
 use Rattle.ld_class.specs.Names.{plain_class}
 use Rattle.ld_union.specs.Findings.{IsBefore}
-use Rattle.ld_union.specs.Inner.ByName.{class_at, class_cmp, class_name}
+use Rattle.ld_union.specs.Inner.ByName.{class_at, class_name}
 use Rattle.ld_union.proofs.ByNameLemmas.{numbers-count, numbers-every, numbers-rising, numbers-within}
+use Rattle.ld_union.proofs.NameOrderLemmas.{class_cmp}
 use Rattle.ld_union.proofs.by_name.numbers_by_name.Goals as goal
 
 pub returns-clause-count : goal.returns-clause-count

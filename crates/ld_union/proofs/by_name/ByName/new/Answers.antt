@@ -1,5 +1,5 @@
 use Rattle.std.proofs.Common.{◌≡◌, ◌≢◌, ◌<◌, AllPairs, List, ℕ, length, sym, subst}
-use Rattle.ld_union.specs.Inner.ByName.{class_at}
+use Rattle.ld_union.specs.Inner.ByName.{class_at, place_of_class}
 use Rattle.ld_union.proofs.ByNameLemmas.{apart_from_rising, by_name}
 use Rattle.ld_union.proofs.by_name.ByName.new.Goals as goal
 
@@ -13,4 +13,4 @@ returns c =
     let places = c.in_ok-places.places.items in
     by_name c.args.classes.now numbers places c.in_ok-numbers.ensures.count c.in_ok-numbers.ensures.within c.in_ok-numbers.ensures.every
     c.in_ok-numbers.ensures.rising c.in_ok-places.ensures.len
-    (subst (λ (ns : List ℕ). (i : ℕ) → i < length ns → class_at places (class_at ns i) ≡ i) c.deref.ensures.value c.in_ok-places.ensures.each)
+    (subst (λ (ns : List ℕ). (i : ℕ) → i < length ns → place_of_class places (class_at ns i) ≡ i) c.deref.ensures.value c.in_ok-places.ensures.each)

@@ -15,6 +15,6 @@ returns-then-eq c =
     let row = c.index.result.now in
     let parts = and_parts (nat_eq row.edge.from e.from) (nat_eq row.edge.to e.to) (sym c.eq.ensures ∙ c.if-eq.true) in
     let same : row.edge ≡ edge e.from e.to = λ i. record { from = eqb-true row.edge.from e.from parts.0 i; to = eqb-true row.edge.to e.to parts.1 i } in
-    let within : c.args.guess < length rows = omega (arith, c.if-guess-edges.true, c.edges.ensures.count, ap length c.args.self.now.numbered, length_rows rows) in
+    let within : c.args.guess < length rows = omega (arith, c.if-guess-edges.true, c.edges.ensures.count, ap length c.args.self.now.same_edges, length_rows rows) in
     subst (λ (edges : List Edge). ((i j : ℕ) → i < j → j < length edges → slice_get edges i ≢ slice_get edges j) → IsEdgeNumber edges e.from e.to c.args.guess)
-    (sym c.args.self.now.numbered) (number_of_row rows e.from e.to c.args.guess row within (ap (λ (r : Witnessed). r.edge) (sym c.index.ensures) ∙ same)) c.edges.ensures.once
+    (sym c.args.self.now.same_edges) (number_of_row rows e.from e.to c.args.guess row within (ap (λ (r : Witnessed). r.edge) (sym c.index.ensures) ∙ same)) c.edges.ensures.once

@@ -14,7 +14,7 @@ room-requires-clause-soft c = subst (λ n. n + c.args.classes ≤ MOST_GRAPH_CLA
 
 pub invariant_of-self-in-Break-branch-2 : goal.invariant_of-self-in-Break-branch-2
 invariant_of-self-in-Break-branch-2 c = record {
-  numbered = c.args.self.now.numbered ∙ sym (ap edges_of c.in_ok-reserve.ensures.items);
+  same_edges = c.args.self.now.same_edges ∙ sym (ap edges_of c.in_ok-reserve.ensures.items);
   counted = c.room.ensures.classes c.args.self.now.graph.classes c.args.self.now.counted;
 }
 

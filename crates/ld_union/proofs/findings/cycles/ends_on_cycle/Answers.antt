@@ -12,7 +12,7 @@ use Rattle.ld_union.proofs.findings.cycles.ends_on_cycle.Goals.{After-deref-plac
 place_is : (c : After-deref-place-items) → (k : ℕ) → k < length c.deref-place-items.result.now
     → IsBackPlace c.args.indexed.union.now c.args.indexed.order.now.numbers.items c.args.from (class_at c.deref-place-items.result.now k)
 place_is c k within =
-    (c.in_ok-places.ensures.exact (class_at c.deref-place-items.result.now k)).0
+    c.in_ok-places.ensures.exact.each (class_at c.deref-place-items.result.now k)
     (subst (λ ps. Contains ps (class_at c.deref-place-items.result.now k)) c.deref-place-items.ensures.value (Contains-get_or c.deref-place-items.result.now k 0 within))
 
 pub index-requires : goal.index-requires
@@ -48,14 +48,13 @@ returns-clause-exact c = λ to. (λ h. forth to h, λ edge. back to edge)
     forth : (to : ℕ) → Contains c.loop-place.ends.items to → IsBackEdge c.args.indexed.union.now c.args.from to
     forth to h =
         let p = Contains-from_placed numbers c.in_ok-places.places.items to (subst (λ ends. Contains ends to) are h) in
-        subst (IsBackEdge c.args.indexed.union.now c.args.from) p.1.1 ((c.in_ok-places.ensures.exact p.0).0 p.1.0).1
+        subst (IsBackEdge c.args.indexed.union.now c.args.from) p.1.1 (c.in_ok-places.ensures.exact.each p.0 p.1.0).1
 
     back : (to : ℕ) → IsBackEdge c.args.indexed.union.now c.args.from to → Contains c.loop-place.ends.items to
     back to edge =
-        let end = (c.in_ok-places.ensures.ends to edge) in
-        let at = c.args.indexed.named.every to end in
-        let there = (c.in_ok-places.ensures.exact (class_at c.args.indexed.order.now.places.items to)).1 (at.0, subst (IsBackEdge c.args.indexed.union.now c.args.from) (sym at.1) edge) in
-        subst (λ ends. Contains ends to) (sym are) (subst (Contains (map (class_at numbers) c.in_ok-places.places.items)) at.1 (Contains-placed numbers c.in_ok-places.places.items (class_at c.args.indexed.order.now.places.items to) there))
+        let at = c.in_ok-places.ensures.exact.all to edge in
+        subst (λ ends. Contains ends to) (sym are) (subst (Contains (map (class_at numbers) c.in_ok-places.places.items)) at.1.1
+        (Contains-placed numbers c.in_ok-places.places.items at.0 at.1.0))
 
 pub returns-clause-rising : goal.returns-clause-rising
 returns-clause-rising c =
@@ -65,4 +64,4 @@ returns-clause-rising c =
     let are = ends_are (goal.at.returns-clause-rising c).At-loop-place c.loop-place-test.false in
     subst (λ ends. AreRising (name_at classes ends) (length ends)) (sym are)
     (AreRising-placed classes numbers places (names-rise classes numbers c.args.indexed.order.now.places.items c.args.indexed.named) c.in_ok-places.ensures.rising
-    (λ i l. ((c.in_ok-places.ensures.exact (class_at places i)).0 (Contains-get_or places i 0 l)).0))
+    (λ i l. (c.in_ok-places.ensures.exact.each (class_at places i) (Contains-get_or places i 0 l)).0))

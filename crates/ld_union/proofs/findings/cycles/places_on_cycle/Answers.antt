@@ -4,7 +4,7 @@ use Rattle.std.proofs.lemmas.List.Elements.{Contains-get_or}
 use Rattle.std.proofs.lemmas.List.Sorted.{Contains-permutation, IsPermutation-sym}
 use Rattle.ld_graph.specs.Edges.{IsEdge}
 use Rattle.ld_graph.specs.Lists.{list_at}
-use Rattle.ld_union.specs.Inner.ByName.{class_at}
+use Rattle.ld_union.specs.Inner.ByName.{class_at, place_of_class}
 use Rattle.ld_union.specs.Inner.Rows.{IsBackEdge, IsBackPlace}
 use Rattle.ld_union.specs.Inner.Union.{edges_of}
 use Rattle.ld_union.proofs.CycleLemmas.{back-together, together-back}
@@ -32,8 +32,8 @@ near_at c to there = subst (λ l. Contains l to) (sym c.after-to-items.ensures.n
 
 -- a successor stands at its place
 back_at : (c : After-after-to-items) → (k : ℕ) → k < length c.after-to-items.result.now
-    → (class_at c.args.indexed.order.now.places.items (get_or c.after-to-items.result.now k 0) < length c.args.indexed.order.now.numbers.items)
-    × (class_at c.args.indexed.order.now.numbers.items (class_at c.args.indexed.order.now.places.items (get_or c.after-to-items.result.now k 0)) ≡ get_or c.after-to-items.result.now k 0)
+    → (place_of_class c.args.indexed.order.now.places.items (get_or c.after-to-items.result.now k 0) < length c.args.indexed.order.now.numbers.items)
+    × (class_at c.args.indexed.order.now.numbers.items (place_of_class c.args.indexed.order.now.places.items (get_or c.after-to-items.result.now k 0)) ≡ get_or c.after-to-items.result.now k 0)
 back_at c k within =
     let to = get_or c.after-to-items.result.now k 0 in
     c.args.indexed.named.every to (end_at c to (edge_at c k within))
@@ -67,7 +67,7 @@ loop-to-preserved c =
     let i = c.loop-to.to-index in
     elim c.if-components-to.branch [
       | then-components-to+in_ok-push w ↦
-          let value : c.if-components-to.places.items ≡ c.loop-to.places.items ++ class_at places (get_or near i 0) ∷ [] =
+          let value : c.if-components-to.places.items ≡ c.loop-to.places.items ++ place_of_class places (get_or near i 0) ∷ [] =
           ap (λ (v : Vec _ _). v.items) w.places-is ∙ w.in_ok-push.ensures.items ∙ ap (λ p. c.loop-to.places.items ++ p ∷ [])
           (w.index.ensures ∙ get_or_default places (get_or near i 0) w.index.result.now 0 (let e = end_at a (get_or near i 0) (edge_at a i c.loop-to-test.true) in omega (arith, e, c.args.indexed.named.placed))) in
           subst (AreStaying near components places own (i + 1)) (sym value)
@@ -80,7 +80,7 @@ loop-to-preserved c =
     ]
 
 pub returns-clause-exact : goal.returns-clause-exact
-returns-clause-exact c = λ p. (λ h. forth p h, λ b. back p b)
+returns-clause-exact c = record { each = forth; all = back }
   where
     near : List ℕ
     near = c.after-to-items.result.now
@@ -105,22 +105,25 @@ returns-clause-exact c = λ p. (λ h. forth p h, λ b. back p b)
         subst (IsBackPlace c.args.indexed.union.now c.args.indexed.order.now.numbers.items c.args.from) e.1.1.1
         (at.0, subst (IsBackEdge c.args.indexed.union.now c.args.from) (sym at.1) edge)
 
-    back : (p : ℕ) → IsBackPlace c.args.indexed.union.now c.args.indexed.order.now.numbers.items c.args.from p → Contains c.sort_unstable.new.self.items p
-    back p b =
-        let to = class_at c.args.indexed.order.now.numbers.items p in
-        let there = b.1.0 in
+    back : (to : ℕ) → IsBackEdge c.args.indexed.union.now c.args.from to
+        → (p : ℕ) × (Contains c.sort_unstable.new.self.items p × (class_at c.args.indexed.order.now.numbers.items p ≡ to))
+    back to b =
+        let there = b.0 in
         let k = near_at a to there in
         let l = k.1 in
         let at : get_or near k.0 0 ≡ to = get_or_default near k.0 0 to l ∙ k.2 in
         let found = c.loop-to.invariant.all k.0 (omega (arith, l, c.loop-to-test.false))
         (ap (λ z. get_or c.args.components.now z 0) at ∙ together-back (IsEdge (edges_of c.args.indexed.union.now.dependencies)) (length c.args.indexed.union.now.classes) c.args.components.now
-        c.requires.components c.args.from to c.requires.from (end_at a to there) there b.1.1) in
-        Contains-permutation c.loop-to.places.items c.sort_unstable.new.self.items p c.sort_unstable.ensures.permutation
-        (subst (Contains c.loop-to.places.items) (ap (class_at c.args.indexed.order.now.places.items) at ∙ c.args.indexed.named.place p b.0) found)
+        c.requires.components c.args.from to c.requires.from (end_at a to there) there b.1) in
+        let p = place_of_class c.args.indexed.order.now.places.items to in (
+          p,
+          (
+            Contains-permutation c.loop-to.places.items c.sort_unstable.new.self.items p c.sort_unstable.ensures.permutation
+                (subst (Contains c.loop-to.places.items) (ap (place_of_class c.args.indexed.order.now.places.items) at) found),
+            (c.args.indexed.named.every to (end_at a to there)).1,
+          ),
+        )
 
 pub returns-clause-rising : goal.returns-clause-rising
 returns-clause-rising c = increasing_from_sort c.loop-to.places.items c.sort_unstable.new.self.items c.loop-to.invariant.once c.sort_unstable.ensures.permutation
     c.sort_unstable.ensures.sorted
-
-pub returns-clause-ends : goal.returns-clause-ends
-returns-clause-ends c = λ to edge. end_at (goal.at.returns-clause-ends c).After-after-to-items to edge.0

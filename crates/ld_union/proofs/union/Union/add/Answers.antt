@@ -126,9 +126,9 @@ module _ (c : goal.After-seed_all) where
       reach-seeded (edges_of c.add.new.self.rows.items) (bits_of old_usage) (bits_of (with_items c.resize.new.self c.add_usage.new.rows).items)
       c.add_usage.new.bits.items told state (length classes) was.seeds was.seeded (of_state c.seed_all.new.self.reach state)
       (once state)
-      (subst (λ edges. IsSeeded edges was.seeds state c.add_usage.new.bits.items (of_state c.seed_all.new.self.reach state)) c.add.new.self.numbered
+      (subst (λ edges. IsSeeded edges was.seeds state c.add_usage.new.bits.items (of_state c.seed_all.new.self.reach state)) c.add.new.self.same_edges
       (rw (← c.deref-3.ensures.value) (c.seed_all.ensures.exact state was.seeds
-      (subst (λ edges. IsReach (IsEdge edges) was.seeds (of_state c.add.new.self.reach state)) (sym c.add.new.self.numbered) added))))
+      (subst (λ edges. IsReach (IsEdge edges) was.seeds (of_state c.add.new.self.reach state)) (sym c.add.new.self.same_edges) added))))
 
 pub returns-clause-added : goal.returns-clause-added
 returns-clause-added c =

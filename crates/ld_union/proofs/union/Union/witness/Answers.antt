@@ -25,21 +25,21 @@ returns-in_err-number c = rw (← c.self.view_is) (λ first witnessed.
     let union = c.self.inside in
     let what : Dependency = record { from = plain_class c.args.from; to = plain_class c.args.to } in
     let none : c.from_residual-in_err-number.result ≡ None = search rules in
-    let new = subst (λ edges. ¬ IsEdge edges c.in_ok-from.from c.in_ok-to.to) c.self.inside.dependencies.numbered c.in_err-number.ensures in
+    let new = subst (λ edges. ¬ IsEdge edges c.in_ok-from.from c.in_ok-to.to) c.self.inside.dependencies.same_edges c.in_err-number.ensures in
     none ∙ sym (none_edge union.classes union.dependencies.rows.items c.self.invariant.numbered first witnessed what c.in_ok-from.from c.in_ok-to.to
     ((c.in_ok-from.ensures.exact c.in_ok-from.from).0 refl) ((c.in_ok-to.ensures.exact c.in_ok-to.to).0 refl) new))
 
 pub index-requires : goal.index-requires
 index-requires c =
     let rows = c.self.inside.dependencies.rows in
-    let found = subst (λ edges. IsEdgeNumber edges c.in_ok-from.from c.in_ok-to.to c.in_ok-number.number) c.self.inside.dependencies.numbered c.in_ok-number.ensures in
+    let found = subst (λ edges. IsEdgeNumber edges c.in_ok-from.from c.in_ok-to.to c.in_ok-number.number) c.self.inside.dependencies.same_edges c.in_ok-number.ensures in
     subst (λ n. c.in_ok-number.number < n) (sym rows.ok.0) (found_row rows.items c.in_ok-from.from c.in_ok-to.to c.in_ok-number.number found).0
 
 pub returns : goal.returns
 returns c = rw (← c.self.view_is) (λ first witnessed.
     let union = c.self.inside in
     let what : Dependency = record { from = plain_class c.args.from; to = plain_class c.args.to } in
-    let found = subst (λ edges. IsEdgeNumber edges c.in_ok-from.from c.in_ok-to.to c.in_ok-number.number) c.self.inside.dependencies.numbered c.in_ok-number.ensures in
+    let found = subst (λ edges. IsEdgeNumber edges c.in_ok-from.from c.in_ok-to.to c.in_ok-number.number) c.self.inside.dependencies.same_edges c.in_ok-number.ensures in
     ap (λ (row : Witnessed). Some row.first) c.index.ensures
     ∙ first_at union.classes union.dependencies.rows.items c.self.invariant.numbered first witnessed what c.in_ok-from.from c.in_ok-to.to
     c.in_ok-number.number c.index.result.now ((c.in_ok-from.ensures.exact c.in_ok-from.from).0 refl) ((c.in_ok-to.ensures.exact c.in_ok-to.to).0 refl) found)
