@@ -1,5 +1,6 @@
 //! Reads the facts of a trace.
 ghost use Rattle.std.specs.Prelude.{◌≡◌, ℕ, [], Ok, IfOk, MatchOption};
+ghost use Rattle.std.specs.Bool.{OnFalse, OnTrue};
 ghost use Rattle.ld_trace.specs.Sources.{plain, Fits};
 ghost use Rattle.ld_trace.specs.Events.{answer_seen, positions};
 ghost use Rattle.ld_trace.specs.First.{IsFirstSaid};
@@ -61,7 +62,11 @@ pub fn read_into<'a>(scan: &mut Scan<'a>, source: Source<'a>) -> Result<Outcome,
     let mut rest = source.bytes;
     let mut line = source.first_line;
     let mut events = 0;
-    while let Some((said, others)) = next_said(rest) {
+    let mut other = Other {
+        said: Ok(None),
+        rest,
+    };
+    while let Some((said, others)) = next_said(rest, &mut other) {
         match said {
             Ok(None) => {}
             Ok(Some(event)) => match scan.step(event, line) {
@@ -80,29 +85,53 @@ pub fn read_into<'a>(scan: &mut Scan<'a>, source: Source<'a>) -> Result<Outcome,
     Ok(Outcome::Read { events })
 }
 
-/// What the first line says, or its fault, and what follows the line; `None` where there is no byte.
-fn next_said(bytes: &[u8]) -> Option<(Result<Option<Event<'_>>, LineFault>, &[u8])>
-    ensures { MatchOption result (bytes.now ≡ []) (λ cut.
-        IsFirstSaid bytes.now (answer_seen cut.0) cut.1.now) }
+/// What the first line says, or its fault, and what follows the line; `None` where there is no byte. What `other` has
+/// says nothing: lines are read into it that aren't events of locks.
+fn next_said<'a>(
+    bytes: &'a [u8],
+    other: &mut Other<'a>,
+) -> Option<(Result<Option<Event<'a>>, LineFault>, &'a [u8])>
+    ensures { MatchOption result (bytes.entry.now ≡ []) (λ cut.
+        IsFirstSaid bytes.entry.now (answer_seen cut.0) cut.1.now) }
 {
-    match next_event(bytes) {
-        Some((event, rest)) => Some((Ok(Some(event)), rest)),
-        None => next_other_said(bytes),
+    if let Some((event, rest)) = next_event(bytes) {
+        return Some((Ok(Some(event)), rest));
     }
+    if !other.read(bytes) {
+        return None;
+    }
+    Some((other.said, other.rest))
 }
 
-/// The same, of a line that isn't read in one pass as an event of a lock.
-// What is read in several ways takes room of its own for each, which is cleared for each line.
-#[inline(never)]
-fn next_other_said(bytes: &[u8]) -> Option<(Result<Option<Event<'_>>, LineFault>, &[u8])>
-    ensures { MatchOption result (bytes.now ≡ []) (λ cut.
-        IsFirstSaid bytes.now (answer_seen cut.0) cut.1.now) }
-{
-    if let Some((event, others)) = next_state_event(bytes) {
-        return Some((Ok(Some(event)), others));
+/// What a line says, or its fault, and what follows the line.
+// Lines that aren't read in one pass as events of locks are read into one place for all of a trace: each place of its
+// own would be cleared for each line.
+#[derive(Clone, Copy)]
+struct Other<'a> {
+    said: Result<Option<Event<'a>>, LineFault>,
+    rest: &'a [u8],
+}
+
+impl<'a> Other<'a> {
+    /// Reads the first line; `false` where there is no byte.
+    #[inline(never)]
+    fn read(&mut self, bytes: &'a [u8]) -> bool
+        ensures said { OnTrue result
+            (IsFirstSaid bytes.entry.now (answer_seen self.new.said) self.new.rest.now) }
+        ensures none { OnFalse result (bytes.entry.now ≡ []) }
+    {
+        if let Some((event, others)) = next_state_event(bytes) {
+            self.said = Ok(Some(event));
+            self.rest = others;
+            return true;
+        }
+        let Some((line, rest)) = next_line(bytes) else {
+            return false;
+        };
+        self.said = read_event(text(line));
+        self.rest = rest;
+        true
     }
-    let (line, rest) = next_line(bytes)?;
-    Some((read_event(text(line)), rest))
 }
 
 /// The facts of a trace with a fault. They have nothing of what the scan found before it.

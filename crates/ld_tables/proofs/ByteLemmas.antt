@@ -1,9 +1,9 @@
 -- Bytes that are compared as numbers, and from both ends.
-use Rattle.std.proofs.Common.{◌≡◌, ◌<◌, ◌≤◌, ◌+◌, ◌-◌, ◌++◌, ℕ, List, length, nat_eq, take, drop, w16, w64}
+use Rattle.std.proofs.Common.{◌≡◌, ◌<◌, ◌≤◌, ◌+◌, ◌-◌, ◌++◌, ℕ, List, length, nat_eq, take, drop, w16, w32, w64}
 use Rattle.std.proofs.Common.{get_or, refl, ap, sym, ◌∙◌, arith}
 use Rattle.std.proofs.lemmas.Bool.{eqb-true, eq-eqb}
 use Rattle.std.proofs.lemmas.List.{drop-drop, take-append-drop}
-use Rattle.std.proofs.lemmas.Nat.{le_bytes_2, le_bytes_8}
+use Rattle.std.proofs.lemmas.Nat.{le_bytes_2, le_bytes_4, le_bytes_8}
 use Rattle.std.specs.Bool.{Decides}
 use Rattle.std.specs.Int.{from_le_bytes, to_le_bytes}
 
@@ -27,6 +27,17 @@ two-Decides a b many_a many_b fits_a fits_b = (
       ∙ ap (to_le_bytes w16) (eqb-true (from_le_bytes w16 a) (from_le_bytes w16 b) same)
       ∙ le_bytes_2 b (from_le_bytes w16 b) many_b fits_b refl,
   λ same. eq-eqb (from_le_bytes w16 a) (from_le_bytes w16 b) (ap (from_le_bytes w16) same),
+)
+
+-- and so are four
+pub four-Decides : (a b : List ℕ) → length a ≡ 4 → length b ≡ 4
+    → ((i : ℕ) → get_or a i 0 < 256) → ((i : ℕ) → get_or b i 0 < 256)
+    → Decides (nat_eq (from_le_bytes w32 a) (from_le_bytes w32 b)) (a ≡ b)
+four-Decides a b many_a many_b fits_a fits_b = (
+  λ same. sym (le_bytes_4 a (from_le_bytes w32 a) many_a fits_a refl)
+      ∙ ap (to_le_bytes w32) (eqb-true (from_le_bytes w32 a) (from_le_bytes w32 b) same)
+      ∙ le_bytes_4 b (from_le_bytes w32 b) many_b fits_b refl,
+  λ same. eq-eqb (from_le_bytes w32 a) (from_le_bytes w32 b) (ap (from_le_bytes w32) same),
 )
 
 -- at most twice k bytes are their first k, and what follows of their last k

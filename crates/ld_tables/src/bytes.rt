@@ -20,7 +20,7 @@ pub fn is_at(names: &Classes<'_>, place: u32, name: ClassName<'_>) -> bool
 }
 
 /// Whether these are the same bytes. Of 8 to 16, as most names have, the first eight and the last eight are
-/// compared, and fewer likewise.
+/// compared, and fewer likewise, down to two.
 #[inline(always)]
 pub fn same_bytes(a: &[u8], b: &[u8]) -> bool
     ensures { result ≡ bytes_eq a.now b.now }
@@ -44,15 +44,15 @@ pub fn same_bytes(a: &[u8], b: &[u8]) -> bool
     }
 }
 
-/// The same, of as many bytes on either side. Of two to four, as most instances have, the first two and the last two are
-/// compared.
+/// The same, of as many bytes on either side. Of two to four, as most instances have, the first two and the last
+/// two are compared.
 #[inline(always)]
 fn same_short(a: &[u8], b: &[u8]) -> bool
     requires { length a.now ≡ length b.now }
     ensures { result ≡ bytes_eq a.now b.now }
 {
     if a.len() > 4 {
-        return a == b;
+        return same_halves(a, b);
     }
     match (
         a.first_chunk(),
@@ -65,6 +65,36 @@ fn same_short(a: &[u8], b: &[u8]) -> bool
         }
         _ => a == b,
     }
+}
+
+/// The same, of five to eight bytes: the first four and the last four are compared.
+#[inline(always)]
+fn same_halves(a: &[u8], b: &[u8]) -> bool
+    requires { length a.now ≡ length b.now }
+    ensures { result ≡ bytes_eq a.now b.now }
+{
+    if a.len() > 8 {
+        return a == b;
+    }
+    match (
+        a.first_chunk(),
+        b.first_chunk(),
+        a.last_chunk(),
+        b.last_chunk(),
+    ) {
+        (Some(first), Some(other_first), Some(last), Some(other_last)) => {
+            same_four(first, other_first) && same_four(last, other_last)
+        }
+        _ => a == b,
+    }
+}
+
+/// Whether these four bytes are the same.
+#[inline(always)]
+fn same_four(a: &[u8; 4], b: &[u8; 4]) -> bool
+    ensures { result ≡ bytes_eq a.now b.now }
+{
+    u32::from_le_bytes(*a) == u32::from_le_bytes(*b)
 }
 
 /// Whether these two bytes are the same.

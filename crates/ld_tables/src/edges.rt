@@ -133,6 +133,7 @@ impl Edges {
             (map (λ held. held.class) stack.now) numbers.items) }
     {
         let mut numbers = Vec::new(alloc);
+        numbers.reserve(stack.len())?;
         for held in stack {
             let pair = Pair {
                 from: held.class,
