@@ -158,12 +158,7 @@ fn feed<
 {
     let (tickets, seats) = Tickets::new(alloc, sources.len() as u64, feeders.len())?;
     let jobs = jobs_of(alloc, feeders, seats)?;
-    // Each in a thread of its own, where one can be started.
-    let done = thread::map_vec(
-        rt,
-        jobs,
-        &|job: Job<T, E>| { run_one(rt, alloc, desk, &tickets, sources, gate, job) },
-    )?;
+    let done = run(rt, alloc, desk, &tickets, sources, gate, jobs)?;
     feeders_of(alloc, done)
 }
 
@@ -207,6 +202,35 @@ fn jobs_of<T: Ledger, E: Ledger>(
         })?;
     }
     Ok(jobs)
+}
+
+/// Does all jobs, each in a thread of its own where one can be started.
+fn run<
+    'a,
+    T: Ledger + Send + Sync,
+    E: Ledger + Send + Sync,
+    G: Gate + Sync,
+    R: Threads + Wait + Sync,
+>(
+    rt: &R,
+    alloc: Global,
+    desk: &Desk<'a, T, E>,
+    tickets: &Tickets,
+    sources: &[Source<'a>],
+    gate: &G,
+    jobs: Vec<Job<T, E>>,
+) -> Result<Vec<Done<T, E>>, AllocError>
+    requires numbers { tickets.now.n ≡ length sources.now }
+    requires seats { All (λ job. IsSeatOf tickets.now job.seat) jobs.items }
+    requires numbered { AreNumbered (map plain sources.now) }
+    requires fit { All (λ source. Fits (plain source)) sources.now }
+    ensures { IfOk result (λ done. length done.items ≡ length jobs.items) }
+{
+    thread::map_vec(
+        rt,
+        jobs,
+        &|job: Job<T, E>| { run_one(rt, alloc, desk, tickets, sources, gate, job) },
+    )
 }
 
 /// Does one job: draws the numbers of traces, reads these and hands them on, until none is left or
