@@ -94,13 +94,15 @@ fn next_said<'a>(
     ensures { MatchOption result (bytes.entry.now ≡ []) (λ cut.
         IsFirstSaid bytes.entry.now (answer_seen cut.0) cut.1.now) }
 {
-    if let Some((event, rest)) = next_event(bytes) {
-        return Some((Ok(Some(event)), rest));
+    match next_event(bytes) {
+        Some((event, rest)) => Some((Ok(Some(event)), rest)),
+        None => {
+            if !other.read(bytes) {
+                return None;
+            }
+            Some((other.said, other.rest))
+        }
     }
-    if !other.read(bytes) {
-        return None;
-    }
-    Some((other.said, other.rest))
 }
 
 /// What a line says, or its fault, and what follows the line.

@@ -1,6 +1,6 @@
 -- The stacks as plain data, after a change of one of them.
-use Rattle.std.proofs.Common.{◌≡◌, ◌<◌, ◌≤◌, ◌+◌, ◌-◌, ◌||◌, ◌∷◌, [], List, ℕ, zero, suc, Bool, true, false, map, length, get_or, set, take, drop, remove, refl, ap, sym, ◌∙◌, arith}
-use Rattle.std.proofs.lemmas.List.{get_or-map, get_or-take, map-set, length-map, length-take-le, drop_more, take_rest}
+use Rattle.std.proofs.Common.{◌≡◌, ◌<◌, ◌≤◌, ◌+◌, ◌-◌, ◌||◌, ◌∷◌, [], List, ℕ, zero, suc, Bool, true, false, map, length, get_or, set, take, drop, remove, refl, ap, sym, subst, ◌∙◌, arith}
+use Rattle.std.proofs.lemmas.List.{get_or-map, get_or-set_same, get_or-take, map-set, length-map, length-take-le, drop_more, take_rest}
 use Rattle.std.proofs.Math.Seq.{take-set-lt}
 use Rattle.std.proofs.lemmas.List.Folds.{list_any_at}
 use Rattle.std.specs.List.{drop-map, list_any}
@@ -8,6 +8,7 @@ use Rattle.ld_trace.specs.Events.{PlainLock, plain_lock}
 use Rattle.ld_rules.specs.Held.{same_lock}
 use Rattle.ld_tables.specs.declared.held.Held.{Held}
 use Rattle.ld_tables.specs.declared.held.Stack.{Stack}
+use Rattle.ld_tables.specs.declared.interrupts.Interrupts.{Interrupts}
 use Rattle.ld_tables.specs.Inner.Interrupts.{start_now}
 use Rattle.ld_tables.specs.Inner.Stacks.{PlainStack, empty_stack, inner, plain_held, holds}
 use Rattle.ld_rules.specs.Inner.Scanned.{remove_last}
@@ -32,6 +33,27 @@ module _ (view : List PlainStack) (stacks : List Stack) (live : ℕ) (short : li
   put new after changed =
       ap (map shown) (take-set-lt live stacks i new within) ∙ map-set shown (take live stacks) i new
       ∙ (λ k. set (is k) i (changed k)) ∙ ap (λ s. set view i (after s)) (sym seen_at)
+
+  -- nothing but the frames and flags of one stack changes
+  module _ (new : Stack) (same : new.held ≡ old.held) where
+    put_moved : map shown (take live (set stacks i new)) ≡ set view i (record (get_or view i empty_stack) { interrupts = new.interrupts })
+    put_moved = put new (λ (s : PlainStack). record s { interrupts = new.interrupts }) (λ k. record { held = map plain_held (same k).items; interrupts = new.interrupts })
+
+    pub new_at : (get_or (map shown (take live (set stacks i new))) i empty_stack).interrupts ≡ new.interrupts
+    new_at =
+        ap (λ v. (get_or v i empty_stack).interrupts) put_moved
+        ∙ ap (λ (s : PlainStack). s.interrupts) (get_or-set_same view i (record (get_or view i empty_stack) { interrupts = new.interrupts }) empty_stack inside)
+
+    pub moved : map shown (take live (set stacks i new))
+        ≡ set view i (record (get_or view i empty_stack) { interrupts = (get_or (map shown (take live (set stacks i new))) i empty_stack).interrupts })
+    moved = put_moved ∙ ap (λ (f : Interrupts). set view i (record (get_or view i empty_stack) { interrupts = f })) (sym new_at)
+
+    -- what holds of them
+    pub moved_as : (R : Interrupts → Interrupts → Type 0) → R old.interrupts new.interrupts
+        → R (get_or view i empty_stack).interrupts (get_or (map shown (take live (set stacks i new))) i empty_stack).interrupts
+    moved_as R holds =
+        subst (λ f. R (get_or view i empty_stack).interrupts f) (sym new_at)
+        (subst (λ f. R f new.interrupts) (sym (ap (λ (s : PlainStack). s.interrupts) seen_at)) holds)
 
 -- the locks from a place of a stack on, as plain data
 pub part_is : (stack : PlainStack) (held : List Held) (start : ℕ) → map plain_held held ≡ stack.held → start ≡ start_now stack.interrupts → map

@@ -1,20 +1,21 @@
 //! The locks that tasks hold, and the frames that they are in.
-ghost use Rattle.std.specs.Prelude.{◌≡◌, ◌<◌, ◌≤◌, ◌+◌, [], ◌∷◌, ◌++◌, length, false, map, remove};
+ghost use Rattle.std.specs.Prelude.{◌≡◌, ◌<◌, ◌≤◌, ◌+◌, [], ◌∷◌, ◌++◌, length, false, map, remove, true};
 ghost use Rattle.std.specs.Prelude.{take, slice_index_or, slice_set, IfNone, IfSome, OnErr, OnOk};
 ghost use Rattle.std.specs.List.{list_any};
 ghost use Rattle.ld_trace.specs.Events.{plain_lock};
 ghost use Rattle.ld_rules.specs.Held.{same_lock};
-ghost use Rattle.ld_tables.specs.Inner.Interrupts.{fresh, start_now};
+ghost use Rattle.ld_tables.specs.Inner.Interrupts.{IsEntered, IsLeft, IsSet, fresh, is_on, nests_in};
+ghost use Rattle.ld_tables.specs.Inner.Interrupts.{start_now, states_of};
 ghost use Rattle.ld_tables.specs.Inner.Stacks.{empty_stack, holds, inner, plain_held};
 ghost use Rattle.ld_rules.specs.Inner.Scanned.{remove_last};
 ghost use Rattle.ld_rules.specs.declared.outcome.TheConstants.{MOST_HELD};
 
 use crate::bytes::same_bytes;
 use crate::context::Context;
-use crate::interrupts::Interrupts;
+use crate::interrupts::{Flag, Interrupts};
 use arrayvec::ArrayVec;
 use ld_rules::MOST_HELD;
-use ld_trace::Lock;
+use ld_trace::{Lock, State};
 use std::alloc::{AllocError, Global};
 use std::marker::Model;
 
@@ -190,13 +191,49 @@ impl<'a> Stacks<'a> {
         self.stacks[task as usize].held.truncate(place);
     }
 
-    /// Puts these frames and flags in the place of the task's.
-    pub fn set_interrupts(&mut self, task: u32, interrupts: Interrupts)
-        requires { task < length self.old }
-        ensures { self.new ≡ slice_set self.old task
-            (record (slice_index_or self.old task empty_stack) { interrupts = interrupts }) }
+    /// As [`Interrupts::enter`], in the task's frames.
+    pub fn enter(&mut self, task: u32, state: State, start: usize)
+        requires task { task < length self.old }
+        requires nests { nests_in (states_of (slice_index_or self.old task empty_stack).interrupts)
+            state ≡ true }
+        ensures changed { self.new ≡ slice_set self.old task
+            (record (slice_index_or self.old task empty_stack) {
+              interrupts = (slice_index_or self.new task empty_stack).interrupts;
+            }) }
+        ensures entered { IsEntered state start
+            (slice_index_or self.old task empty_stack).interrupts
+            (slice_index_or self.new task empty_stack).interrupts }
     {
-        self.stacks[task as usize].interrupts = Context::of(interrupts);
+        self.stacks[task as usize].interrupts.enter(state, start);
+    }
+
+    /// As [`Interrupts::exit`], of the task's frames.
+    pub fn exit(&mut self, task: u32)
+        requires task { task < length self.old }
+        requires open { 0
+            < length (states_of (slice_index_or self.old task empty_stack).interrupts) }
+        ensures changed { self.new ≡ slice_set self.old task
+            (record (slice_index_or self.old task empty_stack) {
+              interrupts = (slice_index_or self.new task empty_stack).interrupts;
+            }) }
+        ensures left { IsLeft (slice_index_or self.old task empty_stack).interrupts
+            (slice_index_or self.new task empty_stack).interrupts }
+    {
+        self.stacks[task as usize].interrupts.exit();
+    }
+
+    /// As [`Interrupts::set`], of the task's flags.
+    pub fn set(&mut self, task: u32, state: State, flag: Flag)
+        requires { task < length self.old }
+        ensures changed { self.new ≡ slice_set self.old task
+            (record (slice_index_or self.old task empty_stack) {
+              interrupts = (slice_index_or self.new task empty_stack).interrupts;
+            }) }
+        ensures set { IsSet state (is_on flag)
+            (slice_index_or self.old task empty_stack).interrupts
+            (slice_index_or self.new task empty_stack).interrupts }
+    {
+        self.stacks[task as usize].interrupts.set(state, flag);
     }
 }
 

@@ -1,5 +1,5 @@
 //! The open frames of a task, and its flags.
-ghost use Rattle.std.specs.Prelude.{◌≡◌, ◌<◌, true, length, slice_get};
+ghost use Rattle.std.specs.Prelude.{◌≡◌, ◌<◌, true, if◌then◌else◌, length, slice_get};
 ghost use Rattle.std.specs.List.{list_any};
 ghost use Rattle.ld_trace.specs.declared.event.State.{State};
 ghost use Rattle.ld_class.specs.Usage.{has_bit};
@@ -8,7 +8,7 @@ ghost use Rattle.ld_rules.specs.Usage.{usage_of};
 ghost use Rattle.ld_rules.specs.Usage.Bit.{In, On};
 ghost use Rattle.ld_rules.specs.Open.{is_some_and};
 ghost use Rattle.ld_tables.specs.Inner.Interrupts.{IsEntered, IsLeft, IsSet, enabled_now, flag_now, fresh};
-ghost use Rattle.ld_tables.specs.Inner.Interrupts.{is_on, nests_in, start_now, states_of};
+ghost use Rattle.ld_tables.specs.Inner.Interrupts.{flag_of, is_on, nests_in, start_now, states_of};
 
 use bitflags::Flags as _;
 use ld_class::Usage;
@@ -211,17 +211,23 @@ impl Interrupts {
     pub fn set(&mut self, state: State, flag: Flag)
         ensures { IsSet state (is_on flag) self.old self.new }
     {
-        let mut flags = self.flags();
-        match state {
-            State::Hard => flags.hard = flag.is_on(),
-            State::Soft => flags.soft = flag.is_on(),
-        }
-        if let Some(frame) = self.hard {
-            self.hard = Some(OpenFrame { flags, ..frame });
-        } else if let Some(frame) = self.soft {
-            self.soft = Some(OpenFrame { flags, ..frame });
+        if let Some(frame) = &mut self.hard {
+            set_flag(&mut frame.flags, state, flag);
+        } else if let Some(frame) = &mut self.soft {
+            set_flag(&mut frame.flags, state, flag);
         } else {
-            self.outside = flags;
+            set_flag(&mut self.outside, state, flag);
         }
+    }
+}
+
+/// The flag for the state goes on or off among these.
+fn set_flag(flags: &mut Flags, state: State, flag: Flag)
+    ensures { (of : State) → flag_of of flags.new
+        ≡ (if same_state of state then is_on flag else flag_of of flags.old) }
+{
+    match state {
+        State::Hard => flags.hard = flag.is_on(),
+        State::Soft => flags.soft = flag.is_on(),
     }
 }

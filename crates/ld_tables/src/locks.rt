@@ -305,9 +305,7 @@ impl<'a> Locks<'a> {
             (slice_index_or self.new.interrupts task fresh) }
     {
         let start = self.stacks.held(task).len();
-        let mut interrupts = self.stacks.interrupts(task);
-        interrupts.enter(state, start);
-        self.stacks.set_interrupts(task, interrupts);
+        self.stacks.enter(task, state, start);
     }
 
     /// The task's innermost frame closes, in which it holds nothing.
@@ -320,9 +318,7 @@ impl<'a> Locks<'a> {
         ensures left { IsLeft (slice_index_or self.old.interrupts task fresh)
             (slice_index_or self.new.interrupts task fresh) }
     {
-        let mut interrupts = self.stacks.interrupts(task);
-        interrupts.exit();
-        self.stacks.set_interrupts(task, interrupts);
+        self.stacks.exit(task);
     }
 
     /// The task's flag for the state goes on or off in its innermost frame.
@@ -332,9 +328,7 @@ impl<'a> Locks<'a> {
         ensures set { IsSet state (is_on flag) (slice_index_or self.old.interrupts task fresh)
             (slice_index_or self.new.interrupts task fresh) }
     {
-        let mut interrupts = self.stacks.interrupts(task);
-        interrupts.set(state, flag);
-        self.stacks.set_interrupts(task, interrupts);
+        self.stacks.set(task, state, flag);
     }
 
     /// The dependencies, in the order in which they came.

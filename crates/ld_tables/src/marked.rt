@@ -1,6 +1,6 @@
 //! Distinct numbers, in the order in which they came, each with a mark.
-ghost use Rattle.std.specs.Prelude.{◌≡◌, ◌≢◌, ◌<◌, ◌-◌, ℕ, [], ◌∷◌, ◌++◌, false, length, nat_eq, take};
-ghost use Rattle.std.specs.Prelude.{true, slice_index_or, OnErr, OnOk};
+ghost use Rattle.std.specs.Prelude.{◌≡◌, ◌≢◌, ◌<◌, ℕ, [], ◌∷◌, ◌++◌, All, false, if◌then◌else◌, length, nat_eq};
+ghost use Rattle.std.specs.Prelude.{take, true, slice_index_or, OnErr, OnOk};
 ghost use Rattle.std.specs.List.{list_any, AllPairs};
 
 use std::alloc::{AllocError, Global};
@@ -77,18 +77,23 @@ impl Marked {
     pub fn cut(&mut self, count: usize)
         ensures { self.new ≡ take count self.old }
     {
-        while count < self.order.len() {
-            self.drop_last();
+        if count >= self.order.len() {
+            return;
         }
+        unmark(&mut self.marks, &self.order[count..]);
+        self.order.truncate(count);
     }
+}
 
-    /// Takes away the number that came last, where there is one.
-    fn drop_last(&mut self)
-        ensures { self.new ≡ take (length self.old - 1) self.old }
-    {
-        if let Some(number) = self.order.pop() {
-            self.marks[number as usize] = false;
-        }
+/// Takes the marks of these numbers off.
+fn unmark(marks: &mut Vec<bool>, numbers: &[u32])
+    requires { All (λ n. n < length marks.old.items) numbers.now }
+    ensures { (k : ℕ) → slice_index_or marks.new.items k false
+        ≡ (if list_any (nat_eq k) numbers.now then false
+        else slice_index_or marks.old.items k false) }
+{
+    for number in numbers {
+        marks[*number as usize] = false;
     }
 }
 

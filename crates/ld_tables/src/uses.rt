@@ -165,6 +165,8 @@ impl Uses {
     }
 
     /// Adds a bit of the class of each lock, where it isn't there yet.
+    // Most stacks are empty where a frame closes, and where a flag goes on.
+    #[inline(always)]
     fn add_each(&mut self, stack: &[Held<'_>], bit: Usage, line: u64) -> Result<(), AllocError>
         requires { IsBit bit }
         ensures uses { OnOk result (self.new ≡ fold with_use self.old
