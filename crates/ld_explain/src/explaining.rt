@@ -1,13 +1,14 @@
 //! Explains the violations of a report, one after another.
 
 use crate::groups::{Member, grouped, most_shared};
+use crate::known::{write_known_class, write_known_line};
 use crate::sightings::{Sightings, Texts};
 use crate::violations::{Choice, Dependency, Ends, Step, Violation, chosen};
 use crate::writing::{state_name, write_class, write_lock, write_place};
 use indexmap::IndexSet;
-use ld_book::{Book, ClassName, Witness};
 use ld_held::{Before, Flag, Hold, task_of};
-use ld_texts::Places;
+use ld_maps::Maps;
+use ld_texts::{Book, ClassName, Places, Witness};
 use ld_trace::{Source, State};
 use std::alloc::{AllocError, Global};
 use std::io::Write;
@@ -17,8 +18,9 @@ use std::io::Write;
 /// state, both ends. Violations that share dependencies stand together, and what was told before isn't told
 /// again. The last line says how many are explained, and how many are not.
 ///
-/// `sources` are the traces of the book, each at the place of its number, and `places` says where the lines
-/// stand in files.
+/// `sources` are the traces of the book, each at the place of its number, `places` says where the lines stand in
+/// files, and `maps` what is known of these files' lines and of classes, which stands below each line and below the
+/// line that first names the class.
 ///
 /// # Errors
 ///
@@ -28,6 +30,7 @@ pub fn explain<'t, 'a>(
     book: &Book<'a>,
     sources: &'t [Source<'a>],
     places: &'t Places<'t>,
+    maps: &'t Maps<'t>,
     report: &[u8],
     choice: &Choice<'_>,
 ) -> Result<Vec<u8>, AllocError> {
@@ -42,9 +45,11 @@ pub fn explain<'t, 'a>(
         alloc,
         sources,
         places,
+        maps,
         sightings: &sightings,
         texts: &texts,
         above: IndexSet::new(alloc),
+        named: IndexSet::new(alloc),
         text: Vec::new(alloc),
     };
     telling.all(&violations, &members, told)?;
@@ -123,10 +128,13 @@ struct Telling<'t, 'a> {
     alloc: Global,
     sources: &'t [Source<'a>],
     places: &'t Places<'t>,
+    maps: &'t Maps<'t>,
     sightings: &'t Sightings<'a>,
     texts: &'t Texts<'a>,
     /// What was told already.
     above: IndexSet<Dependency<'a>>,
+    /// The classes of which it was told what is known of them.
+    named: IndexSet<&'a [u8]>,
     text: Vec<u8>,
 }
 
@@ -218,6 +226,8 @@ impl<'t, 'a> Telling<'t, 'a> {
             return Ok(());
         }
         self.text.push(b'\n')?;
+        self.class(step.dependency.from)?;
+        self.class(step.dependency.to)?;
         let Some(before) = self.sightings.at(step.first) else {
             return Ok(());
         };
@@ -237,6 +247,7 @@ impl<'t, 'a> Telling<'t, 'a> {
         write!(self.text, "  {state} handlers acquire ").map_err(|_| AllocError)?;
         write_class(&mut self.text, ends.safe)?;
         self.text.push(b'\n')?;
+        self.class(ends.safe)?;
         let Some(before) = self.sightings.at(ends.safe_at) else {
             return Ok(());
         };
@@ -258,6 +269,7 @@ impl<'t, 'a> Telling<'t, 'a> {
         writeln!(self.text, " is held where {state} handlers can interrupt").map_err(
             |_| AllocError,
         )?;
+        self.class(ends.exposed)?;
         let Some(before) = self.sightings.at(ends.exposed_at) else {
             return Ok(());
         };
@@ -310,14 +322,25 @@ impl<'t, 'a> Telling<'t, 'a> {
         self.line(number, hold.line)
     }
 
-    /// A line of a trace: where it stands in its file, and what it says.
+    /// What is known of a class, where it wasn't told yet.
+    fn class(&mut self, class: ClassName<'a>) -> Result<(), AllocError> {
+        if self.maps.is_empty() || !self.named.insert(class.name)? {
+            return Ok(());
+        }
+        write_known_class(&mut self.text, self.maps, class.name)
+    }
+
+    /// A line of a trace: where it stands in its file, what it says, and what is known of it.
     fn line(&mut self, number: u64, line: u64) -> Result<(), AllocError> {
         write_place(&mut self.text, self.places, line)?;
         self.text.extend_from_slice(b": ")?;
         self.text
             .extend_from_slice(self.texts.at(Witness { number, line }))?;
         self.text.push(b'\n')?;
-        Ok(())
+        match self.places.place(line) {
+            Some(place) => write_known_line(&mut self.text, self.maps, place.file, place.line),
+            None => Ok(()),
+        }
     }
 
     /// The label of a trace.

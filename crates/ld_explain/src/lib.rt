@@ -7,6 +7,7 @@ mod around;
 mod drawing;
 mod explaining;
 mod groups;
+mod known;
 mod sightings;
 mod violations;
 mod writing;

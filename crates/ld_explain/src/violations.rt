@@ -3,7 +3,7 @@ ghost use Rattle.std.specs.Prelude.{◌≡◌, [], All, IfOk, List, OnOk};
 ghost use Rattle.ld_trace.specs.Sources.{PlainSource};
 ghost use Rattle.ld_explain.specs.Steps.{AreFirst, IsAtFirst};
 
-use ld_book::{Book, ClassName, ConflictRow, CycleRow, Findings, ForbiddenRow, Witness};
+use ld_texts::{Book, ClassName, ConflictRow, CycleRow, Findings, ForbiddenRow, Witness};
 use ld_trace::{State, next_line, text};
 use std::alloc::{AllocError, Global};
 

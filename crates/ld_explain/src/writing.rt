@@ -1,8 +1,7 @@
 //! Writes names and places. Each call answers `AllocError` where memory for its text was refused.
 
-use ld_book::ClassName;
 use ld_held::Hold;
-use ld_texts::Places;
+use ld_texts::{ClassName, Places};
 use ld_trace::State;
 use std::alloc::AllocError;
 use std::io::Write;

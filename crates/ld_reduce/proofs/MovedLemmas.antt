@@ -13,7 +13,7 @@ use Rattle.ld_rules.specs.declared.outcome.Outcome.TheVariants.{Read, Refused}
 use Rattle.ld_rules.specs.Outcome.{FaultyLine, event_said, events, faulty_lines, outcome, outcome_by, said_fault}
 use Rattle.ld_rules.specs.Dependency.{Seen, least_line, seen, seen_at}
 use Rattle.ld_rules.specs.Union.{if_read}
-use Rattle.ld_reduce.specs.Kept.{is_refused}
+use Rattle.ld_book.specs.Totals.{is_refused}
 
 -- the positions of lines with these texts, counted from here
 abbrev positions_from : ℕ → List (List ℕ) → List Position

@@ -15,7 +15,8 @@ use Rattle.ld_rules.specs.Union.{first_witness}
 use Rattle.ld_rules.specs.Usage.{same_use, uses_at}
 use Rattle.ld_shown.specs.Batch.{AreRising}
 use Rattle.ld_reduce.specs.Written.{counted_anew, counted_from, ended}
-use Rattle.ld_reduce.specs.Kept.{AreKept, IsAt, IsFirst, is_refused, keeps, kept_by}
+use Rattle.ld_book.specs.Totals.{is_refused}
+use Rattle.ld_reduce.specs.Kept.{AreKept, IsAt, IsFirst, keeps, kept_by}
 use Rattle.ld_reduce.specs.Reduced.{AreNeeded}
 use Rattle.ld_reduce.proofs.MovedLemmas.{line_within, refused-same, shown_by, within-same}
 use Rattle.ld_reduce.proofs.TextLemmas.{texts-ended}

@@ -1,14 +1,13 @@
 -- Which traces are kept: those in which something was first seen.
-use Rattle.std.specs.Prelude.{◌≡◌, ◌⊎◌, ℕ, Bool, true, false, ◌&&◌, ◌||◌, List, filter, Option, Some}
+use Rattle.std.specs.Prelude.{◌≡◌, ◌⊎◌, ℕ, Bool, ◌&&◌, ◌||◌, List, filter, Option, Some}
 use Rattle.std.specs.Bool.{Decides}
 use Rattle.ld_trace.specs.Sources.{PlainSource}
-use Rattle.ld_rules.specs.declared.outcome.Outcome.{Outcome}
-use Rattle.ld_rules.specs.declared.outcome.Outcome.TheVariants.{Read, Refused}
 use Rattle.ld_rules.specs.declared.outcome.Witness.{Witness}
 use Rattle.ld_rules.specs.Dependency.{Dependency}
 use Rattle.ld_rules.specs.Outcome.{outcome}
 use Rattle.ld_rules.specs.Union.{dependency_witness, use_witness}
 use Rattle.ld_rules.specs.Usage.{Use}
+use Rattle.ld_book.specs.Totals.{is_refused}
 
 -- something was first seen, in the trace of this number
 abbrev pub IsAt : ℕ → Option Witness → Type 0
@@ -19,10 +18,6 @@ abbrev pub IsFirst : List PlainSource → ℕ → Type 0
 IsFirst sources number =
     ((what : Dependency) × IsAt number (dependency_witness sources what))
     ⊎ ((what : Use) × IsAt number (use_witness sources what))
-
-abbrev pub is_refused : Outcome → Bool
-is_refused (Read count) = false
-is_refused (Refused line fault) = true
 
 -- a trace is kept where its number passes a test, and, where refused ones are kept, where it is refused
 abbrev pub keeps : (ℕ → Bool) → Bool → PlainSource → Bool

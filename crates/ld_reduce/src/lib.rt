@@ -7,3 +7,4 @@ mod reduce;
 mod written;
 
 pub use book::reduction;
+pub use written::{append_ended, is_ended};

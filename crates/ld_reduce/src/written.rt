@@ -7,13 +7,17 @@ use ld_trace::Source;
 use std::alloc::{AllocError, Global};
 
 /// Whether the last line has its LF, or there is no line.
-fn is_ended(bytes: &[u8]) -> bool
+pub fn is_ended(bytes: &[u8]) -> bool
     ensures { result ≡ is_ended bytes.now }
 {
     bytes.is_empty() || bytes.ends_with(b"\n")
 }
 
 /// Puts these bytes behind others, with an LF where their last line has none.
+///
+/// # Errors
+///
+/// `AllocError` where a growth of memory was refused.
 pub fn append_ended(all: &mut Vec<u8>, bytes: &[u8]) -> Result<(), AllocError>
     ensures { OnOk result (all.new.items ≡ all.old.items ++ ended bytes.now) }
 {

@@ -4,6 +4,8 @@
 mod known;
 mod news;
 mod said;
+mod witnesses;
 
 pub use known::unknown_line;
 pub use news::{NewReport, SelectFault, new_report};
+pub use witnesses::lines_named;

@@ -65,7 +65,7 @@ fn cut(text: &[u8]) -> (&[u8], &[u8])
 }
 
 /// A field of a text that is cut at each space, counted from 0; empty where there is none.
-fn field(text: &[u8], place: usize) -> &[u8]
+pub(crate) fn field(text: &[u8], place: usize) -> &[u8]
     ensures { result.now ≡ field text.now place }
 {
     let mut rest = text;
@@ -92,28 +92,28 @@ fn is_state(text: &[u8]) -> bool
 }
 
 /// Whether a line without its end tells of a recursion.
-fn is_recursion(text: &[u8]) -> bool
+pub(crate) fn is_recursion(text: &[u8]) -> bool
     ensures { result ≡ is_recursion text.now }
 {
     is_field(text, 0, b"recursion") && is_field(text, 2, b"at")
 }
 
 /// Whether a line without its end tells of an inversion.
-fn is_inversion(text: &[u8]) -> bool
+pub(crate) fn is_inversion(text: &[u8]) -> bool
     ensures { result ≡ is_inversion text.now }
 {
     is_field(text, 0, b"inversion") && is_field(text, 2, b"->") && is_field(text, 4, b"at")
 }
 
 /// Whether a line without its end tells of a conflict.
-fn is_conflict(text: &[u8]) -> bool
+pub(crate) fn is_conflict(text: &[u8]) -> bool
     ensures { result ≡ is_conflict text.now }
 {
     is_field(text, 0, b"conflict") && is_state(text) && is_field(text, 4, b"in")
 }
 
 /// Whether a line without its end tells of a forbidden walk.
-fn is_forbidden(text: &[u8]) -> bool
+pub(crate) fn is_forbidden(text: &[u8]) -> bool
     ensures { result ≡ is_forbidden text.now }
 {
     is_field(text, 0, b"forbidden")

@@ -2,23 +2,19 @@
 //! shown, it is that of its own file.
 #![tactic(auto)]
 
-mod acquisitions;
-mod chains;
-mod components;
-mod counted;
-mod guesses;
 mod json;
 mod list;
-mod numbered;
 mod overview;
 mod places;
-mod replay;
+mod shape;
 mod stats;
-mod told;
-mod walks;
 mod wanted;
 mod writing;
 
+pub use ld_book::{
+    Book, ClassName, ConflictRow, CycleRow, Edge, Findings, ForbiddenRow, Totals, Witness,
+};
+pub use ld_counts::Followers;
 pub use overview::{ClassRow, DependencyRow, Overview};
 pub use places::{Place, Places};
 pub use wanted::{Listing, Wanted, text_of};

@@ -1,10 +1,10 @@
 //! The list of classes.
 
-use crate::acquisitions::acquisitions;
-use crate::overview::{ClassRow, DependencyRow, Overview};
-use crate::walks::Walks;
+use crate::overview::{ClassRow, DependencyRow, Overview, class_rows, dependency_rows};
+use crate::shape::components;
 use crate::writing::{Seen, is_called, write_at, write_class, write_marks};
 use ld_book::{Book, ClassName, Witness};
+use ld_counts::{Walks, acquisitions};
 use std::alloc::{AllocError, Global};
 use std::io::Write;
 use std::thread::Threads;
@@ -25,8 +25,8 @@ impl Counts {
         book: &Book<'_>,
         threads: usize,
     ) -> Result<Counts, AllocError> {
-        let acquired = acquisitions(rt, alloc, book, threads)?;
-        let walks = Walks::of(alloc, book)?;
+        let acquired = acquisitions(rt, alloc, book.classes(), book.listed(), threads)?;
+        let walks = Walks::of(alloc, components(alloc, book)?)?;
         Ok(Counts { acquired, walks })
     }
 
@@ -44,14 +44,18 @@ pub(crate) fn list_text(
     counts: &Counts,
     dependencies: bool,
 ) -> Result<Vec<u8>, AllocError> {
-    let overview = Overview::new(alloc, book)?;
+    let classes = class_rows(alloc, book)?;
+    // To put them in their order is a good part of the work.
+    let rows = if dependencies {
+        dependency_rows(alloc, book)?
+    } else {
+        Vec::new(alloc)
+    };
     let mut text = Vec::new(alloc);
     let mut start = 0;
-    for class in &overview.classes {
+    for class in &classes {
         write_row(&mut text, counts, class)?;
-        if dependencies {
-            start = write_followers(&mut text, seen, &overview.dependencies, start, class.number)?;
-        }
+        start = write_followers(&mut text, seen, &rows, start, class.number)?;
     }
     Ok(text)
 }

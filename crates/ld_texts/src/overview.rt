@@ -59,7 +59,10 @@ impl<'a> Overview<'a> {
 }
 
 /// The classes of a book, by their names.
-fn class_rows<'a>(alloc: Global, book: &Book<'a>) -> Result<Vec<ClassRow<'a>>, AllocError>
+pub(crate) fn class_rows<'a>(
+    alloc: Global,
+    book: &Book<'a>,
+) -> Result<Vec<ClassRow<'a>>, AllocError>
     ensures { IfOk result (λ rows. AreClassRows book.now rows.items) }
 {
     let mut rows = numbered_rows(alloc, book)?;
@@ -85,7 +88,10 @@ fn numbered_rows<'a>(alloc: Global, book: &Book<'a>) -> Result<Vec<ClassRow<'a>>
 }
 
 /// The dependencies of a book, by the names of their classes.
-fn dependency_rows<'a>(alloc: Global, book: &Book<'a>) -> Result<Vec<DependencyRow<'a>>, AllocError>
+pub(crate) fn dependency_rows<'a>(
+    alloc: Global,
+    book: &Book<'a>,
+) -> Result<Vec<DependencyRow<'a>>, AllocError>
     ensures { IfOk result (λ rows. AreDependencyRows book.now rows.items) }
 {
     let mut rows = named_rows(alloc, book)?;

@@ -1,9 +1,9 @@
 //! How much some traces are and show, one figure a line.
 
-use crate::components::Components;
-use crate::counted::{Counted, Verbs};
 use crate::places::Places;
+use crate::shape::components;
 use ld_book::{Book, Findings, Totals};
+use ld_counts::{Counted, Verbs};
 use ld_rules::{Listed, Outcome, TraceFault};
 use ld_trace::State;
 use std::alloc::{AllocError, Global};
@@ -39,7 +39,7 @@ pub(crate) fn stats_text<R: Threads + Sync>(
     places: &Places<'_>,
     threads: usize,
 ) -> Result<Vec<u8>, AllocError> {
-    let counted = Counted::of(rt, alloc, book, threads)?;
+    let counted = Counted::of(rt, alloc, book.classes(), book.listed(), threads)?;
     let findings = book.findings(alloc)?;
     let totals = book.totals();
     let mut text = Vec::new(alloc);
@@ -48,7 +48,7 @@ pub(crate) fn stats_text<R: Threads + Sync>(
     write_events(&mut text, &totals, &counted.verbs)?;
     write_classes(&mut text, book)?;
     write_figure(&mut text, "dependencies", totals.dependencies)?;
-    write_figure(&mut text, "chains", counted.chains.count())?;
+    write_figure(&mut text, "chains", counted.chain_count())?;
     write_figure(&mut text, "depth", counted.depth)?;
     write_components(alloc, &mut text, book)?;
     write_violations(&mut text, &findings)?;
@@ -73,24 +73,26 @@ fn write_traces(
 ) -> Result<(), AllocError> {
     write_figure(text, "traces", totals.traces)?;
     write_figure(text, "refused", totals.refused)?;
-    for fault in &FAULTS {
-        write_part(text, "refused", fault.name(), refused_by(listed, *fault))?;
+    let counts = fault_counts(listed);
+    for (fault, count) in FAULTS.iter().zip(&counts) {
+        write_part(text, "refused", fault.name(), *count)?;
     }
     Ok(())
 }
 
-/// How many traces are refused by a fault.
-fn refused_by(listed: &[Listed<'_>], wanted: TraceFault) -> u64 {
-    let refused = listed.iter().filter(|trace| is_refused_by(trace, wanted));
-    refused.count() as u64
-}
-
-/// Whether a trace is refused by a fault.
-fn is_refused_by(trace: &Listed<'_>, wanted: TraceFault) -> bool {
-    match trace.outcome {
-        Outcome::Refused { fault, .. } => fault == wanted,
-        Outcome::Read { .. } => false,
+/// How many traces are refused by each fault, in their order.
+fn fault_counts(listed: &[Listed<'_>]) -> [u64; FAULTS.len()] {
+    let mut counts: [u64; FAULTS.len()] = [0; FAULTS.len()];
+    for trace in listed {
+        if let Outcome::Refused { fault, .. } = trace.outcome {
+            for (other, count) in FAULTS.iter().zip(counts.iter_mut()) {
+                if *other == fault {
+                    *count = count.saturating_add(1);
+                }
+            }
+        }
     }
+    counts
 }
 
 /// Writes how many events the traces have that are read, and how many of each verb.
@@ -142,7 +144,7 @@ fn write_components(alloc: Global, text: &mut Vec<u8>, book: &Book<'_>) -> Resul
 
 /// How many classes each component has that has a cycle, the least first.
 fn cyclic_sizes(alloc: Global, book: &Book<'_>) -> Result<Vec<u32>, AllocError> {
-    let components = Components::of(alloc, book)?;
+    let components = components(alloc, book)?;
     let mut sizes: Vec<u32> = vec![in alloc; 0; components.of.len()]?;
     for part in &components.of {
         if let Some(size) = sizes.get_mut(*part as usize) {

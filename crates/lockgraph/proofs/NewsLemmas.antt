@@ -7,13 +7,16 @@ use Rattle.ld_book.proofs.PermutedLemmas.{totals-permuted}
 use Rattle.ld_check.specs.OfReport.declared.verdict.Verdict.{Verdict}
 use Rattle.ld_check.proofs.OfReport.Permuted.{report-permuted}
 use Rattle.ld_select.specs.News.{count_new}
+use Rattle.ld_texts.specs.Places.{PlainFile}
 use Rattle.lockgraph.specs.News.{IsNewsOf, verdict_of_new}
 
 pub news-permuted : (sources listed : List PlainSource) → IsPermutation sources listed
-    → (known text : List ℕ) (verdict : Verdict) → IsNewsOf listed known text verdict → IsNewsOf sources known text verdict
-news-permuted sources listed moved known text verdict news = record {
+    → (files : List PlainFile) (known text : List ℕ) (verdict : Verdict) → IsNewsOf files listed known text verdict → IsNewsOf files sources known text verdict
+news-permuted sources listed moved files known text verdict news = record {
   report = news.report;
+  remarks = news.remarks;
   is = report-permuted sources listed moved news.report news.is;
   text_is = news.text_is;
+  few = news.few;
   verdict_is = news.verdict_is ∙ ap (λ (t : Totals). verdict_of_new (count_new news.report known) t.refused) (totals-permuted sources listed moved);
 }

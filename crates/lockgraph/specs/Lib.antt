@@ -1,3 +1,4 @@
+pub mod Comments
 pub mod Streams
 pub mod Reduced
 pub mod Shown

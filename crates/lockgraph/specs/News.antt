@@ -1,19 +1,24 @@
 -- What `new` says of some traces and a known text.
-use Rattle.std.specs.Prelude.{◌≡◌, ℕ, ◌==◌, List, if◌then◌else◌}
+use Rattle.std.specs.Prelude.{◌≡◌, ◌≤◌, ℕ, ◌==◌, List, [], ◌++◌, flat_map, length, if◌then◌else◌}
 use Rattle.ld_trace.specs.Sources.{PlainSource}
 use Rattle.ld_book.specs.Totals.{refused_count}
 use Rattle.ld_check.specs.OfReport.Report.{IsReport}
 use Rattle.ld_check.specs.OfReport.declared.verdict.Verdict.{Verdict}
 use Rattle.ld_check.specs.OfReport.declared.verdict.Verdict.TheVariants.{Clean, Refused, Violations}
 use Rattle.ld_select.specs.News.{count_new, new_report}
+use Rattle.ld_texts.specs.Places.{PlainFile}
+use Rattle.lockgraph.specs.Comments.{comment_line}
 
 -- `Violations` where some are new, else `Refused` where a trace is refused, else `Clean`
 abbrev pub verdict_of_new : (count refused : ℕ) → Verdict
 verdict_of_new count refused = if count == 0 then (if refused == 0 then Clean else Refused) else Violations
 
--- the text is the report of what is new in the report of these sources, and the verdict what it comes to
-pub record IsNewsOf (sources : List PlainSource) (known text : List ℕ) (verdict : Verdict) : Type 0 where
+-- The text is the report of what is new in the report of these sources, and the verdict what it comes to. Comments
+-- follow it where the sources are of several files.
+pub record IsNewsOf (files : List PlainFile) (sources : List PlainSource) (known text : List ℕ) (verdict : Verdict) : Type 0 where
   pub report : List ℕ
+  pub remarks : List (List ℕ)
   pub is : IsReport sources report
-  pub text_is : text ≡ new_report report known
+  pub text_is : text ≡ new_report report known ++ flat_map comment_line remarks
+  pub few : length files ≤ 1 → remarks ≡ []
   pub verdict_is : verdict ≡ verdict_of_new (count_new report known) (refused_count sources)

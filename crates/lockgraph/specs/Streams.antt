@@ -1,28 +1,23 @@
 -- The streams of several files as one, and the fault of a file or of a known text.
 use Rattle.std.specs.Borrow.{Bor}
-use Rattle.std.specs.Prelude.{ℕ, Bool, not, ◌||◌, ◌==◌, List, ◌++◌, length, Option, Some, nat_eq, nat_lt, codes, count_by, if◌then◌else◌}
-use Rattle.std.specs.List.{ends_with}
+use Rattle.std.specs.Prelude.{ℕ, Bool, not, ◌==◌, List, length, Option, Some, nat_lt, count_by, if◌then◌else◌}
 use Rattle.std.specs.Option.{option_map}
-use Rattle.ld_trace.specs.Lines.{is_empty}
 use Rattle.ld_trace.specs.Sources.{sources}
 use Rattle.ld_trace.specs.declared.source.StreamFault.{StreamFault}
 use Rattle.ld_trace.specs.declared.source.StreamFault.TheVariants as stream_faults
 use Rattle.ld_trace.specs.declared.source.TheConstants.{LONGEST_STREAM}
+use Rattle.ld_reduce.specs.Written.{ended}
 use Rattle.ld_select.specs.Known.{unknown_line}
 use Rattle.lockgraph.specs.declared.fault.Fault.{Fault}
 use Rattle.lockgraph.specs.declared.fault.Fault.TheVariants.{NoHeader, BadHeader, File, UnknownLine, Memory}
 
--- the last line has its LF, or there is no line
-abbrev pub is_ended : List ℕ → Bool
-is_ended bytes = is_empty bytes || ends_with nat_eq bytes (codes "\n")
-
--- the bytes of a file with an LF that ends the last line, if there is one
-abbrev pub ended : List ℕ → List ℕ
-ended bytes = if is_ended bytes then bytes else bytes ++ codes "\n"
+-- an LF
+abbrev pub is_lf : ℕ → Bool
+is_lf byte = byte == 10
 
 -- how many lines the bytes of a file have: each ends with an LF
 abbrev pub line_count : List ℕ → ℕ
-line_count bytes = count_by (λ byte. byte == 10) (ended bytes)
+line_count bytes = count_by is_lf (ended bytes)
 
 -- a fault of the stream that is a file, with its name
 abbrev pub fault_of_file : Bor (List ℕ) → StreamFault → Fault

@@ -5,12 +5,14 @@ ghost use Rattle.ld_check.specs.OfReport.Verdict.{VerdictIs};
 ghost use Rattle.lockgraph.specs.declared.fault.Fault.TheVariants.{Together};
 
 use crate::fault::Fault;
+use crate::maps::{maps_in, read_maps};
 use crate::streams::read_streams;
 use crate::told::{Told, write_told};
 use crate::words::ExplainWords;
 use ld_check::{Checked, MOST_WORKERS, NoGate, Verdict, check, report_in, verdict_of};
 use ld_device::Std;
 use ld_explain::{Choice, explain};
+use ld_maps::Maps;
 use ld_texts::Places;
 use std::alloc::Global;
 use std::io;
@@ -22,17 +24,22 @@ use std::thread::Threads;
 ///
 /// # Errors
 ///
-/// Those of `read_streams`, `explained_of` and `write_told`.
+/// Those of `read_maps`, `maps_in`, `read_streams`, `explained_of` and `write_told`.
 pub fn answer_explain<'a, R: Files + io::Input + Print + AllocGlobal + Threads + Wait + Sync>(
     rt: &R,
     words: &ExplainWords<'a>,
 ) -> Result<Verdict, Fault<'a>> {
+    let texts = read_maps(rt, &words.maps)?;
+    // A mistake in them is told before the traces are read.
+    let given = maps_in(rt.alloc(), &words.maps, &texts)?;
     let streams = read_streams(rt, &words.given.files)?;
+    let maps = Maps::of(rt.alloc(), &words.given.files, given, &streams.bytes)?;
     let told = explained_of(
         rt,
         rt.alloc(),
         &streams.bytes,
         &streams.places,
+        &maps,
         &words.choice,
         words.given.workers,
     )?;
@@ -51,6 +58,7 @@ fn explained_of<'a, R: Threads + Wait + Sync>(
     alloc: Global,
     bytes: &[u8],
     places: &Places<'_>,
+    maps: &Maps<'_>,
     choice: &Choice<'_>,
     workers: usize,
 ) -> Result<Told, Fault<'a>>
@@ -59,7 +67,7 @@ fn explained_of<'a, R: Threads + Wait + Sync>(
     ensures stream { IfSome (stream_fault bytes.now) (λ fault. result ≡ Err (Together fault)) }
 {
     let checked = check(rt, alloc, bytes, workers, &NoGate)?;
-    let told = explained_in(alloc, &checked, places, choice);
+    let told = explained_in(alloc, &checked, places, maps, choice);
     drop(checked);
     told
 }
@@ -69,6 +77,7 @@ fn explained_in<'a>(
     alloc: Global,
     checked: &Checked<'_>,
     places: &Places<'_>,
+    maps: &Maps<'_>,
     choice: &Choice<'_>,
 ) -> Result<Told, Fault<'a>>
     ensures { IfOk result (λ told. VerdictIs checked.now.book told.verdict) }
@@ -79,6 +88,7 @@ fn explained_in<'a>(
         &checked.book,
         &checked.sources,
         places,
+        maps,
         &report,
         choice,
     )?;

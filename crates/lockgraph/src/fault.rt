@@ -35,6 +35,9 @@ pub enum Fault<'a> {
     /// This line of this known text says something, and is no line of a report.
     #[error("{0}:{1}: UnknownLine: neither a line of a report, as \"inversion A -> B at ..\", nor a comment")]
     UnknownLine(&'a str, u64),
+    /// This line of this file isn't one that a recorder writes in a map, or is the last one of a map that is cut off.
+    #[error("{0}:{1}: BadMap: no whole map, as a recorder writes it beside a stream")]
+    BadMap(&'a str, u64),
     /// A write or the flush failed.
     #[error("write failed")]
     Write,

@@ -6,11 +6,14 @@ ghost use Rattle.std.specs.Process.{exit_status};
 ghost use Rattle.clap.specs.Values.{kind_of};
 ghost use Rattle.clap.specs.declared.error.kind.ErrorKind.{ErrorKind};
 
+mod comments;
 mod dot;
 mod explain;
 mod fault;
 mod json;
+mod lines;
 mod list;
+mod maps;
 mod news;
 mod reduce;
 mod shown;

@@ -7,6 +7,7 @@ ghost use Rattle.ld_device.specs.Transfer.{AppendsPart};
 ghost use Rattle.ld_select.specs.Known.{unknown_line};
 ghost use Rattle.lockgraph.specs.News.{IsNewsOf, verdict_of_new};
 
+use crate::comments::{remarks, write_comments};
 use crate::fault::Fault;
 use crate::streams::{read_known, read_streams};
 use crate::words::NewWords;
@@ -14,6 +15,7 @@ use ld_book::Book;
 use ld_check::{CheckFault, MOST_WORKERS, NoGate, Verdict, check, report_in};
 use ld_device::{Output, Std, send};
 use ld_select::{SelectFault, new_report};
+use ld_texts::Places;
 use ld_trace::StreamFault;
 use std::alloc::{AllocError, Global};
 use std::io;
@@ -60,7 +62,15 @@ pub fn answer_new<'a, R: Files + io::Input + Print + AllocGlobal + Threads + Wai
     let streams = read_streams(rt, &words.given.files)?;
     let mut output = Std::new(io::writer(rt));
     let workers = words.given.workers;
-    match write_news(rt, rt.alloc(), &streams.bytes, &known, &mut output, workers) {
+    match write_news(
+        rt,
+        rt.alloc(),
+        &streams.bytes,
+        &streams.places,
+        &known,
+        &mut output,
+        workers,
+    ) {
         Ok(verdict) => Ok(verdict),
         Err(fault) => Err(Fault::of_news(words.known, fault)),
     }
@@ -77,6 +87,7 @@ fn write_news<O: Output, R: Threads + Wait + Sync>(
     rt: &R,
     alloc: Global,
     bytes: &[u8],
+    places: &Places<'_>,
     known: &[u8],
     output: &mut O,
     workers: usize,
@@ -85,12 +96,12 @@ fn write_news<O: Output, R: Threads + Wait + Sync>(
     requires workers { (1 ≤ workers) × (workers ≤ MOST_WORKERS) }
 
     ensures ok { IfOk result (λ verdict. (text : List ℕ)
-        × IsNewsOf (sources bytes.now) known.now text verdict
+        × IsNewsOf places.now (sources bytes.now) known.now text verdict
         × Appends (O.held output.old) (O.held output.new) text) }
     ensures flushed { OnOk result (O.is_flushed output.new ≡ true) }
     ensures write { (result ≡ Err NewsFault.Write) ↔ (O.write_failed output.new ≡ true) }
     ensures part { result ≡ Err NewsFault.Write → (text : List ℕ) × (verdict : Verdict)
-        × IsNewsOf (sources bytes.now) known.now text verdict
+        × IsNewsOf places.now (sources bytes.now) known.now text verdict
         × AppendsPart (O.held output.old) (O.held output.new) text }
     ensures nothing { IsErr result → result ≢ Err NewsFault.Write → output.new ≡ output.old }
 
@@ -102,15 +113,16 @@ fn write_news<O: Output, R: Threads + Wait + Sync>(
     ensures unknown { (line : ℕ) → result ≡ Err (NewsFault.UnknownLine line) →
         unknown_line known.now ≡ Some line }
 {
-    let news = news_of(rt, alloc, bytes, known, workers)?;
+    let news = news_of(rt, alloc, bytes, places, known, workers)?;
     match send(output, &news.text) {
         Ok(()) => Ok(news.verdict),
         Err(_) => Err(NewsFault::Write),
     }
 }
 
-/// What is new in a stream, whose traces that many workers read at once: its report without the lines
-/// of violations that a line of the known text says too. May wait.
+/// What is new in a stream, whose traces that many workers read at once and whose lines stand at these places: its
+/// report without the lines of violations that a line of the known text says too; and where the stream is of several
+/// files, comments that say where the lines stand that it names. May wait.
 ///
 /// # Errors
 ///
@@ -121,12 +133,13 @@ fn news_of<R: Threads + Wait + Sync>(
     rt: &R,
     alloc: Global,
     bytes: &[u8],
+    places: &Places<'_>,
     known: &[u8],
     workers: usize,
 ) -> Result<News, NewsFault>
     requires { (1 ≤ workers) × (workers ≤ MOST_WORKERS) }
     ensures news { IfOk result (λ news.
-        IsNewsOf (sources bytes.now) known.now news.text.items news.verdict) }
+        IsNewsOf places.now (sources bytes.now) known.now news.text.items news.verdict) }
     ensures stream { IfSome (stream_fault bytes.now) (λ fault.
         result ≡ Err (NewsFault.Stream fault)) }
     ensures sound { (fault : StreamFault) → result ≡ Err (NewsFault.Stream fault) →
@@ -137,14 +150,19 @@ fn news_of<R: Threads + Wait + Sync>(
     ensures unwritten { result ≢ Err NewsFault.Write }
 {
     let checked = check(rt, alloc, bytes, workers, &NoGate)?;
-    let news = news_in(alloc, &checked.book, known);
+    let news = news_in(alloc, &checked.book, places, known);
     drop(checked);
     news
 }
 
 /// What is new in the traces that a book lists.
-fn news_in(alloc: Global, book: &Book<'_>, known: &[u8]) -> Result<News, NewsFault>
-    ensures news { IfOk result (λ news. IsNewsOf book.now known.now news.text.items news.verdict) }
+fn news_in(
+    alloc: Global,
+    book: &Book<'_>,
+    places: &Places<'_>,
+    known: &[u8],
+) -> Result<News, NewsFault>
+    ensures news { IfOk result (λ news. IsNewsOf places.now book.now known.now news.text.items news.verdict) }
     ensures known { OnOk result (unknown_line known.now ≡ None) }
     ensures unknown { (line : ℕ) → result ≡ Err (NewsFault.UnknownLine line) →
         unknown_line known.now ≡ Some line }
@@ -154,10 +172,10 @@ fn news_in(alloc: Global, book: &Book<'_>, known: &[u8]) -> Result<News, NewsFau
     let report = report_in(alloc, book)?;
     let new = new_report(alloc, &report, known)?;
     let verdict = verdict_of_new(new.count, book.totals().refused);
-    Ok(News {
-        text: new.text,
-        verdict,
-    })
+    let mut text = new.text;
+    let remarks = remarks(alloc, places, &text)?;
+    write_comments(&mut text, &remarks)?;
+    Ok(News { text, verdict })
 }
 
 /// What it comes to that so many violations are new and so many traces are refused.

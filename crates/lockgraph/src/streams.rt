@@ -1,10 +1,13 @@
 //! Reads files, and puts the streams that they are one behind another, with where their lines stand.
 ghost use Rattle.std.specs.Prelude.{◌≡◌, ◌≢◌, ◌++◌, ◌∷◌, [], Err, IfOk, IfSome, None, OnErr, OnOk, true, false};
 ghost use Rattle.ld_trace.specs.Sources.{stream_fault};
-ghost use Rattle.lockgraph.specs.Streams.{ended, fault_of_file, fault_of_known, has_trace, is_ended, line_count};
+ghost use Rattle.ld_reduce.specs.Written.{ended};
+ghost use Rattle.lockgraph.specs.Streams.{fault_of_file, fault_of_known, has_trace, line_count};
 
 use crate::fault::Fault;
+use crate::lines::line_count;
 use ld_device::{ReadFault, Std, read_all};
+use ld_reduce::{append_ended, is_ended};
 use ld_select::unknown_line;
 use ld_texts::Places;
 use ld_trace::{LONGEST_STREAM, StreamFault, split};
@@ -104,7 +107,7 @@ pub fn read_streams<'a, R: Files + io::Input + AllocGlobal>(
     };
     for name in names {
         let bytes = read_file(rt, *name)?;
-        add(rt.alloc(), &mut streams, *name, &bytes)?;
+        add(rt.alloc(), &mut streams, *name, bytes)?;
     }
     Ok(streams)
 }
@@ -119,25 +122,25 @@ fn add<'a>(
     alloc: Global,
     streams: &mut Streams<'a>,
     name: &'a str,
-    bytes: &[u8],
+    bytes: Vec<u8>,
 ) -> Result<(), Fault<'a>>
     ensures added { OnOk result (streams.new.bytes.items
-        ≡ streams.old.bytes.items ++ ended bytes.now) }
+        ≡ streams.old.bytes.items ++ ended bytes.items) }
     ensures placed { OnOk result (streams.new.places ≡ streams.old.places
-        ++ record { name = name.entry.now; lines = line_count bytes.now } ∷ []) }
-    ensures sound { OnOk result (stream_fault bytes.now ≡ None) }
-    ensures fault { IfSome (stream_fault bytes.now) (λ fault.
+        ++ record { name = name.entry.now; lines = line_count bytes.items } ∷ []) }
+    ensures sound { OnOk result (stream_fault bytes.items ≡ None) }
+    ensures fault { IfSome (stream_fault bytes.items) (λ fault.
         result ≡ Err (fault_of_file name.entry fault)) }
-    ensures traces { OnOk result (has_trace bytes.now ≡ true) }
-    ensures no_trace { stream_fault bytes.now ≡ None → has_trace bytes.now ≡ false →
+    ensures traces { OnOk result (has_trace bytes.items ≡ true) }
+    ensures no_trace { stream_fault bytes.items ≡ None → has_trace bytes.items ≡ false →
         result ≢ Err Fault.Memory → result ≡ Err (Fault.NoTrace name.entry) }
-    ensures memory { stream_fault bytes.now ≡ None → has_trace bytes.now ≡ true →
+    ensures memory { stream_fault bytes.items ≡ None → has_trace bytes.items ≡ true →
         OnErr result (result ≡ Err Fault.Memory) }
 {
-    match has_trace(alloc, bytes) {
+    match has_trace(alloc, &bytes) {
         Ok(true) => {
+            streams.places.push(name, line_count(&bytes))?;
             append(&mut streams.bytes, bytes)?;
-            streams.places.push(name, line_count(bytes))?;
             Ok(())
         }
         Ok(false) => Err(Fault::NoTrace(name)),
@@ -160,33 +163,17 @@ fn has_trace(alloc: Global, bytes: &[u8]) -> Result<bool, StreamFault>
     Ok(!sources.is_empty())
 }
 
-/// Puts these bytes behind others, with an LF where their last line has none.
-fn append(all: &mut Vec<u8>, bytes: &[u8]) -> Result<(), AllocError>
-    ensures { OnOk result (all.new.items ≡ all.old.items ++ ended bytes.now) }
+/// Puts these bytes behind others, with an LF where their last line has none. Where there are no others, none
+/// of the bytes is copied.
+fn append(all: &mut Vec<u8>, bytes: Vec<u8>) -> Result<(), AllocError>
+    ensures { OnOk result (all.new.items ≡ all.old.items ++ ended bytes.items) }
 {
-    all.extend_from_slice(bytes)?;
-    if !is_ended(bytes) {
+    if !all.is_empty() {
+        return append_ended(all, &bytes);
+    }
+    *all = bytes;
+    if !is_ended(all) {
         all.push(b'\n')?;
     }
     Ok(())
-}
-
-/// Whether the last line has its LF, or there is no line.
-fn is_ended(bytes: &[u8]) -> bool
-    ensures { result ≡ is_ended bytes.now }
-{
-    bytes.is_empty() || bytes.ends_with(b"\n")
-}
-
-/// How many lines the bytes have, the last one with or without its LF.
-fn line_count(bytes: &[u8]) -> u64
-    ensures { result ≡ line_count bytes.now }
-{
-    let mut count = if is_ended(bytes) { 0 } else { 1 };
-    for byte in bytes {
-        if *byte == b'\n' {
-            count += 1;
-        }
-    }
-    count
 }

@@ -109,7 +109,7 @@ pub fn read_words<'a, S: AsStr>(alloc: Global, words: &'a [S]) -> Result<Asked<'
     }
 }
 
-/// What the words name that each command is given. `other` is a text that a command reads beside the streams.
+/// What the words name that each command is given. `others` are files that a command reads beside the streams.
 ///
 /// # Errors
 ///
@@ -118,11 +118,11 @@ fn read_given<'a>(
     alloc: Global,
     command: &mut Command<'a>,
     matches: &ArgMatches<'a>,
-    other: Option<&str>,
+    others: &[&str],
 ) -> Result<Given<'a>, Error> {
     let files = files(alloc, matches)?;
     // Behind its end it would be read as if it were empty.
-    if is_read_twice(other, &files) {
+    if is_read_twice(others, &files) {
         return Err(command.error(ErrorKind::ArgumentConflict, "standard input is named twice")?);
     }
     let workers = workers(matches);
@@ -130,9 +130,9 @@ fn read_given<'a>(
 }
 
 /// Whether standard input is read more than once.
-fn is_read_twice(other: Option<&str>, files: &[&str]) -> bool {
-    let count = files.iter().filter(|name| **name == STANDARD_INPUT).count();
-    count > 1 || other == Some(STANDARD_INPUT) && count > 0
+fn is_read_twice(others: &[&str], files: &[&str]) -> bool {
+    let named = others.iter().chain(files);
+    named.filter(|name| **name == STANDARD_INPUT).count() > 1
 }
 
 /// The names of the files that are to be read.

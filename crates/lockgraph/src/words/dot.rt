@@ -87,6 +87,6 @@ pub fn read_dot<'a>(
         None if matches.get_flag("all") => Drawn::All,
         None => Drawn::Violations,
     };
-    let given = read_given(alloc, command, matches, None)?;
+    let given = read_given(alloc, command, matches, &[])?;
     Ok(DotWords { drawn, given })
 }

@@ -1,6 +1,7 @@
 //! The words of `explain`.
 
 use super::{Given, count_of_workers, named_files, read_given};
+use clap::error::ErrorKind;
 use clap::{Arg, ArgAction, ArgMatches, Command, Error, value_parser};
 use ld_explain::{Choice, Kind};
 use std::alloc::{AllocError, Global};
@@ -19,6 +20,11 @@ the same handler, or outside any, each with the line of its acquisition. Of a co
 both ends follow: where a handler acquires the class, and which handlers its task was in; and where the class is
 held while handlers can interrupt, and since when they could.
 
+With --map, which may stand several times, the files have maps in turn, as the recorders write them: STREAM.places
+of a program, or what convert --map wrote of a kernel; an empty one, as /dev/null, says nothing. Below each line
+stands then the function and the source line, or the line of the recording; and below a class, where it is first
+named, what its locks are and where they are acquired most.
+
 Violations that share dependencies stand together, and the heading names the one that most of them have. What
 was told before is `above`. The last line says how many violations are explained, and how many are not.
 
@@ -26,18 +32,21 @@ Exit status, whatever is chosen: 1 where there is a violation, 3 where there is 
 else, 2 where there is no whole answer.
 
 Example:
-  lockgraph explain --class rx_lock --most 5 run.trace other.trace";
+  lockgraph explain --class rx_lock --most 5 run.trace other.trace
+  lockgraph explain --map run.trace.places run.trace";
 
 /// What `explain` is asked.
 #[derive(Debug, Drop)]
 pub struct ExplainWords<'a> {
     /// Which violations are explained.
     pub choice: Choice<'a>,
+    /// The names of the maps, of the files in turn: no more than there are files.
+    pub maps: Vec<&'a str>,
     /// The files with the streams, and how they are read.
     pub given: Given<'a>,
 }
 
-/// `explain [--only KIND] [--class NAME] [--most N] [--workers N] [FILE]..`.
+/// `explain [--only KIND] [--class NAME] [--most N] [--map FILE].. [--workers N] [FILE]..`.
 pub fn explain_command<'a>(alloc: Global) -> Result<Command<'a>, AllocError> {
     let only = Arg::new(alloc, "only")
         .long("only")
@@ -57,12 +66,18 @@ pub fn explain_command<'a>(alloc: Global) -> Result<Command<'a>, AllocError> {
         .action(ArgAction::Set)
         .default_value("20")
         .value_parser(value_parser!(u64));
+    let map = Arg::new(alloc, "map")
+        .long("map")
+        .value_name("MAP")
+        .help("The map that a recorder wrote beside a file, of the files in turn")
+        .action(ArgAction::Append);
     Command::new(alloc, "explain")
         .about("Says what stands behind each violation: who held what where")
         .after_help(AFTER_EXPLAIN)
         .arg(only)?
         .arg(class)?
         .arg(most)?
+        .arg(map)?
         .arg(count_of_workers(alloc))?
         .arg(named_files(alloc))
 }
@@ -82,8 +97,22 @@ pub fn read_explain<'a>(
         class: class_named(matches),
         most: matches.get_one::<u64>("most").unwrap_or(DEFAULT_MOST),
     };
-    let given = read_given(alloc, command, matches, None)?;
-    Ok(ExplainWords { choice, given })
+    let maps = match matches.get_strs("map") {
+        Some(names) => names.to_vec(alloc)?,
+        None => Vec::new(alloc),
+    };
+    let given = read_given(alloc, command, matches, &maps)?;
+    if maps.len() > given.files.len() {
+        return Err(command.error(
+            ErrorKind::ArgumentConflict,
+            "there are more maps than files",
+        )?);
+    }
+    Ok(ExplainWords {
+        choice,
+        maps,
+        given,
+    })
 }
 
 /// The bytes of the class that `--class` names, if it is there.

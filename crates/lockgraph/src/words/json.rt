@@ -42,6 +42,6 @@ pub fn read_json<'a>(
     command: &mut Command<'a>,
     matches: &ArgMatches<'a>,
 ) -> Result<JsonWords<'a>, Error> {
-    let given = read_given(alloc, command, matches, None)?;
+    let given = read_given(alloc, command, matches, &[])?;
     Ok(JsonWords { given })
 }

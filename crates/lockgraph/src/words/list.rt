@@ -62,7 +62,7 @@ pub fn read_list<'a>(
     matches: &ArgMatches<'a>,
 ) -> Result<ListWords<'a>, Error> {
     let listing = listing(matches);
-    let given = read_given(alloc, command, matches, None)?;
+    let given = read_given(alloc, command, matches, &[])?;
     Ok(ListWords { listing, given })
 }
 

@@ -8,8 +8,9 @@ use std::alloc::{AllocError, Global};
 /// What the help of `new` says behind its words.
 const AFTER_NEW: &str = "\
 Writes the report of the traces without the violations that KNOWN has, a report of before: those of the same
-kind, state and classes, whatever their witnesses and walks. The last line is `nothing new`, or `new N`.
-T:L counts lines over all files as one stream.
+kind, state and classes, whatever their witnesses and walks. Then stands `nothing new`, or `new N`.
+T:L counts lines over all files as one stream. Where several are named, comments end the text:
+`# line L is FILE:LINE`, one for each line that it names.
 
 A line of KNOWN makes known what it says, in one of these forms, where .. may be anything:
   recursion A at ..
@@ -63,6 +64,6 @@ pub fn read_new<'a>(
     let Some(known) = matches.get_str("known") else {
         return Err(command.error(ErrorKind::MissingRequiredArgument, "--known is missing")?);
     };
-    let given = read_given(alloc, command, matches, Some(known))?;
+    let given = read_given(alloc, command, matches, &[known])?;
     Ok(NewWords { known, given })
 }

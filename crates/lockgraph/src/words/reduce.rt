@@ -51,7 +51,7 @@ pub fn read_reduce<'a>(
     matches: &ArgMatches<'a>,
 ) -> Result<ReduceWords<'a>, Error> {
     let keep_refused = matches.get_flag("keep-refused");
-    let given = read_given(alloc, command, matches, None)?;
+    let given = read_given(alloc, command, matches, &[])?;
     Ok(ReduceWords {
         keep_refused,
         given,

@@ -40,6 +40,6 @@ pub fn read_stats<'a>(
     command: &mut Command<'a>,
     matches: &ArgMatches<'a>,
 ) -> Result<StatsWords<'a>, Error> {
-    let given = read_given(alloc, command, matches, None)?;
+    let given = read_given(alloc, command, matches, &[])?;
     Ok(StatsWords { given })
 }

@@ -7,5 +7,5 @@ use Rattle.lockgraph.proofs.news.news_of.Goals as goal
 pub returns-clause-news : goal.returns-clause-news
 returns-clause-news g c =
     IfOk-weaker c.news_in-news.result _ _
-    (λ news is. news-permuted (sources c.args.bytes.now) c.in_ok-checked.checked.book c.in_ok-checked.ensures.book c.args.known.now news.text.items news.verdict is)
+    (λ news is. news-permuted (sources c.args.bytes.now) c.in_ok-checked.checked.book c.in_ok-checked.ensures.book c.args.places.now c.args.known.now news.text.items news.verdict is)
     c.news_in-news.ensures.news

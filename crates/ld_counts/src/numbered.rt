@@ -1,7 +1,8 @@
 //! Finds the number of a class by its name.
 
 use crate::guesses::{Guesses, key_of};
-use ld_book::{ClassName, Classes};
+use ld_class::{ClassName, Classes};
+use ld_tables::is_at;
 use std::alloc::{AllocError, Global};
 
 /// Finds the numbers of classes by their names; of those that are met again and again mostly without a search
@@ -21,11 +22,16 @@ impl<'c, 'a> Numbered<'c, 'a> {
         Ok(Numbered { classes, guesses })
     }
 
+    /// The classes whose numbers are found.
+    pub(crate) fn classes(&self) -> &'c Classes<'a> {
+        self.classes
+    }
+
     /// The number of a class.
     pub(crate) fn find(&mut self, class: ClassName<'_>) -> Option<u32> {
         let key = key_of(class.name).wrapping_add((class.sub as u64) << 52);
         if let Ok(guess) = u32::try_from(self.guesses.of(key)) {
-            if self.classes.is_at(guess, class) {
+            if is_at(self.classes, guess, class) {
                 return Some(guess);
             }
         }

@@ -5,7 +5,7 @@
 //! one leaves: linear for some thousand classes, and in general not.
 
 use crate::components::{Components, Followers};
-use ld_book::{Book, Edge};
+use ld_graph::Edge;
 use std::alloc::{AllocError, Global};
 
 /// How many words the bits of a pass have.
@@ -19,7 +19,7 @@ type Bits = [u64; WORDS];
 
 /// For each class, by their numbers, how far walks of dependencies lead. A class on a cycle leads to itself.
 #[derive(Drop)]
-pub(crate) struct Walks {
+pub struct Walks {
     /// To how many classes walks lead from it.
     reaches: Vec<u64>,
     /// From how many classes walks lead to it.
@@ -36,9 +36,12 @@ struct Pass {
 }
 
 impl Walks {
-    /// Those of the classes of a book.
-    pub(crate) fn of(alloc: Global, book: &Book<'_>) -> Result<Walks, AllocError> {
-        let components = Components::of(alloc, book)?;
+    /// Those of the classes of these components.
+    ///
+    /// # Errors
+    ///
+    /// `AllocError` where memory was refused.
+    pub fn of(alloc: Global, components: Components) -> Result<Walks, AllocError> {
         let classes = components.of.len();
         let turned = turned(alloc, &components.edges)?;
         let followers = Followers::of(alloc, classes, components.edges)?;
@@ -54,12 +57,12 @@ impl Walks {
     }
 
     /// To how many classes walks lead from this one.
-    pub(crate) fn reaches(&self, class: u32) -> u64 {
+    pub fn reaches(&self, class: u32) -> u64 {
         self.reaches.get(class as usize).copied().unwrap_or(0)
     }
 
     /// From how many classes walks lead to this one.
-    pub(crate) fn reached_from(&self, class: u32) -> u64 {
+    pub fn reached_from(&self, class: u32) -> u64 {
         self.reached_from.get(class as usize).copied().unwrap_or(0)
     }
 }

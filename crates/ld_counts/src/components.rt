@@ -1,43 +1,45 @@
-//! The components of a book's dependencies: classes between any two of which walks lead both ways are in one.
+//! The components of some dependencies: classes between any two of which walks lead both ways are in one.
 
-use ld_book::{Book, Edge};
+use ld_graph::{Edge, Graph};
 use std::alloc::{AllocError, Global};
 
 /// The components of some classes, and the dependencies between them. A class of each component stands for it.
 #[derive(Drop)]
-pub(crate) struct Components {
+pub struct Components {
     /// For each class the one that stands for its component.
-    pub(crate) of: Vec<u32>,
+    pub of: Vec<u32>,
     /// The dependencies, between those that stand for the components of their classes.
-    pub(crate) edges: Vec<Edge>,
+    pub edges: Vec<Edge>,
 }
 
 /// The classes that directly follow each, by their numbers.
 #[derive(Drop)]
-pub(crate) struct Followers {
+pub struct Followers {
     /// Where those of a class begin.
     starts: Vec<usize>,
     classes: Vec<u32>,
 }
 
 impl Components {
-    /// Those of the classes of a book.
-    pub(crate) fn of(alloc: Global, book: &Book<'_>) -> Result<Components, AllocError> {
-        let of = book.graph().components(alloc)?;
-        let mut edges = Vec::with_capacity(alloc, book.dependencies().len())?;
-        for dependency in book.dependencies() {
-            let Edge { from, to } = dependency.edge;
-            edges.push(Edge {
-                from: standing(&of, from),
-                to: standing(&of, to),
-            })?;
+    /// Those of the classes of a graph, between which there are these dependencies.
+    ///
+    /// # Errors
+    ///
+    /// `AllocError` where memory was refused.
+    pub fn of(
+        alloc: Global,
+        graph: &Graph,
+        dependencies: Vec<Edge>,
+    ) -> Result<Components, AllocError> {
+        let of = graph.components(alloc)?;
+        let mut edges = dependencies;
+        for edge in edges.iter_mut() {
+            *edge = Edge {
+                from: standing(&of, edge.from),
+                to: standing(&of, edge.to),
+            };
         }
         Ok(Components { of, edges })
-    }
-
-    /// The class that stands for the component of this one.
-    pub(crate) fn of_class(&self, class: u32) -> u32 {
-        standing(&self.of, class)
     }
 }
 
@@ -48,11 +50,12 @@ fn standing(of: &[u32], class: u32) -> u32 {
 
 impl Followers {
     /// Those of so many classes, by these edges, each of which counts once.
-    pub(crate) fn of(
-        alloc: Global,
-        classes: usize,
-        mut edges: Vec<Edge>,
-    ) -> Result<Followers, AllocError> {
+    ///
+    /// # Errors
+    ///
+    /// `AllocError` where memory was refused.
+    pub fn of(alloc: Global, classes: usize, edges: Vec<Edge>) -> Result<Followers, AllocError> {
+        let mut edges = edges;
         edges.sort_unstable_by_key(|edge| (edge.from, edge.to));
         edges.dedup();
         let mut followers = Followers {
@@ -70,7 +73,7 @@ impl Followers {
     }
 
     /// Those of a class.
-    pub(crate) fn of_class(&self, class: u32) -> &[u32] {
+    pub fn of_class(&self, class: u32) -> &[u32] {
         let Some(start) = self.starts.get(class as usize) else {
             return &[];
         };

@@ -2,24 +2,27 @@
 ghost use Rattle.std.specs.Prelude.{◌≤◌};
 
 use crate::numbered::Numbered;
-use crate::told::{acquired_class, next_told};
-use ld_book::{Book, Classes};
+use crate::told::{class_of, next_other};
+use ld_class::Classes;
 use ld_rules::{Listed, Outcome};
-use ld_trace::Source;
+use ld_trace::{Event, Source, next_event};
 use std::alloc::{AllocError, Global};
 use std::thread;
 use std::thread::Threads;
 
-/// How often the traces of a book that are read acquire each class, by the numbers of the classes. That many
+/// How often those of these traces that are read acquire each class, by the numbers of the classes. That many
 /// threads read them at once.
-pub(crate) fn acquisitions<R: Threads + Sync>(
+///
+/// # Errors
+///
+/// `AllocError` where memory was refused.
+pub fn acquisitions<R: Threads + Sync>(
     rt: &R,
     alloc: Global,
-    book: &Book<'_>,
+    classes: &Classes<'_>,
+    listed: &[Listed<'_>],
     threads: usize,
 ) -> Result<Vec<u64>, AllocError> {
-    let classes = book.classes();
-    let listed = book.listed();
     let parts = thread::map_chunks(
         rt,
         alloc,
@@ -65,23 +68,31 @@ fn count(counts: &mut [u64], numbered: &mut Numbered<'_, '_>, source: Source<'_>
     let mut left = source.bytes;
     // Each line has a byte.
     for _ in 0..source.bytes.len() {
-        let Some((event, rest)) = next_told(left) else {
+        if let Some((event, rest)) = next_event(left) {
+            count_event(counts, numbered, &event);
+            left = rest;
+        } else if let Some((event, rest)) = next_other(left) {
+            if let Some(event) = event {
+                count_event(counts, numbered, &event);
+            }
+            left = rest;
+        } else {
             return;
-        };
-        if let Some(class) = event.and_then(acquired_class) {
-            raise(counts, numbered.find(class));
         }
-        left = rest;
     }
 }
 
-/// Counts one more of this number, if there is one.
-fn raise(counts: &mut [u64], number: Option<u32>) {
-    let Some(number) = number else {
-        return;
+/// Counts the acquisition that an event is, if it is one.
+fn count_event(counts: &mut [u64], numbered: &mut Numbered<'_, '_>, event: &Event<'_>) {
+    let class = match *event {
+        Event::Acquire { lock, .. } | Event::Try { lock, .. } => class_of(lock, 0),
+        Event::Nested { lock, sub, .. } => class_of(lock, sub),
+        _ => return,
     };
-    if let Some(count) = counts.get_mut(number as usize) {
-        *count = count.saturating_add(1);
+    if let Some(number) = numbered.find(class) {
+        if let Some(count) = counts.get_mut(number as usize) {
+            *count = count.saturating_add(1);
+        }
     }
 }
 

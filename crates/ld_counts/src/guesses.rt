@@ -3,7 +3,7 @@
 use std::alloc::{AllocError, Global};
 
 /// How many guesses there are.
-const GUESSES: usize = 1 << 12;
+const GUESSES: usize = 1 << 14;
 
 /// An odd number by which bits are spread.
 const SPREAD: u64 = 0x9e37_79b9_7f4a_7c15;
@@ -37,7 +37,7 @@ impl Guesses {
 
 /// The place of a key.
 fn slot(key: u64) -> usize {
-    (key / (1 << 52)) as usize
+    (key / (1 << 50)) as usize
 }
 
 /// A key of which each bit is touched by those of both numbers.

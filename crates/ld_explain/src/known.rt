@@ -1,0 +1,81 @@
+//! Writes what recorders say of lines and classes. Each call answers `AllocError` where memory for it was refused.
+
+use ld_maps::{At, Maps, Origin, write_plain};
+use std::alloc::AllocError;
+use std::io::Write;
+
+/// What is known of a line of a file, on a line of its own, if something is.
+pub fn write_known_line(
+    out: &mut Vec<u8>,
+    maps: &Maps<'_>,
+    file: &str,
+    line: u64,
+) -> Result<(), AllocError> {
+    let Some(at) = maps.line(file, line) else {
+        return Ok(());
+    };
+    out.extend_from_slice(b"      ")?;
+    write_known(out, at)?;
+    out.push(b'\n')?;
+    Ok(())
+}
+
+/// What is known of a class, on lines of their own, if something is.
+pub fn write_known_class(
+    out: &mut Vec<u8>,
+    maps: &Maps<'_>,
+    class: &[u8],
+) -> Result<(), AllocError> {
+    if let Some(origin) = maps.origin(class) {
+        out.extend_from_slice(b"    ")?;
+        out.extend_from_slice(class)?;
+        write_origin(out, origin)?;
+        out.push(b'\n')?;
+    }
+    if let Some(taken) = maps.taken(class) {
+        out.extend_from_slice(b"    ")?;
+        out.extend_from_slice(class)?;
+        out.extend_from_slice(b" is acquired most ")?;
+        write_known(out, taken.at)?;
+        match taken.count {
+            1 => out.extend_from_slice(b", once\n")?,
+            count => writeln!(out, ", {count} times").map_err(|_| AllocError)?,
+        }
+    }
+    Ok(())
+}
+
+/// What the locks of a class are.
+fn write_origin(out: &mut Vec<u8>, origin: Origin<'_>) -> Result<(), AllocError> {
+    match origin {
+        Origin::Variable { name, file } => {
+            out.extend_from_slice(b" is the variable ")?;
+            write_plain(out, name)?;
+            out.extend_from_slice(b" of ")?;
+            write_plain(out, file)
+        }
+        Origin::Initialised(at) => {
+            out.extend_from_slice(b" is initialised ")?;
+            write_known(out, at)
+        }
+        Origin::FirstLocked(at) => {
+            out.extend_from_slice(b" is first locked ")?;
+            write_known(out, at)
+        }
+    }
+}
+
+/// Where in the source something is, or on which line of a recording.
+fn write_known(out: &mut Vec<u8>, at: At<'_>) -> Result<(), AllocError> {
+    match at {
+        At::Place { function, source } => {
+            out.extend_from_slice(b"in ")?;
+            write_plain(out, function)?;
+            out.extend_from_slice(b" at ")?;
+            write_plain(out, source)
+        }
+        At::Recorded(line) => {
+            write!(out, "from line {line} of the recording").map_err(|_| AllocError)
+        }
+    }
+}

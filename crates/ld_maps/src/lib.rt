@@ -1,0 +1,13 @@
+//! The maps that recorders write beside a stream, and what they say of its lines and of its classes.
+#![tactic(auto)]
+
+mod classes;
+mod map;
+mod maps;
+mod plain;
+mod words;
+
+pub use classes::Origin;
+pub use map::{At, Map, MapFault, Taken};
+pub use maps::Maps;
+pub use plain::write_plain;
