@@ -1,13 +1,6 @@
--- The LFs of the vectors so far are counted.
-use Rattle.std.proofs.Common.{◌≡◌, ◌≤◌, ◌-◌, count_by, length, take}
+use Rattle.std.proofs.Common.{◌≡◌, count_by, take}
 use Rattle.lockgraph.specs.Streams.{is_lf}
 use Rattle.lockgraph.proofs.lines.line_end_count.Given as goal
 
-abbrev pub invariant-loop-len : goal.invariant-loop-len
-invariant-loop-len l = record {
-  within : l.len ≤ length l.bytes;
-  count : l.count ≡ count_by is_lf (take l.len l.bytes);
-}
-
-abbrev pub decreases-loop-len : goal.decreases-loop-len
-decreases-loop-len l = length l.bytes - l.len
+abbrev pub invariant-loop-byte : goal.invariant-loop-byte
+invariant-loop-byte l = l.count ≡ count_by is_lf (take l.byte-index l.bytes)
