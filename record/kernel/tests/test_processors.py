@@ -37,7 +37,8 @@ def file(name, folder='processors'):
 
 def chained(text, names):
     """Of a text of /proc/lockdep_chains, the pairs of classes that are held together."""
-    chains = [[names.get(int(key, 16)) for key in re.findall(r'^\[(\w+)\]', chain, re.M)] for chain in text.split('\n\n')]
+    chains = [[names.get(int(key, 16)) for key in re.findall(r'^\[(\w+)\]', chain, re.M)]
+              for chain in text.split('\n\n')]
     return {pair for chain in chains for pair in itertools.combinations(chain, 2)}
 
 
