@@ -105,7 +105,7 @@ static struct lockdep_map *ordered_under(struct lockdep_map *lock, unsigned int 
 	const struct lock_class *class = subclass ? NULL : READ_ONCE(lock->class_cache[0]);
 	int i;
 
-	if (!class || !class->cmp_fn)
+	if (!class || !class->cmp_fn || READ_ONCE(class->key) != (const void *)lock->key)
 		return NULL;
 	for (i = 0; i < current->lockdep_depth; i++) {
 		struct lockdep_map *held = current->held_locks[i].instance;
