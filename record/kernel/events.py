@@ -3,38 +3,41 @@ import re
 from collections import Counter
 
 from classes import SPECIAL_OF_TASK, LockClass, apart, escape, fitted
-from stream import Held, Task, forget
+from stream import Held, TakenBack, Task, forget
 from text import COLUMNS_INSIDE, EVENT, NMI, Contexts, Damaged, Header, fault, quote
 
 MOST_PLACES = 500000  # remembered at once
+STOPPED = '255'       # in place of a number of locks, where lockdep has stopped
 ADDRESS = re.compile(r'[0-9a-f]{8}(?:[0-9a-f]{8})?').fullmatch
 CALLER = re.compile(r'caller=\S+(?: \[\S+\])? parent=\S+(?: \[\S+\])?\n').fullmatch
 MODULE_SITE = re.compile(r'k=([0-9a-f]+) s=(\d+) t=([01]) r=([0-2]) c=([01]) n=([0-9a-f]+) '
-                         r'i=\S+(?: \[[^\s\]]+\])? (.+)\n').fullmatch
+                         r'(?:h=(\d+) )?i=\S+(?: \[[^\s\]]+\])? (.+)\n').fullmatch
 STOCK_SITE = re.compile(r'(try )?(read )?(.+)\n').fullmatch
 STEP = re.compile(r' *cpu: (\d+) +(?:target|state): +-?\d+ step: +(\d+) (?:\((\S+)\)|ret: (-?\d+))\n').fullmatch
 
 
 class Site:
     """What acquisitions with the same text after the lock's address have in common."""
-    __slots__ = ('verb', 'left_out', 'lock_class', 'subclass', 'text', 'nest')
+    __slots__ = ('verb', 'left_out', 'lock_class', 'subclass', 'text', 'nest', 'before')
 
-    def __init__(self, text, trylock, left_out, subclass=0, nest=None):
+    def __init__(self, text, trylock, left_out, subclass=0, nest=None, before=None):
         self.verb = 'try' if trylock else 'acquire'
         self.left_out = left_out  # None, or why the stream doesn't have it
         self.text = text          # the lock's name in the event
         self.subclass = subclass
         self.nest = nest          # the address of a lock under which many of a class may be held
+        self.before = before      # how many locks lockdep has of the task before this one; None: not told
         self.lock_class = None    # None where the class is the lock's own address
 
 
 class Events:
     """Takes the lines of a recording, and gives what they say to a stream."""
 
-    def __init__(self, stream, classes, split):
+    def __init__(self, stream, classes, split, unchecked):
         self.stream = stream
         self.classes = classes
         self.split = split      # recursions of a class into classes of their own
+        self.unchecked = unchecked  # names of locks that the kernel's own events don't tell to be so
         self.levels = {}        # such a class to the class that it was split from, and its level
         self.header = Header()
         self.contexts = Contexts()
@@ -154,6 +157,8 @@ class Events:
     def module_acquire(self, task, context, rest):
         address, _, tail = rest.partition(' ')
         site = self.sites.get(tail) or self.module_site(tail)
+        if task.held and not context.kinds:
+            self.judge_last(task, context, site.before)
         if site.left_out:
             self.leave_out(task, context, address, site.left_out)
             return
@@ -164,15 +169,31 @@ class Events:
         verb = site.verb
         if site.nest and is_nested(task, site.nest, lock_class):
             verb = 'try'
-        self.keep(task, context, verb, address, lock_class)
+        # Many of a class under the lock that orders them are one of lockdep's.
+        self.keep(task, context, verb, address, lock_class, None if site.nest else site.before)
+
+    def judge_last(self, task, context, before):
+        """Whether lockdep has the task's last lock, by how many it has before the task acquires another.
+
+        An event tells of an acquisition right before lockdep takes it up. A task that is preempted in
+        between acquires the scheduler's locks without holding that one.
+        """
+        last = task.held[-1]
+        if isinstance(last, TakenBack):
+            if before != last.before:
+                self.stream.give_again(task, context)
+        elif before is not None and before == last.before and last.depth == 1:
+            self.stream.take_back(task, context)
+            self.counts['taken back'] += 1
 
     def module_site(self, tail):
         match = MODULE_SITE(tail)
         if match is None or COLUMNS_INSIDE(tail):
             raise Damaged(f'not what the module writes of an acquisition: {quote(tail)}')
-        key, subclass, trylock, read, check, nest, text = match.groups()
+        key, subclass, trylock, read, check, nest, before, text = match.groups()
         left_out = 'readers' if read != '0' else 'unchecked' if check == '0' else None
-        site = Site(text, trylock == '1', left_out, int(subclass), nest if int(nest, 16) else None)
+        site = Site(text, trylock == '1', left_out, int(subclass), nest if int(nest, 16) else None,
+                    None if before in (None, STOPPED) else int(before))
         if not left_out and int(key, 16):
             site.lock_class = self.classes.find(int(key, 16), site.subclass, text)
         self.sites[tail] = site
@@ -196,7 +217,8 @@ class Events:
         if match is None or COLUMNS_INSIDE(tail):
             raise Damaged(f'not what lock_acquire writes: {quote(tail)}')
         trylock, read, text = match.groups()
-        site = self.sites[tail] = Site(text, trylock, 'readers' if read else None)
+        left_out = 'readers' if read else 'unchecked' if text in self.unchecked else None
+        site = self.sites[tail] = Site(text, trylock, left_out)
         site.lock_class = LockClass(fitted(escape(text)), 0)
         self.kinds.add('stock')
         return site
@@ -220,12 +242,13 @@ class Events:
         self.levels[split] = lock_class, level
         return split
 
-    def keep(self, task, context, verb, address, lock_class):
+    def keep(self, task, context, verb, address, lock_class, before=None):
         instance = self.instances.get(address) or self.instance(address)
         if lock_class.subclass and verb == 'try':  # `nested` is for what a task waits for
             lock_class = apart(lock_class)
             self.counts['tried subclasses'] += 1
-        self.stream.acquire(task, verb, Held(address, f'{lock_class.name}@{instance}', lock_class), context)
+        held = Held(address, f'{lock_class.name}@{instance}', lock_class, before)
+        self.stream.acquire(task, verb, held, context)
 
     def leave_out(self, task, context, address, why):
         """Remembers a lock that the stream doesn't have, so that its release is left out too."""
@@ -247,11 +270,13 @@ class Events:
         else:
             self.unseen(task, context, address)
             return
+        if held is not task.held[-1]:
+            lower(task.held, held)
         if held.name is not None:
             self.stream.release(task, held, context)
             return
         forget(task.held, held)
-        self.counts['released of these'] += 1
+        self.counts['released of these'] += not isinstance(held, TakenBack)
         if task.kept:
             self.stream.observe(task, context)
 
@@ -269,6 +294,8 @@ class Events:
             self.instance(address)
         if task.kept:
             self.stream.observe(task, context)
+        for held in task.held:
+            held.before = None  # was that lock below it?
         self.counts['unseen'] += 1
 
     def irq_enable(self, task, context, rest):
@@ -316,6 +343,13 @@ class Events:
             else:
                 self.counts['taken away'] += 1
                 self.stream.release(task, held, task.context)
+
+
+def lower(locks, released):
+    """Of the locks that are held above one that is released, lockdep has one less before each."""
+    for held in locks[locks.index(released) + 1:]:
+        if held.before is not None:
+            held.before -= 1
 
 
 def is_nested(task, nest, lock_class):

@@ -26,13 +26,23 @@ class Frame:
 
 class Held:
     """A lock that is held; one without a name is left out of the stream, its release too."""
-    __slots__ = ('address', 'name', 'lock_class', 'depth')
+    __slots__ = ('address', 'name', 'lock_class', 'depth', 'before', 'verb')
 
-    def __init__(self, address, name=None, lock_class=None):
+    def __init__(self, address, name=None, lock_class=None, before=None):
         self.address = address
         self.name = name
         self.lock_class = lock_class
         self.depth = 0  # of the frame that acquired it: 1 outside handlers
+        self.before = before  # how many locks lockdep has of the task before it; None where that isn't known
+
+
+class TakenBack(Held):
+    """Stands where a lock stood that lockdep hasn't taken up yet."""
+    __slots__ = ('lock',)
+
+    def __init__(self, lock):
+        super().__init__(lock.address, before=lock.before)
+        self.lock = lock
 
 
 class Task:
@@ -107,6 +117,7 @@ class Stream:
         if task.context is not context:
             self.settle(task, context)
         held.depth = len(task.frames)
+        held.verb = verb
         task.held.append(held)
         task.kept += 1
         self.write(task, verb, held)
@@ -131,6 +142,17 @@ class Stream:
             task.kept -= 1
             self.lines.append(f'release {task.name} {held.name}\n')
         forget(task.held, held)
+
+    def take_back(self, task, context):
+        """Writes the task's last lock as released, since it isn't held yet."""
+        last = task.held[-1]
+        self.release(task, last, context)
+        task.held.append(TakenBack(last))
+
+    def give_again(self, task, context):
+        """Writes that the task acquires the lock that was taken back last."""
+        lock = task.held.pop().lock
+        self.acquire(task, lock.verb, lock, context)
 
     def observe(self, task, context):
         """Writes how handlers and flags have changed up to this event of a task that holds locks."""

@@ -94,6 +94,32 @@ static bool is_passed_over(const struct lockdep_map *lock)
 	return this_cpu_read(lockdep_recursion) || current->lockdep_recursion;
 }
 
+/*
+ * Where a class has a function that orders its locks (lock_set_cmp_fn, from 6.5 on), a lock of it that the
+ * task holds, if that function has all that it holds before this one. Then lockdep passes over their order.
+ */
+static struct lockdep_map *ordered_under(struct lockdep_map *lock, unsigned int subclass)
+{
+	struct lockdep_map *last = NULL;
+#if defined(CONFIG_PROVE_LOCKING) && defined(lock_set_cmp_fn)
+	const struct lock_class *class = subclass ? NULL : READ_ONCE(lock->class_cache[0]);
+	int i;
+
+	if (!class || !class->cmp_fn || READ_ONCE(class->key) != (const void *)lock->key)
+		return NULL;
+	for (i = 0; i < current->lockdep_depth; i++) {
+		struct lockdep_map *held = current->held_locks[i].instance;
+
+		if (held->key != lock->key)
+			continue;
+		if (class->cmp_fn(held, lock) >= 0)
+			return NULL;
+		last = held;
+	}
+#endif
+	return last;
+}
+
 static void on_acquire(void *data, struct lockdep_map *lock, unsigned int subclass, int trylock,
 		       int read, int check, struct lockdep_map *nest, unsigned long caller)
 {
@@ -102,7 +128,8 @@ static void on_acquire(void *data, struct lockdep_map *lock, unsigned int subcla
 	/* Locks of the class that isn't validated are kept by lockdep, but get no dependency. */
 	if (lock->key == &__lockdep_no_validate__ || is_passed_over(lock))
 		check = 0;
-	trace_acquire(lock, class_key(lock, subclass), subclass, trylock, read, check, nest, caller);
+	trace_acquire(lock, class_key(lock, subclass), subclass, trylock, read, check,
+		      nest ?: ordered_under(lock, subclass), caller);
 }
 
 static void on_release(void *data, struct lockdep_map *lock, unsigned long caller)

@@ -6,11 +6,15 @@
 #define LOCKCHECK_EVENTS_H
 
 #include <linux/lockdep.h>
+#include <linux/sched.h>
 #include <linux/string.h>
 #include <linux/tracepoint.h>
 
 /*
- * The name is copied here and not by __assign_str(), whose arguments are others from 6.10 on.
+ * `how` is 1 for a trylock, and 2 where lockdep checks. `held` is how many locks lockdep has of the task
+ * before this one, since it takes a lock up after the event, and the task may be preempted before that;
+ * or 255 where lockdep has stopped. The name is copied here and not by __assign_str(), whose arguments
+ * are others from 6.10 on.
  */
 TRACE_EVENT(acquire,
 
@@ -25,9 +29,9 @@ TRACE_EVENT(acquire,
 		__field(const void *, nest)
 		__field(const void *, caller)
 		__field(u8, subclass)
-		__field(u8, trylock)
+		__field(u8, how)
 		__field(u8, read)
-		__field(u8, check)
+		__field(u8, held)
 		__string(name, lock->name ? lock->name : "NULL")
 	),
 
@@ -37,17 +41,17 @@ TRACE_EVENT(acquire,
 		__entry->nest = nest;
 		__entry->caller = (void *)caller;
 		__entry->subclass = subclass;
-		__entry->trylock = !!trylock;
+		__entry->how = (trylock ? 1 : 0) | (check ? 2 : 0);
 		__entry->read = read;
-		__entry->check = !!check;
+		__entry->held = debug_locks ? current->lockdep_depth : 255;
 		strscpy(__get_str(name), lock->name ? lock->name : "NULL",
 			__get_dynamic_array_len(name));
 	),
 
-	TP_printk("%p k=%p s=%u t=%u r=%u c=%u n=%p i=%pS %s",
-		  __entry->lock, __entry->key, __entry->subclass, __entry->trylock,
-		  __entry->read, __entry->check, __entry->nest, __entry->caller,
-		  __get_str(name))
+	TP_printk("%p k=%p s=%u t=%u r=%u c=%u n=%p h=%u i=%pS %s",
+		  __entry->lock, __entry->key, __entry->subclass, __entry->how & 1,
+		  __entry->read, __entry->how >> 1, __entry->nest, __entry->held,
+		  __entry->caller, __get_str(name))
 );
 
 TRACE_EVENT(release,

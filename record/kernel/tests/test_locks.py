@@ -64,6 +64,104 @@ class Nested(unittest.TestCase):
         self.assertEqual(self.outcome(acquire('n', N), acquire('a', A), release(N)), 'acquire t-1 a@2000')
 
 
+class Unchecked(unittest.TestCase):
+    """The kernel's own events don't tell which locks lockdep doesn't check: a name of them is an option."""
+
+    def test_locks_of_the_names_are_left_out(self):
+        result = run(
+            stock('acquire', A, '&dev->mutex') + stock('acquire', B, 'b') + stock('acquire', C, 'c')
+            + stock('release', B, 'b') + stock('release', A, '&dev->mutex') + stock('release', C, 'c'),
+            '--unchecked', '&dev->mutex', '--unchecked', 'c')
+        self.assertEqual(result.stream[1:], ['acquire t-1 b@2000', 'release t-1 b@2000'])
+        self.assertIn('0 acquisitions by readers, 2 unchecked, and 2 releases of these', result.errors)
+
+    def test_the_events_of_the_module_tell_it_themselves(self):
+        result = run(acquire('a', A), '--unchecked', 'a')
+        self.assertEqual(result.stream[1:], ['acquire t-1 a@1000'])
+        self.assertIn('--unchecked has no effect', result.errors)
+
+
+class TakenUp(unittest.TestCase):
+    """An event tells of an acquisition before lockdep takes it up; `before` says how many locks lockdep has."""
+
+    def test_a_lock_that_lockdep_has_is_held(self):
+        self.assertEqual(
+            stream(acquire('a', A, before=0), acquire('b', B, before=1), acquire('c', C, before=2)),
+            ['acquire t-1 a@1000', 'acquire t-1 b@2000', 'acquire t-1 c@3000'])
+
+    def test_a_task_that_is_preempted_does_not_hold_the_lock_until_lockdep_has_it(self):
+        # The scheduler's own lock b, with c under it, and b again; then the task goes on, and holds a under d.
+        result = run(
+            acquire('n', N, before=0) + acquire('a', A, before=1) + acquire('b', B, before=1)
+            + acquire('c', C, before=2) + release(C) + release(B) + acquire('b', B, before=1) + release(B)
+            + acquire('c', C, before=2))
+        self.assertEqual(result.stream[1:], [
+            'acquire t-1 n@4000', 'acquire t-1 a@1000', 'release t-1 a@1000', 'acquire t-1 b@2000',
+            'acquire t-1 c@3000', 'release t-1 c@3000', 'release t-1 b@2000', 'acquire t-1 b@2000',
+            'release t-1 b@2000', 'acquire t-1 a@1000', 'acquire t-1 c@3000'])
+        self.assertIn('1 locks were acquired for lockdep only after their task had been preempted', result.errors)
+
+    def test_it_is_acquired_as_it_was(self):
+        for words, written in (({'trylock': 1}, 'try t-1 a@1000'), ({'subclass': 2}, 'nested t-1 a@1000 2')):
+            with self.subTest(written=written):
+                self.assertEqual(
+                    stream(acquire('a', A, before=0, **words), acquire('b', B, before=0), release(B),
+                           acquire('b', B, before=1)),
+                    [written, 'release t-1 a@1000', 'acquire t-1 b@2000', 'release t-1 b@2000', written,
+                     'acquire t-1 b@2000'])
+
+    def test_it_is_released_without_another_acquisition(self):
+        result = run(acquire('a', A, before=0) + acquire('b', B, before=0) + release(B) + release(A)
+                     + acquire('c', C, before=0))
+        self.assertEqual(result.stream[1:], [
+            'acquire t-1 a@1000', 'release t-1 a@1000', 'acquire t-1 b@2000', 'release t-1 b@2000',
+            'acquire t-1 c@3000'])
+        self.assertIn('and 0 releases of these', result.errors)
+
+    def test_a_handler_in_between_is_of_no_account(self):
+        inside = {'columns': 'd.h..'}
+        self.assertEqual(
+            stream(acquire('a', A, before=0), acquire('b', B, before=0, **inside), release(B, **inside),
+                   acquire('c', C, before=1)),
+            ['acquire t-1 a@1000', 'enter t-1 hard', 'acquire t-1 b@2000', 'release t-1 b@2000', 'exit t-1 hard',
+             'acquire t-1 c@3000'])
+
+    def test_a_lock_that_a_handler_left_held_stays_released(self):
+        self.assertEqual(
+            stream(acquire('a', A, before=0, columns='d.h..'), acquire('b', B, before=0), release(B),
+                   acquire('c', C, before=1)),
+            ['enter t-1 hard', 'acquire t-1 a@1000', 'release t-1 a@1000', 'exit t-1 hard', 'acquire t-1 b@2000',
+             'release t-1 b@2000', 'acquire t-1 c@3000'])
+
+    def test_a_lock_below_it_that_was_released_first(self):
+        held = ['acquire t-1 a@1000', 'acquire t-1 b@2000', 'release t-1 a@1000', 'acquire t-1 c@3000']
+        self.assertEqual(
+            stream(acquire('a', A, before=0), acquire('b', B, before=1), release(A), acquire('c', C, before=1)), held)
+        self.assertEqual(
+            stream(acquire('a', A, before=0), acquire('b', B, before=1), release(A), acquire('c', C, before=0)),
+            [*held[:3], 'release t-1 b@2000', held[3]])
+
+    def test_a_lock_from_before_the_recording_that_is_released(self):
+        self.assertEqual(
+            stream(acquire('a', A, before=1), release(B), acquire('c', C, before=1)),
+            ['acquire t-1 a@1000', 'acquire t-1 c@3000'])
+
+    def test_locks_of_a_class_under_the_one_that_orders_them_are_one_of_lockdep(self):
+        self.assertEqual(
+            stream(acquire('n', N, before=0), acquire('a', A, before=1, nest=N), acquire('a', B, before=2, nest=N),
+                   acquire('c', C, before=2)),
+            ['acquire t-1 n@4000', 'acquire t-1 a@1000', 'try t-1 a@2000', 'acquire t-1 c@3000'])
+
+    def test_where_lockdep_has_stopped_it_tells_nothing(self):
+        self.assertEqual(stream(acquire('a', A, before=255), acquire('b', B, before=255)),
+                         ['acquire t-1 a@1000', 'acquire t-1 b@2000'])
+        # It is held again as soon as nothing is known of it.
+        self.assertEqual(
+            stream(acquire('a', A, before=0), acquire('b', B, before=0), release(B), acquire('c', C, before=255)),
+            ['acquire t-1 a@1000', 'release t-1 a@1000', 'acquire t-1 b@2000', 'release t-1 b@2000',
+             'acquire t-1 a@1000', 'acquire t-1 c@3000'])
+
+
 class Releases(unittest.TestCase):
 
     def test_closes_the_latest_acquisition_of_the_address(self):

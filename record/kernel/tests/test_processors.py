@@ -30,9 +30,22 @@ BEFORE = {('event_mutex', '&rq->__lock'), *(('&child->perf_event_mutex', name) f
     '&rq->__lock', '&cfs_rq->removed.lock', 'pgd_lock', 'slob_lock'))}
 
 
-def file(name):
-    with lzma.open(os.path.join(FOLDER, 'tests', 'processors', name + '.xz')) as packed:
+def file(name, folder='processors'):
+    with lzma.open(os.path.join(FOLDER, 'tests', folder, name + '.xz')) as packed:
         return packed.read().decode('latin-1')
+
+
+def chained(text, names):
+    """Of a text of /proc/lockdep_chains, the pairs of classes that are held together."""
+    chains = [[names.get(int(key, 16)) for key in re.findall(r'^\[(\w+)\]', chain, re.M)]
+              for chain in text.split('\n\n')]
+    return {pair for chain in chains for pair in itertools.combinations(chain, 2)}
+
+
+def names_of(text):
+    """Of a text of /proc/lockdep: key to name, that of a subclass as lockdep prints it."""
+    return {key: '/'.join([name, str(subclass)]) if subclass else name
+            for key, (name, subclass) in lockdep_classes(text.splitlines(True)).items()}
 
 
 def of_readers(text, names):
@@ -90,8 +103,7 @@ class Processors(unittest.TestCase):
         with file_with(after) as name:
             cls.converted = run(cls.text, '--lockdep', name)
         cls.shown = Shown(cls.converted.stream)
-        cls.names = {key: '/'.join([name, str(subclass)]) if subclass else name
-                     for key, (name, subclass) in lockdep_classes(after.splitlines(True)).items()}
+        cls.names = names_of(after)
         cls.before, cls.after = lockdep(file('before').splitlines(True)), lockdep(after.splitlines(True))
 
     def test_four_processors(self):
@@ -102,10 +114,7 @@ class Processors(unittest.TestCase):
         self.assertIn('1 locks were held where their processor was taken away', self.converted.errors)
 
     def test_every_dependency_is_one_of_lockdep(self):
-        chains = [[self.names.get(int(key, 16)) for key in re.findall(r'^\[(\w+)\]', chain, re.M)]
-                  for chain in file('chains').split('\n\n')]
-        chained = {pair for chain in chains for pair in itertools.combinations(chain, 2)}
-        self.assertEqual(self.shown.dependencies - self.after[0] - chained, set())
+        self.assertEqual(self.shown.dependencies - self.after[0] - chained(file('chains'), self.names), set())
 
     def test_every_dependency_that_lockdep_learned_is_in_the_stream_or_explained(self):
         missing = self.after[0] - self.before[0] - self.shown.dependencies - of_readers(self.text, self.names)

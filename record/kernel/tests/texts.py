@@ -36,11 +36,14 @@ def line(what, task='t-1', columns='.....', cpu=0, time=1.0):
     return '%16s-%-7s [%03d] %s %12.6f: %s\n' % (comm, pid, cpu, columns, time, what)
 
 
-def acquire(name, lock, key=None, subclass=0, trylock=0, read=0, check=1, nest=0, **where):
-    """An acquisition as the module writes it. Without a key the class is named by the name alone."""
+def acquire(name, lock, key=None, subclass=0, trylock=0, read=0, check=1, nest=0, before=None, **where):
+    """An acquisition as the module writes it. Without a key the class is named by the name alone.
+
+    `before` is how many locks lockdep has; without it the line is one of a module that didn't tell that yet.
+    """
     key = 0x9000 + 0x100 * sum(name.encode()) if key is None else key
-    return line('acquire: %016x k=%016x s=%d t=%d r=%d c=%d n=%016x i=caller+0x1/0x2 %s' % (
-        lock, key, subclass, trylock, read, check, nest, name), **where)
+    return line('acquire: %016x k=%016x s=%d t=%d r=%d c=%d n=%016x %si=caller+0x1/0x2 %s' % (
+        lock, key, subclass, trylock, read, check, nest, '' if before is None else 'h=%d ' % before, name), **where)
 
 
 def release(lock, **where):
