@@ -154,14 +154,15 @@ impl Dependencies {
                 Some(pair) => *pair,
                 None => 0,
             };
-            let number = self.note(edge, seen.witness, guesses.pair(pair));
-            guesses.keep_pair(pair, number);
+            self.note(edge, seen.witness, pair, guesses);
         }
     }
 
-    /// Notes that the dependency was seen there, unless it was seen earlier, and answers its number. It may
-    /// be at the place that is guessed.
-    fn note(&mut self, edge: Edge, witness: Witness, guess: usize) -> usize
+    /// Notes that the dependency was seen there, unless it was seen earlier. It is looked for where the guesses
+    /// say first; these then have its number for the pair.
+    // Most dependencies are guessed, and were seen in an earlier trace.
+    #[inline(always)]
+    fn note(&mut self, edge: Edge, witness: Witness, pair: u32, guesses: &mut Guesses)
         requires from { edge.from < self.old.graph.classes }
         requires to { edge.to < self.old.graph.classes }
         requires spare_edges { 0 < self.old.graph.spare_edges }
@@ -186,36 +187,115 @@ impl Dependencies {
             → AreWitnessed classes self.new.rows.items
             (with_seen first (named_edge classes edge) witness) }
     {
-        match self.number(edge, guess) {
+        let guess = guesses.pair(pair);
+        if self.is_at(guess, edge) {
+            self.see(guess, edge, witness);
+        } else {
+            self.note_unguessed(edge, witness, pair, guesses);
+        }
+    }
+
+    /// The same, of a dependency that isn't guessed.
+    #[inline(never)]
+    fn note_unguessed(&mut self, edge: Edge, witness: Witness, pair: u32, guesses: &mut Guesses)
+        requires from { edge.from < self.old.graph.classes }
+        requires to { edge.to < self.old.graph.classes }
+        requires spare_edges { 0 < self.old.graph.spare_edges }
+        requires spare_rows { vec_len self.old.rows < vec_capacity self.old.rows }
+        ensures classes { self.new.graph.classes ≡ self.old.graph.classes }
+        ensures spare_edges { self.old.graph.spare_edges ≤ self.new.graph.spare_edges + 1 }
+        ensures spare_rows { (n : ℕ) → vec_len self.old.rows + (n + 1) ≤ vec_capacity self.old.rows
+            → vec_len self.new.rows + n ≤ vec_capacity self.new.rows }
+        ensures front { (n : ℕ) → n ≤ length self.old.rows.items
+            → take n (edges_of self.new.rows.items) ≡ take n (edges_of self.old.rows.items) }
+        ensures further { AreFurther self.old.reach self.new.reach }
+        ensures exact { StayExact (edges_of self.old.rows.items) (edges_of self.new.rows.items)
+            self.old.reach self.new.reach }
+        ensures closing { IsCycleEdge (edges_of self.old.rows.items) self.old.closing
+            → IsCycleEdge (edges_of self.new.rows.items) self.new.closing }
+        ensures numbered { (classes : List PlainClass) → length classes ≡ self.old.graph.classes
+            → AreBetween classes self.old.rows.items → AreBetween classes self.new.rows.items }
+        ensures noted { (classes : List PlainClass) → length classes ≡ self.old.graph.classes
+            → AreBetween classes self.old.rows.items
+            → (first : Dependency → Option Witness)
+            → AreWitnessed classes self.old.rows.items first
+            → AreWitnessed classes self.new.rows.items
+            (with_seen first (named_edge classes edge) witness) }
+    {
+        match self.graph.edge(edge.from, edge.to) {
             Some(number) => {
-                let known = &mut self.rows[number as usize];
-                known.first = known.first.earlier(witness);
-                number as usize
+                self.see(number as usize, edge, witness);
+                guesses.keep_pair(pair, number as usize);
             }
             None => {
-                let answer = self.graph.insert(edge.from, edge.to);
-                self.closing = closing_then(self.closing, edge, answer);
-                self.reach.along(&self.graph, edge);
-                let seen = Witnessed {
-                    edge,
-                    first: witness,
-                };
-                let number = self.rows.len();
-                self.rows.push_reserved(seen);
-                number
+                guesses.keep_pair(pair, self.rows.len());
+                self.enter(edge, witness);
             }
         }
     }
 
-    /// The number of the edge, or `None` where there is no such edge. It is looked for at the guess first.
-    fn number(&self, edge: Edge, guess: usize) -> Option<u64>
-        ensures { MatchOption result (¬ IsEdge self.now.graph.edges edge.from edge.to)
-            (IsEdgeNumber self.now.graph.edges edge.from edge.to) }
+    /// Whether the edge has this number, which may be past the last one.
+    fn is_at(&self, number: usize, edge: Edge) -> bool
+        ensures { OnTrue result (IsEdgeNumber self.now.graph.edges edge.from edge.to number) }
     {
-        if (guess as u64) < self.graph.edges() && self.rows[guess].edge == edge {
-            return Some(guess as u64);
+        (number as u64) < self.graph.edges() && self.rows[number].edge == edge
+    }
+
+    /// Notes that the dependency of this number was seen there, unless it was seen earlier.
+    fn see(&mut self, number: usize, edge: Edge, witness: Witness)
+        requires { IsEdgeNumber self.old.graph.edges edge.from edge.to number }
+        ensures same { self.new ≡ record self.old { rows = self.new.rows } }
+        ensures spare { vec_capacity self.new.rows ≡ vec_capacity self.old.rows }
+        ensures edges { edges_of self.new.rows.items ≡ edges_of self.old.rows.items }
+        ensures numbered { (classes : List PlainClass)
+            → AreBetween classes self.old.rows.items → AreBetween classes self.new.rows.items }
+        ensures noted { (classes : List PlainClass) → AreBetween classes self.old.rows.items
+            → (first : Dependency → Option Witness)
+            → AreWitnessed classes self.old.rows.items first
+            → AreWitnessed classes self.new.rows.items
+            (with_seen first (named_edge classes edge) witness) }
+    {
+        let known = &mut self.rows[number];
+        // Mostly the numbers of the traces tell it.
+        if witness.number <= known.first.number {
+            known.first = known.first.earlier(witness);
         }
-        self.graph.edge(edge.from, edge.to)
+    }
+
+    /// Enters a dependency that isn't there, and was seen there first.
+    fn enter(&mut self, edge: Edge, witness: Witness)
+        requires from { edge.from < self.old.graph.classes }
+        requires to { edge.to < self.old.graph.classes }
+        requires new { ¬ IsEdge self.old.graph.edges edge.from edge.to }
+        requires spare_edges { 0 < self.old.graph.spare_edges }
+        requires spare_rows { vec_len self.old.rows < vec_capacity self.old.rows }
+        ensures classes { self.new.graph.classes ≡ self.old.graph.classes }
+        ensures spare_edges { self.old.graph.spare_edges ≤ self.new.graph.spare_edges + 1 }
+        ensures spare_rows { (n : ℕ) → vec_len self.old.rows + (n + 1) ≤ vec_capacity self.old.rows
+            → vec_len self.new.rows + n ≤ vec_capacity self.new.rows }
+        ensures front { (n : ℕ) → n ≤ length self.old.rows.items
+            → take n (edges_of self.new.rows.items) ≡ take n (edges_of self.old.rows.items) }
+        ensures further { AreFurther self.old.reach self.new.reach }
+        ensures exact { StayExact (edges_of self.old.rows.items) (edges_of self.new.rows.items)
+            self.old.reach self.new.reach }
+        ensures closing { IsCycleEdge (edges_of self.old.rows.items) self.old.closing
+            → IsCycleEdge (edges_of self.new.rows.items) self.new.closing }
+        ensures numbered { (classes : List PlainClass) → length classes ≡ self.old.graph.classes
+            → AreBetween classes self.old.rows.items → AreBetween classes self.new.rows.items }
+        ensures noted { (classes : List PlainClass) → length classes ≡ self.old.graph.classes
+            → AreBetween classes self.old.rows.items
+            → (first : Dependency → Option Witness)
+            → AreWitnessed classes self.old.rows.items first
+            → AreWitnessed classes self.new.rows.items
+            (with_seen first (named_edge classes edge) witness) }
+    {
+        let answer = self.graph.insert(edge.from, edge.to);
+        self.closing = closing_then(self.closing, edge, answer);
+        self.reach.along(&self.graph, edge);
+        self.rows.push_reserved(Witnessed {
+            edge,
+            first: witness,
+        });
     }
 
     /// Makes each class a seed of the state of which it got the bit that handlers acquire it.
