@@ -1,5 +1,5 @@
 -- The earlier of two witnesses.
-use Rattle.std.proofs.Common.{◌≡◌, ◌||◌, Bool, false, not, Option, Some, None, refl, sym, ap, ◌∙◌, arith}
+use Rattle.std.proofs.Common.{◌≡◌, ◌<◌, ◌||◌, Bool, false, not, Option, Some, None, refl, sym, ap, ◌∙◌, arith}
 use Rattle.std.proofs.Math.Bool.{or_assoc}
 use Rattle.std.proofs.lemmas.Bool.Decides.{nat_tests}
 use Rattle.ld_rules.specs.declared.outcome.Witness.{Witness}
@@ -38,3 +38,7 @@ earlier_of-assoc (Some a) (Some b) (Some c) = same_from_bounds (Some (earlier (e
     ∙ or_assoc (is_by bound (Some a)) (is_by bound (Some b)) (is_by bound (Some c))
     ∙ ap (λ t. is_by bound (Some a) || t) (sym (by-earlier bound b c))
     ∙ sym (by-earlier bound a (earlier b c)))
+
+-- a witness in a lower trace is the earlier one
+pub earlier-lower : (a b : Witness) → a.number < b.number → earlier a b ≡ a
+earlier-lower a b lower = grind (arith, nat_tests, lower)

@@ -2,6 +2,7 @@
 //! they lead.
 ghost use Rattle.std.specs.Prelude.{◌≡◌, ℕ, ◌+◌, ◌<◌, ◌≤◌, List, Option, OnErr, OnOk, [], All};
 ghost use Rattle.std.specs.Prelude.{length, take, vec_len, vec_capacity, MatchOption};
+ghost use Rattle.std.specs.Bool.{OnTrue};
 ghost use Rattle.ld_class.specs.Names.{PlainClass};
 ghost use Rattle.ld_graph.specs.declared.graph.TheConstants.{MOST_GRAPH_CLASSES};
 ghost use Rattle.ld_trace.specs.declared.event.State.{State};
@@ -244,7 +245,9 @@ impl Dependencies {
     /// Notes that the dependency of this number was seen there, unless it was seen earlier.
     fn see(&mut self, number: usize, edge: Edge, witness: Witness)
         requires { IsEdgeNumber self.old.graph.edges edge.from edge.to number }
-        ensures same { self.new ≡ record self.old { rows = self.new.rows } }
+        ensures graph { self.new.graph ≡ self.old.graph }
+        ensures closing { self.new.closing ≡ self.old.closing }
+        ensures reach { self.new.reach ≡ self.old.reach }
         ensures spare { vec_capacity self.new.rows ≡ vec_capacity self.old.rows }
         ensures edges { edges_of self.new.rows.items ≡ edges_of self.old.rows.items }
         ensures numbered { (classes : List PlainClass)

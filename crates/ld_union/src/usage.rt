@@ -5,7 +5,7 @@ ghost use Rattle.std.specs.Bool.{OnFalse, OnTrue};
 ghost use Rattle.std.specs.List.{position_or_len};
 ghost use Rattle.ld_class.specs.Names.{AreDistinct, PlainClass, no_class};
 ghost use Rattle.ld_class.specs.Usage.{either, has_bit};
-ghost use Rattle.ld_rules.specs.Union.{use_witness};
+ghost use Rattle.ld_rules.specs.Union.{earlier, use_witness};
 ghost use Rattle.ld_rules.specs.Usage.{Bit, IsBit, Use, bit_of, same_bit};
 ghost use Rattle.ld_shown.specs.Inner.Names.{ArePlaces};
 ghost use Rattle.ld_union.specs.Inner.News.{TellsBits};
@@ -50,7 +50,7 @@ impl UsageRow {
         let known = self.bits.contains(bit);
         let place = place_of(bit);
         let earliest = match self.first[place] {
-            Some(known) => known.earlier(witness),
+            Some(known) => first_of(known, witness),
             None => witness,
         };
         self.first[place] = Some(earliest);
@@ -66,6 +66,16 @@ impl UsageRow {
     {
         self.first[place_of(bit)]
     }
+}
+
+/// The first of the two. Mostly the numbers of the traces tell it.
+fn first_of(known: Witness, witness: Witness) -> Witness
+    ensures { result ≡ earlier known witness }
+{
+    if known.number < witness.number {
+        return known;
+    }
+    known.earlier(witness)
 }
 
 /// The place of a bit's witness in a row.

@@ -42,27 +42,27 @@ loop-seen-preserved c =
     let left : length batch.edges - i ≡ (length batch.edges - (i + 1)) + 1 = omega arith in
     record {
       count = search rules;
-      spare_edges = omega (arith, c.loop-seen.invariant.spare_edges, c.note-number.ensures.spare_edges);
-      spare_rows = c.note-number.ensures.spare_rows (length batch.edges - (i + 1)) (omega (arith, c.loop-seen.invariant.spare_rows, left));
+      spare_edges = omega (arith, c.loop-seen.invariant.spare_edges, c.note.ensures.spare_edges);
+      spare_rows = c.note.ensures.spare_rows (length batch.edges - (i + 1)) (omega (arith, c.loop-seen.invariant.spare_rows, left));
       front =
           let old = c.args.self.now.rows.items in
-          c.note-number.ensures.front (length old)
+          c.note.ensures.front (length old)
           (omega (arith, ap length c.loop-seen.invariant.front, length-take (length old) (edges_of c.loop-seen.self.rows.items), length_rows old, length_rows c.loop-seen.self.rows.items))
           ∙ c.loop-seen.invariant.front;
-      further = further-then c.args.self.now.reach c.loop-seen.self.reach c.note-number.new.self.reach c.loop-seen.invariant.further c.note-number.ensures.further;
-      exact = λ state seeds is. c.note-number.ensures.exact state seeds (c.loop-seen.invariant.exact state seeds is);
-      closing = λ was. c.note-number.ensures.closing (c.loop-seen.invariant.closing was);
-      numbered = λ classes same numbered. c.note-number.ensures.numbered classes (same ∙ sym c.loop-seen.invariant.count) (c.loop-seen.invariant.numbered classes same numbered);
+      further = further-then c.args.self.now.reach c.loop-seen.self.reach c.note.new.self.reach c.loop-seen.invariant.further c.note.ensures.further;
+      exact = λ state seeds is. c.note.ensures.exact state seeds (c.loop-seen.invariant.exact state seeds is);
+      closing = λ was. c.note.ensures.closing (c.loop-seen.invariant.closing was);
+      numbered = λ classes same numbered. c.note.ensures.numbered classes (same ∙ sym c.loop-seen.invariant.count) (c.loop-seen.invariant.numbered classes same numbered);
       witnesses = λ classes same numbered are first witnessed.
           let seen : Dependency = named_edge classes (record { from = get_or places told.from 0; to = get_or places told.to 0 }) in
           let same_seen : seen ≡ (named_dependency batch.classes (get_or batch.edges i no_edge)).what = λ j. record {
             from = ((are.each told.from within.0).1 ∙ ap (λ (edge : WitnessedEdge). get_or batch.classes edge.from no_class) same_told) j;
             to = ((are.each told.to within.1).1 ∙ ap (λ (edge : WitnessedEdge). get_or batch.classes edge.to no_class) same_told) j;
           } in
-          subst (AreWitnessed classes c.note-number.new.self.rows.items)
+          subst (AreWitnessed classes c.note.new.self.rows.items)
           (λ j what. one_noted same_dependency same_dependency-true (named_dependency batch.classes) batch.edges
           (dependencies_once batch exact) i no_edge here (first what) what seen told.witness (ap (λ (edge : WitnessedEdge). edge.witness) same_told) same_seen j)
-          (c.note-number.ensures.noted classes (same ∙ sym c.loop-seen.invariant.count) (c.loop-seen.invariant.numbered classes same numbered) _
+          (c.note.ensures.noted classes (same ∙ sym c.loop-seen.invariant.count) (c.loop-seen.invariant.numbered classes same numbered) _
           (c.loop-seen.invariant.witnesses classes same numbered are first witnessed));
     }
 

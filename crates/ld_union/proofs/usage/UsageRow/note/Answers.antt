@@ -12,7 +12,7 @@ returns-clause-noted c first is =
     let place = c.place_of-place.result in
     let witness = c.args.witness in
     let least : Some c.match-self-place.earliest ≡ earlier_of (get_or row.first place None) (Some witness) = elim c.match-self-place.branch [
-      | in-Some w ↦ ap Some (w.earliest-is ∙ w.earlier-earliest.ensures) ∙ ap (λ before. earlier_of before (Some witness)) (sym w.in-Some.is)
+      | in-Some w ↦ ap Some (w.earliest-is ∙ w.first_of-earliest.ensures) ∙ ap (λ before. earlier_of before (Some witness)) (sym w.in-Some.is)
       | in-None w ↦ ap Some w.earliest-is ∙ ap (λ before. earlier_of before (Some witness)) (sym w.in-None.is)
     ] in
     ap (λ bits. record { bits = bits; first = set row.first place (Some c.match-self-place.earliest) }) (c.bitor_assign.ensures.after ∙ ap (either row.bits) c.requires)
