@@ -245,6 +245,8 @@ impl<'a> Scan<'a> {
     }
 
     /// All that the task holds, in every frame, counts under its flags.
+    // Most tasks hold nothing where a frame closes, and where a flag goes on.
+    #[inline(always)]
     fn count_held(&mut self, task: u32, line: u64) -> Result<(), AllocError>
         requires { task < length self.old.locks.stacks }
         ensures counted { OnOk result (self.new ≡ record self.old {
@@ -254,8 +256,11 @@ impl<'a> Scan<'a> {
         }) }
         ensures first { StandsOn self.old self.new }
     {
-        let interrupts = self.locks.interrupts(task);
-        self.uses.held(self.locks.held(task), interrupts, line)
+        let held = self.locks.held(task);
+        if held.is_empty() {
+            return Ok(());
+        }
+        self.uses.held(held, self.locks.interrupts(task), line)
     }
 
     /// The number of the class, which may be new, or new to the trace.

@@ -8,8 +8,8 @@ ghost use Rattle.ld_tables.specs.Inner.Edges.{AreMore, AreNumbers, edge_at, edge
 ghost use Rattle.ld_tables.specs.Inner.Edges.{with_edge_fact};
 
 use crate::held::Held;
-use crate::marked::Marked;
 use crate::numbers::as_number;
+use crate::told::Told;
 use indexmap::IndexSet;
 use std::alloc::{AllocError, Global};
 use std::marker::Model;
@@ -47,20 +47,20 @@ pub struct Pair {
 /// A call answers `AllocError` where a growth of memory was refused.
 #[derive(Drop)]
 pub struct Edges {
-    edges: Vec<EdgeFact>,
     pairs: IndexSet<Pair>,
-    /// The numbers of the pairs of the dependencies, in their order.
-    theirs: Marked,
+    told: Told,
 }
 
 impl Model for Edges {
     ghost use Rattle.ld_tables.specs.Inner.Edges.{AreTheirs, KeptEdges};
+    ghost use Rattle.ld_tables.specs.Inner.Numbers.{AreMarked};
 
     ghost Value = { KeptEdges };
 
-    ghost view = { λ e. record { edges = e.edges.items; pairs = e.pairs.keys } };
+    ghost view = { λ e. record { edges = e.told.edges.items; pairs = e.pairs.keys } };
 
-    ghost invariant = { λ e. AreTheirs e.edges.items e.pairs.keys e.theirs };
+    ghost invariant = { λ e. AreTheirs e.told.edges.items e.pairs.keys e.told.order.items
+        × AreMarked e.told.order.items e.told.marks.items };
 }
 
 impl Edges {
@@ -69,9 +69,8 @@ impl Edges {
         ensures { result ≡ record { edges = []; pairs = [] } }
     {
         Edges {
-            edges: Vec::new(alloc),
             pairs: IndexSet::new(alloc),
-            theirs: Marked::new(alloc),
+            told: Told::new(alloc),
         }
     }
 
@@ -79,19 +78,19 @@ impl Edges {
     pub fn as_slice(&self) -> &[EdgeFact]
         ensures { result.now ≡ self.now.edges }
     {
-        self.edges.as_slice()
+        self.told.edges.as_slice()
     }
 
     /// The dependencies, in the order in which they came.
     pub fn into_vec(self) -> Vec<EdgeFact>
         ensures { result.items ≡ self.edges }
     {
-        self.edges
+        self.told.into_edges()
     }
 
     /// The numbers of the pairs of the dependencies, in their order.
     pub fn pairs(&self) -> &[u32] {
-        self.theirs.as_slice()
+        self.told.order.as_slice()
     }
 
     /// How many pairs have numbers.
@@ -145,29 +144,6 @@ impl Edges {
         Ok(numbers)
     }
 
-    /// Adds the dependency of the pair of this number, where it isn't there yet.
-    fn add(&mut self, number: u32, line: u64) -> Result<(), AllocError>
-        requires { number < length self.old.pairs }
-        ensures pairs { self.new.pairs ≡ self.old.pairs }
-        ensures added { OnOk result (self.new.edges
-            ≡ with_edge_fact self.old.edges (edge_at line (pair_at self.old.pairs number))) }
-        ensures refused { OnErr result (self.new.edges ≡ self.old.edges) }
-    {
-        if self.theirs.has(number) {
-            return Ok(());
-        }
-        let pair = self.pairs.as_slice()[number as usize];
-        let edge = EdgeFact {
-            from: pair.from,
-            to: pair.to,
-            line,
-        };
-        self.edges.reserve(1)?;
-        self.theirs.add(number)?;
-        self.edges.push_reserved(edge);
-        Ok(())
-    }
-
     /// Adds the dependencies of the pairs of these numbers.
     fn tell(&mut self, numbers: &[u32], line: u64) -> Result<(), AllocError>
         requires { All (λ number. number < length self.old.pairs) numbers.now }
@@ -178,10 +154,7 @@ impl Edges {
         ensures told { OnOk result (self.new.edges ≡ fold with_edge_fact self.old.edges
             (map (edge_at line) (map (pair_at self.old.pairs) numbers.now))) }
     {
-        for number in numbers {
-            self.add(*number, line)?;
-        }
-        Ok(())
+        self.told.tell(self.pairs.as_slice(), numbers, line)
     }
 
     /// Adds the dependencies from the classes of these locks to the class, by the numbers of their pairs
@@ -216,16 +189,14 @@ impl Edges {
     pub fn cut(&mut self, count: usize)
         ensures { self.new ≡ record self.old { edges = take count self.old.edges } }
     {
-        self.edges.truncate(count);
-        self.theirs.cut(count);
+        self.told.cut(count);
     }
 
     /// Takes all dependencies away, and the numbers of pairs. The memory stays.
     pub fn clear(&mut self)
         ensures { self.new ≡ record { edges = []; pairs = [] } }
     {
-        self.edges.clear();
-        self.theirs.cut(0);
+        self.told.cut(0);
         self.pairs.truncate(0);
     }
 }

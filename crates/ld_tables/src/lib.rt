@@ -14,6 +14,7 @@ mod locks;
 mod marked;
 mod numbers;
 mod tasks;
+mod told;
 mod uses;
 
 pub use bytes::is_at;

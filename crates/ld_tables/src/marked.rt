@@ -2,6 +2,7 @@
 ghost use Rattle.std.specs.Prelude.{◌≡◌, ◌≢◌, ◌<◌, ℕ, [], ◌∷◌, ◌++◌, All, false, if◌then◌else◌, length, nat_eq};
 ghost use Rattle.std.specs.Prelude.{take, true, slice_index_or, OnErr, OnOk};
 ghost use Rattle.std.specs.List.{list_any, AllPairs};
+ghost use Rattle.ld_tables.specs.Inner.Numbers.{AreMarked};
 
 use std::alloc::{AllocError, Global};
 use std::marker::Model;
@@ -77,12 +78,21 @@ impl Marked {
     pub fn cut(&mut self, count: usize)
         ensures { self.new ≡ take count self.old }
     {
-        if count >= self.order.len() {
-            return;
-        }
-        unmark(&mut self.marks, &self.order[count..]);
-        self.order.truncate(count);
+        cut_marked(&mut self.order, &mut self.marks, count);
     }
+}
+
+/// Keeps the first `count` of some marked numbers, and takes the marks of the others off.
+pub(crate) fn cut_marked(order: &mut Vec<u32>, marks: &mut Vec<bool>, count: usize)
+    requires { AreMarked order.old.items marks.old.items }
+    ensures order { order.new.items ≡ take count order.old.items }
+    ensures marked { AreMarked order.new.items marks.new.items }
+{
+    if count >= order.len() {
+        return;
+    }
+    unmark(marks, &order[count..]);
+    order.truncate(count);
 }
 
 /// Takes the marks of these numbers off.

@@ -16,6 +16,9 @@ theirs_cut edges pairs numbers count are = record {
 
 pub invariant_of-self : goal.invariant_of-self
 invariant_of-self c =
-    subst (λ ns. AreTheirs c.truncate.new.self.items c.self.inside.pairs.keys ns) (sym c.cut.ensures)
-    (subst (λ es. AreTheirs es c.self.inside.pairs.keys (take c.args.count c.self.inside.theirs)) (sym c.truncate.ensures.items)
-    (theirs_cut c.self.inside.edges.items c.self.inside.pairs.keys c.self.inside.theirs c.args.count c.self.invariant))
+    let inside = c.self.inside in (
+      subst (λ ns. AreTheirs c.cut.new.self.edges.items inside.pairs.keys ns) (sym c.cut.ensures.order)
+          (subst (λ es. AreTheirs es inside.pairs.keys (take c.args.count inside.told.order.items)) (sym c.cut.ensures.edges)
+          (theirs_cut inside.told.edges.items inside.pairs.keys inside.told.order.items c.args.count c.self.invariant.0)),
+      c.cut.ensures.marked,
+    )

@@ -7,9 +7,12 @@ use Rattle.ld_tables.proofs.edges.Edges.number.Goals as goal
 pub invariant_of-self-2 : goal.invariant_of-self-2
 invariant_of-self-2 c =
     let keys = c.self.inside.pairs.keys in
-    subst (λ ks. AreTheirs c.self.inside.edges.items ks c.self.inside.theirs) (sym c.in_ok-number.ensures.keys)
-    (theirs_more c.self.inside.edges.items keys (with_pair keys c.args.pair) c.self.inside.theirs (AreMore-with_pair keys c.args.pair)
-    (distinct-with_pair keys c.args.pair c.self.invariant.distinct) c.self.invariant)
+    let told = c.self.inside.told in (
+      subst (λ ks. AreTheirs told.edges.items ks told.order.items) (sym c.in_ok-number.ensures.keys)
+          (theirs_more told.edges.items keys (with_pair keys c.args.pair) told.order.items (AreMore-with_pair keys c.args.pair)
+          (distinct-with_pair keys c.args.pair c.self.invariant.0.distinct) c.self.invariant.0),
+      c.self.invariant.1,
+    )
 
 pub returns-clause-more : goal.returns-clause-more
 returns-clause-more c =
