@@ -3,3 +3,4 @@ pub mod Mapped
 pub mod AnyNames
 pub mod NameLemmas
 pub mod Shown
+pub mod ListLemmas

@@ -2,9 +2,11 @@
 #![tactic(auto)]
 
 mod class_name;
+mod list;
 mod names;
 mod usage;
 
 pub use class_name::ClassName;
+pub use list::ClassList;
 pub use names::{Classes, MOST_NAMES};
 pub use usage::Usage;

@@ -34,17 +34,23 @@ module _ (known : List PlainClass) (numbers : List ℕ) (names : List PlainClass
   named-known there = subst (λ ns. ns ≡ with_name ns name) are.same (own-known known numbers number name (within, refl) there)
 
   -- and one that is not
-  pub named-push : AreDistinct known → place_of known name ≡ Some number → list_any (nat_eq number) numbers ≡ false → AreNames known (numbers ++ number ∷ []) (with_name names name)
+  pub named-none : AreDistinct known → list_any (nat_eq number) numbers ≡ false → place_of names name ≡ None
+  named-none distinct new =
+      subst (λ ns. place_of ns name ≡ None) are.same
+      (own-none known numbers name are.within (λ id at. ap (λ n. list_any (nat_eq n) numbers) (distinct id number name at (within, refl)) ∙ new))
+
+  pub named-push : AreDistinct known → place_of known name ≡ Some number → list_any (nat_eq number) numbers ≡ false → AreNames known (numbers ++ number ∷ []) (names ++ name ∷ [])
   named-push distinct place new = record {
     within = All-push (λ n. n < length known) numbers number are.within within;
-    same = own-more known numbers name are.within none known number known_is (within, refl) ∙ ap (λ ns. with_name ns name) are.same;
+    same = own-more known numbers name are.within none known number known_is (within, refl) ∙ ap (λ ns. with_name ns name) are.same
+        ∙ ap (λ (o : Option ℕ). if is_some o then names else names ++ name ∷ []) (named-none distinct new);
   }
     where
       known_is : known ≡ with_name known name
       known_is = sym (ap (λ (o : Option ℕ). if is_some o then known else known ++ name ∷ []) place)
 
       none : place_of (names_at known numbers) name ≡ None
-      none = own-none known numbers name are.within (λ id at. ap (λ n. list_any (nat_eq n) numbers) (distinct id number name at (within, refl)) ∙ new)
+      none = subst (λ ns. place_of ns name ≡ None) (sym are.same) (named-none distinct new)
 
 -- what a push answers
 pub named-then : {E : Type 0} (r : Result (Unit {0}) E) (known : List PlainClass) (numbers more : List ℕ) (names : List PlainClass) (number : ℕ) → AreNames known (numbers ++ number ∷ []) names →

@@ -11,7 +11,7 @@ use crate::batch_reading::read;
 use crate::batch_rows::BatchRows;
 use crate::known::Facts;
 use crate::scan::Scan;
-use ld_class::Classes;
+use ld_class::ClassList;
 use ld_rules::Listed;
 use ld_shown::{Guesses, Shown, WitnessedEdge, WitnessedUse};
 use ld_trace::Source;
@@ -133,7 +133,7 @@ impl<'a> Batch<'a> {
     }
 
     /// The classes of the traces that are read, in order of first acquisition. Takes no memory.
-    pub fn classes(&self) -> &Classes<'a>
+    pub fn classes(&self) -> &ClassList<'a>
         ensures { result.now ≡ self.now.classes }
     {
         &self.rows.classes

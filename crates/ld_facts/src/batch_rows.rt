@@ -10,7 +10,7 @@ use crate::edges::add_edges;
 use crate::names::add_named;
 use crate::scan::Scan;
 use crate::uses::add_uses;
-use ld_class::Classes;
+use ld_class::ClassList;
 use ld_shown::{WitnessedEdge, WitnessedUse};
 use ld_tables::Numbers;
 use std::alloc::{AllocError, Global};
@@ -19,7 +19,7 @@ use std::alloc::{AllocError, Global};
 #[derive(Drop)]
 pub(crate) struct BatchRows<'a> {
     /// The classes, in order of first acquisition.
-    pub(crate) classes: Classes<'a>,
+    pub(crate) classes: ClassList<'a>,
     /// The numbers that the scan has for them, in the same order.
     pub(crate) numbers: Numbers,
     /// The dependencies of the scan, by the places of the classes, with the numbers of the traces that
@@ -38,7 +38,7 @@ impl<'a> BatchRows<'a> {
         ensures usage { result.usage.items ≡ [] }
     {
         BatchRows {
-            classes: Classes::new(alloc),
+            classes: ClassList::new(alloc),
             numbers: Numbers::new(alloc),
             edges: Vec::new(alloc),
             usage: Vec::new(alloc),

@@ -8,7 +8,7 @@ ghost use Rattle.ld_facts.specs.Inner.Scan.{names_at};
 ghost use Rattle.ld_facts.specs.Inner.Kept.{AreNames};
 ghost use Rattle.ld_shown.specs.Inner.Names.{with_names};
 
-use ld_class::Classes;
+use ld_class::{ClassList, Classes};
 use ld_tables::Numbers;
 use std::alloc::AllocError;
 
@@ -17,7 +17,7 @@ use std::alloc::AllocError;
 ///
 /// `AllocError` where memory was refused. Names and numbers are then as before.
 pub(crate) fn add_named<'a>(
-    names: &mut Classes<'a>,
+    names: &mut ClassList<'a>,
     numbers: &mut Numbers,
     known: &Classes<'a>,
     own: &[u32],
@@ -47,7 +47,7 @@ pub(crate) fn add_named<'a>(
 ///
 /// `AllocError` where memory was refused. What was there stands first in names and numbers then.
 fn add_one<'a>(
-    names: &mut Classes<'a>,
+    names: &mut ClassList<'a>,
     numbers: &mut Numbers,
     known: &Classes<'a>,
     number: u32,
@@ -67,6 +67,6 @@ fn add_one<'a>(
     if numbers.has(number) {
         return Ok(());
     }
-    names.intern(known.name(number))?;
+    names.push(known.name(number))?;
     numbers.add(number)
 }

@@ -6,7 +6,7 @@ ghost use Rattle.ld_class.specs.declared.names.TheConstants.{MOST_NAMES};
 ghost use Rattle.ld_shown.specs.Inner.Names.{ArePlaces, IsLonger, with_names};
 
 use crate::guesses::Guesses;
-use ld_class::{ClassName, Classes};
+use ld_class::{ClassList, ClassName, Classes};
 use std::alloc::AllocError;
 
 /// Interns all of `more`, and writes their places among the names over `places`. Each is looked
@@ -18,7 +18,7 @@ use std::alloc::AllocError;
 /// `AllocError` where a growth of memory was refused. The names are then as before.
 pub fn intern_all<'a>(
     names: &mut Classes<'a>,
-    more: &Classes<'a>,
+    more: &ClassList<'a>,
     numbers: &[u32],
     guesses: &mut Guesses,
     places: &mut Vec<u32>,

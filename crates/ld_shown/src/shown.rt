@@ -3,7 +3,7 @@ ghost use Rattle.std.specs.Prelude.{◌≡◌};
 ghost use Rattle.ld_shown.specs.Batch.{IsBatch, sources_of};
 
 use crate::rows::{WitnessedEdge, WitnessedUse};
-use ld_class::Classes;
+use ld_class::ClassList;
 use ld_rules::Listed;
 use std::marker::Model;
 
@@ -12,7 +12,7 @@ use std::marker::Model;
 pub struct Shown<'b, 'a> {
     /// What the rows are of: read by the view alone.
     traces: &'b [Listed<'a>],
-    classes: &'b Classes<'a>,
+    classes: &'b ClassList<'a>,
     edges: &'b [WitnessedEdge],
     usage: &'b [WitnessedUse],
     class_numbers: &'b [u32],
@@ -44,7 +44,7 @@ impl<'b, 'a> Shown<'b, 'a> {
     /// guesses are kept of the classes and of the dependencies, in their order.
     pub fn new(
         traces: &'b [Listed<'a>],
-        classes: &'b Classes<'a>,
+        classes: &'b ClassList<'a>,
         edges: &'b [WitnessedEdge],
         usage: &'b [WitnessedUse],
         class_numbers: &'b [u32],
@@ -75,7 +75,7 @@ impl<'b, 'a> Shown<'b, 'a> {
     }
 
     /// The classes, in order of first acquisition. Takes no memory.
-    pub fn classes(&self) -> &Classes<'a>
+    pub fn classes(&self) -> &ClassList<'a>
         ensures { result.now ≡ self.now.classes }
     {
         self.classes

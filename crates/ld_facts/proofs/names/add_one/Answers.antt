@@ -1,7 +1,7 @@
-use Rattle.std.proofs.Common.{ap, sym, subst, ◌∙◌}
-use Rattle.ld_class.specs.Names.{place_of, with_name}
+use Rattle.std.proofs.Common.{◌++◌, ◌∷◌, [], None, Option, ℕ, if◌then◌else◌, is_some, ap, sym, subst, ◌∙◌}
+use Rattle.ld_class.specs.Names.{place_of}
 use Rattle.ld_facts.specs.Inner.Kept.{AreNames}
-use Rattle.ld_facts.proofs.RowLemmas.{named-known, named-push, named-then}
+use Rattle.ld_facts.proofs.RowLemmas.{named-known, named-none, named-push, named-then}
 use Rattle.ld_facts.proofs.names.add_one.Goals as goal
 
 pub returns-then-has-clause-names : goal.returns-then-has-clause-names
@@ -11,8 +11,8 @@ returns-then-has-clause-names c =
 pub returns-clause-same : goal.returns-clause-same
 returns-clause-same c =
     let name = ap (λ n. place_of c.args.known.now n) (sym c.name.ensures.name) ∙ c.name.ensures.place in
-    let added = c.in_ok-intern.ensures.names ∙ ap (with_name c.args.names.now) c.name.ensures.name in
-    named-then c.add.result c.args.known.now c.args.numbers.now c.add.new.self c.intern.new.self c.args.number
+    let added = c.in_ok-push.ensures.added ∙ ap (λ n. c.args.names.now ++ n ∷ []) c.name.ensures.name in
+    named-then c.add.result c.args.known.now c.args.numbers.now c.add.new.self c.push.new.self c.args.number
     (subst (AreNames c.args.known.now _) (sym added)
     (named-push c.args.known.now c.args.numbers.now c.args.names.now c.requires.names c.args.number c.requires.within c.requires.distinct name (sym c.has.ensures ∙ c.if-has.false)))
     c.add.ensures.added
