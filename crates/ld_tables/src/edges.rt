@@ -1,6 +1,6 @@
 //! The dependencies between numbered classes.
 ghost use Rattle.std.specs.Prelude.{◌≡◌, ◌<◌, Bool, true, [], All, fold, length, map, take, IfOk};
-ghost use Rattle.std.specs.Prelude.{IfSome, OnErr, OnOk};
+ghost use Rattle.std.specs.Prelude.{IfSome, OnOk};
 ghost use Rattle.std.specs.Bool.{OnTrue};
 ghost use Rattle.std.specs.List.{list_any};
 ghost use Rattle.ld_tables.specs.declared.edges.TheConstants.{MOST_PAIRS};

@@ -59,7 +59,7 @@ fn next_verb(bytes: &[u8]) -> Option<(LockVerb, &[u8])>
     } else if let Some(rest) = behind_eight(bytes, b"release ") {
         Some((LockVerb::Release, rest))
     } else {
-        let rest = bytes.strip_prefix(b"try ")?;
+        let rest = behind_four(bytes, b"try ")?;
         Some((LockVerb::Try, rest))
     }
 }
@@ -82,6 +82,26 @@ fn same_eight(a: &[u8; 8], b: &[u8; 8]) -> bool
     ensures { OnTrue result (a.now ≡ b.now) }
 {
     u64::from_le_bytes(*a) == u64::from_le_bytes(*b)
+}
+
+/// What follows these four bytes, where they stand at the front.
+#[inline(always)]
+fn behind_four<'a>(bytes: &'a [u8], four: &[u8; 4]) -> Option<&'a [u8]>
+    ensures { IfSome result (λ rest. bytes.entry.now ≡ four.now ++ rest.now) }
+{
+    let (first, rest) = bytes.split_first_chunk()?;
+    if !same_four(first, four) {
+        return None;
+    }
+    Some(rest)
+}
+
+/// Whether these four bytes are the same: they are compared as one number.
+#[inline(always)]
+fn same_four(a: &[u8; 4], b: &[u8; 4]) -> bool
+    ensures { OnTrue result (a.now ≡ b.now) }
+{
+    u32::from_le_bytes(*a) == u32::from_le_bytes(*b)
 }
 
 /// The lock at the front, and what follows the LF after it, by the ends of names that were seen.
@@ -111,23 +131,18 @@ fn next_lock(bytes: &[u8], ends: Ends) -> Option<(Lock<'_>, &[u8])>
 fn next_state_verb(bytes: &[u8]) -> Option<(StateVerb, &[u8])>
     ensures { IfSome result (λ cut. bytes.now ≡ spelling_of_state_verb cut.0 ++ 32 ∷ cut.1.now) }
 {
-    match bytes {
-        [_, b'n', b't', ..] => {
-            let rest = bytes.strip_prefix(b"enter ")?;
-            Some((StateVerb::Enter, rest))
-        }
-        [_, b'x', ..] => {
-            let rest = bytes.strip_prefix(b"exit ")?;
-            Some((StateVerb::Exit, rest))
-        }
-        [_, b'n', ..] => {
-            let rest = bytes.strip_prefix(b"enable ")?;
-            Some((StateVerb::Enable, rest))
-        }
-        _ => {
-            let rest = bytes.strip_prefix(b"disable ")?;
-            Some((StateVerb::Disable, rest))
-        }
+    if let Some(rest) = behind_eight(bytes, b"disable ") {
+        Some((StateVerb::Disable, rest))
+    } else if let Some(after) = behind_four(bytes, b"enab") {
+        let rest = after.strip_prefix(b"le ")?;
+        Some((StateVerb::Enable, rest))
+    } else if let Some(after) = behind_four(bytes, b"ente") {
+        let rest = after.strip_prefix(b"r ")?;
+        Some((StateVerb::Enter, rest))
+    } else {
+        let after = behind_four(bytes, b"exit")?;
+        let rest = after.strip_prefix(b" ")?;
+        Some((StateVerb::Exit, rest))
     }
 }
 
@@ -135,10 +150,12 @@ fn next_state_verb(bytes: &[u8]) -> Option<(StateVerb, &[u8])>
 fn next_state(bytes: &[u8]) -> Option<(State, &[u8])>
     ensures { IfSome result (λ cut. bytes.now ≡ spelling_of_state cut.0 ++ 10 ∷ cut.1.now) }
 {
-    if let Some(rest) = bytes.strip_prefix(b"hard\n") {
+    if let Some(after) = behind_four(bytes, b"hard") {
+        let rest = after.strip_prefix(b"\n")?;
         Some((State::Hard, rest))
     } else {
-        let rest = bytes.strip_prefix(b"soft\n")?;
+        let after = behind_four(bytes, b"soft")?;
+        let rest = after.strip_prefix(b"\n")?;
         Some((State::Soft, rest))
     }
 }
