@@ -58,6 +58,12 @@ pub named-then : {E : Type 0} (r : Result (Unit {0}) E) (known : List PlainClass
 named-then (Ok u) known numbers more names number are is = subst (λ ns. AreNames known ns names) (sym is) are
 named-then (Err e) known numbers more names number are is = tt
 
+-- a name that is put last since it isn't there
+pub named-new : {E : Type 0} (r : Result (Unit {0}) E) (names new : List PlainClass) (name : PlainClass) → place_of names name ≡ None → new ≡ names ++ name ∷ []
+    → OnOk r (new ≡ with_name names name)
+named-new (Ok u) names new name none is = is ∙ sym (ap (λ (o : Option ℕ). if is_some o then names else names ++ name ∷ []) none)
+named-new (Err e) names new name none is = tt
+
 -- numbers that stand first are there
 pub first_there : (old new : List ℕ) → take (length old) new ≡ old → (n : ℕ) → list_any (nat_eq n) old ≡ true → list_any (nat_eq n) new ≡ true
 first_there old new first n there =
