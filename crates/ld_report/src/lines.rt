@@ -145,6 +145,8 @@ fn write_number(text: &mut Vec<u8>, words: &str, number: u64) -> Result<(), Allo
 }
 
 /// Writes these bytes behind these words.
+// Words of a known length are put there without a call.
+#[inline(always)]
 fn write_bytes(text: &mut Vec<u8>, words: &str, bytes: &[u8]) -> Result<(), AllocError>
     ensures { OnOk result (text.new.items ≡ text.old.items ++ words.now ++ bytes.now) }
 {
@@ -154,6 +156,7 @@ fn write_bytes(text: &mut Vec<u8>, words: &str, bytes: &[u8]) -> Result<(), Allo
 }
 
 /// Writes the name of a class behind these words: `name`, or `name/N` where it is a subclass.
+#[inline(always)]
 fn write_name(text: &mut Vec<u8>, words: &str, class: ClassName<'_>) -> Result<(), AllocError>
     ensures { OnOk result (text.new.items ≡ text.old.items ++ words.now ++
         class_text (plain_class class.entry)) }

@@ -6,11 +6,10 @@ use Rattle.ld_class.proofs.list.ClassList.cut.Goals as goal
 
 pub invariant_of-self : goal.invariant_of-self
 invariant_of-self c =
-    let names = c.self.inside.names.items in
-    (
+    let names = c.self.inside.names.items in (
       omega (arith, ap (λ xs. length xs) c.truncate.ensures.items, length-take c.args.n names, c.self.invariant.0),
       subst AreDistinct (take-map plain_class c.args.n names ∙ ap (map plain_class) (sym c.truncate.ensures.items))
-      (apart-take (map plain_class names) c.args.n c.self.invariant.1),
+          (apart-take (map plain_class names) c.args.n c.self.invariant.1),
     )
 
 pub returns : goal.returns

@@ -9,9 +9,8 @@ returns-clause-place c =
     let names = c.self.inside.names.items in
     let id = c.args.id in
     let within : id < length names = omega (arith, c.requires, length-map names plain_class, ap (λ ns. length ns) c.self.view_is) in
-    place_of-at c.args.self.now _ id (subst AreDistinct c.self.view_is c.self.invariant.1)
-    (
+    place_of-at c.args.self.now _ id (subst AreDistinct c.self.view_is c.self.invariant.1) (
       c.requires,
       ap (λ ns. slice_index_or ns id no_class) (sym c.self.view_is)
-      ∙ get_or-map plain_class names id c.index.result.now no_class within ∙ ap plain_class (sym c.index.ensures),
+          ∙ get_or-map plain_class names id c.index.result.now no_class within ∙ ap plain_class (sym c.index.ensures),
     )
