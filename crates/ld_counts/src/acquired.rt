@@ -1,6 +1,8 @@
 //! How often some traces acquire each class.
 ghost use Rattle.std.specs.Prelude.{◌≤◌};
 
+use crate::known::KnownLocks;
+use crate::lines::behind_release;
 use crate::numbered::Numbered;
 use crate::told::{class_of, next_other};
 use ld_class::Classes;
@@ -54,26 +56,31 @@ fn counts_of(
     listed: &[Listed<'_>],
 ) -> Result<Vec<u64>, AllocError> {
     let mut counts = vec![in alloc; 0; classes.len()]?;
-    let mut numbered = Numbered::new(alloc, classes)?;
+    let mut locks = KnownLocks::new(alloc, classes)?;
     for trace in listed {
         if let Outcome::Read { .. } = trace.outcome {
-            count(&mut counts, &mut numbered, trace.source);
+            count(&mut counts, &mut locks, trace.source);
         }
     }
     Ok(counts)
 }
 
 /// Counts the acquisitions of a trace.
-fn count(counts: &mut [u64], numbered: &mut Numbered<'_, '_>, source: Source<'_>) {
+fn count<'a>(counts: &mut [u64], locks: &mut KnownLocks<'_, 'a>, source: Source<'a>) {
     let mut left = source.bytes;
     // Each line has a byte.
     for _ in 0..source.bytes.len() {
-        if let Some((event, rest)) = next_event(left) {
-            count_event(counts, numbered, &event);
+        if let Some(rest) = behind_release(left) {
+            left = rest;
+        } else if let Some(acquired) = locks.next_acquired(left) {
+            raise(counts, acquired.class);
+            left = acquired.rest;
+        } else if let Some((event, rest)) = next_event(left) {
+            count_event(counts, &mut locks.numbered, &event);
             left = rest;
         } else if let Some((event, rest)) = next_other(left) {
             if let Some(event) = event {
-                count_event(counts, numbered, &event);
+                count_event(counts, &mut locks.numbered, &event);
             }
             left = rest;
         } else {
@@ -90,9 +97,14 @@ fn count_event(counts: &mut [u64], numbered: &mut Numbered<'_, '_>, event: &Even
         _ => return,
     };
     if let Some(number) = numbered.find(class) {
-        if let Some(count) = counts.get_mut(number as usize) {
-            *count = count.saturating_add(1);
-        }
+        raise(counts, number);
+    }
+}
+
+/// One more acquisition of the class of this number.
+fn raise(counts: &mut [u64], number: u32) {
+    if let Some(count) = counts.get_mut(number as usize) {
+        *count = count.saturating_add(1);
     }
 }
 

@@ -2,7 +2,7 @@
 
 use crate::acquired::part_len;
 use crate::chains::Chains;
-use crate::numbered::Numbered;
+use crate::known::{Acquired, KnownLocks};
 use crate::replay::Tasks;
 use crate::told::{class_of, next_other};
 use ld_class::Classes;
@@ -125,7 +125,7 @@ fn counted_of<'a>(
 ) -> Result<Counted, AllocError> {
     let mut counting = Counting {
         counted: Counted::new(alloc)?,
-        numbered: Numbered::new(alloc, classes)?,
+        locks: KnownLocks::new(alloc, classes)?,
         tasks: Tasks::new(alloc),
     };
     for trace in listed {
@@ -140,7 +140,7 @@ fn counted_of<'a>(
 #[derive(Drop)]
 struct Counting<'c, 'a> {
     counted: Counted,
-    numbered: Numbered<'c, 'a>,
+    locks: KnownLocks<'c, 'a>,
     tasks: Tasks<'a>,
 }
 
@@ -154,6 +154,10 @@ impl<'c, 'a> Counting<'c, 'a> {
             if let Some(rest) = self.tasks.release_last(left) {
                 raise(&mut self.counted.verbs.release);
                 left = rest;
+            } else if let Some(acquired) = self.locks.next_acquired(left) {
+                raise(&mut self.counted.verbs.acquire);
+                self.hold(&acquired)?;
+                left = acquired.rest;
             } else if let Some((event, rest)) = next_event(left) {
                 self.event(&event, line_before(left, rest))?;
                 left = rest;
@@ -187,10 +191,21 @@ impl<'c, 'a> Counting<'c, 'a> {
             }
             _ => return self.other(event),
         };
-        let Some(class) = self.numbered.find(class_of(lock, sub)) else {
+        let Some(class) = self.locks.numbered.find(class_of(lock, sub)) else {
             return Ok(());
         };
-        let (chain, held) = self.tasks.acquire(task, lock.instance, class, text)?;
+        self.hold(&Acquired {
+            task,
+            class,
+            instance: lock.instance,
+            text,
+            rest: &[],
+        })
+    }
+
+    /// A task holds a lock more.
+    fn hold(&mut self, acquired: &Acquired<'a>) -> Result<(), AllocError> {
+        let (chain, held) = self.tasks.acquire(acquired)?;
         self.counted.depth = self.counted.depth.max(held as u64);
         self.counted.chains.add(chain)
     }
@@ -201,7 +216,8 @@ impl<'c, 'a> Counting<'c, 'a> {
         match *event {
             Event::Release { task, lock } => {
                 raise(&mut verbs.release);
-                self.tasks.release(self.numbered.classes(), task, lock)
+                self.tasks
+                    .release(self.locks.numbered.classes(), task, lock)
             }
             Event::Enter { task, .. } => {
                 raise(&mut verbs.enter);

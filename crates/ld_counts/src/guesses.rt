@@ -3,7 +3,7 @@
 use std::alloc::{AllocError, Global};
 
 /// How many guesses there are.
-const GUESSES: usize = 1 << 14;
+pub(crate) const GUESSES: usize = 1 << 14;
 
 /// An odd number by which bits are spread.
 const SPREAD: u64 = 0x9e37_79b9_7f4a_7c15;
@@ -36,7 +36,7 @@ impl Guesses {
 }
 
 /// The place of a key.
-fn slot(key: u64) -> usize {
+pub(crate) fn slot(key: u64) -> usize {
     (key / (1 << 50)) as usize
 }
 

@@ -7,6 +7,8 @@ mod chains;
 mod components;
 mod counted;
 mod guesses;
+mod known;
+mod lines;
 mod numbered;
 mod replay;
 mod told;

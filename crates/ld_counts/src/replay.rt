@@ -1,6 +1,8 @@
 //! What the tasks of a trace hold, one event after another. The trace was read, so none of its events has a fault.
 
 use crate::chains::{NO_CHAIN, chain_of};
+use crate::known::Acquired;
+use crate::lines::same_bytes;
 use ld_class::{ClassName, Classes};
 use ld_tables::{TaskNames, is_at};
 use ld_trace::Lock;
@@ -58,18 +60,11 @@ impl<'a> Tasks<'a> {
         self.last = usize::MAX;
     }
 
-    /// The task acquires a lock of the class of this number: the chain that it holds then in its frame, and how
-    /// much it holds.
-    pub(crate) fn acquire(
-        &mut self,
-        task: &'a [u8],
-        instance: Option<&'a [u8]>,
-        class: u32,
-        text: &'a [u8],
-    ) -> Result<(u64, usize), AllocError> {
-        let place = self.place(task)?;
+    /// A task acquires a lock: the chain that it holds then in its frame, and how much it holds.
+    pub(crate) fn acquire(&mut self, acquired: &Acquired<'a>) -> Result<(u64, usize), AllocError> {
+        let place = self.place(acquired.task)?;
         match self.tasks.get_mut(place) {
-            Some(task) => task.acquire(instance, class, text),
+            Some(task) => task.acquire(acquired),
             None => Ok((NO_CHAIN, 0)),
         }
     }
@@ -169,18 +164,13 @@ impl<'a> Task<'a> {
         }
     }
 
-    fn acquire(
-        &mut self,
-        instance: Option<&'a [u8]>,
-        class: u32,
-        text: &'a [u8],
-    ) -> Result<(u64, usize), AllocError> {
-        let chain = chain_of(self.chain_before(self.holds.len()), class);
+    fn acquire(&mut self, acquired: &Acquired<'a>) -> Result<(u64, usize), AllocError> {
+        let chain = chain_of(self.chain_before(self.holds.len()), acquired.class);
         self.holds.push(Hold {
-            class,
-            instance,
+            class: acquired.class,
+            instance: acquired.instance,
             chain,
-            text,
+            text: acquired.text,
         })?;
         Ok((chain, self.holds.len()))
     }
@@ -189,7 +179,10 @@ impl<'a> Task<'a> {
     /// acquisition: what follows the text.
     fn release_last(&mut self, bytes: &'a [u8]) -> Option<&'a [u8]> {
         let text = self.last_text()?;
-        let rest = bytes.strip_prefix(text)?;
+        let (front, rest) = bytes.split_at_checked(text.len())?;
+        if !same_bytes(front, text) {
+            return None;
+        }
         self.holds.pop();
         Some(rest)
     }

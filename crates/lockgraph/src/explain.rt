@@ -11,7 +11,7 @@ use crate::told::{Told, write_told};
 use crate::words::ExplainWords;
 use ld_check::{Checked, MOST_WORKERS, NoGate, Verdict, check, report_in, verdict_of};
 use ld_device::Std;
-use ld_explain::{Choice, explain};
+use ld_explain::{Choice, chosen, explain};
 use ld_maps::Maps;
 use ld_texts::Places;
 use std::alloc::Global;
@@ -83,14 +83,14 @@ fn explained_in<'a>(
     ensures { IfOk result (λ told. VerdictIs checked.now.book told.verdict) }
 {
     let report = report_in(alloc, &checked.book)?;
+    let violations = chosen(alloc, &checked.book, &report, choice)?;
     let text = explain(
         alloc,
-        &checked.book,
+        &violations,
+        choice.most,
         &checked.sources,
         places,
         maps,
-        &report,
-        choice,
     )?;
     let verdict = verdict_of(&checked.book);
     Ok(Told { text, verdict })

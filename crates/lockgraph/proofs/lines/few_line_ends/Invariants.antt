@@ -1,6 +1,6 @@
 use Rattle.std.proofs.Common.{◌≡◌, count_by, take}
 use Rattle.lockgraph.specs.Streams.{is_lf}
-use Rattle.lockgraph.proofs.lines.line_end_count.Given as goal
+use Rattle.lockgraph.proofs.lines.few_line_ends.Given as goal
 
 abbrev pub invariant-loop-byte : goal.invariant-loop-byte
 invariant-loop-byte l = l.count ≡ count_by is_lf (take l.byte-index l.bytes)
