@@ -3,22 +3,22 @@
 use crate::groups::{Member, grouped, most_shared};
 use crate::known::{write_known_class, write_known_line};
 use crate::sightings::{Sightings, Texts};
-use crate::violations::{Choice, Dependency, Ends, Step, Violation, chosen};
+use crate::violations::{Dependency, Ends, Step, Violation};
 use crate::writing::{state_name, write_class, write_lock, write_place};
 use indexmap::IndexSet;
 use ld_held::{Before, Flag, Hold, task_of};
 use ld_maps::Maps;
-use ld_texts::{Book, ClassName, Places, Witness};
+use ld_texts::{ClassName, Places, Witness};
 use ld_trace::{Source, State};
 use std::alloc::{AllocError, Global};
 use std::io::Write;
 
-/// What stands behind the violations of the report of a book: the line of each, and under it its
-/// dependencies in turn, at their first witnesses, with the locks that were held there; and where it has a
+/// What stands behind these violations, as [`chosen`](crate::chosen) answers them: the line of each, and under it its
+/// dependencies in turn, each where it stands, with the locks that were held there; and where it has a
 /// state, both ends. Violations that share dependencies stand together, and what was told before isn't told
-/// again. The last line says how many are explained, and how many are not.
+/// again. The last line says how many are explained, and how many are not: `most` are at most, and all where it is 0.
 ///
-/// `sources` are the traces of the book, each at the place of its number, `places` says where the lines stand in
+/// `sources` are the traces of their book, each at the place of its number, `places` says where the lines stand in
 /// files, and `maps` what is known of these files' lines and of classes, which stands below each line and below the
 /// line that first names the class.
 ///
@@ -27,18 +27,16 @@ use std::io::Write;
 /// `AllocError` where a growth of memory was refused.
 pub fn explain<'t, 'a>(
     alloc: Global,
-    book: &Book<'a>,
+    violations: &[Violation<'_, 'a>],
+    most: u64,
     sources: &'t [Source<'a>],
     places: &'t Places<'t>,
     maps: &'t Maps<'t>,
-    report: &[u8],
-    choice: &Choice<'_>,
 ) -> Result<Vec<u8>, AllocError> {
-    let violations = chosen(alloc, book, report, choice)?;
-    let members = grouped(alloc, &violations)?;
-    let told = count_told(&members, choice.most);
+    let members = grouped(alloc, violations)?;
+    let told = count_told(&members, most);
     let explained = members.get(..told).unwrap_or(&[]);
-    let wanted = witnesses(alloc, &violations, explained)?;
+    let wanted = witnesses(alloc, violations, explained)?;
     let sightings = Sightings::of(alloc, sources, wanted)?;
     let texts = Texts::of(alloc, sources, lines_of(alloc, &sightings)?)?;
     let mut telling = Telling {
@@ -52,7 +50,7 @@ pub fn explain<'t, 'a>(
         named: IndexSet::new(alloc),
         text: Vec::new(alloc),
     };
-    telling.all(&violations, &members, told)?;
+    telling.all(violations, &members, told)?;
     Ok(telling.text)
 }
 

@@ -14,4 +14,4 @@ mod writing;
 
 pub use drawing::{Drawn, dot};
 pub use explaining::explain;
-pub use violations::{Choice, Kind};
+pub use violations::{Choice, Dependency, Ends, Kind, Step, Violation, chosen};

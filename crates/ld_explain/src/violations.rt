@@ -237,14 +237,18 @@ impl<'r> Lines<'r> {
 }
 
 /// The violations that are chosen, in the order of their lines in the report of the book. Each dependency of
-/// their circles and walks stands at its first witness.
+/// their circles and walks stands at its first witness. How many are wanted at most doesn't matter here.
+///
+/// # Errors
+///
+/// `AllocError` where a growth of memory was refused.
 pub fn chosen<'r, 'a>(
     alloc: Global,
     book: &Book<'a>,
     report: &'r [u8],
     choice: &Choice<'_>,
 ) -> Result<Vec<Violation<'r, 'a>>, AllocError>
-    ensures { IfOk result (λ all. All (AreFirst book.now) all.items) }
+    ensures first { IfOk result (λ all. All (AreFirst book.now) all.items) }
 {
     let findings = book.findings(alloc)?;
     let mut lines = Lines { rest: report };
