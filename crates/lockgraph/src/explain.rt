@@ -14,7 +14,7 @@ use ld_device::Std;
 use ld_explain::{Choice, chosen, explain};
 use ld_maps::Maps;
 use ld_texts::Places;
-use std::alloc::Global;
+use std::alloc::{AllocError, Global};
 use std::io;
 use std::rt::Files;
 use std::sync::Wait;
@@ -83,15 +83,27 @@ fn explained_in<'a>(
     ensures { IfOk result (λ told. VerdictIs checked.now.book told.verdict) }
 {
     let report = report_in(alloc, &checked.book)?;
-    let violations = chosen(alloc, &checked.book, &report, choice)?;
-    let text = explain(
+    let text = text_in(alloc, checked, &report, places, maps, choice)?;
+    let verdict = verdict_of(&checked.book);
+    Ok(Told { text, verdict })
+}
+
+/// The text on them, of which this is the report.
+fn text_in(
+    alloc: Global,
+    checked: &Checked<'_>,
+    report: &[u8],
+    places: &Places<'_>,
+    maps: &Maps<'_>,
+    choice: &Choice<'_>,
+) -> Result<Vec<u8>, AllocError> {
+    let violations = chosen(alloc, &checked.book, report, choice)?;
+    explain(
         alloc,
         &violations,
         choice.most,
         &checked.sources,
         places,
         maps,
-    )?;
-    let verdict = verdict_of(&checked.book);
-    Ok(Told { text, verdict })
+    )
 }
