@@ -29,6 +29,9 @@ pub(crate) fn next_acquisition(bytes: &[u8]) -> Option<Acquisition<'_>> {
     let task_end = ends.trailing_zeros() as usize;
     // The lowest bit is taken off, so the next one is found.
     let line_end = (ends & ends.wrapping_sub(1)).trailing_zeros() as usize;
+    if line_end >= LANES {
+        return None;
+    }
     let lock = behind.get(task_end.saturating_add(1)..line_end)?;
     let (text, rest) = split_behind(behind, line_end)?;
     if behind.get(task_end) != Some(&b' ') || behind.get(line_end) != Some(&b'\n') {
