@@ -158,6 +158,13 @@ impl<'c, 'a> Counting<'c, 'a> {
                 raise(&mut self.counted.verbs.acquire);
                 self.hold(&acquired)?;
                 left = acquired.rest;
+            } else if let Some(rest) = self.tasks.release_written(left)? {
+                raise(&mut self.counted.verbs.release);
+                left = rest;
+            } else if let Some(acquired) = self.locks.next_tried(left) {
+                raise(&mut self.counted.verbs.tries);
+                self.hold(&acquired)?;
+                left = acquired.rest;
             } else if let Some((event, rest)) = next_event(left) {
                 self.event(&event, line_before(left, rest))?;
                 left = rest;

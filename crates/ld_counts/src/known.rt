@@ -1,7 +1,7 @@
 //! Locks by how they are written: most are acquired again and again, and of these the lines aren't read any further.
 
 use crate::guesses::{GUESSES, key_of, slot};
-use crate::lines::{next_acquisition, same_bytes};
+use crate::lines::{Words, next_acquisition, next_trial, same_bytes};
 use crate::numbered::Numbered;
 use crate::told::class_of;
 use ld_class::Classes;
@@ -58,25 +58,37 @@ impl<'c, 'a> KnownLocks<'c, 'a> {
     /// The acquisition of the first line, where that is one as most are. `None` says nothing.
     #[inline(always)]
     pub(crate) fn next_acquired(&mut self, bytes: &'a [u8]) -> Option<Acquired<'a>> {
-        let acquisition = next_acquisition(bytes)?;
-        let place = slot(key_of(acquisition.lock));
+        self.acquired(bytes, next_acquisition(bytes)?)
+    }
+
+    /// The same, where it was tried.
+    #[inline(always)]
+    pub(crate) fn next_tried(&mut self, bytes: &'a [u8]) -> Option<Acquired<'a>> {
+        self.acquired(bytes, next_trial(bytes)?)
+    }
+
+    /// The acquisition of the first line, which has these words.
+    #[inline(always)]
+    fn acquired(&mut self, bytes: &'a [u8], words: Words<'a>) -> Option<Acquired<'a>> {
+        let place = slot(key_of(words.lock));
         let known = match self.known.get(place) {
-            Some(known) if same_bytes(known.text, acquisition.lock) => *known,
-            _ => self.learn(bytes, place, acquisition.lock)?,
+            Some(known) if same_bytes(known.text, words.lock) => *known,
+            _ => self.learn(bytes, place, words.lock)?,
         };
         Some(Acquired {
-            task: acquisition.task,
+            task: words.task,
             class: known.class,
             instance: known.instance,
-            text: acquisition.text,
-            rest: acquisition.rest,
+            text: words.text,
+            rest: words.rest,
         })
     }
 
     /// The lock that the first line acquires, written so, which is noted at this place.
     #[inline(never)]
     fn learn(&mut self, bytes: &'a [u8], place: usize, text: &'a [u8]) -> Option<Known<'a>> {
-        let Some((Event::Acquire { lock, .. }, _)) = next_event(bytes) else {
+        let Some((Event::Acquire { lock, .. } | Event::Try { lock, .. }, _)) = next_event(bytes)
+        else {
             return None;
         };
         let class = self.numbered.find(class_of(lock, 0))?;

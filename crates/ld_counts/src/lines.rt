@@ -6,9 +6,9 @@ use std::simd::prelude::*;
 /// How many bytes a vector has.
 const LANES: usize = 32;
 
-/// The words of a line `acquire TASK LOCK` that has one blank between two of them and nothing else before its LF.
+/// The words of a line `VERB TASK LOCK` that has one blank between two of them and nothing else before its LF.
 #[derive(Clone, Copy)]
-pub(crate) struct Acquisition<'a> {
+pub(crate) struct Words<'a> {
     pub task: &'a [u8],
     pub lock: &'a [u8],
     /// What follows the verb, with the LF.
@@ -20,8 +20,25 @@ pub(crate) struct Acquisition<'a> {
 /// The words of the first line, if that acquires a lock, is in its plainest form, and ends within a vector. `None`
 /// says nothing.
 #[inline(always)]
-pub(crate) fn next_acquisition(bytes: &[u8]) -> Option<Acquisition<'_>> {
-    let behind = bytes.strip_prefix(b"acquire ")?;
+pub(crate) fn next_acquisition(bytes: &[u8]) -> Option<Words<'_>> {
+    words_behind(bytes.strip_prefix(b"acquire ")?)
+}
+
+/// The same, if it tries to acquire a lock.
+#[inline(always)]
+pub(crate) fn next_trial(bytes: &[u8]) -> Option<Words<'_>> {
+    words_behind(bytes.strip_prefix(b"try ")?)
+}
+
+/// The same, if it releases a lock.
+#[inline(always)]
+pub(crate) fn next_release(bytes: &[u8]) -> Option<Words<'_>> {
+    words_behind(bytes.strip_prefix(b"release ")?)
+}
+
+/// The words of a line whose verb and blank stand before these bytes.
+#[inline(always)]
+fn words_behind(behind: &[u8]) -> Option<Words<'_>> {
     if behind.len() < LANES {
         return None;
     }
@@ -38,7 +55,7 @@ pub(crate) fn next_acquisition(bytes: &[u8]) -> Option<Acquisition<'_>> {
         return None;
     }
     let task = behind.get(..task_end)?;
-    Some(Acquisition {
+    Some(Words {
         task,
         lock,
         text,

@@ -2,7 +2,7 @@
 
 use crate::chains::{NO_CHAIN, chain_of};
 use crate::known::Acquired;
-use crate::lines::same_bytes;
+use crate::lines::{next_release, same_bytes};
 use ld_class::{ClassName, Classes};
 use ld_tables::{TaskNames, is_at};
 use ld_trace::Lock;
@@ -75,6 +75,24 @@ impl<'a> Tasks<'a> {
     pub(crate) fn release_last(&mut self, bytes: &'a [u8]) -> Option<&'a [u8]> {
         let released = bytes.strip_prefix(b"release ")?;
         self.tasks.get_mut(self.last)?.release_last(released)
+    }
+
+    /// What follows the first line, where it releases a lock that its task holds in its frame, and where it and the
+    /// acquisitions there from that lock's on are in their plainest form: such a lock is found by its text. `None`
+    /// says nothing, and nothing was let go.
+    pub(crate) fn release_written(
+        &mut self,
+        bytes: &'a [u8],
+    ) -> Result<Option<&'a [u8]>, AllocError> {
+        let Some(words) = next_release(bytes) else {
+            return Ok(None);
+        };
+        let place = self.place(words.task)?;
+        let Some(task) = self.tasks.get_mut(place) else {
+            return Ok(None);
+        };
+        let released = task.release_written(words.text);
+        Ok(released.then_some(words.rest))
     }
 
     /// The task releases a lock. Its class is among these.
@@ -198,14 +216,47 @@ impl<'a> Task<'a> {
         }
     }
 
+    /// Lets the latest acquisition in its frame that has this text go, where each later one there has a text too;
+    /// else it answers `false`.
+    fn release_written(&mut self, text: &[u8]) -> bool {
+        match self.latest_written(text) {
+            Some(place) => {
+                self.let_go(place);
+                true
+            }
+            None => false,
+        }
+    }
+
+    /// The place of the latest acquisition in its frame that has this text, where each later one there has one too.
+    fn latest_written(&self, text: &[u8]) -> Option<usize> {
+        let start = self.frame_start();
+        let count = self.holds.len();
+        for behind in 0..count {
+            let place = count - 1 - behind;
+            let held = self.holds[place].text;
+            if place < start || held.is_empty() {
+                break;
+            }
+            if same_bytes(held, text) {
+                return Some(place);
+            }
+        }
+        None
+    }
+
     /// Lets the latest acquisition of the lock in its frame go.
     fn release(&mut self, classes: &Classes<'_>, lock: Lock<'_>) {
-        match self.latest(classes, lock) {
-            Some(place) if place < self.holds.len() => {
-                self.holds.remove(place);
-                self.link_from(place);
-            }
-            _ => {}
+        if let Some(place) = self.latest(classes, lock) {
+            self.let_go(place);
+        }
+    }
+
+    /// Lets the acquisition at this place go.
+    fn let_go(&mut self, place: usize) {
+        if place < self.holds.len() {
+            self.holds.remove(place);
+            self.link_from(place);
         }
     }
 
