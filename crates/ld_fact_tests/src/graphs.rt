@@ -5,7 +5,7 @@ ghost use Rattle.std.specs.Prelude.{◌≡◌, ℕ, length, slice_index_or, None
 ghost use Rattle.ld_graph.specs.Edges.{IsEdge};
 ghost use Rattle.ld_graph.specs.Walks.{DistanceIs};
 
-use ld_graph::{Distance, Graph, Insert, MOST_GRAPH_CLASSES};
+use ld_graph::{Distance, Graph, Insert, MOST_GRAPH_CLASSES, Nexts};
 use std::alloc::Global;
 use std::process::Abort;
 
@@ -150,7 +150,18 @@ fn expect_walk<R: Abort>(
     assert_eq!(rt; walk.as_slice(), wanted);
 }
 
-/// Asserts the walk to `to` from each class in turn, or that there is none, all by one search.
+/// No next class of so many classes.
+fn no_nexts<R: Abort>(rt: &R, alloc: Global, classes: usize) -> Nexts
+    ensures { (c : ℕ) → slice_index_or result c None ≡ None }
+{
+    match Nexts::new(alloc, classes) {
+        Ok(nexts) => nexts,
+        Err(_) => Nexts::new(alloc, classes).expect(rt, "next classes made again"),
+    }
+}
+
+/// Asserts the walk to `to` from each class in turn, or that there is none, all by one search, and by the next
+/// classes that the walks before it have found.
 fn expect_walks_along<R: Abort>(
     rt: &R,
     alloc: Global,
@@ -160,14 +171,15 @@ fn expect_walks_along<R: Abort>(
     wanted: &[Option<&[u32]>],
 ) {
     let distances = distances(rt, alloc, graph, to);
+    let mut nexts = no_nexts(rt, alloc, graph.len());
     assert!(rt; places.len() == graph.len());
     assert_eq!(rt; wanted.len(), graph.len());
     for a in 0..graph.len() as u32 {
         assert!(rt; (a as usize) < graph.len() && (a as usize) < wanted.len());
-        let walk = match graph.walk_along(alloc, a, to, &distances, places) {
+        let walk = match graph.walk_along(alloc, a, to, &distances, places, &mut nexts) {
             Ok(walk) => walk,
             Err(_) => graph
-                .walk_along(alloc, a, to, &distances, places)
+                .walk_along(alloc, a, to, &distances, places, &mut nexts)
                 .expect(rt, "walk made again"),
         };
         assert_eq!(rt; walk.as_deref(), wanted[a as usize], "{a} to {to}");

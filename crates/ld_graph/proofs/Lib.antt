@@ -28,3 +28,4 @@ pub mod KnownLemmas
 pub mod WorkLemmas
 pub mod StepLemmas
 pub mod InsideLemmas
+pub mod TouchedLemmas

@@ -1,6 +1,6 @@
 -- A reach that is spread over classes that wait is exact at the end.
 use Rattle.std.proofs.Common.{◌≡◌, ◌≢◌, ◌↔◌, ℕ, zero, suc, ◌+◌, ◌<◌, ◌≤◌, ◌⊎◌, inl, inr, Bool, true, false, true≢false, List, [], ◌∷◌}
-use Rattle.std.proofs.Common.{◌++◌, length, get_or, set, Option, Some, None, is_some, Contains, MatchOption, drop, take, unwrap_or, vec_len}
+use Rattle.std.proofs.Common.{◌++◌, length, get_or, set, Option, Some, None, is_some, Contains, MatchOption, drop, take, unwrap_or}
 use Rattle.std.proofs.Common.{arith, refl, sym, ap, subst, ◌∙◌}
 use Rattle.std.proofs.lemmas.Bool.{cases_eq, cases_lt, cases_order}
 use Rattle.std.proofs.lemmas.List.{get_or-set_same, get_or-set_other, get_or_past, get_or_append_left, get_or_push, get_or_default, length_push, drop_more, drop-append-le, take-append-le}
@@ -397,8 +397,8 @@ IsEdge-cases before a b x y h = by (Contains-push_cases before (edge a b) (edge 
     by (inr same) = inr (ap (λ (e : Edge). e.from) (sym same), ap (λ (e : Edge). e.to) (sym same))
 
 -- as many marks are seen as there are
-pub marks_len : (r : Inside) (reach : PlainReach) → reach_of r ≡ reach → vec_len r.marks ≡ length reach.marks
-marks_len r reach is = r.marks.ok.0 ∙ ap (λ (s : PlainReach). length s.marks) is
+pub marks_len : (r : Inside) (reach : PlainReach) → reach_of r ≡ reach → length r.marks.each ≡ length reach.marks
+marks_len r reach is = ap (λ (s : PlainReach). length s.marks) is
 
 -- with one edge more, from a class that was not expanded, nothing is ahead
 pub spread-unmarked : (before : List Edge) (seeds : List ℕ) (reach : PlainReach) (a b : ℕ) → get_or reach.marks a false ≡ false

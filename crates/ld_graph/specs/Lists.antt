@@ -15,6 +15,11 @@ pub record Sides : Type 0 where
   pub after : NearLists
   pub before : NearLists
 
+-- a graph's lists, and how many of them were read
+pub record Reading : Type 0 where
+  pub lists : Sides
+  pub count : ℕ
+
 -- the list of a class
 abbrev pub list_at : List (List ℕ) → ℕ → List ℕ
 list_at lists c = slice_index_or lists c []

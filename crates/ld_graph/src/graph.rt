@@ -7,6 +7,7 @@ ghost use Rattle.ld_graph.specs.Components.{AreComponents};
 ghost use Rattle.ld_graph.specs.Edges.{ComesBefore, IsEdge, IsEdgeNumber};
 ghost use Rattle.ld_graph.specs.Edges.{empty_graph, with_class, with_edge, with_spares};
 ghost use Rattle.ld_graph.specs.Lists.{IsNear};
+ghost use Rattle.ld_graph.specs.Nexts.{AreNexts};
 ghost use Rattle.ld_graph.specs.Order.{HasCycle, IsInserted, IsOrder, rank_of};
 ghost use Rattle.ld_graph.specs.Walks.{AreEnough, DistanceIs, HasWalk, IsShownWalk, Reaches};
 
@@ -14,7 +15,8 @@ use crate::Edge;
 use crate::components::components_of;
 use crate::distance::Distance;
 use crate::inside::Distances;
-use crate::lists::{Lists, Steps};
+use crate::lists::{Lists, Reader};
+use crate::nexts::Nexts;
 use crate::placed::{Insert, place};
 use crate::ranks::Ranks;
 use crate::shown::show;
@@ -180,12 +182,11 @@ impl Graph {
             return Insert::Known;
         }
         let answer = place(
-            &self.lists,
+            &mut Reader::new(&self.lists),
             &mut self.ranks,
             &mut self.has_cycle,
             a,
             b,
-            &mut Steps::new(),
         );
         let Ok(_) = self.edges.insert(edge) else {
             unreachable!()
@@ -308,12 +309,14 @@ impl Graph {
     {
         let mut distances = Distances::new(alloc, self.len())?;
         self.distances_to(b, &[a], &mut distances);
-        self.walk_along(alloc, a, b, distances.levels(), places)
+        let mut nexts = Nexts::new(alloc, 0)?;
+        self.walk_along(alloc, a, b, distances.levels(), places, &mut nexts)
     }
 
     /// The walk from `a` to `b` that `walk` gives, by the distances to `b` that `distances` gave, or `distances_to`
     /// where `a` was wanted, or `distances_inside` where besides `b` reaches it. So one search serves the walks
-    /// from many classes to one.
+    /// from many classes to one; and each next class is looked for once, by these that are noted, which are for the
+    /// same distances and places, or none.
     ///
     /// # Errors
     ///
@@ -325,19 +328,22 @@ impl Graph {
         b: u32,
         distances: &[Distance],
         places: &[u32],
+        nexts: &mut Nexts,
     ) -> Result<Option<Vec<u32>>, AllocError>
         requires a { a < self.now.classes }
         requires len { length distances.now ≡ self.now.classes }
         requires enough { AreEnough (IsEdge self.now.edges) a b
             (λ c. slice_index_or distances.now c None) }
         requires places { length places.now ≡ self.now.classes }
-        ensures { IfOk result (λ walk. MatchOption walk (¬ HasWalk (IsEdge self.now.edges) a b)
+        requires nexts { AreNexts (IsEdge self.now.edges) distances.now places.now nexts.old }
+        ensures nexts { AreNexts (IsEdge self.now.edges) distances.now places.now nexts.new }
+        ensures walk { IfOk result (λ walk. MatchOption walk (¬ HasWalk (IsEdge self.now.edges) a b)
             (λ w. IsShownWalk (IsEdge self.now.edges) (ComesBefore places.now) a b w.items)) }
     {
         let Some(distance) = distances[a as usize].get() else {
             return Ok(None);
         };
-        let walk = show(alloc, &self.lists, a, b, distance, distances, places)?;
+        let walk = show(alloc, &self.lists, a, b, distance, distances, places, nexts)?;
         Ok(Some(walk))
     }
 }

@@ -9,7 +9,7 @@ ghost use Rattle.ld_graph.specs.Lists.{IsNear};
 
 use crate::distance::Distance;
 use crate::levels::{known_front, measure};
-use crate::lists::{Lists, Steps};
+use crate::lists::{Lists, Reader};
 use std::alloc::{AllocError, Global};
 use std::marker::Model;
 
@@ -187,9 +187,8 @@ fn measure_inside(
         levels.new) wanted.now }
 {
     let component = components[end as usize];
-    let mut steps = Steps::new();
     expand_inside(
-        lists.before(end, &mut steps),
+        Reader::new(lists).before(end),
         components,
         component,
         1,
@@ -208,7 +207,7 @@ fn measure_inside(
             unreachable!()
         };
         expand_inside(
-            lists.before(class, &mut steps),
+            Reader::new(lists).before(class),
             components,
             component,
             level + 1,

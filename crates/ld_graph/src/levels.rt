@@ -9,7 +9,7 @@ ghost use Rattle.ld_graph.specs.Inner.Levels.{HasLevel, Spreads, level_at};
 ghost use Rattle.ld_graph.specs.Lists.{IsNear};
 
 use crate::distance::Distance;
-use crate::lists::{Lists, Steps};
+use crate::lists::{Lists, Reader};
 
 /// Gives this level to each of these neighbours that has none, and lets it wait.
 fn expand(near: &[u32], level: u32, levels: &mut [Distance], queue: &mut Vec<u32>)
@@ -72,8 +72,7 @@ pub(crate) fn measure(
     ensures levels { All (λ w. AreLevelsFor (λ a b. IsNear lists.now.before.lists b a) w end levels.new)
         wanted.now }
 {
-    let mut steps = Steps::new();
-    expand(lists.before(end, &mut steps), 1, levels, queue);
+    expand(Reader::new(lists).before(end), 1, levels, queue);
     let mut done = 0;
     let mut known = 0;
     while done < queue.len() {
@@ -85,7 +84,7 @@ pub(crate) fn measure(
         let Some(level) = levels[class as usize].get() else {
             unreachable!()
         };
-        expand(lists.before(class, &mut steps), level + 1, levels, queue);
+        expand(Reader::new(lists).before(class), level + 1, levels, queue);
         done += 1;
     }
 }

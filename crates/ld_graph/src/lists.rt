@@ -1,8 +1,8 @@
-//! For each class its successors and its predecessors, which are read one list at a time, by calls
-//! that count.
+//! For each class its successors and its predecessors, which are read one list at a time, by a reader
+//! that counts.
 
 ghost use Rattle.std.specs.Prelude.{◌≡◌, ◌+◌, ◌<◌, ◌≤◌, ◌^◌, [], ◌∷◌, ◌++◌, OnOk, length};
-ghost use Rattle.std.specs.Prelude.{slice_set, slice_index_or, nat_eq, true, false};
+ghost use Rattle.std.specs.Prelude.{nat_eq};
 ghost use Rattle.std.specs.List.{IsDistinct};
 ghost use Rattle.ld_graph.specs.Lists.{HasRoom, IsNear, IsNextClass, IsNextItem, ListsGrown};
 ghost use Rattle.ld_graph.specs.Lists.{list_at};
@@ -10,36 +10,6 @@ ghost use Rattle.ld_graph.specs.Lists.{list_at};
 use crate::neighbours::Neighbours;
 use std::alloc::{AllocError, Global};
 use std::marker::Model;
-
-/// How many lists of neighbours were read.
-#[derive(Drop)]
-pub struct Steps {
-    count: u64,
-}
-
-impl Model for Steps {
-    ghost use Rattle.std.specs.Prelude.{ℕ};
-
-    ghost Value = { ℕ };
-
-    ghost view = { λ s. s.count };
-}
-
-impl Steps {
-    /// No list was read. Takes no memory.
-    pub fn new() -> Steps
-        ensures { result ≡ 0 }
-    {
-        Steps { count: 0 }
-    }
-
-    /// The number of lists that were read. Takes no memory.
-    pub fn count(&self) -> u64
-        ensures { result ≡ self.now }
-    {
-        self.count
-    }
-}
 
 /// A graph's lists: for each class its successors and its predecessors.
 #[derive(Drop)]
@@ -72,43 +42,21 @@ impl Lists {
         }
     }
 
-    /// The successors of the class `c`, each once. Adds one to the count. Takes no memory.
-    pub fn after(&self, c: u32, steps: &mut Steps) -> &[u32]
-        requires class { c < length self.now.after.lists }
-        requires few { steps.old + 1 < 2 ^ 64 }
+    /// The successors of the class `c`, each once. Takes no memory.
+    fn after(&self, c: u32) -> &[u32]
+        requires { c < length self.now.after.lists }
         ensures near { result.now ≡ list_at self.now.after.lists c }
         ensures once { IsDistinct nat_eq result.now }
-        ensures step { steps.new ≡ steps.old + 1 }
     {
-        steps.count += 1;
         self.after.of(c)
     }
 
-    /// What `after` gives, and puts the mark of the class `c` on, which has to be off. So by one list of
-    /// marks no class's successors are read twice. Takes no memory.
-    pub fn once(&self, c: u32, marks: &mut [bool], steps: &mut Steps) -> &[u32]
-        requires class { c < length self.now.after.lists }
-        requires few { steps.old + 1 < 2 ^ 64 }
-        requires marks { length marks.old ≡ length self.now.after.lists }
-        requires off { slice_index_or marks.old c false ≡ false }
-        ensures near { result.now ≡ list_at self.now.after.lists c }
-        ensures once { IsDistinct nat_eq result.now }
-        ensures step { steps.new ≡ steps.old + 1 }
-        ensures on { marks.new ≡ slice_set marks.old c true }
-    {
-        marks[c as usize] = true;
-        self.after(c, steps)
-    }
-
-    /// The predecessors of the class `c`, each once. Adds one to the count. Takes no memory.
-    pub fn before(&self, c: u32, steps: &mut Steps) -> &[u32]
-        requires class { c < length self.now.before.lists }
-        requires few { steps.old + 1 < 2 ^ 64 }
+    /// The predecessors of the class `c`, each once. Takes no memory.
+    fn before(&self, c: u32) -> &[u32]
+        requires { c < length self.now.before.lists }
         ensures near { result.now ≡ list_at self.now.before.lists c }
         ensures once { IsDistinct nat_eq result.now }
-        ensures step { steps.new ≡ steps.old + 1 }
     {
-        steps.count += 1;
         self.before.of(c)
     }
 
@@ -153,5 +101,64 @@ impl Lists {
     {
         self.after.push(a, b);
         self.before.push(b, a);
+    }
+}
+
+/// A graph's lists, and how many of them were read. Who is handed a reader reads by it alone: it
+/// gives neither the lists themselves nor another reader, and each read counts.
+#[derive(Drop)]
+pub struct Reader<'l> {
+    lists: &'l Lists,
+    count: u64,
+}
+
+impl<'l> Model for Reader<'l> {
+    ghost use Rattle.ld_graph.specs.Lists.{Reading};
+
+    ghost Value = { Reading };
+
+    ghost view = { λ r. record { lists = r.lists.now; count = r.count } };
+}
+
+impl<'l> Reader<'l> {
+    /// A reader of these lists, of which none was read. Takes no memory.
+    pub fn new(lists: &'l Lists) -> Reader<'l>
+        ensures lists { result.lists ≡ lists.entry.now }
+        ensures none { result.count ≡ 0 }
+    {
+        Reader { lists, count: 0 }
+    }
+
+    /// The number of lists that were read. Takes no memory.
+    pub fn count(&self) -> u64
+        ensures { result ≡ self.now.count }
+    {
+        self.count
+    }
+
+    /// The successors of the class `c`, each once. Adds one to the count. Takes no memory.
+    pub fn after(&mut self, c: u32) -> &'l [u32]
+        requires class { c < length self.old.lists.after.lists }
+        requires few { self.old.count + 1 < 2 ^ 64 }
+        ensures near { result.now ≡ list_at self.old.lists.after.lists c }
+        ensures once { IsDistinct nat_eq result.now }
+        ensures lists { self.new.lists ≡ self.old.lists }
+        ensures step { self.new.count ≡ self.old.count + 1 }
+    {
+        self.count += 1;
+        self.lists.after(c)
+    }
+
+    /// The predecessors of the class `c`, each once. Adds one to the count. Takes no memory.
+    pub fn before(&mut self, c: u32) -> &'l [u32]
+        requires class { c < length self.old.lists.before.lists }
+        requires few { self.old.count + 1 < 2 ^ 64 }
+        ensures near { result.now ≡ list_at self.old.lists.before.lists c }
+        ensures once { IsDistinct nat_eq result.now }
+        ensures lists { self.new.lists ≡ self.old.lists }
+        ensures step { self.new.count ≡ self.old.count + 1 }
+    {
+        self.count += 1;
+        self.lists.before(c)
     }
 }

@@ -4,7 +4,7 @@ ghost use Rattle.std.specs.Prelude.{◌≡◌, ◌↔◌, ℕ, ◌<◌, false, l
 ghost use Rattle.ld_graph.specs.Inner.Placed.{IsPlaced, TellsSteps};
 ghost use Rattle.ld_graph.specs.Lists.{IsNear};
 
-use crate::lists::{Lists, Steps};
+use crate::lists::Reader;
 use crate::ranks::Ranks;
 
 /// What an insert has done.
@@ -26,29 +26,29 @@ pub enum Insert {
 }
 
 /// Makes the ranks fit an edge from `a` to `b` that is about to come, or notes that it closes a
-/// cycle. The lists that are read for it are counted by `steps`, from 0 on.
+/// cycle. The lists that are read for it are counted by `reader`, from 0 on.
 pub fn place(
-    lists: &Lists,
+    reader: &mut Reader<'_>,
     ranks: &mut Ranks,
     has_cycle: &mut bool,
     a: u32,
     b: u32,
-    steps: &mut Steps,
 ) -> Insert
     requires a { a < length ranks.old.ranks }
     requires b { b < length ranks.old.ranks }
-    requires classes { (length lists.now.after.lists ≡ length ranks.old.ranks)
-        × (length lists.now.before.lists ≡ length ranks.old.ranks) }
-    requires turned { (x y : ℕ) → IsNear lists.now.after.lists x y
-        ↔ IsNear lists.now.before.lists y x }
-    requires ends { (x y : ℕ) → IsNear lists.now.after.lists x y
+    requires classes { (length reader.old.lists.after.lists ≡ length ranks.old.ranks)
+        × (length reader.old.lists.before.lists ≡ length ranks.old.ranks) }
+    requires turned { (x y : ℕ) → IsNear reader.old.lists.after.lists x y
+        ↔ IsNear reader.old.lists.before.lists y x }
+    requires ends { (x y : ℕ) → IsNear reader.old.lists.after.lists x y
         → (x < length ranks.old.ranks) × (y < length ranks.old.ranks) }
-    requires rises { has_cycle.old ≡ false → (x y : ℕ) → IsNear lists.now.after.lists x y
+    requires rises { has_cycle.old ≡ false → (x y : ℕ) → IsNear reader.old.lists.after.lists x y
         → slice_index ranks.old.ranks x < slice_index ranks.old.ranks y }
-    requires steps { steps.old ≡ 0 }
-    ensures told { TellsSteps result steps.new }
+    requires steps { reader.old.count ≡ 0 }
+    ensures lists { reader.new.lists ≡ reader.old.lists }
+    ensures told { TellsSteps result reader.new.count }
     ensures room { ranks.new.room ≡ ranks.old.room }
-    ensures placed { IsPlaced (IsNear lists.now.after.lists) a b result has_cycle.old has_cycle.new
+    ensures placed { IsPlaced (IsNear reader.old.lists.after.lists) a b result has_cycle.old has_cycle.new
         ranks.old.ranks ranks.new.ranks }
 {
     if *has_cycle {
@@ -77,7 +77,7 @@ pub fn place(
             if from < to {
                 return Insert::Kept;
             }
-            let Some(expanded) = ranks.repair(lists, a, b, steps) else {
+            let Some(expanded) = ranks.repair(reader, a, b) else {
                 *has_cycle = true;
                 return Insert::Closed;
             };

@@ -7,7 +7,7 @@ ghost use Rattle.ld_graph.specs.Inner.Repairs.{AreInverse, IsPut, IsRepaired, Is
 ghost use Rattle.ld_graph.specs.Lists.{IsNear};
 
 use crate::line::Line;
-use crate::lists::{Lists, Steps};
+use crate::lists::Reader;
 use crate::repair::{Space, mend};
 use crate::search::Search;
 use std::alloc::{AllocError, Global};
@@ -143,30 +143,31 @@ impl Ranks {
     }
 
     /// Repairs the ranks for an edge from `a` to `b` that goes against them, and answers how many
-    /// lists were read, which `steps` has counted from 0 on. Answers `None`, and leaves the ranks, where
+    /// lists were read, which `reader` has counted from 0 on. Answers `None`, and leaves the ranks, where
     /// a walk leads from `b` to `a`.
-    pub fn repair(&mut self, lists: &Lists, a: u32, b: u32, steps: &mut Steps) -> Option<u64>
+    pub fn repair(&mut self, reader: &mut Reader<'_>, a: u32, b: u32) -> Option<u64>
         requires a { a < length self.old.ranks }
         requires b { b < length self.old.ranks }
         requires ranked { 0 < slice_index self.old.ranks b }
         requires against { slice_index self.old.ranks b < slice_index self.old.ranks a }
-        requires classes { (length lists.now.after.lists ≡ length self.old.ranks)
-            × (length lists.now.before.lists ≡ length self.old.ranks) }
-        requires turned { (x y : ℕ) → IsNear lists.now.after.lists x y
-            ↔ IsNear lists.now.before.lists y x }
-        requires ends { (x y : ℕ) → IsNear lists.now.after.lists x y
+        requires classes { (length reader.old.lists.after.lists ≡ length self.old.ranks)
+            × (length reader.old.lists.before.lists ≡ length self.old.ranks) }
+        requires turned { (x y : ℕ) → IsNear reader.old.lists.after.lists x y
+            ↔ IsNear reader.old.lists.before.lists y x }
+        requires ends { (x y : ℕ) → IsNear reader.old.lists.after.lists x y
             → (x < length self.old.ranks) × (y < length self.old.ranks) }
-        requires rises { (x y : ℕ) → IsNear lists.now.after.lists x y
+        requires rises { (x y : ℕ) → IsNear reader.old.lists.after.lists x y
             → slice_index self.old.ranks x < slice_index self.old.ranks y }
-        requires steps { steps.old ≡ 0 }
-        ensures told { IfSome result (λ expanded. expanded ≡ steps.new) }
+        requires steps { reader.old.count ≡ 0 }
+        ensures lists { reader.new.lists ≡ reader.old.lists }
+        ensures told { IfSome result (λ expanded. expanded ≡ reader.new.count) }
         ensures room { self.new.room ≡ self.old.room }
         ensures ranks { MatchOption result
-            ((self.new.ranks ≡ self.old.ranks) × IsOrReaches (IsNear lists.now.after.lists) b a)
-            (IsRepaired (IsNear lists.now.after.lists) a b self.old.ranks self.new.ranks) }
+            ((self.new.ranks ≡ self.old.ranks) × IsOrReaches (IsNear reader.old.lists.after.lists) b a)
+            (IsRepaired (IsNear reader.old.lists.after.lists) a b self.old.ranks self.new.ranks) }
     {
         mend(
-            lists,
+            reader,
             &mut self.ranks,
             &mut self.order,
             self.first,
@@ -174,7 +175,6 @@ impl Ranks {
             b,
             &mut self.row,
             &mut self.space,
-            steps,
         )
     }
 }

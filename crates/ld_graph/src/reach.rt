@@ -11,7 +11,8 @@ ghost use Rattle.ld_graph.specs.Walks.{HasWalk};
 
 use crate::Edge;
 use crate::graph::{Graph, MOST_GRAPH_CLASSES};
-use crate::lists::{Lists, Steps};
+use crate::lists::Reader;
+use crate::marks::Marks;
 use std::alloc::{AllocError, Global};
 use std::marker::Model;
 
@@ -22,12 +23,11 @@ use std::marker::Model;
 pub struct Reach {
     /// For each class a seed with a walk to it.
     sources: Vec<Option<u32>>,
-    /// For each class whether it was expanded.
-    marks: Vec<bool>,
+    /// For each class whether it was expanded, and how many were.
+    marks: Marks,
     /// The classes that have a source, in the order in which they got it. The last of them may wait to
     /// be expanded.
     reached: Vec<u32>,
-    steps: Steps,
     spare: usize,
 }
 
@@ -51,9 +51,8 @@ impl Reach {
     {
         Reach {
             sources: Vec::new(alloc),
-            marks: Vec::new(alloc),
+            marks: Marks::new(alloc),
             reached: Vec::new(alloc),
-            steps: Steps::new(),
             spare: 0,
         }
     }
@@ -91,7 +90,7 @@ impl Reach {
     {
         let unreached = self.marks.len() - self.reached.len();
         self.sources.reserve(classes)?;
-        self.marks.reserve(classes)?;
+        self.marks.room(classes)?;
         self.reached.reserve(unreached + classes)?;
         self.spare = self.spare.max(classes);
         Ok(())
@@ -107,7 +106,7 @@ impl Reach {
             → IsReach (IsEdge edges) seeds self.new }
     {
         self.sources.push_reserved(None);
-        self.marks.push_reserved(false);
+        self.marks.add_class();
         self.spare -= 1;
     }
 
@@ -123,27 +122,25 @@ impl Reach {
         ensures stays { (x : ℕ) → mark_of self.old x ≡ true → mark_of self.new x ≡ true }
         ensures each_once { self.new.expanded ≡ count_by (λ mark. mark) self.new.marks }
     {
-        if self.marks[c as usize] {
+        if self.marks.is_on(c) {
             return;
         }
         let known = self.reached.len();
-        let lists = graph.lists();
+        let mut reader = Reader::new(graph.lists());
         expand(
-            lists,
+            &mut reader,
             c,
             c,
             &mut self.sources,
             &mut self.marks,
             &mut self.reached,
-            &mut self.steps,
         );
         spread(
-            lists,
+            &mut reader,
             known,
             &mut self.sources,
             &mut self.marks,
             &mut self.reached,
-            &mut self.steps,
         );
     }
 
@@ -162,19 +159,18 @@ impl Reach {
         ensures stays { (x : ℕ) → mark_of self.old x ≡ true → mark_of self.new x ≡ true }
         ensures each_once { self.new.expanded ≡ count_by (λ mark. mark) self.new.marks }
     {
-        if !self.marks[a as usize] {
+        if !self.marks.is_on(a) {
             return;
         }
         let from = self.sources[a as usize].unwrap_or(a);
         let known = self.reached.len();
         give(b, from, &mut self.sources, &mut self.reached);
         spread(
-            graph.lists(),
+            &mut Reader::new(graph.lists()),
             known,
             &mut self.sources,
             &mut self.marks,
             &mut self.reached,
-            &mut self.steps,
         );
     }
 
@@ -203,7 +199,7 @@ impl Reach {
         ensures each_once { result ≡ count_by (λ mark. mark) self.now.marks }
         ensures few { result ≤ length self.now.marks }
     {
-        self.steps.count()
+        self.marks.count()
     }
 }
 
@@ -227,25 +223,28 @@ fn give(class: u32, from: u32, sources: &mut [Option<u32>], reached: &mut Vec<u3
 
 /// Expands a class: gives this source to its successors.
 fn expand(
-    lists: &Lists,
+    reader: &mut Reader<'_>,
     class: u32,
     from: u32,
     sources: &mut [Option<u32>],
-    marks: &mut [bool],
+    marks: &mut Marks,
     reached: &mut Vec<u32>,
-    steps: &mut Steps,
 )
-    requires lists { length lists.now.after.lists ≡ length marks.old }
-    requires ends { (x y : ℕ) → IsNear lists.now.after.lists x y → y < length marks.old }
-    requires same { length sources.old ≡ length marks.old }
-    requires class { class < length marks.old }
-    requires fresh { slice_index_or marks.old class false ≡ false }
-    requires counted { steps.old ≡ count_by (λ m. m) marks.old }
-    requires few { length marks.old ≤ MOST_GRAPH_CLASSES }
+    requires lists { length reader.old.lists.after.lists ≡ length marks.old.each }
+    requires ends { (x y : ℕ) → IsNear reader.old.lists.after.lists x y → y < length marks.old.each }
+    requires same { length sources.old ≡ length marks.old.each }
+    requires class { class < length marks.old.each }
+    requires fresh { slice_index_or marks.old.each class false ≡ false }
+    requires read { reader.old.count ≤ marks.old.count }
+    requires counted { marks.old.count ≡ count_by (λ m. m) marks.old.each }
+    requires few { length marks.old.each ≤ MOST_GRAPH_CLASSES }
     requires listed { AreReached sources.old reached.old.items }
     requires room { vec_len reached.old + count_by is_none sources.old ≤ vec_capacity reached.old }
-    ensures counted { steps.new ≡ count_by (λ m. m) marks.new }
-    ensures marks { marks.new ≡ slice_set marks.old class true }
+    ensures lists { reader.new.lists ≡ reader.old.lists }
+    ensures read { reader.new.count + marks.old.count ≡ reader.old.count + marks.new.count }
+    ensures mark_room { marks.new.room ≡ marks.old.room }
+    ensures counted { marks.new.count ≡ count_by (λ m. m) marks.new.each }
+    ensures marks { marks.new.each ≡ slice_set marks.old.each class true }
     ensures listed { AreReached sources.new reached.new.items }
     ensures room { vec_len reached.new + count_by is_none sources.new
         ≡ vec_len reached.old + count_by is_none sources.old }
@@ -254,38 +253,42 @@ fn expand(
         → take n reached.new.items ≡ take n reached.old.items }
     ensures longer { vec_len reached.old ≤ vec_len reached.new }
     ensures spread { (done : ℕ) (seeds : List ℕ) → done ≤ vec_len reached.old
-        → IsSpread (IsNear lists.now.after.lists) seeds
-        (all_ahead (IsNear lists.now.after.lists) class) sources.old
-        (slice_set marks.old class true) (drop done reached.old.items)
-        → Contains seeds from × ((from ≡ class) ⊎ HasWalk (IsNear lists.now.after.lists) from class)
-        → IsSpread (IsNear lists.now.after.lists) seeds none_ahead sources.new marks.new
+        → IsSpread (IsNear reader.old.lists.after.lists) seeds
+        (all_ahead (IsNear reader.old.lists.after.lists) class) sources.old
+        (slice_set marks.old.each class true) (drop done reached.old.items)
+        → Contains seeds from × ((from ≡ class) ⊎ HasWalk (IsNear reader.old.lists.after.lists) from class)
+        → IsSpread (IsNear reader.old.lists.after.lists) seeds none_ahead sources.new marks.new.each
         (drop done reached.new.items) }
 {
-    for &next in lists.once(class, marks, steps) {
+    for &next in marks.once(class, reader) {
         give(next, from, sources, reached);
     }
 }
 
 /// Expands the classes that were reached, from number `known` on, and those that are reached by this.
 fn spread(
-    lists: &Lists,
+    reader: &mut Reader<'_>,
     known: usize,
     sources: &mut [Option<u32>],
-    marks: &mut [bool],
+    marks: &mut Marks,
     reached: &mut Vec<u32>,
-    steps: &mut Steps,
 )
-    requires lists { length lists.now.after.lists ≡ length marks.old }
+    requires lists { length reader.old.lists.after.lists ≡ length marks.old.each }
     requires known { known ≤ vec_len reached.old }
-    requires ends { (x y : ℕ) → IsNear lists.now.after.lists x y → y < length marks.old }
-    requires same { length sources.old ≡ length marks.old }
-    requires counted { steps.old ≡ count_by (λ m. m) marks.old }
-    requires few { length marks.old ≤ MOST_GRAPH_CLASSES }
+    requires ends { (x y : ℕ) → IsNear reader.old.lists.after.lists x y → y < length marks.old.each }
+    requires same { length sources.old ≡ length marks.old.each }
+    requires read { reader.old.count ≤ marks.old.count }
+    requires counted { marks.old.count ≡ count_by (λ m. m) marks.old.each }
+    requires few { length marks.old.each ≤ MOST_GRAPH_CLASSES }
     requires listed { AreReached sources.old reached.old.items }
     requires room { vec_len reached.old + count_by is_none sources.old ≤ vec_capacity reached.old }
-    ensures counted { steps.new ≡ count_by (λ m. m) marks.new }
-    ensures stays { (x : ℕ) → slice_index_or marks.old x false ≡ true
-        → slice_index_or marks.new x false ≡ true }
+    ensures lists { reader.new.lists ≡ reader.old.lists }
+    ensures read { reader.new.count + marks.old.count ≡ reader.old.count + marks.new.count }
+    ensures mark_room { marks.new.room ≡ marks.old.room }
+    ensures counted { marks.new.count ≡ count_by (λ m. m) marks.new.each }
+    ensures len { length marks.new.each ≡ length marks.old.each }
+    ensures stays { (x : ℕ) → slice_index_or marks.old.each x false ≡ true
+        → slice_index_or marks.new.each x false ≡ true }
     ensures listed { AreReached sources.new reached.new.items }
     ensures room { vec_len reached.new + count_by is_none sources.new
         ≡ vec_len reached.old + count_by is_none sources.old }
@@ -293,19 +296,19 @@ fn spread(
     ensures front { (n : ℕ) → n ≤ vec_len reached.old
         → take n reached.new.items ≡ take n reached.old.items }
     ensures spread { (seeds : List ℕ)
-        → IsSpread (IsNear lists.now.after.lists) seeds none_ahead sources.old marks.old
+        → IsSpread (IsNear reader.old.lists.after.lists) seeds none_ahead sources.old marks.old.each
         (drop known reached.old.items)
-        → IsSpread (IsNear lists.now.after.lists) seeds none_ahead sources.new marks.new [] }
+        → IsSpread (IsNear reader.old.lists.after.lists) seeds none_ahead sources.new marks.new.each [] }
 {
     let mut done = known;
     while done < reached.len() {
         let class = reached[done];
         done += 1;
-        if !marks[class as usize] {
+        if !marks.is_on(class) {
             let Some(from) = sources[class as usize] else {
                 unreachable!()
             };
-            expand(lists, class, from, sources, marks, reached, steps);
+            expand(reader, class, from, sources, marks, reached);
         }
     }
 }

@@ -11,7 +11,7 @@ ghost use Rattle.ld_graph.specs.Inner.Repairs.{count, in_front, is_part, picked,
 ghost use Rattle.ld_graph.specs.Lists.{IsNear};
 
 use crate::line::{Line, Row};
-use crate::lists::{Lists, Steps};
+use crate::lists::Reader;
 use crate::pool::{deal, share};
 use crate::search::Search;
 use crate::turns::{Side, search_range};
@@ -158,27 +158,26 @@ fn reorder(
 
 /// Finds a new order of classes of the row, in which no edge goes back and the last one of the row comes
 /// before the first, and answers which part of the space has it. The lists that are read are counted by
-/// `steps`, from 0 on. Answers `None` where there is no such order, since a walk leads from the first class to
+/// `reader`, from 0 on. Answers `None` where there is no such order, since a walk leads from the first class to
 /// the last.
 fn plan(
-    lists: &Lists,
+    reader: &mut Reader<'_>,
     ranks: &[u32],
     low: u32,
     row: &Row<'_>,
     copy: &mut Vec<u32>,
     space: &mut Space,
-    steps: &mut Steps,
 ) -> Option<Dealt>
     requires row { IsRow ranks.now low row.now }
     requires some { 0 < length row.now }
     requires few { length row.now ≤ MOST_GRAPH_CLASSES }
-    requires classes { (length lists.now.after.lists ≡ length ranks.now)
-        × (length lists.now.before.lists ≡ length ranks.now) }
-    requires turned { (x y : ℕ) → IsNear lists.now.after.lists x y
-        ↔ IsNear lists.now.before.lists y x }
-    requires ends { (x y : ℕ) → IsNear lists.now.after.lists x y
+    requires classes { (length reader.old.lists.after.lists ≡ length ranks.now)
+        × (length reader.old.lists.before.lists ≡ length ranks.now) }
+    requires turned { (x y : ℕ) → IsNear reader.old.lists.after.lists x y
+        ↔ IsNear reader.old.lists.before.lists y x }
+    requires ends { (x y : ℕ) → IsNear reader.old.lists.after.lists x y
         → (x < length ranks.now) × (y < length ranks.now) }
-    requires rises { (x y : ℕ) → IsNear lists.now.after.lists x y
+    requires rises { (x y : ℕ) → IsNear reader.old.lists.after.lists x y
         → slice_index ranks.now x < slice_index ranks.now y }
     requires behind { (space.old.behind.found ≡ []) × (length row.now ≤ space.old.behind.size) }
     requires ahead { (space.old.ahead.found ≡ []) × (length row.now ≤ space.old.ahead.size) }
@@ -187,12 +186,13 @@ fn plan(
     requires pool { length row.now ≤ vec_capacity space.old.pool }
     requires shared { length row.now ≤ vec_capacity space.old.shared }
     requires copy { length row.now ≤ vec_capacity copy.old }
-    requires steps { steps.old ≡ 0 }
+    requires steps { reader.old.count ≡ 0 }
+    ensures lists { reader.new.lists ≡ reader.old.lists }
     ensures plan { MatchOption result
-        (IsOrReaches (IsNear lists.now.after.lists) (slice_index row.now 0)
+        (IsOrReaches (IsNear reader.old.lists.after.lists) (slice_index row.now 0)
         (slice_index row.now (length row.now - 1)))
-        (λ kind. IsPlanned kind (IsNear lists.now.after.lists) ranks.now low row.now
-        space.new.moved.items space.new.pool.items space.new.shared.items steps.new) }
+        (λ kind. IsPlanned kind (IsNear reader.old.lists.after.lists) ranks.now low row.now
+        space.new.moved.items space.new.pool.items space.new.shared.items reader.new.count) }
     ensures copy { vec_capacity copy.old ≤ vec_capacity copy.new }
     ensures behind { (space.new.behind.found ≡ [])
         × (space.new.behind.size ≡ space.old.behind.size) }
@@ -211,7 +211,7 @@ fn plan(
         pool,
         shared,
     } = space;
-    let searched = search_range(lists, steps, ranks, low, row, behind, ahead);
+    let searched = search_range(reader, ranks, low, row, behind, ahead);
     let plan = if have_met(searched.ended, row.len(), behind, ahead) {
         None
     } else if searched.both {
@@ -264,10 +264,10 @@ fn renumber(moved: &[u32], low: u32, start: usize, ranks: &mut [u32], order: &mu
 }
 
 /// Repairs the ranks, and the order, for an edge from `a` to `b` that goes against them, and answers
-/// how many lists were read, which `steps` has counted from 0 on. Answers `None`, and leaves the
+/// how many lists were read, which `reader` has counted from 0 on. Answers `None`, and leaves the
 /// ranks, where a walk leads from `b` to `a`.
 pub fn mend(
-    lists: &Lists,
+    reader: &mut Reader<'_>,
     ranks: &mut [u32],
     order: &mut Line,
     first: u32,
@@ -275,7 +275,6 @@ pub fn mend(
     b: u32,
     row: &mut Vec<u32>,
     space: &mut Space,
-    steps: &mut Steps,
 ) -> Option<u64>
     requires inverse { AreInverse ranks.old order.old.items first }
     requires fits { first + length order.old.items < 2 ^ 32 }
@@ -285,13 +284,13 @@ pub fn mend(
     requires against { slice_index ranks.old b < slice_index ranks.old a }
     requires few { length order.old.items ≤ length ranks.old }
     requires most { length ranks.old ≤ MOST_GRAPH_CLASSES }
-    requires classes { (length lists.now.after.lists ≡ length ranks.old)
-        × (length lists.now.before.lists ≡ length ranks.old) }
-    requires turned { (x y : ℕ) → IsNear lists.now.after.lists x y
-        ↔ IsNear lists.now.before.lists y x }
-    requires ends { (x y : ℕ) → IsNear lists.now.after.lists x y
+    requires classes { (length reader.old.lists.after.lists ≡ length ranks.old)
+        × (length reader.old.lists.before.lists ≡ length ranks.old) }
+    requires turned { (x y : ℕ) → IsNear reader.old.lists.after.lists x y
+        ↔ IsNear reader.old.lists.before.lists y x }
+    requires ends { (x y : ℕ) → IsNear reader.old.lists.after.lists x y
         → (x < length ranks.old) × (y < length ranks.old) }
-    requires rises { (x y : ℕ) → IsNear lists.now.after.lists x y
+    requires rises { (x y : ℕ) → IsNear reader.old.lists.after.lists x y
         → slice_index ranks.old x < slice_index ranks.old y }
     requires row { length ranks.old ≤ vec_capacity row.old }
     requires behind { (space.old.behind.found ≡ [])
@@ -301,11 +300,12 @@ pub fn mend(
     requires rest { length ranks.old ≤ length space.old.rest.items }
     requires pool { length ranks.old ≤ vec_capacity space.old.pool }
     requires shared { length ranks.old ≤ vec_capacity space.old.shared }
-    requires steps { steps.old ≡ 0 }
-    ensures told { IfSome result (λ expanded. expanded ≡ steps.new) }
+    requires steps { reader.old.count ≡ 0 }
+    ensures lists { reader.new.lists ≡ reader.old.lists }
+    ensures told { IfSome result (λ expanded. expanded ≡ reader.new.count) }
     ensures ranks { MatchOption result
-        ((ranks.new ≡ ranks.old) × IsOrReaches (IsNear lists.now.after.lists) b a)
-        (IsRepaired (IsNear lists.now.after.lists) a b ranks.old ranks.new) }
+        ((ranks.new ≡ ranks.old) × IsOrReaches (IsNear reader.old.lists.after.lists) b a)
+        (IsRepaired (IsNear reader.old.lists.after.lists) a b ranks.old ranks.new) }
     ensures inverse { AreInverse ranks.new order.new.items first }
     ensures order_len { length order.new.items ≡ length order.old.items }
     ensures order_room { order.new.room ≡ order.old.room }
@@ -322,10 +322,10 @@ pub fn mend(
     let low = ranks[b as usize];
     let start = (low - first) as usize;
     let end = (ranks[a as usize] - first) as usize + 1;
-    let dealt = plan(lists, ranks, low, &order.row(start, end), row, space, steps)?;
+    let dealt = plan(reader, ranks, low, &order.row(start, end), row, space)?;
     match dealt {
         Dealt::Whole => renumber(&space.moved[..end - start], low, start, ranks, order),
         Dealt::Shared => deal(&space.shared, &space.pool, low, start, ranks, order),
     }
-    Some(steps.count())
+    Some(reader.count())
 }

@@ -7,7 +7,7 @@ ghost use Rattle.ld_graph.specs.Inner.Trails.{IsHandled, IsToldFrom, IsTrail, Pl
 ghost use Rattle.ld_graph.specs.Inner.Trails.{returned, shown, stage_at, told, top_of, last_of, frame_at, wait_at, work};
 ghost use Rattle.ld_graph.specs.Lists.{IsNear, list_at};
 
-use crate::lists::{Lists, Steps};
+use crate::lists::{Lists, Reader};
 use std::alloc::{AllocError, Global};
 
 /// How far a class has come.
@@ -181,7 +181,7 @@ impl Trail {
             → stage_at (shown self.old) x ≡ Fresh) }
     {
         let top = self.top();
-        let near = lists.after(top.class, &mut Steps::new());
+        let near = Reader::new(lists).after(top.class);
         let next = self.nexts[top.class as usize];
         if next >= near.len() {
             self.leave(lists);

@@ -9,7 +9,7 @@ ghost use Rattle.ld_graph.specs.Inner.Repairs.{IsRow, IsSought, of_side, start_o
 ghost use Rattle.ld_graph.specs.Lists.{IsNear, list_at};
 
 use crate::line::Row;
-use crate::lists::{Lists, Steps};
+use crate::lists::Reader;
 use crate::search::Search;
 
 /// One of the two searches, by the neighbours that it follows.
@@ -71,8 +71,7 @@ fn expand(near: &[u32], ranks: &[u32], low: u32, len: usize, search: &mut Search
 /// Searches backward from the last class of the range and forward from its first, one class each in
 /// turn and within the range alone, until one side has ended.
 fn search_in_turn(
-    lists: &Lists,
-    steps: &mut Steps,
+    reader: &mut Reader<'_>,
     ranks: &[u32],
     low: u32,
     row: &Row<'_>,
@@ -82,27 +81,28 @@ fn search_in_turn(
     requires row { IsRow ranks.now low row.now }
     requires some { 0 < length row.now }
     requires few { length row.now ≤ MOST_GRAPH_CLASSES }
-    requires classes { (length lists.now.after.lists ≡ length ranks.now)
-        × (length lists.now.before.lists ≡ length ranks.now) }
-    requires after { (x y : ℕ) → IsNear lists.now.after.lists x y → y < length ranks.now }
-    requires before { (x y : ℕ) → IsNear lists.now.before.lists x y → y < length ranks.now }
+    requires classes { (length reader.old.lists.after.lists ≡ length ranks.now)
+        × (length reader.old.lists.before.lists ≡ length ranks.now) }
+    requires after { (x y : ℕ) → IsNear reader.old.lists.after.lists x y → y < length ranks.now }
+    requires before { (x y : ℕ) → IsNear reader.old.lists.before.lists x y → y < length ranks.now }
     requires behind { (behind.old.found ≡ []) × (length row.now ≤ behind.old.size) }
     requires ahead { (ahead.old.found ≡ []) × (length row.now ≤ ahead.old.size) }
-    requires steps { steps.old + 2 * length row.now < 2 ^ 64 }
+    requires steps { reader.old.count + 2 * length row.now < 2 ^ 64 }
     ensures size { (behind.new.size ≡ behind.old.size) × (ahead.new.size ≡ ahead.old.size) }
-    ensures behind { IsSought (IsNear lists.now.before.lists) row.now (length row.now - 1)
+    ensures behind { IsSought (IsNear reader.old.lists.before.lists) row.now (length row.now - 1)
         behind.new.found }
-    ensures ahead { IsSought (IsNear lists.now.after.lists) row.now 0 ahead.new.found }
-    ensures ended { HasEnded result.ended lists.now ranks.now low row.now
+    ensures ahead { IsSought (IsNear reader.old.lists.after.lists) row.now 0 ahead.new.found }
+    ensures ended { HasEnded result.ended reader.old.lists ranks.now low row.now
         behind.new.found ahead.new.found }
-    ensures behind_read { HasAllNear (IsNear lists.now.before.lists) ranks.now low row.now
+    ensures behind_read { HasAllNear (IsNear reader.old.lists.before.lists) ranks.now low row.now
         behind.new.found result.behind }
-    ensures ahead_read { HasAllNear (IsNear lists.now.after.lists) ranks.now low row.now
+    ensures ahead_read { HasAllNear (IsNear reader.old.lists.after.lists) ranks.now low row.now
         ahead.new.found result.ahead }
     ensures read { (result.behind ≤ length behind.new.found)
         × (result.ahead ≤ length ahead.new.found) }
     ensures few { (result.behind ≤ length row.now) × (result.ahead ≤ length row.now) }
-    ensures steps { steps.new ≡ steps.old + result.behind + result.ahead }
+    ensures lists { reader.new.lists ≡ reader.old.lists }
+    ensures steps { reader.new.count ≡ reader.old.count + result.behind + result.ahead }
     ensures some { 0 < result.behind }
 {
     behind.add(row.len() as u32 - 1);
@@ -110,7 +110,7 @@ fn search_in_turn(
     let mut done = 0;
     loop {
         let last = behind.offset(done);
-        let near = lists.before(row.class(last), steps);
+        let near = reader.before(row.class(last));
         expand(near, ranks, low, row.len(), behind);
         if behind.ends_at(done + 1) {
             return Turns {
@@ -120,7 +120,7 @@ fn search_in_turn(
             };
         }
         let first = ahead.offset(done);
-        let near = lists.after(row.class(first), steps);
+        let near = reader.after(row.class(first));
         expand(near, ranks, low, row.len(), ahead);
         if ahead.ends_at(done + 1) {
             return Turns {
@@ -134,15 +134,16 @@ fn search_in_turn(
 }
 
 /// The neighbours of a class on this side. Adds one to the count.
-fn neighbours_on<'a>(lists: &'a Lists, side: Side, class: u32, steps: &mut Steps) -> &'a [u32]
-    requires class { class < length (of_side side lists.now) }
-    requires few { steps.old + 1 < 2 ^ 64 }
-    ensures near { result.now ≡ list_at (of_side side lists.now) class }
-    ensures step { steps.new ≡ steps.old + 1 }
+fn neighbours_on<'l>(reader: &mut Reader<'l>, side: Side, class: u32) -> &'l [u32]
+    requires class { class < length (of_side side reader.old.lists) }
+    requires few { reader.old.count + 1 < 2 ^ 64 }
+    ensures near { result.now ≡ list_at (of_side side reader.old.lists) class }
+    ensures lists { reader.new.lists ≡ reader.old.lists }
+    ensures step { reader.new.count ≡ reader.old.count + 1 }
 {
     match side {
-        Side::After => lists.after(class, steps),
-        Side::Before => lists.before(class, steps),
+        Side::After => reader.after(class),
+        Side::Before => reader.before(class),
     }
 }
 
@@ -150,8 +151,7 @@ fn neighbours_on<'a>(lists: &'a Lists, side: Side, class: u32, steps: &mut Steps
 /// and answers whether it has ended.
 fn go_on(
     side: Side,
-    lists: &Lists,
-    steps: &mut Steps,
+    reader: &mut Reader<'_>,
     ranks: &[u32],
     low: u32,
     row: &Row<'_>,
@@ -161,22 +161,23 @@ fn go_on(
 ) -> bool
     requires row { IsRow ranks.now low row.now }
     requires few { length row.now ≤ MOST_GRAPH_CLASSES }
-    requires classes { length (of_side side lists.now) ≡ length ranks.now }
-    requires ends { (x y : ℕ) → IsNear (of_side side lists.now) x y → y < length ranks.now }
+    requires classes { length (of_side side reader.old.lists) ≡ length ranks.now }
+    requires ends { (x y : ℕ) → IsNear (of_side side reader.old.lists) x y → y < length ranks.now }
     requires size { length row.now ≤ search.old.size }
-    requires sought { IsSought (IsNear (of_side side lists.now)) row.now
+    requires sought { IsSought (IsNear (of_side side reader.old.lists)) row.now
         (start_of side (length row.now)) search.old.found }
-    requires near { HasAllNear (IsNear (of_side side lists.now)) ranks.now low row.now
+    requires near { HasAllNear (IsNear (of_side side reader.old.lists)) ranks.now low row.now
         search.old.found read }
     requires read { read ≤ length search.old.found }
-    requires steps { steps.old + length row.now < 2 ^ 64 }
+    requires steps { reader.old.count + length row.now < 2 ^ 64 }
     ensures size { search.new.size ≡ search.old.size }
-    ensures sought { IsSought (IsNear (of_side side lists.now)) row.now
+    ensures sought { IsSought (IsNear (of_side side reader.old.lists)) row.now
         (start_of side (length row.now)) search.new.found }
-    ensures ended { OnTrue result (HasAllNear (IsNear (of_side side lists.now)) ranks.now low row.now
+    ensures ended { OnTrue result (HasAllNear (IsNear (of_side side reader.old.lists)) ranks.now low row.now
         search.new.found (length search.new.found)) }
-    ensures read_more { steps.new + read ≤ steps.old + length search.new.found }
-    ensures kept { steps.old ≤ steps.new }
+    ensures lists { reader.new.lists ≡ reader.old.lists }
+    ensures read_more { reader.new.count + read ≤ reader.old.count + length search.new.found }
+    ensures kept { reader.old.count ≤ reader.new.count }
 {
     let mut done = read;
     while !search.ends_at(done) {
@@ -184,7 +185,7 @@ fn go_on(
             return false;
         }
         let offset = search.offset(done);
-        let near = neighbours_on(lists, side, row.class(offset), steps);
+        let near = neighbours_on(reader, side, row.class(offset));
         expand(near, ranks, low, row.len(), search);
         done += 1;
     }
@@ -194,8 +195,7 @@ fn go_on(
 /// Searches from both ends of the range within it, in turn until one side has ended. Then the other one may go
 /// on for as many lists as it has read, one more, and a 64th of the range.
 pub fn search_range(
-    lists: &Lists,
-    steps: &mut Steps,
+    reader: &mut Reader<'_>,
     ranks: &[u32],
     low: u32,
     row: &Row<'_>,
@@ -205,25 +205,26 @@ pub fn search_range(
     requires row { IsRow ranks.now low row.now }
     requires some { 0 < length row.now }
     requires few { length row.now ≤ MOST_GRAPH_CLASSES }
-    requires classes { (length lists.now.after.lists ≡ length ranks.now)
-        × (length lists.now.before.lists ≡ length ranks.now) }
-    requires after { (x y : ℕ) → IsNear lists.now.after.lists x y → y < length ranks.now }
-    requires before { (x y : ℕ) → IsNear lists.now.before.lists x y → y < length ranks.now }
+    requires classes { (length reader.old.lists.after.lists ≡ length ranks.now)
+        × (length reader.old.lists.before.lists ≡ length ranks.now) }
+    requires after { (x y : ℕ) → IsNear reader.old.lists.after.lists x y → y < length ranks.now }
+    requires before { (x y : ℕ) → IsNear reader.old.lists.before.lists x y → y < length ranks.now }
     requires behind { (behind.old.found ≡ []) × (length row.now ≤ behind.old.size) }
     requires ahead { (ahead.old.found ≡ []) × (length row.now ≤ ahead.old.size) }
-    requires steps { steps.old + 3 * length row.now < 2 ^ 64 }
+    requires steps { reader.old.count + 3 * length row.now < 2 ^ 64 }
     ensures size { (behind.new.size ≡ behind.old.size) × (ahead.new.size ≡ ahead.old.size) }
-    ensures behind { IsSought (IsNear lists.now.before.lists) row.now (length row.now - 1)
+    ensures behind { IsSought (IsNear reader.old.lists.before.lists) row.now (length row.now - 1)
         behind.new.found }
-    ensures ahead { IsSought (IsNear lists.now.after.lists) row.now 0 ahead.new.found }
-    ensures ended { HasEnded result.ended lists.now ranks.now low row.now
+    ensures ahead { IsSought (IsNear reader.old.lists.after.lists) row.now 0 ahead.new.found }
+    ensures ended { HasEnded result.ended reader.old.lists ranks.now low row.now
         behind.new.found ahead.new.found }
     ensures both { OnTrue result.both
-        (HaveEnded lists.now ranks.now low row.now behind.new.found ahead.new.found) }
-    ensures most { steps.new ≤ steps.old + length behind.new.found + length ahead.new.found }
-    ensures some { steps.old < steps.new }
+        (HaveEnded reader.old.lists ranks.now low row.now behind.new.found ahead.new.found) }
+    ensures lists { reader.new.lists ≡ reader.old.lists }
+    ensures most { reader.new.count ≤ reader.old.count + length behind.new.found + length ahead.new.found }
+    ensures some { reader.old.count < reader.new.count }
 {
-    let turns = search_in_turn(lists, steps, ranks, low, row, behind, ahead);
+    let turns = search_in_turn(reader, ranks, low, row, behind, ahead);
     // That much reading costs about what it costs to part the range.
     let more = row.len() / 64;
     let both = match turns.ended {
@@ -231,8 +232,7 @@ pub fn search_range(
             let most = 2 * turns.ahead + 1 + more;
             go_on(
                 Side::After,
-                lists,
-                steps,
+                reader,
                 ranks,
                 low,
                 row,
@@ -245,8 +245,7 @@ pub fn search_range(
             let most = 2 * turns.behind + 1 + more;
             go_on(
                 Side::Before,
-                lists,
-                steps,
+                reader,
                 ranks,
                 low,
                 row,

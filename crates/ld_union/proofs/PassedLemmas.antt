@@ -4,7 +4,7 @@ use Rattle.std.proofs.lemmas.Bool.{cases_order}
 use Rattle.std.proofs.lemmas.List.{get_or_default}
 use Rattle.ld_class.specs.Names.{IsNameAt, PlainClass}
 use Rattle.ld_union.specs.Findings.{InTurn, IsBefore}
-use Rattle.ld_union.specs.Inner.ByName.{AreByName, AreRising, class_at, class_name, name_at, place_of_class}
+use Rattle.ld_union.specs.Inner.ByName.{AreByName, AreRising, class_name, name_at, place_of_class}
 use Rattle.ld_union.specs.Inner.Rows.{AreRowsOf, IsPassed}
 use Rattle.ld_union.proofs.RowLemmas.{rows-append}
 

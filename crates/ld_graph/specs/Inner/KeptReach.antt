@@ -11,10 +11,10 @@ use Rattle.ld_graph.specs.Reach.{IsSource, PlainReach}
 abbrev pub reach_of : Inside → PlainReach
 reach_of r = record {
   sources = r.sources.items;
-  marks = r.marks.items;
+  marks = r.marks.each;
   reached = r.reached.items;
   spare = r.spare;
-  expanded = r.steps;
+  expanded = r.marks.count;
 }
 
 -- the list has the classes with a source, each once
@@ -24,15 +24,15 @@ pub record AreReached (sources : List (Option ℕ)) (reached : List ℕ) : Type 
 
 -- what holds of the fields of every reach
 pub record IsReachKept (r : Inside) : Type 0 where
-  pub same : vec_len r.sources ≡ vec_len r.marks
-  pub counted : r.steps ≡ count_by (λ m. m) r.marks.items
+  pub same : vec_len r.sources ≡ length r.marks.each
+  pub counted : r.marks.count ≡ count_by (λ m. m) r.marks.each
   pub listed : AreReached r.sources.items r.reached.items
   -- each class is in the list once, or has no source
-  pub each_once : vec_len r.reached + count_by is_none r.sources.items ≡ vec_len r.marks
-  pub room_sources : vec_len r.marks + r.spare ≤ vec_capacity r.sources
-  pub room_marks : vec_len r.marks + r.spare ≤ vec_capacity r.marks
-  pub room_reached : vec_len r.marks + r.spare ≤ vec_capacity r.reached
-  pub few : vec_len r.marks + r.spare ≤ MOST_GRAPH_CLASSES
+  pub each_once : vec_len r.reached + count_by is_none r.sources.items ≡ length r.marks.each
+  pub room_sources : length r.marks.each + r.spare ≤ vec_capacity r.sources
+  pub room_marks : length r.marks.each + r.spare ≤ r.marks.room
+  pub room_reached : length r.marks.each + r.spare ≤ vec_capacity r.reached
+  pub few : length r.marks.each + r.spare ≤ MOST_GRAPH_CLASSES
 
 -- The class has this source now, unless it had one, and is in the list.
 pub record IsGiven (class from : ℕ) (sources : List (Option ℕ)) (reached : List ℕ) (new_sources : List (Option ℕ)) (new_reached : List ℕ) : Type 0 where

@@ -1,7 +1,7 @@
 -- The numbers of the classes in the order of their names. No public contract cites this file.
 use Rattle.std.specs.Prelude.{◌≡◌, ℕ, ◌<◌, List, length, All, slice_index_or}
 use Rattle.ld_class.specs.Names.{PlainClass, no_class}
-use Rattle.std.proofs.Common.{◌⊎◌, inl, inr, ap, subst, sym, ◌∙◌, is_lt, true≢false}
+use Rattle.std.proofs.Common.{inl, inr, ap, subst, sym, ◌∙◌, is_lt, true≢false}
 use Rattle.std.proofs.Props.{props}
 use Rattle.std.proofs.lemmas.Cmp.{nat_list_cmp_total, tied_itself}
 use Rattle.std.specs.Cmp.Lexicographic.{slice_cmp}

@@ -3,6 +3,7 @@ use Rattle.std.specs.Prelude.{◌≡◌, ◌↔◌, ◌<◌, ℕ, List, Contains
 use Rattle.ld_class.specs.Names.{PlainClass}
 use Rattle.ld_graph.specs.Edges.{IsEdge}
 use Rattle.ld_graph.specs.Components.{AreComponents}
+use Rattle.ld_graph.specs.Nexts.{AreNexts}
 use Rattle.ld_graph.specs.Walks.{AreEnough, HasWalk}
 use Rattle.ld_trace.specs.declared.event.State.{State}
 use Rattle.ld_trace.specs.Sources.{PlainSource}
@@ -93,6 +94,10 @@ pub record AreAcquired (union : PlainUnion) (state : State) (acquired : List ℕ
 pub record AreEnoughFrom (union : PlainUnion) (from to : ℕ) (distances : List (Option ℕ)) : Type 0 where
   pub len : length distances ≡ length union.classes
   pub enough : AreEnough (IsEdge (edges_of union.dependencies)) from to (λ c. slice_index_or distances c None)
+
+-- the next classes that are noted are those of these distances and of the order of names
+abbrev pub AreNextsOf : PlainUnion → (places : List ℕ) → (distances nexts : List (Option ℕ)) → Type 0
+AreNextsOf union places distances nexts = AreNexts (IsEdge (edges_of union.dependencies)) distances places nexts
 
 -- which classes of a union are in one component
 abbrev pub AreComponentsOf : PlainUnion → List ℕ → Type 0

@@ -15,7 +15,7 @@ use crate::findings::walks::walk_names;
 use crate::rows::Rows;
 use crate::union::Union;
 use ld_class::ClassName;
-use ld_graph::{Distance, Distances, Steps};
+use ld_graph::{Distance, Distances, Nexts, Reader};
 use ld_rules::Witness;
 use std::alloc::{AllocError, Global};
 
@@ -130,7 +130,7 @@ fn places_on_cycle(
         → slice_index_or places.items i 0 < slice_index_or places.items j 0) }
 {
     let mut places = Vec::new(alloc);
-    for &to in indexed.union.graph().lists().after(from, &mut Steps::new()) {
+    for &to in Reader::new(indexed.union.graph().lists()).after(from) {
         if components[to as usize] == components[from as usize] {
             places.push(indexed.order.places[to as usize])?;
         }
@@ -170,7 +170,8 @@ fn cycle_row<'a>(
         // A class that is acquired under itself shows no walk.
         Rows::from(Vec::new(alloc))
     } else {
-        let Some(via) = walk_names(alloc, indexed, distances, to, from)? else {
+        let mut nexts = Nexts::new(alloc, 0)?;
+        let Some(via) = walk_names(alloc, indexed, distances, &mut nexts, to, from)? else {
             return Ok(None);
         };
         via

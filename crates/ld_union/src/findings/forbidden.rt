@@ -6,7 +6,7 @@ ghost use Rattle.ld_rules.specs.Union.{dependency_witness, use_witness};
 ghost use Rattle.ld_rules.specs.Usage.Bit.{On};
 ghost use Rattle.ld_union.specs.Findings.{AreForbiddenRows, plain_forbidden_row};
 ghost use Rattle.ld_union.specs.Inner.ByName.{class_name};
-ghost use Rattle.ld_union.specs.Inner.Rows.{AreAcquired, AreEnoughFrom, AreForbiddenRowsOf, AreTurnedRows};
+ghost use Rattle.ld_union.specs.Inner.Rows.{AreAcquired, AreEnoughFrom, AreForbiddenRowsOf, AreNextsOf, AreTurnedRows};
 ghost use Rattle.ld_union.specs.Inner.Rows.{AreTurnedRowsOf, IsNoted, IsOfEach, IsTurnedRowOf};
 ghost use Rattle.ld_union.specs.Inner.Union.{Shows};
 ghost use Rattle.ld_union.specs.Violations.{IsForbidden};
@@ -18,7 +18,7 @@ use crate::findings::walks::walk_names;
 use crate::rows::Rows;
 use crate::union::Union;
 use ld_class::ClassName;
-use ld_graph::{Distance, Distances};
+use ld_graph::{Distance, Distances, Nexts};
 use ld_rules::Witness;
 use ld_trace::State;
 use std::alloc::{AllocError, Global};
@@ -101,9 +101,19 @@ fn forbidden_by_end<'a>(
 {
     let mut rows = Vec::new(alloc);
     let acquired = acquired_by_name(alloc, indexed, state)?;
-    let mut distances = Distances::new(alloc, indexed.union.graph().len())?;
+    let classes = indexed.union.graph().len();
+    let mut distances = Distances::new(alloc, classes)?;
+    let mut nexts = Nexts::new(alloc, classes)?;
     for to in &indexed.order.numbers {
-        let mut more = forbidden_to(alloc, indexed, state, &acquired, &mut distances, *to)?;
+        let mut more = forbidden_to(
+            alloc,
+            indexed,
+            state,
+            &acquired,
+            &mut distances,
+            &mut nexts,
+            *to,
+        )?;
         rows.append(&mut more)?;
     }
     Ok(rows)
@@ -126,14 +136,15 @@ fn acquired_by_name(
     Ok(classes)
 }
 
-/// Those that lead to this class, by the name of the other end, which is one of these. The list of distances is
-/// the same for all of them.
+/// Those that lead to this class, by the name of the other end, which is one of these. The list of distances and that
+/// of next classes are the same for all of them.
 fn forbidden_to<'a>(
     alloc: Global,
     indexed: Indexed<'_, 'a>,
     state: State,
     acquired: &[u32],
     distances: &mut Distances,
+    nexts: &mut Nexts,
     to: u32,
 ) -> Result<Vec<ForbiddenRow<'a>>, AllocError>
     requires acquired { AreAcquired indexed.union.now state acquired.now }
@@ -154,12 +165,13 @@ fn forbidden_to<'a>(
         return Ok(rows);
     }
     indexed.union.graph().distances_to(to, acquired, distances);
+    nexts.clear();
     let target = Target {
         class: to,
         distances: distances.levels(),
     };
     for from in acquired {
-        if let Some(row) = forbidden_row(alloc, indexed, &target, held, state, *from)? {
+        if let Some(row) = forbidden_row(alloc, indexed, &target, nexts, held, state, *from)? {
             rows.push(row)?;
         }
     }
@@ -172,6 +184,7 @@ fn forbidden_row<'a>(
     alloc: Global,
     indexed: Indexed<'_, 'a>,
     target: &Target<'_>,
+    nexts: &mut Nexts,
     held: UsedClass<'a>,
     state: State,
     from: u32,
@@ -183,7 +196,9 @@ fn forbidden_row<'a>(
         → IsNoted sources (class_name indexed.union.now.classes target.now.class) (On state)
         (plain_class held.name) held.marks held.at }
     requires from { from < length indexed.union.now.classes }
-    ensures { IfOk result (λ row. (sources : List PlainSource)
+    requires nexts { AreNextsOf indexed.union.now indexed.order.now.places.items target.now.distances.now nexts.old }
+    ensures nexts { AreNextsOf indexed.entry.union.now indexed.entry.order.now.places.items target.now.distances.now nexts.new }
+    ensures row { IfOk result (λ row. (sources : List PlainSource)
         → Shows sources indexed.entry.union.now
         → MatchOption row
         (¬ IsForbidden sources state (class_name indexed.entry.union.now.classes from)
@@ -194,7 +209,7 @@ fn forbidden_row<'a>(
     let Some(acquired) = noted(indexed.union, from, in_bit(state)) else {
         return Ok(None);
     };
-    let Some(via) = walk_names(alloc, indexed, target.distances, from, target.class)? else {
+    let Some(via) = walk_names(alloc, indexed, target.distances, nexts, from, target.class)? else {
         return Ok(None);
     };
     Ok(Some(ForbiddenRow {

@@ -1,5 +1,6 @@
 use Rattle.std.proofs.Common.{inl, inr, ◌≡◌, ◌+◌, ◌∙◌, ℕ, [], None, Contains, ap, arith, get_or, length, subst, sym}
 use Rattle.std.proofs.lemmas.List.{get_or_default}
+use Rattle.ld_graph.specs.Lists.{list_at}
 use Rattle.ld_graph.specs.Inner.Insides.{IsInsideOf, IsNearInside}
 use Rattle.ld_graph.specs.Inner.Levels.{HasLevel, Spreads}
 use Rattle.ld_graph.proofs.SpreadLemmas.{count_none}
@@ -15,7 +16,7 @@ loop-done-init c =
     subst (λ q. Spreads (IsNearInside c.args.lists.now.before.lists c.args.components.now component c.args.end) 1
     c.args.levels.now q c.expand_inside.new.levels c.expand_inside.new.queue.items) c.requires.empty
     (subst (λ n. Spreads (IsInsideOf c.args.components.now component n) 1 c.args.levels.now c.args.queue.now.items
-    c.expand_inside.new.levels c.expand_inside.new.queue.items) c.before-2.ensures.near c.expand_inside.ensures.spreads) in
+    c.expand_inside.new.levels c.expand_inside.new.queue.items) (c.before-2.ensures.near ∙ ap (λ l. list_at l.before.lists c.args.end) c.new.ensures.lists) c.expand_inside.ensures.spreads) in
     let few = count_none c.args.levels.now in
     let none : length c.args.queue.now.items ≡ 0 = ap length c.requires.empty in
     record {
@@ -24,9 +25,8 @@ loop-done-init c =
       partial = IsPartial-begun (IsNearInside c.args.lists.now.before.lists c.args.components.now (get_or c.args.components.now c.args.end 0)) c.args.end c.args.levels.now
           c.expand_inside.new.levels c.expand_inside.new.queue.items c.requires.none spreads
           (subst (λ n. (x : ℕ) → IsInsideOf c.args.components.now component n x → HasLevel c.expand_inside.new.levels x)
-          c.before-2.ensures.near c.expand_inside.ensures.reached);
+          (c.before-2.ensures.near ∙ ap (λ l. list_at l.before.lists c.args.end) c.new.ensures.lists) c.expand_inside.ensures.reached);
       known = λ i l. absurd (omega (arith, l));
-      steps = omega arith;
     }
 
 pub loop-done-preserved : goal.loop-done-preserved
@@ -46,12 +46,11 @@ loop-done-preserved c =
           (get_or_default c.loop-done.levels c.index-class.result.now None c.index-levels-class.result (next_within (IsNearInside c.args.lists.now.before.lists c.args.components.now (get_or c.args.components.now c.args.end 0)) c.args.end c.loop-done.done c.loop-done.levels c.loop-done.queue.items c.loop-done.invariant.partial (omega (arith, c.loop-done-test.true, c.len.ensures)) c.index-class.result.now c.index-class.ensures) ∙ sym c.get.ensures ∙ c.in-Some.is)
           (subst (λ n. Spreads (IsInsideOf c.args.components.now (get_or c.args.components.now c.args.end 0) n) (c.in-Some.level + 1) c.loop-done.levels
           c.loop-done.queue.items c.expand_inside-in-loop-done.new.levels
-          c.expand_inside-in-loop-done.new.queue.items) c.before-in-loop-done.ensures.near
+          c.expand_inside-in-loop-done.new.queue.items) (c.before-in-loop-done.ensures.near ∙ ap (λ l. list_at l.before.lists c.index-class.result.now) c.new-in-loop-done.ensures.lists)
           c.expand_inside-in-loop-done.ensures.spreads)
           (subst (λ n. (x : ℕ) → IsInsideOf c.args.components.now (get_or c.args.components.now c.args.end 0) n x → HasLevel c.expand_inside-in-loop-done.new.levels x)
-          c.before-in-loop-done.ensures.near c.expand_inside-in-loop-done.ensures.reached);
+          (c.before-in-loop-done.ensures.near ∙ ap (λ l. list_at l.before.lists c.index-class.result.now) c.new-in-loop-done.ensures.lists) c.expand_inside-in-loop-done.ensures.reached);
       known = λ i l. let r = c.known_front-known.ensures.known i l in (r.0, c.expand_inside-in-loop-done.ensures.spreads.kept (get_or c.args.wanted.now i 0) r.0 r.1);
-      steps = omega arith;
     }
 
 pub loop-done-smaller : goal.loop-done-smaller
@@ -93,13 +92,13 @@ returns-clause-levels c = λ i d within.
 
 pub expand_inside-requires-clause-ends : goal.expand_inside-requires-clause-ends
 expand_inside-requires-clause-ends c = λ x n.
-    let e = c.requires.ends c.args.end x (subst (λ l. Contains l x) c.before-2.ensures.near n)
+    let e = c.requires.ends c.args.end x (subst (λ l. Contains l x) (c.before-2.ensures.near ∙ ap (λ l. list_at l.before.lists c.args.end) c.new.ensures.lists) n)
     in omega (arith, e, c.requires.classes)
 
 pub expand_inside-requires-in-loop-done-clause-ends : goal.expand_inside-requires-in-loop-done-clause-ends
 expand_inside-requires-in-loop-done-clause-ends c = λ x n.
     let e = c.requires.ends c.index-class.result.now x
-    (subst (λ l. Contains l x) c.before-in-loop-done.ensures.near n)
+    (subst (λ l. Contains l x) (c.before-in-loop-done.ensures.near ∙ ap (λ l. list_at l.before.lists c.index-class.result.now) c.new-in-loop-done.ensures.lists) n)
     in omega (arith, e, c.requires.classes, c.loop-done.auto.levels)
 
 pub returns-clause-touched : goal.returns-clause-touched
@@ -125,4 +124,5 @@ before-requires-in-loop-done-clause-class c =
     c.loop-done.queue.items c.loop-done.invariant.partial
     (omega (arith, c.loop-done-test.true, c.len.ensures)) c.index-class.result.now
     c.index-class.ensures in
-    omega (arith, within, c.requires.classes, c.loop-done.auto.levels)
+    let same = ap (λ l. length l.before.lists) c.new-in-loop-done.ensures.lists in
+    omega (arith, same, within, c.requires.classes, c.loop-done.auto.levels)

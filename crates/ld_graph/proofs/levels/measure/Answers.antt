@@ -1,6 +1,6 @@
 use Rattle.std.proofs.Common.{inl, inr, ◌≡◌, ◌+◌, ◌∙◌, ℕ, [], None, Contains, ap, arith, get_or, length, subst, sym}
 use Rattle.std.proofs.lemmas.List.{get_or_default}
-use Rattle.ld_graph.specs.Lists.{IsNear}
+use Rattle.ld_graph.specs.Lists.{IsNear, list_at}
 use Rattle.ld_graph.specs.Inner.Levels.{HasLevel, Spreads}
 use Rattle.ld_graph.proofs.SpreadLemmas.{count_none}
 use Rattle.ld_graph.proofs.SearchLemmas.{IsPartial-begun, IsPartial-next, IsPartial-levels, IsPartial-touched}
@@ -14,7 +14,7 @@ loop-done-init c =
     subst (λ q. Spreads (IsNear c.args.lists.now.before.lists c.args.end) 1
     c.args.levels.now q c.expand.new.levels c.expand.new.queue.items) c.requires.empty
     (subst (λ n. Spreads (Contains n) 1 c.args.levels.now c.args.queue.now.items
-    c.expand.new.levels c.expand.new.queue.items) c.before-2.ensures.near c.expand.ensures.spreads) in
+    c.expand.new.levels c.expand.new.queue.items) (c.before-2.ensures.near ∙ ap (λ l. list_at l.before.lists c.args.end) c.new.ensures.lists) c.expand.ensures.spreads) in
     let few = count_none c.args.levels.now in
     let none : length c.args.queue.now.items ≡ 0 = ap length c.requires.empty in
     record {
@@ -23,9 +23,8 @@ loop-done-init c =
       partial = IsPartial-begun (IsNear c.args.lists.now.before.lists) c.args.end c.args.levels.now
           c.expand.new.levels c.expand.new.queue.items c.requires.none spreads
           (subst (λ n. (x : ℕ) → Contains n x → HasLevel c.expand.new.levels x)
-          c.before-2.ensures.near c.expand.ensures.reached);
+          (c.before-2.ensures.near ∙ ap (λ l. list_at l.before.lists c.args.end) c.new.ensures.lists) c.expand.ensures.reached);
       known = λ i l. absurd (omega (arith, l));
-      steps = omega arith;
     }
 
 pub loop-done-preserved : goal.loop-done-preserved
@@ -45,12 +44,11 @@ loop-done-preserved c =
           (get_or_default c.loop-done.levels c.index-class.result.now None c.index-levels-class.result (next_within (IsNear c.args.lists.now.before.lists) c.args.end c.loop-done.done c.loop-done.levels c.loop-done.queue.items c.loop-done.invariant.partial (omega (arith, c.loop-done-test.true, c.len.ensures)) c.index-class.result.now c.index-class.ensures) ∙ sym c.get.ensures ∙ c.in-Some.is)
           (subst (λ n. Spreads (Contains n) (c.in-Some.level + 1) c.loop-done.levels
           c.loop-done.queue.items c.expand-in-loop-done.new.levels
-          c.expand-in-loop-done.new.queue.items) c.before-in-loop-done.ensures.near
+          c.expand-in-loop-done.new.queue.items) (c.before-in-loop-done.ensures.near ∙ ap (λ l. list_at l.before.lists c.index-class.result.now) c.new-in-loop-done.ensures.lists)
           c.expand-in-loop-done.ensures.spreads)
           (subst (λ n. (x : ℕ) → Contains n x → HasLevel c.expand-in-loop-done.new.levels x)
-          c.before-in-loop-done.ensures.near c.expand-in-loop-done.ensures.reached);
+          (c.before-in-loop-done.ensures.near ∙ ap (λ l. list_at l.before.lists c.index-class.result.now) c.new-in-loop-done.ensures.lists) c.expand-in-loop-done.ensures.reached);
       known = λ i l. let r = c.known_front-known.ensures.known i l in (r.0, c.expand-in-loop-done.ensures.spreads.kept (get_or c.args.wanted.now i 0) r.0 r.1);
-      steps = omega arith;
     }
 
 pub loop-done-smaller : goal.loop-done-smaller
@@ -92,13 +90,13 @@ returns-clause-levels c = λ i d within.
 
 pub expand-requires-clause-ends : goal.expand-requires-clause-ends
 expand-requires-clause-ends c = λ x n.
-    let e = c.requires.ends c.args.end x (subst (λ l. Contains l x) c.before-2.ensures.near n)
+    let e = c.requires.ends c.args.end x (subst (λ l. Contains l x) (c.before-2.ensures.near ∙ ap (λ l. list_at l.before.lists c.args.end) c.new.ensures.lists) n)
     in omega (arith, e, c.requires.classes)
 
 pub expand-requires-in-loop-done-clause-ends : goal.expand-requires-in-loop-done-clause-ends
 expand-requires-in-loop-done-clause-ends c = λ x n.
     let e = c.requires.ends c.index-class.result.now x
-    (subst (λ l. Contains l x) c.before-in-loop-done.ensures.near n)
+    (subst (λ l. Contains l x) (c.before-in-loop-done.ensures.near ∙ ap (λ l. list_at l.before.lists c.index-class.result.now) c.new-in-loop-done.ensures.lists) n)
     in omega (arith, e, c.requires.classes, c.loop-done.auto.levels)
 
 pub returns-clause-touched : goal.returns-clause-touched
@@ -123,4 +121,5 @@ before-requires-in-loop-done-clause-class c =
     c.loop-done.queue.items c.loop-done.invariant.partial
     (omega (arith, c.loop-done-test.true, c.len.ensures)) c.index-class.result.now
     c.index-class.ensures in
-    omega (arith, within, c.requires.classes, c.loop-done.auto.levels)
+    let same = ap (λ l. length l.before.lists) c.new-in-loop-done.ensures.lists in
+    omega (arith, within, same, c.requires.classes, c.loop-done.auto.levels)

@@ -1,4 +1,4 @@
-use Rattle.std.proofs.Common.{◌≡◌, ◌+◌, ◌-◌, ◌<◌, ◌≤◌, ℕ, length, count_by, get_or, is_none, vec_len, vec_capacity}
+use Rattle.std.proofs.Common.{◌+◌, ◌-◌, ◌<◌, ◌≤◌, ℕ, length, count_by, get_or, is_none, vec_len, vec_capacity}
 use Rattle.ld_graph.specs.Inner.Levels.{HasLevel}
 use Rattle.ld_graph.specs.Lists.{IsNear}
 use Rattle.ld_graph.proofs.SearchLemmas.{IsPartial}
@@ -8,7 +8,6 @@ abbrev pub invariant-loop-done : goal.invariant-loop-done
 invariant-loop-done l = record {
   count : vec_len l.queue + count_by is_none l.levels ≤ length l.lists.before.lists;
   known : (i : ℕ) → i < l.known → HasLevel l.levels (get_or l.wanted i 0);
-  steps : l.steps ≡ l.done + 1;
   capacity : vec_capacity l.fn.queue ≤ vec_capacity l.queue;
   partial : IsPartial (IsNear l.lists.before.lists) l.end l.done l.levels l.queue.items;
 }

@@ -11,7 +11,7 @@ use Rattle.ld_graph.proofs.repair.mend.Goals.{in-Shared, in-Whole}
 pub returns-in_err-dealt-clause-ranks : goal.returns-in_err-dealt-clause-ranks
 returns-in_err-dealt-clause-ranks c = rw c.from_residual.ensures (
   refl,
-  copy_reaches (IsNear c.args.lists.now.after.lists) c.args.ranks.now c.args.order.now.items
+  copy_reaches (IsNear c.args.reader.now.lists.after.lists) c.args.ranks.now c.args.order.now.items
       c.args.first c.requires.inverse c.args.a c.args.b (get_or c.args.ranks.now c.args.b 0)
       (get_or c.args.ranks.now c.args.a 0) (get_or c.args.ranks.now c.args.b 0 - c.args.first) refl
       refl refl c.requires.ranked c.requires.against c.requires.rises c.requires.ends _
@@ -21,14 +21,14 @@ returns-in_err-dealt-clause-ranks c = rw c.from_residual.ensures (
 
 pub renumber-requires-clause-ends : goal.renumber-requires-clause-ends
 renumber-requires-clause-ends c =
-    let planned : IsPlanned Whole (IsNear c.args.lists.now.after.lists) c.args.ranks.now (get_or c.args.ranks.now
+    let planned : IsPlanned Whole (IsNear c.args.reader.now.lists.after.lists) c.args.ranks.now (get_or c.args.ranks.now
     c.args.b 0) c.row.result c.plan.new.space.moved.items c.plan.new.space.pool.items
-    c.plan.new.space.shared.items c.plan.new.steps = subst (λ d. IsPlanned d (IsNear
-    c.args.lists.now.after.lists) c.args.ranks.now (get_or c.args.ranks.now c.args.b 0) c.row.result
+    c.plan.new.space.shared.items c.plan.new.reader.count = subst (λ d. IsPlanned d (IsNear
+    c.args.reader.now.lists.after.lists) c.args.ranks.now (get_or c.args.ranks.now c.args.b 0) c.row.result
     c.plan.new.space.moved.items c.plan.new.space.pool.items
-    c.plan.new.space.shared.items c.plan.new.steps) c.in-Whole.is c.in_ok-dealt.ensures.plan in
+    c.plan.new.space.shared.items c.plan.new.reader.count) c.in-Whole.is c.in_ok-dealt.ensures.plan in
     let n : get_or c.args.ranks.now c.args.a 0 - c.args.first + 1 - (get_or c.args.ranks.now c.args.b 0 - c.args.first) ≡ length c.row.result =
-    let e = copy_length (IsNear c.args.lists.now.after.lists) c.args.ranks.now c.args.order.now.items
+    let e = copy_length (IsNear c.args.reader.now.lists.after.lists) c.args.ranks.now c.args.order.now.items
     c.args.first c.requires.inverse c.args.a c.args.b (get_or c.args.ranks.now c.args.b 0)
     (get_or c.args.ranks.now c.args.a 0) (get_or c.args.ranks.now c.args.b 0 - c.args.first) refl
     refl refl c.requires.ranked c.requires.against c.requires.rises c.requires.ends _
@@ -40,23 +40,23 @@ renumber-requires-clause-ends c =
     ap (take (get_or c.args.ranks.now c.args.a 0 - c.args.first + 1 - (get_or c.args.ranks.now c.args.b 0 - c.args.first))) c.deref.ensures.value
     ∙ ap (λ n. take n c.plan.new.space.moved.items) n in
     subst (λ (z : List ℕ). (k : ℕ) → k < length z → get_or z k 0 < length c.args.ranks.now) (sym same)
-    (moved_ends (IsNear c.args.lists.now.after.lists) c.args.ranks.now c.args.order.now.items
+    (moved_ends (IsNear c.args.reader.now.lists.after.lists) c.args.ranks.now c.args.order.now.items
     c.args.first c.requires.inverse c.args.a c.args.b (get_or c.args.ranks.now c.args.b 0)
     (get_or c.args.ranks.now c.args.a 0) (get_or c.args.ranks.now c.args.b 0 - c.args.first) refl
     refl refl c.requires.ranked c.requires.against c.requires.rises c.requires.ends _
     c.row.ensures _ (λ k. k)
-    c.plan.new.steps planned)
+    c.plan.new.reader.count planned)
 
 pub renumber-requires-clause-once : goal.renumber-requires-clause-once
 renumber-requires-clause-once c =
-    let planned : IsPlanned Whole (IsNear c.args.lists.now.after.lists) c.args.ranks.now (get_or c.args.ranks.now
+    let planned : IsPlanned Whole (IsNear c.args.reader.now.lists.after.lists) c.args.ranks.now (get_or c.args.ranks.now
     c.args.b 0) c.row.result c.plan.new.space.moved.items c.plan.new.space.pool.items
-    c.plan.new.space.shared.items c.plan.new.steps = subst (λ d. IsPlanned d (IsNear
-    c.args.lists.now.after.lists) c.args.ranks.now (get_or c.args.ranks.now c.args.b 0) c.row.result
+    c.plan.new.space.shared.items c.plan.new.reader.count = subst (λ d. IsPlanned d (IsNear
+    c.args.reader.now.lists.after.lists) c.args.ranks.now (get_or c.args.ranks.now c.args.b 0) c.row.result
     c.plan.new.space.moved.items c.plan.new.space.pool.items
-    c.plan.new.space.shared.items c.plan.new.steps) c.in-Whole.is c.in_ok-dealt.ensures.plan in
+    c.plan.new.space.shared.items c.plan.new.reader.count) c.in-Whole.is c.in_ok-dealt.ensures.plan in
     let n : get_or c.args.ranks.now c.args.a 0 - c.args.first + 1 - (get_or c.args.ranks.now c.args.b 0 - c.args.first) ≡ length c.row.result =
-    let e = copy_length (IsNear c.args.lists.now.after.lists) c.args.ranks.now c.args.order.now.items
+    let e = copy_length (IsNear c.args.reader.now.lists.after.lists) c.args.ranks.now c.args.order.now.items
     c.args.first c.requires.inverse c.args.a c.args.b (get_or c.args.ranks.now c.args.b 0)
     (get_or c.args.ranks.now c.args.a 0) (get_or c.args.ranks.now c.args.b 0 - c.args.first) refl
     refl refl c.requires.ranked c.requires.against c.requires.rises c.requires.ends _
@@ -68,60 +68,60 @@ renumber-requires-clause-once c =
     ap (take (get_or c.args.ranks.now c.args.a 0 - c.args.first + 1 - (get_or c.args.ranks.now c.args.b 0 - c.args.first))) c.deref.ensures.value
     ∙ ap (λ n. take n c.plan.new.space.moved.items) n in
     subst (λ (z : List ℕ). (j k : ℕ) → j < k → k < length z → get_or z j 0 ≢ get_or z k 0) (sym same)
-    (moved_once (IsNear c.args.lists.now.after.lists) c.args.ranks.now c.args.order.now.items
+    (moved_once (IsNear c.args.reader.now.lists.after.lists) c.args.ranks.now c.args.order.now.items
     c.args.first c.requires.inverse c.args.a c.args.b (get_or c.args.ranks.now c.args.b 0)
     (get_or c.args.ranks.now c.args.a 0) (get_or c.args.ranks.now c.args.b 0 - c.args.first) refl
     refl refl c.requires.ranked c.requires.against c.requires.rises c.requires.ends _
     c.row.ensures _ (λ k. k)
-    c.plan.new.steps planned)
+    c.plan.new.reader.count planned)
 
 pub deal-requires-clause-fits : goal.deal-requires-clause-fits
 deal-requires-clause-fits c =
-    let planned : IsPlanned Shared (IsNear c.args.lists.now.after.lists) c.args.ranks.now (get_or c.args.ranks.now
+    let planned : IsPlanned Shared (IsNear c.args.reader.now.lists.after.lists) c.args.ranks.now (get_or c.args.ranks.now
     c.args.b 0) c.row.result c.plan.new.space.moved.items c.plan.new.space.pool.items
-    c.plan.new.space.shared.items c.plan.new.steps = subst (λ d. IsPlanned d (IsNear
-    c.args.lists.now.after.lists) c.args.ranks.now (get_or c.args.ranks.now c.args.b 0) c.row.result
+    c.plan.new.space.shared.items c.plan.new.reader.count = subst (λ d. IsPlanned d (IsNear
+    c.args.reader.now.lists.after.lists) c.args.ranks.now (get_or c.args.ranks.now c.args.b 0) c.row.result
     c.plan.new.space.moved.items c.plan.new.space.pool.items
-    c.plan.new.space.shared.items c.plan.new.steps) c.in-Shared.is c.in_ok-dealt.ensures.plan in
+    c.plan.new.space.shared.items c.plan.new.reader.count) c.in-Shared.is c.in_ok-dealt.ensures.plan in
     let shared = c.deref-in-Shared.ensures.value in let pool = c.deref-in-Shared-2.ensures.value in
     subst (λ (z : List ℕ). (k : ℕ) → k < length z → (get_or c.args.ranks.now c.args.b 0) + get_or c.deref-in-Shared-2.result.now k 0 < 2 ^ 32)
     (sym shared) (subst (λ (z : List ℕ). (k : ℕ) → k < length c.plan.new.space.shared.items
     → (get_or c.args.ranks.now c.args.b 0) + get_or z k 0 < 2 ^ 32) (sym pool)
-    (moved_fits (IsNear c.args.lists.now.after.lists) c.args.ranks.now c.args.order.now.items
+    (moved_fits (IsNear c.args.reader.now.lists.after.lists) c.args.ranks.now c.args.order.now.items
     c.args.first c.requires.inverse c.args.a c.args.b (get_or c.args.ranks.now c.args.b 0)
     (get_or c.args.ranks.now c.args.a 0) (get_or c.args.ranks.now c.args.b 0 - c.args.first) refl
     refl refl c.requires.ranked c.requires.against c.requires.rises c.requires.ends _
     c.row.ensures _ (λ k. get_or c.plan.new.space.pool.items k 0)
-    c.plan.new.steps planned.1 c.requires.fits))
+    c.plan.new.reader.count planned.1 c.requires.fits))
 
 pub deal-requires-clause-places : goal.deal-requires-clause-places
 deal-requires-clause-places c =
-    let planned : IsPlanned Shared (IsNear c.args.lists.now.after.lists) c.args.ranks.now (get_or c.args.ranks.now
+    let planned : IsPlanned Shared (IsNear c.args.reader.now.lists.after.lists) c.args.ranks.now (get_or c.args.ranks.now
     c.args.b 0) c.row.result c.plan.new.space.moved.items c.plan.new.space.pool.items
-    c.plan.new.space.shared.items c.plan.new.steps = subst (λ d. IsPlanned d (IsNear
-    c.args.lists.now.after.lists) c.args.ranks.now (get_or c.args.ranks.now c.args.b 0) c.row.result
+    c.plan.new.space.shared.items c.plan.new.reader.count = subst (λ d. IsPlanned d (IsNear
+    c.args.reader.now.lists.after.lists) c.args.ranks.now (get_or c.args.ranks.now c.args.b 0) c.row.result
     c.plan.new.space.moved.items c.plan.new.space.pool.items
-    c.plan.new.space.shared.items c.plan.new.steps) c.in-Shared.is c.in_ok-dealt.ensures.plan in
+    c.plan.new.space.shared.items c.plan.new.reader.count) c.in-Shared.is c.in_ok-dealt.ensures.plan in
     let shared = c.deref-in-Shared.ensures.value in let pool = c.deref-in-Shared-2.ensures.value in
     subst (λ (z : List ℕ). (k : ℕ) → k < length z → (get_or c.args.ranks.now c.args.b 0 - c.args.first) + get_or c.deref-in-Shared-2.result.now k 0 < length
     c.args.order.now.items)
     (sym shared) (subst (λ (z : List ℕ). (k : ℕ) → k < length c.plan.new.space.shared.items
     → (get_or c.args.ranks.now c.args.b 0 - c.args.first) + get_or z k 0 < length c.args.order.now.items) (sym pool)
-    (moved_place (IsNear c.args.lists.now.after.lists) c.args.ranks.now c.args.order.now.items
+    (moved_place (IsNear c.args.reader.now.lists.after.lists) c.args.ranks.now c.args.order.now.items
     c.args.first c.requires.inverse c.args.a c.args.b (get_or c.args.ranks.now c.args.b 0)
     (get_or c.args.ranks.now c.args.a 0) (get_or c.args.ranks.now c.args.b 0 - c.args.first) refl
     refl refl c.requires.ranked c.requires.against c.requires.rises c.requires.ends _
     c.row.ensures _ (λ k. get_or c.plan.new.space.pool.items k 0)
-    c.plan.new.steps planned.1))
+    c.plan.new.reader.count planned.1))
 
 pub deal-requires-clause-rising : goal.deal-requires-clause-rising
 deal-requires-clause-rising c =
-    let planned : IsPlanned Shared (IsNear c.args.lists.now.after.lists) c.args.ranks.now (get_or c.args.ranks.now
+    let planned : IsPlanned Shared (IsNear c.args.reader.now.lists.after.lists) c.args.ranks.now (get_or c.args.ranks.now
     c.args.b 0) c.row.result c.plan.new.space.moved.items c.plan.new.space.pool.items
-    c.plan.new.space.shared.items c.plan.new.steps = subst (λ d. IsPlanned d (IsNear
-    c.args.lists.now.after.lists) c.args.ranks.now (get_or c.args.ranks.now c.args.b 0) c.row.result
+    c.plan.new.space.shared.items c.plan.new.reader.count = subst (λ d. IsPlanned d (IsNear
+    c.args.reader.now.lists.after.lists) c.args.ranks.now (get_or c.args.ranks.now c.args.b 0) c.row.result
     c.plan.new.space.moved.items c.plan.new.space.pool.items
-    c.plan.new.space.shared.items c.plan.new.steps) c.in-Shared.is c.in_ok-dealt.ensures.plan in
+    c.plan.new.space.shared.items c.plan.new.reader.count) c.in-Shared.is c.in_ok-dealt.ensures.plan in
     let shared = c.deref-in-Shared.ensures.value in let pool = c.deref-in-Shared-2.ensures.value in
     subst (λ (z : List ℕ). (i k : ℕ) → i < k → k < length z → get_or c.deref-in-Shared-2.result.now i 0 < get_or
     c.deref-in-Shared-2.result.now k 0)
@@ -130,49 +130,49 @@ deal-requires-clause-rising c =
 
 pub deal-requires-clause-ends : goal.deal-requires-clause-ends
 deal-requires-clause-ends c =
-    let planned : IsPlanned Shared (IsNear c.args.lists.now.after.lists) c.args.ranks.now (get_or c.args.ranks.now
+    let planned : IsPlanned Shared (IsNear c.args.reader.now.lists.after.lists) c.args.ranks.now (get_or c.args.ranks.now
     c.args.b 0) c.row.result c.plan.new.space.moved.items c.plan.new.space.pool.items
-    c.plan.new.space.shared.items c.plan.new.steps = subst (λ d. IsPlanned d (IsNear
-    c.args.lists.now.after.lists) c.args.ranks.now (get_or c.args.ranks.now c.args.b 0) c.row.result
+    c.plan.new.space.shared.items c.plan.new.reader.count = subst (λ d. IsPlanned d (IsNear
+    c.args.reader.now.lists.after.lists) c.args.ranks.now (get_or c.args.ranks.now c.args.b 0) c.row.result
     c.plan.new.space.moved.items c.plan.new.space.pool.items
-    c.plan.new.space.shared.items c.plan.new.steps) c.in-Shared.is c.in_ok-dealt.ensures.plan in
+    c.plan.new.space.shared.items c.plan.new.reader.count) c.in-Shared.is c.in_ok-dealt.ensures.plan in
     let shared = c.deref-in-Shared.ensures.value in let pool = c.deref-in-Shared-2.ensures.value in
     subst (λ (z : List ℕ). (k : ℕ) → k < length z → get_or z k 0 < length c.args.ranks.now) (sym shared)
-    (moved_ends (IsNear c.args.lists.now.after.lists) c.args.ranks.now c.args.order.now.items
+    (moved_ends (IsNear c.args.reader.now.lists.after.lists) c.args.ranks.now c.args.order.now.items
     c.args.first c.requires.inverse c.args.a c.args.b (get_or c.args.ranks.now c.args.b 0)
     (get_or c.args.ranks.now c.args.a 0) (get_or c.args.ranks.now c.args.b 0 - c.args.first) refl
     refl refl c.requires.ranked c.requires.against c.requires.rises c.requires.ends _
     c.row.ensures _ (λ k. get_or c.plan.new.space.pool.items k 0)
-    c.plan.new.steps planned.1)
+    c.plan.new.reader.count planned.1)
 
 pub deal-requires-clause-once : goal.deal-requires-clause-once
 deal-requires-clause-once c =
-    let planned : IsPlanned Shared (IsNear c.args.lists.now.after.lists) c.args.ranks.now (get_or c.args.ranks.now
+    let planned : IsPlanned Shared (IsNear c.args.reader.now.lists.after.lists) c.args.ranks.now (get_or c.args.ranks.now
     c.args.b 0) c.row.result c.plan.new.space.moved.items c.plan.new.space.pool.items
-    c.plan.new.space.shared.items c.plan.new.steps = subst (λ d. IsPlanned d (IsNear
-    c.args.lists.now.after.lists) c.args.ranks.now (get_or c.args.ranks.now c.args.b 0) c.row.result
+    c.plan.new.space.shared.items c.plan.new.reader.count = subst (λ d. IsPlanned d (IsNear
+    c.args.reader.now.lists.after.lists) c.args.ranks.now (get_or c.args.ranks.now c.args.b 0) c.row.result
     c.plan.new.space.moved.items c.plan.new.space.pool.items
-    c.plan.new.space.shared.items c.plan.new.steps) c.in-Shared.is c.in_ok-dealt.ensures.plan in
+    c.plan.new.space.shared.items c.plan.new.reader.count) c.in-Shared.is c.in_ok-dealt.ensures.plan in
     let shared = c.deref-in-Shared.ensures.value in let pool = c.deref-in-Shared-2.ensures.value in
     subst (λ (z : List ℕ). (j k : ℕ) → j < k → k < length z → get_or z j 0 ≢ get_or z k 0) (sym shared)
-    (moved_once (IsNear c.args.lists.now.after.lists) c.args.ranks.now c.args.order.now.items
+    (moved_once (IsNear c.args.reader.now.lists.after.lists) c.args.ranks.now c.args.order.now.items
     c.args.first c.requires.inverse c.args.a c.args.b (get_or c.args.ranks.now c.args.b 0)
     (get_or c.args.ranks.now c.args.a 0) (get_or c.args.ranks.now c.args.b 0 - c.args.first) refl
     refl refl c.requires.ranked c.requires.against c.requires.rises c.requires.ends _
     c.row.ensures _ (λ k. get_or c.plan.new.space.pool.items k 0)
-    c.plan.new.steps planned.1)
+    c.plan.new.reader.count planned.1)
 
 pub returns-clause-ranks : goal.returns-clause-ranks
 returns-clause-ranks c = elim c.match-dealt.branch [
   | in-Whole w ↦
-      let planned : IsPlanned Whole (IsNear c.args.lists.now.after.lists) c.args.ranks.now (get_or c.args.ranks.now
+      let planned : IsPlanned Whole (IsNear c.args.reader.now.lists.after.lists) c.args.ranks.now (get_or c.args.ranks.now
       c.args.b 0) c.row.result c.plan.new.space.moved.items c.plan.new.space.pool.items
-      c.plan.new.space.shared.items c.plan.new.steps = subst (λ d. IsPlanned d (IsNear
-      c.args.lists.now.after.lists) c.args.ranks.now (get_or c.args.ranks.now c.args.b 0) c.row.result
+      c.plan.new.space.shared.items c.plan.new.reader.count = subst (λ d. IsPlanned d (IsNear
+      c.args.reader.now.lists.after.lists) c.args.ranks.now (get_or c.args.ranks.now c.args.b 0) c.row.result
       c.plan.new.space.moved.items c.plan.new.space.pool.items
-      c.plan.new.space.shared.items c.plan.new.steps) w.in-Whole.is c.in_ok-dealt.ensures.plan in
+      c.plan.new.space.shared.items c.plan.new.reader.count) w.in-Whole.is c.in_ok-dealt.ensures.plan in
       let n : get_or c.args.ranks.now c.args.a 0 - c.args.first + 1 - (get_or c.args.ranks.now c.args.b 0 - c.args.first) ≡ length c.row.result =
-      let e = copy_length (IsNear c.args.lists.now.after.lists) c.args.ranks.now c.args.order.now.items
+      let e = copy_length (IsNear c.args.reader.now.lists.after.lists) c.args.ranks.now c.args.order.now.items
       c.args.first c.requires.inverse c.args.a c.args.b (get_or c.args.ranks.now c.args.b 0)
       (get_or c.args.ranks.now c.args.a 0) (get_or c.args.ranks.now c.args.b 0 - c.args.first) refl
       refl refl c.requires.ranked c.requires.against c.requires.rises c.requires.ends _
@@ -183,29 +183,29 @@ returns-clause-ranks c = elim c.match-dealt.branch [
       ≡ take (length c.row.result) c.plan.new.space.moved.items =
       ap (take (get_or c.args.ranks.now c.args.a 0 - c.args.first + 1 - (get_or c.args.ranks.now c.args.b 0 - c.args.first))) w.deref.ensures.value
       ∙ ap (λ n. take n c.plan.new.space.moved.items) n in
-      rw (c.count.ensures, w.ranks-is) (mended (IsNear c.args.lists.now.after.lists) c.args.ranks.now c.args.order.now.items
+      rw (c.count.ensures, w.ranks-is) (mended (IsNear c.args.reader.now.lists.after.lists) c.args.ranks.now c.args.order.now.items
       c.args.first c.requires.inverse c.args.a c.args.b (get_or c.args.ranks.now c.args.b 0)
       (get_or c.args.ranks.now c.args.a 0) (get_or c.args.ranks.now c.args.b 0 - c.args.first) refl
       refl refl c.requires.ranked c.requires.against c.requires.rises c.requires.ends _
       c.row.ensures _ (λ k. k)
-      c.plan.new.steps planned w.renumber.new.ranks w.renumber.new.order.items
+      c.plan.new.reader.count planned w.renumber.new.ranks w.renumber.new.order.items
       (subst (λ (z : List ℕ). AreRanked z (λ k. k) (length z) (get_or c.args.ranks.now c.args.b 0 - c.args.first) (get_or c.args.ranks.now c.args.b 0) c.args.ranks.now c.args.order.now.items
       w.renumber.new.ranks w.renumber.new.order.items) same w.renumber.ensures.ranked)
       w.renumber.auto.ranks w.renumber.ensures.len)
   | in-Shared w ↦
-      let planned : IsPlanned Shared (IsNear c.args.lists.now.after.lists) c.args.ranks.now (get_or c.args.ranks.now
+      let planned : IsPlanned Shared (IsNear c.args.reader.now.lists.after.lists) c.args.ranks.now (get_or c.args.ranks.now
       c.args.b 0) c.row.result c.plan.new.space.moved.items c.plan.new.space.pool.items
-      c.plan.new.space.shared.items c.plan.new.steps = subst (λ d. IsPlanned d (IsNear
-      c.args.lists.now.after.lists) c.args.ranks.now (get_or c.args.ranks.now c.args.b 0) c.row.result
+      c.plan.new.space.shared.items c.plan.new.reader.count = subst (λ d. IsPlanned d (IsNear
+      c.args.reader.now.lists.after.lists) c.args.ranks.now (get_or c.args.ranks.now c.args.b 0) c.row.result
       c.plan.new.space.moved.items c.plan.new.space.pool.items
-      c.plan.new.space.shared.items c.plan.new.steps) w.in-Shared.is c.in_ok-dealt.ensures.plan in
+      c.plan.new.space.shared.items c.plan.new.reader.count) w.in-Shared.is c.in_ok-dealt.ensures.plan in
       let shared = w.deref-in-Shared.ensures.value in let pool = w.deref-in-Shared-2.ensures.value in
-      rw (c.count.ensures, w.ranks-is) (mended (IsNear c.args.lists.now.after.lists) c.args.ranks.now c.args.order.now.items
+      rw (c.count.ensures, w.ranks-is) (mended (IsNear c.args.reader.now.lists.after.lists) c.args.ranks.now c.args.order.now.items
       c.args.first c.requires.inverse c.args.a c.args.b (get_or c.args.ranks.now c.args.b 0)
       (get_or c.args.ranks.now c.args.a 0) (get_or c.args.ranks.now c.args.b 0 - c.args.first) refl
       refl refl c.requires.ranked c.requires.against c.requires.rises c.requires.ends _
       c.row.ensures _ (λ k. get_or c.plan.new.space.pool.items k 0)
-      c.plan.new.steps planned.1 w.deal.new.ranks w.deal.new.order.items
+      c.plan.new.reader.count planned.1 w.deal.new.ranks w.deal.new.order.items
       (subst (λ (z : List ℕ). AreRanked z (λ k. get_or c.plan.new.space.pool.items k 0) (length z) (get_or c.args.ranks.now c.args.b 0 - c.args.first) (get_or c.args.ranks.now c.args.b 0)
       c.args.ranks.now c.args.order.now.items w.deal.new.ranks w.deal.new.order.items) shared
       (subst (λ (z : List ℕ). AreRanked w.deref-in-Shared.result.now (λ k. get_or z k 0) (length w.deref-in-Shared.result.now) (get_or c.args.ranks.now c.args.b 0 - c.args.first) (get_or c.args.ranks.now c.args.b 0)
@@ -216,14 +216,14 @@ returns-clause-ranks c = elim c.match-dealt.branch [
 pub returns-clause-inverse : goal.returns-clause-inverse
 returns-clause-inverse c = elim c.match-dealt.branch [
   | in-Whole w ↦
-      let planned : IsPlanned Whole (IsNear c.args.lists.now.after.lists) c.args.ranks.now (get_or c.args.ranks.now
+      let planned : IsPlanned Whole (IsNear c.args.reader.now.lists.after.lists) c.args.ranks.now (get_or c.args.ranks.now
       c.args.b 0) c.row.result c.plan.new.space.moved.items c.plan.new.space.pool.items
-      c.plan.new.space.shared.items c.plan.new.steps = subst (λ d. IsPlanned d (IsNear
-      c.args.lists.now.after.lists) c.args.ranks.now (get_or c.args.ranks.now c.args.b 0) c.row.result
+      c.plan.new.space.shared.items c.plan.new.reader.count = subst (λ d. IsPlanned d (IsNear
+      c.args.reader.now.lists.after.lists) c.args.ranks.now (get_or c.args.ranks.now c.args.b 0) c.row.result
       c.plan.new.space.moved.items c.plan.new.space.pool.items
-      c.plan.new.space.shared.items c.plan.new.steps) w.in-Whole.is c.in_ok-dealt.ensures.plan in
+      c.plan.new.space.shared.items c.plan.new.reader.count) w.in-Whole.is c.in_ok-dealt.ensures.plan in
       let n : get_or c.args.ranks.now c.args.a 0 - c.args.first + 1 - (get_or c.args.ranks.now c.args.b 0 - c.args.first) ≡ length c.row.result =
-      let e = copy_length (IsNear c.args.lists.now.after.lists) c.args.ranks.now c.args.order.now.items
+      let e = copy_length (IsNear c.args.reader.now.lists.after.lists) c.args.ranks.now c.args.order.now.items
       c.args.first c.requires.inverse c.args.a c.args.b (get_or c.args.ranks.now c.args.b 0)
       (get_or c.args.ranks.now c.args.a 0) (get_or c.args.ranks.now c.args.b 0 - c.args.first) refl
       refl refl c.requires.ranked c.requires.against c.requires.rises c.requires.ends _
@@ -234,29 +234,29 @@ returns-clause-inverse c = elim c.match-dealt.branch [
       ≡ take (length c.row.result) c.plan.new.space.moved.items =
       ap (take (get_or c.args.ranks.now c.args.a 0 - c.args.first + 1 - (get_or c.args.ranks.now c.args.b 0 - c.args.first))) w.deref.ensures.value
       ∙ ap (λ n. take n c.plan.new.space.moved.items) n in
-      rw (w.ranks-is, w.order-is) (mended_inverse (IsNear c.args.lists.now.after.lists) c.args.ranks.now c.args.order.now.items
+      rw (w.ranks-is, w.order-is) (mended_inverse (IsNear c.args.reader.now.lists.after.lists) c.args.ranks.now c.args.order.now.items
       c.args.first c.requires.inverse c.args.a c.args.b (get_or c.args.ranks.now c.args.b 0)
       (get_or c.args.ranks.now c.args.a 0) (get_or c.args.ranks.now c.args.b 0 - c.args.first) refl
       refl refl c.requires.ranked c.requires.against c.requires.rises c.requires.ends _
       c.row.ensures _ (λ k. k)
-      c.plan.new.steps planned w.renumber.new.ranks w.renumber.new.order.items
+      c.plan.new.reader.count planned w.renumber.new.ranks w.renumber.new.order.items
       (subst (λ (z : List ℕ). AreRanked z (λ k. k) (length z) (get_or c.args.ranks.now c.args.b 0 - c.args.first) (get_or c.args.ranks.now c.args.b 0) c.args.ranks.now c.args.order.now.items
       w.renumber.new.ranks w.renumber.new.order.items) same w.renumber.ensures.ranked)
       w.renumber.auto.ranks w.renumber.ensures.len)
   | in-Shared w ↦
-      let planned : IsPlanned Shared (IsNear c.args.lists.now.after.lists) c.args.ranks.now (get_or c.args.ranks.now
+      let planned : IsPlanned Shared (IsNear c.args.reader.now.lists.after.lists) c.args.ranks.now (get_or c.args.ranks.now
       c.args.b 0) c.row.result c.plan.new.space.moved.items c.plan.new.space.pool.items
-      c.plan.new.space.shared.items c.plan.new.steps = subst (λ d. IsPlanned d (IsNear
-      c.args.lists.now.after.lists) c.args.ranks.now (get_or c.args.ranks.now c.args.b 0) c.row.result
+      c.plan.new.space.shared.items c.plan.new.reader.count = subst (λ d. IsPlanned d (IsNear
+      c.args.reader.now.lists.after.lists) c.args.ranks.now (get_or c.args.ranks.now c.args.b 0) c.row.result
       c.plan.new.space.moved.items c.plan.new.space.pool.items
-      c.plan.new.space.shared.items c.plan.new.steps) w.in-Shared.is c.in_ok-dealt.ensures.plan in
+      c.plan.new.space.shared.items c.plan.new.reader.count) w.in-Shared.is c.in_ok-dealt.ensures.plan in
       let shared = w.deref-in-Shared.ensures.value in let pool = w.deref-in-Shared-2.ensures.value in
-      rw (w.ranks-is, w.order-is) (mended_inverse (IsNear c.args.lists.now.after.lists) c.args.ranks.now c.args.order.now.items
+      rw (w.ranks-is, w.order-is) (mended_inverse (IsNear c.args.reader.now.lists.after.lists) c.args.ranks.now c.args.order.now.items
       c.args.first c.requires.inverse c.args.a c.args.b (get_or c.args.ranks.now c.args.b 0)
       (get_or c.args.ranks.now c.args.a 0) (get_or c.args.ranks.now c.args.b 0 - c.args.first) refl
       refl refl c.requires.ranked c.requires.against c.requires.rises c.requires.ends _
       c.row.ensures _ (λ k. get_or c.plan.new.space.pool.items k 0)
-      c.plan.new.steps planned.1 w.deal.new.ranks w.deal.new.order.items
+      c.plan.new.reader.count planned.1 w.deal.new.ranks w.deal.new.order.items
       (subst (λ (z : List ℕ). AreRanked z (λ k. get_or c.plan.new.space.pool.items k 0) (length z) (get_or c.args.ranks.now c.args.b 0 - c.args.first) (get_or c.args.ranks.now c.args.b 0)
       c.args.ranks.now c.args.order.now.items w.deal.new.ranks w.deal.new.order.items) shared
       (subst (λ (z : List ℕ). AreRanked w.deref-in-Shared.result.now (λ k. get_or z k 0) (length w.deref-in-Shared.result.now) (get_or c.args.ranks.now c.args.b 0 - c.args.first) (get_or c.args.ranks.now c.args.b 0)

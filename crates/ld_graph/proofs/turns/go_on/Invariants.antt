@@ -6,11 +6,12 @@ use Rattle.ld_graph.proofs.turns.go_on.Given as goal
 abbrev pub invariant-loop-side : goal.invariant-loop-side
 invariant-loop-side l = record {
   size : l.search.size ≡ l.fn.search.size;
-  steps : l.steps + l.fn.read ≡ l.fn.steps + l.done;
+  lists : l.reader.lists ≡ l.fn.reader.lists;
+  steps : l.reader.count + l.fn.read ≡ l.fn.reader.count + l.done;
   begun : l.fn.read ≤ l.done;
   upto : l.done ≤ length l.search.found;
-  sought : IsSought (IsNear (of_side l.side l.lists)) l.row (start_of l.side (length l.row)) l.search.found;
-  near : HasAllNear (IsNear (of_side l.side l.lists)) l.ranks l.low l.row l.search.found l.done;
+  sought : IsSought (IsNear (of_side l.side l.fn.reader.lists)) l.row (start_of l.side (length l.row)) l.search.found;
+  near : HasAllNear (IsNear (of_side l.side l.fn.reader.lists)) l.ranks l.low l.row l.search.found l.done;
 }
 
 -- each offset is gone on from once

@@ -7,6 +7,7 @@ use Rattle.ld_graph.proofs.EdgeLemmas.{IsEdge-found, insert_key-new, IsNear-edge
 use Rattle.ld_graph.proofs.EdgeLemmas.{ends_push, IsEdge-missing}
 use Rattle.ld_graph.specs.Order.{HasCycle, HasStep, IsInserted}
 use Rattle.ld_graph.specs.Inner.Kept.{graph_of}
+use Rattle.ld_graph.specs.Inner.Placed.{IsPlaced}
 use Rattle.ld_graph.proofs.PlacedLemmas.{inserted, made, placed_cycle, placed_free, placed_length}
 use Rattle.ld_graph.proofs.PlacedLemmas.{placed_rises}
 use Rattle.ld_graph.proofs.graph.Graph.insert.Goals as goal
@@ -22,6 +23,11 @@ returns-then-contains-clause-inserted c =
 
 pub invariant_of-self : goal.invariant_of-self
 invariant_of-self c =
+    let placed : IsPlaced (IsNear c.self.inside.lists.after.lists) c.args.a c.args.b c.place-answer.result
+    c.self.inside.has_cycle c.place-answer.new.has_cycle c.self.inside.ranks.ranks c.place-answer.new.ranks.ranks =
+    subst (λ l. IsPlaced (IsNear l.after.lists) c.args.a c.args.b c.place-answer.result c.self.inside.has_cycle
+    c.place-answer.new.has_cycle c.self.inside.ranks.ranks c.place-answer.new.ranks.ranks) c.new.ensures.lists
+    c.place-answer.ensures.placed in
     let i = c.self.invariant in
     let keys : c.insert.new.self.keys ≡ c.self.inside.edges.keys ++ edge c.args.a c.args.b ∷ [] =
     c.in-Ok.ensures.keys ∙ insert_key-new c.self.inside.edges.keys (edge c.args.a c.args.b) (sym
@@ -79,16 +85,16 @@ invariant_of-self c =
       room_ranks = omega (arith, i.room_ranks, c.place-answer.ensures.room);
       few = i.few;
       ranked = placed_length c.self.inside i c.args.a c.args.b c.place-answer.new.has_cycle
-          c.place-answer.new.ranks.ranks c.place-answer.result c.place-answer.ensures.placed ∙ i.ranked;
+          c.place-answer.new.ranks.ranks c.place-answer.result placed ∙ i.ranked;
       rises = λ f x y e. placed_rises c.self.inside i c.args.a c.args.b c.place-answer.new.has_cycle
-          c.place-answer.new.ranks.ranks c.place-answer.result c.place-answer.ensures.placed f x y
+          c.place-answer.new.ranks.ranks c.place-answer.result placed f x y
           (subst (λ k. IsEdge k x y) keys e);
       free = λ f d. subst (λ k. (0 < get_or c.place-answer.new.ranks.ranks d 0) ↔ HasStep (IsEdge k) d)
           (sym keys) (placed_free c.self.inside i c.args.a c.args.b c.place-answer.new.has_cycle
-          c.place-answer.new.ranks.ranks c.place-answer.result c.place-answer.ensures.placed f d);
+          c.place-answer.new.ranks.ranks c.place-answer.result placed f d);
       cycle = λ t. subst (λ k. HasCycle (IsEdge k)) (sym keys) (placed_cycle c.self.inside i c.args.a
           c.args.b c.place-answer.new.has_cycle c.place-answer.new.ranks.ranks c.place-answer.result
-          c.place-answer.ensures.placed t);
+          placed t);
     }
 
 pub push-requires-clause-after_fresh : goal.push-requires-clause-after_fresh
@@ -108,24 +114,29 @@ returns-then-contains-clause-new c = λ fresh.
     ∙ c.if-contains.true))))
 
 pub place-answer-requires-clause-turned : goal.place-answer-requires-clause-turned
-place-answer-requires-clause-turned c = λ x y.
+place-answer-requires-clause-turned c = rw (c.new.ensures.lists) (λ x y.
     let i = c.self.invariant in (
       λ n. (i.before_edges y x).1 ((i.after_edges x y).0 n),
       λ n. (i.after_edges x y).1 ((i.before_edges y x).0 n),
-    )
+    ))
 
 pub place-answer-requires-clause-ends : goal.place-answer-requires-clause-ends
-place-answer-requires-clause-ends c = λ x y n.
+place-answer-requires-clause-ends c = rw (c.new.ensures.lists) (λ x y n.
     let i = c.self.invariant in
     let e = i.ends x y ((i.after_edges x y).0 n) in
-    (omega (arith, e, i.ranked), omega (arith, e, i.ranked))
+    (omega (arith, e, i.ranked), omega (arith, e, i.ranked)))
 
 pub place-answer-requires-clause-rises : goal.place-answer-requires-clause-rises
-place-answer-requires-clause-rises c = λ f x y n.
-    let i = c.self.invariant in i.rises f x y ((i.after_edges x y).0 n)
+place-answer-requires-clause-rises c = rw (c.new.ensures.lists) (λ f x y n.
+    let i = c.self.invariant in i.rises f x y ((i.after_edges x y).0 n))
 
 pub returns-clause-inserted : goal.returns-clause-inserted
 returns-clause-inserted c =
+    let placed : IsPlaced (IsNear c.self.inside.lists.after.lists) c.args.a c.args.b c.place-answer.result
+    c.self.inside.has_cycle c.place-answer.new.has_cycle c.self.inside.ranks.ranks c.place-answer.new.ranks.ranks =
+    subst (λ l. IsPlaced (IsNear l.after.lists) c.args.a c.args.b c.place-answer.result c.self.inside.has_cycle
+    c.place-answer.new.has_cycle c.self.inside.ranks.ranks c.place-answer.new.ranks.ranks) c.new.ensures.lists
+    c.place-answer.ensures.placed in
     let keys : c.insert.new.self.keys ≡ c.self.inside.edges.keys ++ edge c.args.a c.args.b ∷ [] =
     c.in-Ok.ensures.keys ∙ insert_key-new c.self.inside.edges.keys (edge c.args.a c.args.b) (sym
     c.contains.ensures ∙ c.if-contains.false) in
@@ -136,6 +147,6 @@ returns-clause-inserted c =
     (made c.self.inside c.self.invariant c.args.a c.args.b c.place-answer.new.has_cycle
     c.place-answer.new.ranks.ranks) { edges = k })) (sym keys)
     (inserted c.self.inside c.self.invariant c.args.a c.args.b c.place-answer.new.has_cycle
-    c.place-answer.new.ranks.ranks c.place-answer.result c.place-answer.ensures.placed
+    c.place-answer.new.ranks.ranks c.place-answer.result placed
     (IsEdge-missing c.self.inside.edges.keys c.args.a c.args.b (sym c.contains.ensures
     ∙ c.if-contains.false))))

@@ -1,6 +1,6 @@
-use Rattle.std.proofs.Common.{◌<◌, ◌∙◌, ap, subst, sym, get_or, ◌≡◌, ℕ}
+use Rattle.std.proofs.Common.{◌∙◌, ap, subst, sym}
 use Rattle.std.proofs.lemmas.List.{get_or_read}
-use Rattle.ld_graph.specs.Edges.{IsEdgeNumber, edge}
+use Rattle.ld_graph.specs.Edges.{IsEdgeNumber}
 use Rattle.ld_rules.specs.Union.{earlier}
 use Rattle.ld_union.specs.declared.dependencies.Witnessed.{Witnessed}
 use Rattle.ld_union.proofs.EarlierLemmas.{earlier-lower}

@@ -17,7 +17,7 @@ edge_at : (c : After-after-to-items) → (k : ℕ) → k < length c.after-to-ite
     → IsEdge (edges_of c.args.indexed.union.now.dependencies) c.args.from (get_or c.after-to-items.result.now k 0)
 edge_at c k within =
     let to = get_or c.after-to-items.result.now k 0 in
-    let near : Contains (list_at c.lists.result.now.after.lists c.args.from) to = subst (λ l. Contains l to) c.after-to-items.ensures.near
+    let near : Contains (list_at c.lists.result.now.after.lists c.args.from) to = subst (λ l. Contains l to) (c.after-to-items.ensures.near ∙ ap (λ l. list_at l.after.lists c.args.from) c.new.ensures.lists)
     (Contains-get_or c.after-to-items.result.now k 0 within) in
     subst (λ edges. IsEdge edges c.args.from to) c.graph.ensures.edges ((c.lists.ensures.after c.args.from to).0 near)
 
@@ -27,7 +27,7 @@ end_at c to there =
     omega (arith, e, c.graph.ensures.classes)
 
 near_at : (c : After-after-to-items) → (to : ℕ) → IsEdge (edges_of c.args.indexed.union.now.dependencies) c.args.from to → Contains c.after-to-items.result.now to
-near_at c to there = subst (λ l. Contains l to) (sym c.after-to-items.ensures.near) ((c.lists.ensures.after c.args.from to).1
+near_at c to there = subst (λ l. Contains l to) (sym (c.after-to-items.ensures.near ∙ ap (λ l. list_at l.after.lists c.args.from) c.new.ensures.lists)) ((c.lists.ensures.after c.args.from to).1
     (subst (λ edges. IsEdge edges c.args.from to) (sym c.graph.ensures.edges) there))
 
 -- a successor stands at its place

@@ -50,44 +50,47 @@ forbidden_row-requires-clause-from c =
     ((c.requires.acquired.each (class_at c.args.acquired.now c.loop-from.from-index)).0 (Contains-get_or c.args.acquired.now c.loop-from.from-index 0 c.loop-from-test.true)).0
 
 pub loop-from-preserved : goal.loop-from-preserved
-loop-from-preserved c sources shows =
-    let classes = c.args.indexed.union.now.classes in
-    let numbers = c.args.acquired.now in
-    let state = c.args.state in
-    let to = class_name classes c.args.to in
-    let class = c.args.to in
-    let same : class_name classes class ≡ to = refl in
-    let i = c.loop-from.from-index in
-    let from = class_at numbers i in
-    let name : class_name classes from ≡ name_at classes numbers i = refl in
-    let within : i < length numbers = c.loop-from-test.true in
-    let before = map plain_forbidden_row c.loop-from.rows.items in
-    let owed = λ (p : PlainClass × PlainClass). IsForbidden sources state p.1 p.0 in
-    elim c.match-branch-2.branch [
-      | in-Some-2+in_ok-push w ↦
-          let row = plain_forbidden_row w.in-Some-2.row in
-          let told = MatchOption-at_some (¬ IsForbidden sources state (class_name classes from) (class_name classes class))
-          (λ r. IsTurnedRowOf sources state (class_name classes class) (class_name classes from) (plain_forbidden_row r)) w.in-Some-2.row w.in-Some-2.is (c.in_ok-row.ensures sources shows) in
-          let is : IsTurnedRowOf sources state to (name_at classes numbers i) row = subst (λ n. IsTurnedRowOf sources state to n row) name
-          (subst (λ n. IsTurnedRowOf sources state n (class_name classes from) row) same told) in
-          let items : map plain_forbidden_row c.match-branch-2.rows.items ≡ before ++ row ∷ [] = ap
-          (λ (rows : Vec _ _). map plain_forbidden_row rows.items) w.rows-is ∙ ap (map plain_forbidden_row) w.in_ok-push.ensures.items ∙
-          map-append plain_forbidden_row c.loop-from.rows.items (w.in-Some-2.row ∷ []) in
-          subst (AreTurnedRowsOf sources state (λ p. (p.0 ≡ to) × IsPassed (name_at classes numbers) (i + 1) p.1)) (sym items)
-          (rows-more (name_at classes numbers) (length numbers) c.requires.acquired.rising turned_key (IsRowIn sources state) owed IsBefore to i before
-          (row ∷ []) within (c.loop-from.invariant sources shows)
-          (rows-one turned_key (IsRowIn sources state) owed IsPairBefore (to, name_at classes numbers i) row is.0 is.1))
-      | in_default-2 w ↦
-          let told = MatchOption-at_none (¬ IsForbidden sources state (class_name classes from) (class_name classes class))
-          (λ r. IsTurnedRowOf sources state (class_name classes class) (class_name classes from) (plain_forbidden_row r)) w.in_default-2.is (c.in_ok-row.ensures sources shows) in
-          let none : ¬ IsForbidden sources state (name_at classes numbers i) to = subst (λ n. ¬ IsForbidden sources state n to) name
-          (subst (λ n. ¬ IsForbidden sources state (class_name classes from) n) same told) in
-          let items : map plain_forbidden_row c.match-branch-2.rows.items ≡ before ++ [] = ap (λ (rows : Vec _ _). map plain_forbidden_row rows.items) w.rows-is ∙ sym (append-nil before) in
-          subst (AreTurnedRowsOf sources state (λ p. (p.0 ≡ to) × IsPassed (name_at classes numbers) (i + 1) p.1)) (sym items)
-          (rows-more (name_at classes numbers) (length numbers) c.requires.acquired.rising turned_key (IsRowIn sources state) owed IsBefore to i before []
-          within (c.loop-from.invariant sources shows)
-          (rows-not turned_key (IsRowIn sources state) owed IsPairBefore (to, name_at classes numbers i) none))
-    ]
+loop-from-preserved c = record {
+  rows = λ sources shows.
+      let classes = c.args.indexed.union.now.classes in
+      let numbers = c.args.acquired.now in
+      let state = c.args.state in
+      let to = class_name classes c.args.to in
+      let class = c.args.to in
+      let same : class_name classes class ≡ to = refl in
+      let i = c.loop-from.from-index in
+      let from = class_at numbers i in
+      let name : class_name classes from ≡ name_at classes numbers i = refl in
+      let within : i < length numbers = c.loop-from-test.true in
+      let before = map plain_forbidden_row c.loop-from.rows.items in
+      let owed = λ (p : PlainClass × PlainClass). IsForbidden sources state p.1 p.0 in
+      elim c.match-branch-2.branch [
+        | in-Some-2+in_ok-push w ↦
+            let row = plain_forbidden_row w.in-Some-2.row in
+            let told = MatchOption-at_some (¬ IsForbidden sources state (class_name classes from) (class_name classes class))
+            (λ r. IsTurnedRowOf sources state (class_name classes class) (class_name classes from) (plain_forbidden_row r)) w.in-Some-2.row w.in-Some-2.is (c.in_ok-row.ensures.row sources shows) in
+            let is : IsTurnedRowOf sources state to (name_at classes numbers i) row = subst (λ n. IsTurnedRowOf sources state to n row) name
+            (subst (λ n. IsTurnedRowOf sources state n (class_name classes from) row) same told) in
+            let items : map plain_forbidden_row c.match-branch-2.rows.items ≡ before ++ row ∷ [] = ap
+            (λ (rows : Vec _ _). map plain_forbidden_row rows.items) w.rows-is ∙ ap (map plain_forbidden_row) w.in_ok-push.ensures.items ∙
+            map-append plain_forbidden_row c.loop-from.rows.items (w.in-Some-2.row ∷ []) in
+            subst (AreTurnedRowsOf sources state (λ p. (p.0 ≡ to) × IsPassed (name_at classes numbers) (i + 1) p.1)) (sym items)
+            (rows-more (name_at classes numbers) (length numbers) c.requires.acquired.rising turned_key (IsRowIn sources state) owed IsBefore to i before
+            (row ∷ []) within (c.loop-from.invariant.rows sources shows)
+            (rows-one turned_key (IsRowIn sources state) owed IsPairBefore (to, name_at classes numbers i) row is.0 is.1))
+        | in_default-2 w ↦
+            let told = MatchOption-at_none (¬ IsForbidden sources state (class_name classes from) (class_name classes class))
+            (λ r. IsTurnedRowOf sources state (class_name classes class) (class_name classes from) (plain_forbidden_row r)) w.in_default-2.is (c.in_ok-row.ensures.row sources shows) in
+            let none : ¬ IsForbidden sources state (name_at classes numbers i) to = subst (λ n. ¬ IsForbidden sources state n to) name
+            (subst (λ n. ¬ IsForbidden sources state (class_name classes from) n) same told) in
+            let items : map plain_forbidden_row c.match-branch-2.rows.items ≡ before ++ [] = ap (λ (rows : Vec _ _). map plain_forbidden_row rows.items) w.rows-is ∙ sym (append-nil before) in
+            subst (AreTurnedRowsOf sources state (λ p. (p.0 ≡ to) × IsPassed (name_at classes numbers) (i + 1) p.1)) (sym items)
+            (rows-more (name_at classes numbers) (length numbers) c.requires.acquired.rising turned_key (IsRowIn sources state) owed IsBefore to i before []
+            within (c.loop-from.invariant.rows sources shows)
+            (rows-not turned_key (IsRowIn sources state) owed IsPairBefore (to, name_at classes numbers i) none))
+      ];
+  nexts = c.forbidden_row.ensures.nexts;
+}
 
 pub returns-clause-rows : goal.returns-clause-rows
 returns-clause-rows c sources shows =
@@ -106,7 +109,7 @@ returns-clause-rows c sources shows =
     ((bits_from_used union.classes union.usage sources shows.used).each at.0 (In state) at.1.0).1
     (subst (λ n. HasBit sources n (In state)) (sym at.1.1) owed.0) in
     (here, passed_in union.classes numbers at.0 i p.1 past ((c.requires.acquired.each at.0).1 (at.1.0, bit)) at.1.1))
-    (c.loop-from.invariant sources shows)
+    (c.loop-from.invariant.rows sources shows)
 
 pub returns-then-is_none-clause-rows : goal.returns-then-is_none-clause-rows
 returns-then-is_none-clause-rows c sources shows =
