@@ -35,6 +35,7 @@ impl Chains {
     }
 
     /// The chain was seen.
+    #[inline(always)]
     pub(crate) fn add(&mut self, chain: u64) -> Result<(), AllocError> {
         if self.guesses.of(chain) != chain {
             self.chains.insert(chain)?;

@@ -7,7 +7,7 @@ use crate::replay::Tasks;
 use crate::told::{class_of, next_other};
 use ld_class::Classes;
 use ld_rules::{Listed, Outcome};
-use ld_trace::{Event, Source, next_event};
+use ld_trace::{Event, Source, next_event, next_state_event};
 use std::alloc::{AllocError, Global};
 use std::thread;
 use std::thread::Threads;
@@ -158,26 +158,41 @@ impl<'c, 'a> Counting<'c, 'a> {
                 raise(&mut self.counted.verbs.acquire);
                 self.hold(&acquired)?;
                 left = acquired.rest;
-            } else if let Some(rest) = self.tasks.release_written(left)? {
+            } else if let Some(rest) = self.tasks.release_written(left) {
                 raise(&mut self.counted.verbs.release);
                 left = rest;
-            } else if let Some(acquired) = self.locks.next_tried(left) {
-                raise(&mut self.counted.verbs.tries);
-                self.hold(&acquired)?;
-                left = acquired.rest;
-            } else if let Some((event, rest)) = next_event(left) {
-                self.event(&event, line_before(left, rest))?;
+            } else if let Some((event, rest)) = next_state_event(left) {
+                self.other(&event)?;
                 left = rest;
-            } else if let Some((event, rest)) = next_other(left) {
-                if let Some(event) = event {
-                    self.event(&event, &[])?;
-                }
+            } else if let Some(rest) = self.next(left)? {
                 left = rest;
             } else {
                 break;
             }
         }
         Ok(())
+    }
+
+    /// Counts the event of the first line, if it names one, however that is written: what follows the line, or `None`
+    /// where there is no byte.
+    #[inline(never)]
+    fn next(&mut self, bytes: &'a [u8]) -> Result<Option<&'a [u8]>, AllocError> {
+        if let Some(acquired) = self.locks.next_trylocked(bytes) {
+            raise(&mut self.counted.verbs.tries);
+            self.hold(&acquired)?;
+            return Ok(Some(acquired.rest));
+        }
+        if let Some((event, rest)) = next_event(bytes) {
+            self.event(&event, line_before(bytes, rest))?;
+            return Ok(Some(rest));
+        }
+        let Some((event, rest)) = next_other(bytes) else {
+            return Ok(None);
+        };
+        if let Some(event) = event {
+            self.event(&event, &[])?;
+        }
+        Ok(Some(rest))
     }
 
     /// Counts an event, and what it does. `line` is its line, or empty where that isn't in its plainest form.
@@ -211,6 +226,7 @@ impl<'c, 'a> Counting<'c, 'a> {
     }
 
     /// A task holds a lock more.
+    #[inline(always)]
     fn hold(&mut self, acquired: &Acquired<'a>) -> Result<(), AllocError> {
         let (chain, held) = self.tasks.acquire(acquired)?;
         self.counted.depth = self.counted.depth.max(held as u64);

@@ -1,7 +1,7 @@
 //! Locks by how they are written: most are acquired again and again, and of these the lines aren't read any further.
 
 use crate::guesses::{GUESSES, key_of, slot};
-use crate::lines::{Words, next_acquisition, next_trial, same_bytes};
+use crate::lines::{Words, next_acquisition, next_trylock, same_bytes};
 use crate::numbered::Numbered;
 use crate::told::class_of;
 use ld_class::Classes;
@@ -63,8 +63,8 @@ impl<'c, 'a> KnownLocks<'c, 'a> {
 
     /// The same, where it was tried.
     #[inline(always)]
-    pub(crate) fn next_tried(&mut self, bytes: &'a [u8]) -> Option<Acquired<'a>> {
-        self.acquired(bytes, next_trial(bytes)?)
+    pub(crate) fn next_trylocked(&mut self, bytes: &'a [u8]) -> Option<Acquired<'a>> {
+        self.acquired(bytes, next_trylock(bytes)?)
     }
 
     /// The acquisition of the first line, which has these words.

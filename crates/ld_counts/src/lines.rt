@@ -26,7 +26,7 @@ pub(crate) fn next_acquisition(bytes: &[u8]) -> Option<Words<'_>> {
 
 /// The same, if it tries to acquire a lock.
 #[inline(always)]
-pub(crate) fn next_trial(bytes: &[u8]) -> Option<Words<'_>> {
+pub(crate) fn next_trylock(bytes: &[u8]) -> Option<Words<'_>> {
     words_behind(bytes.strip_prefix(b"try ")?)
 }
 

@@ -61,6 +61,7 @@ impl<'a> Tasks<'a> {
     }
 
     /// A task acquires a lock: the chain that it holds then in its frame, and how much it holds.
+    #[inline(always)]
     pub(crate) fn acquire(&mut self, acquired: &Acquired<'a>) -> Result<(u64, usize), AllocError> {
         let place = self.place(acquired.task)?;
         match self.tasks.get_mut(place) {
@@ -80,19 +81,12 @@ impl<'a> Tasks<'a> {
     /// What follows the first line, where it releases a lock that its task holds in its frame, and where it and the
     /// acquisitions there from that lock's on are in their plainest form: such a lock is found by its text. `None`
     /// says nothing, and nothing was let go.
-    pub(crate) fn release_written(
-        &mut self,
-        bytes: &'a [u8],
-    ) -> Result<Option<&'a [u8]>, AllocError> {
-        let Some(words) = next_release(bytes) else {
-            return Ok(None);
-        };
-        let place = self.place(words.task)?;
-        let Some(task) = self.tasks.get_mut(place) else {
-            return Ok(None);
-        };
-        let released = task.release_written(words.text);
-        Ok(released.then_some(words.rest))
+    pub(crate) fn release_written(&mut self, bytes: &'a [u8]) -> Option<&'a [u8]> {
+        let words = next_release(bytes)?;
+        let place = self.names.find(words.task)? as usize;
+        self.last = place;
+        let released = self.tasks.get_mut(place)?.release_written(words.text);
+        released.then_some(words.rest)
     }
 
     /// The task releases a lock. Its class is among these.
@@ -128,6 +122,7 @@ impl<'a> Tasks<'a> {
     }
 
     /// The place of the task of this name, which is new where it has none.
+    #[inline(always)]
     fn place(&mut self, name: &'a [u8]) -> Result<usize, AllocError> {
         let place = match self.names.find(name) {
             Some(place) => place as usize,
@@ -138,6 +133,7 @@ impl<'a> Tasks<'a> {
     }
 
     /// The place of a task that had no event yet.
+    #[inline(never)]
     fn add(&mut self, name: &'a [u8]) -> Result<usize, AllocError> {
         if self.names.len() >= MOST_TASKS {
             return Err(AllocError);
@@ -182,6 +178,7 @@ impl<'a> Task<'a> {
         }
     }
 
+    #[inline(always)]
     fn acquire(&mut self, acquired: &Acquired<'a>) -> Result<(u64, usize), AllocError> {
         let chain = chain_of(self.chain_before(self.holds.len()), acquired.class);
         self.holds.push(Hold {
@@ -219,35 +216,26 @@ impl<'a> Task<'a> {
     /// Lets the latest acquisition in its frame that has this text go, where each later one there has a text too;
     /// else it answers `false`.
     fn release_written(&mut self, text: &[u8]) -> bool {
-        match self.latest_written(text) {
-            Some(place) => {
+        match self.latest(&|hold| hold.text.is_empty() || same_bytes(hold.text, text)) {
+            Some(place) if self.is_written(place) => {
                 self.let_go(place);
                 true
             }
+            _ => false,
+        }
+    }
+
+    /// Whether the acquisition at this place has a text.
+    fn is_written(&self, place: usize) -> bool {
+        match self.holds.get(place) {
+            Some(hold) => !hold.text.is_empty(),
             None => false,
         }
     }
 
-    /// The place of the latest acquisition in its frame that has this text, where each later one there has one too.
-    fn latest_written(&self, text: &[u8]) -> Option<usize> {
-        let start = self.frame_start();
-        let count = self.holds.len();
-        for behind in 0..count {
-            let place = count - 1 - behind;
-            let held = self.holds[place].text;
-            if place < start || held.is_empty() {
-                break;
-            }
-            if same_bytes(held, text) {
-                return Some(place);
-            }
-        }
-        None
-    }
-
     /// Lets the latest acquisition of the lock in its frame go.
     fn release(&mut self, classes: &Classes<'_>, lock: Lock<'_>) {
-        if let Some(place) = self.latest(classes, lock) {
+        if let Some(place) = self.latest(&|hold| hold.is_of(classes, lock)) {
             self.let_go(place);
         }
     }
@@ -260,16 +248,12 @@ impl<'a> Task<'a> {
         }
     }
 
-    /// The place of the latest acquisition of the lock in its frame.
-    fn latest(&self, classes: &Classes<'_>, lock: Lock<'_>) -> Option<usize> {
-        let start = self.frame_start();
-        let count = self.holds.len();
-        for behind in 0..count {
-            let place = count - 1 - behind;
-            if place < start {
-                break;
-            }
-            if self.holds[place].is_of(classes, lock) {
+    /// The place of the latest acquisition in its frame that is wanted.
+    fn latest<F: Fn(&Hold<'a>) -> bool>(&self, is_wanted: &F) -> Option<usize>
+        requires { F.IsAlwaysCallable is_wanted.now }
+    {
+        for place in (self.frame_start()..self.holds.len()).rev() {
+            if is_wanted(&self.holds[place]) {
                 return Some(place);
             }
         }

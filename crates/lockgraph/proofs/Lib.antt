@@ -1,2 +1,3 @@
+pub mod HeaderLemmas
 pub mod LineLemmas
 pub mod NewsLemmas

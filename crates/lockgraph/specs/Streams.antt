@@ -1,6 +1,6 @@
 -- The streams of several files as one, and the fault of a file or of a known text.
 use Rattle.std.specs.Borrow.{Bor}
-use Rattle.std.specs.Prelude.{ℕ, Bool, not, ◌==◌, List, length, Option, Some, nat_lt, count_by, if◌then◌else◌}
+use Rattle.std.specs.Prelude.{ℕ, Bool, not, ◌==◌, List, [], ◌∷◌, length, Option, Some, nat_lt, count_by, if◌then◌else◌}
 use Rattle.std.specs.Option.{option_map}
 use Rattle.ld_trace.specs.Sources.{sources}
 use Rattle.ld_trace.specs.declared.source.StreamFault.{StreamFault}
@@ -9,7 +9,7 @@ use Rattle.ld_trace.specs.declared.source.TheConstants.{LONGEST_STREAM}
 use Rattle.ld_reduce.specs.Written.{ended}
 use Rattle.ld_select.specs.Known.{unknown_line}
 use Rattle.lockgraph.specs.declared.fault.Fault.{Fault}
-use Rattle.lockgraph.specs.declared.fault.Fault.TheVariants.{NoHeader, BadHeader, File, UnknownLine, Memory}
+use Rattle.lockgraph.specs.declared.fault.Fault.TheVariants.{NoHeader, BadHeader, File, Together, UnknownLine, Memory}
 
 -- an LF
 abbrev pub is_lf : ℕ → Bool
@@ -25,6 +25,11 @@ fault_of_file name (stream_faults.NoHeader line) = NoHeader name line
 fault_of_file name (stream_faults.BadHeader line) = BadHeader name line
 fault_of_file name stream_faults.Memory = Memory
 fault_of_file name fault = File name fault
+
+-- what is wrong with the stream that some files are together, which is wrong with the file where it is one
+abbrev pub fault_of_files : List (Bor (List ℕ)) → Fault → Fault
+fault_of_files (name ∷ []) (Together fault) = fault_of_file name fault
+fault_of_files names fault = fault
 
 -- a stream has a trace
 abbrev pub has_trace : List ℕ → Bool

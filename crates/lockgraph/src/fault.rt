@@ -53,7 +53,7 @@ pub enum Fault<'a> {
 impl<'a> Fault<'a> {
     ghost use Rattle.std.specs.Prelude.{◌≡◌};
     ghost use Rattle.lockgraph.specs.Faults.{fault_of_news, fault_of_reduce};
-    ghost use Rattle.lockgraph.specs.Streams.{fault_of_file};
+    ghost use Rattle.lockgraph.specs.Streams.{fault_of_file, fault_of_files};
 
     /// A fault of the stream that this file is.
     pub fn of_file(name: &'a str, fault: StreamFault) -> Fault<'a>
@@ -64,6 +64,17 @@ impl<'a> Fault<'a> {
             StreamFault::BadHeader(line) => Fault::BadHeader(name, line),
             StreamFault::Memory => Fault::Memory,
             fault => Fault::File(name, fault),
+        }
+    }
+
+    /// The same fault, where these files are read as one stream: of one file what is wrong with the stream is told
+    /// with its name.
+    pub fn of_files(self, names: &[&'a str]) -> Fault<'a>
+        ensures { result ≡ fault_of_files names.now self.entry }
+    {
+        match (self, names) {
+            (Fault::Together(fault), [name]) => Fault::of_file(*name, fault),
+            (fault, _) => fault,
         }
     }
 

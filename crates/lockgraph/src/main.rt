@@ -66,7 +66,7 @@ fn answer<'a, R: Files + io::Input + Print + AllocGlobal + Threads + Wait + Sync
     rt: &R,
     asked: &Asked<'a>,
 ) -> Result<Verdict, Fault<'a>> {
-    match asked {
+    let outcome = match asked {
         Asked::Dot(words) => answer_dot(rt, words),
         Asked::Explain(words) => answer_explain(rt, words),
         Asked::Json(words) => answer_json(rt, words),
@@ -74,6 +74,10 @@ fn answer<'a, R: Files + io::Input + Print + AllocGlobal + Threads + Wait + Sync
         Asked::New(words) => answer_new(rt, words),
         Asked::Reduce(words) => answer_reduce(rt, words),
         Asked::Stats(words) => answer_stats(rt, words),
+    };
+    match outcome {
+        Ok(verdict) => Ok(verdict),
+        Err(fault) => Err(fault.of_files(&asked.given().files)),
     }
 }
 

@@ -1,6 +1,9 @@
 //! Reads files, and puts the streams that they are one behind another, with where their lines stand.
 ghost use Rattle.std.specs.Prelude.{◌≡◌, ◌≢◌, ◌++◌, ◌∷◌, [], Err, IfOk, IfSome, None, OnErr, OnOk, true, false};
-ghost use Rattle.ld_trace.specs.Sources.{stream_fault};
+ghost use Rattle.std.specs.Bool.{OnTrue};
+ghost use Rattle.std.specs.Char.{is_ascii_graphic};
+ghost use Rattle.std.specs.List.{list_all};
+ghost use Rattle.ld_trace.specs.Sources.{is_header, stream_fault};
 ghost use Rattle.ld_reduce.specs.Written.{ended};
 ghost use Rattle.lockgraph.specs.Streams.{fault_of_file, fault_of_known, has_trace, line_count};
 
@@ -10,7 +13,7 @@ use ld_device::{ReadFault, Std, read_all};
 use ld_reduce::{append_ended, is_ended};
 use ld_select::unknown_line;
 use ld_texts::Places;
-use ld_trace::{LONGEST_STREAM, StreamFault, split};
+use ld_trace::{LONGEST_STREAM, StreamFault, next_line, split};
 use std::alloc::{AllocError, Global};
 use std::rt::Files;
 use std::{fs, io};
@@ -96,7 +99,8 @@ fn read_whole<'a, T: io::Read + Drop>(
 ///
 /// # Errors
 ///
-/// Those of `read_file` and of `add`, by the first file that has one.
+/// Those of `read_file` and of `add`, by the first file that has one. A fault of the stream that a lone file is may
+/// be left to whoever cuts it, so that the file isn't cut twice.
 pub fn read_streams<'a, R: Files + io::Input + AllocGlobal>(
     rt: &R,
     names: &[&'a str],
@@ -105,9 +109,17 @@ pub fn read_streams<'a, R: Files + io::Input + AllocGlobal>(
         bytes: Vec::new(rt.alloc()),
         places: Places::new(rt.alloc()),
     };
-    for name in names {
-        let bytes = read_file(rt, *name)?;
-        add(rt.alloc(), &mut streams, *name, bytes)?;
+    match names {
+        [name] => {
+            let bytes = read_file(rt, *name)?;
+            add_alone(rt.alloc(), &mut streams, *name, bytes)?;
+        }
+        _ => {
+            for name in names {
+                let bytes = read_file(rt, *name)?;
+                add(rt.alloc(), &mut streams, *name, bytes)?;
+            }
+        }
     }
     Ok(streams)
 }
@@ -138,14 +150,88 @@ fn add<'a>(
         OnErr result (result ≡ Err Fault.Memory) }
 {
     match has_trace(alloc, &bytes) {
-        Ok(true) => {
-            streams.places.push(name, line_count(&bytes))?;
-            append(&mut streams.bytes, bytes)?;
-            Ok(())
-        }
+        Ok(true) => Ok(put(streams, name, bytes)?),
         Ok(false) => Err(Fault::NoTrace(name)),
         Err(fault) => Err(Fault::of_file(name, fault)),
     }
+}
+
+/// The same of a file that stands alone, but that a fault of its stream may be left to whoever cuts it.
+///
+/// # Errors
+///
+/// Those of `add`.
+fn add_alone<'a>(
+    alloc: Global,
+    streams: &mut Streams<'a>,
+    name: &'a str,
+    bytes: Vec<u8>,
+) -> Result<(), Fault<'a>>
+    ensures added { OnOk result (streams.new.bytes.items
+        ≡ streams.old.bytes.items ++ ended bytes.items) }
+    ensures placed { OnOk result (streams.new.places ≡ streams.old.places
+        ++ record { name = name.entry.now; lines = line_count bytes.items } ∷ []) }
+    ensures fault { IfSome (stream_fault bytes.items) (λ fault.
+        OnErr result (result ≢ Err Fault.Memory → result ≡ Err (fault_of_file name.entry fault))) }
+    ensures traces { OnOk result (has_trace bytes.items ≡ true) }
+    ensures no_trace { stream_fault bytes.items ≡ None → has_trace bytes.items ≡ false →
+        result ≢ Err Fault.Memory → result ≡ Err (Fault.NoTrace name.entry) }
+    ensures memory { stream_fault bytes.items ≡ None → has_trace bytes.items ≡ true →
+        OnErr result (result ≡ Err Fault.Memory) }
+{
+    if has_plain_header(&bytes) {
+        return Ok(put(streams, name, bytes)?);
+    }
+    add(alloc, streams, name, bytes)
+}
+
+/// Puts the stream of a file behind others. Its last line ends with it.
+fn put<'a>(streams: &mut Streams<'a>, name: &'a str, bytes: Vec<u8>) -> Result<(), AllocError>
+    ensures added { OnOk result (streams.new.bytes.items
+        ≡ streams.old.bytes.items ++ ended bytes.items) }
+    ensures placed { OnOk result (streams.new.places ≡ streams.old.places
+        ++ record { name = name.entry.now; lines = line_count bytes.items } ∷ []) }
+{
+    streams.places.push(name, line_count(&bytes))?;
+    append(&mut streams.bytes, bytes)
+}
+
+/// Whether a stream has a header in its plainest form, which most have in one of their first lines. `false` says
+/// nothing.
+fn has_plain_header(bytes: &[u8]) -> bool
+    ensures { OnTrue result (has_trace bytes.now ≡ true) }
+{
+    let mut rest = bytes;
+    while let Some((line, after)) = next_line(rest) {
+        if is_plain_header(line) {
+            return true;
+        }
+        rest = after;
+    }
+    false
+}
+
+/// Whether a line is `trace LABEL` with one blank between and nothing else before its LF. `false` says nothing.
+fn is_plain_header(line: &[u8]) -> bool
+    ensures { OnTrue result (is_header line.now ≡ true) }
+{
+    let Some(behind) = line.strip_prefix(b"trace ") else {
+        return false;
+    };
+    let Some((end, label)) = behind.split_last() else {
+        return false;
+    };
+    if *end != b'\n' || label.is_empty() || !is_graphic(label) {
+        return false;
+    }
+    true
+}
+
+/// Whether no byte stands outside words.
+fn is_graphic(bytes: &[u8]) -> bool
+    ensures { result ≡ list_all is_ascii_graphic bytes.now }
+{
+    bytes.iter().all(|byte| byte.is_ascii_graphic())
 }
 
 /// Whether a stream has a trace.

@@ -76,6 +76,21 @@ pub enum Asked<'a> {
     Stats(StatsWords<'a>),
 }
 
+impl<'a> Asked<'a> {
+    /// What the command is given that it names.
+    pub fn given(&self) -> &Given<'a> {
+        match self {
+            Asked::Dot(words) => &words.given,
+            Asked::Explain(words) => &words.given,
+            Asked::Json(words) => &words.given,
+            Asked::List(words) => &words.given,
+            Asked::New(words) => &words.given,
+            Asked::Reduce(words) => &words.given,
+            Asked::Stats(words) => &words.given,
+        }
+    }
+}
+
 /// What each command is given.
 #[derive(Debug, Drop)]
 pub struct Given<'a> {
