@@ -1,3 +1,4 @@
+pub mod ByteLemmas
 pub mod UsageLemmas
 pub mod Mapped
 pub mod AnyNames

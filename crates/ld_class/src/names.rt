@@ -5,6 +5,7 @@ ghost use Rattle.std.specs.Bool.{OnTrue};
 ghost use Rattle.ld_class.specs.Names.{place_of, with_name, IsNameAt, AreDistinct};
 ghost use Rattle.ld_class.specs.Names.{no_class, plain_class};
 
+use crate::bytes::same_bytes;
 use crate::class_name::ClassName;
 use indexmap::IndexSet;
 use std::alloc::{AllocError, Global};
@@ -101,10 +102,17 @@ impl<'a> Classes<'a> {
     }
 
     /// Whether `name` stands at the place `id`, which may be past the end.
+    // Whoever guesses a place asks for it at each line.
+    #[inline(always)]
     pub fn is_at(&self, id: u32, name: ClassName<'_>) -> bool
-        ensures { OnTrue result (place_of self.now (plain_class name.entry) ≡ Some id) }
+        ensures at { OnTrue result (place_of self.now (plain_class name.entry) ≡ Some id) }
+        ensures distinct { AreDistinct self.now }
     {
-        (id as usize) < self.len() && self.name(id) == name
+        if self.len() <= id as usize {
+            return false;
+        }
+        let there = self.name(id);
+        there.sub == name.sub && same_bytes(there.name, name.name)
     }
 
     /// Keeps the first `n` names, or all where there are no more. The memory stays for later ones.

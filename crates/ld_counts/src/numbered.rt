@@ -2,7 +2,6 @@
 
 use crate::guesses::{Guesses, key_of};
 use ld_class::{ClassName, Classes};
-use ld_tables::is_at;
 use std::alloc::{AllocError, Global};
 
 /// Finds the numbers of classes by their names; of those that are met again and again mostly without a search
@@ -31,7 +30,7 @@ impl<'c, 'a> Numbered<'c, 'a> {
     pub(crate) fn find(&mut self, class: ClassName<'_>) -> Option<u32> {
         let key = key_of(class.name).wrapping_add((class.sub as u64) << 52);
         if let Ok(guess) = u32::try_from(self.guesses.of(key)) {
-            if is_at(self.classes, guess, class) {
+            if self.classes.is_at(guess, class) {
                 return Some(guess);
             }
         }

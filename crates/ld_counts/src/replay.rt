@@ -4,7 +4,7 @@ use crate::chains::{NO_CHAIN, chain_of};
 use crate::known::Acquired;
 use crate::lines::{next_release, same_bytes};
 use ld_class::{ClassName, Classes};
-use ld_tables::{TaskNames, is_at};
+use ld_tables::TaskNames;
 use ld_trace::Lock;
 use std::alloc::{AllocError, Global};
 
@@ -280,6 +280,6 @@ impl Hold<'_> {
         }
         let sub = classes.name(self.class).sub;
         let name = lock.class;
-        is_at(classes, self.class, ClassName { name, sub }) && self.instance == lock.instance
+        classes.is_at(self.class, ClassName { name, sub }) && self.instance == lock.instance
     }
 }

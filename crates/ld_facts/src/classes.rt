@@ -4,7 +4,6 @@ ghost use Rattle.ld_class.specs.Names.{IsNameAt, place_of, plain_class};
 
 use crate::scan::Scan;
 use ld_class::ClassName;
-use ld_tables::is_at;
 
 impl<'a> Scan<'a> {
     /// The number by which the class is known, or `None` where it isn't.
@@ -17,7 +16,7 @@ impl<'a> Scan<'a> {
         ensures same { self.new ≡ self.old }
     {
         let guess = self.locks.guess(name);
-        if is_at(&self.classes, guess, name) {
+        if self.classes.is_at(guess, name) {
             return Some(guess);
         }
         self.look_up(name)

@@ -11,7 +11,8 @@ use Rattle.ld_trace.specs.Lines.{fields, is_word, lines, text_of}
 use Rattle.ld_trace.specs.Sources.{PlainSource, fault_at, line_faults, stream_fault, begins_trace, fields_of, headers_before, is_header, is_other, label_of, opened_at, section_at, sources}
 use Rattle.ld_trace.specs.declared.source.TheConstants.{LONGEST_STREAM, MOST_TRACES}
 use Rattle.ld_trace.specs.Inner.Splitting.{given_from}
-use Rattle.ld_trace.proofs.PlainLemmas.{IsRun, fields-end, fields-word, lines-onto, run-word, text-run}
+use Rattle.ld_trace.proofs.PlainLemmas.{run-word}
+use Rattle.ld_trace.proofs.HeadLemmas.{head-is, head-label, head-line}
 use Rattle.ld_trace.proofs.SectionLemmas.{Opens, faults-section, given_from-next, headers-section, left-section, section-is, sections-skip}
 use Rattle.ld_reduce.specs.Written.{IsTrace, counted_anew, counted_from, ended, header, trace_text, written}
 use Rattle.ld_reduce.proofs.LineLemmas.{concat-lines, ended-IsEnded, lines-behind, lines-drop, lines-take}
@@ -22,29 +23,13 @@ use Rattle.ld_class.proofs.Mapped.{list_any-map}
 -- A header.
 
 module _ (label : List ℕ) (word : is_word label ≡ true) where
-  run : IsRun label
-  run = run-word label word
-
   -- it is a line
   pub header-line : (rest : List ℕ) → lines (header label ++ rest) ≡ header label ∷ lines rest
-  header-line rest =
-      let own : lines (label ++ 10 ∷ rest) ≡ (label ++ 10 ∷ []) ∷ lines rest = lines-onto label (10 ∷ rest) (10 ∷ []) (lines rest) run.graphic refl in
-      let whole : lines ((label ++ 10 ∷ []) ++ rest) ≡ (label ++ 10 ∷ []) ∷ lines rest = ap lines (append_assoc label (10 ∷ []) rest) ∙ own in
-      ap (λ o. onto_first 116 (onto_first 114 (onto_first 97 (onto_first 99 (onto_first 101 (onto_first 32 o)))))) whole
-
-  header-fields : fields_of (header label) ≡ codes "trace" ∷ label ∷ []
-  header-fields =
-      ap fields (text-run (codes "trace ") label run)
-      ∙ fields-word (codes "trace") label (record { full = refl; graphic = refl })
-      ∙ ap (λ o. codes "trace" ∷ o) (fields-end label run)
+  header-line rest = ap (λ o. lines (codes "trace " ++ o)) (append_assoc label (10 ∷ []) rest) ∙ head-line label (run-word label word) rest
 
   -- and a header
   pub header-is : is_header (header label) ≡ true
-  header-is = rw header-fields refl
-
-  -- of this label
-  pub header-label : label_of (fields_of (header label)) ≡ Some label
-  header-label = rw (header-fields, word) refl
+  header-is = head-is label (run-word label word)
 
 -- Lines that are no headers.
 
@@ -151,7 +136,7 @@ module _ (all : List (List ℕ)) (k : ℕ) (source : PlainSource) (others : List
   section-here =
       let bytes : ended source.bytes ≡ concat (take_while is_other more) =
       sym (concat-lines (ended source.bytes)) ∙ ap concat (sym (take-append_seam own (lines (written others))) ∙ ap (λ n. take n more) (sym own-count)) in
-      let section = section-is all k (length own) (headers_before all k) (header source.label) more source.label (ended source.bytes) opens-here refl (header-label source.label is.label) bytes in
+      let section = section-is all k (length own) (headers_before all k) (header source.label) more source.label (ended source.bytes) opens-here refl (head-label source.label is.label) bytes in
       let opened : opened_at all k (header source.label) ≡ Some (section_at all k) = rw (header-is source.label is.label) refl in
       given_from-next (opened_at all) all k (header source.label) more opens-here.is
       ∙ (λ i. cons_option (opened i) (sections-skip all (k + 1) (length own) behind-lines i))
@@ -178,7 +163,7 @@ module _ (all : List (List ℕ)) where
       let opens = opens-here all k source others here are in
       let next = headers-section all k m _ _ opens in
       faults-written (k + 1 + m) others (left-here all k source others here are) (All-tail IsTrace source others are) (omega (arith, few, next))
-      (faults-section all k m (headers_before all k) _ _ opens refl (λ most. omega (arith, few, most)) (ap is_some (header-label source.label word)) before)
+      (faults-section all k m (headers_before all k) _ _ opens refl (λ most. omega (arith, few, most)) (ap is_some (head-label source.label word)) before)
 
 -- what is written has just these traces, counted anew
 pub sources-written : (all : List PlainSource) → All IsTrace all → sources (written all) ≡ counted_anew all

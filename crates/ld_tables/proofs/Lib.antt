@@ -1,4 +1,3 @@
-pub mod ByteLemmas
 pub mod MarkLemmas
 pub mod NumberLemmas
 pub mod TaskLemmas

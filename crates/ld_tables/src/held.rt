@@ -10,10 +10,10 @@ ghost use Rattle.ld_tables.specs.Inner.Stacks.{empty_stack, holds, inner, plain_
 ghost use Rattle.ld_rules.specs.Inner.Scanned.{remove_last};
 ghost use Rattle.ld_rules.specs.declared.outcome.TheConstants.{MOST_HELD};
 
-use crate::bytes::same_bytes;
 use crate::context::Context;
 use crate::interrupts::{Flag, Interrupts};
 use arrayvec::ArrayVec;
+use ld_class::same_bytes;
 use ld_rules::MOST_HELD;
 use ld_trace::{Lock, State};
 use std::alloc::{AllocError, Global};

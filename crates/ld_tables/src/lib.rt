@@ -2,7 +2,6 @@
 //! frames, flags, chains, dependencies and usage bits.
 #![tactic(auto)]
 
-mod bytes;
 mod chains;
 mod context;
 mod edges;
@@ -17,7 +16,6 @@ mod tasks;
 mod told;
 mod uses;
 
-pub use bytes::is_at;
 pub use context::Context;
 pub use edges::EdgeFact;
 pub use held::Held;

@@ -6,7 +6,6 @@ ghost use Rattle.ld_class.specs.Names.{place_of_task, with_name, with_task};
 ghost use Rattle.ld_class.specs.declared.names.TheConstants.{MOST_NAMES};
 ghost use Rattle.ld_tables.specs.declared.tasks.TheConstants.{MOST_KNOWN_TASKS};
 
-use crate::bytes::is_at;
 use crate::guesses::Guesses;
 use crate::numbers::Numbers;
 use ld_class::{ClassName, Classes};
@@ -77,7 +76,7 @@ impl<'a> TaskNames<'a> {
         ensures place { result ≡ place_of_task self.old name.now }
         ensures here { IfSome result (λ id. IsTaskAt self.old id name.now) }
     {
-        if is_at(&self.known, self.last, ClassName { name, sub: 0 }) {
+        if self.known.is_at(self.last, ClassName { name, sub: 0 }) {
             return place_of_number(&self.here, self.last);
         }
         self.guess(name)
@@ -91,7 +90,7 @@ impl<'a> TaskNames<'a> {
         ensures here { IfSome result (λ id. IsTaskAt self.old id name.now) }
     {
         let guess = self.guesses.of(ClassName { name, sub: 0 });
-        if is_at(&self.known, guess, ClassName { name, sub: 0 }) {
+        if self.known.is_at(guess, ClassName { name, sub: 0 }) {
             self.last = guess;
             return place_of_number(&self.here, guess);
         }

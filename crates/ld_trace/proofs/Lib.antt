@@ -6,6 +6,7 @@ pub mod VerbLemmas
 pub mod PlainLemmas
 pub mod StateLemmas
 pub mod SplitLemmas
+pub mod HeadLemmas
 pub mod NumberLemmas
 pub mod SectionLemmas
 pub mod PositionLemmas

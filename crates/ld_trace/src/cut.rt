@@ -1,11 +1,12 @@
 //! Cuts a stream into its traces.
-ghost use Rattle.std.specs.Prelude.{◌≡◌, ◌+◌, ◌≤◌, All, Err, IfErr, IfOk, IfSome, None, OnErr, Some, drop, length, map, slice_get};
+ghost use Rattle.std.specs.Prelude.{◌≡◌, ◌+◌, ◌≤◌, [], All, Err, IfErr, IfOk, IfSome, MatchOption, None, OnErr, Some, drop, length, map, slice_get};
 ghost use Rattle.std.specs.List.{concat, prefix_len, take_while};
 ghost use Rattle.std.specs.Option.{option_map};
 ghost use Rattle.ld_trace.specs.Lines.{lines, says_nothing};
 ghost use Rattle.ld_trace.specs.Sources.{AreNumbered, Fits, fields_of, headers_before, is_header, is_other, label_of, line_faults, opened_at, plain, sections, sources, stream_fault};
-ghost use Rattle.ld_trace.specs.Inner.Splitting.{IsCutAt, given_from};
+ghost use Rattle.ld_trace.specs.Inner.Splitting.{AreSkipped, IsCutAt, IsHead, given_from};
 
+use crate::front::{Ends, next_word};
 use crate::line::{begins_comment, first_field_byte, is_word, next_field, next_line, text};
 use crate::others::{Rest, skip_others};
 use crate::source::{LONGEST_STREAM, MOST_TRACES, Source, StreamFault};
@@ -48,6 +49,41 @@ fn label(header: &[u8]) -> Option<&[u8]>
     }
 }
 
+/// A header: its label, where it is well formed, and what follows its line.
+#[derive(Clone, Copy)]
+struct Head<'a> {
+    label: Option<&'a [u8]>,
+    rest: &'a [u8],
+}
+
+/// The first line, which is a header.
+fn next_head(bytes: &[u8]) -> Option<Head<'_>>
+    ensures { MatchOption result (bytes.now ≡ [])
+        (λ head. IsHead bytes.now (option_map (λ name. name.now) head.label) head.rest.now) }
+{
+    if let Some(head) = plain_head(bytes) {
+        return Some(head);
+    }
+    let (line, rest) = next_line(bytes)?;
+    let label = label(line);
+    Some(Head { label, rest })
+}
+
+/// The same, where it is `trace LABEL` with one blank between and nothing else before its LF. `None` says nothing.
+#[inline(always)]
+fn plain_head(bytes: &[u8]) -> Option<Head<'_>>
+    ensures head { IfSome result (λ head. IsHead bytes.now (option_map (λ name. name.now) head.label) head.rest.now) }
+    ensures header { IfSome result (λ _. prefix_len is_other (lines bytes.now) ≡ 0) }
+{
+    let after = bytes.strip_prefix(b"trace ")?;
+    let (name, after) = next_word(after, Ends::of(after))?;
+    let rest = after.strip_prefix(b"\n")?;
+    Some(Head {
+        label: Some(name),
+        rest,
+    })
+}
+
 /// The lines before the first header. They have to say nothing.
 fn skip_preamble(bytes: &[u8]) -> Result<Rest<'_>, StreamFault>
     ensures cut { IfOk result (λ rest. IsCutAt (lines bytes.now) rest.count rest.bytes.now) }
@@ -81,6 +117,21 @@ struct Front<'a> {
     count: u64,
 }
 
+/// What follows the first line, where that is no header.
+fn behind_other(bytes: &[u8]) -> Option<&[u8]>
+    ensures { MatchOption result (prefix_len is_other (lines bytes.now) ≡ 0)
+        (λ after. AreSkipped bytes.now 1 after.now) }
+{
+    if plain_head(bytes).is_some() {
+        return None;
+    }
+    let (line, after) = next_line(bytes)?;
+    if is_header(line) {
+        return None;
+    }
+    Some(after)
+}
+
 /// The lines before the next header.
 fn body(bytes: &[u8]) -> Front<'_>
     ensures bytes { result.bytes.now ≡ concat (take_while is_other (lines bytes.now)) }
@@ -92,10 +143,7 @@ fn body(bytes: &[u8]) -> Front<'_>
     let first = skip_others(bytes);
     let mut rest = first.bytes;
     let mut count = first.count;
-    while let Some((line, after)) = next_line(rest) {
-        if is_header(line) {
-            break;
-        }
+    while let Some(after) = behind_other(rest) {
         let ahead = skip_others(after);
         rest = ahead.bytes;
         count += 1 + ahead.count;
@@ -123,14 +171,14 @@ pub fn split<'a>(alloc: Global, bytes: &'a [u8]) -> Result<Vec<Source<'a>>, Stre
     let mut sources = Vec::new(alloc);
     let mut number = 0;
     let mut refused = false;
-    while let Some((header, after)) = next_line(rest.bytes) {
-        let Some(name) = label(header) else {
+    while let Some(head) = next_head(rest.bytes) {
+        let Some(name) = head.label else {
             return Err(StreamFault::BadHeader(rest.count + 1));
         };
         if number == MOST_TRACES {
             return Err(StreamFault::TooManyTraces);
         }
-        let body = body(after);
+        let body = body(head.rest);
         let source = Source {
             number,
             name,

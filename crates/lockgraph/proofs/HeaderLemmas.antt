@@ -1,27 +1,18 @@
--- A header in its plainest form is a header, and a stream with a header has a trace.
-use Rattle.std.proofs.Common.{◌≡◌, ◌<◌, ◌∙◌, ◌+◌, ℕ, Bool, true, false, not, List, [], ◌∷◌, ◌++◌, length, filter_map, refl, ap, sym, suc, arith, codes}
+-- A stream with a header has a trace.
+use Rattle.std.proofs.Common.{◌≡◌, ◌<◌, ◌∙◌, ◌+◌, ℕ, Bool, true, false, not, List, [], ◌∷◌, length, filter_map, refl, ap, sym, suc, arith}
 use Rattle.std.proofs.lemmas.Bool.{ne_eqb}
 use Rattle.std.specs.Prelude.{◌==◌, ◌||◌}
 use Rattle.std.specs.Char.{is_ascii_graphic}
 use Rattle.std.specs.List.{enumerate_from, list_all, list_any}
-use Rattle.ld_trace.specs.Lines.{fields, lines}
-use Rattle.ld_trace.specs.Sources.{begins_trace, fields_of, is_header, opened_at}
-use Rattle.ld_trace.proofs.PlainLemmas.{IsRun, fields-end, fields-word, text-run}
+use Rattle.ld_trace.specs.Lines.{lines}
+use Rattle.ld_trace.specs.Sources.{is_header, opened_at}
+use Rattle.ld_trace.proofs.PlainLemmas.{IsRun}
 use Rattle.lockgraph.specs.Streams.{has_trace}
 
 -- bytes of words, of which there is one at least, are a run
 pub run-graphic : (bytes : List ℕ) → 0 < length bytes → list_all is_ascii_graphic bytes ≡ true → IsRun bytes
 run-graphic [] some graphic = absurd (omega (arith, some))
 run-graphic (b ∷ bytes) some graphic = record { full = refl; graphic = graphic }
-
--- `trace` and a run with one blank between, and an LF
-pub header-plain : (label : List ℕ) → IsRun label → is_header (codes "trace " ++ (label ++ 10 ∷ [])) ≡ true
-header-plain label run =
-    let said : fields_of ((codes "trace " ++ label) ++ 10 ∷ []) ≡ codes "trace" ∷ label ∷ [] =
-    ap fields (text-run (codes "trace ") label run)
-    ∙ fields-word (codes "trace") label (record { full = refl; graphic = refl })
-    ∙ ap (λ o. codes "trace" ∷ o) (fields-end label run) in
-    ap begins_trace said
 
 -- lines with a header have a section
 section-opened : (all xs : List (List ℕ)) (i : ℕ) → list_any is_header xs ≡ true → not (length (filter_map (λ p. opened_at all p.0 p.1) (enumerate_from i xs)) == 0) ≡ true

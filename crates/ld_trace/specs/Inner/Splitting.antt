@@ -1,9 +1,9 @@
 -- What is left of a stream's lines, as the functions that cut it see it. No public contract cites this
 -- file.
-use Rattle.std.specs.Prelude.{◌≡◌, ℕ, ◌+◌, ◌<◌, ◌≤◌, Bool, true, false, ◌||◌, ◌==◌, List, ◌++◌, length, drop, take, slice_index_or, Option}
+use Rattle.std.specs.Prelude.{◌≡◌, ℕ, ◌+◌, ◌<◌, ◌≤◌, Bool, true, false, ◌||◌, ◌==◌, List, ◌∷◌, ◌++◌, length, drop, take, slice_index_or, Option}
 use Rattle.std.specs.List.{concat, filter_map, enumerate_from, prefix_len}
 use Rattle.ld_trace.specs.Lines.{lines}
-use Rattle.ld_trace.specs.Sources.{fault_at, is_other, line_faults}
+use Rattle.ld_trace.specs.Sources.{fault_at, fields_of, is_other, label_of, line_faults}
 
 -- what the lines from place k on give, each with its place
 abbrev pub given_from : {Y : Type 0} → (ℕ → List ℕ → Option Y) → List (List ℕ) → ℕ → List Y
@@ -22,6 +22,14 @@ pub record AreSkipped (bytes : List ℕ) (count : ℕ) (rest : List ℕ) : Type 
   pub left : lines rest ≡ drop count (lines bytes)
   pub others : prefix_len is_other (lines bytes) ≡ count + prefix_len is_other (lines rest)
   pub within : count + length rest ≤ length bytes
+
+-- The first line of these bytes has this label, as far as it is a header, and the rest stands behind it.
+pub record IsHead (bytes : List ℕ) (name : Option (List ℕ)) (rest : List ℕ) : Type 0 where
+  pub line : List ℕ
+  pub first : lines bytes ≡ line ∷ lines rest
+  pub whole : bytes ≡ line ++ rest
+  pub nonempty : 0 < length line
+  pub label : label_of (fields_of line) ≡ name
 
 abbrev pub is_lf : ℕ → Bool
 is_lf b = b == 10

@@ -6,8 +6,8 @@ use Rattle.ld_trace.specs.Sources.{Fits, headers_before, opened_at, plain, secti
 use Rattle.ld_trace.specs.Inner.Splitting.{IsCutAt, given_from}
 use Rattle.ld_trace.proofs.cut.split.Given as goal
 
-abbrev pub invariant-loop-header : goal.invariant-loop-header
-invariant-loop-header l = let all = lines l.bytes in record {
+abbrev pub invariant-loop-head : goal.invariant-loop-head
+invariant-loop-head l = let all = lines l.bytes in record {
   cut : IsCutAt all l.rest.count l.rest.bytes.now;
   headers : headers_before all l.rest.count ≡ l.number;
   opened : l.refused ≡ false → map plain l.sources.items ++ given_from (opened_at all) all l.rest.count ≡ sections all;
@@ -17,5 +17,5 @@ invariant-loop-header l = let all = lines l.bytes in record {
   few : l.number ≤ MOST_TRACES;
 }
 
-abbrev pub decreases-loop-header : goal.decreases-loop-header
-decreases-loop-header l = length l.rest.bytes.now
+abbrev pub decreases-loop-head : goal.decreases-loop-head
+decreases-loop-head l = length l.rest.bytes.now

@@ -3,7 +3,8 @@ use Rattle.std.proofs.Common.{◌≡◌, ◌∷◌, ◌++◌, [], true, rules, c
 use Rattle.std.specs.Char.{is_ascii_graphic}
 use Rattle.std.specs.List.{list_all}
 use Rattle.ld_trace.specs.Sources.{is_header}
-use Rattle.lockgraph.proofs.HeaderLemmas.{header-plain, run-graphic}
+use Rattle.ld_trace.proofs.HeadLemmas.{head-is}
+use Rattle.lockgraph.proofs.HeaderLemmas.{run-graphic}
 use Rattle.lockgraph.proofs.streams.is_plain_header.Goals as goal
 
 pub returns : goal.returns
@@ -12,4 +13,4 @@ returns c =
     let whole : c.args.line.now ≡ codes "trace " ++ (label ++ 10 ∷ []) = search rules in
     let some : 0 < length label = search rules in
     let graphic : list_all is_ascii_graphic label ≡ true = search rules in
-    ap is_header whole ∙ header-plain label (run-graphic label some graphic)
+    ap is_header whole ∙ head-is label (run-graphic label some graphic)

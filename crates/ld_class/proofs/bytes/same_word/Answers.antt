@@ -1,8 +1,8 @@
 use Rattle.std.proofs.Common.{nat_eq, ◌∙◌}
 use Rattle.std.proofs.lemmas.Slice.Eq.{bytes_eq-Decides}
 use Rattle.std.specs.Bool.{one_answer}
-use Rattle.ld_tables.proofs.ByteLemmas.{word-Decides}
-use Rattle.ld_tables.proofs.bytes.same_word.Goals as goal
+use Rattle.ld_class.proofs.ByteLemmas.{word-Decides}
+use Rattle.ld_class.proofs.bytes.same_word.Goals as goal
 
 pub returns : goal.returns
 returns c =

@@ -1,23 +1,6 @@
-//! Bytes and names that are compared where this is asked for, without a call.
-ghost use Rattle.std.specs.Prelude.{◌≡◌, length, Some};
-ghost use Rattle.std.specs.Bool.{OnTrue};
+//! Bytes that are compared where this is asked for, without a call.
+ghost use Rattle.std.specs.Prelude.{◌≡◌, length};
 ghost use Rattle.std.specs.Str.{bytes_eq};
-ghost use Rattle.ld_class.specs.Names.{AreDistinct, place_of, plain_class};
-
-use ld_class::{ClassName, Classes};
-
-/// Whether the name stands at the place, which may be past the end: as [`Classes::is_at`] says.
-#[inline(always)]
-pub fn is_at(names: &Classes<'_>, place: u32, name: ClassName<'_>) -> bool
-    ensures at { OnTrue result (place_of names.now (plain_class name.entry) ≡ Some place) }
-    ensures distinct { AreDistinct names.now }
-{
-    if names.len() <= place as usize {
-        return false;
-    }
-    let there = names.name(place);
-    there.sub == name.sub && same_bytes(there.name, name.name)
-}
 
 /// Whether these are the same bytes. Of 8 to 16, as most names have, the first eight and the last eight are
 /// compared, and fewer likewise, down to two.

@@ -1,8 +1,8 @@
 use Rattle.std.proofs.Common.{◌-◌, length, drop, sym, ap, ◌∙◌, arith}
 use Rattle.std.proofs.lemmas.Slice.Eq.{bytes_eq-Decides}
 use Rattle.std.specs.Bool.{one_answer}
-use Rattle.ld_tables.proofs.ByteLemmas.{ends-same}
-use Rattle.ld_tables.proofs.bytes.same_short.Goals as goal
+use Rattle.ld_class.proofs.ByteLemmas.{ends-same}
+use Rattle.ld_class.proofs.bytes.same_short.Goals as goal
 
 pub returns-then-same_two : goal.returns-then-same_two
 returns-then-same_two c =
