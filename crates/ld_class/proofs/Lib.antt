@@ -5,3 +5,4 @@ pub mod AnyNames
 pub mod NameLemmas
 pub mod Shown
 pub mod ListLemmas
+pub mod BlockLemmas

@@ -25,7 +25,7 @@ has_bit-place usage bit place at =
     (product_test (bit_at usage.0 place) (2 ^ place) (bit_at-lt usage.0 place) (pow_pos place))
 
 -- the larger of two digits is 1 if one of them is
-larger_test : (a b : ℕ) → a < 2 → b < 2 → (max a b == 1) ≡ ((a == 1) || (b == 1))
+pub larger_test : (a b : ℕ) → a < 2 → b < 2 → (max a b == 1) ≡ ((a == 1) || (b == 1))
 larger_test zero zero small_a small_b = refl
 larger_test zero (suc zero) small_a small_b = refl
 larger_test (suc zero) zero small_a small_b = refl

@@ -69,6 +69,15 @@ fn batch_name<'a, R: Abort>(rt: &R, batch: &Batch<'a>, class: u32) -> ClassName<
     batch.classes().name(class)
 }
 
+fn has_edge(batch: &Batch<'_>, edge: WitnessedEdge) -> bool {
+    for other in batch.edges() {
+        if other == edge {
+            return true;
+        }
+    }
+    false
+}
+
 /// Asserts that the batch has these lists.
 fn assert_lists<R: Abort>(
     rt: &R,
@@ -84,8 +93,10 @@ fn assert_lists<R: Abort>(
             ClassName { name, sub: 0 }
         );
     }
-    assert_eq!(rt; batch.edges().len(), edges.len());
-    assert!(rt; edges.iter().all(|edge| batch.edges().contains(edge)));
+    assert_eq!(rt; batch.edges().count(), edges.len());
+    for edge in edges {
+        assert!(rt; has_edge(batch, *edge));
+    }
     assert_eq!(rt; batch.usage().len(), usage.len());
     assert!(rt; usage.iter().all(|used| batch.usage().contains(used)));
 }
@@ -146,8 +157,8 @@ fn fourteen_traces_are_pushed(rt: HostRuntime) -> Result<(), Fail> {
     let sources = sources_of(&rt, &stream);
     let batch = batch_of(&rt, &sources);
     assert_eq!(rt; batch.listed().len(), 14);
-    assert_eq!(rt; batch.edges().len(), 1);
-    assert_eq!(rt; batch.edges()[0].witness, Witness { number: 0, line: 3 });
+    assert_eq!(rt; batch.edges().count(), 1);
+    assert!(rt; has_edge(&batch, edge(0, 1, 0, 3)));
     drop(batch);
     Ok(())
 }

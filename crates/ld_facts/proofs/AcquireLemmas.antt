@@ -1,9 +1,10 @@
 -- An acquisition, against the positions before it.
 use Rattle.std.proofs.Common.{◌≡◌, ◌<◌, ◌≤◌, ◌++◌, ◌∷◌, [], ◌∙◌, true, false, ℕ, List, Option, None, Some, Ok, length, map, drop, refl, ap, sym, subst}
-use Rattle.std.proofs.Common.{arith, slice_index_or, All, length-append, if◌then◌else◌}
-use Rattle.std.proofs.lemmas.List.{length-map, length-set, get_or-set_same, get_or-set_other, map-append}
+use Rattle.std.proofs.Common.{arith, slice_index_or, take, All, length-append, if◌then◌else◌}
+use Rattle.std.proofs.lemmas.List.{length-map, length-set, get_or-set_same, get_or-set_other, map-append, take-map}
 use Rattle.std.proofs.lemmas.List.Elements.{All-cons, All-drop, All-nil, All-push}
 use Rattle.std.proofs.lemmas.Slice.Eq.{bytes_eq-Decides}
+use Rattle.std.specs.List.{list_any}
 use Rattle.std.specs.Prelude.{slice_set, fold}
 use Rattle.std.specs.Str.{bytes_eq}
 use Rattle.std.proofs.lemmas.Simd.{map-map}
@@ -17,7 +18,7 @@ use Rattle.ld_rules.specs.declared.outcome.TheConstants.{MOST_CLASSES, MOST_HELD
 use Rattle.ld_tables.specs.declared.edges.EdgeFact.{EdgeFact}
 use Rattle.ld_facts.specs.declared.scan.Scan.{Scan}
 use Rattle.ld_tables.specs.declared.uses.UsageFact.{UsageFact}
-use Rattle.ld_tables.specs.Inner.Edges.{edge_to, with_edge_fact}
+use Rattle.ld_tables.specs.Inner.Edges.{AreApart, edge_to, with_edge_fact}
 use Rattle.ld_rules.specs.Flags.{is_enabled}
 use Rattle.ld_rules.specs.Frames.{contexts, frame_of, task_of}
 use Rattle.ld_rules.specs.Held.{Acquisition, class_awaited, held_by, held_in}
@@ -25,23 +26,25 @@ use Rattle.ld_rules.specs.Dependency.{Dependency, Seen, dependencies_at, depende
 use Rattle.ld_rules.specs.Usage.{Use, uses_in}
 use Rattle.ld_tables.specs.Inner.Interrupts.{enabled_now, fresh, start_now}
 use Rattle.ld_rules.specs.Inner.Levels.{stack, state_of_frame}
-use Rattle.ld_tables.specs.Inner.Locks.{Hold}
+use Rattle.ld_tables.specs.Inner.Locks.{HeldByTasks, Hold, Tells}
 use Rattle.ld_rules.specs.Outcome.{classes, events}
 use Rattle.ld_facts.specs.declared.taking.Taking.{Taking}
-use Rattle.ld_facts.specs.Inner.Scan.{AreMany, HasTask, HeldLock, IsAt, IsTask, Start, acquisition, class_taken, classes_after, edges_after, happens}
-use Rattle.ld_facts.specs.Inner.Scan.{lock_held, named_hold, names_at, own_names, uses_after, waits}
+use Rattle.ld_facts.specs.Inner.Scan.{AreMany, HasTask, HasWaited, HeldLock, IsAt, IsTask, Start, acquisition, class_taken, classes_after, edges_after, happens}
+use Rattle.ld_facts.specs.Inner.Scan.{lock_held, named_hold, names_at, own_names, taken, uses_after, waits}
 use Rattle.ld_facts.specs.Named.{IsBetween, named_dependency, named_use}
-use Rattle.ld_rules.specs.Inner.Scanned.{same_dependency_seen, same_use_seen, with_new}
+use Rattle.ld_rules.specs.Inner.Scanned.{AreSame, same_dependency_seen, same_use_seen, with_new}
 use Rattle.ld_facts.specs.Named.{IsUse}
 use Rattle.ld_tables.specs.Inner.Uses.{in_facts, on_facts, with_use}
 use Rattle.ld_rules.proofs.FlagLemmas.{is_enabled-quiet, levels-quiet, stack-quiet}
 use Rattle.ld_rules.proofs.GroupLemmas.{starts-kept}
 use Rattle.ld_rules.proofs.HeldLemmas.{acquisition_at, enters_none, held_by-acquires}
+use Rattle.ld_rules.proofs.SameLemmas.{same-fold, same-map}
 use Rattle.ld_facts.proofs.AcquireFaults.{acquired, calm, class-acquired, class-awaited, class-named, counts-itself, fault-none, none-awaited, task-acquired}
 use Rattle.ld_facts.proofs.InnerLemmas.{clean-grouped, contexts-are, enabled-is, inner-is, length-is}
 use Rattle.ld_facts.proofs.MovedLemmas.{moved-at}
 use Rattle.ld_class.proofs.AnyNames.{apart-with_one}
-use Rattle.ld_facts.proofs.NamedLemmas.{IsNameAt-more, holds-classes, holds-stay, holds-stay_within, holds-within, named-more, tell-named, within-more, within-tell}
+use Rattle.ld_facts.proofs.NamedLemmas.{IsNameAt-more, holds-classes, holds-stay, holds-stay_within, holds-within, named-more, tell-named, within-more, within-same, within-tell}
+use Rattle.ld_facts.proofs.StandsLemmas.{take-first}
 use Rattle.ld_rules.proofs.StepLemmas.{added_names-more, classes-acquires, dependencies-push}
 use Rattle.ld_facts.proofs.TaskLemmas.{task-at, with_one-few}
 use Rattle.ld_rules.proofs.UsageLemmas.{at_line, new_uses, new_uses_at, on_use, uses_from-push, with_uses, with_uses-append}
@@ -173,8 +176,17 @@ module _ {start : Start} (all : List Position) (old : Scan) (is : IsAt start all
 
   -- The dependencies.
 
-  edges-now : map (named_dependency new.classes) new.locks.edges ≡ edges_after start all
-  edges-now = (λ i. map (named_dependency (enters.classes i)) (enters.edges i)) ∙ named-more old.classes class old.locks.edges is.within ∙ is.edges
+  named-now : map (named_dependency new.classes) new.locks.edges ≡ map (named_dependency old.classes) old.locks.edges
+  named-now = (λ i. map (named_dependency (enters.classes i)) (enters.edges i)) ∙ named-more old.classes class old.locks.edges is.within
+
+  edges-now : AreSame (map (named_dependency new.classes) new.locks.edges) (edges_after start all)
+  edges-now test = ap (list_any test) named-now ∙ is.edges test
+
+  first-now : take (length start.edges) (map (named_dependency new.classes) new.locks.edges) ≡ start.edges
+  first-now = ap (take (length start.edges)) named-now ∙ is.first
+
+  once-now : AreApart new.locks.edges
+  once-now = subst AreApart (sym enters.edges) is.once
 
   within-now : All (IsBetween new.classes) new.locks.edges
   within-now = subst (All (IsBetween new.classes)) (sym enters.edges) (subst (λ names. All (IsBetween names) old.locks.edges) (sym enters.classes)
@@ -206,23 +218,33 @@ module _ {start : Start} (all : List Position) (old : Scan) (is : IsAt start all
       ∙ sym (told-of_held class line (held_in (events all) name (frame_of (events all) name)))
       ∙ ap (map (λ (what : Dependency). record { what = what; line = line })) (sym (depends (Some class) waits))
 
-  abbrev told_edges : List EdgeFact
-  told_edges = fold with_edge_fact new.locks.edges (map (edge_to number line) froms)
+  -- The dependencies that are told, in whatever order, are those of the event.
+  module _ (told : HeldByTasks) (tells : Tells froms number line new.locks told) where
+    edges-told : class_awaited event ≡ Some class → AreSame (map (named_dependency new.classes) told.edges) (edges_after start (all ++ happens line event ∷ []))
+    edges-told waits test =
+        let named = named_dependency new.classes in
+        let in_turn = fold with_edge_fact new.locks.edges (map (edge_to number line) froms) in
+        sym (same-map named in_turn told.edges tells.told test)
+        ∙ ap (list_any test) (tell-named new.classes distinct new.locks.edges line number froms within-now enters.class.0 (holds-within new.classes inner inner-within)
+        ∙ ap (fold (with_new same_dependency_seen) (map named new.locks.edges)) (told-now waits))
+        ∙ same-fold same_dependency_seen (map named new.locks.edges) (edges_after start all) (seen_at dependencies_at (events all) line (Ok event)) edges-now test
+        ∙ ap (list_any test) (sym (dependencies-push start.edges all (happens line event)))
 
-  edges-told : class_awaited event ≡ Some class → map (named_dependency new.classes) told_edges ≡ edges_after start (all ++ happens line event ∷ [])
-  edges-told waits =
-      tell-named new.classes distinct new.locks.edges line number froms within-now enters.class.0 (holds-within new.classes inner inner-within)
-      ∙ (λ i. fold (with_new same_dependency_seen) (edges-now i) (told-now waits i))
-      ∙ sym (dependencies-push start.edges all (happens line event))
+    first-told : take (length start.edges) (map (named_dependency new.classes) told.edges) ≡ start.edges
+    first-told =
+        let named = named_dependency new.classes in
+        take-first start.edges (map named new.locks.edges) (map named told.edges) first-now
+        (ap (λ n. take n (map named told.edges)) (length-map new.locks.edges named) ∙ take-map named (length new.locks.edges) told.edges ∙ ap (map named) tells.first)
 
-  within-told : All (IsBetween new.classes) told_edges
-  within-told = within-tell new.classes new.locks.edges line number froms within-now enters.class.0 (holds-within new.classes inner inner-within)
+    within-told : All (IsBetween new.classes) told.edges
+    within-told = within-same new.classes (fold with_edge_fact new.locks.edges (map (edge_to number line) froms)) told.edges tells.told
+        (within-tell new.classes new.locks.edges line number froms within-now enters.class.0 (holds-within new.classes inner inner-within))
 
-  edges-untold : class_awaited event ≡ None → map (named_dependency new.classes) new.locks.edges ≡ edges_after start (all ++ happens line event ∷ [])
-  edges-untold none =
-      edges-now
-      ∙ sym (dependencies-push start.edges all (happens line event) ∙ ap (λ ds. fold (with_new same_dependency_seen) (edges_after start all)
-      (map (λ (what : Dependency). record { what = what; line = line }) ds)) (depends None none))
+  edges-untold : class_awaited event ≡ None → AreSame (map (named_dependency new.classes) new.locks.edges) (edges_after start (all ++ happens line event ∷ []))
+  edges-untold none test =
+      edges-now test
+      ∙ ap (list_any test) (sym (dependencies-push start.edges all (happens line event) ∙ ap (λ ds. fold (with_new same_dependency_seen) (edges_after start all)
+      (map (λ (what : Dependency). record { what = what; line = line }) ds)) (depends None none)))
 
   -- The usage.
 
@@ -324,11 +346,11 @@ module _ {start : Start} (all : List Position) (old : Scan) (is : IsAt start all
   same : slice_index_or (slice_set new.locks.stacks id (held_now ++ top ∷ [])) id [] ≡ held_now ++ top ∷ []
   same = get_or-set_same new.locks.stacks id (held_now ++ top ∷ []) [] inside
 
-  acquired-by : (edges : List EdgeFact) (uses : List UsageFact) → length held_now < MOST_HELD → map (named_dependency new.classes) edges ≡
-      edges_after start (all ++ happens line event ∷ []) → All (IsBetween new.classes) edges → map
-      (named_use new.classes) uses ≡ uses_after start (all ++ happens line event ∷ []) → All
+  acquired-by : (edges : List EdgeFact) (uses : List UsageFact) → length held_now < MOST_HELD → AreSame (map (named_dependency new.classes) edges)
+      (edges_after start (all ++ happens line event ∷ [])) → take (length start.edges) (map (named_dependency new.classes) edges) ≡ start.edges
+      → AreApart edges → All (IsBetween new.classes) edges → map (named_use new.classes) uses ≡ uses_after start (all ++ happens line event ∷ []) → All
       (IsUse new.classes) uses → IsAt start (all ++ happens line event ∷ []) (with_top edges uses)
-  acquired-by edges uses room shown within counted used =
+  acquired-by edges uses room shown first once within counted used =
       moved-at all old event line id (with_top edges uses) is (record {
         fault = fault-none all old is how name lock enters.fits enters.few_classes (omega (arith, room, length-held));
         tasks = enters.tasks ∙ ap (with_task old.tasks) (sym own_task);
@@ -347,6 +369,8 @@ module _ {start : Start} (all : List Position) (old : Scan) (is : IsAt start all
             (subst (IsTask new.classes (held_now ++ top ∷ []) frames_now (events all ++ event ∷ [])) (sym own_task) task);
         shallow = omega (arith, ap length same, length-append held_now (top ∷ []), room);
         edges = shown;
+        first = first;
+        once = once;
         within = within;
         uses = counted;
         used = used;
@@ -355,10 +379,19 @@ module _ {start : Start} (all : List Position) (old : Scan) (is : IsAt start all
   pub tried-at : waits how ≡ false → length held_now < MOST_HELD → IsAt start (all ++ happens line event ∷ []) (with_top new.locks.edges (fold with_use new.uses ons))
   tried-at tries room =
       let none = none-awaited name lock how tries in
-      acquired-by new.locks.edges (fold with_use new.uses ons) room (edges-untold none) within-now (uses-tried none) (uses-within new.classes new.uses ons used-now ons-within)
+      acquired-by new.locks.edges (fold with_use new.uses ons) room (edges-untold none) first-now once-now within-now (uses-tried none)
+      (uses-within new.classes new.uses ons used-now ons-within)
 
-  pub acquired-at : waits how ≡ true → length held_now < MOST_HELD → IsAt start (all ++ happens line event ∷ []) (with_top told_edges (fold with_use (fold with_use new.uses ins) ons))
-  acquired-at waited room =
-      let awaits = class-awaited name lock how waited in
-      acquired-by told_edges (fold with_use (fold with_use new.uses ins) ons) room (edges-told awaits) within-told (uses-acquired awaits)
-      (uses-within new.classes (fold with_use new.uses ins) ons (uses-within new.classes new.uses ins used-now ins-within) ons-within)
+  pub acquired-at : waits how ≡ true → length held_now < MOST_HELD → (waiting : Scan) → HasWaited new id number line waiting
+      → IsAt start (all ++ happens line event ∷ []) (taken waiting id number lock line)
+  acquired-at waits_for room waiting has =
+      let awaits = class-awaited name lock how waits_for in
+      let told = waiting.locks in
+      subst (λ (scan : Scan). IsAt start (all ++ happens line event ∷ []) (taken scan id number lock line)) (sym waited-is)
+      (acquired-by told.edges (fold with_use (fold with_use new.uses ins) ons) room (edges-told told has.told awaits) (first-told told has.told) (has.told.once once-now)
+      (within-told told has.told) (uses-acquired awaits)
+      (uses-within new.classes (fold with_use new.uses ins) ons (uses-within new.classes new.uses ins used-now ins-within) ons-within))
+    where
+      -- the scan with these dependencies, used in the task's contexts
+      waited-is : waiting ≡ record new { locks = record new.locks { edges = waiting.locks.edges }; uses = fold with_use new.uses ins }
+      waited-is = has.others ∙ ap (λ (locks : HeldByTasks). record new { locks = locks; uses = fold with_use new.uses ins }) has.told.others

@@ -1,11 +1,11 @@
 -- A batch to which one more trace is added.
-use Rattle.std.proofs.Common.{◌≡◌, ◌≢◌, ◌+◌, ◌*◌, ◌<◌, ◌≤◌, ◌++◌, ◌∷◌, [], ◌⊎◌, inl, inr, All, Bool, List, ℕ, zero, suc, None, IfSome}
-use Rattle.std.proofs.Common.{drop, length, map, fold, flat_map, get_or, refl, ap, sym, subst, ◌∙◌, arith, length-append}
+use Rattle.std.proofs.Common.{◌≡◌, ◌≢◌, ◌+◌, ◌*◌, ◌<◌, ◌≤◌, ◌++◌, ◌∷◌, [], ◌⊎◌, inl, inr, All, List, ℕ, zero, suc, None, IfSome}
+use Rattle.std.proofs.Common.{drop, length, map, fold, flat_map, get_or, refl, ap, sym, subst, ◌∙◌, arith}
 use Rattle.std.proofs.lemmas.Bool.{cases_order}
-use Rattle.std.proofs.lemmas.List.{drop_all, get_or_push, length-map, length_push, map-append}
+use Rattle.std.proofs.lemmas.List.{drop_all, get_or_push, length-map, length-take, length_push, map-append}
 use Rattle.std.proofs.lemmas.List.Elements.{All-append, All-drop, All-nil, All-push, All-weaker}
 use Rattle.std.proofs.lemmas.List.Quantifiers.{all_pairs_push}
-use Rattle.std.specs.List.{last_or}
+use Rattle.std.specs.List.{last_or, list_any}
 use Rattle.ld_class.specs.declared.names.TheConstants.{MOST_NAMES}
 use Rattle.ld_class.specs.Names.{PlainClass, no_class, same_class}
 use Rattle.ld_trace.specs.declared.source.TheConstants.{MOST_TRACES}
@@ -35,11 +35,13 @@ use Rattle.ld_facts.specs.Inner.Kept.{AreNames, Fields, HasOwn, IsKept, IsRead, 
 use Rattle.ld_shown.specs.Inner.Names.{IsLonger, with_names}
 use Rattle.ld_shown.specs.Inner.Rows.{AreMet, seen_of}
 use Rattle.ld_facts.specs.Inner.Rows.{IsOwnEdge, IsOwnUse, edge_of, use_of}
-use Rattle.ld_shown.proofs.MetLemmas.{then_added}
+use Rattle.ld_facts.proofs.NamedLemmas.{once-named}
+use Rattle.ld_shown.proofs.LineLemmas.{AreOnce}
+use Rattle.ld_shown.proofs.MetLemmas.{seen_once}
 use Rattle.ld_shown.proofs.NameLemmas.{longer_all, with_names-each_once}
 use Rattle.ld_facts.proofs.RowLemmas.{named_rows, named_use_rows, rows_within, use_rows_within}
 use Rattle.ld_facts.proofs.ShownLemmas.{own_edges, own_uses}
-use Rattle.ld_shown.proofs.SourceLemmas.{are-met, pairs-of, shown-push, witness-new}
+use Rattle.ld_shown.proofs.SourceLemmas.{AreAdded, added_in_turn, are-met, pairs-of, shown-push, witness-new}
 use Rattle.ld_facts.proofs.TraceLemmas.{edges-longer, uses-longer, used-longer, within-longer}
 
 -- a number above the last one's is above all, where numbers rise
@@ -98,18 +100,13 @@ few_sources sources fit rise = by (length sources) refl
         omega (arith, at_least sources none rise n within, low)
 
 -- A scan with more has no fewer rows.
-grown : {X : Type 0} (same : X → X → Bool) (known xs : List X) → length known ≤ length (fold (with_new same) known xs)
-grown same known xs =
-    let all = fold (with_new same) known xs in
-    omega (arith, ap length (then_added same known xs), length-append known (drop (length known) all))
-
 pub more-edges : (old new : Scan) (source : PlainSource) → IsRead old source new → length old.locks.edges ≤ length new.locks.edges
 more-edges old new source shows = omega (
   arith,
   length-map old.locks.edges (scans.named_dependency old.classes),
   length-map new.locks.edges (scans.named_dependency new.classes),
-  ap length shows.edges,
-  grown same_dependency_seen (start_of old).edges (dependencies_of source),
+  ap length shows.first,
+  length-take (length (start_of old).edges) (start_of new).edges,
 )
 
 -- nor does it have many more names
@@ -149,7 +146,7 @@ pub record IsPushed (old new : Fields) (last : Listed) : Type 0 where
 
 -- A trace begins where a scan is ready for it.
 pub begins : (old new : Scan) (source : PlainSource) → IsReady new → IsRead old source new → length new.classes + MOST_CLASSES ≤ MOST_NAMES → IsAt (start_of new) [] new
-begins old new source is shows room = subst (IsAt (start_of new) []) (sym is) (begun-at new shows.distinct shows.within shows.used room)
+begins old new source is shows room = subst (IsAt (start_of new) []) (sym is) (begun-at new shows.distinct shows.once shows.within shows.used room)
 
 -- what a scan has where it read the source to its end
 pub shows-read : (old new : Scan) (source : PlainSource) (count : ℕ) → outcome source ≡ Read count → IsAt (start_of old) (positions source) new → IsRead old source new
@@ -160,7 +157,9 @@ shows-read old new source count is at =
       names = at.names ∙ ap (with_names old.classes) own;
       few = omega (arith, at.few_classes, length-map new.own (λ n. get_or new.classes n no_class), ap length at.own, ap length own);
       distinct = at.distinct;
-      edges = at.edges ∙ (λ i. fold (with_new same_dependency_seen) (start_of old).edges (if_read (sym is i) (seen dependencies_at all)));
+      edges = λ test. at.edges test ∙ (λ i. list_any test (fold (with_new same_dependency_seen) (start_of old).edges (if_read (sym is i) (seen dependencies_at all))));
+      first = at.first;
+      once = at.once;
       within = at.within;
       uses = at.uses ∙ (λ i. fold (with_new same_use_seen) (start_of old).uses (if_read (sym is i) (seen uses_at all)));
       used = at.used;
@@ -174,7 +173,9 @@ shows-none old new source line fault is same at =
       names = ap (with_names old.classes) (sym nothing);
       few = omega (arith, ap length nothing);
       distinct = at.distinct;
-      edges = (λ i. fold (with_new same_dependency_seen) (start_of old).edges (if_read (sym is i) (seen dependencies_at (positions source))));
+      edges = λ test. (λ i. list_any test (fold (with_new same_dependency_seen) (start_of old).edges (if_read (sym is i) (seen dependencies_at (positions source)))));
+      first = at.first;
+      once = at.once;
       within = at.within;
       uses = (λ i. fold (with_new same_use_seen) (start_of old).uses (if_read (sym is i) (seen uses_at (positions source))));
       used = at.used;
@@ -247,6 +248,14 @@ module _ (old new : Fields) (last : Listed) (kept : IsKept old) (adds : IsPushed
   met_uses : AreMet (start_of old.scan).uses (map (named_use names) old.usage)
   met_uses = subst (AreMet (start_of old.scan).uses) (sym same_uses) kept.usage
 
+  -- what comes to the scan
+  adds_edges : AreAdded same_dependency (start_of old.scan).edges (dependencies_of source) (start_of new.scan).edges
+  adds_edges = record { first = adds.shows.first; once = once-named known adds.shows.distinct new.scan.locks.edges adds.shows.within adds.shows.once; added = adds.shows.edges }
+
+  adds_uses : AreAdded same_use (start_of old.scan).uses (uses_of source) (start_of new.scan).uses
+  adds_uses = added_in_turn same_use (start_of old.scan).uses (uses_of source) (start_of new.scan).uses
+      (subst (AreOnce same_use) met_uses.same (seen_once same_use Decides-same_use (map (named_use names) old.usage) met_uses.apart)) adds.shows.uses
+
   -- the batch with the trace
   abbrev joined : PlainBatch
   joined = record {
@@ -259,11 +268,11 @@ module _ (old new : Fields) (last : Listed) (kept : IsKept old) (adds : IsPushed
   all_edges : AreMet (start_of new.scan).edges (map (named_dependency names) joined.edges)
   all_edges = are-met same_dependency Decides-same_dependency dependencies_of sources source (named_dependency names)
       (scans.named_dependency known) (edge_of new.numbers source.number) old.edges new.scan.locks.edges
-      (named_rows known new.numbers names adds.names source.number (drop (length old.edges) new.scan.locks.edges) adds.own_edges) (start_of old.scan).edges met_edges adds.shows.edges
+      (named_rows known new.numbers names adds.names source.number (drop (length old.edges) new.scan.locks.edges) adds.own_edges) (start_of old.scan).edges met_edges adds_edges
 
   all_uses : AreMet (start_of new.scan).uses (map (named_use names) joined.usage)
   all_uses = are-met same_use Decides-same_use uses_of sources source (named_use names) (scans.named_use known) (use_of new.numbers source.number) old.usage new.scan.uses
-      (named_use_rows known new.numbers names adds.names source.number (drop (length old.usage) new.scan.uses) adds.own_uses) (start_of old.scan).uses met_uses adds.shows.uses
+      (named_use_rows known new.numbers names adds.names source.number (drop (length old.usage) new.scan.uses) adds.own_uses) (start_of old.scan).uses met_uses adds_uses
 
   exact : IsBatch joined
   exact =
@@ -284,7 +293,7 @@ module _ (old new : Fields) (last : Listed) (kept : IsKept old) (adds : IsPushed
             (λ k. record { from = get_or names (both.0 k) no_class; to = get_or names (both.1 k) no_class });
         edges = witness-new same_dependency Decides-same_dependency dependencies_of sources source (named_dependency names) (scans.named_dependency known) (edge_of new.numbers source.number) old.edges
             new.scan.locks.edges (named_rows known new.numbers names adds.names source.number (drop (length old.edges) new.scan.locks.edges) adds.own_edges)
-            (start_of old.scan).edges met_edges adds.shows.edges
+            (start_of old.scan).edges met_edges adds_edges
             (λ what. ap (λ all. witness_of same_dependency all what) same_edges ∙ was.edges what) (shown-Ascend dependencies_at source) low;
         used_within = All-append (IsUse names) old.usage (map (use_of new.numbers source.number) (drop (length old.usage) new.scan.uses))
             (used-longer old.classes names count longer old.usage was.used_within)
@@ -294,7 +303,7 @@ module _ (old new : Fields) (last : Listed) (kept : IsKept old) (adds : IsPushed
             (λ k. record { class = get_or names (both.0 k) no_class; bit = bit_of (both.1 k) });
         usage = witness-new same_use Decides-same_use uses_of sources source (named_use names) (scans.named_use known) (use_of new.numbers source.number) old.usage
             new.scan.uses (named_use_rows known new.numbers names adds.names source.number (drop (length old.usage) new.scan.uses) adds.own_uses)
-            (start_of old.scan).uses met_uses adds.shows.uses
+            (start_of old.scan).uses met_uses adds_uses
             (λ what. ap (λ all. witness_of same_use all what) same_uses ∙ was.usage what) (shown-Ascend uses_at source) low;
       }
 

@@ -1,9 +1,9 @@
 -- From the scan of a trace to what its facts say.
-use Rattle.std.proofs.Common.{◌≡◌, ◌+◌, ◌<◌, ◌++◌, ◌∷◌, [], ◌||◌, List, ℕ, Bool, true, false, length, map, filter_map, get_or, Some, None, Ok, Err}
+use Rattle.std.proofs.Common.{◌≡◌, ◌+◌, ◌<◌, ◌==◌, ◌++◌, ◌∷◌, [], ◌||◌, List, ℕ, Bool, true, false, fold, length, map, filter_map, get_or, Some, None, Ok, Err}
 use Rattle.std.proofs.Common.{refl, ap, sym, subst, ◌∙◌, arith, if◌then◌else◌, append_assoc, length-append}
 use Rattle.std.specs.Prelude.{AllPairs, slice_get}
 use Rattle.std.specs.List.{cons_option, enumerate_from, list_any}
-use Rattle.std.proofs.lemmas.Bool.{true≢false}
+use Rattle.std.proofs.lemmas.Bool.{and_from, eq-eqb, true≢false}
 use Rattle.std.proofs.lemmas.List.{append-nil, get_or-map, length-map}
 use Rattle.std.proofs.lemmas.List.Quantifiers.{all_pairs_push}
 use Rattle.ld_class.specs.Names.{PlainClass, no_class}
@@ -13,17 +13,18 @@ use Rattle.ld_trace.specs.Lines.{lines, text_of}
 use Rattle.ld_trace.specs.Sources.{Fits, PlainSource}
 use Rattle.ld_trace.specs.Events.{PlainEvent, Position, Said, plain_event, position_of, positions, said_by}
 use Rattle.ld_tables.specs.declared.edges.EdgeFact.{EdgeFact}
+use Rattle.ld_tables.specs.Inner.Edges.{AreApart}
 use Rattle.ld_rules.specs.declared.fault.TraceFault.{TraceFault}
 use Rattle.ld_rules.specs.declared.outcome.Outcome.TheVariants.{Read, Refused}
 use Rattle.ld_facts.specs.declared.scan.Scan.{Scan}
 use Rattle.ld_rules.specs.Outcome.{each_once, classes, event_fault, events, faulty_lines, outcome, outcome_by, of_line, said_fault}
 use Rattle.ld_rules.specs.Held.{class_acquired}
-use Rattle.ld_rules.specs.Dependency.{Dependency, Seen, dependencies_at, least_line, same_dependency, seen}
+use Rattle.ld_rules.specs.Dependency.{Seen, dependencies_at, least_line, same_dependency, seen}
 use Rattle.ld_rules.specs.Union.{if_read}
 use Rattle.ld_facts.specs.Named.{named_dependency, named_use}
 use Rattle.ld_facts.specs.Facts.{IsKnown}
 use Rattle.ld_rules.specs.Usage.{Use, bit_of, same_use, uses_at}
-use Rattle.ld_rules.specs.Inner.Scanned.{same_dependency_seen, same_use_seen}
+use Rattle.ld_rules.specs.Inner.Scanned.{same_dependency_seen, same_use_seen, with_new}
 use Rattle.ld_tables.specs.declared.uses.UsageFact.{UsageFact}
 use Rattle.ld_facts.specs.Inner.Scan.{IsAt, IsStep, Start, fresh_scan, happens, no_start}
 use Rattle.ld_facts.specs.Inner.Reading.{IsReadTo, positions_from}
@@ -31,7 +32,11 @@ use Rattle.ld_rules.proofs.OutcomeLemmas.{first_fault}
 use Rattle.ld_rules.proofs.PlaceLemmas.{alike_from_decides, by_pushes, each_once-append, each_once-more}
 use Rattle.ld_rules.proofs.StepLemmas.{Decides-same_dependency, added_names-once}
 use Rattle.ld_rules.proofs.UsageLemmas.{Decides-same_use, same_use_seen-alike}
-use Rattle.ld_rules.proofs.LeastLemmas.{least_once, seen-Ascend}
+use Rattle.ld_rules.proofs.LeastLemmas.{least_is_first, least_once, seen-Ascend}
+use Rattle.ld_rules.proofs.SameLemmas.{apart-fold}
+use Rattle.ld_shown.proofs.LineLemmas.{AreOnce, first_same, least_of_once}
+use Rattle.ld_shown.proofs.MetLemmas.{joined}
+use Rattle.ld_facts.proofs.NamedLemmas.{once-named}
 use Rattle.ld_trace.proofs.PositionLemmas.{positions-ascend}
 
 -- the positions of lines, by the first of them
@@ -66,26 +71,12 @@ each_once-pairs {X} same alike xs = by_pushes (λ ys. AllPairs (λ a b. same b a
     step : (ys : List X) (y : X) → AllPairs (λ a b. same b a ≡ false) (each_once same ys) → AllPairs (λ a b. same b a ≡ false) (each_once same (ys ++ y ∷ []))
     step ys y h = subst (AllPairs (λ a b. same b a ≡ false)) (sym (each_once-more same alike ys y)) (added (each_once same ys) y h (list_any (same y) (each_once same ys)) refl)
 
-alike_seen : (x y : Seen Dependency) → same_dependency_seen x y ≡ true → (z : Seen Dependency) → same_dependency_seen x z ≡ same_dependency_seen y z
-alike_seen x y is z = alike_from_decides same_dependency Decides-same_dependency x.what y.what is z.what
-
--- numbered dependencies that are these by name, each once
-module _ (names : List PlainClass) (edges : List EdgeFact) (shown : List (Seen Dependency)) (is : map (named_dependency names) edges ≡ each_once same_dependency_seen shown) where
-  once_named : AllPairs (λ d e. (d.from ≡ e.from) × (d.to ≡ e.to) → ⊥) edges
-  once_named i j d before below both =
-      let apart : AllPairs (λ a b. same_dependency_seen b a ≡ false) (map (named_dependency names) edges) = subst (AllPairs (λ a b. same_dependency_seen b a ≡ false)) (sym is)
-      (each_once-pairs same_dependency_seen alike_seen shown) in
-      let differ : same_dependency_seen (get_or (map (named_dependency names) edges) j (named_dependency names d))
-      (get_or (map (named_dependency names) edges) i (named_dependency names d)) ≡ false = apart
-      i j (named_dependency names d) before (omega (arith, below, length-map edges (named_dependency names))) in
-      let here : get_or (map (named_dependency names) edges) i (named_dependency names d) ≡ named_dependency names (get_or edges i d) =
-      get_or-map (named_dependency names) edges i d (named_dependency names d) (omega arith) in
-      let there : get_or (map (named_dependency names) edges) j (named_dependency names d) ≡ named_dependency names (get_or edges j d) =
-      get_or-map (named_dependency names) edges j d (named_dependency names d) below in
-      let alike : (named_dependency names (get_or edges j d)).what ≡ (named_dependency names (get_or edges i d)).what =
-      (λ k. record { from = get_or names (sym both.0 k) no_class; to = get_or names (sym both.1 k) no_class }) in
-      true≢false (sym ((Decides-same_dependency (named_dependency names (get_or edges j d)).what (named_dependency names (get_or edges i d)).what).1 alike)
-      ∙ (λ k. same_dependency_seen (sym there k) (sym here k)) ∙ differ)
+-- no two of these dependencies are of the same numbers
+once_apart : (edges : List EdgeFact) → AreApart edges → AllPairs (λ d e. (d.from ≡ e.from) × (d.to ≡ e.to) → ⊥) edges
+once_apart edges apart i j d before below both =
+    let a = get_or edges i d in
+    let b = get_or edges j d in
+    true≢false (sym (and_from (b.from == a.from) (b.to == a.to) (eq-eqb b.from a.from (sym both.0)) (eq-eqb b.to a.to (sym both.1))) ∙ apart i j d before below)
 
 -- numbered usage bits that are these by name, each once
 once_used : (names : List PlainClass) (uses : List UsageFact) (shown : List (Seen Use)) → map (named_use names) uses ≡ each_once same_use_seen shown →
@@ -163,8 +154,9 @@ pub read-known : (source : PlainSource) (scan : Scan) (count : ℕ) → Fits sou
     IsKnown (record { source = source; outcome = Read count; classes = scan.classes; edges = scan.locks.edges; usage = scan.uses })
 read-known source scan count fits at is =
     let names : scan.classes ≡ classes (events (positions source)) = at.names ∙ added_names-once (filter_map class_acquired (events (positions source))) in
-    let edges : map (named_dependency scan.classes) scan.locks.edges ≡ each_once same_dependency_seen (seen dependencies_at (positions source)) =
-    at.edges ∙ sym (each_once-append same_dependency_seen alike_seen [] (seen dependencies_at (positions source))) in
+    let shown = seen dependencies_at (positions source) in
+    let edges = map (named_dependency scan.classes) scan.locks.edges in
+    let once : AreOnce same_dependency edges = once-named scan.classes at.distinct scan.locks.edges at.within at.once in
     let uses : map (named_use scan.classes) scan.uses ≡ each_once same_use_seen (seen uses_at (positions source)) =
     at.uses ∙ sym (each_once-append same_use_seen same_use_seen-alike [] (seen uses_at (positions source))) in
     record {
@@ -173,12 +165,14 @@ read-known source scan count fits at is =
       few = omega (arith, at.few_classes, length-map scan.own (λ n. get_or scan.classes n no_class), ap length at.own, ap length names);
       classes = names ∙ (λ i. if_read (sym is i) (classes (events (positions source))));
       within = at.within;
-      once = once_named scan.classes scan.locks.edges (seen dependencies_at (positions source)) edges;
+      once = once_apart scan.locks.edges at.once;
       edges = λ what.
-          ap (λ es. least_line same_dependency es what) edges
-          ∙ least_once same_dependency (alike_from_decides same_dependency Decides-same_dependency) (seen dependencies_at (positions source))
-          (seen-Ascend dependencies_at (positions source) (positions-ascend source)) what
-          ∙ (λ i. least_line same_dependency (if_read (sym is i) (seen dependencies_at (positions source))) what);
+          least_of_once same_dependency Decides-same_dependency edges once what
+          ∙ first_same same_dependency Decides-same_dependency edges (fold (with_new same_dependency_seen) [] shown) once
+          (apart-fold same_dependency_seen [] shown (λ i j d before below. absurd (omega arith))) at.edges what
+          ∙ joined same_dependency Decides-same_dependency [] shown what
+          ∙ sym (least_is_first same_dependency shown (seen-Ascend dependencies_at (positions source) (positions-ascend source)) what)
+          ∙ (λ i. least_line same_dependency (if_read (sym is i) shown) what);
       used_within = at.used;
       used_once = once_used scan.classes scan.uses (seen uses_at (positions source)) uses;
       usage = λ what.
@@ -205,7 +199,9 @@ none-at scan new = subst (λ s. IsAt no_start [] s) (sym new) (record {
   many = (refl, refl, λ k d below. absurd (omega arith), omega arith);
   each = λ id name at. absurd (omega (arith, at.0));
   shallow = λ id. omega arith;
-  edges = refl;
+  edges = λ test. refl;
+  first = refl;
+  once = λ i j d before below. absurd (omega arith);
   within = λ k d below. absurd (omega arith);
   uses = refl;
   used = λ k d below. absurd (omega arith);

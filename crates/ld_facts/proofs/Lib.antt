@@ -16,3 +16,4 @@ pub mod TraceLemmas
 pub mod ShownLemmas
 pub mod RowLemmas
 pub mod ListedLemmas
+pub mod WordRowLemmas

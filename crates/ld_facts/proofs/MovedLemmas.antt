@@ -1,8 +1,9 @@
 -- One more event without a fault moves the scan one position further: its own task is as the event leaves
 -- it, and all other tasks stay.
-use Rattle.std.proofs.Common.{◌≡◌, ◌≢◌, ◌<◌, ◌≤◌, ◌++◌, ◌∷◌, [], ◌∙◌, ⊎_elim, eqb, true, false, ℕ, List, None, fold, length, map, ap, sym, subst, get_or, All}
+use Rattle.std.proofs.Common.{◌≡◌, ◌≢◌, ◌<◌, ◌≤◌, ◌++◌, ◌∷◌, [], ◌∙◌, ⊎_elim, eqb, true, false, ℕ, List, None, fold, length, map, take, ap, sym, subst, get_or, All}
 use Rattle.std.proofs.lemmas.Bool.Decides.{eqb_tells}
 use Rattle.std.proofs.lemmas.Slice.Eq.{bytes_eq-Decides}
+use Rattle.std.specs.List.{list_any}
 use Rattle.std.specs.Str.{bytes_eq}
 use Rattle.ld_class.specs.Names.{AreDistinct, IsNameAt, IsTaskAt, PlainClass, place_of_task, with_name, with_task}
 use Rattle.ld_trace.specs.Events.{PlainEvent, Position}
@@ -11,11 +12,12 @@ use Rattle.ld_facts.specs.declared.scan.Scan.{Scan}
 use Rattle.ld_rules.specs.Frames.{task_of}
 use Rattle.ld_rules.specs.Dependency.{Dependency, dependencies_at}
 use Rattle.ld_facts.specs.Named.{IsBetween, named_dependency, named_use}
+use Rattle.ld_tables.specs.Inner.Edges.{AreApart}
 use Rattle.ld_tables.specs.Inner.Interrupts.{fresh}
 use Rattle.ld_rules.specs.Outcome.{classes, event_fault, events, is_one_too_many, tasks}
 use Rattle.ld_rules.specs.Held.{class_acquired}
 use Rattle.ld_facts.specs.Inner.Scan.{AreMany, HasTask, IsAt, IsTask, Start, classes_after, edges_after, happens, names_at, own_names, uses_after}
-use Rattle.ld_rules.specs.Inner.Scanned.{same_dependency_seen, with_new}
+use Rattle.ld_rules.specs.Inner.Scanned.{AreSame, same_dependency_seen, with_new}
 use Rattle.ld_facts.specs.Named.{IsUse}
 use Rattle.ld_rules.proofs.OutcomeLemmas.{events-push, no_fault}
 use Rattle.ld_rules.proofs.StepLemmas.{classes-other, dependencies-push, tasks-push}
@@ -36,7 +38,9 @@ pub record Moved (start : Start) (all : List Position) (old : Scan) (e : PlainEv
   pub interrupts : (k : ℕ) → k ≢ id → get_or new.locks.interrupts k fresh ≡ get_or old.locks.interrupts k fresh
   pub task : IsTask new.classes (get_or new.locks.stacks id []) (get_or new.locks.interrupts id fresh) (events all ++ e ∷ []) (task_of e)
   pub shallow : length (get_or new.locks.stacks id []) ≤ MOST_HELD
-  pub edges : map (named_dependency new.classes) new.locks.edges ≡ edges_after start (all ++ happens line e ∷ [])
+  pub edges : AreSame (map (named_dependency new.classes) new.locks.edges) (edges_after start (all ++ happens line e ∷ []))
+  pub first : take (length start.edges) (map (named_dependency new.classes) new.locks.edges) ≡ start.edges
+  pub once : AreApart new.locks.edges
   pub within : All (IsBetween new.classes) new.locks.edges
   pub uses : map (named_use new.classes) new.uses ≡ uses_after start (all ++ happens line e ∷ [])
   pub used : All (IsUse new.classes) new.uses
@@ -61,6 +65,8 @@ moved-at {start} all old e line id new is m = record {
       (λ same. subst (λ n. length (get_or new.locks.stacks n []) ≤ MOST_HELD) (sym same) m.shallow)
       (λ apart. subst (λ held. length held ≤ MOST_HELD) (sym (m.stacks k apart)) (is.shallow k));
   edges = m.edges;
+  first = m.first;
+  once = m.once;
   within = m.within;
   uses = m.uses;
   used = m.used;
@@ -136,11 +142,13 @@ unacquired {start} all old e line id mid new is has changed fault acquires_none 
       interrupts = λ k apart. changed.interrupts k apart ∙ has.interrupts k;
       task = subst (λ ns. IsTask ns (get_or new.locks.stacks id []) (get_or new.locks.interrupts id fresh) (events all ++ e ∷ []) (task_of e)) (sym classes-same) own;
       shallow = shallow;
-      edges =
-          (λ i. map (named_dependency (classes-same i)) (edges-same i))
-          ∙ is.edges
-          ∙ sym (dependencies-push start.edges all (happens line e) ∙ ap (λ ds. fold (with_new same_dependency_seen) (edges_after start all)
-          (map (λ (what : Dependency). record { what = what; line = line }) ds)) depends_none);
+      edges = λ test.
+          (λ i. list_any test (map (named_dependency (classes-same i)) (edges-same i)))
+          ∙ is.edges test
+          ∙ ap (list_any test) (sym (dependencies-push start.edges all (happens line e) ∙ ap (λ ds. fold (with_new same_dependency_seen) (edges_after start all)
+          (map (λ (what : Dependency). record { what = what; line = line }) ds)) depends_none));
+      first = (λ i. take (length start.edges) (map (named_dependency (classes-same i)) (edges-same i))) ∙ is.first;
+      once = subst AreApart (sym edges-same) is.once;
       within = subst (λ ns. All (IsBetween ns) new.locks.edges) (sym classes-same) (subst (All (IsBetween old.classes)) (sym edges-same) is.within);
       uses = ap (λ ns. map (named_use ns) new.uses) classes-same ∙ uses;
       used = subst (λ ns. All (IsUse ns) new.uses) (sym classes-same) used;

@@ -1,7 +1,8 @@
 -- Dependencies between numbered classes, read by the names of the classes: distinct names make equal names
 -- equal numbers, so a dependency is new by its numbers where it is new by its names.
 use Rattle.std.proofs.Common.{◌≡◌, ◌<◌, ◌++◌, ◌∷◌, [], ◌||◌, ◌&&◌, ◌==◌, List, ℕ, Bool, true, false, All}
-use Rattle.std.proofs.Common.{length, map, fold, is_some, slice_index_or, refl, ap, sym, ◌∙◌, arith, if◌then◌else◌, length-append}
+use Rattle.std.proofs.Common.{length, map, fold, is_some, get_or, slice_index_or, refl, ap, sym, ◌∙◌, arith, if◌then◌else◌, length-append, ltb}
+use Rattle.std.proofs.lemmas.Bool.{and_from, and_parts, lt-ltb, ltb-true}
 use Rattle.std.proofs.lemmas.Bool.Decides.{Decides-eqb}
 use Rattle.std.proofs.lemmas.List.{get_or_append_left, map-append}
 use Rattle.std.proofs.lemmas.List.Elements.{All-nil, All-cons, All-head, All-tail, All-append, All-map, All-weaker}
@@ -10,9 +11,12 @@ use Rattle.std.specs.List.{list_any}
 use Rattle.ld_class.specs.Names.{AreDistinct, IsNameAt, PlainClass, no_class, place_of, same_class, with_name}
 use Rattle.ld_class.proofs.NameLemmas.{same_class-Decides}
 use Rattle.ld_tables.specs.declared.edges.EdgeFact.{EdgeFact}
-use Rattle.ld_tables.specs.Inner.Edges.{edge_to, same_pair, with_edge_fact}
+use Rattle.ld_tables.specs.Inner.Edges.{AreApart, edge_to, same_pair, with_edge_fact}
 use Rattle.ld_tables.specs.Inner.Locks.{Hold}
-use Rattle.ld_rules.specs.Inner.Scanned.{same_dependency_seen, with_new}
+use Rattle.ld_rules.specs.Dependency.{same_dependency}
+use Rattle.ld_rules.specs.Inner.Scanned.{AreSame, same_dependency_seen, with_new}
+use Rattle.ld_rules.proofs.SameLemmas.{same-all}
+use Rattle.ld_shown.proofs.LineLemmas.{AreOnce, pairs-map}
 use Rattle.ld_facts.specs.Inner.Scan.{HeldLock, named_hold}
 use Rattle.ld_facts.specs.Named.{IsBetween, named_dependency}
 
@@ -42,6 +46,11 @@ module _ (names : List PlainClass) (distinct : AreDistinct names) where
       let first = same_named edge x here (All-head (IsBetween names) x xs within) in
       let rest = any_named xs edge (All-tail (IsBetween names) x xs within) here in
       (λ i. first i || rest i)
+
+  -- those that are told apart by number are so by name
+  pub once-named : (edges : List EdgeFact) → All (IsBetween names) edges → AreApart edges → AreOnce same_dependency (map (named_dependency names) edges)
+  once-named edges within apart = pairs-map (λ s t. same_dependency t.what s.what ≡ false) (named_dependency names) edges
+      (λ i j d before inside. same_named (get_or edges j d) (get_or edges i d) (within j d inside) (within i d (omega arith)) ∙ apart i j d before inside)
 
 pub with_edge_fact-named : (names : List PlainClass) → AreDistinct names → (edges : List EdgeFact) (edge : EdgeFact) → All (IsBetween names) edges → IsBetween
     names edge → map (named_dependency names) (with_edge_fact edges edge) ≡ with_new same_dependency_seen (map (named_dependency names) edges) (named_dependency names edge)
@@ -80,6 +89,23 @@ within-tell names edges line class [] within inside all = within
 within-tell names edges line class (from ∷ froms) within inside all =
     within-tell names (with_edge_fact edges (edge_to class line from)) line class froms
     (within-with_edge_fact names edges (edge_to class line from) within (All-head (λ f. f < length names) from froms all, inside)) inside (All-tail (λ f. f < length names) from froms all)
+
+-- lists with the same dependencies have them between the same classes
+pub within-same : (names : List PlainClass) (xs ys : List EdgeFact) → AreSame xs ys → All (IsBetween names) xs → All (IsBetween names) ys
+within-same names xs ys same within =
+    All-weaker (λ e. is_between e ≡ true) (IsBetween names) (λ e is. read e is) ys
+    (same-all is_between xs ys same (All-weaker (IsBetween names) (λ e. is_between e ≡ true) (λ e is. tests e is) xs within))
+  where
+    is_between : EdgeFact → Bool
+    is_between e = ltb e.from (length names) && ltb e.to (length names)
+
+    tests : (e : EdgeFact) → IsBetween names e → is_between e ≡ true
+    tests e is = and_from (ltb e.from (length names)) (ltb e.to (length names)) (lt-ltb e.from (length names) is.0) (lt-ltb e.to (length names) is.1)
+
+    read : (e : EdgeFact) → is_between e ≡ true → IsBetween names e
+    read e is =
+        let both = and_parts (ltb e.from (length names)) (ltb e.to (length names)) is in
+        (ltb-true e.from (length names) both.0, ltb-true e.to (length names) both.1)
 
 -- names with one more among them: those that were there stand where they stood
 pub number-more : (names : List PlainClass) (name : PlainClass) (i : ℕ) → i < length names → i < length (with_name names name)

@@ -6,6 +6,7 @@ use Rattle.std.proofs.lemmas.List.{get_or-map, length-map, map_more, take-append
 use Rattle.std.proofs.lemmas.List.Elements.{All-map, All-push, All-weaker}
 use Rattle.std.proofs.lemmas.List.Folds.{Any-from_list_any, list_any-append}
 use Rattle.std.proofs.lemmas.List.Sums.{fold-append}
+use Rattle.std.proofs.Math.Seq.{drop-append_seam}
 use Rattle.std.specs.List.{list_any}
 use Rattle.ld_class.specs.Names.{AreDistinct, PlainClass, no_class, place_of, with_name}
 use Rattle.ld_rules.specs.Usage.{IsBit, bit_of}
@@ -95,6 +96,10 @@ module _ (own numbers : List ℕ) (all : All (λ n. list_any (nat_eq n) numbers 
 -- a part that is read as a slice
 pub slice_is : {X : Type 0} (xs facts : List X) (n count : ℕ) → xs ≡ facts → n ≡ count → take (length xs - n) (drop n xs) ≡ drop count facts
 slice_is xs facts n count is many = take_rest xs n ∙ (λ i. drop (many i) (is i))
+
+-- what comes behind what there was before
+pub told_rest : {X : Type 0} (before here all : List X) (n : ℕ) → before ++ here ≡ all → n ≡ length before → drop n all ≡ here
+told_rest before here all n is many = (λ i. drop (many i) (sym is i)) ∙ drop-append_seam before here
 
 -- a number that is there stands at its place
 pub place_at : (n : ℕ) (numbers : List ℕ) → list_any (nat_eq n) numbers ≡ true → (place_in numbers n < length numbers) × (get_or numbers (place_in numbers n) 0 ≡ n)

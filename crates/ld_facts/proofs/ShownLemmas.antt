@@ -1,10 +1,10 @@
 -- What a trace shows is of its own classes.
-use Rattle.std.proofs.Common.{◌≡◌, ◌<◌, ◌++◌, ◌∷◌, [], ◌||◌, All, Bool, true, false, List, ℕ, Some, Result, Ok, Err, nat_eq}
-use Rattle.std.proofs.Common.{drop, fold, filter_map, length, map, get_or, refl, ap, sym, subst, ◌∙◌, arith, if◌then◌else◌, append_assoc}
+use Rattle.std.proofs.Common.{◌≡◌, ◌+◌, ◌<◌, ◌++◌, ◌∷◌, [], ◌||◌, All, AllPairs, Bool, true, false, List, ℕ, Some, Result, Ok, Err, nat_eq}
+use Rattle.std.proofs.Common.{drop, take, fold, filter_map, length, map, get_or, refl, ap, sym, subst, ◌∙◌, arith, if◌then◌else◌, append_assoc}
 use Rattle.std.proofs.lemmas.Bool.{eq-eqb, or_left, or_right}
-use Rattle.std.proofs.lemmas.List.{append-nil, drop-map, get_or_default, get_or-map, length-map}
+use Rattle.std.proofs.lemmas.List.{append-nil, drop-map, get_or_default, get_or-drop, get_or-map, get_or-take, length-drop, length-map}
 use Rattle.std.proofs.lemmas.List.Elements.{All-append, All-drop, All-filter, All-head, All-map, All-nil, All-push, All-tail, All-weaker, filter_map-append}
-use Rattle.std.proofs.lemmas.List.Folds.{Any-from_list_any, list_any-append, list_any_at}
+use Rattle.std.proofs.lemmas.List.Folds.{Any-from_list_any, list_any-append, list_any_at, list_any_none}
 use Rattle.std.proofs.Math.Seq.{drop-append_seam}
 use Rattle.std.specs.List.{cons_option, list_any}
 use Rattle.ld_class.specs.Names.{PlainClass, no_class, same_class}
@@ -25,10 +25,13 @@ use Rattle.ld_rules.specs.Usage.Bit.{In, On}
 use Rattle.ld_rules.proofs.HeldLemmas.{acquisition_at, has_key, held-acquires, held-other, held-releases}
 use Rattle.ld_rules.proofs.OutcomeLemmas.{events-push, seen-push}
 use Rattle.ld_rules.proofs.PlaceLemmas.{alike_from_decides, any_each_once, by_pushes}
+use Rattle.ld_rules.proofs.StepLemmas.{Decides-same_dependency}
+use Rattle.ld_shown.proofs.MetLemmas.{then_added}
 use Rattle.ld_facts.specs.declared.scan.Scan.{Scan}
 use Rattle.ld_facts.specs.Named as scans
-use Rattle.ld_facts.specs.Inner.Scan.{IsAt, Start, own_names}
+use Rattle.ld_facts.specs.Inner.Scan.{IsAt, Start, edges_after, own_names}
 use Rattle.ld_facts.specs.Inner.Rows.{IsOwnEdge, IsOwnUse}
+use Rattle.ld_facts.proofs.NamedLemmas.{once-named}
 use Rattle.ld_facts.proofs.ReleaseLemmas.{All-remove_last}
 
 -- the class is one of those that these events acquire
@@ -164,6 +167,18 @@ module _ {X : Type 0} (P : X → Type 0) (same : X → X → Bool) where
   pub all_added : (known xs : List X) → All P xs → All P (drop (length known) (fold (with_new same) known xs))
   all_added known xs come = subst (λ ys. All P (drop (length known) (fold (with_new same) ys xs))) (append-nil known) (added_of known [] xs (All-nil P) come)
 
+-- what stands behind others in a list that has each thing once isn't one of those
+behind : {X : Type 0} (same : X → X → Bool) (P : X → Type 0) (first all : List X) → take (length first) all ≡ first → AllPairs (λ a b. same b a ≡ false) all → ((x : X) → same x x ≡ true)
+    → ((x : X) → list_any (same x) first ≡ false → list_any (same x) all ≡ true → P x) → All P (drop (length first) all)
+behind same P first all is once itself each k d within =
+    let n = length first in
+    let at : get_or (drop n all) k d ≡ get_or all (n + k) d = get_or-drop n all k d in
+    let inside : n + k < length all = omega (arith, within, length-drop n all) in
+    let x = get_or all (n + k) d in
+    let none : list_any (same x) first ≡ false = list_any_none (same x) first (λ i e low.
+    ap (same x) (ap (λ xs. get_or xs i e) (sym is) ∙ get_or-take n all i e low ∙ get_or_default all i e d (omega (arith, low, inside))) ∙ once i (n + k) d (omega (arith, low)) inside) in
+    subst P (sym at) (each x none (list_any_at (same x) all (n + k) d inside (itself x)))
+
 -- a class by its number, where its name is one of the trace's own
 module _ (start : Start) (all : List Position) (scan : Scan) (at : IsAt start all scan) where
   own_number : (n : ℕ) → n < length scan.classes → IsClass (events all) (get_or scan.classes n no_class) → list_any (nat_eq n) scan.own ≡ true
@@ -180,6 +195,18 @@ module _ (start : Start) (all : List Position) (scan : Scan) (at : IsAt start al
       let equal : n ≡ get_or scan.own found.0 0 = at.distinct n (get_or scan.own found.0 0) (get_or scan.classes n no_class) (within, refl) (low, sym same) in
       list_any_at (nat_eq n) scan.own found.0 0 inside (eq-eqb n (get_or scan.own found.0 0) equal)
 
+  -- what isn't among the dependencies that were there is among those that the trace shows
+  told_further : (s : Seen Dependency) → list_any (same_dependency_seen s) start.edges ≡ false
+      → list_any (same_dependency_seen s) (map (scans.named_dependency scan.classes) scan.locks.edges) ≡ true → OfClasses (events all) s.what
+  told_further s new there =
+      let added = drop (length start.edges) (edges_after start all) in
+      let split : list_any (same_dependency_seen s) (edges_after start all) ≡ (list_any (same_dependency_seen s) start.edges || list_any (same_dependency_seen s) added) =
+      ap (list_any (same_dependency_seen s)) (sym (then_added same_dependency_seen start.edges (seen dependencies_at all))) ∙ list_any-append (same_dependency_seen s) start.edges added in
+      let found = Any-from_list_any (same_dependency_seen s) added (ap (λ b. b || list_any (same_dependency_seen s) added) (sym new) ∙ sym split ∙ sym (at.edges (same_dependency_seen s)) ∙ there) in
+      let shown = all_added (λ (t : Seen Dependency). OfClasses (events all) t.what) same_dependency_seen start.edges (seen dependencies_at all)
+      (seen_classes dependencies_at OfClasses (λ past others d is. (more_classes past others d.from is.0, more_classes past others d.to is.1)) dependency_classes all) found.0 found.1 found.2 in
+      subst (OfClasses (events all)) (sym ((Decides-same_dependency s.what found.1.what).0 found.4 ∙ ap (λ (t : Seen Dependency). t.what) (sym found.3))) shown
+
   -- what the trace told first is of its own classes
   pub own_edges : All (IsOwnEdge scan.own) (drop (length start.edges) scan.locks.edges)
   own_edges k d within =
@@ -191,11 +218,13 @@ module _ (start : Start) (all : List Position) (scan : Scan) (at : IsAt start al
       let both = subst (λ (s : Seen Dependency). OfClasses (events all) s.what) here shown in
       (own_number edge.from inside.0 both.0, own_number edge.to inside.1 both.1)
     where
+      names : List (Seen Dependency)
+      names = map (scans.named_dependency scan.classes) scan.locks.edges
+
       by_name : All (λ (s : Seen Dependency). OfClasses (events all) s.what) (map (scans.named_dependency scan.classes) (drop (length start.edges) scan.locks.edges))
-      by_name = subst (All (λ (s : Seen Dependency). OfClasses (events all) s.what))
-          (ap (drop (length start.edges)) (sym at.edges) ∙ drop-map (scans.named_dependency scan.classes) (length start.edges) scan.locks.edges)
-          (all_added (λ (s : Seen Dependency). OfClasses (events all) s.what) same_dependency_seen start.edges (seen dependencies_at all)
-          (seen_classes dependencies_at OfClasses (λ past others d is. (more_classes past others d.from is.0, more_classes past others d.to is.1)) dependency_classes all))
+      by_name = subst (All (λ (s : Seen Dependency). OfClasses (events all) s.what)) (drop-map (scans.named_dependency scan.classes) (length start.edges) scan.locks.edges)
+          (behind same_dependency_seen (λ s. OfClasses (events all) s.what) start.edges names at.first
+          (once-named scan.classes at.distinct scan.locks.edges at.within at.once) (λ s. (Decides-same_dependency s.what s.what).1 refl) told_further)
 
   pub own_uses : All (IsOwnUse scan.own) (drop (length start.uses) scan.uses)
   own_uses k d within =

@@ -1,11 +1,12 @@
 //! `Batch`, which keeps what a few traces show together.
 ghost use Rattle.std.specs.Prelude.{◌≡◌, ◌<◌, ◌≤◌, ◌-◌, ◌*◌, ◌++◌, ◌∷◌, [], None, Some, IfOk, IfSome, OnErr};
-ghost use Rattle.std.specs.Prelude.{OnOk, length, slice_index_or};
+ghost use Rattle.std.specs.Prelude.{All, OnOk, length, slice_index_or};
 ghost use Rattle.ld_rules.specs.declared.outcome.Listed.{Listed};
 ghost use Rattle.std.specs.List.{last_or};
 ghost use Rattle.ld_trace.specs.Sources.{Fits, plain};
 ghost use Rattle.ld_rules.specs.declared.outcome.TheConstants.{MOST_CLASSES};
 ghost use Rattle.ld_shown.specs.Batch.{AreOutcomes, IsBatch, empty_batch, sources_of};
+ghost use Rattle.ld_shown.specs.Inner.Rows.{edges_of};
 
 use crate::batch_reading::read;
 use crate::batch_rows::BatchRows;
@@ -13,7 +14,7 @@ use crate::known::Facts;
 use crate::scan::Scan;
 use ld_class::ClassList;
 use ld_rules::Listed;
-use ld_shown::{Guesses, Shown, WitnessedEdge, WitnessedUse};
+use ld_shown::{Edges, Guesses, Shown, WitnessedUse, Words};
 use ld_trace::Source;
 use std::alloc::{AllocError, Global};
 use std::marker::Model;
@@ -27,7 +28,7 @@ use std::mem;
 pub struct Batch<'a> {
     listed: Vec<Listed<'a>>,
     /// It scans each trace on top of what the ones before it show, and is ready for the next one. It may
-    /// know more names, chains and pairs of classes than those of the batch, which were met before the batch was
+    /// know more names, chains and words than those of the batch, which were met before the batch was
     /// emptied.
     scan: Scan<'a>,
     rows: BatchRows<'a>,
@@ -36,7 +37,9 @@ pub struct Batch<'a> {
 
 impl<'a> Model for Batch<'a> {
     ghost use Rattle.ld_shown.specs.Batch.{PlainBatch};
+    ghost use Rattle.std.specs.Prelude.{All};
     ghost use Rattle.ld_facts.specs.Inner.Kept.{IsKept, batch_of};
+    ghost use Rattle.ld_facts.specs.Inner.Rows.{IsOwnWord, edges_at};
 
     ghost Value = { PlainBatch };
 
@@ -45,7 +48,7 @@ impl<'a> Model for Batch<'a> {
       scan = b.scan;
       classes = b.rows.classes;
       numbers = b.rows.numbers;
-      edges = b.rows.edges.items;
+      edges = edges_at b.rows.numbers b.rows.words.items;
       usage = b.rows.usage.items;
     }) };
 
@@ -54,9 +57,9 @@ impl<'a> Model for Batch<'a> {
       scan = b.scan;
       classes = b.rows.classes;
       numbers = b.rows.numbers;
-      edges = b.rows.edges.items;
+      edges = edges_at b.rows.numbers b.rows.words.items;
       usage = b.rows.usage.items;
-    }) };
+    }) × All (IsOwnWord b.rows.numbers) b.rows.words.items };
 }
 
 impl<'a> Batch<'a> {
@@ -140,11 +143,23 @@ impl<'a> Batch<'a> {
     }
 
     /// The dependencies, each once with its first witness, in no promised order. Takes no memory.
-    pub fn edges(&self) -> &[WitnessedEdge]
-        ensures same { result.now ≡ self.now.edges }
+    pub fn edges(&self) -> Edges<'_>
+        ensures same { result ≡ self.now.edges }
         ensures exact { IsBatch self.now }
     {
-        &self.rows.edges
+        Edges::new(self.words())
+    }
+
+    /// The same by words.
+    fn words(&self) -> Words<'_>
+        ensures same { edges_of result.places.now result.words.now ≡ self.now.edges }
+        ensures low { All (λ w. w.block < 67108864) result.words.now }
+        ensures exact { IsBatch self.now }
+    {
+        Words {
+            words: &self.rows.words,
+            places: self.rows.numbers.places(),
+        }
     }
 
     /// The usage bits, each of each class once with its first witness, in no promised order. Takes no
@@ -156,18 +171,17 @@ impl<'a> Batch<'a> {
         &self.rows.usage
     }
 
-    /// What the traces show, with the numbers that the scan has for their classes and for the pairs of these:
-    /// guesses are kept by them. Takes no memory.
+    /// What the traces show, with the numbers that the scan has for their classes, by which guesses are
+    /// kept. Takes no memory.
     pub fn shown(&self) -> Shown<'_, 'a>
         ensures { result ≡ self.now }
     {
         Shown::new(
             self.listed(),
             self.classes(),
-            self.edges(),
+            self.words(),
             self.usage(),
             self.rows.numbers.as_slice(),
-            self.scan.locks.pairs(),
         )
     }
 

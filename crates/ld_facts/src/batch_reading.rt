@@ -8,7 +8,7 @@ ghost use Rattle.ld_rules.specs.Union.{classes_of};
 ghost use Rattle.ld_facts.specs.Inner.Scan.{IsAt, StandsOn, start_of};
 ghost use Rattle.ld_facts.specs.Inner.Kept.{AreNames, HasOwn, IsRead, IsReady};
 ghost use Rattle.ld_shown.specs.Inner.Names.{with_names};
-ghost use Rattle.ld_facts.specs.Inner.Rows.{IsOwnEdge, IsOwnUse, edge_of, use_of};
+ghost use Rattle.ld_facts.specs.Inner.Rows.{IsOwnEdge, IsOwnUse, IsOwnWord, edge_of, edges_at, use_of};
 
 use crate::batch_rows::BatchRows;
 use crate::reading::read_into;
@@ -32,7 +32,8 @@ pub(crate) fn read<'a>(
     requires room { length scan.old.classes + 2 * MOST_CLASSES ≤ MOST_NAMES }
     requires few { length rows.old.classes + MOST_CLASSES ≤ MOST_NAMES }
     requires names { AreNames scan.old.classes rows.old.numbers rows.old.classes }
-    requires edges { length rows.old.edges.items ≡ length scan.old.locks.edges }
+    requires edges { length (edges_at rows.old.numbers rows.old.words.items) ≡ length scan.old.locks.edges }
+    requires own_words { All (IsOwnWord rows.old.numbers) rows.old.words.items }
     requires usage { length rows.old.usage.items ≡ length scan.old.uses }
     ensures outcome { IfOk result (λ what. what ≡ outcome (plain source.entry)) }
     ensures shows { OnOk result (IsRead scan.old (plain source.entry) scan.new) }
@@ -41,20 +42,22 @@ pub(crate) fn read<'a>(
     ensures classes { OnOk result
         (rows.new.classes ≡ with_names rows.old.classes (classes_of (plain source.entry))) }
     ensures names { OnOk result (AreNames scan.new.classes rows.new.numbers rows.new.classes) }
-    ensures edges { OnOk result (rows.new.edges.items ≡ rows.old.edges.items
+    ensures edges { OnOk result (edges_at rows.new.numbers rows.new.words.items
+        ≡ edges_at rows.old.numbers rows.old.words.items
         ++ map (edge_of rows.new.numbers source.entry.number)
-        (drop (length rows.old.edges.items) scan.new.locks.edges)) }
+        (drop (length (edges_at rows.old.numbers rows.old.words.items)) scan.new.locks.edges)) }
+    ensures own_words { OnOk result (All (IsOwnWord rows.new.numbers) rows.new.words.items) }
     ensures usage { OnOk result (rows.new.usage.items ≡ rows.old.usage.items
         ++ map (use_of rows.new.numbers source.entry.number)
         (drop (length rows.old.usage.items) scan.new.uses)) }
     ensures own_edges { OnOk result (All (IsOwnEdge rows.new.numbers)
-        (drop (length rows.old.edges.items) scan.new.locks.edges)) }
+        (drop (length (edges_at rows.old.numbers rows.old.words.items)) scan.new.locks.edges)) }
     ensures own_uses { OnOk result (All (IsOwnUse rows.new.numbers)
         (drop (length rows.old.usage.items) scan.new.uses)) }
     ensures refused { OnErr result ((scan.new ≡ scan.old)
         × (rows.new.classes ≡ rows.old.classes)
         × (rows.new.numbers ≡ rows.old.numbers)
-        × (rows.new.edges.items ≡ rows.old.edges.items)
+        × (rows.new.words.items ≡ rows.old.words.items)
         × (rows.new.usage.items ≡ rows.old.usage.items)) }
 {
     let outcome = scan_source(scan, source)?;

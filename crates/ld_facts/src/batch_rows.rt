@@ -4,14 +4,14 @@ ghost use Rattle.ld_class.specs.Names.{AreDistinct, PlainClass};
 ghost use Rattle.ld_class.specs.declared.names.TheConstants.{MOST_NAMES};
 ghost use Rattle.ld_facts.specs.Inner.Kept.{AreNames};
 ghost use Rattle.ld_shown.specs.Inner.Names.{with_names};
-ghost use Rattle.ld_facts.specs.Inner.Rows.{IsOwnEdge, IsOwnUse, edge_of, use_of};
+ghost use Rattle.ld_facts.specs.Inner.Rows.{IsOwnEdge, IsOwnUse, IsOwnWord, edge_of, edges_at, use_of};
 
 use crate::edges::add_edges;
 use crate::names::add_named;
 use crate::scan::Scan;
 use crate::uses::add_uses;
 use ld_class::ClassList;
-use ld_shown::{WitnessedEdge, WitnessedUse};
+use ld_shown::{WitnessedUse, WitnessedWord};
 use ld_tables::Numbers;
 use std::alloc::{AllocError, Global};
 
@@ -22,10 +22,9 @@ pub(crate) struct BatchRows<'a> {
     pub(crate) classes: ClassList<'a>,
     /// The numbers that the scan has for them, in the same order.
     pub(crate) numbers: Numbers,
-    /// The dependencies of the scan, by the places of the classes, with the numbers of the traces that
-    /// told them first.
-    pub(crate) edges: Vec<WitnessedEdge>,
-    /// The same of its usage bits.
+    /// The dependencies of the scan, with the numbers of the traces that told them first.
+    pub(crate) words: Vec<WitnessedWord>,
+    /// Its usage bits, by the places of the classes, with the numbers of the traces that showed them first.
     pub(crate) usage: Vec<WitnessedUse>,
 }
 
@@ -34,13 +33,13 @@ impl<'a> BatchRows<'a> {
     pub(crate) fn new(alloc: Global) -> BatchRows<'a>
         ensures classes { result.classes ≡ [] }
         ensures numbers { result.numbers ≡ [] }
-        ensures edges { result.edges.items ≡ [] }
+        ensures words { result.words.items ≡ [] }
         ensures usage { result.usage.items ≡ [] }
     {
         BatchRows {
             classes: ClassList::new(alloc),
             numbers: Numbers::new(alloc),
-            edges: Vec::new(alloc),
+            words: Vec::new(alloc),
             usage: Vec::new(alloc),
         }
     }
@@ -49,12 +48,12 @@ impl<'a> BatchRows<'a> {
     pub(crate) fn clear(&mut self)
         ensures classes { self.new.classes ≡ [] }
         ensures numbers { self.new.numbers ≡ [] }
-        ensures edges { self.new.edges.items ≡ [] }
+        ensures words { self.new.words.items ≡ [] }
         ensures usage { self.new.usage.items ≡ [] }
     {
         self.classes.cut(0);
         self.numbers.clear();
-        self.edges.clear();
+        self.words.clear();
         self.usage.clear();
     }
 
@@ -68,33 +67,36 @@ impl<'a> BatchRows<'a> {
         requires distinct { AreDistinct scan.now.classes }
         requires names { AreNames scan.now.classes self.old.numbers self.old.classes }
         requires own { All (λ n. n < length scan.now.classes) scan.now.own }
-        requires more_edges { length self.old.edges.items ≤ length scan.now.locks.edges }
+        requires so_far { length (edges_at self.old.numbers self.old.words.items) ≡ length scan.now.locks.before }
+        requires own_words { All (IsOwnWord self.old.numbers) self.old.words.items }
         requires more_uses { length self.old.usage.items ≤ length scan.now.uses }
         requires own_edges { All (IsOwnEdge scan.now.own)
-            (drop (length self.old.edges.items) scan.now.locks.edges) }
+            (drop (length (edges_at self.old.numbers self.old.words.items)) scan.now.locks.edges) }
         requires own_uses { All (IsOwnUse scan.now.own)
             (drop (length self.old.usage.items) scan.now.uses) }
         ensures classes { OnOk result ((own : List PlainClass) → AreNames scan.now.classes scan.now.own own
             → self.new.classes ≡ with_names self.old.classes own) }
         ensures names { OnOk result (AreNames scan.now.classes self.new.numbers self.new.classes) }
-        ensures edges { OnOk result (self.new.edges.items ≡ self.old.edges.items
+        ensures edges { OnOk result (edges_at self.new.numbers self.new.words.items
+            ≡ edges_at self.old.numbers self.old.words.items
             ++ map (edge_of self.new.numbers number)
-            (drop (length self.old.edges.items) scan.now.locks.edges)) }
+            (drop (length (edges_at self.old.numbers self.old.words.items)) scan.now.locks.edges)) }
+        ensures own_words { OnOk result (All (IsOwnWord self.new.numbers) self.new.words.items) }
         ensures usage { OnOk result (self.new.usage.items ≡ self.old.usage.items
             ++ map (use_of self.new.numbers number)
             (drop (length self.old.usage.items) scan.now.uses)) }
         ensures own_edges { OnOk result (All (IsOwnEdge self.new.numbers)
-            (drop (length self.old.edges.items) scan.now.locks.edges)) }
+            (drop (length (edges_at self.old.numbers self.old.words.items)) scan.now.locks.edges)) }
         ensures own_uses { OnOk result (All (IsOwnUse self.new.numbers)
             (drop (length self.old.usage.items) scan.now.uses)) }
         ensures refused { OnErr result ((self.new.classes ≡ self.old.classes)
             × (self.new.numbers ≡ self.old.numbers)
-            × (self.new.edges.items ≡ self.old.edges.items)
+            × (self.new.words.items ≡ self.old.words.items)
             × (self.new.usage.items ≡ self.old.usage.items)) }
     {
-        let edges = &scan.locks.edges()[self.edges.len()..];
+        let told = scan.locks.told_here();
         let uses = &scan.uses.as_slice()[self.usage.len()..];
-        self.edges.reserve(edges.len())?;
+        self.words.reserve(told.len())?;
         self.usage.reserve(uses.len())?;
         add_named(
             &mut self.classes,
@@ -103,7 +105,7 @@ impl<'a> BatchRows<'a> {
             scan.own.as_slice(),
         )?;
         // From here on nothing is refused.
-        add_edges(&mut self.edges, edges, number, &self.numbers);
+        add_edges(&mut self.words, told, number);
         add_uses(&mut self.usage, uses, number, &self.numbers);
         Ok(())
     }

@@ -27,7 +27,7 @@ impl<'a> Scan<'a> {
     }
 
     /// Takes all away but the names of classes, while they are few, which keep their numbers; and what stands in no
-    /// clause: names of tasks, chains and the numbers of pairs, while they are few, and guesses. The memory stays.
+    /// clause: names of tasks, chains and words, while they are few, and guesses. The memory stays.
     pub fn clear(&mut self)
         ensures fresh { self.new ≡ fresh_scan self.new.classes }
         ensures distinct { AreDistinct self.new.classes }

@@ -30,6 +30,7 @@ pub(crate) fn add_named<'a>(
     ensures names { OnOk result (names.new ≡ with_names names.old (names_at known.now own.now)) }
     ensures same { OnOk result (AreNames known.now numbers.new names.new) }
     ensures there { OnOk result (All (λ n. list_any (nat_eq n) numbers.new ≡ true) own.now) }
+    ensures front { OnOk result (take (length numbers.old) numbers.new ≡ numbers.old) }
     ensures refused { OnErr result ((names.new ≡ names.old) × (numbers.new ≡ numbers.old)) }
 {
     let before = names.len();

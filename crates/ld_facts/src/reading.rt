@@ -29,13 +29,19 @@ pub fn facts<'a>(alloc: Global, source: Source<'a>) -> Result<Facts<'a>, AllocEr
 {
     let mut scan = Scan::new(alloc);
     match read_into(&mut scan, source) {
-        Ok(Outcome::Read { events }) => Ok(Facts {
-            source,
-            outcome: Outcome::Read { events },
-            classes: scan.classes,
-            edges: scan.locks.into_edges(),
-            usage: scan.uses,
-        }),
+        Ok(Outcome::Read { events }) => {
+            let Ok(edges) = scan.locks.edge_facts() else {
+                drop(scan);
+                return Err(AllocError);
+            };
+            Ok(Facts {
+                source,
+                outcome: Outcome::Read { events },
+                classes: scan.classes,
+                edges,
+                usage: scan.uses,
+            })
+        }
         Ok(Outcome::Refused { line, fault }) => Ok(refused(alloc, scan, source, line, fault)),
         Err(refusal) => {
             drop(scan);

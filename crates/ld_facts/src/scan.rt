@@ -6,8 +6,8 @@ ghost use Rattle.ld_class.specs.declared.names.TheConstants.{MOST_NAMES};
 ghost use Rattle.ld_trace.specs.Events.{plain_event, plain_lock};
 ghost use Rattle.ld_trace.specs.Events.PlainEvent.{Begin, Disable, Enable, Enter, Exit, Release};
 ghost use Rattle.ld_tables.specs.Inner.Interrupts.{fresh};
-ghost use Rattle.ld_facts.specs.Inner.Scan.{AreMany, IsItsFault, IsStep, StandsOn, acquisition};
-ghost use Rattle.ld_facts.specs.Inner.Scan.{fresh_scan, own_names, taken, waited};
+ghost use Rattle.ld_facts.specs.Inner.Scan.{AreMany, HasWaited, IsItsFault, IsStep, StandsOn, acquisition};
+ghost use Rattle.ld_facts.specs.Inner.Scan.{fresh_scan, own_names, taken};
 ghost use Rattle.ld_tables.specs.Inner.Uses.{on_facts, with_use};
 ghost use Rattle.ld_rules.specs.declared.fault.TraceFault.{TraceFault};
 ghost use Rattle.ld_rules.specs.declared.outcome.TheConstants.{MOST_CLASSES, MOST_HELD};
@@ -117,7 +117,7 @@ impl<'a> Scan<'a> {
     /// task's contexts.
     fn wait(&mut self, task: u32, class: u32, line: u64) -> Result<(), AllocError>
         requires { task < length self.old.locks.stacks }
-        ensures waited { OnOk result (self.new ≡ waited self.old task class line) }
+        ensures waited { OnOk result (HasWaited self.old task class line self.new) }
         ensures first { StandsOn self.old self.new }
     {
         self.locks.tell(task, class, line)?;

@@ -11,3 +11,4 @@ pub mod UsageLemmas
 pub mod GroupLemmas
 pub mod LeastLemmas
 pub mod BeforeLemmas
+pub mod SameLemmas

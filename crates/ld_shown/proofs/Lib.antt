@@ -1,3 +1,5 @@
+pub mod EdgeLemmas
+pub mod LineLemmas
 pub mod MetLemmas
 pub mod NameLemmas
 pub mod SourceLemmas

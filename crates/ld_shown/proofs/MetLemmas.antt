@@ -1,20 +1,19 @@
--- Things with witnesses, each there once: more of them are added where they aren't there yet.
+-- Things with witnesses, and as they were seen: what comes to a list, each thing once.
 use Rattle.std.proofs.Common.{◌≡◌, ◌≢◌, ◌≤◌, ◌++◌, ◌∷◌, [], ◌||◌, All, AllPairs, Bool, true, false, cond, List, ℕ, Option, Some, None}
-use Rattle.std.proofs.Common.{drop, fold, length, map, take, get_or, refl, ap, sym, subst, ◌∙◌, arith, if◌then◌else◌, option_map, append_assoc, length-append}
+use Rattle.std.proofs.Common.{drop, fold, length, map, take, get_or, refl, ap, sym, ◌∙◌, arith, if◌then◌else◌, option_map, length-append}
 use Rattle.std.proofs.lemmas.Bool.{true≢false}
-use Rattle.std.proofs.lemmas.List.{append-nil, length-map, map-append, take-append-drop, take-append-le, take_all}
-use Rattle.std.proofs.lemmas.List.Elements.{All-cons, All-nil}
+use Rattle.std.proofs.lemmas.List.{get_or-map, length-map, map-append, take-append-drop, take-append-le, take_all}
 use Rattle.std.proofs.lemmas.List.Folds.{find-append}
-use Rattle.std.proofs.lemmas.List.Quantifiers.{all_pairs_push}
-use Rattle.std.proofs.Math.Seq.{drop-append_seam}
 use Rattle.std.specs.Bool.{Decides}
 use Rattle.std.specs.List.{find, list_any}
 use Rattle.std.specs.Option.{option_or}
-use Rattle.ld_rules.specs.Dependency.{Seen, least_line}
+use Rattle.ld_rules.specs.Dependency.{Seen}
 use Rattle.ld_rules.specs.Inner.Scanned.{with_new}
-use Rattle.ld_rules.proofs.LeastLemmas.{Ascend, first_line, least_is_first}
+use Rattle.ld_rules.proofs.LeastLemmas.{first_line}
+use Rattle.ld_rules.proofs.SameLemmas.{fails_each}
 use Rattle.ld_shown.specs.Batch.{Met, witness_of}
 use Rattle.ld_shown.specs.Inner.Rows.{seen_in, seen_of}
+use Rattle.ld_shown.proofs.LineLemmas.{AreOnce, pairs-map}
 
 -- no element passes where none is found
 none_passes : {X : Type 0} (p : X → Bool) (xs : List X) → find p xs ≡ None → list_any p xs ≡ false
@@ -27,12 +26,7 @@ none_passes {X} p (x ∷ xs) none = by (p x) none (none_passes p xs)
 
 -- nor does any at a place
 pub fails_at : {X : Type 0} (p : X → Bool) (xs : List X) → list_any p xs ≡ false → All (λ x. p x ≡ false) xs
-fails_at p [] none = All-nil (λ x. p x ≡ false)
-fails_at {X} p (x ∷ xs) none = by (p x) refl none (fails_at p xs)
-  where
-    by : (b : Bool) → p x ≡ b → (b || list_any p xs) ≡ false → (list_any p xs ≡ false → All (λ y. p y ≡ false) xs) → All (λ y. p y ≡ false) (x ∷ xs)
-    by true is found rest = absurd (true≢false found)
-    by false is found rest = All-cons (λ y. p y ≡ false) x xs is (rest found)
+fails_at p xs none = fails_each p xs none
 
 or_none : {X : Type 0} (o : Option X) → option_or o None ≡ o
 or_none None = refl
@@ -51,74 +45,96 @@ abbrev pub met : {A : Type 0} → ℕ → Seen A → Met A
 met number seen = record { what = seen.what; witness = record { number = number; line = seen.line } }
 
 -- of the same thing, wherever it was seen
-abbrev pub same_met : {A : Type 0} → (A → A → Bool) → Met A → Met A → Bool
-same_met same m n = same m.what n.what
-
 abbrev pub same_seen : {A : Type 0} → (A → A → Bool) → Seen A → Seen A → Bool
 same_seen same s t = same s.what t.what
 
-module _ {A : Type 0} (same : A → A → Bool) (decides : (a b : A) → Decides (same a b) (a ≡ b)) where
-  abbrev is_of : A → Met A → Bool
-  is_of what m = same what m.what
+module _ {A : Type 0} (same : A → A → Bool) where
+  -- what is first in two lists
+  pub line-append : (xs ys : List (Seen A)) (what : A) → first_line same (xs ++ ys) what ≡ option_or (first_line same xs what) (first_line same ys what)
+  line-append xs ys what =
+      ap (option_map (λ s. s.line)) (find-append (λ s. same what s.what) xs ys)
+      ∙ map_or (λ s. s.line) (find (λ s. same what s.what) xs) (find (λ s. same what s.what) ys)
 
-  -- one more
-  one_more : (all : List (Met A)) (m : Met A) (what : A) → witness_of same (with_new (same_met same) all m) what ≡ option_or (witness_of same all what) (witness_of same (m ∷ []) what)
-  one_more all m what =
-      ap (option_map (λ n. n.witness)) (find-append (is_of what) all (if list_any (same_met same m) all then [] else m ∷ []))
-      ∙ map_or (λ n. n.witness) (find (is_of what) all) (find (is_of what) (if list_any (same_met same m) all then [] else m ∷ []))
-      ∙ by (list_any (same_met same m) all) refl (find (is_of what) all) refl (same what m.what) refl
-    where
-      by : (b : Bool) → list_any (same_met same m) all ≡ b → (found : Option (Met A)) → find (is_of what) all ≡ found → (here : Bool) → same what m.what ≡ here
-          → option_or (option_map (λ n. n.witness) found) (option_map (λ n. n.witness) (find (is_of what) (if b then [] else m ∷ [])))
-          ≡ option_or (option_map (λ n. n.witness) found) (option_map (λ n. n.witness) (cond here (Some m) None))
-      by b known (Some n) found here is = refl
-      by false known None found here is = ap (λ h. option_map (λ n. n.witness) (cond h (Some m) None)) is
-      by true known None found false is = refl
-      by true known None found true is =
-          let none : list_any (is_of what) all ≡ false = none_passes (is_of what) all found in
-          let alike : list_any (is_of what) all ≡ list_any (same_met same m) all = ap (λ a. list_any (is_of a) all) ((decides what m.what).0 is) in
-          absurd (true≢false (sym known ∙ sym alike ∙ none))
+  pub witness-append : (xs ys : List (Met A)) (what : A) → witness_of same (xs ++ ys) what ≡ option_or (witness_of same xs what) (witness_of same ys what)
+  witness-append xs ys what =
+      ap (option_map (λ m. m.witness)) (find-append (λ m. same what m.what) xs ys)
+      ∙ map_or (λ m. m.witness) (find (λ m. same what m.what) xs) (find (λ m. same what m.what) ys)
 
-  -- more, in turn
-  pub joined : (all more : List (Met A)) (what : A) → witness_of same (fold (with_new (same_met same)) all more) what ≡ option_or (witness_of same all what) (witness_of same more what)
-  joined all [] what = sym (or_none (witness_of same all what))
-  joined all (m ∷ more) what =
-      joined (with_new (same_met same) all m) more what
-      ∙ ap (λ o. option_or o (witness_of same more what)) (one_more all m what)
-      ∙ or_assoc (witness_of same all what) (witness_of same (m ∷ []) what) (witness_of same more what)
-      ∙ ap (option_or (witness_of same all what)) (by (same what m.what))
-    where
-      by : (here : Bool) → option_or (option_map (λ n. n.witness) (cond here (Some m) None)) (witness_of same more what) ≡ option_map (λ n. n.witness) (cond here (Some m) (find (is_of what) more))
-      by true = refl
-      by false = refl
-
-  -- the first of these
-  first : (number : ℕ) (all : List (Seen A)) (what : A) → witness_of same (map (met number) all) what ≡ seen_in number (first_line same all what)
-  first number [] what = refl
-  first number (s ∷ all) what = by (same what s.what) (first number all what)
+  -- the witness of what was seen in one trace
+  pub witness-met : (number : ℕ) (all : List (Seen A)) (what : A) → witness_of same (map (met number) all) what ≡ seen_in number (first_line same all what)
+  witness-met number [] what = refl
+  witness-met number (s ∷ all) what = by (same what s.what) (witness-met number all what)
     where
       by : (here : Bool) → witness_of same (map (met number) all) what ≡ seen_in number (first_line same all what)
-          → option_map (λ n. n.witness) (cond here (Some (met number s)) (find (is_of what) (map (met number) all)))
+          → option_map (λ n. n.witness) (cond here (Some (met number s)) (find (λ m. same what m.what) (map (met number) all)))
           ≡ seen_in number (option_map (λ t. t.line) (cond here (Some s) (find (λ t. same what t.what) all)))
       by true rest = refl
       by false rest = rest
 
-  -- what a trace shows, in order of line, by its least line
-  pub met_seen : (number : ℕ) (all : List (Seen A)) → Ascend all → (what : A) → witness_of same (map (met number) all) what ≡ seen_in number (least_line same all what)
-  met_seen number all ascend what = first number all what ∙ ap (seen_in number) (sym (least_is_first same all ascend what))
-
-  -- things of which no two are the same stay so
-  once_more : (all : List (Met A)) (m : Met A) → AllPairs (λ a b. a.what ≢ b.what) all → AllPairs (λ a b. a.what ≢ b.what) (with_new (same_met same) all m)
-  once_more all m once = by (list_any (same_met same m) all) refl
+  -- the line of a witness
+  pub line-of : (all : List (Met A)) (what : A) → first_line same (map seen_of all) what ≡ option_map (λ w. w.line) (witness_of same all what)
+  line-of [] what = refl
+  line-of (m ∷ all) what = by (same what m.what) (line-of all what)
     where
-      by : (b : Bool) → list_any (same_met same m) all ≡ b → AllPairs (λ a b. a.what ≢ b.what) (all ++ (if b then [] else m ∷ []))
-      by true is = subst (AllPairs (λ a b. a.what ≢ b.what)) (sym (append-nil all)) once
-      by false is = all_pairs_push (λ a b. a.what ≢ b.what) all m once
-          (λ k d within alike. true≢false (sym ((decides m.what (get_or all k d).what).1 (sym alike)) ∙ fails_at (same_met same m) all is k d within))
+      by : (here : Bool) → first_line same (map seen_of all) what ≡ option_map (λ w. w.line) (witness_of same all what)
+          → option_map (λ s. s.line) (cond here (Some (seen_of m)) (find (λ s. same what s.what) (map seen_of all)))
+          ≡ option_map (λ w. w.line) (option_map (λ n. n.witness) (cond here (Some m) (find (λ n. same what n.what) all)))
+      by true rest = refl
+      by false rest = rest
 
-  pub once_all : (all more : List (Met A)) → AllPairs (λ a b. a.what ≢ b.what) all → AllPairs (λ a b. a.what ≢ b.what) (fold (with_new (same_met same)) all more)
-  once_all all [] once = once
-  once_all all (m ∷ more) once = once_all (with_new (same_met same) all m) more (once_more all m once)
+module _ {A : Type 0} (same : A → A → Bool) (decides : (a b : A) → Decides (same a b) (a ≡ b)) where
+  -- one more
+  one_more : (all : List (Seen A)) (s : Seen A) (what : A) → first_line same (with_new (same_seen same) all s) what ≡ option_or (first_line same all what) (first_line same (s ∷ []) what)
+  one_more all s what =
+      line-append same all (if list_any (same_seen same s) all then [] else s ∷ []) what
+      ∙ by (list_any (same_seen same s) all) refl (find (λ t. same what t.what) all) refl (same what s.what) refl
+    where
+      by : (b : Bool) → list_any (same_seen same s) all ≡ b → (found : Option (Seen A)) → find (λ t. same what t.what) all ≡ found → (here : Bool) → same what s.what ≡ here
+          → option_or (option_map (λ t. t.line) found) (first_line same (if b then [] else s ∷ []) what)
+          ≡ option_or (option_map (λ t. t.line) found) (option_map (λ t. t.line) (cond here (Some s) None))
+      by b known (Some t) found here is = refl
+      by false known None found here is = ap (λ h. option_map (λ t. t.line) (cond h (Some s) None)) is
+      by true known None found false is = refl
+      by true known None found true is =
+          let none : list_any (λ t. same what t.what) all ≡ false = none_passes (λ t. same what t.what) all found in
+          let alike : list_any (λ t. same what t.what) all ≡ list_any (same_seen same s) all = ap (λ a. list_any (λ (t : Seen A). same a t.what) all) ((decides what s.what).0 is) in
+          absurd (true≢false (sym known ∙ sym alike ∙ none))
+
+  -- more, in turn
+  pub joined : (all more : List (Seen A)) (what : A) → first_line same (fold (with_new (same_seen same)) all more) what ≡ option_or (first_line same all what) (first_line same more what)
+  joined all [] what = sym (or_none (first_line same all what))
+  joined all (s ∷ more) what =
+      joined (with_new (same_seen same) all s) more what
+      ∙ ap (λ o. option_or o (first_line same more what)) (one_more all s what)
+      ∙ or_assoc (first_line same all what) (first_line same (s ∷ []) what) (first_line same more what)
+      ∙ ap (option_or (first_line same all what)) (by (same what s.what))
+    where
+      by : (here : Bool) → option_or (option_map (λ t. t.line) (cond here (Some s) None)) (first_line same more what)
+          ≡ option_map (λ t. t.line) (cond here (Some s) (find (λ t. same what t.what) more))
+      by true = refl
+      by false = refl
+
+  -- things that were seen once each have one witness each
+  pub met_once : (all : List (Met A)) → AreOnce same (map seen_of all) → AllPairs (λ m n. m.what ≢ n.what) all
+  met_once all once i j d before within alike =
+      let m = get_or all i d in
+      let n = get_or all j d in
+      let here : get_or (map seen_of all) i (seen_of d) ≡ seen_of m = get_or-map seen_of all i d (seen_of d) (omega arith) in
+      let there : get_or (map seen_of all) j (seen_of d) ≡ seen_of n = get_or-map seen_of all j d (seen_of d) within in
+      let apart : same (get_or (map seen_of all) j (seen_of d)).what (get_or (map seen_of all) i (seen_of d)).what ≡ false =
+      once i j (seen_of d) before (omega (arith, within, length-map all seen_of)) in
+      true≢false (sym ((decides n.what m.what).1 (sym alike)) ∙ (λ k. same (sym there k).what (sym here k).what) ∙ apart)
+
+  -- and the other way round
+  pub seen_once : (all : List (Met A)) → AllPairs (λ m n. m.what ≢ n.what) all → AreOnce same (map seen_of all)
+  seen_once all apart = pairs-map (λ s t. same t.what s.what ≡ false) seen_of all (λ i j d before within. by (get_or all i d) (get_or all j d) (apart i j d before within))
+    where
+      by : (m n : Met A) → m.what ≢ n.what → same n.what m.what ≡ false
+      by m n differ = differs (same n.what m.what) refl
+        where
+          differs : (b : Bool) → same n.what m.what ≡ b → b ≡ false
+          differs true is = absurd (differ (sym ((decides n.what m.what).0 is)))
+          differs false is = refl
 
 -- What is added to a list, each thing once, comes after what was there.
 module _ {X : Type 0} (same : X → X → Bool) where
@@ -128,62 +144,19 @@ module _ {X : Type 0} (same : X → X → Bool) where
       let more : List X = if list_any (same x) known then [] else x ∷ [] in
       stays_first n (known ++ more) xs (omega (arith, low, length-append known more)) ∙ take-append-le n known more low
 
+  pub first_kept : (known xs : List X) → take (length known) (fold (with_new same) known xs) ≡ known
+  first_kept known xs = stays_first (length known) known xs (omega arith) ∙ take_all (length known) known (omega arith)
+
   pub then_added : (known xs : List X) → known ++ drop (length known) (fold (with_new same) known xs) ≡ fold (with_new same) known xs
   then_added known xs =
       let all = fold (with_new same) known xs in
-      ap (λ zs. zs ++ drop (length known) all) (sym (stays_first (length known) known xs (omega arith) ∙ take_all (length known) known (omega arith)))
-      ∙ take-append-drop (length known) all
+      ap (λ zs. zs ++ drop (length known) all) (sym (first_kept known xs)) ∙ take-append-drop (length known) all
 
--- Things with witnesses, beside the same things as they were seen.
-module _ {A : Type 0} (same : A → A → Bool) (number : ℕ) where
+-- these were there, and these came with the trace of this number
+module _ {A : Type 0} (number : ℕ) where
   seen_met : (all : List (Seen A)) → map seen_of (map (met number) all) ≡ all
   seen_met [] = refl
   seen_met (s ∷ all) = ap (λ ss. s ∷ ss) (seen_met all)
 
-  any_seen : (s : Seen A) (all : List (Met A)) → list_any (same_met same (met number s)) all ≡ list_any (same_seen same s) (map seen_of all)
-  any_seen s [] = refl
-  any_seen s (m ∷ all) = ap (λ b. same s.what m.what || b) (any_seen s all)
-
-  -- these were there, and these came with the trace of this number
-  seen_both : (all : List (Met A)) (more : List (Seen A)) → map seen_of (all ++ map (met number) more) ≡ map seen_of all ++ more
+  pub seen_both : (all : List (Met A)) (more : List (Seen A)) → map seen_of (all ++ map (met number) more) ≡ map seen_of all ++ more
   seen_both all more = map-append seen_of all (map (met number) more) ∙ ap (λ ss. map seen_of all ++ ss) (seen_met more)
-
-  abbrev Comes : List (Met A) → List (Seen A) → List (Seen A) → Type 0
-  Comes all xs more = fold (with_new (same_met same)) (all ++ map (met number) more) (map (met number) xs)
-      ≡ all ++ map (met number) (drop (length all) (fold (with_new (same_seen same)) (map seen_of all ++ more) xs))
-
-  come : (all : List (Met A)) (more xs : List (Seen A)) → Comes all xs more
-  come all more [] =
-      ap (λ ss. all ++ map (met number) ss) (sym (ap (λ n. drop n (map seen_of all ++ more)) (sym (length-map all seen_of)) ∙ drop-append_seam (map seen_of all) more))
-  come all more (s ∷ xs) =
-      ap (λ (b : Bool). fold (with_new (same_met same)) ((all ++ map (met number) more) ++ (if b then [] else met number s ∷ [])) (map (met number) xs))
-      (any_seen s (all ++ map (met number) more) ∙ ap (list_any (same_seen same s)) (seen_both all more))
-      ∙ by (list_any (same_seen same s) (map seen_of all ++ more)) (come all more xs) (come all (more ++ s ∷ []) xs)
-    where
-      by : (b : Bool) → Comes all xs more → Comes all xs (more ++ s ∷ [])
-          → fold (with_new (same_met same)) ((all ++ map (met number) more) ++ (if b then [] else met number s ∷ [])) (map (met number) xs)
-          ≡ all ++ map (met number) (drop (length all) (fold (with_new (same_seen same)) ((map seen_of all ++ more) ++ (if b then [] else s ∷ [])) xs))
-      by true known new =
-          ap (λ ms. fold (with_new (same_met same)) ms (map (met number) xs)) (append-nil (all ++ map (met number) more))
-          ∙ known
-          ∙ ap (λ ss. all ++ map (met number) (drop (length all) (fold (with_new (same_seen same)) ss xs))) (sym (append-nil (map seen_of all ++ more)))
-      by false known new =
-          ap (λ ms. fold (with_new (same_met same)) ms (map (met number) xs))
-          (append_assoc all (map (met number) more) (met number s ∷ []) ∙ ap (λ ms. all ++ ms) (sym (map-append (met number) more (s ∷ []))))
-          ∙ new
-          ∙ ap (λ ss. all ++ map (met number) (drop (length all) (fold (with_new (same_seen same)) ss xs))) (sym (append_assoc (map seen_of all) more (s ∷ [])))
-
-  -- What a trace adds to things that were seen is what it adds to them where they have witnesses.
-  pub come_added : (all : List (Met A)) (xs : List (Seen A))
-      → fold (with_new (same_met same)) all (map (met number) xs) ≡ all ++ map (met number) (drop (length all) (fold (with_new (same_seen same)) (map seen_of all) xs))
-  come_added all xs =
-      ap (λ ms. fold (with_new (same_met same)) ms (map (met number) xs)) (sym (append-nil all))
-      ∙ come all [] xs
-      ∙ ap (λ ss. all ++ map (met number) (drop (length all) (fold (with_new (same_seen same)) ss xs))) (append-nil (map seen_of all))
-
-  pub seen_added : (all : List (Met A)) (xs : List (Seen A)) → map seen_of (fold (with_new (same_met same)) all (map (met number) xs)) ≡ fold (with_new (same_seen same)) (map seen_of all) xs
-  seen_added all xs =
-      ap (map seen_of) (come_added all xs)
-      ∙ seen_both all (drop (length all) (fold (with_new (same_seen same)) (map seen_of all) xs))
-      ∙ ap (λ n. map seen_of all ++ drop n (fold (with_new (same_seen same)) (map seen_of all) xs)) (sym (length-map all seen_of))
-      ∙ then_added (same_seen same) (map seen_of all) xs

@@ -1,8 +1,8 @@
 -- The first witnesses over some sources and one more, whose number is above theirs.
-use Rattle.std.proofs.Common.{◌≡◌, ◌≢◌, ◌<◌, ◌==◌, ◌&&◌, ◌||◌, ◌++◌, ◌∷◌, [], All, AllPairs, Bool, true, false, List, ℕ, Option, Some, None, IfSome, nat_lt, filter_map}
-use Rattle.std.proofs.Common.{drop, flat_map, fold, get_or, length, map, refl, ap, sym, subst, ◌∙◌, append_assoc, arith, if◌then◌else◌}
+use Rattle.std.proofs.Common.{◌≡◌, ◌<◌, ◌==◌, ◌&&◌, ◌||◌, ◌++◌, ◌∷◌, [], All, AllPairs, Bool, true, false, List, ℕ, Option, Some, None, IfSome, nat_lt, filter_map}
+use Rattle.std.proofs.Common.{drop, flat_map, fold, get_or, length, map, take, refl, ap, sym, subst, ◌∙◌, append_assoc, arith, if◌then◌else◌, option_map}
 use Rattle.std.proofs.lemmas.Bool.{eqb-true, false_from_ne_true, ltb-true}
-use Rattle.std.proofs.lemmas.List.{append-nil, drop-map, get_or-map, length-map, map-append}
+use Rattle.std.proofs.lemmas.List.{append-nil, drop-map, get_or-map, length-map, map-append, take-append-drop}
 use Rattle.std.proofs.lemmas.List.Elements.{All-cons, All-head, All-nil, All-tail, filter_map-append}
 use Rattle.std.proofs.lemmas.List.Sums.{fold-append}
 use Rattle.std.proofs.lemmas.Simd.{map-map}
@@ -12,12 +12,14 @@ use Rattle.std.specs.Option.{option_or}
 use Rattle.ld_trace.specs.Sources.{PlainSource}
 use Rattle.ld_rules.specs.declared.outcome.Witness.{Witness}
 use Rattle.ld_rules.specs.Dependency.{Seen, least_line}
-use Rattle.ld_rules.specs.Inner.Scanned.{with_new}
+use Rattle.ld_rules.specs.Inner.Scanned.{AreSame, with_new}
 use Rattle.ld_rules.specs.Union.{classes_of, earlier, first_of, first_witness, is_before}
-use Rattle.ld_rules.proofs.LeastLemmas.{Ascend}
+use Rattle.ld_rules.proofs.LeastLemmas.{Ascend, first_line, least_is_first}
+use Rattle.ld_rules.proofs.SameLemmas.{apart-fold}
 use Rattle.ld_shown.specs.Batch.{Met, witness_of}
 use Rattle.ld_shown.specs.Inner.Rows.{AreMet, earlier_of, seen_in, seen_of}
-use Rattle.ld_shown.proofs.MetLemmas.{come_added, joined, met, met_seen, once_all, same_seen, same_met, seen_added}
+use Rattle.ld_shown.proofs.LineLemmas.{AreOnce, first_same}
+use Rattle.ld_shown.proofs.MetLemmas.{first_kept, joined, line-append, line-of, met, met_once, same_seen, seen_both, seen_once, witness-append, witness-met}
 
 -- the classes that some sources and one more show
 pub shown-push : (sources : List PlainSource) (source : PlainSource) → flat_map classes_of (sources ++ source ∷ []) ≡ flat_map classes_of sources ++ classes_of source
@@ -91,41 +93,84 @@ module _ {A : Type 0} (same : A → A → Bool) (shown : PlainSource → List (S
       ∙ stays source.number (first_witness same shown sources what) (least_line same (shown source) what)
       (first-low source.number (filter_map (shown_in what) sources) (all-low source.number sources what low))
 
+-- What comes to things that were seen, where these are shown: what was there stands first, and behind it, in whatever
+-- order, what is shown and wasn't there; each thing stands once.
+pub record AreAdded {A : Type 0} (same : A → A → Bool) (start shown now : List (Seen A)) : Type 0 where
+  pub first : take (length start) now ≡ start
+  pub once : AreOnce same now
+  pub added : AreSame now (fold (with_new (same_seen same)) start shown)
+
+-- what comes in the order in which it is shown
+pub added_in_turn : {A : Type 0} (same : A → A → Bool) (start shown now : List (Seen A)) → AreOnce same start → now ≡ fold (with_new (same_seen same)) start shown → AreAdded same start shown now
+added_in_turn same start shown now once is = subst (AreAdded same start shown) (sym is) (record {
+  first = first_kept (same_seen same) start shown;
+  once = apart-fold (same_seen same) start shown once;
+  added = λ test. refl;
+})
+
 -- Rows with the first witnesses over some sources, to which are added those that a scan of one more
 -- adds to what was seen.
 module _ {A R F : Type 0} (same : A → A → Bool) (decides : (a b : A) → Decides (same a b) (a ≡ b)) (shown : PlainSource → List (Seen A)) (sources : List PlainSource) (source : PlainSource)
     (name : R → Met A) (seen : F → Seen A) (row : F → R) (old : List R) (facts : List F)
     (rows_of : map (λ f. name (row f)) (drop (length old) facts) ≡ map (λ f. met source.number (seen f)) (drop (length old) facts))
-    (start : List (Seen A)) (are : AreMet start (map name old)) (added : map seen facts ≡ fold (with_new (same_seen same)) start (shown source)) where
+    (start : List (Seen A)) (are : AreMet start (map name old)) (adds : AreAdded same start (shown source) (map seen facts)) where
   abbrev more : List F
   more = drop (length old) facts
 
-  abbrev all_met : List (Met A)
-  all_met = fold (with_new (same_met same)) (map name old) (map (met source.number) (shown source))
+  -- what comes, as it is seen
+  abbrev come : List (Seen A)
+  come = drop (length start) (map seen facts)
 
-  met-new : map name (old ++ map row more) ≡ all_met
+  as_many : length old ≡ length start
+  as_many = sym (length-map old name) ∙ sym (length-map (map name old) seen_of) ∙ ap length are.same
+
+  all_seen : start ++ come ≡ map seen facts
+  all_seen = ap (λ ss. ss ++ come) (sym adds.first) ∙ take-append-drop (length start) (map seen facts)
+
+  met-new : map name (old ++ map row more) ≡ map name old ++ map (met source.number) come
   met-new =
-      let number = source.number in
       map-append name old (map row more)
-      ∙ ap (λ ms. map name old ++ ms) (map-map name row more ∙ rows_of ∙ sym (map-map (met number) seen more))
-      ∙ ap (λ ss. map name old ++ map (met number) ss) (sym (drop-map seen (length old) facts) ∙ ap (drop (length old)) added)
-      ∙ (λ i. map name old ++ map (met number) (drop (sym (length-map old name) i) (fold (with_new (same_seen same)) (sym are.same i) (shown source))))
-      ∙ sym (come_added same number (map name old) (shown source))
+      ∙ ap (λ ms. map name old ++ ms) (map-map name row more ∙ rows_of ∙ sym (map-map (met source.number) seen more))
+      ∙ ap (λ ss. map name old ++ map (met source.number) ss) (sym (drop-map seen (length old) facts) ∙ ap (λ n. drop n (map seen facts)) as_many)
+
+  met-seen : map seen_of (map name (old ++ map row more)) ≡ map seen facts
+  met-seen = ap (map seen_of) met-new ∙ seen_both source.number (map name old) come ∙ ap (λ ss. ss ++ come) are.same ∙ all_seen
 
   pub are-met : AreMet (map seen facts) (map name (old ++ map row more))
   are-met = record {
-    same =
-        ap (map seen_of) met-new ∙ seen_added same source.number (map name old) (shown source)
-        ∙ ap (λ ss. fold (with_new (same_seen same)) ss (shown source)) are.same ∙ sym added;
-    apart = subst (AllPairs (λ m n. m.what ≢ n.what)) (sym met-new) (once_all same decides (map name old) (map (met source.number) (shown source)) are.apart);
+    same = met-seen;
+    apart = met_once same decides (map name (old ++ map row more)) (subst (AreOnce same) (sym met-seen) adds.once);
   }
+
+  -- what is in neither order differs in no line
+  same-lines : (what : A) → option_or (first_line same start what) (first_line same come what) ≡ option_or (first_line same start what) (first_line same (shown source) what)
+  same-lines what =
+      sym (line-append same start come what)
+      ∙ ap (λ ss. first_line same ss what) all_seen
+      ∙ first_same same decides (map seen facts) (fold (with_new (same_seen same)) start (shown source)) adds.once
+      (apart-fold (same_seen same) start (shown source) (subst (AreOnce same) are.same (seen_once same decides (map name old) are.apart))) adds.added what
+      ∙ joined same decides start (shown source) what
+
+  -- what has no witness yet comes at the line where it is shown first
+  same-witness : (what : A) → option_or (witness_of same (map name old) what) (seen_in source.number (first_line same come what))
+      ≡ option_or (witness_of same (map name old) what) (seen_in source.number (first_line same (shown source) what))
+  same-witness what = by (witness_of same (map name old) what) refl
+    where
+      by : (was : Option Witness) → witness_of same (map name old) what ≡ was
+          → option_or was (seen_in source.number (first_line same come what)) ≡ option_or was (seen_in source.number (first_line same (shown source) what))
+      by (Some witness) is = refl
+      by None is =
+          let none : first_line same start what ≡ None = ap (λ ss. first_line same ss what) (sym are.same) ∙ line-of same (map name old) what ∙ ap (option_map (λ (w : Witness). w.line)) is in
+          ap (seen_in source.number) (subst (λ line. option_or line (first_line same come what) ≡ option_or line (first_line same (shown source) what)) none (same-lines what))
 
   pub witness-new : ((what : A) → witness_of same (map name old) what ≡ first_witness same shown sources what) → Ascend (shown source) → All (λ s. s.number < source.number) sources
       → (what : A) → witness_of same (map name (old ++ map row more)) what ≡ first_witness same shown (sources ++ source ∷ []) what
   witness-new is_old ascend low what =
       ap (λ all. witness_of same all what) met-new
-      ∙ joined same decides (map name old) (map (met source.number) (shown source)) what
-      ∙ (λ i. option_or (is_old what i) (met_seen same decides source.number (shown source) ascend what i))
+      ∙ witness-append same (map name old) (map (met source.number) come) what
+      ∙ ap (option_or (witness_of same (map name old) what)) (witness-met same source.number come what)
+      ∙ same-witness what
+      ∙ (λ i. option_or (is_old what i) (seen_in source.number (sym (least_is_first same (shown source) ascend what) i)))
       ∙ sym (witness-then same shown sources source what low)
 
 -- what holds of what each two stand for

@@ -45,9 +45,12 @@ impl Guesses {
     }
 }
 
+/// How many guesses of one kind are kept at most: numbers that differ by a multiple of it have one in common.
+const MOST_GUESSES: usize = 1 << 20;
+
 /// What was kept for the number, else 0.
 fn at(kept: &[u32], number: u32) -> u32 {
-    match kept.get(number as usize) {
+    match kept.get(number as usize % MOST_GUESSES) {
         Some(place) => *place,
         None => 0,
     }
@@ -55,7 +58,7 @@ fn at(kept: &[u32], number: u32) -> u32 {
 
 /// Keeps the place for the number, where there is memory for it.
 fn keep(kept: &mut Vec<u32>, number: u32, place: u32) {
-    let index = number as usize;
+    let index = number as usize % MOST_GUESSES;
     if kept.len() <= index && kept.resize(index + 1, 0).is_err() {
         return;
     }

@@ -2,12 +2,14 @@
 //! dependencies and usage, each with its first witness, and guesses of where these were had before.
 #![tactic(auto)]
 
+mod edges;
 mod guesses;
 mod names;
 mod rows;
 mod shown;
 
+pub use edges::Edges;
 pub use guesses::Guesses;
 pub use names::intern_all;
-pub use rows::{WitnessedEdge, WitnessedUse};
+pub use rows::{WitnessedEdge, WitnessedUse, WitnessedWord, Words};
 pub use shown::Shown;

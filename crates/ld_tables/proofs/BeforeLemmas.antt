@@ -5,54 +5,55 @@ use Rattle.std.proofs.lemmas.List.Elements.{All-weaker}
 use Rattle.std.specs.List.{All}
 use Rattle.ld_tables.specs.declared.edges.EdgeFact.{EdgeFact}
 use Rattle.ld_tables.specs.declared.locks.Before.{Before}
+use Rattle.ld_tables.specs.declared.words.Telling.{Telling}
 use Rattle.ld_tables.specs.Inner.Chains.{KeptChains, chains_of}
-use Rattle.ld_tables.specs.Inner.Edges.{KeptEdges}
+use Rattle.ld_tables.specs.Inner.Edges.{KeptEdges, edges_of}
 use Rattle.ld_tables.specs.Inner.Stacks.{PlainStack}
-use Rattle.ld_tables.specs.Inner.Locks.{AreTied, HasItsEdges, HasItsNumbers, IsAtStart, IsExtended, IsKept, held_by_tasks}
+use Rattle.ld_tables.specs.Inner.Locks.{AreTied, HasItsEdges, HasItsMasks, IsAtStart, IsExtended, IsKept, held_by_tasks}
 use Rattle.ld_tables.proofs.LockLemmas.{HasItsEdges-kept}
 
-module _ (before : Before) (chains : List (List ℕ)) (told : List ℕ) (edges : List EdgeFact) (is : IsAtStart before chains told edges) where
-  -- more dependencies, behind those that are there
-  pub before_same : (new : List EdgeFact) → take (length edges) new ≡ edges → take before.edges new ≡ take before.edges edges
-  before_same new first = sym (take-take before.edges (length edges) new is.edges_within) ∙ ap (take before.edges) first
+module _ (before : Before) (chains : List (List ℕ)) (told : List ℕ) (tellings : List Telling) (is : IsAtStart before chains told tellings) where
+  -- more that is told, behind what is there
+  pub before_same : (new : List Telling) → take (length tellings) new ≡ tellings → take before.edges new ≡ take before.edges tellings
+  before_same new first = sym (take-take before.edges (length tellings) new is.edges_within) ∙ ap (take before.edges) first
 
-  pub before_more : (new : List EdgeFact) → take (length edges) new ≡ edges → IsAtStart before chains told new
+  pub before_more : (new : List Telling) → take (length tellings) new ≡ tellings → IsAtStart before chains told new
   before_more new first = record {
-    edges_within = let within = is.edges_within in omega (arith, length-take (length edges) new, ap length first);
+    edges_within = let within = is.edges_within in omega (arith, length-take (length tellings) new, ap length first);
     told_within = is.told_within;
-    complete = subst (λ es. All (λ number. HasItsEdges chains es number) (take before.told told)) (sym (before_same new first)) is.complete;
+    complete = subst (λ ts. All (λ number. HasItsEdges chains (edges_of ts) number) (take before.told told)) (sym (before_same new first)) is.complete;
   }
 
   -- more chains
-  pub before_extended : (more : List (List ℕ)) → IsExtended chains more → IsAtStart before more told edges
+  pub before_extended : (more : List (List ℕ)) → IsExtended chains more → IsAtStart before more told tellings
   before_extended more extended = record {
     edges_within = is.edges_within;
     told_within = is.told_within;
-    complete = All-weaker (λ number. HasItsEdges chains (take before.edges edges) number) (λ number. HasItsEdges more (take before.edges edges) number)
-        (λ number has. HasItsEdges-kept chains more (take before.edges edges) number extended has) (take before.told told) is.complete;
+    complete = All-weaker (λ number. HasItsEdges chains (edges_of (take before.edges tellings)) number) (λ number. HasItsEdges more (edges_of (take before.edges tellings)) number)
+        (λ number has. HasItsEdges-kept chains more (edges_of (take before.edges tellings)) number extended has) (take before.told told) is.complete;
   }
 
   -- one more that was told
   pub before_told : {E : Type 0} (r : Result (Unit {0}) E) (number : ℕ) (numbers : List ℕ) → OnOk r (numbers ≡ told ++ number ∷ []) → OnErr r
-      (numbers ≡ told) → IsAtStart before chains numbers edges
+      (numbers ≡ told) → IsAtStart before chains numbers tellings
   before_told r number numbers = by r
     where
-      by : {E : Type 0} (r : Result (Unit {0}) E) → OnOk r (numbers ≡ told ++ number ∷ []) → OnErr r (numbers ≡ told) → IsAtStart before chains numbers edges
-      by (Ok u) noted _ = subst (λ ns. IsAtStart before chains ns edges) (sym noted) (record {
+      by : {E : Type 0} (r : Result (Unit {0}) E) → OnOk r (numbers ≡ told ++ number ∷ []) → OnErr r (numbers ≡ told) → IsAtStart before chains numbers tellings
+      by (Ok u) noted _ = subst (λ ns. IsAtStart before chains ns tellings) (sym noted) (record {
         edges_within = is.edges_within;
         told_within = let within = is.told_within in omega (arith, length_push told number);
-        complete = subst (λ ns. All (λ n. HasItsEdges chains (take before.edges edges) n) ns) (sym (take-append-le before.told told (number ∷ []) is.told_within)) is.complete;
+        complete = subst (λ ns. All (λ n. HasItsEdges chains (edges_of (take before.edges tellings)) n) ns) (sym (take-append-le before.told told (number ∷ []) is.told_within)) is.complete;
       })
-      by (Err e) _ refused = subst (λ ns. IsAtStart before chains ns edges) (sym refused) is
+      by (Err e) _ refused = subst (λ ns. IsAtStart before chains ns tellings) (sym refused) is
 
   -- what came since is taken back
-  pub before_again : IsAtStart before chains (take before.told told) (take before.edges edges)
+  pub before_again : IsAtStart before chains (take before.told told) (take before.edges tellings)
   before_again = record {
-    edges_within = omega (arith, length-take-le before.edges edges is.edges_within);
+    edges_within = omega (arith, length-take-le before.edges tellings is.edges_within);
     told_within = omega (arith, length-take-le before.told told is.told_within);
     complete =
-        (subst (λ es. All (λ number. HasItsEdges chains es number) (take before.told (take before.told told))) (sym (take-take before.edges before.edges edges (omega arith)))
-        (subst (λ ls. All (λ number. HasItsEdges chains (take before.edges edges) number) ls) (sym (take-take before.told before.told told (omega arith))) is.complete));
+        (subst (λ ts. All (λ number. HasItsEdges chains (edges_of ts) number) (take before.told (take before.told told))) (sym (take-take before.edges before.edges tellings (omega arith)))
+        (subst (λ ls. All (λ number. HasItsEdges chains (edges_of (take before.edges tellings)) number) ls) (sym (take-take before.told before.told told (omega arith))) is.complete));
   }
 
 -- no task
@@ -62,28 +63,28 @@ tied_none chains told edges complete = record {
   complete = complete;
 }
 
-pub undone : (before : Before) (chains : KeptChains) (told : List ℕ) (edges : KeptEdges) → IsAtStart before (chains_of chains.links) told edges.edges →
-    HasItsNumbers (chains_of chains.links) chains.numbers edges.pairs → (stacks : List PlainStack) (numbers : List ℕ) (facts : KeptEdges) → stacks ≡ [] →
-    numbers ≡ take before.told told → facts ≡ record edges { edges = take before.edges edges.edges } → IsKept stacks chains numbers facts before
-undone before chains told edges is numbered stacks numbers facts none numbers_are facts_are =
-    subst (λ ss. IsKept ss chains numbers facts before) (sym none)
-    (subst (λ es. IsKept [] chains numbers es before) (sym facts_are)
-    (subst (λ ns. IsKept [] chains ns (record edges { edges = take before.edges edges.edges }) before) (sym numbers_are)
+pub undone : (before : Before) (chains : KeptChains) (told : List ℕ) (edges : KeptEdges) → IsAtStart before (chains_of chains.links) told edges.tellings →
+    HasItsMasks (chains_of chains.links) chains.masks edges.words → (stacks : List PlainStack) (numbers : List ℕ) (left : KeptEdges) → stacks ≡ [] →
+    numbers ≡ take before.told told → left ≡ record edges { tellings = take before.edges edges.tellings } → IsKept stacks chains numbers left before
+undone before chains told edges is masked stacks numbers left none numbers_are left_is =
+    subst (λ ss. IsKept ss chains numbers left before) (sym none)
+    (subst (λ es. IsKept [] chains numbers es before) (sym left_is)
+    (subst (λ ns. IsKept [] chains ns (record edges { tellings = take before.edges edges.tellings }) before) (sym numbers_are)
     (record {
-      tied = tied_none (chains_of chains.links) (take before.told told) (take before.edges edges.edges) is.complete;
-      start = before_again before (chains_of chains.links) told edges.edges is;
-      numbered = numbered;
+      tied = tied_none (chains_of chains.links) (take before.told told) (edges_of (take before.edges edges.tellings)) is.complete;
+      start = before_again before (chains_of chains.links) told edges.tellings is;
+      masked = masked;
     })))
 
 -- a trace begins here
-pub before_now : (chains : List (List ℕ)) (told : List ℕ) (edges : List EdgeFact) → All (λ number. HasItsEdges chains edges number) told → (before : Before) →
-    before.edges ≡ length edges → before.told ≡ length told → IsAtStart before chains told edges
-before_now chains told edges complete before all_edges all_told = record {
+pub before_now : (chains : List (List ℕ)) (told : List ℕ) (tellings : List Telling) → All (λ number. HasItsEdges chains (edges_of tellings) number) told → (before : Before) →
+    before.edges ≡ length tellings → before.told ≡ length told → IsAtStart before chains told tellings
+before_now chains told tellings complete before all_edges all_told = record {
   edges_within = omega arith;
   told_within = omega arith;
   complete =
-      subst (λ es. All (λ number. HasItsEdges chains es number) (take before.told told)) (sym (take_all before.edges edges (omega arith)))
-      (subst (λ ls. All (λ number. HasItsEdges chains edges number) ls) (sym (take_all before.told told (omega arith))) complete);
+      subst (λ ts. All (λ number. HasItsEdges chains (edges_of ts) number) (take before.told told)) (sym (take_all before.edges tellings (omega arith)))
+      (subst (λ ls. All (λ number. HasItsEdges chains (edges_of tellings) number) ls) (sym (take_all before.told told (omega arith))) complete);
 }
 
 -- no task, as callers see it

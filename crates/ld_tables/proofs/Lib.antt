@@ -3,11 +3,15 @@ pub mod NumberLemmas
 pub mod TaskLemmas
 pub mod StackLemmas
 pub mod ChainLemmas
-pub mod EdgeLemmas
+pub mod WordLemmas
+pub mod TellingLemmas
+pub mod ToldLemmas
+pub mod CutLemmas
+pub mod MaskLemmas
 pub mod LockLemmas
 pub mod TopLemmas
 pub mod OutLemmas
 pub mod FirstLemmas
 pub mod BeforeLemmas
-pub mod NumberedLemmas
+pub mod MaskedLemmas
 pub mod UseLemmas

@@ -16,7 +16,7 @@ use Rattle.std.specs.List.{list_all, list_any}
 use Rattle.ld_class.proofs.Mapped.{list_any-map}
 use Rattle.ld_tables.specs.declared.edges.EdgeFact.{EdgeFact}
 use Rattle.ld_tables.specs.Inner.Chains.{chain_before}
-use Rattle.ld_tables.specs.Inner.Edges.{same_pair, edge_to, with_edge_fact}
+use Rattle.ld_tables.specs.Inner.Edges.{AreToldTo, same_pair, edge_to, with_edge_fact}
 use Rattle.ld_tables.specs.declared.held.Held.{Held}
 use Rattle.ld_trace.specs.Events.{PlainLock}
 use Rattle.ld_tables.specs.declared.interrupts.Interrupts.{Interrupts}
@@ -25,7 +25,7 @@ use Rattle.ld_tables.specs.Inner.Interrupts.{IsEntered, IsLeft, fresh, start_now
 use Rattle.ld_tables.specs.Inner.Stacks.{PlainHeld, PlainStack, empty_stack, inner, plain_held, holds}
 use Rattle.ld_rules.specs.Inner.Scanned.{remove_last}
 use Rattle.ld_tables.specs.Inner.Locks.{Hold, HeldByTasks, ChangesInterrupts, is_of, hold_of, holds_of, held_by_tasks, classes_held}
-use Rattle.ld_tables.specs.Inner.Locks.{chain_of, chain_up_to, IsChain, IsChainIfAny, IsNumbered, AreChainedBelow, AreChained, AreChainedIn, IsExtended, HasItsEdges, AreTied}
+use Rattle.ld_tables.specs.Inner.Locks.{chain_of, chain_up_to, IsChain, IsChainIfAny, IsNumbered, AreChainedBelow, AreChained, AreChainedIn, IsExtended, HasItsEdges, AreTied, Tells}
 use Rattle.ld_rules.proofs.OpenLemmas.{remove_last-none}
 use Rattle.ld_rules.proofs.RemoveLemmas.{map-remove_last}
 use Rattle.ld_rules.proofs.PlaceLemmas.{by_pushes, last_or-push}
@@ -311,14 +311,14 @@ module _ (stacks : List PlainStack) (chains : List (List ℕ)) (told : List ℕ)
 
   -- one that was told just now
   pub told_now : (froms : List ℕ) (class line number : ℕ) (new : List EdgeFact) → number < length chains → get_or chains number [] ≡ froms ++ class ∷ [] →
-      new ≡ fold with_edge_fact edges (map (edge_to class line) froms) → HasItsEdges chains new number
+      AreToldTo froms class line edges new → HasItsEdges chains new number
   told_now froms class line number new within at is = record {
     known = within;
     told = λ others last same.
         let parts = same_from_push froms others class last (sym at ∙ same) in
         ap (λ fs. list_all (λ from. list_any (same_pair (edge_to last 0 from)) new) fs) (sym parts.0)
         ∙ ap (λ c. list_all (λ from. list_any (same_pair (edge_to c 0 from)) new) froms) (sym parts.1)
-        ∙ ap (λ es. list_all (λ from. list_any (same_pair (edge_to class 0 from)) es) froms) is
+        ∙ (λ i. list_all (λ from. sym (is.told (same_pair (edge_to class 0 from))) i) froms)
         ∙ all_told class line edges froms;
   }
 
@@ -369,35 +369,26 @@ tied_push stacks chains told edges tied task held within more extended is =
 
 -- a waiting acquisition that tells its dependencies, as callers see it
 pub told_shown : {E : Type 0} {before after : List EdgeFact} (r : Result (Unit {0}) E) (stacks : List PlainStack) (edges : List EdgeFact) (known : HeldByTasks) (task class line : ℕ)
-    (new : List EdgeFact) → held_by_tasks stacks edges before ≡ known → new ≡ fold with_edge_fact edges
-    (map (edge_to class line) (classes_held (inner (get_or stacks task empty_stack)))) → after ≡ before → OnOk r
-    (held_by_tasks stacks new after ≡ record known {
-      edges = fold with_edge_fact known.edges
-          (map (edge_to class line) (map (λ (h : Hold). h.class) (drop (start_now (get_or known.interrupts task fresh)) (get_or known.stacks task []))));
-    })
-told_shown {E} {before} {after} r stacks edges known task class line new is told same = by r
+    (new : List EdgeFact) → held_by_tasks stacks edges before ≡ known → AreToldTo (classes_held (inner (get_or stacks task empty_stack))) class line edges new → after ≡ before → OnOk r
+    (Tells (map (λ (h : Hold). h.class) (drop (start_now (get_or known.interrupts task fresh)) (get_or known.stacks task []))) class line known (held_by_tasks stacks new after))
+told_shown {E} {before} {after} r stacks edges known task class line new is are same = by r
   where
     froms : map (λ (h : Hold). h.class) (drop (start_now (get_or (held_by_tasks stacks edges before).interrupts task fresh))
         (get_or (held_by_tasks stacks edges before).stacks task [])) ≡ classes_held (inner (get_or stacks task empty_stack))
     froms = ap (map (λ (h : Hold). h.class)) (inner_at stacks task) ∙ map-map (λ (h : Hold). h.class) hold_of (inner (get_or stacks task empty_stack))
 
-    edges_are : new ≡ fold with_edge_fact edges (map (edge_to class line)
-        (map (λ (h : Hold). h.class) (drop (start_now (get_or (held_by_tasks stacks edges before).interrupts task fresh)) (get_or (held_by_tasks stacks edges before).stacks task []))))
-    edges_are = told ∙ ap (λ fs. fold with_edge_fact edges (map (edge_to class line) fs)) (sym froms)
-
-    whole : held_by_tasks stacks new after ≡ record known {
-      edges = fold with_edge_fact known.edges
-          (map (edge_to class line) (map (λ (h : Hold). h.class) (drop (start_now (get_or known.interrupts task fresh)) (get_or known.stacks task []))));
-    }
+    whole : Tells (map (λ (h : Hold). h.class) (drop (start_now (get_or known.interrupts task fresh)) (get_or known.stacks task []))) class line known (held_by_tasks stacks new after)
     whole =
-        subst (λ (k : HeldByTasks). held_by_tasks stacks new after ≡ record k {
-          edges = fold with_edge_fact k.edges
-              (map (edge_to class line) (map (λ (h : Hold). h.class) (drop (start_now (get_or k.interrupts task fresh)) (get_or k.stacks task []))));
-        }) is
-        (λ i. record (held_by_tasks stacks edges before) { edges = edges_are i; before = same i })
+        subst (λ (k : HeldByTasks). Tells (map (λ (h : Hold). h.class) (drop (start_now (get_or k.interrupts task fresh)) (get_or k.stacks task []))) class line k (held_by_tasks stacks new after)) is
+        (subst (λ fs. Tells fs class line (held_by_tasks stacks edges before) (held_by_tasks stacks new after)) (sym froms) (record {
+          others = (λ i. held_by_tasks stacks new (same i));
+          first = are.first;
+          once = are.once;
+          told = are.told;
+        }))
 
-    by : {E : Type 0} (r : Result (Unit {0}) E) → OnOk r (held_by_tasks stacks new after ≡ record known
-        { edges = fold with_edge_fact known.edges (map (edge_to class line) (map (λ (h : Hold). h.class) (drop (start_now (get_or known.interrupts task fresh)) (get_or known.stacks task [])))) })
+    by : {E : Type 0} (r : Result (Unit {0}) E) → OnOk r
+        (Tells (map (λ (h : Hold). h.class) (drop (start_now (get_or known.interrupts task fresh)) (get_or known.stacks task []))) class line known (held_by_tasks stacks new after))
     by (Ok u) = whole
     by (Err e) = tt
 

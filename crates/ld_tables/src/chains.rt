@@ -9,6 +9,7 @@ ghost use Rattle.ld_tables.specs.declared.chains.TheConstants.{MOST_CHAINS, MOST
 ghost use Rattle.ld_rules.specs.declared.outcome.TheConstants.{MOST_HELD};
 
 use crate::guesses::ChainGuesses;
+use crate::words::Mask;
 use indexmap::IndexSet;
 use std::alloc::{AllocError, Global};
 use std::marker::Model;
@@ -21,17 +22,16 @@ pub struct Link {
     pub class: u32,
 }
 
-/// Once so many numbers of pairs are kept with the chains, those of no further chain are.
-pub const MOST_KEPT: usize = 1 << 19;
+/// Once so many masks are kept with the chains, those of no further chain are.
+pub const MOST_KEPT: usize = 1 << 18;
 
 /// How many chains there are at most.
 pub const MOST_CHAINS: usize = 1 << 17;
 
 // Clauses cite the constants, so they would hold with any other numbers that fit.
-const _: () = prove!(MOST_KEPT == 524_288 && MOST_CHAINS == 131_072);
+const _: () = prove!(MOST_KEPT == 262_144 && MOST_CHAINS == 131_072);
 
-/// Where the numbers of a chain's pairs stand among those of all chains; from a place to itself where they
-/// aren't kept.
+/// Where the masks of a chain stand among those of all chains; from a place to itself where they aren't kept.
 #[derive(Clone, Copy)]
 pub struct Run {
     pub start: u32,
@@ -42,9 +42,9 @@ pub struct Run {
 #[derive(Drop)]
 pub struct Chains {
     links: IndexSet<Link>,
-    /// The numbers of pairs that are kept, of one chain after another.
-    numbers: Vec<u32>,
-    /// By the number of a chain, where the numbers of the pairs from each class before its last one to that
+    /// The masks that are kept, of one chain after another.
+    masks: Vec<Mask>,
+    /// By the number of a chain, where the masks of the dependencies from the classes before its last one to that
     /// stand. They aren't kept until the chain is told when it was there already, nor where there was no
     /// room for them.
     runs: Vec<Run>,
@@ -56,17 +56,17 @@ pub struct Chains {
 
 impl Model for Chains {
     ghost use Rattle.std.specs.Prelude.{length, map};
-    ghost use Rattle.ld_tables.specs.Inner.Chains.{AreKept, KeptChains, numbers_in};
+    ghost use Rattle.ld_tables.specs.Inner.Chains.{AreKept, KeptChains, masks_in};
 
     ghost Value = { KeptChains };
 
     ghost view = { λ c. record {
       links = c.links.keys;
-      numbers = map (numbers_in c.numbers.items) c.runs.items;
-      kept = length c.numbers.items;
+      masks = map (masks_in c.masks.items) c.runs.items;
+      kept = length c.masks.items;
     } };
 
-    ghost invariant = { λ c. AreKept c.links.keys c.numbers.items c.runs.items };
+    ghost invariant = { λ c. AreKept c.links.keys c.masks.items c.runs.items };
 }
 
 impl Chains {
@@ -75,7 +75,7 @@ impl Chains {
     {
         Chains {
             links: IndexSet::new(alloc),
-            numbers: Vec::new(alloc),
+            masks: Vec::new(alloc),
             runs: Vec::new(alloc),
             last: 0,
             guesses: ChainGuesses::new(),
@@ -88,7 +88,7 @@ impl Chains {
     {
         self.links.truncate(0);
         self.runs.clear();
-        self.numbers.clear();
+        self.masks.clear();
     }
 
     /// How many chains were met.
@@ -106,12 +106,12 @@ impl Chains {
         self.links.len() >= MOST_CHAINS
     }
 
-    /// Whether there is room for one more chain, and to keep more numbers of pairs.
+    /// Whether there is room for one more chain, and to keep more masks.
     pub fn has_room(&self) -> bool
         ensures room { OnTrue result (HasRoom self.now) }
         ensures full { HasRoom self.now → result ≡ true }
     {
-        self.numbers.len() < MOST_KEPT && self.links.len() < MOST_CHAINS
+        self.masks.len() < MOST_KEPT && self.links.len() < MOST_CHAINS
     }
 
     /// The number of a chain, or `None` where it wasn't met. One that is asked for twice on end is looked
@@ -121,7 +121,7 @@ impl Chains {
     pub fn find(&mut self, link: Link) -> Option<u32>
         requires { IfSome link.before (λ n. n < length (chains_of self.old.links)) }
         ensures same { self.new ≡ self.old }
-        ensures many { length self.old.numbers ≡ length self.old.links }
+        ensures many { length self.old.masks ≡ length self.old.links }
         ensures none { IfNone result (list_any (same_link link) self.old.links ≡ false) }
         ensures within { IfSome result (λ n. n < length (chains_of self.old.links)) }
         ensures chain { IfSome result (λ n. slice_index_or (chains_of self.old.links) n []
@@ -139,7 +139,7 @@ impl Chains {
     fn guess(&mut self, link: Link) -> Option<u32>
         requires { IfSome link.before (λ n. n < length (chains_of self.old.links)) }
         ensures same { self.new ≡ self.old }
-        ensures many { length self.old.numbers ≡ length self.old.links }
+        ensures many { length self.old.masks ≡ length self.old.links }
         ensures none { IfNone result (list_any (same_link link) self.old.links ≡ false) }
         ensures within { IfSome result (λ n. n < length (chains_of self.old.links)) }
         ensures chain { IfSome result (λ n. slice_index_or (chains_of self.old.links) n []
@@ -158,7 +158,7 @@ impl Chains {
     fn look_up(&mut self, link: Link) -> Option<u32>
         requires { IfSome link.before (λ n. n < length (chains_of self.old.links)) }
         ensures same { self.new ≡ self.old }
-        ensures many { length self.old.numbers ≡ length self.old.links }
+        ensures many { length self.old.masks ≡ length self.old.links }
         ensures none { IfNone result (list_any (same_link link) self.old.links ≡ false) }
         ensures within { IfSome result (λ n. n < length (chains_of self.old.links)) }
         ensures chain { IfSome result (λ n. slice_index_or (chains_of self.old.links) n []
@@ -177,7 +177,7 @@ impl Chains {
         requires room { length self.old.links < MOST_CHAINS }
         ensures number { IfOk result (λ n. n ≡ length self.old.links) }
         ensures links { OnOk result (self.new.links ≡ self.old.links ++ link ∷ []) }
-        ensures numbers { OnOk result (self.new.numbers ≡ self.old.numbers ++ None ∷ []) }
+        ensures masks { OnOk result (self.new.masks ≡ self.old.masks ++ None ∷ []) }
         ensures kept { self.new.kept ≡ self.old.kept }
         ensures refused { OnErr result (self.new ≡ self.old) }
     {
@@ -189,39 +189,39 @@ impl Chains {
         Ok(number)
     }
 
-    /// Keeps the numbers of the pairs from each class before the last one of this chain to that, of which
+    /// Keeps the masks of the dependencies from the classes before the last one of this chain to that, of which
     /// there are some.
-    pub fn keep(&mut self, chain: u32, numbers: &[u32]) -> Result<(), AllocError>
+    pub fn keep(&mut self, chain: u32, masks: &[Mask]) -> Result<(), AllocError>
         requires chain { chain < length (chains_of self.old.links) }
-        requires some { 0 < length numbers.now }
-        requires few { length numbers.now ≤ MOST_HELD }
+        requires some { 0 < length masks.now }
+        requires few { length masks.now ≤ MOST_HELD }
         requires room { self.old.kept < MOST_KEPT }
         ensures links { self.new.links ≡ self.old.links }
-        ensures numbers { OnOk result (self.new.numbers
-            ≡ slice_set self.old.numbers chain (Some numbers.now)) }
-        ensures kept { OnOk result (self.new.kept ≡ self.old.kept + length numbers.now) }
+        ensures masks { OnOk result (self.new.masks
+            ≡ slice_set self.old.masks chain (Some masks.now)) }
+        ensures kept { OnOk result (self.new.kept ≡ self.old.kept + length masks.now) }
         ensures refused { OnErr result (self.new ≡ self.old) }
     {
-        let start = self.numbers.len() as u32;
-        self.numbers.extend_from_slice(numbers)?;
-        let end = self.numbers.len() as u32;
+        let start = self.masks.len() as u32;
+        self.masks.extend_from_slice(masks)?;
+        let end = self.masks.len() as u32;
         self.runs[chain as usize] = Run { start, end };
         Ok(())
     }
 
-    /// The numbers of the pairs from each class before the last one of this chain to that, where they
+    /// The masks of the dependencies from the classes before the last one of this chain to that, where they
     /// are kept.
-    pub fn numbers(&self, chain: u32) -> Option<&[u32]>
+    pub fn masks(&self, chain: u32) -> Option<&[Mask]>
         requires { chain < length (chains_of self.now.links) }
-        ensures many { length self.now.numbers ≡ length self.now.links }
-        ensures kept { option_map (λ numbers. numbers.now) result
-            ≡ slice_index_or self.now.numbers chain None }
+        ensures many { length self.now.masks ≡ length self.now.links }
+        ensures kept { option_map (λ masks. masks.now) result
+            ≡ slice_index_or self.now.masks chain None }
     {
         let run = self.runs[chain as usize];
         if run.start == run.end {
             return None;
         }
-        Some(&self.numbers[run.start as usize..run.end as usize])
+        Some(&self.masks[run.start as usize..run.end as usize])
     }
 }
 

@@ -1,15 +1,16 @@
 //! The dependencies between numbered classes.
-ghost use Rattle.std.specs.Prelude.{◌≡◌, ◌<◌, Bool, true, [], All, fold, length, map, take, IfOk};
+ghost use Rattle.std.specs.Prelude.{◌≡◌, ◌<◌, ◌≤◌, ◌∷◌, true, [], All, fold, length, map, take, IfOk};
 ghost use Rattle.std.specs.Prelude.{IfSome, OnOk};
 ghost use Rattle.std.specs.Bool.{OnTrue};
-ghost use Rattle.std.specs.List.{list_any};
-ghost use Rattle.ld_tables.specs.declared.edges.TheConstants.{MOST_PAIRS};
-ghost use Rattle.ld_tables.specs.Inner.Edges.{AreMore, AreNumbers, edge_at, edge_to, pair_at};
-ghost use Rattle.ld_tables.specs.Inner.Edges.{with_edge_fact};
+ghost use Rattle.ld_tables.specs.declared.edges.TheConstants.{MOST_WORDS};
+ghost use Rattle.ld_tables.specs.Inner.Edges.{AreMasks, AreMore, AreToldTo, classes_of, edge_to, edges_of};
+ghost use Rattle.ld_tables.specs.Inner.Edges.{with_edge_fact, word_at};
 
 use crate::held::Held;
+use crate::masks::add_bit;
 use crate::numbers::as_number;
-use crate::told::Told;
+use crate::untold::untell;
+use crate::words::{Mask, Telling, Word};
 use indexmap::IndexSet;
 use std::alloc::{AllocError, Global};
 use std::marker::Model;
@@ -25,178 +26,203 @@ pub struct EdgeFact {
     pub line: u64,
 }
 
-/// Where so many pairs have numbers, there is no room for further ones.
-pub const MOST_PAIRS: usize = 1 << 19;
+/// Where so many words have numbers, there is no room for further ones.
+pub const MOST_WORDS: usize = 1 << 19;
 
 // Clauses cite the constant, so they would hold with any other number that fits.
-const _: () = prove!(MOST_PAIRS == 524_288);
-
-/// Two classes.
-#[derive(Clone, Copy, PartialEq, Eq, Hash)]
-pub struct Pair {
-    pub from: u32,
-    pub to: u32,
-}
+const _: () = prove!(MOST_WORDS == 524_288);
 
 /// Dependencies, each pair of classes once, with the line that was told first.
 ///
-/// Pairs have numbers, which they keep when the dependencies are taken away, so that a chain whose numbers
-/// are kept tells its pairs without looking them up. Each pair of a dependency has one, so how many there are
-/// is bounded where the dependencies are taken away, and not between.
+/// Words have numbers, which they keep when the dependencies are taken away, so that a chain whose masks
+/// are kept tells its dependencies without looking them up. How many words there are is bounded where the
+/// dependencies are taken away, and not between.
 ///
 /// A call answers `AllocError` where a growth of memory was refused.
 #[derive(Drop)]
 pub struct Edges {
-    pairs: IndexSet<Pair>,
-    told: Told,
+    words: IndexSet<Word>,
+    /// By the number of a word the bits of it that were told.
+    told: Vec<u64>,
+    tellings: Vec<Telling>,
 }
 
 impl Model for Edges {
-    ghost use Rattle.ld_tables.specs.Inner.Edges.{AreTheirs, KeptEdges};
-    ghost use Rattle.ld_tables.specs.Inner.Numbers.{AreMarked};
+    ghost use Rattle.ld_tables.specs.Inner.Edges.{AreTold, KeptEdges};
 
     ghost Value = { KeptEdges };
 
-    ghost view = { λ e. record { edges = e.told.edges.items; pairs = e.pairs.keys } };
+    ghost view = { λ e. record { tellings = e.tellings.items; words = e.words.keys } };
 
-    ghost invariant = { λ e. AreTheirs e.told.edges.items e.pairs.keys e.told.order.items
-        × AreMarked e.told.order.items e.told.marks.items };
+    ghost invariant = { λ e. AreTold e.words.keys e.told.items e.tellings.items };
 }
 
 impl Edges {
     /// No dependencies. Takes no memory.
     pub fn new(alloc: Global) -> Edges
-        ensures { result ≡ record { edges = []; pairs = [] } }
+        ensures { result ≡ record { tellings = []; words = [] } }
     {
         Edges {
-            pairs: IndexSet::new(alloc),
-            told: Told::new(alloc),
+            words: IndexSet::new(alloc),
+            told: Vec::new(alloc),
+            tellings: Vec::new(alloc),
         }
     }
 
-    /// The dependencies, in the order in which they came.
-    pub fn as_slice(&self) -> &[EdgeFact]
-        ensures { result.now ≡ self.now.edges }
+    /// What was told, in the order in which it came.
+    pub fn tellings(&self) -> &[Telling]
+        ensures same { result.now ≡ self.now.tellings }
+        ensures low { All (λ t. t.word.block < 67108864) result.now }
     {
-        self.told.edges.as_slice()
+        self.tellings.as_slice()
     }
 
-    /// The dependencies, in the order in which they came.
-    pub fn into_vec(self) -> Vec<EdgeFact>
-        ensures { result.items ≡ self.edges }
-    {
-        self.told.into_edges()
-    }
-
-    /// The numbers of the pairs of the dependencies, in their order.
-    pub fn pairs(&self) -> &[u32] {
-        self.told.order.as_slice()
-    }
-
-    /// How many pairs have numbers.
+    /// How many words have numbers.
     pub fn numbered(&self) -> usize
-        ensures { result ≡ length self.now.pairs }
+        ensures { result ≡ length self.now.words }
     {
-        self.pairs.len()
+        self.words.len()
     }
 
-    /// Whether there is room for the numbers of further pairs.
+    /// Whether there is room for the numbers of further words.
     pub fn has_room(&self) -> bool
-        ensures room { OnTrue result (length self.now.pairs < MOST_PAIRS) }
-        ensures full { length self.now.pairs < MOST_PAIRS → result ≡ true }
+        ensures room { OnTrue result (length self.now.words < MOST_WORDS) }
+        ensures full { length self.now.words < MOST_WORDS → result ≡ true }
     {
-        self.pairs.len() < MOST_PAIRS
+        self.words.len() < MOST_WORDS
     }
 
-    /// The number of a pair. `AllocError` too where there are as many as have numbers.
-    fn number(&mut self, pair: Pair) -> Result<u32, AllocError>
-        ensures edges { self.new.edges ≡ self.old.edges }
-        ensures more { AreMore self.old.pairs self.new.pairs }
-        ensures within { IfOk result (λ number. number < length self.new.pairs) }
-        ensures number { IfOk result (λ number. pair_at self.new.pairs number ≡ pair) }
+    /// The number of a word. `AllocError` too where there are as many as have numbers.
+    fn number(&mut self, word: Word) -> Result<u32, AllocError>
+        requires { word.block < 67108864 }
+        ensures tellings { self.new.tellings ≡ self.old.tellings }
+        ensures more { AreMore self.old.words self.new.words }
+        ensures within { IfOk result (λ number. number < length self.new.words) }
+        ensures number { IfOk result (λ number. word_at self.new.words number ≡ word) }
     {
-        let (number, _) = self.pairs.insert_full(pair)?;
+        self.told.reserve(1)?;
+        let (number, is_new) = self.words.insert_full(word)?;
+        if is_new {
+            self.told.push_reserved(0);
+        }
         as_number(number)
     }
 
-    /// The numbers of the pairs from the classes of these locks to the class.
-    pub fn numbers(
+    /// The word of this number.
+    fn word(&self, number: u32) -> Word
+        requires { number < length self.now.words }
+        ensures { result ≡ word_at self.now.words number }
+    {
+        self.words.as_slice()[number as usize]
+    }
+
+    /// The masks of the dependencies from the classes of these locks to the class.
+    pub fn masks(
         &mut self,
         alloc: Global,
         stack: &[Held<'_>],
         class: u32,
-    ) -> Result<Vec<u32>, AllocError>
-        ensures edges { self.new.edges ≡ self.old.edges }
-        ensures more { AreMore self.old.pairs self.new.pairs }
-        ensures numbers { IfOk result (λ numbers. AreNumbers self.new.pairs class
-            (map (λ held. held.class) stack.now) numbers.items) }
+    ) -> Result<Vec<Mask>, AllocError>
+        ensures tellings { self.new.tellings ≡ self.old.tellings }
+        ensures more { AreMore self.old.words self.new.words }
+        ensures masks { IfOk result (λ masks. AreMasks self.new.words class
+            (map (λ held. held.class) stack.now) masks.items) }
+        ensures some { IfOk result (λ masks. 0 < length stack.now → 0 < length masks.items) }
+        ensures few { IfOk result (λ masks. length masks.items ≤ length stack.now) }
     {
-        let mut numbers = Vec::new(alloc);
-        numbers.reserve(stack.len())?;
+        let mut masks = Vec::new(alloc);
         for held in stack {
-            let pair = Pair {
-                from: held.class,
-                to: class,
-            };
-            let number = self.number(pair)?;
-            numbers.push(number)?;
+            let block = held.class / 64;
+            let number = self.number(Word { block, to: class })?;
+            add_bit(&mut masks, number, held.class % 64)?;
         }
-        Ok(numbers)
+        Ok(masks)
     }
 
-    /// Adds the dependencies of the pairs of these numbers.
-    fn tell(&mut self, numbers: &[u32], line: u64) -> Result<(), AllocError>
-        requires { All (λ number. number < length self.old.pairs) numbers.now }
-        ensures pairs { self.new.pairs ≡ self.old.pairs }
-        ensures kept { (test : EdgeFact → Bool)
-            → list_any test self.old.edges ≡ true → list_any test self.new.edges ≡ true }
-        ensures first { take (length self.old.edges) self.new.edges ≡ self.old.edges }
-        ensures told { OnOk result (self.new.edges ≡ fold with_edge_fact self.old.edges
-            (map (edge_at line) (map (pair_at self.old.pairs) numbers.now))) }
+    /// Adds the dependencies of these masks, which are of words of the class.
+    fn tell(&mut self, masks: &[Mask], class: u32, line: u64) -> Result<(), AllocError>
+        requires within { All (λ m. m.word < length self.old.words) masks.now }
+        requires to { All (λ m. (word_at self.old.words m.word).to ≡ class) masks.now }
+        ensures words { self.new.words ≡ self.old.words }
+        ensures first { take (length self.old.tellings) self.new.tellings ≡ self.old.tellings }
+        ensures told { OnOk result (edges_of self.new.tellings ≡ fold with_edge_fact (edges_of self.old.tellings)
+            (map (edge_to class line) (classes_of self.old.words masks.now))) }
     {
-        self.told.tell(self.pairs.as_slice(), numbers, line)
+        for mask in masks {
+            self.tell_mask(*mask, line)?;
+        }
+        Ok(())
     }
 
-    /// Adds the dependencies from the classes of these locks to the class, by the numbers of their pairs
-    /// where these are known.
+    /// Adds the dependencies of a mask.
+    // Most were told before.
+    #[inline(always)]
+    fn tell_mask(&mut self, mask: Mask, line: u64) -> Result<(), AllocError>
+        requires { mask.word < length self.old.words }
+        ensures words { self.new.words ≡ self.old.words }
+        ensures first { take (length self.old.tellings) self.new.tellings ≡ self.old.tellings }
+        ensures told { OnOk result (edges_of self.new.tellings ≡ fold with_edge_fact (edges_of self.old.tellings)
+            (map (edge_to (word_at self.old.words mask.word).to line) (classes_of self.old.words (mask ∷ [])))) }
+    {
+        let told = self.told[mask.word as usize];
+        let bits = mask.bits & !told;
+        if bits == 0 {
+            return Ok(());
+        }
+        let word = self.word(mask.word);
+        self.tellings.reserve(1)?;
+        self.told[mask.word as usize] = told | bits;
+        self.tellings.push_reserved(Telling {
+            number: mask.word,
+            word,
+            bits,
+            line,
+        });
+        Ok(())
+    }
+
+    /// Adds the dependencies from the classes of these locks to the class, by their masks where these are known.
     pub fn tell_to(
         &mut self,
         alloc: Global,
-        known: Option<&[u32]>,
+        known: Option<&[Mask]>,
         stack: &[Held<'_>],
         class: u32,
         line: u64,
     ) -> Result<(), AllocError>
-        requires { IfSome known (λ numbers. AreNumbers self.old.pairs class
-            (map (λ held. held.class) stack.now) numbers.now) }
-        ensures more { AreMore self.old.pairs self.new.pairs }
-        ensures kept { (test : EdgeFact → Bool)
-            → list_any test self.old.edges ≡ true → list_any test self.new.edges ≡ true }
-        ensures first { take (length self.old.edges) self.new.edges ≡ self.old.edges }
-        ensures told { OnOk result (self.new.edges ≡ fold with_edge_fact self.old.edges
-            (map (edge_to class line) (map (λ held. held.class) stack.now))) }
+        requires { IfSome known (λ masks. AreMasks self.old.words class
+            (map (λ held. held.class) stack.now) masks.now) }
+        ensures more { AreMore self.old.words self.new.words }
+        ensures first { take (length self.old.tellings) self.new.tellings ≡ self.old.tellings }
+        ensures told { OnOk result (AreToldTo (map (λ held. held.class) stack.now) class line
+            (edges_of self.old.tellings) (edges_of self.new.tellings)) }
     {
         match known {
-            Some(numbers) => self.tell(numbers, line),
+            Some(masks) => self.tell(masks, class, line),
             None => {
-                let numbers = self.numbers(alloc, stack, class)?;
-                self.tell(&numbers, line)
+                let masks = self.masks(alloc, stack, class)?;
+                self.tell(&masks, class, line)
             }
         }
     }
 
-    /// Keeps the first `count` of the dependencies.
+    /// Keeps the first `count` of what was told.
     pub fn cut(&mut self, count: usize)
-        ensures { self.new ≡ record self.old { edges = take count self.old.edges } }
+        ensures { self.new ≡ record self.old { tellings = take count self.old.tellings } }
     {
-        self.told.cut(count);
+        if count >= self.tellings.len() {
+            return;
+        }
+        untell(&mut self.told, &self.tellings[count..]);
+        self.tellings.truncate(count);
     }
 
-    /// Takes all dependencies away, and the numbers of pairs. The memory stays.
+    /// Takes all dependencies away, and the numbers of words. The memory stays.
     pub fn clear(&mut self)
-        ensures { self.new ≡ record { edges = []; pairs = [] } }
+        ensures { self.new ≡ record { tellings = []; words = [] } }
     {
-        self.told.cut(0);
-        self.pairs.truncate(0);
+        self.tellings.truncate(0);
+        self.told.truncate(0);
+        self.words.truncate(0);
     }
 }

@@ -5,16 +5,19 @@
 mod chains;
 mod context;
 mod edges;
+mod facts;
 mod guesses;
 mod held;
 mod interrupts;
 mod linking;
 mod locks;
 mod marked;
+mod masks;
 mod numbers;
 mod tasks;
-mod told;
+mod untold;
 mod uses;
+mod words;
 
 pub use context::Context;
 pub use edges::EdgeFact;
@@ -25,3 +28,4 @@ pub use marked::Marked;
 pub use numbers::Numbers;
 pub use tasks::{MOST_KNOWN_TASKS, TaskNames};
 pub use uses::{UsageFact, Uses};
+pub use words::{Telling, Word};

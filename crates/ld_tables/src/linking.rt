@@ -2,10 +2,10 @@
 ghost use Rattle.std.specs.Prelude.{◌≡◌, ◌<◌, ◌≤◌, [], ◌∷◌, ◌++◌, length, List, map, option_map};
 ghost use Rattle.std.specs.Prelude.{slice_index_or, IfOk};
 ghost use Rattle.std.specs.Bool.{OnTrue};
-ghost use Rattle.ld_tables.specs.declared.edges.Pair.{Pair};
-ghost use Rattle.ld_tables.specs.declared.edges.TheConstants.{MOST_PAIRS};
+ghost use Rattle.ld_tables.specs.declared.words.Word.{Word};
+ghost use Rattle.ld_tables.specs.declared.edges.TheConstants.{MOST_WORDS};
 ghost use Rattle.ld_tables.specs.Inner.Chains.{HasRoom, chains_of, link_with};
-ghost use Rattle.ld_tables.specs.Inner.Locks.{HasItsNumbers, IsChainIfAny, IsExtended, IsNumbered, chain_of};
+ghost use Rattle.ld_tables.specs.Inner.Locks.{HasItsMasks, IsChainIfAny, IsExtended, IsNumbered, chain_of};
 ghost use Rattle.ld_tables.specs.Inner.Stacks.{plain_held};
 ghost use Rattle.ld_rules.specs.declared.outcome.TheConstants.{MOST_HELD};
 
@@ -14,15 +14,15 @@ use crate::edges::Edges;
 use crate::held::Held;
 use std::alloc::{AllocError, Global};
 
-/// Takes all chains away, and the numbers of pairs, where there is no room for further ones of either. There is no
+/// Takes all chains away, and the numbers of words, where there is no room for further ones of either. There is no
 /// dependency.
 pub fn make_room(chains: &mut Chains, edges: &mut Edges)
-    requires { edges.old.edges ≡ [] }
+    requires { edges.old.tellings ≡ [] }
     ensures room { HasRoom chains.new }
-    ensures pairs { length edges.new.pairs < MOST_PAIRS }
-    ensures edges { edges.new.edges ≡ [] }
-    ensures numbered { HasItsNumbers (chains_of chains.old.links) chains.old.numbers edges.old.pairs
-        → HasItsNumbers (chains_of chains.new.links) chains.new.numbers edges.new.pairs }
+    ensures words { length edges.new.words < MOST_WORDS }
+    ensures edges { edges.new.tellings ≡ [] }
+    ensures numbered { HasItsMasks (chains_of chains.old.links) chains.old.masks edges.old.words
+        → HasItsMasks (chains_of chains.new.links) chains.new.masks edges.new.words }
 {
     if chains.has_room() && edges.has_room() {
         return;
@@ -40,9 +40,9 @@ pub fn linked(
     class: u32,
 ) -> Result<Option<u32>, AllocError>
     requires { IsNumbered (chains_of chains.old.links) (map plain_held stack.now) }
-    ensures numbered { (pairs : List Pair)
-        → HasItsNumbers (chains_of chains.old.links) chains.old.numbers pairs
-        → HasItsNumbers (chains_of chains.new.links) chains.new.numbers pairs }
+    ensures numbered { (words : List Word)
+        → HasItsMasks (chains_of chains.old.links) chains.old.masks words
+        → HasItsMasks (chains_of chains.new.links) chains.new.masks words }
     ensures more { IsExtended (chains_of chains.old.links) (chains_of chains.new.links) }
     ensures chain { IfOk result (λ chain. IsChainIfAny (chains_of chains.new.links) chain
         (map (λ held. held.class) stack.now ++ class ∷ [])) }
@@ -59,7 +59,7 @@ pub fn linked(
     Ok(Some(chains.add(link)?))
 }
 
-/// May keep the numbers of the pairs of a chain, those from the classes of a stack to one more. It does where the
+/// May keep the masks of a chain, of the dependencies from the classes of a stack to one more. It does where the
 /// chain is one of those `met` before, there is room for them and they aren't kept, since most chains are told once
 /// and never again; no clause says so.
 pub fn learn(
@@ -75,19 +75,19 @@ pub fn learn(
     requires is { slice_index_or (chains_of chains.old.links) chain []
         ≡ map (λ held. held.class) stack.now ++ class ∷ [] }
     requires depth { length stack.now ≤ MOST_HELD }
-    requires numbered { HasItsNumbers (chains_of chains.old.links) chains.old.numbers edges.old.pairs }
-    ensures numbered { HasItsNumbers (chains_of chains.new.links) chains.new.numbers edges.new.pairs }
+    requires numbered { HasItsMasks (chains_of chains.old.links) chains.old.masks edges.old.words }
+    ensures numbered { HasItsMasks (chains_of chains.new.links) chains.new.masks edges.new.words }
     ensures links { chains.new.links ≡ chains.old.links }
-    ensures edges { edges.new.edges ≡ edges.old.edges }
+    ensures edges { edges.new.tellings ≡ edges.old.tellings }
 {
-    if stack.is_empty() || chain as usize >= met || chains.numbers(chain).is_some() {
+    if stack.is_empty() || chain as usize >= met || chains.masks(chain).is_some() {
         return Ok(());
     }
     if !chains.has_room() {
         return Ok(());
     }
-    let numbers = edges.numbers(alloc, stack, class)?;
-    chains.keep(chain, &numbers)
+    let masks = edges.masks(alloc, stack, class)?;
+    chains.keep(chain, &masks)
 }
 
 /// The chain of the classes of a stack and one more, where that of the stack is known.

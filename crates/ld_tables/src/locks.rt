@@ -2,16 +2,16 @@
 //!
 //! Locks of outer frames stay held, but an acquisition and a release see those of the innermost
 //! frame alone.
-ghost use Rattle.std.specs.Prelude.{◌≡◌, ◌<◌, ◌+◌, true, [], ◌∷◌, ◌++◌, fold, length};
+ghost use Rattle.std.specs.Prelude.{◌≡◌, ◌<◌, ◌+◌, true, [], ◌∷◌, ◌++◌, All, IfOk, length};
 ghost use Rattle.std.specs.Prelude.{map, take, slice_index_or, slice_set, OnOk};
 ghost use Rattle.std.specs.Bool.{OnTrue};
 ghost use Rattle.ld_trace.specs.Events.{plain_lock};
 ghost use Rattle.ld_tables.specs.declared.chains.TheConstants.{MOST_CHAINS};
-ghost use Rattle.ld_tables.specs.declared.edges.TheConstants.{MOST_PAIRS};
-ghost use Rattle.ld_tables.specs.Inner.Edges.{edge_to, with_edge_fact};
+ghost use Rattle.ld_tables.specs.declared.edges.TheConstants.{MOST_WORDS};
+ghost use Rattle.ld_tables.specs.Inner.Edges.{edges_of};
 ghost use Rattle.ld_tables.specs.Inner.Interrupts.{IsEntered, IsLeft, IsSet, fresh, nests_in, start_now};
 ghost use Rattle.ld_tables.specs.Inner.Interrupts.{is_on, states_of};
-ghost use Rattle.ld_tables.specs.Inner.Locks.{ChangesInterrupts, holds_of, inner_of};
+ghost use Rattle.ld_tables.specs.Inner.Locks.{ChangesInterrupts, Tells, holds_of, inner_of};
 ghost use Rattle.ld_rules.specs.declared.outcome.TheConstants.{MOST_HELD};
 
 mod releases;
@@ -19,11 +19,13 @@ mod releases;
 use crate::chains::Chains;
 use crate::context::Context;
 use crate::edges::{EdgeFact, Edges};
+use crate::facts::all_facts;
 use crate::guesses::Guesses;
 use crate::held::{Held, Stacks};
 use crate::interrupts::{Flag, Interrupts};
 use crate::linking::{is_unlinked, learn, linked, make_room};
 use crate::marked::Marked;
+use crate::words::Telling;
 use ld_class::ClassName;
 use ld_rules::MOST_HELD;
 use ld_trace::{Lock, State};
@@ -33,7 +35,7 @@ use std::marker::Model;
 /// How much there was when the trace began.
 #[derive(Clone, Copy)]
 struct Before {
-    /// How many dependencies.
+    /// How many tellings of dependencies.
     edges: usize,
     /// How many chains had the dependencies of their last class told.
     told: usize,
@@ -44,16 +46,16 @@ struct Before {
 pub struct Kept {
     /// How many chains.
     pub chains: usize,
-    /// How many pairs of classes have numbers.
-    pub pairs: usize,
+    /// How many words have numbers.
+    pub words: usize,
 }
 
 /// What each task of a trace holds and where it is, by the task's number, and the dependencies so
 /// far, also of the traces before it.
 ///
 /// Beside them stands a cache: a waiting acquisition by which a chain comes that was told before tells
-/// nothing anew, and one that was met before learns the numbers of its dependencies when it is told, while
-/// there is room. Chains and numbers stay when the dependencies are taken away.
+/// nothing anew, and one that was met before learns the masks of its dependencies when it is told, while
+/// there is room. Chains and words stay when the dependencies are taken away.
 ///
 /// A call answers `AllocError` where a growth of memory was refused. It may have done a part of its
 /// work then, so the owner takes the trace back, or gives the whole up.
@@ -71,14 +73,15 @@ pub struct Locks<'a> {
 
 impl<'a> Model for Locks<'a> {
     ghost use Rattle.std.specs.Prelude.{take};
+    ghost use Rattle.ld_tables.specs.Inner.Edges.{edges_of};
     ghost use Rattle.ld_tables.specs.Inner.Locks.{HeldByTasks};
 
     ghost Value = { HeldByTasks };
 
     ghost use Rattle.ld_tables.specs.Inner.Locks.{IsKept, held_by_tasks};
 
-    ghost view = { λ l. held_by_tasks l.stacks l.edges.edges
-        (take l.before.edges l.edges.edges) };
+    ghost view = { λ l. held_by_tasks l.stacks (edges_of l.edges.tellings)
+        (edges_of (take l.before.edges l.edges.tellings)) };
 
     ghost invariant = { λ l. IsKept l.stacks l.chains l.told l.edges l.before };
 }
@@ -124,7 +127,7 @@ impl<'a> Locks<'a> {
     {
         self.stacks.begin();
         self.before = Before {
-            edges: self.edges.as_slice().len(),
+            edges: self.edges.tellings().len(),
             told: self.told.as_slice().len(),
         };
     }
@@ -144,12 +147,12 @@ impl<'a> Locks<'a> {
     }
 
     /// Takes all away. The memory stays; and so do the chains that were met and the numbers of
-    /// pairs, while there is room for further ones of both ([`Chains::has_room`], [`Edges::has_room`]).
+    /// words, while there is room for further ones of both ([`Chains::has_room`], [`Edges::has_room`]).
     /// Answers how many of them there still are.
     pub fn clear(&mut self) -> Kept
         ensures empty { self.new ≡ record { stacks = []; interrupts = []; edges = []; before = [] } }
         ensures chains { result.chains < MOST_CHAINS }
-        ensures pairs { result.pairs < MOST_PAIRS }
+        ensures words { result.words < MOST_WORDS }
     {
         self.stacks.begin();
         self.told.cut(0);
@@ -158,7 +161,7 @@ impl<'a> Locks<'a> {
         self.before = Before { edges: 0, told: 0 };
         Kept {
             chains: self.chains.len(),
-            pairs: self.edges.numbered(),
+            words: self.edges.numbered(),
         }
     }
 
@@ -202,10 +205,8 @@ impl<'a> Locks<'a> {
     pub fn tell(&mut self, task: u32, class: u32, line: u64) -> Result<(), AllocError>
         requires { task < length self.old.stacks }
         ensures before { self.new.before ≡ self.old.before }
-        ensures told { OnOk result (self.new ≡ record self.old {
-          edges = fold with_edge_fact self.old.edges
-              (map (edge_to class line) (map (λ hold. hold.class) (inner_of self.old task)));
-        }) }
+        ensures told { OnOk result (Tells (map (λ hold. hold.class) (inner_of self.old task)) class line
+            self.old self.new) }
     {
         if self.is_unlinked(task) {
             self.relink(task)?;
@@ -217,10 +218,8 @@ impl<'a> Locks<'a> {
     fn tell_linked(&mut self, task: u32, class: u32, line: u64) -> Result<(), AllocError>
         requires { task < length self.old.stacks }
         ensures before { self.new.before ≡ self.old.before }
-        ensures told { OnOk result (self.new ≡ record self.old {
-          edges = fold with_edge_fact self.old.edges
-              (map (edge_to class line) (map (λ hold. hold.class) (inner_of self.old task)));
-        }) }
+        ensures told { OnOk result (Tells (map (λ hold. hold.class) (inner_of self.old task)) class line
+            self.old self.new) }
     {
         let stack = self.stacks.innermost(task);
         if stack.is_empty() {
@@ -242,7 +241,7 @@ impl<'a> Locks<'a> {
             stack,
             class,
         )?;
-        let known = self.chains.numbers(chain);
+        let known = self.chains.masks(chain);
         self.edges.tell_to(self.alloc, known, stack, class, line)?;
         self.told.add(chain)
     }
@@ -331,24 +330,19 @@ impl<'a> Locks<'a> {
         self.stacks.set(task, state, flag);
     }
 
-    /// The dependencies, in the order in which they came.
-    pub fn edges(&self) -> &[EdgeFact]
-        ensures { result.now ≡ self.now.edges }
+    /// What the trace told: the dependencies that weren't there when it began.
+    pub fn told_here(&self) -> &[Telling]
+        ensures told { self.now.before ++ edges_of result.now ≡ self.now.edges }
+        ensures low { All (λ t. t.word.block < 67108864) result.now }
     {
-        self.edges.as_slice()
+        let tellings = self.edges.tellings();
+        &tellings[self.before.edges..]
     }
 
-    /// The numbers that the pairs of classes of the dependencies have, in their order. A pair that comes again
-    /// once all was taken away has its number still, as long as chains are kept. No clause says so: whoever
-    /// reads one may guess by it, and no more.
-    pub fn pairs(&self) -> &[u32] {
-        self.edges.pairs()
-    }
-
-    /// The dependencies.
-    pub fn into_edges(self) -> Vec<EdgeFact>
-        ensures { result.items ≡ self.entry.edges }
+    /// The dependencies, of a trace and of those before it.
+    pub fn edge_facts(&self) -> Result<Vec<EdgeFact>, AllocError>
+        ensures { IfOk result (λ facts. facts.items ≡ self.now.edges) }
     {
-        self.edges.into_vec()
+        all_facts(self.alloc, self.edges.tellings())
     }
 }

@@ -86,6 +86,14 @@ impl Numbers {
         self.place[member as usize]
     }
 
+    /// By a number its place in the order, where it is there; what stands there for others says nothing.
+    pub fn places(&self) -> &[u32]
+        ensures { (n : ℕ) → list_any (nat_eq n) self.now ≡ true
+            → slice_index_or result.now n 0 ≡ position_or_len (nat_eq n) self.now }
+    {
+        self.place.as_slice()
+    }
+
     /// Adds a number that isn't there.
     pub fn add(&mut self, number: u32) -> Result<(), AllocError>
         requires { list_any (nat_eq number) self.old ≡ false }

@@ -2,6 +2,7 @@ pub mod ClosingLemmas
 pub mod EachOnceLemmas
 pub mod EarlierLemmas
 pub mod NewsLemmas
+pub mod NotedLemmas
 pub mod AcquiredLemmas
 pub mod ReachedLemmas
 pub mod SeenLemmas

@@ -27,7 +27,7 @@ use Rattle.ld_union.specs.Inner.Union.{IsUnion, edges_of}
 use Rattle.ld_union.specs.Usage.{bits_of}
 
 -- of three lists the first stands in front of the third
-front-then : (old mid new : List ℕ) → take (length old) mid ≡ old → take (length mid) new ≡ mid → take (length old) new ≡ old
+pub front-then : {X : Type 0} (old mid new : List X) → take (length old) mid ≡ old → take (length mid) new ≡ mid → take (length old) new ≡ old
 front-then old mid new first next =
     sym (take-take (length old) (length mid) new (omega (arith, ap length first, length-take (length old) mid)))
     ∙ ap (take (length old)) next

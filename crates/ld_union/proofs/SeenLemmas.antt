@@ -19,7 +19,7 @@ use Rattle.ld_union.proofs.EachOnceLemmas.{IsDistinct-each_once}
 use Rattle.ld_shown.proofs.SourceLemmas.{earlier_of-none}
 
 -- none passes, where none of the first ones does
-none_found : {X Y : Type 0} (p : Y → Bool) (f : X → Y) (i : ℕ) (xs : List X) (d : X) → ((k : ℕ) → k < i → k < length xs → p (f (get_or xs k d)) ≡ false) → find p (map f (take i xs)) ≡ None
+pub none_found : {X Y : Type 0} (p : Y → Bool) (f : X → Y) (i : ℕ) (xs : List X) (d : X) → ((k : ℕ) → k < i → k < length xs → p (f (get_or xs k d)) ≡ false) → find p (map f (take i xs)) ≡ None
 none_found p f zero [] d h = refl
 none_found p f (suc i) [] d h = refl
 none_found p f zero (x ∷ xs) d h = refl

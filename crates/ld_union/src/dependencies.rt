@@ -21,6 +21,8 @@ ghost use Rattle.ld_graph.specs.Order.{IsInserted};
 ghost use Rattle.ld_union.specs.Inner.Union.{AreBetween, AreWitnessed, IsCycleEdge, edges_of, named_edge};
 ghost use Rattle.ld_union.specs.Inner.Union.{with_first, with_seen};
 
+mod words;
+
 use crate::news::NewBit;
 use crate::states::PerState;
 use ld_graph::{Edge, Graph, Insert, Reach};
@@ -144,18 +146,9 @@ impl Dependencies {
             → AreWitnessed classes self.new.rows.items
             (with_first first (dependency_witness batch.now.sources)) }
     {
-        let mut pairs = batch.pair_numbers().iter();
-        for seen in batch.edges() {
-            let edge = Edge {
-                from: places[seen.from as usize],
-                to: places[seen.to as usize],
-            };
-            // No clause says that there are as many. For a guess any number will do.
-            let pair = match pairs.next() {
-                Some(pair) => *pair,
-                None => 0,
-            };
-            self.note(edge, seen.witness, pair, guesses);
+        let words = batch.words();
+        for word in words.words {
+            self.note_word(*word, &words, places, guesses);
         }
     }
 

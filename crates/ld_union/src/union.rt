@@ -95,7 +95,7 @@ impl<'a> Union<'a> {
     {
         news.first_reached = self.dependencies.reach.counts();
         let classes = batch.classes().len();
-        self.dependencies.room(classes, batch.edges().len())?;
+        self.dependencies.room(classes, batch.count())?;
         self.usage.reserve(classes)?;
         news.bits.clear();
         news.bits.reserve(batch.usage().len())?;

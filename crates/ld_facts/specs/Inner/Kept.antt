@@ -1,11 +1,12 @@
 -- What a batch keeps true of its fields. No contract of a `Batch` cites this file.
-use Rattle.std.specs.Prelude.{◌≡◌, ◌*◌, ◌+◌, ◌<◌, ◌≤◌, All, List, [], ℕ, drop, fold, length, map}
+use Rattle.std.specs.Prelude.{◌≡◌, ◌*◌, ◌+◌, ◌<◌, ◌≤◌, All, List, [], ℕ, drop, fold, length, map, take}
 use Rattle.ld_class.specs.Names.{AreDistinct, PlainClass}
 use Rattle.ld_trace.specs.Sources.{PlainSource}
 use Rattle.ld_rules.specs.declared.outcome.Listed.{Listed}
 use Rattle.ld_rules.specs.declared.outcome.TheConstants.{MOST_CLASSES}
-use Rattle.ld_rules.specs.Inner.Scanned.{same_dependency_seen, same_use_seen, with_new}
+use Rattle.ld_rules.specs.Inner.Scanned.{AreSame, same_dependency_seen, same_use_seen, with_new}
 use Rattle.ld_rules.specs.Union.{classes_of, dependencies_of, uses_of}
+use Rattle.ld_tables.specs.Inner.Edges.{AreApart}
 use Rattle.ld_facts.specs.declared.scan.Scan.{Scan}
 use Rattle.ld_facts.specs.Named as scans
 use Rattle.ld_facts.specs.Inner.Scan.{IsAt, begun, names_at, start_of}
@@ -58,13 +59,16 @@ pub record IsKept (fields : Fields) : Type 0 where
   pub edges : AreMet (start_of fields.scan).edges (map (named_dependency fields.classes) fields.edges)
   pub usage : AreMet (start_of fields.scan).uses (map (named_use fields.classes) fields.usage)
 
--- on top of what the one scan has the other has what this source shows
+-- On top of what the one scan has the other has what this source shows. Its dependencies come behind those that were
+-- there, in whatever order, each once.
 pub record IsRead (old : Scan) (source : PlainSource) (new : Scan) : Type 0 where
   pub names : new.classes ≡ with_names old.classes (classes_of source)
   pub few : length (classes_of source) ≤ MOST_CLASSES
   pub distinct : AreDistinct new.classes
-  pub edges : (start_of new).edges
-      ≡ fold (with_new same_dependency_seen) (start_of old).edges (dependencies_of source)
+  pub edges : AreSame (start_of new).edges
+      (fold (with_new same_dependency_seen) (start_of old).edges (dependencies_of source))
+  pub first : take (length (start_of old).edges) (start_of new).edges ≡ (start_of old).edges
+  pub once : AreApart new.locks.edges
   pub within : All (scans.IsBetween new.classes) new.locks.edges
   pub uses : (start_of new).uses
       ≡ fold (with_new same_use_seen) (start_of old).uses (uses_of source)

@@ -1,10 +1,13 @@
 -- The rows of a batch, by the places of its classes. No contract of a `Batch` cites this file.
-use Rattle.std.specs.Prelude.{◌≡◌, ℕ, List, nat_eq, true}
+use Rattle.std.specs.Prelude.{◌≡◌, ◌<◌, ℕ, All, List, flat_map, map, nat_eq, true}
+use Rattle.ld_class.specs.Blocks.{classes_in}
 use Rattle.std.specs.List.{list_any, position_or_len}
 use Rattle.ld_tables.specs.declared.edges.EdgeFact.{EdgeFact}
 use Rattle.ld_tables.specs.declared.uses.UsageFact.{UsageFact}
 use Rattle.ld_shown.specs.declared.rows.WitnessedEdge.{WitnessedEdge}
 use Rattle.ld_shown.specs.declared.rows.WitnessedUse.{WitnessedUse}
+use Rattle.ld_shown.specs.declared.rows.WitnessedWord.{WitnessedWord}
+use Rattle.ld_tables.specs.declared.words.Telling.{Telling}
 
 -- the place of a class among those of a batch, by its number in the scan
 abbrev pub place_in : List ℕ → ℕ → ℕ
@@ -26,6 +29,36 @@ edge_of numbers number fact = record {
   to = place_in numbers fact.to;
   witness = record { number = number; line = fact.line };
 }
+
+-- what the trace of this number told at one line
+abbrev pub word_of : ℕ → Telling → WitnessedWord
+word_of number telling = record {
+  number = telling.number;
+  block = telling.word.block;
+  to = telling.word.to;
+  bits = telling.bits;
+  witness = record { number = number; line = telling.line };
+}
+
+-- the dependencies of a word, by the places of its classes among these
+abbrev pub edges_in : List ℕ → WitnessedWord → List WitnessedEdge
+edges_in numbers word =
+    map (λ from. record {
+      from = place_in numbers from;
+      to = place_in numbers word.to;
+      witness = word.witness;
+    }) (classes_in word.block word.bits)
+
+-- those of all words
+abbrev pub edges_at : List ℕ → List WitnessedWord → List WitnessedEdge
+edges_at numbers words = flat_map (edges_in numbers) words
+
+-- both classes of each dependency of the word are among these, and their numbers are numbers
+pub record IsOwnWord (numbers : List ℕ) (word : WitnessedWord) : Type 0 where
+  pub low : word.block < 67108864
+  pub own :
+      All (λ from. (list_any (nat_eq from) numbers ≡ true) × (list_any (nat_eq word.to) numbers ≡ true))
+      (classes_in word.block word.bits)
 
 -- the same of a usage bit
 abbrev pub use_of : List ℕ → ℕ → UsageFact → WitnessedUse

@@ -1,7 +1,7 @@
 -- What the scan of a trace keeps, against what it had when the trace began and the positions so far. No
 -- promise cites this file.
 use Rattle.std.specs.Prelude.{◌≡◌, ◌<◌, ◌≤◌, ◌+◌, ℕ, Bool, None, Some, Result, Ok, Err, List, [], ◌∷◌, ◌++◌}
-use Rattle.std.specs.Prelude.{All, drop, fold, map, length, slice_index_or, slice_set, take}
+use Rattle.std.specs.Prelude.{All, fold, map, length, slice_index_or, slice_set, take}
 use Rattle.ld_class.specs.Names.{AreDistinct, IsTaskAt, PlainClass, no_class, place_of_task}
 use Rattle.ld_class.specs.Names.{with_name, with_task}
 use Rattle.ld_class.specs.declared.names.TheConstants.{MOST_NAMES}
@@ -15,19 +15,19 @@ use Rattle.ld_facts.specs.declared.stop.Stop.{Stop}
 use Rattle.ld_facts.specs.declared.stop.Stop.TheVariants.{Fault}
 use Rattle.ld_facts.specs.declared.taking.Taking.{Taking}
 use Rattle.ld_facts.specs.declared.taking.Taking.TheVariants.{Nesting, Trying, Waiting}
-use Rattle.ld_tables.specs.Inner.Edges.{edge_to, with_edge_fact}
-use Rattle.ld_tables.specs.Inner.Interrupts.{fresh, levels_of, start_now, starts_of, states_of}
+use Rattle.ld_tables.specs.Inner.Edges.{AreApart}
+use Rattle.ld_tables.specs.Inner.Interrupts.{fresh, levels_of, starts_of, states_of}
 use Rattle.ld_rules.specs.Inner.Levels.{levels, starts, states}
 use Rattle.ld_facts.specs.Named.{IsBetween, IsUse, named_dependency, named_use}
 use Rattle.ld_tables.specs.Inner.Uses.{in_facts, on_facts, with_use}
 use Rattle.ld_rules.specs.Usage.{uses_at}
 use Rattle.ld_rules.specs.Held.{Acquisition, class_with, held_by, may_wait, sub_taken}
-use Rattle.ld_tables.specs.Inner.Locks.{Hold}
+use Rattle.ld_tables.specs.Inner.Locks.{Hold, Tells, inner_of}
 use Rattle.ld_rules.specs.declared.fault.TraceFault.{TraceFault}
 use Rattle.ld_rules.specs.Outcome.{classes, event_fault, events, faulty_lines, tasks}
 use Rattle.ld_rules.specs.Dependency.{Dependency, Seen, dependencies_at, seen}
 use Rattle.ld_rules.specs.Usage.{Use}
-use Rattle.ld_rules.specs.Inner.Scanned.{same_dependency_seen, same_use_seen, with_new}
+use Rattle.ld_rules.specs.Inner.Scanned.{AreSame, same_dependency_seen, same_use_seen, with_new}
 
 -- what a scan had when its trace began: classes, and by their names dependencies and usage bits, each
 -- with the line at which it was told
@@ -91,7 +91,8 @@ AreMany scan =
     × All (λ class. class < length scan.classes) scan.own
     × (length scan.classes + MOST_CLASSES ≤ MOST_NAMES + length scan.own)
 
--- on top of what it had, the scan is what these positions leave, none of which has a fault
+-- On top of what it had, the scan is what these positions leave, none of which has a fault. The dependencies that it had
+-- stand first, and behind them, in whatever order, those that it hadn't; each stands there once.
 pub record IsAt (start : Start) (all : List Position) (scan : Scan) : Type 0 where
   pub clean : faulty_lines all ≡ []
   pub tasks : scan.tasks ≡ tasks (events all)
@@ -105,7 +106,9 @@ pub record IsAt (start : Start) (all : List Position) (scan : Scan) : Type 0 whe
       → IsTask scan.classes (slice_index_or scan.locks.stacks id [])
       (slice_index_or scan.locks.interrupts id fresh) (events all) name
   pub shallow : (id : ℕ) → length (slice_index_or scan.locks.stacks id []) ≤ MOST_HELD
-  pub edges : map (named_dependency scan.classes) scan.locks.edges ≡ edges_after start all
+  pub edges : AreSame (map (named_dependency scan.classes) scan.locks.edges) (edges_after start all)
+  pub first : take (length start.edges) (map (named_dependency scan.classes) scan.locks.edges) ≡ start.edges
+  pub once : AreApart scan.locks.edges
   pub within : All (IsBetween scan.classes) scan.locks.edges
   pub uses : map (named_use scan.classes) scan.uses ≡ uses_after start all
   pub used : All (IsUse scan.classes) scan.uses
@@ -200,19 +203,14 @@ waits how = may_wait (acquisition how [] (record { class = []; instance = None }
 abbrev pub class_taken : Taking → PlainLock → PlainClass
 class_taken how lock = class_with lock (sub_taken (acquisition how [] lock))
 
--- the scan when the task waits at this line for a lock of the class with this number: the
--- dependencies are told, and the class is used in the task's contexts
-abbrev pub waited : Scan → ℕ → ℕ → ℕ → Scan
-waited scan id class line =
-    let interrupts = slice_index_or scan.locks.interrupts id fresh in
-    let inner = drop (start_now interrupts) (slice_index_or scan.locks.stacks id []) in
-    let froms = map (λ hold. hold.class) inner in
-    record scan {
-      locks = record scan.locks {
-        edges = fold with_edge_fact scan.locks.edges (map (edge_to class line) froms);
-      };
-      uses = fold with_use scan.uses (in_facts interrupts line class);
-    }
+-- the scan when the task waits at this line for a lock of the class with this number: the dependencies are told, in
+-- whatever order, and the class is used in the task's contexts
+pub record HasWaited (old : Scan) (id class line : ℕ) (new : Scan) : Type 0 where
+  pub told : Tells (map (λ hold. hold.class) (inner_of old.locks id)) class line old.locks new.locks
+  pub others : new ≡ record old {
+    locks = new.locks;
+    uses = fold with_use old.uses (in_facts (slice_index_or old.locks.interrupts id fresh) line class);
+  }
 
 -- the scan when the task holds the lock, which counts under its flags
 abbrev pub taken : Scan → ℕ → ℕ → PlainLock → ℕ → Scan

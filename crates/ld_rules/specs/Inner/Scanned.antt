@@ -1,6 +1,6 @@
 -- What a scan does to its lists, by what stands at the positions that it has read. Of public contracts
 -- those of a scan alone cite this file.
-use Rattle.std.specs.Prelude.{Bool, List, [], ◌∷◌, ◌++◌, cond, if◌then◌else◌}
+use Rattle.std.specs.Prelude.{◌≡◌, Bool, List, [], ◌∷◌, ◌++◌, cond, if◌then◌else◌}
 use Rattle.std.specs.List.{list_any}
 use Rattle.ld_rules.specs.Dependency.{Dependency, Seen, same_dependency}
 use Rattle.ld_rules.specs.Usage.{Use, same_use}
@@ -13,6 +13,10 @@ remove_last p (x ∷ xs) = cond (list_any p xs) (x ∷ remove_last p xs) (cond (
 -- the list, with y at its end where nothing the same is there
 abbrev pub with_new : {X : Type 0} → (X → X → Bool) → List X → X → List X
 with_new same xs y = xs ++ (if list_any (same y) xs then [] else y ∷ [])
+
+-- the same things, in whatever order and however often: no test tells them apart
+abbrev pub AreSame : {X : Type 0} → List X → List X → Type 0
+AreSame {X} xs ys = (test : X → Bool) → list_any test xs ≡ list_any test ys
 
 -- of the same two classes, at whatever line
 abbrev pub same_dependency_seen : Seen Dependency → Seen Dependency → Bool

@@ -4,6 +4,7 @@ use Rattle.std.specs.Prelude.{Some, None, drop, fold, if◌then◌else◌, lengt
 use Rattle.std.specs.Option.{option_eq}
 use Rattle.ld_tables.specs.declared.chains.Link.{Link}
 use Rattle.ld_tables.specs.declared.chains.Run.{Run}
+use Rattle.ld_tables.specs.declared.words.Mask.{Mask}
 use Rattle.ld_tables.specs.declared.chains.TheConstants.{MOST_CHAINS, MOST_KEPT}
 use Rattle.ld_rules.specs.declared.outcome.TheConstants.{MOST_HELD}
 
@@ -31,36 +32,36 @@ IsTree links =
 abbrev pub same_link : Link → Link → Bool
 same_link a b = option_eq nat_eq a.before b.before && a.class == b.class
 
--- the chains, and of each, where they are kept, the numbers of the pairs from each class before its
--- last one to that; and for how many numbers there is memory in use
+-- the chains, and of each, where they are kept, the masks of the dependencies from the classes before its last one to
+-- that; and for how many masks there is memory in use
 pub record KeptChains : Type 0 where
   pub links : List Link
-  pub numbers : List (Option (List ℕ))
+  pub masks : List (Option (List Mask))
   pub kept : ℕ
 
 abbrev pub no_chains : KeptChains
-no_chains = record { links = []; numbers = []; kept = 0 }
+no_chains = record { links = []; masks = []; kept = 0 }
 
--- there may be one more chain, and the numbers of one more may be kept
+-- there may be one more chain, and the masks of one more may be kept
 pub record HasRoom (chains : KeptChains) : Type 0 where
   pub links : length chains.links < MOST_CHAINS
   pub kept : chains.kept < MOST_KEPT
 
--- the numbers from a run's start to its end, where there are some
-abbrev pub numbers_in : List ℕ → Run → Option (List ℕ)
-numbers_in numbers run =
-    if run.start == run.end then None else Some (take (run.end - run.start) (drop run.start numbers))
+-- the masks from a run's start to its end, where there are some
+abbrev pub masks_in : List Mask → Run → Option (List Mask)
+masks_in masks run =
+    if run.start == run.end then None else Some (take (run.end - run.start) (drop run.start masks))
 
--- a run lies among the numbers
-pub record IsRun (numbers : List ℕ) (run : Run) : Type 0 where
+-- a run lies among the masks
+pub record IsRun (masks : List Mask) (run : Run) : Type 0 where
   pub order : run.start ≤ run.end
-  pub within : run.end ≤ length numbers
+  pub within : run.end ≤ length masks
 
--- each chain stands after the one before it, and has its run among the numbers; and there are so many
--- chains and numbers at most
-pub record AreKept (links : List Link) (numbers : List ℕ) (runs : List Run) : Type 0 where
+-- each chain stands after the one before it, and has its run among the masks; and there are so many
+-- chains and masks at most
+pub record AreKept (links : List Link) (masks : List Mask) (runs : List Run) : Type 0 where
   pub tree : IsTree links
   pub many : length runs ≡ length links
   pub few : length links ≤ MOST_CHAINS
-  pub short : length numbers ≤ MOST_KEPT + MOST_HELD
-  pub within : All (IsRun numbers) runs
+  pub short : length masks ≤ MOST_KEPT + MOST_HELD
+  pub within : All (IsRun masks) runs

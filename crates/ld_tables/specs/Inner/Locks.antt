@@ -1,14 +1,17 @@
 -- What tasks hold and which dependencies were told, and what ties the cache of chains to them.
 -- No contract of a `Batch` cites this file.
-use Rattle.std.specs.Prelude.{◌≡◌, ◌<◌, ◌≤◌, ◌+◌, ℕ, Bool, true, List, [], ◌∷◌, ◌++◌, map, length, take}
+use Rattle.std.specs.Prelude.{◌≡◌, ◌<◌, ◌≤◌, ◌+◌, ℕ, Bool, true, List, [], ◌∷◌, ◌++◌, fold, map, length, take}
 use Rattle.std.specs.Prelude.{drop, slice_index_or, Option, None, Some, IfSome, option_map}
 use Rattle.std.specs.List.{last_or, list_all, list_any, All}
 use Rattle.ld_trace.specs.Events.{PlainLock}
 use Rattle.ld_tables.specs.declared.edges.EdgeFact.{EdgeFact}
-use Rattle.ld_tables.specs.declared.edges.Pair.{Pair}
+use Rattle.ld_tables.specs.declared.words.Mask.{Mask}
+use Rattle.ld_tables.specs.declared.words.Telling.{Telling}
+use Rattle.ld_tables.specs.declared.words.Word.{Word}
 use Rattle.ld_tables.specs.Inner.Chains.{KeptChains, chain_before, chains_of}
-use Rattle.ld_tables.specs.Inner.Edges.{AreNumbers, KeptEdges, edge_to, same_pair}
+use Rattle.ld_tables.specs.Inner.Edges.{AreApart, AreMasks, KeptEdges, edge_to, edges_of, same_pair, with_edge_fact}
 use Rattle.ld_rules.specs.Held.{same_lock}
+use Rattle.ld_rules.specs.Inner.Scanned.{AreSame}
 use Rattle.ld_tables.specs.Inner.Interrupts.{fresh, start_now, starts_of}
 use Rattle.ld_tables.specs.Inner.Stacks.{PlainHeld, PlainStack, empty_stack, plain_held}
 use Rattle.ld_tables.specs.declared.held.Held.{Held}
@@ -58,6 +61,14 @@ pub record ChangesInterrupts (old new : HeldByTasks) (task : ℕ) : Type 0 where
   pub many : length new.interrupts ≡ length old.interrupts
   pub others : (k : ℕ) → (k ≡ task → ⊥)
       → slice_index_or new.interrupts k fresh ≡ slice_index_or old.interrupts k fresh
+
+-- a lock of the class was waited for at this line, under locks of these: the dependencies that weren't there come
+-- behind the others, in some order, and all else is as before
+pub record Tells (froms : List ℕ) (class line : ℕ) (old new : HeldByTasks) : Type 0 where
+  pub others : new ≡ record old { edges = new.edges }
+  pub first : take (length old.edges) new.edges ≡ old.edges
+  pub once : AreApart old.edges → AreApart new.edges
+  pub told : AreSame (fold with_edge_fact old.edges (map (edge_to class line) froms)) new.edges
 
 abbrev pub classes_held : List PlainHeld → List ℕ
 classes_held stack = map (λ held. held.class) stack
@@ -113,12 +124,12 @@ pub record HasItsEdges (chains : List (List ℕ)) (edges : List EdgeFact) (numbe
       → slice_index_or chains number [] ≡ froms ++ class ∷ []
       → list_all (λ from. list_any (same_pair (edge_to class 0 from)) edges) froms ≡ true
 
--- where the numbers of a chain's pairs are kept, they are those of the pairs of its last class
-pub record HasItsNumbers (chains : List (List ℕ)) (numbers : List (Option (List ℕ)))
-    (pairs : List Pair) : Type 0 where
+-- where the masks of a chain are kept, they are those of the dependencies of its last class
+pub record HasItsMasks (chains : List (List ℕ)) (masks : List (Option (List Mask)))
+    (words : List Word) : Type 0 where
   pub each : (n : ℕ) (froms : List ℕ) (class : ℕ) → n < length chains
       → slice_index_or chains n [] ≡ froms ++ class ∷ []
-      → IfSome (slice_index_or numbers n None) (AreNumbers pairs class froms)
+      → IfSome (slice_index_or masks n None) (AreMasks words class froms)
 
 -- what ties stacks, chains and what was told
 pub record AreTied (stacks : List PlainStack) (chains : List (List ℕ)) (told : List ℕ)
@@ -130,18 +141,18 @@ pub record AreTied (stacks : List PlainStack) (chains : List (List ℕ)) (told :
 
 -- of what was there when the trace began, the dependencies of each chain that was told are there too
 pub record IsAtStart (before : Before) (chains : List (List ℕ)) (told : List ℕ)
-    (edges : List EdgeFact) : Type 0 where
-  pub edges_within : before.edges ≤ length edges
+    (tellings : List Telling) : Type 0 where
+  pub edges_within : before.edges ≤ length tellings
   pub told_within : before.told ≤ length told
   pub complete :
-      All (λ number. HasItsEdges chains (take before.edges edges) number) (take before.told told)
+      All (λ number. HasItsEdges chains (edges_of (take before.edges tellings)) number) (take before.told told)
 
 -- what ties all that is kept
 pub record IsKept (stacks : List PlainStack) (chains : KeptChains) (told : List ℕ)
     (edges : KeptEdges) (before : Before) : Type 0 where
-  pub tied : AreTied stacks (chains_of chains.links) told edges.edges
-  pub start : IsAtStart before (chains_of chains.links) told edges.edges
-  pub numbered : HasItsNumbers (chains_of chains.links) chains.numbers edges.pairs
+  pub tied : AreTied stacks (chains_of chains.links) told (edges_of edges.tellings)
+  pub start : IsAtStart before (chains_of chains.links) told edges.tellings
+  pub masked : HasItsMasks (chains_of chains.links) chains.masks edges.words
 
 -- it is of this lock
 abbrev pub is_of : PlainLock → Hold → Bool

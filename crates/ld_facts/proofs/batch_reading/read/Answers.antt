@@ -1,9 +1,10 @@
-use Rattle.std.proofs.Common.{rules, arith, length, subst, sym}
+use Rattle.std.proofs.Common.{rules, ◌∙◌, ap, arith, length, subst, sym}
 use Rattle.ld_trace.specs.Sources.{plain}
 use Rattle.ld_rules.specs.Union.{classes_of}
 use Rattle.ld_shown.specs.Inner.Names.{IsLonger}
+use Rattle.ld_facts.specs.declared.scan.Scan.{Scan}
 use Rattle.ld_facts.specs.Inner.Kept.{IsRead, IsReady}
-use Rattle.ld_facts.proofs.BatchLemmas.{begins, more-edges, room-left}
+use Rattle.ld_facts.proofs.BatchLemmas.{begins, room-left}
 use Rattle.ld_shown.proofs.NameLemmas.{longer_all}
 use Rattle.ld_facts.proofs.RowLemmas.{names_longer}
 use Rattle.ld_facts.proofs.batch_reading.read.Goals as goal
@@ -26,6 +27,8 @@ add-requires-clause-names c =
     (subst (λ all. IsLonger c.args.scan.now.classes all (length (classes_of (plain c.args.source)))) (sym shows.names) (longer_all c.args.scan.now.classes (classes_of (plain c.args.source))))
     c.args.rows.now.numbers c.args.rows.now.classes c.requires.names
 
-pub add-requires-clause-more_edges : goal.add-requires-clause-more_edges
-add-requires-clause-more_edges c =
-    omega (arith, more-edges c.args.scan.now c.scan_source.new.scan (plain c.args.source) c.in_ok-outcome.ensures.shows, c.requires.edges)
+pub add-requires-clause-so_far : goal.add-requires-clause-so_far
+add-requires-clause-so_far c =
+    c.requires.edges
+    ∙ ap (λ (scan : Scan). length scan.locks.before) (sym c.requires.ready)
+    ∙ ap length (sym c.in_ok-outcome.ensures.first.edges)

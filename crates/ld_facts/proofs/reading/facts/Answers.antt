@@ -15,7 +15,7 @@ invariant_of-result c =
       classes = c.read_into.new.scan.classes;
       edges = edges;
       usage = c.read_into.new.scan.uses;
-    })) (sym c.into_edges.ensures)
+    })) (sym c.in-Ok.ensures)
     (read-known (plain c.args.source) c.read_into.new.scan c.in-Ok-Read.events c.requires
     (c.read_into.ensures.read c.in-Ok-Read.events (c.in-Ok-Read.is ∙ ap Ok c.in-Ok-Read.field-0-is) no_start (none-at c.new-scan.result c.new-scan.ensures))
     (sym (c.in-Ok-Read.ensures.outcome no_start (none-at c.new-scan.result c.new-scan.ensures)) ∙ c.in-Ok-Read.field-0-is))

@@ -1,22 +1,22 @@
 use Rattle.std.proofs.Common.{◌≡◌, ◌++◌, ◌∷◌, [], List, ℕ, None, Result, Ok, ap, length, map, subst, sym, ◌∙◌}
 use Rattle.std.specs.declared.alloc.AllocError.{AllocError}
 use Rattle.ld_tables.specs.declared.held.Held.{Held}
-use Rattle.ld_tables.specs.declared.edges.Pair.{Pair}
+use Rattle.ld_tables.specs.declared.words.Word.{Word}
 use Rattle.ld_tables.specs.Inner.Chains.{KeptChains, chain_before, chains_of}
-use Rattle.ld_tables.specs.Inner.Locks.{HasItsNumbers, IsChain, IsExtended}
-use Rattle.ld_tables.proofs.NumberedLemmas.{chain_then, extended_then, link_before, link_class, link_froms, numbered_then, within_then}
+use Rattle.ld_tables.specs.Inner.Locks.{HasItsMasks, IsChain, IsExtended}
+use Rattle.ld_tables.proofs.MaskedLemmas.{chain_then, extended_then, link_before, link_class, link_froms, masked_then, within_then}
 use Rattle.ld_tables.proofs.linking.linked.Goals as goal
 
 -- what was asked of the chains holds of them once the chain was looked for
 module _ (old now : KeptChains) (same : now ≡ old) where
-  numbered_now : (pairs : List Pair) → HasItsNumbers (chains_of old.links) old.numbers pairs → HasItsNumbers (chains_of now.links) now.numbers pairs
-  numbered_now pairs = subst (λ (k : KeptChains). HasItsNumbers (chains_of k.links) k.numbers pairs) (sym same)
+  masked_now : (words : List Word) → HasItsMasks (chains_of old.links) old.masks words → HasItsMasks (chains_of now.links) now.masks words
+  masked_now words = subst (λ (k : KeptChains). HasItsMasks (chains_of k.links) k.masks words) (sym same)
 
   before_now : (before : _) (froms : List ℕ) → chain_before (chains_of old.links) before ≡ froms → chain_before (chains_of now.links) before ≡ froms
   before_now before froms is = ap (λ (k : KeptChains). chain_before (chains_of k.links) before) same ∙ is
 
-  many_now : length old.numbers ≡ length old.links → length now.numbers ≡ length now.links
-  many_now = subst (λ (k : KeptChains). length k.numbers ≡ length k.links) (sym same)
+  many_now : length old.masks ≡ length old.links → length now.masks ≡ length now.links
+  many_now = subst (λ (k : KeptChains). length k.masks ≡ length k.links) (sym same)
 
 pub find-requires : goal.find-requires
 find-requires c = link_before (chains_of c.args.chains.now.links) c.args.stack.now c.args.class c.in-Some.link (sym c.in-Some.is ∙ c.link_to.ensures) c.requires
@@ -31,15 +31,15 @@ returns-in-Some-find-clause-chain c =
     (c.in-Some-find.ensures.within, c.in-Some-find.ensures.chain ∙ (λ i. is i ++ class i ∷ []))
 
 pub returns-clause-numbered : goal.returns-clause-numbered
-returns-clause-numbered c pairs numbered =
+returns-clause-numbered c words numbered =
     let froms = map (λ (h : Held). h.class) c.args.stack.now in
     let is = link_froms (chains_of c.args.chains.now.links) c.args.stack.now c.args.class c.in-Some.link (sym c.in-Some.is ∙ c.link_to.ensures) c.requires in
-    numbered_then c.find.new.self c.add.new.self c.in-Some.link froms
+    masked_then c.find.new.self c.add.new.self c.in-Some.link froms
     (before_now c.args.chains.now c.find.new.self c.find.ensures.same c.in-Some.link.before froms is)
-    None c.add.result pairs
+    None c.add.result words
     (many_now c.args.chains.now c.find.new.self c.find.ensures.same c.find.ensures.many)
-    (numbered_now c.args.chains.now c.find.new.self c.find.ensures.same pairs numbered)
-    tt c.add.ensures.links c.add.ensures.numbers c.add.ensures.refused
+    (masked_now c.args.chains.now c.find.new.self c.find.ensures.same words numbered)
+    tt c.add.ensures.links c.add.ensures.masks c.add.ensures.refused
 
 pub returns-clause-more : goal.returns-clause-more
 returns-clause-more c =

@@ -67,9 +67,9 @@ returns-clause-ok c start all is_at =
     subst (IsAt start (all ++ happens c.args.line (acquisition c.args.how c.args.task.now lock) ∷ [])) (sym c.in_ok-take.ensures.taken)
     (elim c.if-waits.branch [
       | then-waits+in_ok-wait w ↦
-          subst (λ (scan : Scan). IsAt start (all ++ happens c.args.line (acquisition c.args.how c.args.task.now lock) ∷ []) (taken scan id class lock c.args.line))
-          (sym (w.self-is ∙ w.in_ok-wait.ensures.waited))
-          (acquired-at all c.args.self.now is_at c.args.how c.args.task.now lock c.args.line id class c.class.new.self enters (sym c.waits.ensures ∙ w.if-waits.true) shallow)
+          subst (λ (scan : Scan). IsAt start (all ++ happens c.args.line (acquisition c.args.how c.args.task.now lock) ∷ []) (taken scan id class lock c.args.line)) (sym w.self-is)
+          (acquired-at all c.args.self.now is_at c.args.how c.args.task.now lock c.args.line id class c.class.new.self enters (sym c.waits.ensures ∙ w.if-waits.true) shallow
+          w.wait.new.self w.in_ok-wait.ensures.waited)
       | else-waits w ↦
           subst (λ (scan : Scan). IsAt start (all ++ happens c.args.line (acquisition c.args.how c.args.task.now lock) ∷ []) (taken scan id class lock c.args.line)) (sym w.self-is)
           (tried-at all c.args.self.now is_at c.args.how c.args.task.now lock c.args.line id class c.class.new.self enters (sym c.waits.ensures ∙ w.if-waits.false) shallow)

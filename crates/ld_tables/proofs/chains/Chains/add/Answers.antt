@@ -26,8 +26,8 @@ invariant_of-self-2 c =
       many = omega (arith, ap length pushed, length_push c.self.inside.runs.items run, ap length keys, length_push c.self.inside.links.keys c.args.link, c.self.invariant.many);
       few = omega (arith, ap length keys, length_push c.self.inside.links.keys c.args.link, c.requires.room, ap (λ (k : KeptChains). length k.links) c.self.view_is);
       short = c.self.invariant.short;
-      within = subst (All (IsRun c.self.inside.numbers.items)) (sym pushed)
-          (All-push (IsRun c.self.inside.numbers.items) c.self.inside.runs.items run c.self.invariant.within (record { order = omega arith; within = omega arith }));
+      within = subst (All (IsRun c.self.inside.masks.items)) (sym pushed)
+          (All-push (IsRun c.self.inside.masks.items) c.self.inside.runs.items run c.self.invariant.within (record { order = omega arith; within = omega arith }));
     }
 
 pub returns-clause-number : goal.returns-clause-number

@@ -1,23 +1,22 @@
-use Rattle.std.proofs.Common.{◌≡◌, ◌<◌, ℕ, Result, Ok, Err, IfOk, length, sym, subst, ◌∙◌}
+use Rattle.std.proofs.Common.{◌≡◌, ◌+◌, ◌<◌, ◌++◌, ◌∷◌, [], ℕ, Result, Ok, Err, IfOk, ap, if◌then◌else◌, length, sym, subst, ◌∙◌, arith}
 use Rattle.std.proofs.lemmas.Option.{get_or_from_slice_get}
-use Rattle.ld_tables.specs.Inner.Edges.{AreMore, AreTheirs, KeptEdges, no_pair, pair_at}
-use Rattle.ld_tables.proofs.EdgeLemmas.{AreMore-with_pair, distinct-with_pair, same_classes-≡, theirs_more, with_pair}
+use Rattle.ld_tables.specs.Inner.Edges.{AreMore, KeptEdges, no_word, word_at}
+use Rattle.ld_tables.proofs.WordLemmas.{AreMore-with_word, same_words-≡, told-new}
 use Rattle.ld_tables.proofs.edges.Edges.number.Goals as goal
+use Rattle.ld_tables.proofs.edges.Edges.number.Goals.{then-is_new, else-is_new}
 
-pub invariant_of-self-2 : goal.invariant_of-self-2
-invariant_of-self-2 c =
-    let keys = c.self.inside.pairs.keys in
-    let told = c.self.inside.told in (
-      subst (λ ks. AreTheirs told.edges.items ks told.order.items) (sym c.in_ok-number.ensures.keys)
-          (theirs_more told.edges.items keys (with_pair keys c.args.pair) told.order.items (AreMore-with_pair keys c.args.pair)
-          (distinct-with_pair keys c.args.pair c.self.invariant.0.distinct) c.self.invariant.0),
-      c.self.invariant.1,
-    )
+pub invariant_of-self-then-is_new : goal.invariant_of-self-then-is_new
+invariant_of-self-then-is_new c =
+    let one : length c.insert_full.new.self.keys ≡ length c.self.inside.words.keys + 1 = c.in_ok-number.ensures.len ∙ ap (λ b. length c.self.inside.words.keys + (if b then 1 else 0)) c.if-is_new.true in
+    told-new c.self.inside.words.keys c.args.word c.requires c.self.inside.told.items c.self.inside.tellings.items c.self.invariant c.insert_full.new.self.keys c.push_reserved.new.self.items
+    c.in_ok-number.ensures.keys one (c.push_reserved.ensures.items ∙ ap (λ ns. ns ++ 0 ∷ []) c.reserve.ensures.items)
 
 pub returns-clause-more : goal.returns-clause-more
 returns-clause-more c =
-    subst (λ (k : KeptEdges). AreMore k.pairs c.insert_full.new.self.keys) c.self.view_is
-    (subst (AreMore c.self.inside.pairs.keys) (sym c.in_ok-number.ensures.keys) (AreMore-with_pair c.self.inside.pairs.keys c.args.pair))
+    let words : c.if-is_new.self.words ≡ c.insert_full.new.self.keys = elim c.if-is_new.branch [ then-is_new w ↦ ap (λ (k : KeptEdges). k.words) w.self-is | else-is_new w ↦ ap (λ (k : KeptEdges). k.words) w.self-is ] in
+    subst (AreMore c.args.self.now.words) (sym words)
+    (subst (λ (k : KeptEdges). AreMore k.words c.insert_full.new.self.keys) c.self.view_is
+    (subst (AreMore c.self.inside.words.keys) (sym c.in_ok-number.ensures.keys) (AreMore-with_word c.self.inside.words.keys c.args.word)))
 
 -- what holds of the place holds of its number
 at_number : {E : Type 0} (P : ℕ → Type 0) (place : ℕ) (r : Result ℕ E) → IfOk r (λ n. n ≡ place) → P place → IfOk r P
@@ -25,10 +24,13 @@ at_number P place (Ok n) is at = subst P (sym is) at
 at_number P place (Err e) is at = tt
 
 pub returns-clause-within : goal.returns-clause-within
-returns-clause-within c = at_number (λ n. n < length c.insert_full.new.self.keys) c.in_ok-number.number c.as_number.result c.as_number.ensures c.in_ok-number.ensures.within
+returns-clause-within c =
+    let words : c.if-is_new.self.words ≡ c.insert_full.new.self.keys = elim c.if-is_new.branch [ then-is_new w ↦ ap (λ (k : KeptEdges). k.words) w.self-is | else-is_new w ↦ ap (λ (k : KeptEdges). k.words) w.self-is ] in
+    at_number (λ n. n < length c.if-is_new.self.words) c.in_ok-number.number c.as_number.result c.as_number.ensures (subst (λ ks. c.in_ok-number.number < length ks) (sym words) c.in_ok-number.ensures.within)
 
 pub returns-clause-number : goal.returns-clause-number
 returns-clause-number c =
+    let words : c.if-is_new.self.words ≡ c.insert_full.new.self.keys = elim c.if-is_new.branch [ then-is_new w ↦ ap (λ (k : KeptEdges). k.words) w.self-is | else-is_new w ↦ ap (λ (k : KeptEdges). k.words) w.self-is ] in
     let found = c.in_ok-number.ensures.stored in
-    at_number (λ n. pair_at c.insert_full.new.self.keys n ≡ c.args.pair) c.in_ok-number.number c.as_number.result c.as_number.ensures
-    (get_or_from_slice_get c.insert_full.new.self.keys c.in_ok-number.number found.0 no_pair found.1 ∙ sym (same_classes-≡ c.args.pair found.0 found.2))
+    at_number (λ n. word_at c.if-is_new.self.words n ≡ c.args.word) c.in_ok-number.number c.as_number.result c.as_number.ensures
+    (ap (λ ks. word_at ks c.in_ok-number.number) words ∙ get_or_from_slice_get c.insert_full.new.self.keys c.in_ok-number.number found.0 no_word found.1 ∙ sym (same_words-≡ c.args.word found.0 found.2))

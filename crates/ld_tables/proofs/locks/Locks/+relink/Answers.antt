@@ -1,5 +1,6 @@
 use Rattle.std.proofs.Common.{◌≡◌, ◌<◌, [], List, ℕ, ap, get_or, length, map, subst, sym, take, ◌∙◌, arith}
 use Rattle.std.proofs.lemmas.List.{length-map}
+use Rattle.ld_tables.specs.Inner.Edges.{edges_of}
 use Rattle.ld_tables.specs.declared.edges.EdgeFact.{EdgeFact}
 use Rattle.ld_tables.specs.declared.held.Held.{Held}
 use Rattle.ld_tables.specs.Inner.Chains.{chains_of}
@@ -23,22 +24,22 @@ inner_below stacks edges known task held is same inner =
 
 pub invariant_of-self : goal.invariant_of-self
 invariant_of-self t c = record {
-  tied = tied c.self.inside.stacks c.self.inside.edges.edges c.args.self.now c.args.task c.held-held.result.now c.self.view_is c.held-held.ensures.held
-      (inner_below c.self.inside.stacks c.self.inside.edges.edges c.args.self.now c.args.task c.held-held.result.now c.self.view_is c.held-held.ensures.held c.requires.inner)
+  tied = tied c.self.inside.stacks (edges_of c.self.inside.edges.tellings) c.args.self.now c.args.task c.held-held.result.now c.self.view_is c.held-held.ensures.held
+      (inner_below c.self.inside.stacks (edges_of c.self.inside.edges.tellings) c.args.self.now c.args.task c.held-held.result.now c.self.view_is c.held-held.ensures.held c.requires.inner)
       c.requires.task c.truncate.new.self c.truncate.ensures
       (chains_of c.self.inside.chains.links) c.self.inside.told c.self.invariant.tied;
   start = c.self.invariant.start;
-  numbered = c.self.invariant.numbered;
+  masked = c.self.invariant.masked;
 }
 
 pub relink-requires : goal.relink-requires
 relink-requires t c = (
-  (let shrinks = fewer c.self.inside.stacks c.self.inside.edges.edges c.args.self.now c.args.task c.held-held.result.now c.self.view_is c.held-held.ensures.held
-      (inner_below c.self.inside.stacks c.self.inside.edges.edges c.args.self.now c.args.task c.held-held.result.now c.self.view_is c.held-held.ensures.held c.requires.inner)
+  (let shrinks = fewer c.self.inside.stacks (edges_of c.self.inside.edges.tellings) c.args.self.now c.args.task c.held-held.result.now c.self.view_is c.held-held.ensures.held
+      (inner_below c.self.inside.stacks (edges_of c.self.inside.edges.tellings) c.args.self.now c.args.task c.held-held.result.now c.self.view_is c.held-held.ensures.held c.requires.inner)
       c.requires.task c.truncate.new.self c.truncate.ensures in omega (arith, shrinks, c.decreases)),
   (
-    stays_within c.self.inside.stacks c.self.inside.edges.edges c.args.self.now c.args.task c.held-held.result.now c.self.view_is c.held-held.ensures.held
-        (inner_below c.self.inside.stacks c.self.inside.edges.edges c.args.self.now c.args.task c.held-held.result.now c.self.view_is c.held-held.ensures.held c.requires.inner)
+    stays_within c.self.inside.stacks (edges_of c.self.inside.edges.tellings) c.args.self.now c.args.task c.held-held.result.now c.self.view_is c.held-held.ensures.held
+        (inner_below c.self.inside.stacks (edges_of c.self.inside.edges.tellings) c.args.self.now c.args.task c.held-held.result.now c.self.view_is c.held-held.ensures.held c.requires.inner)
         c.requires.task c.truncate.new.self c.truncate.ensures,
     c.if-is_unlinked.ensures,
   ),
@@ -46,18 +47,18 @@ relink-requires t c = (
 
 pub hold-requires-clause-room : goal.hold-requires-clause-room
 hold-requires-clause-room t c =
-    let unchanged : c.if-is_unlinked.self ≡ held_by_tasks c.truncate.new.self c.self.inside.edges.edges (take c.self.inside.before.edges c.self.inside.edges.edges) =
+    let unchanged : c.if-is_unlinked.self ≡ held_by_tasks c.truncate.new.self (edges_of c.self.inside.edges.tellings) (edges_of (take c.self.inside.before.edges c.self.inside.edges.tellings)) =
     elim c.if-is_unlinked.branch [ then-is_unlinked+in_ok-relink w ↦ w.self-is ∙ w.in_ok-relink.ensures.same | else-is_unlinked w ↦ w.self-is ] in
-    room_again c.self.inside.stacks c.self.inside.edges.edges c.args.self.now c.args.task c.held-held.result.now c.self.view_is c.held-held.ensures.held
-    (inner_below c.self.inside.stacks c.self.inside.edges.edges c.args.self.now c.args.task c.held-held.result.now c.self.view_is c.held-held.ensures.held c.requires.inner)
+    room_again c.self.inside.stacks (edges_of c.self.inside.edges.tellings) c.args.self.now c.args.task c.held-held.result.now c.self.view_is c.held-held.ensures.held
+    (inner_below c.self.inside.stacks (edges_of c.self.inside.edges.tellings) c.args.self.now c.args.task c.held-held.result.now c.self.view_is c.held-held.ensures.held c.requires.inner)
     c.requires.task c.truncate.new.self c.truncate.ensures
     c.if-is_unlinked.self unchanged MOST_HELD c.held-held.ensures.depth
 
 pub returns-clause-same : goal.returns-clause-same
 returns-clause-same t c =
-    let unchanged : c.if-is_unlinked.self ≡ held_by_tasks c.truncate.new.self c.self.inside.edges.edges (take c.self.inside.before.edges c.self.inside.edges.edges) =
+    let unchanged : c.if-is_unlinked.self ≡ held_by_tasks c.truncate.new.self (edges_of c.self.inside.edges.tellings) (edges_of (take c.self.inside.before.edges c.self.inside.edges.tellings)) =
     elim c.if-is_unlinked.branch [ then-is_unlinked+in_ok-relink w ↦ w.self-is ∙ w.in_ok-relink.ensures.same | else-is_unlinked w ↦ w.self-is ] in
-    held_again c.self.inside.stacks c.self.inside.edges.edges c.args.self.now c.args.task c.held-held.result.now c.self.view_is c.held-held.ensures.held
-    (inner_below c.self.inside.stacks c.self.inside.edges.edges c.args.self.now c.args.task c.held-held.result.now c.self.view_is c.held-held.ensures.held c.requires.inner)
+    held_again c.self.inside.stacks (edges_of c.self.inside.edges.tellings) c.args.self.now c.args.task c.held-held.result.now c.self.view_is c.held-held.ensures.held
+    (inner_below c.self.inside.stacks (edges_of c.self.inside.edges.tellings) c.args.self.now c.args.task c.held-held.result.now c.self.view_is c.held-held.ensures.held c.requires.inner)
     c.requires.task c.truncate.new.self c.truncate.ensures
     c.if-is_unlinked.self unchanged c.hold.result _ c.hold.new.self c.hold.ensures.held

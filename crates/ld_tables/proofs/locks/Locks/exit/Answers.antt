@@ -1,5 +1,6 @@
 use Rattle.std.proofs.Common.{get_or, length, map, refl, sym, ap, ◌∙◌}
 use Rattle.std.proofs.lemmas.List.{length-map}
+use Rattle.ld_tables.specs.Inner.Edges.{edges_of}
 use Rattle.ld_tables.specs.Inner.Interrupts.{IsLeft, fresh, start_now}
 use Rattle.ld_tables.specs.Inner.Locks.{hold_of}
 use Rattle.ld_tables.specs.Inner.Stacks.{PlainStack, empty_stack}
@@ -11,27 +12,27 @@ pub invariant_of-self : goal.invariant_of-self
 invariant_of-self c = record {
   tied =
       tied_moved c.self.inside.stacks c.args.task (get_or c.exit.new.self c.args.task empty_stack).interrupts c.exit.new.self c.exit.ensures.changed
-      (chains_of c.self.inside.chains.links) c.self.inside.told c.self.inside.edges.edges c.self.invariant.tied
-      (within_shown c.self.inside.stacks c.self.inside.edges.edges c.args.self.now c.args.task c.self.view_is c.requires.task)
+      (chains_of c.self.inside.chains.links) c.self.inside.told (edges_of c.self.inside.edges.tellings) c.self.invariant.tied
+      (within_shown c.self.inside.stacks (edges_of c.self.inside.edges.tellings) c.args.self.now c.args.task c.self.view_is c.requires.task)
       (chained_left (chains_of c.self.inside.chains.links) (get_or c.self.inside.stacks c.args.task empty_stack).held
       (get_or c.self.inside.stacks c.args.task empty_stack).interrupts (get_or c.self.inside.stacks c.args.task empty_stack).interrupts
       (get_or c.exit.new.self c.args.task empty_stack).interrupts
-      (ap start_now (interrupts_shown c.self.inside.stacks c.self.inside.edges.edges c.args.self.now c.args.task c.self.view_is) ∙ c.requires.empty
-      ∙ sym (ap length (holds_shown c.self.inside.stacks c.self.inside.edges.edges c.args.self.now c.args.task c.self.view_is))
+      (ap start_now (interrupts_shown c.self.inside.stacks (edges_of c.self.inside.edges.tellings) c.args.self.now c.args.task c.self.view_is) ∙ c.requires.empty
+      ∙ sym (ap length (holds_shown c.self.inside.stacks (edges_of c.self.inside.edges.tellings) c.args.self.now c.args.task c.self.view_is))
       ∙ length-map (get_or c.self.inside.stacks c.args.task empty_stack).held hold_of)
       refl c.exit.ensures.left (c.self.invariant.tied.chained c.args.task));
   start = c.self.invariant.start;
-  numbered = c.self.invariant.numbered;
+  masked = c.self.invariant.masked;
 }
 
 pub returns-clause-moved : goal.returns-clause-moved
-returns-clause-moved c = moved_is c.self.inside.stacks c.args.task (get_or c.exit.new.self c.args.task empty_stack).interrupts c.exit.new.self c.exit.ensures.changed c.self.inside.edges.edges c.args.self.now c.self.view_is
+returns-clause-moved c = moved_is c.self.inside.stacks c.args.task (get_or c.exit.new.self c.args.task empty_stack).interrupts c.exit.new.self c.exit.ensures.changed (edges_of c.self.inside.edges.tellings) c.args.self.now c.self.view_is
 
 pub returns-clause-left : goal.returns-clause-left
 returns-clause-left c =
     shown_as IsLeft (get_or c.self.inside.stacks c.args.task empty_stack).interrupts (get_or c.args.self.now.interrupts c.args.task fresh)
     (get_or c.exit.new.self c.args.task empty_stack).interrupts (get_or (map (λ (s : PlainStack). s.interrupts) c.exit.new.self) c.args.task fresh)
-    (interrupts_shown c.self.inside.stacks c.self.inside.edges.edges c.args.self.now c.args.task c.self.view_is)
+    (interrupts_shown c.self.inside.stacks (edges_of c.self.inside.edges.tellings) c.args.self.now c.args.task c.self.view_is)
     (moved_to c.self.inside.stacks c.args.task (get_or c.exit.new.self c.args.task empty_stack).interrupts c.exit.new.self c.exit.ensures.changed
-    (within_shown c.self.inside.stacks c.self.inside.edges.edges c.args.self.now c.args.task c.self.view_is c.requires.task))
+    (within_shown c.self.inside.stacks (edges_of c.self.inside.edges.tellings) c.args.self.now c.args.task c.self.view_is c.requires.task))
     c.exit.ensures.left

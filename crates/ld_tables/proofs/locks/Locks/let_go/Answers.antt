@@ -2,6 +2,7 @@ use Rattle.std.proofs.Common.{◌≡◌, ℕ, ◌<◌, ◌≤◌, ◌+◌, ◌-�
 use Rattle.std.proofs.lemmas.List.{length-drop, length-map}
 use Rattle.std.specs.List.{list_any}
 use Rattle.ld_trace.specs.Events.{PlainLock, plain_lock}
+use Rattle.ld_tables.specs.Inner.Edges.{edges_of}
 use Rattle.ld_tables.specs.declared.edges.EdgeFact.{EdgeFact}
 use Rattle.ld_tables.specs.declared.held.Held.{Held}
 use Rattle.ld_tables.specs.Inner.Interrupts.{fresh, start_now}
@@ -57,39 +58,39 @@ module _ {before : List EdgeFact} (stacks : List PlainStack) (edges : List EdgeF
 
 pub returns-in_default-clause-held : goal.returns-in_default-clause-held
 returns-in_default-clause-held c =
-    sym (none_held c.self.inside.stacks c.self.inside.edges.edges c.args.self.now c.args.task (plain_lock c.args.lock) c.held-held.result.now
+    sym (none_held c.self.inside.stacks (edges_of c.self.inside.edges.tellings) c.args.self.now c.args.task (plain_lock c.args.lock) c.held-held.result.now
     c.start-start.result c.self.view_is c.held-held.ensures.held (c.start-start.ensures ∙ ap start_now c.context.ensures) c.in_default.ensures.none)
 
 pub returns-in_default-clause-stacks : goal.returns-in_default-clause-stacks
 returns-in_default-clause-stacks c =
     none_gone c.args.self.now c.args.task (start_now (get_or c.args.self.now.interrupts c.args.task fresh)) (plain_lock c.args.lock)
-    (none_held c.self.inside.stacks c.self.inside.edges.edges c.args.self.now c.args.task (plain_lock c.args.lock) c.held-held.result.now
+    (none_held c.self.inside.stacks (edges_of c.self.inside.edges.tellings) c.args.self.now c.args.task (plain_lock c.args.lock) c.held-held.result.now
     c.start-start.result c.self.view_is c.held-held.ensures.held (c.start-start.ensures ∙ ap start_now c.context.ensures) c.in_default.ensures.none)
 
 pub take_out-requires-clause-inner : goal.take_out-requires-clause-inner
 take_out-requires-clause-inner c =
     subst (λ interrupts. start_now interrupts ≤ c.start-start.result + c.in-Some.place)
-    (interrupts_shown c.self.inside.stacks c.self.inside.edges.edges c.args.self.now c.args.task c.self.view_is)
-    (low c.self.inside.stacks c.self.inside.edges.edges c.args.self.now c.args.task (plain_lock c.args.lock) c.held-held.result.now c.start-start.result
+    (interrupts_shown c.self.inside.stacks (edges_of c.self.inside.edges.tellings) c.args.self.now c.args.task c.self.view_is)
+    (low c.self.inside.stacks (edges_of c.self.inside.edges.tellings) c.args.self.now c.args.task (plain_lock c.args.lock) c.held-held.result.now c.start-start.result
     c.self.view_is c.held-held.ensures.held (c.start-start.ensures ∙ ap start_now c.context.ensures) c.in-Some.place c.in-Some.ensures.place c.in-Some.ensures.last)
 
 pub take_out-requires-clause-held : goal.take_out-requires-clause-held
 take_out-requires-clause-held c =
     subst (λ n. c.start-start.result + c.in-Some.place < n)
     (sym (length-map (get_or c.self.inside.stacks c.args.task empty_stack).held hold_of)
-    ∙ ap length (holds_shown c.self.inside.stacks c.self.inside.edges.edges c.args.self.now c.args.task c.self.view_is))
-    (high c.self.inside.stacks c.self.inside.edges.edges c.args.self.now c.args.task (plain_lock c.args.lock) c.held-held.result.now c.start-start.result
+    ∙ ap length (holds_shown c.self.inside.stacks (edges_of c.self.inside.edges.tellings) c.args.self.now c.args.task c.self.view_is))
+    (high c.self.inside.stacks (edges_of c.self.inside.edges.tellings) c.args.self.now c.args.task (plain_lock c.args.lock) c.held-held.result.now c.start-start.result
     c.self.view_is c.held-held.ensures.held (c.start-start.ensures ∙ ap start_now c.context.ensures) c.in-Some.place c.in-Some.ensures.place c.in-Some.ensures.last)
 
 pub returns-clause-held : goal.returns-clause-held
 returns-clause-held c =
-    was_held c.self.inside.stacks c.self.inside.edges.edges c.args.self.now c.args.task (plain_lock c.args.lock) c.held-held.result.now c.start-start.result
+    was_held c.self.inside.stacks (edges_of c.self.inside.edges.tellings) c.args.self.now c.args.task (plain_lock c.args.lock) c.held-held.result.now c.start-start.result
     c.self.view_is c.held-held.ensures.held (c.start-start.ensures ∙ ap start_now c.context.ensures) c.in-Some.place c.in-Some.ensures.place c.in-Some.ensures.last
 
 pub returns-clause-stacks : goal.returns-clause-stacks
 returns-clause-stacks c =
     c.take_out.ensures
     ∙ ap (λ hs. record c.args.self.now { stacks = set c.args.self.now.stacks c.args.task hs })
-    (sym (cut_shown c.self.inside.stacks c.self.inside.edges.edges c.args.self.now c.args.task c.self.view_is (c.start-start.result + c.in-Some.place))
-    ∙ gone c.self.inside.stacks c.self.inside.edges.edges c.args.self.now c.args.task (plain_lock c.args.lock) c.held-held.result.now c.start-start.result
+    (sym (cut_shown c.self.inside.stacks (edges_of c.self.inside.edges.tellings) c.args.self.now c.args.task c.self.view_is (c.start-start.result + c.in-Some.place))
+    ∙ gone c.self.inside.stacks (edges_of c.self.inside.edges.tellings) c.args.self.now c.args.task (plain_lock c.args.lock) c.held-held.result.now c.start-start.result
     c.self.view_is c.held-held.ensures.held (c.start-start.ensures ∙ ap start_now c.context.ensures) c.in-Some.place c.in-Some.ensures.place c.in-Some.ensures.last)

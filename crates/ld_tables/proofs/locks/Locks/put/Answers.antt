@@ -1,5 +1,6 @@
 use Rattle.std.proofs.Common.{◌∷◌, [], ◌++◌, List, None, get_or, sym, ap, subst, ◌∙◌, refl, take, arith}
 use Rattle.std.proofs.lemmas.List.{map-append}
+use Rattle.ld_tables.specs.Inner.Edges.{edges_of}
 use Rattle.ld_tables.specs.Inner.Stacks.{PlainHeld, empty_stack}
 use Rattle.ld_trace.specs.Events.{plain_lock}
 use Rattle.ld_tables.specs.Inner.Chains.{chains_of}
@@ -12,19 +13,19 @@ invariant_of-self c = record {
   tied =
       let held : PlainHeld = record { lock = plain_lock c.args.lock; class = c.args.class; chain = None } in
       let chains = chains_of c.self.inside.chains.links in
-      subst (λ ss. AreTied ss chains c.self.inside.told c.self.inside.edges.edges) (sym c.push.ensures)
-      (tied_push c.self.inside.stacks chains c.self.inside.told c.self.inside.edges.edges c.self.invariant.tied c.args.task held
-      (within_shown c.self.inside.stacks c.self.inside.edges.edges c.args.self.now c.args.task c.self.view_is c.requires.task) chains
+      subst (λ ss. AreTied ss chains c.self.inside.told (edges_of c.self.inside.edges.tellings)) (sym c.push.ensures)
+      (tied_push c.self.inside.stacks chains c.self.inside.told (edges_of c.self.inside.edges.tellings) c.self.invariant.tied c.args.task held
+      (within_shown c.self.inside.stacks (edges_of c.self.inside.edges.tellings) c.args.self.now c.args.task c.self.view_is c.requires.task) chains
       (record { more = omega arith; kept = λ n within. refl }) tt);
   start = c.self.invariant.start;
-  numbered = c.self.invariant.numbered;
+  masked = c.self.invariant.masked;
 }
 
 pub returns : goal.returns
 returns c =
     let held : PlainHeld = record { lock = plain_lock c.args.lock; class = c.args.class; chain = None } in
     let before = (get_or c.self.inside.stacks c.args.task empty_stack).held in
-    ap (λ ss. held_by_tasks ss c.self.inside.edges.edges (take c.self.inside.before.edges c.self.inside.edges.edges)) c.push.ensures
-    ∙ shown_held c.self.inside.stacks c.self.inside.edges.edges c.args.self.now c.args.task c.self.view_is (before ++ held ∷ []) (get_or c.args.self.now.stacks c.args.task [] ++ hold_of held ∷ [])
+    ap (λ ss. held_by_tasks ss (edges_of c.self.inside.edges.tellings) (edges_of (take c.self.inside.before.edges c.self.inside.edges.tellings))) c.push.ensures
+    ∙ shown_held c.self.inside.stacks (edges_of c.self.inside.edges.tellings) c.args.self.now c.args.task c.self.view_is (before ++ held ∷ []) (get_or c.args.self.now.stacks c.args.task [] ++ hold_of held ∷ [])
     (map-append hold_of before (held ∷ []) ∙ ap (λ (hs : List Hold). hs ++ hold_of held ∷ [])
     (sym (holds_at c.self.inside.stacks c.args.task) ∙ ap (λ k. get_or k.stacks c.args.task []) c.self.view_is))

@@ -1,4 +1,5 @@
 use Rattle.std.proofs.Common.{get_or, map, sym, subst}
+use Rattle.ld_tables.specs.Inner.Edges.{edges_of}
 use Rattle.ld_tables.specs.Inner.Interrupts.{IsSet, fresh, is_on}
 use Rattle.ld_tables.specs.Inner.Locks.{AreChainedIn}
 use Rattle.ld_tables.specs.Inner.Stacks.{PlainStack, empty_stack}
@@ -10,23 +11,23 @@ pub invariant_of-self : goal.invariant_of-self
 invariant_of-self c = record {
   tied =
       tied_moved c.self.inside.stacks c.args.task (get_or c.set.new.self c.args.task empty_stack).interrupts c.set.new.self c.set.ensures.changed
-      (chains_of c.self.inside.chains.links) c.self.inside.told c.self.inside.edges.edges c.self.invariant.tied
-      (within_shown c.self.inside.stacks c.self.inside.edges.edges c.args.self.now c.args.task c.self.view_is c.requires.task)
+      (chains_of c.self.inside.chains.links) c.self.inside.told (edges_of c.self.inside.edges.tellings) c.self.invariant.tied
+      (within_shown c.self.inside.stacks (edges_of c.self.inside.edges.tellings) c.args.self.now c.args.task c.self.view_is c.requires.task)
       (subst (AreChainedIn (chains_of c.self.inside.chains.links) (get_or c.self.inside.stacks c.args.task empty_stack).held)
       (sym c.set.ensures.set.starts) (c.self.invariant.tied.chained c.args.task));
   start = c.self.invariant.start;
-  numbered = c.self.invariant.numbered;
+  masked = c.self.invariant.masked;
 }
 
 pub returns-clause-moved : goal.returns-clause-moved
-returns-clause-moved c = moved_is c.self.inside.stacks c.args.task (get_or c.set.new.self c.args.task empty_stack).interrupts c.set.new.self c.set.ensures.changed c.self.inside.edges.edges c.args.self.now c.self.view_is
+returns-clause-moved c = moved_is c.self.inside.stacks c.args.task (get_or c.set.new.self c.args.task empty_stack).interrupts c.set.new.self c.set.ensures.changed (edges_of c.self.inside.edges.tellings) c.args.self.now c.self.view_is
 
 pub returns-clause-set : goal.returns-clause-set
 returns-clause-set c =
     shown_as (IsSet c.args.state (is_on c.args.flag)) (get_or c.self.inside.stacks c.args.task empty_stack).interrupts
     (get_or c.args.self.now.interrupts c.args.task fresh) (get_or c.set.new.self c.args.task empty_stack).interrupts
     (get_or (map (λ (s : PlainStack). s.interrupts) c.set.new.self) c.args.task fresh)
-    (interrupts_shown c.self.inside.stacks c.self.inside.edges.edges c.args.self.now c.args.task c.self.view_is)
+    (interrupts_shown c.self.inside.stacks (edges_of c.self.inside.edges.tellings) c.args.self.now c.args.task c.self.view_is)
     (moved_to c.self.inside.stacks c.args.task (get_or c.set.new.self c.args.task empty_stack).interrupts c.set.new.self c.set.ensures.changed
-    (within_shown c.self.inside.stacks c.self.inside.edges.edges c.args.self.now c.args.task c.self.view_is c.requires.task))
+    (within_shown c.self.inside.stacks (edges_of c.self.inside.edges.tellings) c.args.self.now c.args.task c.self.view_is c.requires.task))
     c.set.ensures.set

@@ -1,19 +1,19 @@
 use Rattle.std.proofs.Common.{ap, ◌∙◌, take, arith}
 use Rattle.std.proofs.lemmas.List.{take-take}
-use Rattle.ld_tables.specs.Inner.Edges.{KeptEdges}
+use Rattle.ld_tables.specs.Inner.Edges.{KeptEdges, edges_of}
 use Rattle.ld_tables.specs.Inner.Locks.{HeldByTasks}
 use Rattle.ld_tables.proofs.BeforeLemmas.{none_shown, undone}
 use Rattle.ld_tables.proofs.locks.Locks.undo.Goals as goal
 
 pub invariant_of-self : goal.invariant_of-self
 invariant_of-self c =
-    undone c.self.inside.before c.self.inside.chains c.self.inside.told c.self.inside.edges c.self.invariant.start c.self.invariant.numbered
+    undone c.self.inside.before c.self.inside.chains c.self.inside.told c.self.inside.edges c.self.invariant.start c.self.invariant.masked
     c.begin.new.self c.cut-2.new.self c.cut.new.self c.begin.ensures c.cut-2.ensures c.cut.ensures
 
 pub returns : goal.returns
 returns c =
     let before = ap (λ (k : HeldByTasks). k.before) c.self.view_is in
-    let cut = ap (λ (k : KeptEdges). k.edges) c.cut.ensures in
-    none_shown c.begin.new.self c.cut.new.self.edges (take c.self.inside.before.edges c.cut.new.self.edges) c.args.self.now.before c.args.self.now.before c.begin.ensures
-    (cut ∙ before)
-    (ap (take c.self.inside.before.edges) cut ∙ take-take c.self.inside.before.edges c.self.inside.before.edges c.self.inside.edges.edges (omega arith) ∙ before)
+    let cut = ap (λ (k : KeptEdges). k.tellings) c.cut.ensures in
+    none_shown c.begin.new.self (edges_of c.cut.new.self.tellings) (edges_of (take c.self.inside.before.edges c.cut.new.self.tellings)) c.args.self.now.before c.args.self.now.before c.begin.ensures
+    (ap edges_of cut ∙ before)
+    (ap edges_of (ap (take c.self.inside.before.edges) cut ∙ take-take c.self.inside.before.edges c.self.inside.before.edges c.self.inside.edges.tellings (omega arith)) ∙ before)

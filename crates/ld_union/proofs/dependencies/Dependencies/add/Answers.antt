@@ -1,76 +1,107 @@
-use Rattle.std.proofs.Common.{rules, ◌≡◌, ◌+◌, ◌-◌, ◌<◌, ◌≤◌, ◌∙◌, List, ap, arith, get_or, length, subst, sym, take}
-use Rattle.std.proofs.lemmas.List.{length-take}
-use Rattle.std.proofs.Math.Seq.{take-length}
-use Rattle.ld_class.specs.Names.{no_class}
+use Rattle.std.proofs.Common.{◌≡◌, ◌+◌, ◌<◌, ◌≤◌, ◌++◌, All, List, ℕ, ap, arith, drop, get_or, length, map, subst, sym, vec_capacity, vec_len, ◌∙◌}
+use Rattle.std.proofs.lemmas.List.{at_drop_more, drop_all}
+use Rattle.std.proofs.Math.ListN.{length-append}
 use Rattle.ld_shown.specs.declared.rows.WitnessedEdge.{WitnessedEdge}
+use Rattle.ld_shown.specs.declared.rows.WitnessedWord.{WitnessedWord}
 use Rattle.ld_shown.specs.Batch.{named_dependency}
-use Rattle.ld_rules.specs.Dependency.{Dependency, same_dependency}
-use Rattle.ld_union.specs.Inner.Union.{AreWitnessed, earlier_of, edges_of, named_edge}
-use Rattle.ld_union.proofs.ReachedLemmas.{further-same, further-then}
-use Rattle.ld_union.proofs.SeenLemmas.{all_noted, dependencies_once, none_noted, one_noted}
-use Rattle.ld_union.proofs.UnionLemmas.{length_rows, same_dependency-true}
+use Rattle.ld_shown.specs.Inner.Rows.{edges_in, edges_of}
+use Rattle.ld_union.specs.declared.dependencies.Dependencies.{Dependencies}
+use Rattle.ld_union.specs.Inner.Noted.{AreNoted, IsNoting, IsPlaced, placed_dependency, with_all}
+use Rattle.ld_union.specs.Inner.Union.{AreWitnessed, earlier_of}
+use Rattle.ld_union.proofs.NotedLemmas.{All-first, All_left, all_once, noting_all, noting_none, noting_then, room_edges, room_rows, same_names}
+use Rattle.ld_union.proofs.SeenLemmas.{dependencies_once}
 use Rattle.ld_union.proofs.dependencies.Dependencies.add.Goals as goal
 
-abbrev no_edge : WitnessedEdge
-no_edge = record { from = 0; to = 0; witness = record { number = 0; line = 0 } }
+abbrev no_word : WitnessedWord
+no_word = record { number = 0; block = 0; to = 0; bits = 0; witness = record { number = 0; line = 0 } }
 
-pub loop-seen-init : goal.loop-seen-init
-loop-seen-init c = record {
-  count = search rules;
-  spare_edges = search rules;
-  spare_rows = search rules;
-  front = let rows = c.args.self.now.rows.items in ap (λ n. take n (edges_of rows)) (length_rows rows) ∙ take-length (edges_of rows);
-  further = further-same c.args.self.now.reach;
-  exact = λ state seeds is. is;
-  closing = λ was. was;
-  numbered = λ classes same numbered. numbered;
-  witnesses = λ classes same numbered places first witnessed. subst (AreWitnessed classes c.args.self.now.rows.items)
-      (λ i what. none_noted same_dependency same_dependency-true (named_dependency c.args.batch.now.classes) c.args.batch.now.edges (first what) what i) witnessed;
-}
+-- Some words are left.
+module _ (by places : List ℕ) (words : List WitnessedWord) (i : ℕ) (within : i < length words) where
+  abbrev word : WitnessedWord
+  word = get_or words i no_word
 
-pub loop-seen-preserved : goal.loop-seen-preserved
-loop-seen-preserved c =
-    let batch = c.args.batch.now in
-    let exact = c.edges-seen-items.ensures.exact in
-    let i = c.loop-seen.seen-index in
-    let here : i < length batch.edges = subst (λ (edges : List WitnessedEdge). i < length edges) c.edges-seen-items.ensures.same c.loop-seen-test.true in
+  abbrev behind : List WitnessedEdge
+  behind = edges_of by (drop (i + 1) words)
+
+  split : edges_of by (drop i words) ≡ edges_in by word ++ behind
+  split = at_drop_more (edges_of by) words i no_word within
+
+  module _ (old now : Dependencies) (so_far : IsNoting places (edges_of by words) (edges_of by (drop i words)) old now) where
+    placed : All (IsPlaced places) (edges_of by words) → All (IsPlaced places) (edges_in by word)
+    placed all = All-first (IsPlaced places) (edges_in by word) behind
+        (subst (All (IsPlaced places)) split (All_left places (edges_of by words) old (edges_of by (drop i words)) now so_far (IsPlaced places) all))
+
+    many : length (edges_of by (drop i words)) ≡ length (edges_in by word) + length behind
+    many = ap length split ∙ length-append (edges_in by word) behind
+
+    next : (new : Dependencies) → AreNoted places (edges_in by word) now new → IsNoting places (edges_of by words) behind old new
+    next new noted = noting_then places (edges_of by words) old (edges_in by word) behind now new
+        (subst (λ edges. IsNoting places (edges_of by words) edges old now) split so_far) noted
+
+pub loop-word-init : goal.loop-word-init
+loop-word-init c = noting_none c.args.places.now (edges_of c.words-words.result.places.now c.words-words.result.words.now) c.args.self.now
+
+pub note_word-requires-clause-within : goal.note_word-requires-clause-within
+note_word-requires-clause-within c = subst (λ n. All (λ place. place < n) c.args.places.now) (sym c.loop-word.invariant.noted.classes) c.requires.within
+
+pub note_word-requires-clause-low : goal.note_word-requires-clause-low
+note_word-requires-clause-low c = c.words-words.ensures.low c.loop-word.word-index no_word c.loop-word-test.true
+
+pub note_word-requires-clause-placed : goal.note_word-requires-clause-placed
+note_word-requires-clause-placed c =
     let places = c.args.places.now in
-    let told : WitnessedEdge = get_or c.edges-seen-items.result.now i no_edge in
-    let same_told : told ≡ get_or batch.edges i no_edge = ap (λ (edges : List WitnessedEdge). get_or edges i no_edge) c.edges-seen-items.ensures.same in
-    let within : (told.from < length batch.classes) × (told.to < length batch.classes) =
-    subst (λ (edge : WitnessedEdge). (edge.from < length batch.classes) × (edge.to < length batch.classes)) (sym same_told) (exact.within i no_edge here) in
-    let left : length batch.edges - i ≡ (length batch.edges - (i + 1)) + 1 = omega arith in
-    record {
-      count = search rules;
-      spare_edges = omega (arith, c.loop-seen.invariant.spare_edges, c.note.ensures.spare_edges);
-      spare_rows = c.note.ensures.spare_rows (length batch.edges - (i + 1)) (omega (arith, c.loop-seen.invariant.spare_rows, left));
-      front =
-          let old = c.args.self.now.rows.items in
-          c.note.ensures.front (length old)
-          (omega (arith, ap length c.loop-seen.invariant.front, length-take (length old) (edges_of c.loop-seen.self.rows.items), length_rows old, length_rows c.loop-seen.self.rows.items))
-          ∙ c.loop-seen.invariant.front;
-      further = further-then c.args.self.now.reach c.loop-seen.self.reach c.note.new.self.reach c.loop-seen.invariant.further c.note.ensures.further;
-      exact = λ state seeds is. c.note.ensures.exact state seeds (c.loop-seen.invariant.exact state seeds is);
-      closing = λ was. c.note.ensures.closing (c.loop-seen.invariant.closing was);
-      numbered = λ classes same numbered. c.note.ensures.numbered classes (same ∙ sym c.loop-seen.invariant.count) (c.loop-seen.invariant.numbered classes same numbered);
-      witnesses = λ classes same numbered are first witnessed.
-          let seen : Dependency = named_edge classes (record { from = get_or places told.from 0; to = get_or places told.to 0 }) in
-          let same_seen : seen ≡ (named_dependency batch.classes (get_or batch.edges i no_edge)).what = λ j. record {
-            from = ((are.each told.from within.0).1 ∙ ap (λ (edge : WitnessedEdge). get_or batch.classes edge.from no_class) same_told) j;
-            to = ((are.each told.to within.1).1 ∙ ap (λ (edge : WitnessedEdge). get_or batch.classes edge.to no_class) same_told) j;
-          } in
-          subst (AreWitnessed classes c.note.new.self.rows.items)
-          (λ j what. one_noted same_dependency same_dependency-true (named_dependency batch.classes) batch.edges
-          (dependencies_once batch exact) i no_edge here (first what) what seen told.witness (ap (λ (edge : WitnessedEdge). edge.witness) same_told) same_seen j)
-          (c.note.ensures.noted classes (same ∙ sym c.loop-seen.invariant.count) (c.loop-seen.invariant.numbered classes same numbered) _
-          (c.loop-seen.invariant.witnesses classes same numbered are first witnessed));
-    }
-
-pub returns-clause-witnesses : goal.returns-clause-witnesses
-returns-clause-witnesses c classes same numbered are first witnessed =
     let batch = c.args.batch.now in
-    let past : length batch.edges ≤ c.loop-seen.seen-index = subst (λ (edges : List WitnessedEdge). length edges ≤ c.loop-seen.seen-index) c.edges-seen-items.ensures.same c.loop-seen-test.false in
-    subst (AreWitnessed classes c.loop-seen.self.rows.items)
-    (λ j what. (all_noted same_dependency same_dependency-true (named_dependency batch.classes) batch.edges (first what) c.loop-seen.seen-index what past
-    ∙ ap (earlier_of (first what)) (c.edges-seen-items.ensures.exact.edges what)) j)
-    (c.loop-seen.invariant.witnesses classes same numbered are first witnessed)
+    placed c.words-words.result.places.now places c.words-words.result.words.now c.loop-word.word-index c.loop-word-test.true c.args.self.now c.loop-word.self c.loop-word.invariant
+    (subst (All (IsPlaced places)) (sym c.words-words.ensures.same)
+    (subst (λ n. All (λ (e : WitnessedEdge). (e.from < n) × (e.to < n)) batch.edges) (sym c.requires.count) c.words-words.ensures.exact.within))
+
+pub note_word-requires-clause-spare_edges : goal.note_word-requires-clause-spare_edges
+note_word-requires-clause-spare_edges c =
+    let by = c.words-words.result.places.now in
+    let words = c.words-words.result.words.now in
+    let i = c.loop-word.word-index in
+    let few = subst (λ (edges : List WitnessedEdge). length edges ≤ c.args.self.now.graph.spare_edges) (sym c.words-words.ensures.same) c.requires.spare_edges in
+    let room = room_edges c.args.places.now (edges_of by words) c.args.self.now (edges_of by (drop i words)) c.loop-word.self c.loop-word.invariant few in
+    omega (arith, room, many by c.args.places.now words i c.loop-word-test.true c.args.self.now c.loop-word.self c.loop-word.invariant)
+
+pub note_word-requires-clause-spare_rows : goal.note_word-requires-clause-spare_rows
+note_word-requires-clause-spare_rows c =
+    let by = c.words-words.result.places.now in
+    let words = c.words-words.result.words.now in
+    let i = c.loop-word.word-index in
+    let few : vec_len c.args.self.now.rows + length (edges_of by words) ≤ vec_capacity c.args.self.now.rows = omega (arith, c.requires.spare_rows, ap length c.words-words.ensures.same) in
+    let room = room_rows c.args.places.now (edges_of by words) c.args.self.now (edges_of by (drop i words)) c.loop-word.self c.loop-word.invariant few in
+    omega (arith, room, many by c.args.places.now words i c.loop-word-test.true c.args.self.now c.loop-word.self c.loop-word.invariant)
+
+pub loop-word-preserved : goal.loop-word-preserved
+loop-word-preserved c =
+    next c.words-words.result.places.now c.args.places.now c.words-words.result.words.now c.loop-word.word-index c.loop-word-test.true c.args.self.now c.loop-word.self c.loop-word.invariant
+    c.note_word.new.self c.note_word.ensures
+
+pub returns : goal.returns
+returns c =
+    let by = c.words-words.result.places.now in
+    let words = c.words-words.result.words.now in
+    let places = c.args.places.now in
+    let batch = c.args.batch.now in
+    let old = c.args.self.now in
+    let new = c.loop-word.self in
+    let exact = c.words-words.ensures.exact in
+    let noted : AreNoted places (edges_of by words) old new = noting_all places (edges_of by words) old new
+    (subst (λ these. IsNoting places (edges_of by words) (edges_of by these) old new) (drop_all c.loop-word.word-index words c.loop-word-test.false) c.loop-word.invariant) in
+    record {
+      known = exact;
+      classes = noted.classes;
+      front = noted.front;
+      further = noted.further;
+      exact = noted.exact;
+      closing = noted.closing;
+      numbered = noted.numbered;
+      witnesses = λ classes same between are first witnessed.
+          subst (AreWitnessed classes new.rows.items)
+          (λ j what. (ap (λ edges. with_all first (map (placed_dependency classes places) edges) what) c.words-words.ensures.same
+          ∙ ap (λ met. with_all first met what) (same_names classes batch.classes places are batch.edges exact.within)
+          ∙ all_once (named_dependency batch.classes) batch.edges (dependencies_once batch exact) first what
+          ∙ ap (earlier_of (first what)) (exact.edges what)) j)
+          (noted.witnesses classes same between first witnessed);
+    }

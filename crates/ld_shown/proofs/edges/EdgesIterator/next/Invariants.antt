@@ -1,0 +1,13 @@
+use Rattle.std.proofs.Common.{◌≡◌, ◌<◌, ◌∷◌, All, length}
+use Rattle.ld_shown.specs.declared.rows.WitnessedWord.{WitnessedWord}
+use Rattle.ld_shown.specs.Inner.Rows.{edges_of}
+use Rattle.ld_shown.proofs.edges.EdgesIterator.next.Given as goal
+
+abbrev pub invariant-loop-word : goal.invariant-loop-word
+invariant-loop-word l = record {
+  same : edges_of l.self-inside.all.places.now (l.word ∷ l.words) ≡ l.fn.self;
+  low : All (λ (w : WitnessedWord). w.block < 67108864) (l.word ∷ l.words);
+}
+
+abbrev pub decreases-loop-word : goal.decreases-loop-word
+decreases-loop-word l = length l.words
