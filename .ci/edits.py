@@ -18,8 +18,10 @@ ANEW = "(goals of this function are named anew)"
 MOST = 16
 # What is said where a proof file names what an edit took away.
 NAMES = re.compile(r"has no field|is not in scope|has no `|was not admitted")
-# A goal of such a function may be open for the sake of another one, so it is nothing that an edit of it shows.
-RESTS = re.compile(r"it calls `|which antt refuses")
+# Nothing is told of the goals of such a function.
+UNTOLD = "which antt refuses"
+# Such a function calls one that isn't proved.
+RESTS = "it calls `"
 
 
 class Wrong(Exception):
@@ -220,7 +222,11 @@ def weight(goal):
 
 class Said:
     """What `rt check --allow-holes` said of some edits: the goals that each left open in its own functions,
-    what is wrong by a name alone, and the goals of functions that none of them changes."""
+    what is wrong by a name alone, and the goals of functions that none of them changes.
+
+    A goal knows of the functions that are called what their contracts say, be they proved or not. That this is so
+    is seen of the functions that no edit changes: where one of them calls a function that isn't proved, and has an
+    open goal, none counts that is of a caller of such a function."""
 
     def __init__(self, edits, status, text):
         self.edits, self.text = edits, text
@@ -230,23 +236,29 @@ class Said:
         uncompiled = [] if self.has_ended else UNCOMPILED.findall(text)
         self.is_uncompiled = bool(uncompiled)
         self.uncompiled = [it for it in edits if any(it.has(file, int(line) - 1) for file, line in uncompiled)]
-        notes, errors = [], []
+        notes, errors, self.resting = [], [], []
         for line in text.splitlines():
             if note := OPEN.match(line):
                 notes.append(note.groups())
             elif error := ERROR.match(line):
                 errors.append(error.groups())
             elif function := re.match(r"fn (\S+): (.*)", line):
-                self.add_notes(notes if not RESTS.search(function[2]) else [])
+                self.add_notes(notes if UNTOLD not in function[2] else [], RESTS in function[2])
                 notes = []
-        self.add_notes(notes)
+        self.add_notes(notes, False)
+        self.is_alone = not all(owners for owners, _ in self.resting)
+        for owners, goal in self.resting if not self.is_alone else []:
+            self.add(owners, self.goals, goal, True)
         for error in errors:
             self.add_error(*error)
 
-    def add_notes(self, notes):
+    def add_notes(self, notes, rests):
         for file, line, why in notes:
-            owners = [it for it in self.edits if it.has(file, int(line) - 1)]
-            self.add(owners, self.goals, f"{file}:{line}: {why}", False)
+            owners, goal = [it for it in self.edits if it.has(file, int(line) - 1)], f"{file}:{line}: {why}"
+            if rests:
+                self.resting.append((owners, goal))
+            else:
+                self.add(owners, self.goals, goal, False)
 
     def add_error(self, part, path, line, why):
         owners = [it for it in self.edits if part == "proofs" and it.has_proofs(path)]

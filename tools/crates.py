@@ -63,8 +63,10 @@ class Copy:
 
     def begin_with_kept(self, crate):
         """Begins with what `rt` kept of the crate in the tree, where there is something and no `rt` changes it
-        meanwhile. What has changed since is proved anew. A gate that runs puts it aside until its end."""
-        kept = next(filter(os.path.isdir, (f"{ROOT}/crates/{crate}/out", f"{ROOT}/.git/rt-aside/{crate}")), "")
+        meanwhile. What has changed since is proved anew. A gate that runs puts it aside until its end, and keeps
+        nothing of its own that a check can begin with."""
+        folders = filter(os.path.isdir, (f"{ROOT}/crates/{crate}/out", f"{ROOT}/.git/rt-aside/{crate}"))
+        kept = min(folders, key=lambda it: not os.path.isdir(f"{it}/incremental"), default="")
         before = listing(kept)
         with contextlib.suppress(OSError):
             for part in ("incremental", "rlib"):
