@@ -78,6 +78,15 @@ fn has_edge(batch: &Batch<'_>, edge: WitnessedEdge) -> bool {
     false
 }
 
+/// How many dependencies the batch has.
+fn edge_count(batch: &Batch<'_>) -> usize {
+    let mut count: usize = 0;
+    for _ in batch.edges() {
+        count = count.saturating_add(1);
+    }
+    count
+}
+
 /// Asserts that the batch has these lists.
 fn assert_lists<R: Abort>(
     rt: &R,
@@ -93,7 +102,7 @@ fn assert_lists<R: Abort>(
             ClassName { name, sub: 0 }
         );
     }
-    assert_eq!(rt; batch.edges().count(), edges.len());
+    assert_eq!(rt; edge_count(batch), edges.len());
     for edge in edges {
         assert!(rt; has_edge(batch, *edge));
     }
@@ -157,7 +166,7 @@ fn fourteen_traces_are_pushed(rt: HostRuntime) -> Result<(), Fail> {
     let sources = sources_of(&rt, &stream);
     let batch = batch_of(&rt, &sources);
     assert_eq!(rt; batch.listed().len(), 14);
-    assert_eq!(rt; batch.edges().count(), 1);
+    assert_eq!(rt; edge_count(&batch), 1);
     assert!(rt; has_edge(&batch, edge(0, 1, 0, 3)));
     drop(batch);
     Ok(())
