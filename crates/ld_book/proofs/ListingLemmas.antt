@@ -8,8 +8,8 @@ use Rattle.std.specs.List.{list_any}
 use Rattle.ld_class.proofs.Mapped.{list_any-map}
 use Rattle.ld_trace.specs.Sources.{PlainSource, plain}
 use Rattle.ld_rules.specs.declared.outcome.Listed.{Listed}
+use Rattle.ld_rules.proofs.SameLemmas.{fails_each}
 use Rattle.ld_facts.specs.Outcome.{outcome}
-use Rattle.ld_shown.proofs.MetLemmas.{fails_at}
 use Rattle.ld_shown.specs.Batch.{sources_of}
 use Rattle.ld_book.specs.Book.{is_any_listed, is_listed}
 use Rattle.ld_book.specs.Totals.{event_count, events_read, is_refused, refused_count}
@@ -48,7 +48,7 @@ fresh_next sources more i d here fresh apart =
     ∙ (λ j. among j || before j)
   where
     among : is_listed sources (get_or more i d).number ≡ false
-    among = fails_at (λ source. is_listed sources source.number) more fresh i d here
+    among = fails_each (λ source. is_listed sources source.number) more fresh i d here
 
     before : list_any (λ source. nat_eq (get_or more i d).number source.number) (take i more) ≡ false
     before = list_any_none (λ source. nat_eq (get_or more i d).number source.number) (take i more) (λ k e within. false_from_ne_true _ (λ same.

@@ -224,7 +224,7 @@ module _ {start : Start} (all : List Position) (old : Scan) (is : IsAt start all
     edges-told waits test =
         let named = named_dependency new.classes in
         let in_turn = fold with_edge_fact new.locks.edges (map (edge_to number line) froms) in
-        sym (same-map named in_turn told.edges tells.told test)
+        sym (same-map named in_turn told.edges tells.told.told test)
         ∙ ap (list_any test) (tell-named new.classes distinct new.locks.edges line number froms within-now enters.class.0 (holds-within new.classes inner inner-within)
         ∙ ap (fold (with_new same_dependency_seen) (map named new.locks.edges)) (told-now waits))
         ∙ same-fold same_dependency_seen (map named new.locks.edges) (edges_after start all) (seen_at dependencies_at (events all) line (Ok event)) edges-now test
@@ -234,10 +234,10 @@ module _ {start : Start} (all : List Position) (old : Scan) (is : IsAt start all
     first-told =
         let named = named_dependency new.classes in
         take-first start.edges (map named new.locks.edges) (map named told.edges) first-now
-        (ap (λ n. take n (map named told.edges)) (length-map new.locks.edges named) ∙ take-map named (length new.locks.edges) told.edges ∙ ap (map named) tells.first)
+        (ap (λ n. take n (map named told.edges)) (length-map new.locks.edges named) ∙ take-map named (length new.locks.edges) told.edges ∙ ap (map named) tells.told.first)
 
     within-told : All (IsBetween new.classes) told.edges
-    within-told = within-same new.classes (fold with_edge_fact new.locks.edges (map (edge_to number line) froms)) told.edges tells.told
+    within-told = within-same new.classes (fold with_edge_fact new.locks.edges (map (edge_to number line) froms)) told.edges tells.told.told
         (within-tell new.classes new.locks.edges line number froms within-now enters.class.0 (holds-within new.classes inner inner-within))
 
   edges-untold : class_awaited event ≡ None → AreSame (map (named_dependency new.classes) new.locks.edges) (edges_after start (all ++ happens line event ∷ []))
@@ -388,7 +388,7 @@ module _ {start : Start} (all : List Position) (old : Scan) (is : IsAt start all
       let awaits = class-awaited name lock how waits_for in
       let told = waiting.locks in
       subst (λ (scan : Scan). IsAt start (all ++ happens line event ∷ []) (taken scan id number lock line)) (sym waited-is)
-      (acquired-by told.edges (fold with_use (fold with_use new.uses ins) ons) room (edges-told told has.told awaits) (first-told told has.told) (has.told.once once-now)
+      (acquired-by told.edges (fold with_use (fold with_use new.uses ins) ons) room (edges-told told has.told awaits) (first-told told has.told) (has.told.told.once once-now)
       (within-told told has.told) (uses-acquired awaits)
       (uses-within new.classes (fold with_use new.uses ins) ons (uses-within new.classes new.uses ins used-now ins-within) ons-within))
     where

@@ -1,5 +1,5 @@
 -- The rows of a batch by words.
-use Rattle.std.proofs.Common.{◌≡◌, ◌+◌, ◌<◌, ◌++◌, ◌∷◌, [], ◌||◌, All, Bool, true, false, List, ℕ, ap, arith, cond, drop, flat_map, get_or, length, map, nat_eq, not, refl, subst, sym, take, ◌∙◌}
+use Rattle.std.proofs.Common.{◌≡◌, ◌+◌, ◌++◌, ◌∷◌, [], ◌||◌, All, Bool, true, false, List, ℕ, ap, arith, cond, drop, flat_map, get_or, length, map, nat_eq, not, refl, subst, sym, take, ◌∙◌}
 use Rattle.std.proofs.lemmas.Bool.{true≢false}
 use Rattle.std.proofs.lemmas.List.{get_or_append_left, map-append, take-append-drop}
 use Rattle.std.proofs.lemmas.List.Concat.{flat_map-append}
@@ -8,7 +8,7 @@ use Rattle.std.proofs.Math.ListN.{length-append}
 use Rattle.std.proofs.Math.Seq.{drop-append_seam}
 use Rattle.std.proofs.lemmas.Simd.{map-map}
 use Rattle.std.specs.List.{list_any}
-use Rattle.ld_class.specs.Blocks.{classes_in}
+use Rattle.ld_class.specs.Blocks.{IsBlock, classes_in}
 use Rattle.ld_shown.specs.declared.rows.WitnessedEdge.{WitnessedEdge}
 use Rattle.ld_shown.specs.declared.rows.WitnessedWord.{WitnessedWord}
 use Rattle.ld_shown.specs.Inner.Rows as lent
@@ -78,18 +78,18 @@ module _ (old new : List ℕ) (front : take (length old) new ≡ old) where
   }
 
   -- and with more rows, all are of these numbers
-  pub own-words : (words : List WitnessedWord) (number : ℕ) (tellings : List Telling) → All (IsOwnWord old) words → All (λ (t : Telling). t.word.block < 67108864) tellings
+  pub own-words : (words : List WitnessedWord) (number : ℕ) (tellings : List Telling) → All (IsOwnWord old) words → All (λ (t : Telling). IsBlock t.word.block) tellings
       → All (IsOwnEdge new) (told.edges_of tellings) → All (IsOwnWord new) (words ++ map (word_of number) tellings)
   own-words words number tellings own low told_own = All-append (IsOwnWord new) words (map (word_of number) tellings) (All-weaker (IsOwnWord old) (IsOwnWord new) own-stays words own) (each tellings low told_own)
     where
-      each : (ts : List Telling) → All (λ (t : Telling). t.word.block < 67108864) ts → All (IsOwnEdge new) (told.edges_of ts) → All (IsOwnWord new) (map (word_of number) ts)
+      each : (ts : List Telling) → All (λ (t : Telling). IsBlock t.word.block) ts → All (IsOwnEdge new) (told.edges_of ts) → All (IsOwnWord new) (map (word_of number) ts)
       each [] low own = All-nil (IsOwnWord new)
       each (t ∷ ts) low own = All-cons (IsOwnWord new) (word_of number t) (map (word_of number) ts)
           (record {
-            low = All-head (λ (t : Telling). t.word.block < 67108864) t ts low;
+            low = All-head (λ (t : Telling). IsBlock t.word.block) t ts low;
             own = all-unmapped (IsOwnEdge new) (told.edge_to t.word.to t.line) (classes_in t.word.block t.bits) (All-first (IsOwnEdge new) (told.edges_in t) (told.edges_of ts) own);
           })
-          (each ts (All-tail (λ (t : Telling). t.word.block < 67108864) t ts low) (All-behind (IsOwnEdge new) (told.edges_in t) (told.edges_of ts) own))
+          (each ts (All-tail (λ (t : Telling). IsBlock t.word.block) t ts low) (All-behind (IsOwnEdge new) (told.edges_in t) (told.edges_of ts) own))
 
 -- Rows by places that are lent are the same.
 pub words-lent : (numbers places : List ℕ) → ((n : ℕ) → list_any (nat_eq n) numbers ≡ true → get_or places n 0 ≡ place_in numbers n) → (words : List WitnessedWord) → All (IsOwnWord numbers) words

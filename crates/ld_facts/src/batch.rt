@@ -1,6 +1,7 @@
 //! `Batch`, which keeps what a few traces show together.
 ghost use Rattle.std.specs.Prelude.{◌≡◌, ◌<◌, ◌≤◌, ◌-◌, ◌*◌, ◌++◌, ◌∷◌, [], None, Some, IfOk, IfSome, OnErr};
 ghost use Rattle.std.specs.Prelude.{All, OnOk, length, slice_index_or};
+ghost use Rattle.ld_class.specs.Blocks.{IsBlock};
 ghost use Rattle.ld_rules.specs.declared.outcome.Listed.{Listed};
 ghost use Rattle.std.specs.List.{last_or};
 ghost use Rattle.ld_trace.specs.Sources.{Fits, plain};
@@ -153,7 +154,7 @@ impl<'a> Batch<'a> {
     /// The same by words.
     fn words(&self) -> Words<'_>
         ensures same { edges_of result.places.now result.words.now ≡ self.now.edges }
-        ensures low { All (λ w. w.block < 67108864) result.words.now }
+        ensures low { All (λ w. IsBlock w.block) result.words.now }
         ensures exact { IsBatch self.now }
     {
         Words {

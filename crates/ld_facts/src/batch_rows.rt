@@ -1,4 +1,5 @@
-//! What a batch keeps of what its traces show, by the places of its classes.
+//! What a batch keeps of what its traces show: usage bits by the places of its classes, words by the numbers that its
+//! scan has for these.
 ghost use Rattle.std.specs.Prelude.{◌≡◌, ◌+◌, ◌<◌, ◌≤◌, ◌++◌, [], All, List, OnErr, OnOk, drop, length, map};
 ghost use Rattle.ld_class.specs.Names.{AreDistinct, PlainClass};
 ghost use Rattle.ld_class.specs.declared.names.TheConstants.{MOST_NAMES};

@@ -20,6 +20,6 @@ pub use batch::Batch;
 pub use bounds::MOST_KNOWN;
 pub use known::Facts;
 pub use ld_rules::{Listed, MOST_CLASSES, MOST_HELD, MOST_TASKS, Outcome, TraceFault, Witness};
-pub use ld_shown::{Guesses, WitnessedEdge, WitnessedUse};
+pub use ld_shown::{Edges, Guesses, WitnessedEdge, WitnessedUse};
 pub use ld_tables::{EdgeFact, UsageFact};
 pub use reading::facts;

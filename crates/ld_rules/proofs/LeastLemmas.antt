@@ -17,10 +17,10 @@ use Rattle.ld_rules.specs.Dependency.{Seen, least_line, seen, seen_at}
 use Rattle.ld_rules.proofs.PlaceLemmas.{find_each_once}
 
 -- what holds of an element and of each later one
-first_pairs : {X : Type 0} (R : X → X → Type 0) (x : X) (xs : List X) → AllPairs R (x ∷ xs) → All (R x) xs
+pub first_pairs : {X : Type 0} (R : X → X → Type 0) (x : X) (xs : List X) → AllPairs R (x ∷ xs) → All (R x) xs
 first_pairs R x xs pairs k d within = pairs 0 (suc k) d (omega arith) (omega arith)
 
-later_pairs : {X : Type 0} (R : X → X → Type 0) (x : X) (xs : List X) → AllPairs R (x ∷ xs) → AllPairs R xs
+pub later_pairs : {X : Type 0} (R : X → X → Type 0) (x : X) (xs : List X) → AllPairs R (x ∷ xs) → AllPairs R xs
 later_pairs R x xs pairs i j d before within = pairs (suc i) (suc j) d (omega arith) (omega arith)
 
 -- A part of a list, by the elements' places.

@@ -1,6 +1,7 @@
 -- Lists with the same things, and lists to which things are added that aren't there yet.
 use Rattle.std.proofs.Common.{◌≡◌, ◌≤◌, ◌++◌, ◌∷◌, [], ◌||◌, All, AllPairs, Bool, true, false, List, ℕ, not, suc, cond, length, get_or, append_assoc, arith}
 use Rattle.std.proofs.Common.{fold, map, refl, ap, sym, subst, ◌∙◌, if◌then◌else◌}
+use Rattle.std.proofs.Math.Bool.{or-false}
 use Rattle.std.proofs.lemmas.Bool.{true≢false}
 use Rattle.std.proofs.lemmas.List.{append-nil}
 use Rattle.std.proofs.lemmas.List.Elements.{All-cons, All-head, All-nil, All-tail}
@@ -18,10 +19,6 @@ fails_each {X} p (x ∷ xs) none = by (p x) refl none (fails_each p xs)
     by : (b : Bool) → p x ≡ b → (b || list_any p xs) ≡ false → (list_any p xs ≡ false → All (λ y. p y ≡ false) xs) → All (λ y. p y ≡ false) (x ∷ xs)
     by true is found rest = absurd (true≢false found)
     by false is found rest = All-cons (λ y. p y ≡ false) x xs is (rest found)
-
-or-false : (b : Bool) → (b || false) ≡ b
-or-false true = refl
-or-false false = refl
 
 pub same-map : {X Y : Type 0} (f : X → Y) (xs ys : List X) → AreSame xs ys → AreSame (map f xs) (map f ys)
 same-map f xs ys same test = list_any-map f test xs ∙ same (λ x. test (f x)) ∙ sym (list_any-map f test ys)

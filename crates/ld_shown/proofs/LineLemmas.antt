@@ -1,5 +1,5 @@
 -- Lists that have each thing once, in whatever order: those with the same elements have a thing at the same line.
-use Rattle.std.proofs.Common.{◌≡◌, ◌==◌, ◌&&◌, ◌||◌, ◌∷◌, [], All, AllPairs, Bool, true, false, cond, List, ℕ, suc, min, Option, Some, None}
+use Rattle.std.proofs.Common.{◌≡◌, ◌==◌, ◌&&◌, ◌||◌, ◌∷◌, [], All, AllPairs, Bool, true, false, cond, List, ℕ, min, Option, Some, None}
 use Rattle.std.proofs.Common.{filter, get_or, map, refl, ap, sym, ◌∙◌, arith, option_map}
 use Rattle.std.proofs.lemmas.Bool.{eq-eqb, eqb-true, false_from_ne_true, true≢false}
 use Rattle.std.proofs.lemmas.List.Elements.{All-head, All-map, All-tail}
@@ -10,14 +10,7 @@ use Rattle.std.specs.Bool.{Decides}
 use Rattle.std.specs.List.{find, list_any, reduce}
 use Rattle.ld_rules.specs.Dependency.{Seen, least_line}
 use Rattle.ld_rules.specs.Inner.Scanned.{AreSame}
-use Rattle.ld_rules.proofs.LeastLemmas.{first_line}
-
--- what holds of an element and of each later one, and of the later ones
-first_pairs : {X : Type 0} (R : X → X → Type 0) (x : X) (xs : List X) → AllPairs R (x ∷ xs) → All (R x) xs
-first_pairs R x xs pairs k d within = pairs 0 (suc k) d (omega arith) (omega arith)
-
-later_pairs : {X : Type 0} (R : X → X → Type 0) (x : X) (xs : List X) → AllPairs R (x ∷ xs) → AllPairs R xs
-later_pairs R x xs pairs i j d before within = pairs (suc i) (suc j) d (omega arith) (omega arith)
+use Rattle.ld_rules.proofs.LeastLemmas.{first_line, first_pairs, later_pairs}
 
 -- what holds of each two holds of what stands for them
 pub pairs-map : {X Y : Type 0} (R : Y → Y → Type 0) (f : X → Y) (xs : List X) → AllPairs (λ a b. R (f a) (f b)) xs → AllPairs R (map f xs)

@@ -1,5 +1,5 @@
 -- Things with witnesses, and as they were seen: what comes to a list, each thing once.
-use Rattle.std.proofs.Common.{◌≡◌, ◌≢◌, ◌≤◌, ◌++◌, ◌∷◌, [], ◌||◌, All, AllPairs, Bool, true, false, cond, List, ℕ, Option, Some, None}
+use Rattle.std.proofs.Common.{◌≡◌, ◌≢◌, ◌≤◌, ◌++◌, ◌∷◌, [], ◌||◌, AllPairs, Bool, true, false, cond, List, ℕ, Option, Some, None}
 use Rattle.std.proofs.Common.{drop, fold, length, map, take, get_or, refl, ap, sym, ◌∙◌, arith, if◌then◌else◌, option_map, length-append}
 use Rattle.std.proofs.lemmas.Bool.{true≢false}
 use Rattle.std.proofs.lemmas.List.{get_or-map, length-map, map-append, take-append-drop, take-append-le, take_all}
@@ -10,7 +10,6 @@ use Rattle.std.specs.Option.{option_or}
 use Rattle.ld_rules.specs.Dependency.{Seen}
 use Rattle.ld_rules.specs.Inner.Scanned.{with_new}
 use Rattle.ld_rules.proofs.LeastLemmas.{first_line}
-use Rattle.ld_rules.proofs.SameLemmas.{fails_each}
 use Rattle.ld_shown.specs.Batch.{Met, witness_of}
 use Rattle.ld_shown.specs.Inner.Rows.{seen_in, seen_of}
 use Rattle.ld_shown.proofs.LineLemmas.{AreOnce, pairs-map}
@@ -23,10 +22,6 @@ none_passes {X} p (x ∷ xs) none = by (p x) none (none_passes p xs)
     by : (b : Bool) → cond b (Some x) (find p xs) ≡ None → (find p xs ≡ None → list_any p xs ≡ false) → (b || list_any p xs) ≡ false
     by true found rest = let no : Some x ≡ None = found in cc
     by false found rest = rest found
-
--- nor does any at a place
-pub fails_at : {X : Type 0} (p : X → Bool) (xs : List X) → list_any p xs ≡ false → All (λ x. p x ≡ false) xs
-fails_at p xs none = fails_each p xs none
 
 or_none : {X : Type 0} (o : Option X) → option_or o None ≡ o
 or_none None = refl

@@ -1,6 +1,7 @@
 //! The dependencies of a batch, one by one.
-ghost use Rattle.std.specs.Prelude.{◌≡◌, ◌<◌, All};
+ghost use Rattle.std.specs.Prelude.{◌≡◌, All};
 ghost use Rattle.std.specs.Iterator.{YieldsFirst, item_count};
+ghost use Rattle.ld_class.specs.Blocks.{IsBlock};
 ghost use Rattle.ld_shown.specs.Inner.Rows.{edges_of};
 
 use crate::rows::{WitnessedEdge, WitnessedWord, Words};
@@ -19,7 +20,8 @@ pub struct Edges<'b> {
 }
 
 impl<'b> Model for Edges<'b> {
-    ghost use Rattle.std.specs.Prelude.{◌<◌, ◌∷◌, All, List};
+    ghost use Rattle.std.specs.Prelude.{◌∷◌, All, List};
+    ghost use Rattle.ld_class.specs.Blocks.{IsBlock};
     ghost use Rattle.ld_shown.specs.declared.rows.WitnessedEdge.{WitnessedEdge};
     ghost use Rattle.ld_shown.specs.declared.rows.WitnessedWord.{WitnessedWord};
     ghost use Rattle.ld_shown.specs.Inner.Rows.{edges_of};
@@ -28,13 +30,13 @@ impl<'b> Model for Edges<'b> {
 
     ghost view = { λ s. edges_of s.all.places.now (s.word ∷ s.words.now) };
 
-    ghost invariant = { λ s. All (λ (w : WitnessedWord). w.block < 67108864) (s.word ∷ s.words.now) };
+    ghost invariant = { λ s. All (λ (w : WitnessedWord). IsBlock w.block) (s.word ∷ s.words.now) };
 }
 
 impl<'b> Edges<'b> {
     /// Those of these words. Takes no memory.
     pub fn new(words: Words<'b>) -> Edges<'b>
-        requires { All (λ w. w.block < 67108864) words.words.now }
+        requires { All (λ w. IsBlock w.block) words.words.now }
         ensures { result ≡ edges_of words.entry.places.now words.entry.words.now }
     {
         let word = WitnessedWord {

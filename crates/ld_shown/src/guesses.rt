@@ -10,7 +10,11 @@ use std::alloc::Global;
 #[derive(Drop)]
 pub struct Guesses {
     classes: Vec<u32>,
-    pairs: Vec<u32>,
+    /// Of dependencies, by the numbers of their words and bits.
+    dependencies: Vec<u32>,
+    /// Of words and of blocks of classes, plus 1; 0 where there is no guess.
+    words: Vec<u32>,
+    blocks: Vec<u32>,
 }
 
 impl Guesses {
@@ -18,7 +22,9 @@ impl Guesses {
     pub fn new(alloc: Global) -> Guesses {
         Guesses {
             classes: Vec::new(alloc),
-            pairs: Vec::new(alloc),
+            dependencies: Vec::new(alloc),
+            words: Vec::new(alloc),
+            blocks: Vec::new(alloc),
         }
     }
 
@@ -32,15 +38,39 @@ impl Guesses {
         keep(&mut self.classes, number, place);
     }
 
-    /// Where the dependency between the classes of this pair may be.
-    pub fn pair(&self, number: u32) -> usize {
-        at(&self.pairs, number) as usize
+    /// Where the word of this number may be, if it was anywhere.
+    pub fn word(&self, number: u32) -> Option<u32> {
+        at(&self.words, number).checked_sub(1)
     }
 
-    /// The dependency between the classes of this pair is there.
-    pub fn keep_pair(&mut self, number: u32, place: usize) {
+    /// The word of this number is there.
+    pub fn keep_word(&mut self, number: u32, place: u32) {
+        if let Some(after) = place.checked_add(1) {
+            keep(&mut self.words, number, after);
+        }
+    }
+
+    /// Where the block of this number may be, if it was anywhere.
+    pub fn block(&self, number: u32) -> Option<u32> {
+        at(&self.blocks, number).checked_sub(1)
+    }
+
+    /// The block of this number is there.
+    pub fn keep_block(&mut self, number: u32, place: u32) {
+        if let Some(after) = place.checked_add(1) {
+            keep(&mut self.blocks, number, after);
+        }
+    }
+
+    /// Where the dependency of this number may be. It is 64 times the number of its word, plus its bit.
+    pub fn dependency(&self, number: u32) -> usize {
+        at(&self.dependencies, number) as usize
+    }
+
+    /// The dependency of this number is there.
+    pub fn keep_dependency(&mut self, number: u32, place: usize) {
         if let Ok(place) = u32::try_from(place) {
-            keep(&mut self.pairs, number, place);
+            keep(&mut self.dependencies, number, place);
         }
     }
 }

@@ -1,4 +1,5 @@
-//! The rows of what a batch shows, by the places of its classes.
+//! The rows of what a batch shows: dependencies and usage bits by the places of its classes, words by the numbers
+//! that a scan has for these.
 ghost use Rattle.std.specs.Prelude.{◌≡◌, length, slice_index_or};
 ghost use Rattle.ld_shown.specs.Inner.Rows.{edges_of};
 
@@ -42,7 +43,7 @@ pub struct Words<'b> {
 }
 
 impl Words<'_> {
-    /// The place of the class with this number, or 0 where it has none. Takes no memory.
+    /// What the list has for this number, or 0 past its end: the class's place, where it has one. Takes no memory.
     pub fn place(&self, number: u32) -> u32
         ensures { result ≡ slice_index_or self.now.places.now number 0 }
     {

@@ -1,5 +1,6 @@
 //! `Shown`, which lends what a few traces show together.
-ghost use Rattle.std.specs.Prelude.{◌≡◌, ◌<◌, All, length};
+ghost use Rattle.std.specs.Prelude.{◌≡◌, All, length};
+ghost use Rattle.ld_class.specs.Blocks.{IsBlock};
 ghost use Rattle.ld_shown.specs.Batch.{IsBatch, sources_of};
 ghost use Rattle.ld_shown.specs.Inner.Rows.{edges_of};
 
@@ -20,7 +21,8 @@ pub struct Shown<'b, 'a> {
 }
 
 impl<'b, 'a> Model for Shown<'b, 'a> {
-    ghost use Rattle.std.specs.Prelude.{◌<◌, All};
+    ghost use Rattle.std.specs.Prelude.{All};
+    ghost use Rattle.ld_class.specs.Blocks.{IsBlock};
     ghost use Rattle.ld_shown.specs.Batch.{IsBatch, PlainBatch, sources_of};
     ghost use Rattle.ld_shown.specs.declared.rows.WitnessedWord.{WitnessedWord};
     ghost use Rattle.ld_shown.specs.Inner.Rows.{edges_of};
@@ -39,7 +41,7 @@ impl<'b, 'a> Model for Shown<'b, 'a> {
       classes = s.classes.now;
       edges = edges_of s.edges.places.now s.edges.words.now;
       usage = s.usage.now;
-    }) × All (λ (w : WitnessedWord). w.block < 67108864) s.edges.words.now };
+    }) × All (λ (w : WitnessedWord). IsBlock w.block) s.edges.words.now };
 }
 
 impl<'b, 'a> Shown<'b, 'a> {
@@ -58,7 +60,7 @@ impl<'b, 'a> Shown<'b, 'a> {
           edges = edges_of words.places.now words.words.now;
           usage = usage.now;
         }) }
-        requires low { All (λ w. w.block < 67108864) words.words.now }
+        requires low { All (λ w. IsBlock w.block) words.words.now }
         ensures { result
             ≡ record {
               sources = sources_of traces.now;
@@ -86,7 +88,7 @@ impl<'b, 'a> Shown<'b, 'a> {
     /// The dependencies by words, each once with its first witness, in no promised order. Takes no memory.
     pub fn words(&self) -> Words<'b>
         ensures same { edges_of result.places.now result.words.now ≡ self.now.edges }
-        ensures low { All (λ w. w.block < 67108864) result.words.now }
+        ensures low { All (λ w. IsBlock w.block) result.words.now }
         ensures exact { IsBatch self.now }
     {
         self.edges

@@ -1,6 +1,7 @@
 -- What was told is taken back.
 use Rattle.std.proofs.Common.{◌≡◌, ◌≢◌, ◌+◌, ◌^◌, ◌<◌, ◌≤◌, ◌∷◌, [], ◌++◌, ◌&&◌, ◌||◌, ◌⊎◌, inl, inr, List, ℕ, Bool, true, false, nat_eq, not, ap, ◌∙◌, sym, subst, refl, arith}
 use Rattle.std.proofs.Common.{All, drop, get_or, length, length-take, set, take, w64}
+use Rattle.std.proofs.Math.Bool.{or-false}
 use Rattle.std.proofs.lemmas.Bool.{and_parts, cases_eq, eq-eqb, eqb-true, ne_eqb, true≢false}
 use Rattle.std.proofs.lemmas.List.{get_or_default, get_or-drop, get_or-set_other, get_or-set_same, get_or-take, length-drop, length-set, length-take-le, take-append-drop, take_more}
 use Rattle.std.proofs.lemmas.List.Elements.{All-take}
@@ -13,10 +14,6 @@ use Rattle.ld_class.proofs.BlockLemmas.{is_on-left}
 use Rattle.ld_tables.specs.declared.words.Telling.{Telling}
 use Rattle.ld_tables.specs.declared.words.Word.{Word}
 use Rattle.ld_tables.specs.Inner.Edges.{AreTold, has_told, word_at}
-
-or-false : (b : Bool) → (b || false) ≡ b
-or-false true = refl
-or-false false = refl
 
 -- one telling more
 pub off-more : (tellings : List Telling) (i : ℕ) (t : Telling) → i < length tellings → get_or tellings i t ≡ t → (before told : List ℕ) → t.number < length told → t.bits < 2 ^ 64
@@ -85,6 +82,7 @@ module _ (words : List Word) (told : List ℕ) (tellings : List Telling) (are : 
     many = many ∙ are.many;
     within = All-take (λ (t : Telling). t.number < length words) count tellings are.within;
     each = All-take (λ (t : Telling). word_at words t.number ≡ t.word) count tellings are.each;
+    some = All-take (λ (t : Telling). 0 < t.bits) count tellings are.some;
     noted = λ n k within place.
         off n k (omega (arith, within, are.many)) place
         ∙ ap (λ b. b && not (has_told (drop count tellings) n k)) (are.noted n k within place ∙ split n k)

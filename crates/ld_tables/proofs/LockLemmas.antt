@@ -382,9 +382,7 @@ told_shown {E} {before} {after} r stacks edges known task class line new is are 
         subst (λ (k : HeldByTasks). Tells (map (λ (h : Hold). h.class) (drop (start_now (get_or k.interrupts task fresh)) (get_or k.stacks task []))) class line k (held_by_tasks stacks new after)) is
         (subst (λ fs. Tells fs class line (held_by_tasks stacks edges before) (held_by_tasks stacks new after)) (sym froms) (record {
           others = (λ i. held_by_tasks stacks new (same i));
-          first = are.first;
-          once = are.once;
-          told = are.told;
+          told = are;
         }))
 
     by : {E : Type 0} (r : Result (Unit {0}) E) → OnOk r

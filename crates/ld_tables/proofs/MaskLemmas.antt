@@ -1,6 +1,7 @@
 -- Masks to which a bit is added.
 use Rattle.std.proofs.Common.{◌≡◌, ◌+◌, ◌*◌, ◌/◌, ◌%◌, ◌^◌, ◌<◌, ◌∷◌, [], ◌++◌, ◌||◌, List, ℕ, suc, zero, Bool, true, false, nat_eq, ltb, not, ap, ◌∙◌, sym, subst, refl, arith}
 use Rattle.std.proofs.Common.{All, flat_map, get_or, length, map, set}
+use Rattle.std.proofs.Math.Bool.{or-false, or_assoc, or_self}
 use Rattle.std.proofs.lemmas.Bool.{eq-eqb, eqb-true, lt-ltb, ltb-true}
 use Rattle.std.proofs.lemmas.List.{get_or_default}
 use Rattle.std.proofs.lemmas.List.Elements.{All-head, All-tail, All-weaker}
@@ -15,19 +16,6 @@ use Rattle.ld_tables.specs.declared.words.Mask.{Mask}
 use Rattle.ld_tables.specs.declared.words.Word.{Word}
 use Rattle.ld_tables.specs.Inner.Edges.{AreMasks, AreMore, any_bit, classes_of, word_at}
 use Rattle.ld_tables.proofs.TellingLemmas.{any-flat_map}
-
-or-false : (b : Bool) → (b || false) ≡ b
-or-false true = refl
-or-false false = refl
-
-or_assoc : (a b c : Bool) → ((a || b) || c) ≡ (a || (b || c))
-or_assoc true b c = refl
-or_assoc false b c = refl
-
-or-twice : (a b : Bool) → ((a || b) || b) ≡ (a || b)
-or-twice true b = refl
-or-twice false true = refl
-or-twice false false = refl
 
 -- an element that passes where it passed, or for something more
 any-set : {X : Type 0} (p : X → Bool) (xs : List X) (n : ℕ) (x : X) (more : Bool) → n < length xs → p x ≡ (p (get_or xs n x) || more) → list_any p (set xs n x) ≡ (list_any p xs || more)
@@ -52,11 +40,7 @@ module _ (masks : List Mask) (at word place : ℕ) (old : Mask) (within : at < l
 
   pub words-set : (test : ℕ → Bool) → list_any (λ (m : Mask). test m.word) (set masks at with_bit) ≡ (list_any (λ (m : Mask). test m.word) masks || test word)
   words-set test = any-set (λ (m : Mask). test m.word) masks at with_bit (test word) within
-      (ap test same ∙ twice (test word) ∙ ap (λ b. b || test word) (sym (ap (λ (m : Mask). test m.word) here ∙ ap test same)))
-    where
-      twice : (b : Bool) → b ≡ (b || b)
-      twice true = refl
-      twice false = refl
+      (ap test same ∙ sym (or_self (test word)) ∙ ap (λ b. b || test word) (sym (ap (λ (m : Mask). test m.word) here ∙ ap test same)))
 
   pub bits-set : (test : ℕ → ℕ → Bool) → any_bit test (set masks at with_bit) ≡ (any_bit test masks || test word place)
   bits-set test = any-set (λ (m : Mask). list_any (test m.word) (bits_on m.bits)) masks at with_bit (test word place) within
@@ -64,11 +48,6 @@ module _ (masks : List Mask) (at word place : ℕ) (old : Mask) (within : at < l
       ∙ (λ i. list_any (test (sym (ap (λ (m : Mask). m.word) here) i)) (bits_on (sym (ap (λ (m : Mask). m.bits) here) i)) || test (same i) place))
 
 -- a mask is put last
-pub words-push : (masks : List Mask) (word place : ℕ) (test : ℕ → Bool) → list_any (λ (m : Mask). test m.word) (masks ++ record { word = word; bits = 1 * 2 ^ place % 2 ^ 64 } ∷ [])
-    ≡ (list_any (λ (m : Mask). test m.word) masks || test word)
-words-push masks word place test =
-    list_any-append (λ (m : Mask). test m.word) masks (record { word = word; bits = 1 * 2 ^ place % 2 ^ 64 } ∷ []) ∙ ap (λ b. list_any (λ (m : Mask). test m.word) masks || b) (or-false (test word))
-
 pub bits-push : (masks : List Mask) (word place : ℕ) → place < 64 → (test : ℕ → ℕ → Bool) → any_bit test (masks ++ record { word = word; bits = 1 * 2 ^ place % 2 ^ 64 } ∷ []) ≡ (any_bit test masks || test word place)
 bits-push masks word place low test =
     list_any-append (λ (m : Mask). list_any (test m.word) (bits_on m.bits)) masks (record { word = word; bits = 1 * 2 ^ place % 2 ^ 64 } ∷ [])

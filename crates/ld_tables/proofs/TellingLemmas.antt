@@ -1,6 +1,7 @@
 -- What is told by words: the dependencies that weren't told before.
 use Rattle.std.proofs.Common.{◌≡◌, ◌≢◌, ◌+◌, ◌*◌, ◌^◌, ◌<◌, ◌∷◌, [], ◌++◌, ◌&&◌, ◌||◌, ◌==◌, ◌⊎◌, inl, inr, List, ℕ, Bool, true, false, true≢false, nat_eq, not, ap, ◌∙◌, sym, subst, refl, arith}
 use Rattle.std.proofs.Common.{All, cond, flat_map, fold, get_or, length, map, set, w64, if◌then◌else◌, append_assoc}
+use Rattle.std.proofs.Math.Bool.{or-false}
 use Rattle.std.proofs.lemmas.Bool.{and_from, and_parts, cases_eq, eq-eqb, eqb-true, ne_eqb}
 use Rattle.std.proofs.lemmas.Bool.Decides.{Decides-eqb}
 use Rattle.std.proofs.lemmas.List.{append-nil, get_or-map, get_or-set_other, get_or-set_same, get_or_append_left, length-map, length-set, length_push}
@@ -133,13 +134,14 @@ module _ (words : List Word) (told : List ℕ) (tellings : List Telling) (are : 
   abbrev telling : Telling
   telling = record { number = n; word = those; bits = left; line = line }
 
-  pub told-mask : AreTold words (set told n (bit_or known left)) (tellings ++ telling ∷ [])
-  told-mask = record {
+  pub told-mask : 0 < left → AreTold words (set told n (bit_or known left)) (tellings ++ telling ∷ [])
+  told-mask some = record {
     distinct = are.distinct;
     low = are.low;
     many = length-set told n (bit_or known left) ∙ are.many;
     within = All-push (λ (t : Telling). t.number < length words) tellings telling are.within inside;
     each = All-push (λ (t : Telling). word_at words t.number ≡ t.word) tellings telling are.each refl;
+    some = All-push (λ (t : Telling). 0 < t.bits) tellings telling are.some some;
     noted = λ m place within low. noted m place within low (cases_eq m n);
     apart = all_pairs_push (λ (s t : Telling). (k : ℕ) → k < 64 → s.number ≡ t.number → is_on s.bits k ≡ true → is_on t.bits k ≡ false) tellings telling are.apart
         (λ k d within place low same on. is_on-left bits known place small low ∙ none place (was k d within place low same on) (is_on bits place));
@@ -153,10 +155,6 @@ module _ (words : List Word) (told : List ℕ) (tellings : List Telling) (are : 
       none : (place : ℕ) → is_on known place ≡ true → (b : Bool) → (b && not (is_on known place)) ≡ false
       none place on true = ap not on
       none place on false = refl
-
-      or-false : (b : Bool) → (b || false) ≡ b
-      or-false true = refl
-      or-false false = refl
 
       noted : (m place : ℕ) → m < length words → place < 64 → (m ≡ n) ⊎ (m ≢ n) → is_on (get_or (set told n (bit_or known left)) m 0) place ≡ has_told (tellings ++ telling ∷ []) m place
       noted m place within low (inl here) =

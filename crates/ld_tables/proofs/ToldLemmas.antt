@@ -1,6 +1,7 @@
 -- Dependencies that are told from some classes to one, in whatever order.
 use Rattle.std.proofs.Common.{◌≡◌, ◌≤◌, ◌∷◌, [], ◌++◌, ◌&&◌, ◌||◌, List, ℕ, Bool, true, false, nat_eq, not, ap, ◌∙◌, sym, subst, refl, arith}
 use Rattle.std.proofs.Common.{Result, Ok, Err, OnOk, drop, eqb, flat_map, fold, get_or, length, map, take, if◌then◌else◌}
+use Rattle.std.proofs.Math.Bool.{or-false, or_assoc}
 use Rattle.std.proofs.lemmas.Bool.{eq-eqb, eqb-true, or_left, true≢false}
 use Rattle.std.proofs.lemmas.List.{append-nil, take-append-drop}
 use Rattle.std.proofs.lemmas.List.Concat.{flat_map-append}
@@ -26,14 +27,6 @@ any-same p xs ys same = same_test (list_any p xs) (list_any p ys) (found xs ys s
         let there = Any-from_list_any (nat_eq n) ys (sym (same n) ∙ list_any_at (nat_eq n) xs here.0 n here.2 (eq-eqb n (get_or xs here.0 n) (sym here.3))) in
         let is : n ≡ there.1 = eqb-true n there.1 there.4 in
         list_any_at p ys there.0 there.1 there.2 (ap p (there.3 ∙ sym is) ∙ here.4)
-
-or-false : (b : Bool) → (b || false) ≡ b
-or-false true = refl
-or-false false = refl
-
-or_assoc : (a b c : Bool) → ((a || b) || c) ≡ (a || (b || c))
-or_assoc true b c = refl
-or_assoc false b c = refl
 
 module _ (test : EdgeFact → Bool) (class line : ℕ) where
   abbrev known : List EdgeFact → ℕ → Bool
@@ -103,9 +96,7 @@ pub tells-exact : (froms : List ℕ) (class line : ℕ) (old new : HeldByTasks) 
 tells-exact froms class line old new is =
     subst (Tells froms class line old) (sym is) (record {
       others = refl;
-      first = with_each-first same_pair old.edges (map (edge_to class line) froms);
-      once = apart-fold same_pair old.edges (map (edge_to class line) froms);
-      told = λ test. refl;
+      told = told-to froms froms class line old.edges (fold with_edge_fact old.edges (map (edge_to class line) froms)) (λ n. refl) refl;
     })
 
 -- what was told stays

@@ -9,7 +9,7 @@ use Rattle.std.proofs.lemmas.List.Quantifiers.{all_pairs_push}
 use Rattle.std.proofs.lemmas.Nat.Bits.{bit_at-zero}
 use Rattle.std.specs.Int.{bit_at}
 use Rattle.std.specs.List.{AllPairs, list_any}
-use Rattle.ld_class.specs.Blocks.{is_on}
+use Rattle.ld_class.specs.Blocks.{IsBlock, is_on}
 use Rattle.ld_tables.specs.declared.words.Telling.{Telling}
 use Rattle.ld_tables.specs.declared.words.Word.{Word}
 use Rattle.ld_tables.specs.Inner.Edges.{AreMore, AreTold, has_told, no_word, word_at}
@@ -68,7 +68,7 @@ module _ (words : List Word) (word : Word) where
       by true = AreMore-same words
       by false = record { more = omega (arith, length_push words word); kept = λ n within. get_or_append_left words (word ∷ []) no_word n within }
 
-  pub told-with_word : word.block < 67108864 → (told : List ℕ) (tellings : List Telling) → AreTold words told tellings → AreTold with_word (with_none told) tellings
+  pub told-with_word : IsBlock word.block → (told : List ℕ) (tellings : List Telling) → AreTold words told tellings → AreTold with_word (with_none told) tellings
   told-with_word low told tellings are = by (list_any (same_words word) words) refl
     where
       on-none : (n place : ℕ) → n ≡ length words → is_on (get_or (told ++ 0 ∷ []) n 0) place ≡ has_told tellings n place
@@ -82,10 +82,11 @@ module _ (words : List Word) (word : Word) where
       by false none = record {
         distinct = all_pairs_push (λ a b. a ≢ b) words word are.distinct
             (λ k d within same. true≢false (sym (list_any_at (same_words word) words k d within (same_words-refl word (get_or words k d) (sym same))) ∙ none));
-        low = All-push (λ (w : Word). w.block < 67108864) words word are.low low;
+        low = All-push (λ (w : Word). IsBlock w.block) words word are.low low;
         many = omega (arith, are.many, length_push told 0, length_push words word);
         within = All-weaker (λ (t : Telling). t.number < length words) (λ (t : Telling). t.number < length (words ++ word ∷ [])) (λ t below. omega (arith, below, length_push words word)) tellings are.within;
         each = λ k d within. get_or_append_left words (word ∷ []) no_word (get_or tellings k d).number (are.within k d within) ∙ are.each k d within;
+        some = are.some;
         noted = λ n place within inside. noted n place within inside (cases_lt n (length words));
         apart = are.apart;
       }
@@ -95,7 +96,7 @@ module _ (words : List Word) (word : Word) where
           noted n place within inside (inr past) = on-none n place (omega (arith, past, within, length_push words word))
 
   -- where the words are one more
-  pub told-new : word.block < 67108864 → (told : List ℕ) (tellings : List Telling) → AreTold words told tellings → (keys : List Word) (now : List ℕ) → keys ≡ with_word
+  pub told-new : IsBlock word.block → (told : List ℕ) (tellings : List Telling) → AreTold words told tellings → (keys : List Word) (now : List ℕ) → keys ≡ with_word
       → length keys ≡ length words + 1 → now ≡ told ++ 0 ∷ [] → AreTold keys now tellings
   told-new low told tellings are keys now is many pushed = by (list_any (same_words word) words) refl
     where

@@ -1,7 +1,9 @@
 //! The dependencies between numbered classes.
 ghost use Rattle.std.specs.Prelude.{◌≡◌, ◌<◌, ◌≤◌, ◌∷◌, true, [], All, fold, length, map, take, IfOk};
-ghost use Rattle.std.specs.Prelude.{IfSome, OnOk};
+ghost use Rattle.std.specs.Prelude.{IfSome, OnOk, slice_index_or};
+ghost use Rattle.ld_tables.specs.declared.words.Mask.{Mask};
 ghost use Rattle.std.specs.Bool.{OnTrue};
+ghost use Rattle.ld_class.specs.Blocks.{IsBlock};
 ghost use Rattle.ld_tables.specs.declared.edges.TheConstants.{MOST_WORDS};
 ghost use Rattle.ld_tables.specs.Inner.Edges.{AreMasks, AreMore, AreToldTo, classes_of, edge_to, edges_of};
 ghost use Rattle.ld_tables.specs.Inner.Edges.{with_edge_fact, word_at};
@@ -72,7 +74,7 @@ impl Edges {
     /// What was told, in the order in which it came.
     pub fn tellings(&self) -> &[Telling]
         ensures same { result.now ≡ self.now.tellings }
-        ensures low { All (λ t. t.word.block < 67108864) result.now }
+        ensures low { All (λ t. IsBlock t.word.block) result.now }
     {
         self.tellings.as_slice()
     }
@@ -92,9 +94,9 @@ impl Edges {
         self.words.len() < MOST_WORDS
     }
 
-    /// The number of a word. `AllocError` too where there are as many as have numbers.
+    /// The number of a word. `AllocError` too where its place is no number of 32 bits.
     fn number(&mut self, word: Word) -> Result<u32, AllocError>
-        requires { word.block < 67108864 }
+        requires { IsBlock word.block }
         ensures tellings { self.new.tellings ≡ self.old.tellings }
         ensures more { AreMore self.old.words self.new.words }
         ensures within { IfOk result (λ number. number < length self.new.words) }
@@ -116,6 +118,21 @@ impl Edges {
         self.words.as_slice()[number as usize]
     }
 
+    /// Where there is a mask of the word. `None` says nothing.
+    fn place_of(&self, masks: &[Mask], word: Word) -> Option<usize>
+        requires { All (λ m. m.word < length self.now.words) masks.now }
+        ensures within { IfSome result (λ at. at < length masks.now) }
+        ensures word { IfSome result (λ at. (d : Mask)
+            → word_at self.now.words (slice_index_or masks.now at d).word ≡ word) }
+    {
+        for (at, mask) in masks.iter().enumerate() {
+            if self.word(mask.word) == word {
+                return Some(at);
+            }
+        }
+        None
+    }
+
     /// The masks of the dependencies from the classes of these locks to the class.
     pub fn masks(
         &mut self,
@@ -132,9 +149,16 @@ impl Edges {
     {
         let mut masks = Vec::new(alloc);
         for held in stack {
-            let block = held.class / 64;
-            let number = self.number(Word { block, to: class })?;
-            add_bit(&mut masks, number, held.class % 64)?;
+            let word = Word {
+                block: held.class / 64,
+                to: class,
+            };
+            let at = self.place_of(&masks, word);
+            let number = match at {
+                Some(at) => masks[at].word,
+                None => self.number(word)?,
+            };
+            add_bit(&mut masks, at, number, held.class % 64)?;
         }
         Ok(masks)
     }

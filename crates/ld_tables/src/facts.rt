@@ -1,5 +1,6 @@
 //! The dependencies of words, one by one.
-ghost use Rattle.std.specs.Prelude.{◌≡◌, ◌<◌, ◌++◌, All, IfOk, OnOk};
+ghost use Rattle.std.specs.Prelude.{◌≡◌, ◌++◌, All, IfOk, OnOk};
+ghost use Rattle.ld_class.specs.Blocks.{IsBlock};
 ghost use Rattle.ld_tables.specs.Inner.Edges.{edges_in, edges_of};
 
 use crate::edges::EdgeFact;
@@ -8,7 +9,7 @@ use std::alloc::{AllocError, Global};
 
 /// The dependencies that were told, one by one.
 pub(crate) fn all_facts(alloc: Global, tellings: &[Telling]) -> Result<Vec<EdgeFact>, AllocError>
-    requires { All (λ t. t.word.block < 67108864) tellings.now }
+    requires { All (λ t. IsBlock t.word.block) tellings.now }
     ensures { IfOk result (λ facts. facts.items ≡ edges_of tellings.now) }
 {
     let mut facts = Vec::new(alloc);
@@ -20,7 +21,7 @@ pub(crate) fn all_facts(alloc: Global, tellings: &[Telling]) -> Result<Vec<EdgeF
 
 /// Adds the dependencies that were told at one line.
 fn add_facts(facts: &mut Vec<EdgeFact>, telling: &Telling) -> Result<(), AllocError>
-    requires { telling.now.word.block < 67108864 }
+    requires { IsBlock telling.now.word.block }
     ensures { OnOk result (facts.new.items ≡ facts.old.items ++ edges_in telling.now) }
 {
     let mut left = telling.bits;

@@ -6,6 +6,7 @@ ghost use Rattle.std.specs.Prelude.{◌≡◌, ◌<◌, ◌+◌, true, [], ◌�
 ghost use Rattle.std.specs.Prelude.{map, take, slice_index_or, slice_set, OnOk};
 ghost use Rattle.std.specs.Bool.{OnTrue};
 ghost use Rattle.ld_trace.specs.Events.{plain_lock};
+ghost use Rattle.ld_class.specs.Blocks.{IsBlock};
 ghost use Rattle.ld_tables.specs.declared.chains.TheConstants.{MOST_CHAINS};
 ghost use Rattle.ld_tables.specs.declared.edges.TheConstants.{MOST_WORDS};
 ghost use Rattle.ld_tables.specs.Inner.Edges.{edges_of};
@@ -333,7 +334,7 @@ impl<'a> Locks<'a> {
     /// What the trace told: the dependencies that weren't there when it began.
     pub fn told_here(&self) -> &[Telling]
         ensures told { self.now.before ++ edges_of result.now ≡ self.now.edges }
-        ensures low { All (λ t. t.word.block < 67108864) result.now }
+        ensures low { All (λ t. IsBlock t.word.block) result.now }
     {
         let tellings = self.edges.tellings();
         &tellings[self.before.edges..]

@@ -7,9 +7,16 @@ ghost use Rattle.ld_tables.specs.Inner.Edges.{any_bit};
 use crate::words::Mask;
 use std::alloc::AllocError;
 
-/// Puts a bit of a word on.
-pub(crate) fn add_bit(masks: &mut Vec<Mask>, word: u32, place: u32) -> Result<(), AllocError>
-    requires { place < 64 }
+/// Puts a bit of a word on, in the mask at this place, which is of the word, or else in one more.
+pub(crate) fn add_bit(
+    masks: &mut Vec<Mask>,
+    at: Option<usize>,
+    word: u32,
+    place: u32,
+) -> Result<(), AllocError>
+    requires within { IfSome at (λ at. at < length masks.old.items) }
+    requires word { IfSome at (λ at. (d : Mask) → (slice_index_or masks.old.items at d).word ≡ word) }
+    requires place { place < 64 }
     ensures some { OnOk result (0 < length masks.new.items) }
     ensures few { OnOk result (length masks.new.items ≤ length masks.old.items + 1) }
     ensures words { OnOk result ((test : ℕ → Bool) → list_any (λ m. test m.word) masks.new.items
@@ -18,23 +25,10 @@ pub(crate) fn add_bit(masks: &mut Vec<Mask>, word: u32, place: u32) -> Result<()
         ≡ (any_bit test masks.old.items || test word place)) }
 {
     let bit = 1 << place;
-    if let Some(at) = place_of(masks, word) {
+    if let Some(at) = at {
         masks[at].bits |= bit;
         return Ok(());
     }
     masks.push(Mask { word, bits: bit })?;
     Ok(())
-}
-
-/// Where there is a mask of the word. `None` says nothing.
-fn place_of(masks: &[Mask], word: u32) -> Option<usize>
-    ensures within { IfSome result (λ at. at < length masks.now) }
-    ensures word { IfSome result (λ at. (d : Mask) → (slice_index_or masks.now at d).word ≡ word) }
-{
-    for (at, mask) in masks.iter().enumerate() {
-        if mask.word == word {
-            return Some(at);
-        }
-    }
-    None
 }

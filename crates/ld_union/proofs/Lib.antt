@@ -1,6 +1,7 @@
 pub mod ClosingLemmas
 pub mod EachOnceLemmas
 pub mod EarlierLemmas
+pub mod KnownLemmas
 pub mod NewsLemmas
 pub mod NotedLemmas
 pub mod AcquiredLemmas
@@ -23,3 +24,4 @@ pub mod SortedLemmas
 pub mod StayingLemmas
 pub mod UniqueLemmas
 pub mod WitnessLemmas
+pub mod WordLemmas

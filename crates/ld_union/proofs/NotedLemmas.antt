@@ -1,9 +1,9 @@
 -- Dependencies that are noted one after the other.
-use Rattle.std.proofs.Common.{◌≡◌, ◌≢◌, ◌+◌, ◌≤◌, ◌++◌, ◌∷◌, [], All, AllPairs, List, ℕ, suc, Bool, true, false, cond, Option, Some, None, length}
+use Rattle.std.proofs.Common.{◌≡◌, ◌≢◌, ◌+◌, ◌<◌, ◌≤◌, ◌++◌, ◌∷◌, [], All, AllPairs, List, ℕ, suc, Bool, true, false, cond, Option, Some, None, length}
 use Rattle.std.proofs.Common.{append_assoc, arith, get_or, map, option_map, take, vec_capacity, vec_len, refl, sym, ap, subst, ◌∙◌, if◌then◌else◌}
 use Rattle.std.proofs.lemmas.Bool.{false_from_ne_true}
 use Rattle.std.proofs.lemmas.List.{append-nil, get_or_append_left, map-append, take_all}
-use Rattle.std.proofs.lemmas.List.Elements.{All-drop, All-head, All-tail}
+use Rattle.std.proofs.lemmas.List.Elements.{All-append, All-drop, All-head, All-tail, All-weaker}
 use Rattle.std.proofs.lemmas.List.Sums.{fold-append}
 use Rattle.std.proofs.Math.ListN.{length-append}
 use Rattle.std.proofs.Math.Seq.{drop-append_seam, take-length}
@@ -17,8 +17,10 @@ use Rattle.ld_shown.specs.Inner.Names.{ArePlaces}
 use Rattle.ld_shown.proofs.SourceLemmas.{earlier_of-none}
 use Rattle.ld_union.specs.declared.dependencies.Dependencies.{Dependencies}
 use Rattle.ld_union.specs.declared.dependencies.Witnessed.{Witnessed}
-use Rattle.ld_union.specs.Inner.Noted.{AreNoted, IsNoting, placed_dependency, with_all}
-use Rattle.ld_union.specs.Inner.Union.{AreWitnessed, earlier_of, edges_of, with_seen}
+use Rattle.ld_union.specs.Inner.Noted.{AreNoted, IsKnown, IsNoting, placed_dependency, placed_edge, with_all}
+use Rattle.ld_union.specs.Inner.Union.{AreWitnessed, WasSeen, earlier_of, edges_of, named_edge, with_seen}
+use Rattle.ld_union.proofs.EarlierLemmas.{earlier-lower}
+use Rattle.ld_union.proofs.KnownLemmas.{seen-later}
 use Rattle.ld_union.proofs.ReachedLemmas.{front-then, further-same, further-then}
 use Rattle.ld_union.proofs.SeenLemmas.{none_found}
 use Rattle.ld_union.proofs.UnionLemmas.{length_rows, same_dependency-true}
@@ -38,6 +40,8 @@ noted_none places now = record {
   exact = λ state seeds is. is;
   closing = λ was. was;
   numbered = λ classes same between. between;
+  kept = λ edge trace seen. seen;
+  there = λ k d within. absurd (omega (arith, within));
   witnesses = λ classes same between first witnessed. witnessed;
 }
 
@@ -64,10 +68,64 @@ noted_then places xs ys old mid new first next = record {
   exact = λ state seeds is. next.exact state seeds (first.exact state seeds is);
   closing = λ was. next.closing (first.closing was);
   numbered = λ classes same between. next.numbered classes (same ∙ sym first.classes) (first.numbered classes same between);
+  kept = λ edge trace seen. next.kept edge trace (first.kept edge trace seen);
+  there = All-append (λ edge. WasSeen new.rows.items (placed_edge places edge) edge.witness.number) xs ys
+      (All-weaker (λ edge. WasSeen mid.rows.items (placed_edge places edge) edge.witness.number) (λ edge. WasSeen new.rows.items (placed_edge places edge) edge.witness.number)
+      (λ edge seen. next.kept (placed_edge places edge) edge.witness.number seen) xs first.there)
+      next.there;
   witnesses = λ classes same between known witnessed.
       subst (AreWitnessed classes new.rows.items) (seen_then known (placed_dependency classes places) xs ys)
       (next.witnesses classes (same ∙ sym first.classes) (first.numbered classes same between) (with_all known (map (placed_dependency classes places) xs))
       (first.witnesses classes same between known witnessed));
+}
+
+-- one that was seen in an earlier trace has its first witness
+known-first : (classes : List PlainClass) (rows : List Witnessed) (places : List ℕ) (edge : WitnessedEdge) → IsKnown rows places edge
+    → (first : Dependency → Option Witness) → AreWitnessed classes rows first → (what : Dependency)
+    → with_seen first (named_edge classes (placed_edge places edge)) edge.witness what ≡ first what
+known-first classes rows places edge known first witnessed what = by (same_dependency what named) refl
+  where
+    named : Dependency
+    named = named_edge classes (placed_edge places edge)
+
+    row : Witnessed
+    row = get_or rows known.1.1.at (record { edge = placed_edge places edge; first = edge.witness })
+
+    here : first named ≡ Some row.first
+    here = ap (λ e. first (named_edge classes e)) (sym (known.1.1.same _)) ∙ witnessed.each known.1.1.at _ known.1.1.within
+
+    lower : row.first.number < edge.witness.number
+    lower = let early = known.1.1.early (record { edge = placed_edge places edge; first = edge.witness }) in let low = known.1.0 in omega (arith, early, low)
+
+    by : (b : Bool) → same_dependency what named ≡ b → earlier_of (first what) (if b then Some edge.witness else None) ≡ first what
+    by true alike =
+        let is : first what ≡ Some row.first = ap first (same_dependency-true what named alike) ∙ here in
+        ap (λ o. earlier_of o (Some edge.witness)) is ∙ ap Some (earlier-lower row.first edge.witness lower) ∙ sym is
+    by false alike = sym (earlier_of-none (first what))
+
+-- where all are known, nothing is to be noted
+known-all : (classes : List PlainClass) (rows : List Witnessed) (places : List ℕ) (told : List WitnessedEdge) → All (IsKnown rows places) told
+    → (first : Dependency → Option Witness) → AreWitnessed classes rows first → with_all first (map (placed_dependency classes places) told) ≡ first
+known-all classes rows places [] known first witnessed = refl
+known-all classes rows places (edge ∷ told) known first witnessed =
+    ap (λ f. with_all f (map (placed_dependency classes places) told)) (λ i what. known-first classes rows places edge (All-head (IsKnown rows places) edge told known) first witnessed what i)
+    ∙ known-all classes rows places told (All-tail (IsKnown rows places) edge told known) first witnessed
+
+pub noted-known : (places : List ℕ) (told : List WitnessedEdge) (now : Dependencies) → All (IsKnown now.rows.items places) told → AreNoted places told now now
+noted-known places told now known = record {
+  classes = refl;
+  spare_edges = omega arith;
+  spare_rows = λ n room. omega (arith, room);
+  front = all_edges now.rows.items;
+  further = further-same now.reach;
+  exact = λ state seeds is. is;
+  closing = λ was. was;
+  numbered = λ classes same between. between;
+  kept = λ edge trace seen. seen;
+  there = All-weaker (IsKnown now.rows.items places) (λ edge. WasSeen now.rows.items (placed_edge places edge) edge.witness.number)
+      (λ edge is. seen-later now.rows.items (placed_edge places edge) is.0 edge.witness.number (let low = is.1.0 in omega (arith, low)) is.1.1) told known;
+  witnesses = λ classes same between first witnessed.
+      subst (AreWitnessed classes now.rows.items) (sym (known-all classes now.rows.items places told known first witnessed)) witnessed;
 }
 
 -- while they are noted

@@ -8,6 +8,7 @@ ghost use Rattle.ld_graph.specs.declared.graph.TheConstants.{MOST_GRAPH_CLASSES}
 ghost use Rattle.ld_trace.specs.declared.event.State.{State};
 ghost use Rattle.ld_graph.specs.Edges.{IsEdge, IsEdgeNumber};
 ghost use Rattle.ld_graph.specs.Reach.{IsReach, no_reach};
+ghost use Rattle.ld_union.specs.Inner.Known.{AreKnownWords};
 ghost use Rattle.ld_union.specs.Inner.Reached.{AreFurther, HaveClasses, IsSeeded, StayExact};
 ghost use Rattle.ld_union.specs.Inner.States.{of_state};
 ghost use Rattle.ld_graph.specs.Edges.{empty_graph, with_spares};
@@ -19,10 +20,11 @@ ghost use Rattle.ld_shown.specs.Inner.Names.{ArePlaces};
 ghost use Rattle.ld_graph.specs.Edges.{PlainGraph};
 ghost use Rattle.ld_graph.specs.Order.{IsInserted};
 ghost use Rattle.ld_union.specs.Inner.Union.{AreBetween, AreWitnessed, IsCycleEdge, edges_of, named_edge};
-ghost use Rattle.ld_union.specs.Inner.Union.{with_first, with_seen};
+ghost use Rattle.ld_union.specs.Inner.Union.{WasSeen, with_first, with_seen};
 
 mod words;
 
+use crate::known::KnownWords;
 use crate::news::NewBit;
 use crate::states::PerState;
 use ld_graph::{Edge, Graph, Insert, Reach};
@@ -121,13 +123,23 @@ impl Dependencies {
 
     /// Notes the dependencies of a batch whose classes have these numbers, each where it was seen
     /// first.
-    pub(crate) fn add(&mut self, batch: &Shown<'_, '_>, places: &[u32], guesses: &mut Guesses)
+    pub(crate) fn add(
+        &mut self,
+        batch: &Shown<'_, '_>,
+        places: &[u32],
+        known: &mut KnownWords,
+        guesses: &mut Guesses,
+    )
+        requires words { AreKnownWords self.old.rows.items known.old.classes.items
+            known.old.words.items }
         requires count { length places.now ≡ length batch.now.classes }
         requires within { All (λ place. place < self.old.graph.classes) places.now }
         requires spare_edges { length batch.now.edges ≤ self.old.graph.spare_edges }
         requires spare_rows { vec_len self.old.rows + length batch.now.edges
             ≤ vec_capacity self.old.rows }
         ensures known { IsBatch batch.now }
+        ensures words { AreKnownWords self.new.rows.items known.new.classes.items
+            known.new.words.items }
         ensures classes { self.new.graph.classes ≡ self.old.graph.classes }
         ensures front { take (length self.old.rows.items) (edges_of self.new.rows.items)
             ≡ edges_of self.old.rows.items }
@@ -147,16 +159,17 @@ impl Dependencies {
             (with_first first (dependency_witness batch.now.sources)) }
     {
         let words = batch.words();
+        known.find(batch.class_numbers(), &words, places, guesses);
         for word in words.words {
-            self.note_word(*word, &words, places, guesses);
+            self.add_word(*word, &words, places, known, guesses);
         }
     }
 
     /// Notes that the dependency was seen there, unless it was seen earlier. It is looked for where the guesses
-    /// say first; these then have its number for the pair.
+    /// say first; these then have its place for its number.
     // Most dependencies are guessed, and were seen in an earlier trace.
     #[inline(always)]
-    fn note(&mut self, edge: Edge, witness: Witness, pair: u32, guesses: &mut Guesses)
+    fn note(&mut self, edge: Edge, witness: Witness, number: u32, guesses: &mut Guesses)
         requires from { edge.from < self.old.graph.classes }
         requires to { edge.to < self.old.graph.classes }
         requires spare_edges { 0 < self.old.graph.spare_edges }
@@ -180,18 +193,21 @@ impl Dependencies {
             → AreWitnessed classes self.old.rows.items first
             → AreWitnessed classes self.new.rows.items
             (with_seen first (named_edge classes edge) witness) }
+        ensures kept { (e : Edge) (trace : ℕ) → WasSeen self.old.rows.items e trace
+            → WasSeen self.new.rows.items e trace }
+        ensures there { WasSeen self.new.rows.items edge witness.number }
     {
-        let guess = guesses.pair(pair);
+        let guess = guesses.dependency(number);
         if self.is_at(guess, edge) {
             self.see(guess, edge, witness);
         } else {
-            self.note_unguessed(edge, witness, pair, guesses);
+            self.note_unguessed(edge, witness, number, guesses);
         }
     }
 
     /// The same, of a dependency that isn't guessed.
     #[inline(never)]
-    fn note_unguessed(&mut self, edge: Edge, witness: Witness, pair: u32, guesses: &mut Guesses)
+    fn note_unguessed(&mut self, edge: Edge, witness: Witness, number: u32, guesses: &mut Guesses)
         requires from { edge.from < self.old.graph.classes }
         requires to { edge.to < self.old.graph.classes }
         requires spare_edges { 0 < self.old.graph.spare_edges }
@@ -215,14 +231,17 @@ impl Dependencies {
             → AreWitnessed classes self.old.rows.items first
             → AreWitnessed classes self.new.rows.items
             (with_seen first (named_edge classes edge) witness) }
+        ensures kept { (e : Edge) (trace : ℕ) → WasSeen self.old.rows.items e trace
+            → WasSeen self.new.rows.items e trace }
+        ensures there { WasSeen self.new.rows.items edge witness.number }
     {
         match self.graph.edge(edge.from, edge.to) {
-            Some(number) => {
-                self.see(number as usize, edge, witness);
-                guesses.keep_pair(pair, number as usize);
+            Some(place) => {
+                self.see(place as usize, edge, witness);
+                guesses.keep_dependency(number, place as usize);
             }
             None => {
-                guesses.keep_pair(pair, self.rows.len());
+                guesses.keep_dependency(number, self.rows.len());
                 self.enter(edge, witness);
             }
         }
@@ -250,6 +269,9 @@ impl Dependencies {
             → AreWitnessed classes self.old.rows.items first
             → AreWitnessed classes self.new.rows.items
             (with_seen first (named_edge classes edge) witness) }
+        ensures kept { (e : Edge) (trace : ℕ) → WasSeen self.old.rows.items e trace
+            → WasSeen self.new.rows.items e trace }
+        ensures there { WasSeen self.new.rows.items edge witness.number }
     {
         let known = &mut self.rows[number];
         // Mostly the numbers of the traces tell it.
@@ -284,6 +306,9 @@ impl Dependencies {
             → AreWitnessed classes self.old.rows.items first
             → AreWitnessed classes self.new.rows.items
             (with_seen first (named_edge classes edge) witness) }
+        ensures kept { (e : Edge) (trace : ℕ) → WasSeen self.old.rows.items e trace
+            → WasSeen self.new.rows.items e trace }
+        ensures there { WasSeen self.new.rows.items edge witness.number }
     {
         let answer = self.graph.insert(edge.from, edge.to);
         self.closing = closing_then(self.closing, edge, answer);

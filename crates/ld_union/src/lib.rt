@@ -6,6 +6,7 @@ mod alarms;
 mod by_name;
 mod dependencies;
 mod findings;
+mod known;
 mod news;
 mod reaches;
 mod rows;

@@ -13,6 +13,7 @@ ghost use Rattle.ld_union.specs.Inner.Union.{IsCycleEdge, known_row};
 ghost use Rattle.ld_union.specs.Usage.{bits_of};
 
 use crate::dependencies::{Dependencies, Witnessed};
+use crate::known::KnownWords;
 use crate::news::News;
 use crate::usage::{UsageRow, add_usage};
 use ld_class::{ClassName, Classes};
@@ -33,9 +34,12 @@ pub struct Union<'a> {
     dependencies: Dependencies,
     /// The usage of the classes, by their numbers.
     usage: Vec<UsageRow>,
+    /// What of the dependencies is known by words.
+    known: KnownWords,
 }
 
 impl<'a> Model for Union<'a> {
+    ghost use Rattle.ld_union.specs.Inner.Known.{AreKnownWords};
     ghost use Rattle.ld_union.specs.Inner.Reached.{expanded_by, marks_by, reached_by};
     ghost use Rattle.ld_union.specs.Inner.Union.{IsUnion, PlainUnion};
 
@@ -51,7 +55,8 @@ impl<'a> Model for Union<'a> {
     } };
 
     ghost invariant = { λ u. IsUnion u.classes u.dependencies.graph u.dependencies.rows.items
-        u.usage.items u.dependencies.closing u.dependencies.reach };
+        u.usage.items u.dependencies.closing u.dependencies.reach
+        × AreKnownWords u.dependencies.rows.items u.known.classes.items u.known.words.items };
 }
 
 impl<'a> Union<'a> {
@@ -71,6 +76,7 @@ impl<'a> Union<'a> {
             classes: Classes::new(alloc),
             dependencies: Dependencies::new(alloc),
             usage: Vec::new(alloc),
+            known: KnownWords::new(alloc),
         }
     }
 
@@ -112,7 +118,8 @@ impl<'a> Union<'a> {
         let Ok(()) = self.usage.resize(self.classes.len(), UsageRow::unused()) else {
             unreachable!()
         };
-        self.dependencies.add(batch, &news.places, guesses);
+        self.dependencies
+            .add(batch, &news.places, &mut self.known, guesses);
         add_usage(&mut self.usage, batch, &news.places, &mut news.bits);
         self.dependencies.seed_all(&news.bits);
         Ok(())

@@ -1,6 +1,7 @@
--- The rows of a batch, by the places of its classes. No contract of a `Batch` cites this file.
-use Rattle.std.specs.Prelude.{◌≡◌, ◌<◌, ℕ, All, List, flat_map, map, nat_eq, true}
-use Rattle.ld_class.specs.Blocks.{classes_in}
+-- The rows of a batch: dependencies and usage bits by the places of its classes, words by the numbers that its scan has
+-- for these. No contract of a `Batch` cites this file.
+use Rattle.std.specs.Prelude.{◌≡◌, ℕ, All, List, flat_map, map, nat_eq, true}
+use Rattle.ld_class.specs.Blocks.{IsBlock, classes_in}
 use Rattle.std.specs.List.{list_any, position_or_len}
 use Rattle.ld_tables.specs.declared.edges.EdgeFact.{EdgeFact}
 use Rattle.ld_tables.specs.declared.uses.UsageFact.{UsageFact}
@@ -53,9 +54,9 @@ edges_in numbers word =
 abbrev pub edges_at : List ℕ → List WitnessedWord → List WitnessedEdge
 edges_at numbers words = flat_map (edges_in numbers) words
 
--- both classes of each dependency of the word are among these, and their numbers are numbers
+-- both classes of each dependency of the word are among these, and its block is one of classes with numbers of 32 bits
 pub record IsOwnWord (numbers : List ℕ) (word : WitnessedWord) : Type 0 where
-  pub low : word.block < 67108864
+  pub low : IsBlock word.block
   pub own :
       All (λ from. (list_any (nat_eq from) numbers ≡ true) × (list_any (nat_eq word.to) numbers ≡ true))
       (classes_in word.block word.bits)

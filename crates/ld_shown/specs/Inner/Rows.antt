@@ -1,4 +1,4 @@
--- What was met at witnesses. No contract of a `Batch` cites this file.
+-- What was met at witnesses, and dependencies by words. No public contract of a `Batch` cites this file.
 use Rattle.std.specs.Prelude.{◌≡◌, ◌≢◌, ℕ, List, Option, None, Some, AllPairs, flat_map, map, option_map, slice_index_or}
 use Rattle.ld_class.specs.Blocks.{classes_in}
 use Rattle.ld_rules.specs.declared.outcome.Witness.{Witness}

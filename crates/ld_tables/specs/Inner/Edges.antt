@@ -2,7 +2,7 @@
 use Rattle.std.specs.Prelude.{◌≡◌, ◌≢◌, ◌<◌, ◌≤◌, ◌*◌, ◌+◌, ℕ, Bool, true, false, ◌&&◌, ◌==◌, List, [], ◌∷◌, ◌++◌, All, flat_map, fold}
 use Rattle.std.specs.Prelude.{length, map, nat_eq, slice_index_or, take, if◌then◌else◌}
 use Rattle.std.specs.List.{list_any, AllPairs}
-use Rattle.ld_class.specs.Blocks.{bits_on, classes_in, is_on}
+use Rattle.ld_class.specs.Blocks.{IsBlock, bits_on, classes_in, is_on}
 use Rattle.ld_rules.specs.Inner.Scanned.{AreSame}
 use Rattle.ld_tables.specs.declared.edges.EdgeFact.{EdgeFact}
 use Rattle.ld_tables.specs.declared.words.Mask.{Mask}
@@ -53,14 +53,15 @@ pub record AreMore (old new : List Word) : Type 0 where
 abbrev pub has_told : List Telling → ℕ → ℕ → Bool
 has_told tellings number place = list_any (λ (t : Telling). nat_eq number t.number && is_on t.bits place) tellings
 
--- Each word stands there once, and the numbers of its classes are numbers. What was told is of words by their
--- numbers; for each word the bits are on that were told, each once.
+-- Each word stands there once, and its block is one of classes with numbers of 32 bits. What was told is of words by
+-- their numbers, and each telling has a bit; for each word the bits are on that were told, each once.
 pub record AreTold (words : List Word) (told : List ℕ) (tellings : List Telling) : Type 0 where
   pub distinct : AllPairs (λ a b. a ≢ b) words
-  pub low : All (λ (w : Word). w.block < 67108864) words
+  pub low : All (λ (w : Word). IsBlock w.block) words
   pub many : length told ≡ length words
   pub within : All (λ (t : Telling). t.number < length words) tellings
   pub each : All (λ (t : Telling). word_at words t.number ≡ t.word) tellings
+  pub some : All (λ (t : Telling). 0 < t.bits) tellings
   pub noted : (n k : ℕ) → n < length words → k < 64 → is_on (slice_index_or told n 0) k ≡ has_told tellings n k
   pub apart :
       AllPairs (λ (s t : Telling). (k : ℕ) → k < 64 → s.number ≡ t.number → is_on s.bits k ≡ true → is_on t.bits k ≡ false)

@@ -1,6 +1,6 @@
 -- What tasks hold and which dependencies were told, and what ties the cache of chains to them.
 -- No contract of a `Batch` cites this file.
-use Rattle.std.specs.Prelude.{◌≡◌, ◌<◌, ◌≤◌, ◌+◌, ℕ, Bool, true, List, [], ◌∷◌, ◌++◌, fold, map, length, take}
+use Rattle.std.specs.Prelude.{◌≡◌, ◌<◌, ◌≤◌, ◌+◌, ℕ, Bool, true, List, [], ◌∷◌, ◌++◌, map, length, take}
 use Rattle.std.specs.Prelude.{drop, slice_index_or, Option, None, Some, IfSome, option_map}
 use Rattle.std.specs.List.{last_or, list_all, list_any, All}
 use Rattle.ld_trace.specs.Events.{PlainLock}
@@ -9,9 +9,8 @@ use Rattle.ld_tables.specs.declared.words.Mask.{Mask}
 use Rattle.ld_tables.specs.declared.words.Telling.{Telling}
 use Rattle.ld_tables.specs.declared.words.Word.{Word}
 use Rattle.ld_tables.specs.Inner.Chains.{KeptChains, chain_before, chains_of}
-use Rattle.ld_tables.specs.Inner.Edges.{AreApart, AreMasks, KeptEdges, edge_to, edges_of, same_pair, with_edge_fact}
+use Rattle.ld_tables.specs.Inner.Edges.{AreMasks, AreToldTo, KeptEdges, edge_to, edges_of, same_pair}
 use Rattle.ld_rules.specs.Held.{same_lock}
-use Rattle.ld_rules.specs.Inner.Scanned.{AreSame}
 use Rattle.ld_tables.specs.Inner.Interrupts.{fresh, start_now, starts_of}
 use Rattle.ld_tables.specs.Inner.Stacks.{PlainHeld, PlainStack, empty_stack, plain_held}
 use Rattle.ld_tables.specs.declared.held.Held.{Held}
@@ -62,13 +61,11 @@ pub record ChangesInterrupts (old new : HeldByTasks) (task : ℕ) : Type 0 where
   pub others : (k : ℕ) → (k ≡ task → ⊥)
       → slice_index_or new.interrupts k fresh ≡ slice_index_or old.interrupts k fresh
 
--- a lock of the class was waited for at this line, under locks of these: the dependencies that weren't there come
--- behind the others, in some order, and all else is as before
+-- a lock of the class was waited for at this line, under locks of these: the dependencies are told, and all else is
+-- as before
 pub record Tells (froms : List ℕ) (class line : ℕ) (old new : HeldByTasks) : Type 0 where
   pub others : new ≡ record old { edges = new.edges }
-  pub first : take (length old.edges) new.edges ≡ old.edges
-  pub once : AreApart old.edges → AreApart new.edges
-  pub told : AreSame (fold with_edge_fact old.edges (map (edge_to class line) froms)) new.edges
+  pub told : AreToldTo froms class line old.edges new.edges
 
 abbrev pub classes_held : List PlainHeld → List ℕ
 classes_held stack = map (λ held. held.class) stack

@@ -1,22 +1,29 @@
 -- What became of dependencies as some were noted. No contract of a `Book` cites this file.
-use Rattle.std.specs.Prelude.{◌≡◌, ℕ, ◌+◌, ◌<◌, ◌≤◌, ◌++◌, List, length, fold, map, slice_index_or, take, vec_len, vec_capacity, Option}
+use Rattle.std.specs.Prelude.{◌≡◌, All, ℕ, ◌+◌, ◌<◌, ◌≤◌, ◌++◌, List, length, fold, map, slice_index_or, take, vec_len, vec_capacity, Option}
 use Rattle.ld_class.specs.Names.{PlainClass}
 use Rattle.ld_rules.specs.declared.outcome.Witness.{Witness}
 use Rattle.ld_rules.specs.Dependency.{Dependency}
 use Rattle.ld_shown.specs.declared.rows.WitnessedEdge.{WitnessedEdge}
 use Rattle.ld_shown.specs.Batch.{Met}
+use Rattle.ld_graph.specs.declared.Edge.{Edge}
 use Rattle.ld_union.specs.declared.dependencies.Dependencies.{Dependencies}
+use Rattle.ld_union.specs.declared.dependencies.Witnessed.{Witnessed}
 use Rattle.ld_union.specs.Inner.Reached.{AreFurther, StayExact}
-use Rattle.ld_union.specs.Inner.Union.{AreBetween, AreWitnessed, IsCycleEdge, edges_of, named_edge, with_seen}
+use Rattle.ld_union.specs.Inner.Union.{AreBetween, AreWitnessed, IsCycleEdge, WasSeen, edges_of, named_edge, with_seen}
 
--- a dependency between the classes whose numbers stand at these places, with its witness
+-- the edge between the classes whose numbers stand at these places
+abbrev pub placed_edge : List ℕ → WitnessedEdge → Edge
+placed_edge places edge = record { from = slice_index_or places edge.from 0; to = slice_index_or places edge.to 0 }
+
+-- the dependency between these classes, with its witness
 abbrev pub placed_dependency : List PlainClass → List ℕ → WitnessedEdge → Met Dependency
-placed_dependency classes places edge = record {
-  what = named_edge classes (record { from = slice_index_or places edge.from 0; to = slice_index_or places edge.to 0 });
-  witness = edge.witness;
-}
+placed_dependency classes places edge = record { what = named_edge classes (placed_edge places edge); witness = edge.witness }
 
--- both classes have a place among these
+-- the dependency is there, and was seen in an earlier trace
+abbrev pub IsKnown : List Witnessed → List ℕ → WitnessedEdge → Type 0
+IsKnown rows places edge = (trace : ℕ) × ((trace < edge.witness.number) × WasSeen rows (placed_edge places edge) trace)
+
+-- both ends are places of this list
 abbrev pub IsPlaced : List ℕ → WitnessedEdge → Type 0
 IsPlaced places edge = (edge.from < length places) × (edge.to < length places)
 
@@ -37,6 +44,8 @@ pub record AreNoted (places : List ℕ) (told : List WitnessedEdge) (old new : D
   pub closing : IsCycleEdge (edges_of old.rows.items) old.closing → IsCycleEdge (edges_of new.rows.items) new.closing
   pub numbered : (classes : List PlainClass) → length classes ≡ old.graph.classes
       → AreBetween classes old.rows.items → AreBetween classes new.rows.items
+  pub kept : (edge : Edge) (trace : ℕ) → WasSeen old.rows.items edge trace → WasSeen new.rows.items edge trace
+  pub there : All (λ edge. WasSeen new.rows.items (placed_edge places edge) edge.witness.number) told
   pub witnesses : (classes : List PlainClass) → length classes ≡ old.graph.classes
       → AreBetween classes old.rows.items
       → (first : Dependency → Option Witness) → AreWitnessed classes old.rows.items first

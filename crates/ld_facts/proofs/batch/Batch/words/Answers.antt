@@ -1,5 +1,6 @@
-use Rattle.std.proofs.Common.{ap, subst, sym, ◌∙◌, All, ◌<◌}
+use Rattle.std.proofs.Common.{ap, subst, sym, ◌∙◌, All}
 use Rattle.std.proofs.lemmas.List.Elements.{All-weaker}
+use Rattle.ld_class.specs.Blocks.{IsBlock}
 use Rattle.ld_shown.specs.Batch.{PlainBatch}
 use Rattle.ld_shown.specs.Inner.Rows as lent
 use Rattle.ld_shown.specs.declared.rows.WitnessedWord.{WitnessedWord}
@@ -19,5 +20,5 @@ pub returns-clause-low : goal.returns-clause-low
 returns-clause-low c =
     let numbers = c.self.inside.rows.numbers in
     let words = c.self.inside.rows.words.items in
-    subst (All (λ (w : WitnessedWord). w.block < 67108864)) (sym c.deref.ensures.value)
-    (All-weaker (IsOwnWord numbers) (λ (w : WitnessedWord). w.block < 67108864) (λ w is. is.low) words c.self.invariant.1)
+    subst (All (λ (w : WitnessedWord). IsBlock w.block)) (sym c.deref.ensures.value)
+    (All-weaker (IsOwnWord numbers) (λ (w : WitnessedWord). IsBlock w.block) (λ w is. is.low) words c.self.invariant.1)

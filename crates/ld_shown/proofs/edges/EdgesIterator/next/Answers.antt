@@ -1,6 +1,7 @@
 use Rattle.std.proofs.Common.{rules, ◌^◌, ◌<◌, All, ap, arith, length, subst, sym, ◌∙◌}
 use Rattle.std.proofs.lemmas.List.{nil_from_length}
 use Rattle.std.proofs.lemmas.List.Elements.{All-cons, All-head, All-tail}
+use Rattle.ld_class.specs.Blocks.{IsBlock}
 use Rattle.ld_shown.specs.declared.rows.WitnessedWord.{WitnessedWord}
 use Rattle.ld_shown.specs.Inner.Rows.{edges_of}
 use Rattle.ld_shown.proofs.EdgeLemmas.{all-behind, all-first, but_lowest, with_bits}
@@ -20,7 +21,7 @@ loop-word-preserved c =
     let split = c.in_ok-first.ensures.cases.0 in
     record {
       same = sym (ap (edges_of places) split) ∙ sym (all-behind places c.loop-word.word c.loop-word.words.now c.args.self.now so_far.same c.loop-word-test.true);
-      low = subst (All (λ (w : WitnessedWord). w.block < 67108864)) split (All-tail (λ (w : WitnessedWord). w.block < 67108864) c.loop-word.word c.loop-word.words.now so_far.low);
+      low = subst (All (λ (w : WitnessedWord). IsBlock w.block)) split (All-tail (λ (w : WitnessedWord). IsBlock w.block) c.loop-word.word c.loop-word.words.now so_far.low);
     }
 
 pub invariant_of-self : goal.invariant_of-self
@@ -28,8 +29,8 @@ invariant_of-self c =
     let word = c.loop-word.word in
     let words = c.loop-word.words.now in
     let low = c.loop-word.invariant.low in
-    All-cons (λ (w : WitnessedWord). w.block < 67108864) (with_bits word (but_lowest word.bits)) words
-    (All-head (λ (w : WitnessedWord). w.block < 67108864) word words low) (All-tail (λ (w : WitnessedWord). w.block < 67108864) word words low)
+    All-cons (λ (w : WitnessedWord). IsBlock w.block) (with_bits word (but_lowest word.bits)) words
+    (All-head (λ (w : WitnessedWord). IsBlock w.block) word words low) (All-tail (λ (w : WitnessedWord). IsBlock w.block) word words low)
 
 pub returns-clause-steps : goal.returns-clause-steps
 returns-clause-steps c =

@@ -1,4 +1,5 @@
-use Rattle.std.proofs.Common.{◌≡◌, ◌<◌, ◌∷◌, All, length}
+use Rattle.std.proofs.Common.{◌≡◌, ◌∷◌, All, length}
+use Rattle.ld_class.specs.Blocks.{IsBlock}
 use Rattle.ld_shown.specs.declared.rows.WitnessedWord.{WitnessedWord}
 use Rattle.ld_shown.specs.Inner.Rows.{edges_of}
 use Rattle.ld_shown.proofs.edges.EdgesIterator.next.Given as goal
@@ -6,7 +7,7 @@ use Rattle.ld_shown.proofs.edges.EdgesIterator.next.Given as goal
 abbrev pub invariant-loop-word : goal.invariant-loop-word
 invariant-loop-word l = record {
   same : edges_of l.self-inside.all.places.now (l.word ∷ l.words) ≡ l.fn.self;
-  low : All (λ (w : WitnessedWord). w.block < 67108864) (l.word ∷ l.words);
+  low : All (λ (w : WitnessedWord). IsBlock w.block) (l.word ∷ l.words);
 }
 
 abbrev pub decreases-loop-word : goal.decreases-loop-word

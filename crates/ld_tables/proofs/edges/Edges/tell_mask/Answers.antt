@@ -45,9 +45,11 @@ invariant_of-self-2 c =
     let at : c.word-word.result ≡ word_at keys word = c.word-word.ensures ∙ ap (λ (k : KeptEdges). word_at k.words word) (sym c.self.view_is) in
     let pushed = c.push_reserved.ensures.items
     ∙ (λ i. c.reserve.ensures.items i ++ record { number = word; word = at i; bits = bit_and c.args.mask.bits (18446744073709551615 - is i); line = c.args.line } ∷ []) in
+    let left : 0 < bit_and c.args.mask.bits (18446744073709551615 - c.index-told.result.now) = omega arith in
+    let some : 0 < bit_and c.args.mask.bits (18446744073709551615 - get_or told word 0) = subst (λ n. 0 < bit_and c.args.mask.bits (18446744073709551615 - n)) is left in
     subst (AreTold keys (set told word (bit_or c.index-told.result.now (bit_and c.args.mask.bits (18446744073709551615 - c.index-told.result.now))))) (sym pushed)
     (subst (λ n. AreTold keys (set told word (bit_or n (bit_and c.args.mask.bits (18446744073709551615 - n)))) (tellings ++ record { number = word; word = word_at keys word; bits = bit_and c.args.mask.bits (18446744073709551615 - get_or told word 0); line = c.args.line } ∷ [])) (sym is)
-    (told-mask keys told tellings c.self.invariant word inside c.args.mask.bits c.args.line small))
+    (told-mask keys told tellings c.self.invariant word inside c.args.mask.bits c.args.line small some))
 
 pub returns-clause-told : goal.returns-clause-told
 returns-clause-told c =

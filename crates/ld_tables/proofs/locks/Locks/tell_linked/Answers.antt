@@ -31,7 +31,7 @@ on_ok : {E : Type 0} (r : Result (Unit {0}) E) (A B : Type 0) → (A → OnOk r 
 on_ok (Ok u) A B f a = f a
 on_ok (Err e) A B f a = tt
 
--- the numbers that a chain gets leave the chains as they are
+-- the masks that a chain gets leave the chains as they are
 module _ (linked learned : KeptChains) (same : learned.links ≡ linked.links) where
   more_learned : (old : List (List ℕ)) → IsExtended old (chains_of linked.links) → IsExtended old (chains_of learned.links)
   more_learned old = subst (λ links. IsExtended old (chains_of links)) (sym same)

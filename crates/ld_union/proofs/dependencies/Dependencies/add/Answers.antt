@@ -39,44 +39,51 @@ module _ (by places : List ℕ) (words : List WitnessedWord) (i : ℕ) (within :
         (subst (λ edges. IsNoting places (edges_of by words) edges old now) split so_far) noted
 
 pub loop-word-init : goal.loop-word-init
-loop-word-init c = noting_none c.args.places.now (edges_of c.words-words.result.places.now c.words-words.result.words.now) c.args.self.now
+loop-word-init c = record {
+  noting = noting_none c.args.places.now (edges_of c.words-words.result.places.now c.words-words.result.words.now) c.args.self.now;
+  found = c.find.ensures.found;
+  known = c.find.ensures.known c.args.self.now.rows.items c.requires.words;
+}
 
-pub note_word-requires-clause-within : goal.note_word-requires-clause-within
-note_word-requires-clause-within c = subst (λ n. All (λ place. place < n) c.args.places.now) (sym c.loop-word.invariant.noted.classes) c.requires.within
+pub add_word-requires-clause-within : goal.add_word-requires-clause-within
+add_word-requires-clause-within c = subst (λ n. All (λ place. place < n) c.args.places.now) (sym c.loop-word.invariant.noting.noted.classes) c.requires.within
 
-pub note_word-requires-clause-low : goal.note_word-requires-clause-low
-note_word-requires-clause-low c = c.words-words.ensures.low c.loop-word.word-index no_word c.loop-word-test.true
+pub add_word-requires-clause-low : goal.add_word-requires-clause-low
+add_word-requires-clause-low c = c.words-words.ensures.low c.loop-word.word-index no_word c.loop-word-test.true
 
-pub note_word-requires-clause-placed : goal.note_word-requires-clause-placed
-note_word-requires-clause-placed c =
+pub add_word-requires-clause-placed : goal.add_word-requires-clause-placed
+add_word-requires-clause-placed c =
     let places = c.args.places.now in
     let batch = c.args.batch.now in
-    placed c.words-words.result.places.now places c.words-words.result.words.now c.loop-word.word-index c.loop-word-test.true c.args.self.now c.loop-word.self c.loop-word.invariant
+    placed c.words-words.result.places.now places c.words-words.result.words.now c.loop-word.word-index c.loop-word-test.true c.args.self.now c.loop-word.self c.loop-word.invariant.noting
     (subst (All (IsPlaced places)) (sym c.words-words.ensures.same)
     (subst (λ n. All (λ (e : WitnessedEdge). (e.from < n) × (e.to < n)) batch.edges) (sym c.requires.count) c.words-words.ensures.exact.within))
 
-pub note_word-requires-clause-spare_edges : goal.note_word-requires-clause-spare_edges
-note_word-requires-clause-spare_edges c =
+pub add_word-requires-clause-spare_edges : goal.add_word-requires-clause-spare_edges
+add_word-requires-clause-spare_edges c =
     let by = c.words-words.result.places.now in
     let words = c.words-words.result.words.now in
     let i = c.loop-word.word-index in
     let few = subst (λ (edges : List WitnessedEdge). length edges ≤ c.args.self.now.graph.spare_edges) (sym c.words-words.ensures.same) c.requires.spare_edges in
-    let room = room_edges c.args.places.now (edges_of by words) c.args.self.now (edges_of by (drop i words)) c.loop-word.self c.loop-word.invariant few in
-    omega (arith, room, many by c.args.places.now words i c.loop-word-test.true c.args.self.now c.loop-word.self c.loop-word.invariant)
+    let room = room_edges c.args.places.now (edges_of by words) c.args.self.now (edges_of by (drop i words)) c.loop-word.self c.loop-word.invariant.noting few in
+    omega (arith, room, many by c.args.places.now words i c.loop-word-test.true c.args.self.now c.loop-word.self c.loop-word.invariant.noting)
 
-pub note_word-requires-clause-spare_rows : goal.note_word-requires-clause-spare_rows
-note_word-requires-clause-spare_rows c =
+pub add_word-requires-clause-spare_rows : goal.add_word-requires-clause-spare_rows
+add_word-requires-clause-spare_rows c =
     let by = c.words-words.result.places.now in
     let words = c.words-words.result.words.now in
     let i = c.loop-word.word-index in
     let few : vec_len c.args.self.now.rows + length (edges_of by words) ≤ vec_capacity c.args.self.now.rows = omega (arith, c.requires.spare_rows, ap length c.words-words.ensures.same) in
-    let room = room_rows c.args.places.now (edges_of by words) c.args.self.now (edges_of by (drop i words)) c.loop-word.self c.loop-word.invariant few in
-    omega (arith, room, many by c.args.places.now words i c.loop-word-test.true c.args.self.now c.loop-word.self c.loop-word.invariant)
+    let room = room_rows c.args.places.now (edges_of by words) c.args.self.now (edges_of by (drop i words)) c.loop-word.self c.loop-word.invariant.noting few in
+    omega (arith, room, many by c.args.places.now words i c.loop-word-test.true c.args.self.now c.loop-word.self c.loop-word.invariant.noting)
 
 pub loop-word-preserved : goal.loop-word-preserved
-loop-word-preserved c =
-    next c.words-words.result.places.now c.args.places.now c.words-words.result.words.now c.loop-word.word-index c.loop-word-test.true c.args.self.now c.loop-word.self c.loop-word.invariant
-    c.note_word.new.self c.note_word.ensures
+loop-word-preserved c = record {
+  noting = next c.words-words.result.places.now c.args.places.now c.words-words.result.words.now c.loop-word.word-index c.loop-word-test.true c.args.self.now c.loop-word.self c.loop-word.invariant.noting
+      c.add_word.new.self c.add_word.ensures.noted;
+  found = c.add_word.ensures.found;
+  known = c.add_word.ensures.known;
+}
 
 pub returns : goal.returns
 returns c =
@@ -88,9 +95,10 @@ returns c =
     let new = c.loop-word.self in
     let exact = c.words-words.ensures.exact in
     let noted : AreNoted places (edges_of by words) old new = noting_all places (edges_of by words) old new
-    (subst (λ these. IsNoting places (edges_of by words) (edges_of by these) old new) (drop_all c.loop-word.word-index words c.loop-word-test.false) c.loop-word.invariant) in
+    (subst (λ these. IsNoting places (edges_of by words) (edges_of by these) old new) (drop_all c.loop-word.word-index words c.loop-word-test.false) c.loop-word.invariant.noting) in
     record {
       known = exact;
+      words = c.loop-word.invariant.known;
       classes = noted.classes;
       front = noted.front;
       further = noted.further;

@@ -3,6 +3,7 @@ use Rattle.std.proofs.lemmas.List.{map-append}
 use Rattle.ld_graph.specs.Edges.{IsEdge, PlainGraph, with_edge}
 use Rattle.ld_union.specs.declared.dependencies.Witnessed.{Witnessed}
 use Rattle.ld_union.specs.Inner.Union.{IsCycleEdge, edges_of}
+use Rattle.ld_union.proofs.KnownLemmas.{kept-pushed, there-pushed}
 use Rattle.ld_union.proofs.UnionLemmas.{numbered-pushed, witnessed-pushed}
 use Rattle.ld_union.proofs.dependencies.Dependencies.enter.Goals as goal
 
@@ -29,3 +30,9 @@ returns-clause-closing c was =
     ∙ ap (λ edges. edges ++ c.args.edge ∷ []) (sym c.args.self.now.same_edges) ∙ sym (ap (λ (g : PlainGraph). g.edges) inserted) in
     subst (λ edges. IsCycleEdge edges c.closing_then-self.result) (sym same)
     (c.closing_then-self.ensures c.args.self.now.graph graph c.insert-answer.ensures.inserted (subst (λ edges. IsCycleEdge edges c.args.self.now.closing) (sym c.args.self.now.same_edges) was))
+
+pub returns-clause-kept : goal.returns-clause-kept
+returns-clause-kept c e trace seen = rw c.push_reserved.ensures.items (kept-pushed c.args.self.now.rows.items _ e trace seen)
+
+pub returns-clause-there : goal.returns-clause-there
+returns-clause-there c = rw c.push_reserved.ensures.items (there-pushed c.args.self.now.rows.items _)

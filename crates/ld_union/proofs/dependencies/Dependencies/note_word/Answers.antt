@@ -1,5 +1,5 @@
 use Rattle.std.proofs.Common.{◌≡◌, ◌+◌, ◌*◌, ◌^◌, ◌<◌, ◌∷◌, [], All, List, ℕ, ap, arith, get_or, length, subst, w64, ◌∙◌}
-use Rattle.std.proofs.lemmas.List.Elements.{All-head}
+use Rattle.std.proofs.lemmas.List.Elements.{All-cons, All-head, All-nil}
 use Rattle.std.specs.Int.{trailing_zeros}
 use Rattle.ld_graph.specs.declared.Edge.{Edge}
 use Rattle.ld_shown.specs.declared.rows.WitnessedEdge.{WitnessedEdge}
@@ -7,8 +7,8 @@ use Rattle.ld_shown.specs.declared.rows.WitnessedWord.{WitnessedWord}
 use Rattle.ld_shown.specs.Inner.Rows.{edges_in}
 use Rattle.ld_shown.proofs.EdgeLemmas.{but_lowest, edge_by, edges-first, edges-none, many-in, with_bits}
 use Rattle.ld_union.specs.declared.dependencies.Dependencies.{Dependencies}
-use Rattle.ld_union.specs.Inner.Noted.{AreNoted, IsNoting, IsPlaced}
-use Rattle.ld_union.specs.Inner.Union.{AreWitnessed, named_edge, with_seen}
+use Rattle.ld_union.specs.Inner.Noted.{AreNoted, IsNoting, IsPlaced, placed_edge}
+use Rattle.ld_union.specs.Inner.Union.{AreWitnessed, WasSeen, named_edge, with_seen}
 use Rattle.ld_union.proofs.NotedLemmas.{All_left, all_edges, noting_all, noting_then, room_edges, room_rows}
 use Rattle.ld_union.proofs.dependencies.Dependencies.note_word.Goals as goal
 
@@ -28,17 +28,17 @@ module _ (by places : List ℕ) (word : WitnessedWord) (left : ℕ) (some : 0 < 
       All-head (IsPlaced places) here behind
       (subst (All (IsPlaced places)) first (All_left places (edges_in by word) old (edges_in by (with_bits word left)) now so_far (IsPlaced places) all))
 
-pub bounds-places-held : goal.bounds-places-held
-bounds-places-held c =
+pub bounds-places-held_place : goal.bounds-places-held_place
+bounds-places-held_place c =
     let some : 0 < c.loop-left.left = omega (arith, c.loop-left-test.true) in
     let here = placed c.args.words.now.places.now c.args.places.now c.args.word c.loop-left.left some (omega arith) c.args.self.now c.loop-left.self c.loop-left.invariant c.requires.placed in
-    rw c.place-held.ensures here.0
+    rw c.place-held_place.ensures here.0
 
 pub note-requires-clause-from : goal.note-requires-clause-from
 note-requires-clause-from c =
     let some : 0 < c.loop-left.left = omega (arith, c.loop-left-test.true) in
     let here = placed c.args.words.now.places.now c.args.places.now c.args.word c.loop-left.left some (omega arith) c.args.self.now c.loop-left.self c.loop-left.invariant c.requires.placed in
-    let within = c.requires.within c.place-held.result 0 (rw c.place-held.ensures here.0) in
+    let within = c.requires.within c.place-held_place.result 0 (rw c.place-held_place.ensures here.0) in
     omega (arith, within, c.loop-left.invariant.noted.classes)
 
 pub note-requires-clause-to : goal.note-requires-clause-to
@@ -88,8 +88,8 @@ loop-left-preserved c =
     let new = c.note.new.self in
     let edge = here by places word left some low in
     let noted = c.note.ensures in
-    let same_edge : ◌≡◌ {A = Edge} (record { from = get_or places c.place-held.result 0; to = c.number_at-to.result }) (record { from = get_or places edge.from 0; to = get_or places edge.to 0 }) =
-    (λ i. record { from = get_or places (c.place-held.ensures i) 0; to = (c.number_at-to.ensures ∙ ap (λ n. get_or places n 0) c.place.ensures) i }) in
+    let same_edge : ◌≡◌ {A = Edge} (record { from = get_or places c.place-held_place.result 0; to = c.number_at-to.result }) (record { from = get_or places edge.from 0; to = get_or places edge.to 0 }) =
+    (λ i. record { from = get_or places (c.place-held_place.ensures i) 0; to = (c.number_at-to.ensures ∙ ap (λ n. get_or places n 0) c.place.ensures) i }) in
     let one : AreNoted places (edge ∷ []) mid new = record {
       classes = noted.classes;
       spare_edges = omega (arith, noted.spare_edges);
@@ -99,6 +99,8 @@ loop-left-preserved c =
       exact = noted.exact;
       closing = noted.closing;
       numbered = noted.numbered;
+      kept = noted.kept;
+      there = All-cons (λ e. WasSeen new.rows.items (placed_edge places e) e.witness.number) edge [] (subst (λ e. WasSeen new.rows.items e word.witness.number) same_edge noted.there) (All-nil (λ e. WasSeen new.rows.items (placed_edge places e) e.witness.number));
       witnesses = λ classes same between before witnessed.
           subst (λ e. AreWitnessed classes new.rows.items (with_seen before (named_edge classes e) word.witness)) same_edge
           (noted.noted classes same between before witnessed);

@@ -54,7 +54,7 @@ module _ (c : goal.After-seed_all) where
   entered = sym (c.enter_classes.ensures.count ∙ c.len.ensures.len)
 
   numbered : AreBetween classes c.enter_classes.new.self.rows.items
-  numbered = subst (AreBetween classes) (sym rows) (numbered-longer c.self.inside.classes classes old_rows count c.len.ensures.distinct c.self.invariant.numbered longer)
+  numbered = subst (AreBetween classes) (sym rows) (numbered-longer c.self.inside.classes classes old_rows count c.len.ensures.distinct c.self.invariant.0.numbered longer)
 
   -- before the usage was noted
   usage : c.deref_mut.result.now ≡ take (length classes) old_usage ++ replicate (length classes - length old_usage) (row_of (λ bit. None))
@@ -92,7 +92,7 @@ module _ (c : goal.After-seed_all) where
       tells-then (bits_of old_usage) (bits_of c.deref_mut.result.now) (bits_of c.add_usage.new.rows) c.add_usage.new.bits.items
       (subst (λ all. TellsBits (bits_of old_usage) (bits_of all) [])
       (ap (λ front. front ++ replicate (length classes - length old_usage) (row_of (λ bit. None)))
-      (sym (take_all (length classes) old_usage (omega (arith, c.self.invariant.rows, longer.least)))) ∙ sym usage)
+      (sym (take_all (length classes) old_usage (omega (arith, c.self.invariant.0.rows, longer.least)))) ∙ sym usage)
       (tells-longer old_usage (length classes - length old_usage)))
       c.add_usage.ensures.told
 
@@ -119,7 +119,7 @@ module _ (c : goal.After-seed_all) where
   seeded : (state : State) → IsReachOf (length classes) (edges_of c.add.new.self.rows.items) (bits_of (with_items c.resize.new.self c.add_usage.new.rows).items) state
       (of_state c.seed_all.new.self.reach state)
   seeded state =
-      let was = c.self.invariant.reached state in
+      let was = c.self.invariant.0.reached state in
       let entered_exact = c.enter_classes.ensures.exact (edges_of old_rows) state was.seeds (c.in_ok-room.ensures.exact (edges_of old_rows) state was.seeds was.exact) in
       let added = c.add.ensures.exact state was.seeds
       (subst {A = List Witnessed} (λ all. IsReach (IsEdge (edges_of all)) was.seeds (of_state c.enter_classes.new.self.reach state)) (sym rows) entered_exact) in
@@ -140,7 +140,7 @@ returns-clause-added c =
     (λ first witnessed.
     c.add.ensures.witnesses these (entered c) (numbered c) (subst (ArePlaces these named) (sym c.deref.ensures.value) (places c)) first
     (subst (λ all. AreWitnessed these all first) (sym (rows c))
-    (witnessed-longer c.self.inside.classes these (old_rows c) (count c) c.self.invariant.numbered (longer c) first witnessed)))
+    (witnessed-longer c.self.inside.classes these (old_rows c) (count c) c.self.invariant.0.numbered (longer c) first witnessed)))
     (λ first used.
     subst (λ all. AreUsed these all (with_first first (use_witness c.args.batch.now.sources))) (sym (written c))
     (c.add_usage.ensures.used these c.len.ensures.distinct (subst (ArePlaces these named) (sym c.deref-2.ensures.value) (places c)) first
@@ -163,7 +163,7 @@ returns-clause-told c =
           ∙ (further c state).front
           ∙ sym (reached_at reach state);
       from = λ state class there.
-          source_some (length union.classes) (edges_of (old_rows c)) (bits_of (old_usage c)) state (of_state reach state) (c.self.invariant.reached state) class
+          source_some (length union.classes) (edges_of (old_rows c)) (bits_of (old_usage c)) state (of_state reach state) (c.self.invariant.0.reached state) class
           (c.counts-news-inside.ensures.sources state class (subst (λ all. Contains all class) (reached_at reach state) there));
       stays = λ state class on.
           ap (λ marks. get_or marks class false) (marks_at more state)
@@ -192,31 +192,34 @@ seed_all-requires-clause-within c =
 pub invariant_of-self : goal.invariant_of-self
 invariant_of-self c =
     rw (c.room.ensures.graph, c.room.ensures.rows, c.room.ensures.closing)
-    (union-kept c.room.new.self.reach c.self.invariant c.room.new.self.graph.classes (ap (λ (g : PlainGraph). g.classes) c.room.ensures.graph) c.room.new.self.counted (c.room.ensures.exact (edges_of c.self.inside.dependencies.rows.items)))
+    (union-kept c.room.new.self.reach c.self.invariant.0 c.room.new.self.graph.classes (ap (λ (g : PlainGraph). g.classes) c.room.ensures.graph) c.room.new.self.counted (c.room.ensures.exact (edges_of c.self.inside.dependencies.rows.items)), c.self.invariant.1)
 
 pub invariant_of-self-in_err-reserve : goal.invariant_of-self-in_err-reserve
 invariant_of-self-in_err-reserve c =
     rw (c.room.ensures.graph, c.room.ensures.rows, c.room.ensures.closing, c.in_err-reserve.ensures.items)
-    (union-kept c.room.new.self.reach c.self.invariant c.room.new.self.graph.classes (ap (λ (g : PlainGraph). g.classes) c.room.ensures.graph) c.room.new.self.counted (c.room.ensures.exact (edges_of c.self.inside.dependencies.rows.items)))
+    (union-kept c.room.new.self.reach c.self.invariant.0 c.room.new.self.graph.classes (ap (λ (g : PlainGraph). g.classes) c.room.ensures.graph) c.room.new.self.counted (c.room.ensures.exact (edges_of c.self.inside.dependencies.rows.items)), c.self.invariant.1)
 
 pub invariant_of-self-in_err-reserve-2 : goal.invariant_of-self-in_err-reserve-2
 invariant_of-self-in_err-reserve-2 c =
     rw (c.room.ensures.graph, c.room.ensures.rows, c.room.ensures.closing, c.in_ok-reserve.ensures.items)
-    (union-kept c.room.new.self.reach c.self.invariant c.room.new.self.graph.classes (ap (λ (g : PlainGraph). g.classes) c.room.ensures.graph) c.room.new.self.counted (c.room.ensures.exact (edges_of c.self.inside.dependencies.rows.items)))
+    (union-kept c.room.new.self.reach c.self.invariant.0 c.room.new.self.graph.classes (ap (λ (g : PlainGraph). g.classes) c.room.ensures.graph) c.room.new.self.counted (c.room.ensures.exact (edges_of c.self.inside.dependencies.rows.items)), c.self.invariant.1)
 
 pub invariant_of-self-in_err-intern_all : goal.invariant_of-self-in_err-intern_all
 invariant_of-self-in_err-intern_all c =
     rw (c.room.ensures.graph, c.room.ensures.rows, c.room.ensures.closing, c.in_ok-reserve.ensures.items, c.in_err-intern_all.ensures.refused)
-    (union-kept c.room.new.self.reach c.self.invariant c.room.new.self.graph.classes (ap (λ (g : PlainGraph). g.classes) c.room.ensures.graph) c.room.new.self.counted (c.room.ensures.exact (edges_of c.self.inside.dependencies.rows.items)))
+    (union-kept c.room.new.self.reach c.self.invariant.0 c.room.new.self.graph.classes (ap (λ (g : PlainGraph). g.classes) c.room.ensures.graph) c.room.new.self.counted (c.room.ensures.exact (edges_of c.self.inside.dependencies.rows.items)), c.self.invariant.1)
 
 pub invariant_of-self-2 : goal.invariant_of-self-2
-invariant_of-self-2 c = rw (c.seed_all.ensures.graph, c.seed_all.ensures.rows, c.seed_all.ensures.closing) (record {
-  numbered = c.add.ensures.numbered (classes c) (entered c) (numbered c);
-  few = search rules;
-  count = c.add.ensures.classes ∙ sym (entered c);
-  rows = omega (arith, ap length (written c), c.add_usage.ensures.len, ap length c.deref_mut.ensures.value, c.resize.new.self.ok.0, c.in-Ok.ensures.len, c.len-2.ensures.len);
-  closing = c.add.ensures.closing
-      (subst {A = List Witnessed} (λ all. IsCycleEdge (edges_of all) c.enter_classes.new.self.closing) (sym (rows c))
-      (subst (IsCycleEdge (edges_of (old_rows c))) (sym (c.enter_classes.ensures.closing ∙ c.in_ok-room.ensures.closing)) c.self.invariant.closing));
-  reached = seeded c;
-})
+invariant_of-self-2 c = rw (c.seed_all.ensures.graph, c.seed_all.ensures.rows, c.seed_all.ensures.closing) (
+  record {
+    numbered = c.add.ensures.numbered (classes c) (entered c) (numbered c);
+    few = search rules;
+    count = c.add.ensures.classes ∙ sym (entered c);
+    rows = omega (arith, ap length (written c), c.add_usage.ensures.len, ap length c.deref_mut.ensures.value, c.resize.new.self.ok.0, c.in-Ok.ensures.len, c.len-2.ensures.len);
+    closing = c.add.ensures.closing
+        (subst {A = List Witnessed} (λ all. IsCycleEdge (edges_of all) c.enter_classes.new.self.closing) (sym (rows c))
+        (subst (IsCycleEdge (edges_of (old_rows c))) (sym (c.enter_classes.ensures.closing ∙ c.in_ok-room.ensures.closing)) c.self.invariant.0.closing));
+    reached = seeded c;
+  },
+  c.add.ensures.words,
+)
