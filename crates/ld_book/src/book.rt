@@ -242,7 +242,7 @@ impl<'a> Book<'a> {
     /// # Errors
     ///
     /// `AllocError` where a growth of memory was refused.
-    pub fn findings(&self, alloc: Global) -> Result<Findings<'a>, AllocError>
+    pub fn findings(&self, alloc: Global) -> Result<Findings<'_, 'a>, AllocError>
         ensures { IfOk result (λ findings. AreFindings self.now (plain_findings findings)) }
     {
         findings_of(alloc, &self.union, &self.found)

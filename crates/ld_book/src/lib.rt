@@ -11,7 +11,7 @@ pub use ld_class::{ClassName, Classes};
 pub use ld_facts::{Batch, Witness};
 pub use ld_graph::{Edge, Graph};
 pub use ld_union::{
-    Alarms, ConflictRow, CycleRow, Findings, ForbiddenRow, Rows, UsageRow, Witnessed,
+    Alarms, ConflictRow, CycleRow, Findings, ForbiddenRow, Rows, UsageRow, Walk, Witnessed,
 };
 pub use totals::Totals;
 pub use traces::Traces;

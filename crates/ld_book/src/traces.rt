@@ -1,44 +1,48 @@
 //! The traces of a book, in the order of their numbers.
 ghost use Rattle.std.specs.Prelude.{◌≡◌, ◌↔◌, IfOk, IsTrue};
+ghost use Rattle.std.specs.Cow.{cow_slice_items};
 ghost use Rattle.std.specs.List.Sorted.{IsNonDecreasingBy, IsPermutation};
 ghost use Rattle.ld_shown.specs.Batch.{AreOutcomes, AreRising, sources_of};
 
 use crate::book::Book;
 use ld_facts::Listed;
 use std::alloc::{AllocError, Global};
+use std::borrow::CowSlice;
 use std::marker::Model;
 
 /// The traces that a book lists, seen as the list of them, in the order of their numbers.
 #[derive(Drop)]
-pub struct Traces<'a> {
-    listed: Vec<Listed<'a>>,
+pub struct Traces<'b, 'a> {
+    /// Those of the book itself, where they came in order.
+    listed: CowSlice<'b, Listed<'a>>,
 }
 
-impl<'a> Model for Traces<'a> {
+impl<'b, 'a> Model for Traces<'b, 'a> {
     ghost use Rattle.std.specs.Prelude.{List};
     ghost use Rattle.ld_trace.specs.Sources.{PlainSource};
 
     ghost Value = { List PlainSource };
 
     ghost use Rattle.ld_shown.specs.Batch.{AreOutcomes, AreRising, sources_of};
+    ghost use Rattle.std.specs.Cow.{cow_slice_items};
 
-    ghost view = { λ t. sources_of t.listed.items };
+    ghost view = { λ t. sources_of (cow_slice_items t.listed) };
 
-    ghost invariant = { λ t. AreOutcomes t.listed.items × AreRising (sources_of t.listed.items) };
+    ghost invariant = { λ t. AreOutcomes (cow_slice_items t.listed)
+        × AreRising (sources_of (cow_slice_items t.listed)) };
 }
 
-impl<'a> Traces<'a> {
-    /// Those of this book.
+impl<'b, 'a> Traces<'b, 'a> {
+    /// Those of this book. Takes memory only where they came in another order.
     ///
     /// # Errors
     ///
     /// `AllocError` where memory was refused.
-    pub fn new(alloc: Global, book: &Book<'a>) -> Result<Traces<'a>, AllocError>
+    pub fn new(alloc: Global, book: &'b Book<'a>) -> Result<Traces<'b, 'a>, AllocError>
         ensures same { IfOk result (λ traces. IsPermutation book.now traces) }
         ensures rising { IfOk result (λ traces. AreRising traces) }
     {
-        let mut listed = book.listed().to_vec(alloc)?;
-        sort(&mut listed);
+        let listed = in_order(alloc, book.listed())?;
         Ok(Traces { listed })
     }
 
@@ -48,8 +52,25 @@ impl<'a> Traces<'a> {
         ensures outcomes { AreOutcomes result.now }
         ensures rising { AreRising self.now }
     {
-        &self.listed
+        self.listed.as_slice()
     }
+}
+
+/// These in the order of their numbers. Takes memory only where they stand in another one.
+fn in_order<'b, 'a>(
+    alloc: Global,
+    listed: &'b [Listed<'a>],
+) -> Result<CowSlice<'b, Listed<'a>>, AllocError>
+    ensures permutation { IfOk result (λ traces. IsPermutation listed.now (cow_slice_items traces)) }
+    ensures sorted { IfOk result (λ traces. IsNonDecreasingBy (λ trace. trace.source.number)
+        (cow_slice_items traces)) }
+{
+    if are_in_order(listed) {
+        return Ok(CowSlice::Borrowed(listed));
+    }
+    let mut sorted = listed.to_vec(alloc)?;
+    sort(&mut sorted);
+    Ok(CowSlice::Owned(sorted))
 }
 
 /// Puts these in the order of their numbers.

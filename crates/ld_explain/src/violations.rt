@@ -3,7 +3,7 @@ ghost use Rattle.std.specs.Prelude.{◌≡◌, [], All, IfOk, List, OnOk};
 ghost use Rattle.ld_trace.specs.Sources.{PlainSource};
 ghost use Rattle.ld_explain.specs.Steps.{AreFirst, IsAtFirst};
 
-use ld_texts::{Book, ClassName, ConflictRow, CycleRow, Findings, ForbiddenRow, Witness};
+use ld_texts::{Book, ClassName, ConflictRow, CycleRow, Findings, ForbiddenRow, Walk, Witness};
 use ld_trace::{State, next_line, text};
 use std::alloc::{AllocError, Global};
 
@@ -87,13 +87,13 @@ impl<'r, 'a> Violation<'r, 'a> {
         alloc: Global,
         book: &Book<'a>,
         line: &'r [u8],
-        row: &CycleRow<'a>,
+        row: &CycleRow<'_, 'a>,
     ) -> Result<Violation<'r, 'a>, AllocError>
         ensures { IfOk result (λ violation. AreFirst book.now violation) }
     {
         let mut steps = Vec::new(alloc);
         add_step(book, &mut steps, row.from, row.to)?;
-        add_steps(book, &mut steps, row.via.items())?;
+        add_steps(book, &mut steps, &row.via)?;
         let kind = if row.from == row.to {
             Kind::Recursion
         } else {
@@ -128,12 +128,12 @@ impl<'r, 'a> Violation<'r, 'a> {
         alloc: Global,
         book: &Book<'a>,
         line: &'r [u8],
-        row: &ForbiddenRow<'a>,
+        row: &ForbiddenRow<'_, 'a>,
     ) -> Result<Violation<'r, 'a>, AllocError>
         ensures { IfOk result (λ violation. AreFirst book.now violation) }
     {
         let mut steps = Vec::new(alloc);
-        add_steps(book, &mut steps, row.via.items())?;
+        add_steps(book, &mut steps, &row.via)?;
         Ok(Violation {
             kind: Kind::Forbidden,
             line,
@@ -195,15 +195,13 @@ fn add_step<'a>(
 fn add_steps<'a>(
     book: &Book<'a>,
     steps: &mut Vec<Step<'a>>,
-    walk: &[ClassName<'a>],
+    walk: &Walk<'_, 'a>,
 ) -> Result<(), AllocError>
     requires { All (IsAtFirst book.now) steps.old.items }
     ensures { OnOk result (All (IsAtFirst book.now) steps.new.items) }
 {
-    for pair in walk.windows(2) {
-        if let [from, to] = pair {
-            add_step(book, steps, *from, *to)?;
-        }
+    for place in 1..walk.len() {
+        add_step(book, steps, walk.name(place - 1), walk.name(place))?;
     }
     Ok(())
 }
@@ -265,7 +263,7 @@ pub fn chosen<'r, 'a>(
 fn chosen_of<'r, 'a>(
     alloc: Global,
     book: &Book<'a>,
-    findings: &Findings<'a>,
+    findings: &Findings<'_, 'a>,
     lines: &mut Lines<'r>,
     choice: &Choice<'_>,
 ) -> Result<Vec<Violation<'r, 'a>>, AllocError>

@@ -128,6 +128,9 @@ impl<'a> Other<'a> {
             (IsFirstSaid bytes.entry.now (answer_seen self.new.said) self.new.rest.now) }
         ensures none { OnFalse result (bytes.entry.now ≡ []) }
     {
+        if bytes.is_empty() {
+            return false;
+        }
         if let Some((event, others)) = next_state_event(bytes) {
             self.said = Ok(Some(event));
             self.rest = others;

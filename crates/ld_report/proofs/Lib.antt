@@ -4,3 +4,4 @@ pub mod Texts
 pub mod TraceLemmas
 pub mod Unique
 pub mod Verdicts
+pub mod WalkLemmas

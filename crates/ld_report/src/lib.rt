@@ -2,7 +2,6 @@
 #![tactic(auto)]
 
 mod labels;
-mod lengths;
 mod lines;
 mod text;
 mod verdict;

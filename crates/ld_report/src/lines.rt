@@ -1,16 +1,15 @@
 //! Writes the lines of a report. Each call answers `AllocError` where memory for its text was refused.
-ghost use Rattle.std.specs.Prelude.{◌≡◌, ◌++◌, OnOk, decimal};
+ghost use Rattle.std.specs.Prelude.{◌≡◌, ◌++◌, OnOk, decimal, drop};
 ghost use Rattle.ld_class.specs.Names.{plain_class};
 ghost use Rattle.ld_rules.specs.declared.outcome.Outcome.TheVariants.{Refused};
 ghost use Rattle.ld_book.specs.Findings.{plain_conflict_row, plain_cycle_row, plain_forbidden_row};
-ghost use Rattle.ld_book.specs.Findings.{plain_names};
 ghost use Rattle.ld_report.specs.Report.{class_text, conflict_line, cycle_line, forbidden_line};
 ghost use Rattle.ld_report.specs.Report.{inversion_line, last_line, marked, place};
 ghost use Rattle.ld_report.specs.Report.{recursion_line, refused_line, state_name, steps};
 ghost use Rattle.ld_report.specs.Report.{summary_line, via};
 
 use crate::labels::label;
-use ld_book::{ClassName, ConflictRow, CycleRow, ForbiddenRow, Totals, Traces};
+use ld_book::{ClassName, ConflictRow, CycleRow, ForbiddenRow, Totals, Traces, Walk};
 use ld_rules::{TraceFault, Witness};
 use ld_trace::State;
 use std::alloc::AllocError;
@@ -39,8 +38,7 @@ pub fn write_refused(
     ensures { OnOk result (text.new.items ≡ text.old.items ++
         refused_line label.now (Refused line fault)) }
 {
-    text.extend_from_slice(b"refused ")?;
-    text.extend_from_slice(label)?;
+    write_bytes(text, "refused ", label)?;
     let name = fault.name();
     writeln!(text, " line {line} {name}").map_err(|_| AllocError)
 }
@@ -48,8 +46,8 @@ pub fn write_refused(
 /// Writes a dependency on a cycle.
 pub fn write_cycle(
     text: &mut Vec<u8>,
-    traces: &Traces<'_>,
-    row: &CycleRow<'_>,
+    traces: &Traces<'_, '_>,
+    row: &CycleRow<'_, '_>,
 ) -> Result<(), AllocError>
     ensures { OnOk result (text.new.items ≡ text.old.items ++
         cycle_line traces.now (plain_cycle_row row.now)) }
@@ -64,8 +62,8 @@ pub fn write_cycle(
 /// Writes a dependency of a class on itself.
 fn write_recursion(
     text: &mut Vec<u8>,
-    traces: &Traces<'_>,
-    row: &CycleRow<'_>,
+    traces: &Traces<'_, '_>,
+    row: &CycleRow<'_, '_>,
 ) -> Result<(), AllocError>
     ensures { OnOk result (text.new.items ≡ text.old.items ++
         recursion_line traces.now (plain_cycle_row row.now)) }
@@ -79,8 +77,8 @@ fn write_recursion(
 /// Writes a dependency between two classes.
 fn write_inversion(
     text: &mut Vec<u8>,
-    traces: &Traces<'_>,
-    row: &CycleRow<'_>,
+    traces: &Traces<'_, '_>,
+    row: &CycleRow<'_, '_>,
 ) -> Result<(), AllocError>
     ensures { OnOk result (text.new.items ≡ text.old.items ++
         inversion_line traces.now (plain_cycle_row row.now)) }
@@ -88,13 +86,13 @@ fn write_inversion(
     write_name(text, "inversion ", row.from)?;
     write_name(text, " -> ", row.to)?;
     write_place(text, " at ", traces, row.at)?;
-    write_walk(text, row.via.items())
+    write_walk(text, &row.via)
 }
 
 /// Writes a class with both bits of a state.
 pub fn write_conflict(
     text: &mut Vec<u8>,
-    traces: &Traces<'_>,
+    traces: &Traces<'_, '_>,
     row: &ConflictRow<'_>,
 ) -> Result<(), AllocError>
     ensures { OnOk result (text.new.items ≡ text.old.items ++
@@ -111,8 +109,8 @@ pub fn write_conflict(
 /// Writes a forbidden walk.
 pub fn write_forbidden(
     text: &mut Vec<u8>,
-    traces: &Traces<'_>,
-    row: &ForbiddenRow<'_>,
+    traces: &Traces<'_, '_>,
+    row: &ForbiddenRow<'_, '_>,
 ) -> Result<(), AllocError>
     ensures { OnOk result (text.new.items ≡ text.old.items ++
         forbidden_line traces.now (plain_forbidden_row row.now)) }
@@ -122,7 +120,7 @@ pub fn write_forbidden(
     write_place(text, " in ", traces, row.safe_at)?;
     write_class(text, " -> ", row.to, &row.to_marks)?;
     write_place(text, " on ", traces, row.unsafe_at)?;
-    write_walk(text, row.via.items())
+    write_walk(text, &row.via)
 }
 
 /// Writes how many violations there are.
@@ -150,9 +148,37 @@ fn write_number(text: &mut Vec<u8>, words: &str, number: u64) -> Result<(), Allo
 fn write_bytes(text: &mut Vec<u8>, words: &str, bytes: &[u8]) -> Result<(), AllocError>
     ensures { OnOk result (text.new.items ≡ text.old.items ++ words.now ++ bytes.now) }
 {
+    make_room(text, words.len().saturating_add(bytes.len()))?;
     text.extend_from_slice(words.as_bytes())?;
     text.extend_from_slice(bytes)?;
     Ok(())
+}
+
+/// How many bytes there is room for behind what is written at once: for a number and what stands around it.
+const SPARE: usize = 64;
+
+/// How many bytes a text grows by at least.
+const LEAST_GROWTH: usize = 4_096;
+
+/// Takes memory for so many bytes more and some behind them, where it isn't there.
+#[inline(always)]
+fn make_room(text: &mut Vec<u8>, count: usize) -> Result<(), AllocError>
+    ensures { text.new.items ≡ text.old.items }
+{
+    let wanted = count.saturating_add(SPARE);
+    if text.capacity() - text.len() >= wanted {
+        return Ok(());
+    }
+    grow(text, wanted)
+}
+
+/// Takes memory for so many bytes more, by a quarter of the text at least: so it is copied a few times, and takes little
+/// more than its length. No clause says so.
+#[inline(never)]
+fn grow(text: &mut Vec<u8>, wanted: usize) -> Result<(), AllocError>
+    ensures { text.new.items ≡ text.old.items }
+{
+    text.reserve_exact(wanted.max(text.len() / 4).max(LEAST_GROWTH))
 }
 
 /// Writes the name of a class behind these words: `name`, or `name/N` where it is a subclass.
@@ -172,7 +198,7 @@ fn write_name(text: &mut Vec<u8>, words: &str, class: ClassName<'_>) -> Result<(
 fn write_place(
     text: &mut Vec<u8>,
     words: &str,
-    traces: &Traces<'_>,
+    traces: &Traces<'_, '_>,
     at: Witness,
 ) -> Result<(), AllocError>
     ensures { OnOk result (text.new.items ≡ text.old.items ++ words.now ++ place traces.now at) }
@@ -209,24 +235,24 @@ fn write_class(
 }
 
 /// Writes the names of a walk, and ends the line.
-fn write_walk(text: &mut Vec<u8>, names: &[ClassName<'_>]) -> Result<(), AllocError>
-    ensures { OnOk result (text.new.items ≡ text.old.items ++ via (plain_names names.now)) }
+fn write_walk(text: &mut Vec<u8>, walk: &Walk<'_, '_>) -> Result<(), AllocError>
+    ensures { OnOk result (text.new.items ≡ text.old.items ++ via walk.now) }
 {
-    text.extend_from_slice(b" via ")?;
-    if let Some((first, others)) = names.split_first() {
-        write_name(text, "", *first)?;
-        write_steps(text, others)?;
+    write_bytes(text, " via ", b"")?;
+    if walk.len() > 0 {
+        write_name(text, "", walk.name(0))?;
+        write_steps(text, walk)?;
     }
     text.push(b'\n')?;
     Ok(())
 }
 
-/// Writes names, each behind an arrow.
-fn write_steps(text: &mut Vec<u8>, names: &[ClassName<'_>]) -> Result<(), AllocError>
-    ensures { OnOk result (text.new.items ≡ text.old.items ++ steps (plain_names names.now)) }
+/// Writes the names of a walk behind the first, each behind an arrow.
+fn write_steps(text: &mut Vec<u8>, walk: &Walk<'_, '_>) -> Result<(), AllocError>
+    ensures { OnOk result (text.new.items ≡ text.old.items ++ steps (drop 1 walk.now)) }
 {
-    for name in names {
-        write_name(text, " -> ", *name)?;
+    for place in 1..walk.len() {
+        write_name(text, " -> ", walk.name(place))?;
     }
     Ok(())
 }

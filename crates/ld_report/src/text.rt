@@ -8,7 +8,6 @@ ghost use Rattle.ld_report.specs.Report.{IsReport, SaysClean, conflict_line, cyc
 ghost use Rattle.ld_report.specs.Report.{forbidden_line, last_line, refused_lines, summary_line};
 ghost use Rattle.ld_report.specs.Report.{violation_lines, violations};
 
-use crate::lengths::length_of;
 use crate::lines::{
     write_conflict, write_cycle, write_forbidden, write_last, write_refused, write_summary,
 };
@@ -34,15 +33,15 @@ pub fn report(alloc: Global, book: &Book<'_>) -> Result<Vec<u8>, AllocError>
 fn text_of(
     alloc: Global,
     totals: &Totals,
-    traces: &Traces<'_>,
-    findings: &Findings<'_>,
+    traces: &Traces<'_, '_>,
+    findings: &Findings<'_, '_>,
 ) -> Result<Vec<u8>, AllocError>
     ensures { IfOk result (λ text. text.items ≡
         summary_line totals.now ++ refused_lines traces.now
         ++ violation_lines traces.now (plain_findings findings.now)
         ++ last_line (violations (plain_findings findings.now))) }
 {
-    let mut text = Vec::with_capacity(alloc, length_of(totals, traces, findings))?;
+    let mut text = Vec::new(alloc);
     write_summary(&mut text, totals)?;
     write_all_refused(&mut text, traces.listed())?;
     write_violations(&mut text, traces, findings)?;
@@ -67,8 +66,8 @@ fn write_all_refused(text: &mut Vec<u8>, listed: &[Listed<'_>]) -> Result<(), Al
 /// Writes every violation.
 fn write_violations(
     text: &mut Vec<u8>,
-    traces: &Traces<'_>,
-    findings: &Findings<'_>,
+    traces: &Traces<'_, '_>,
+    findings: &Findings<'_, '_>,
 ) -> Result<(), AllocError>
     ensures { OnOk result (text.new.items ≡ text.old.items ++
         violation_lines traces.now (plain_findings findings.now)) }
@@ -81,8 +80,8 @@ fn write_violations(
 /// Writes the dependencies on cycles.
 fn write_cycles(
     text: &mut Vec<u8>,
-    traces: &Traces<'_>,
-    cycles: &[CycleRow<'_>],
+    traces: &Traces<'_, '_>,
+    cycles: &[CycleRow<'_, '_>],
 ) -> Result<(), AllocError>
     ensures { OnOk result (text.new.items ≡ text.old.items ++
         flat_map (cycle_line traces.now) (map plain_cycle_row cycles.now)) }
@@ -96,7 +95,7 @@ fn write_cycles(
 /// Writes the conflicts.
 fn write_conflicts(
     text: &mut Vec<u8>,
-    traces: &Traces<'_>,
+    traces: &Traces<'_, '_>,
     conflicts: &[ConflictRow<'_>],
 ) -> Result<(), AllocError>
     ensures { OnOk result (text.new.items ≡ text.old.items ++
@@ -111,8 +110,8 @@ fn write_conflicts(
 /// Writes the forbidden walks.
 fn write_all_forbidden(
     text: &mut Vec<u8>,
-    traces: &Traces<'_>,
-    walks: &[ForbiddenRow<'_>],
+    traces: &Traces<'_, '_>,
+    walks: &[ForbiddenRow<'_, '_>],
 ) -> Result<(), AllocError>
     ensures { OnOk result (text.new.items ≡ text.old.items ++
         flat_map (forbidden_line traces.now) (map plain_forbidden_row walks.now)) }
@@ -124,7 +123,7 @@ fn write_all_forbidden(
 }
 
 /// How many violations there are.
-fn count_of(findings: &Findings<'_>) -> u64
+fn count_of(findings: &Findings<'_, '_>) -> u64
     ensures { result ≡ violations (plain_findings findings.now) }
 {
     let conflicts = findings.conflicts.items().len();

@@ -1,10 +1,10 @@
-//! Where a book had what the batches of a worker showed before.
+//! Where a union had what the batches of a worker showed before.
 
 use std::alloc::Global;
 
-/// Where a book may have the classes and dependencies of a batch, by the numbers that the batch's scan
-/// has for them: where it had them when an earlier batch of this worker was added. One comparison
-/// confirms it, and where it isn't so, they are looked up.
+/// Where a union may have what a batch shows, by the numbers that the batch's scan has for it: where it had that when
+/// an earlier batch of this worker was added. One comparison confirms a guess of a class or a dependency, which is
+/// looked up where it isn't so; a guess of a word or a block says no more than what the union finds there.
 ///
 /// It has no meaning: no clause says what is in it. Where memory for a guess is refused there is none.
 #[derive(Drop)]
@@ -12,9 +12,11 @@ pub struct Guesses {
     classes: Vec<u32>,
     /// Of dependencies, by the numbers of their words and bits.
     dependencies: Vec<u32>,
-    /// Of words and of blocks of classes, plus 1; 0 where there is no guess.
-    words: Vec<u32>,
-    blocks: Vec<u32>,
+    words: Vec<Option<u32>>,
+    /// Of blocks of 64 of the worker's classes.
+    blocks: Vec<Option<u32>>,
+    /// Whether a batch was added with these.
+    lasting: bool,
 }
 
 impl Guesses {
@@ -25,52 +27,59 @@ impl Guesses {
             dependencies: Vec::new(alloc),
             words: Vec::new(alloc),
             blocks: Vec::new(alloc),
+            lasting: false,
         }
     }
 
     /// Where the class of this number may be.
     pub fn class(&self, number: u32) -> u32 {
-        at(&self.classes, number)
+        at(&self.classes, number, 0)
     }
 
     /// The class of this number is there.
     pub fn keep_class(&mut self, number: u32, place: u32) {
-        keep(&mut self.classes, number, place);
+        keep(&mut self.classes, number, 0, place);
     }
 
     /// Where the word of this number may be, if it was anywhere.
     pub fn word(&self, number: u32) -> Option<u32> {
-        at(&self.words, number).checked_sub(1)
+        at(&self.words, number, None)
     }
 
-    /// The word of this number is there.
-    pub fn keep_word(&mut self, number: u32, place: u32) {
-        if let Some(after) = place.checked_add(1) {
-            keep(&mut self.words, number, after);
-        }
+    /// The word of this number is there. Tells whether that is kept.
+    pub fn keep_word(&mut self, number: u32, place: u32) -> bool {
+        keep(&mut self.words, number, None, Some(place))
     }
 
     /// Where the block of this number may be, if it was anywhere.
     pub fn block(&self, number: u32) -> Option<u32> {
-        at(&self.blocks, number).checked_sub(1)
+        at(&self.blocks, number, None)
     }
 
     /// The block of this number is there.
     pub fn keep_block(&mut self, number: u32, place: u32) {
-        if let Some(after) = place.checked_add(1) {
-            keep(&mut self.blocks, number, after);
-        }
+        keep(&mut self.blocks, number, None, Some(place));
+    }
+
+    /// Whether an earlier batch was added with these: not where one is added alone, after which they go.
+    pub fn are_lasting(&self) -> bool {
+        self.lasting
+    }
+
+    /// A batch is added with these.
+    pub fn note_batch(&mut self) {
+        self.lasting = true;
     }
 
     /// Where the dependency of this number may be. It is 64 times the number of its word, plus its bit.
     pub fn dependency(&self, number: u32) -> usize {
-        at(&self.dependencies, number) as usize
+        at(&self.dependencies, number, 0) as usize
     }
 
     /// The dependency of this number is there.
     pub fn keep_dependency(&mut self, number: u32, place: usize) {
         if let Ok(place) = u32::try_from(place) {
-            keep(&mut self.dependencies, number, place);
+            keep(&mut self.dependencies, number, 0, place);
         }
     }
 }
@@ -78,19 +87,21 @@ impl Guesses {
 /// How many guesses of one kind are kept at most: numbers that differ by a multiple of it have one in common.
 const MOST_GUESSES: usize = 1 << 20;
 
-/// What was kept for the number, else 0.
-fn at(kept: &[u32], number: u32) -> u32 {
+/// What was kept for the number, or else this.
+fn at<T: Copy>(kept: &[T], number: u32, none: T) -> T {
     match kept.get(number as usize % MOST_GUESSES) {
-        Some(place) => *place,
-        None => 0,
+        Some(guess) => *guess,
+        None => none,
     }
 }
 
-/// Keeps the place for the number, where there is memory for it.
-fn keep(kept: &mut Vec<u32>, number: u32, place: u32) {
+/// Keeps the guess for the number, where there is memory for it, and tells whether there is. Numbers that have none get
+/// that of no guess.
+fn keep<T: Copy>(kept: &mut Vec<T>, number: u32, none: T, guess: T) -> bool {
     let index = number as usize % MOST_GUESSES;
-    if kept.len() <= index && kept.resize(index + 1, 0).is_err() {
-        return;
+    if kept.len() <= index && kept.resize(index + 1, none).is_err() {
+        return false;
     }
-    kept[index] = place;
+    kept[index] = guess;
+    true
 }

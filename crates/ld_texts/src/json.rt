@@ -2,7 +2,9 @@
 
 use crate::places::Places;
 use crate::writing::Seen;
-use ld_book::{Book, ClassName, ConflictRow, CycleRow, Findings, ForbiddenRow, Totals, Witness};
+use ld_book::{
+    Book, ClassName, ConflictRow, CycleRow, Findings, ForbiddenRow, Totals, Walk, Witness,
+};
 use ld_rules::{Listed, Outcome};
 use ld_trace::State;
 use serde::Serialize;
@@ -132,7 +134,7 @@ fn write_totals(alloc: Global, text: &mut Vec<u8>, totals: &Totals) -> Result<()
 fn write_refused<'x>(
     alloc: Global,
     text: &mut Vec<u8>,
-    seen: &Seen<'_, 'x, 'x>,
+    seen: &Seen<'_, '_, 'x, 'x>,
     trace: &Listed<'x>,
 ) -> Result<(), AllocError> {
     let Outcome::Refused { line, fault } = trace.outcome else {
@@ -153,8 +155,8 @@ fn write_refused<'x>(
 fn write_violations<'x>(
     alloc: Global,
     text: &mut Vec<u8>,
-    seen: &Seen<'_, 'x, 'x>,
-    findings: &'x Findings<'x>,
+    seen: &Seen<'_, '_, 'x, 'x>,
+    findings: &'x Findings<'x, 'x>,
 ) -> Result<(), AllocError> {
     for row in findings.cycles.items() {
         write_cycle(alloc, text, seen, row)?;
@@ -172,8 +174,8 @@ fn write_violations<'x>(
 fn write_cycle<'x>(
     alloc: Global,
     text: &mut Vec<u8>,
-    seen: &Seen<'_, 'x, 'x>,
-    row: &'x CycleRow<'x>,
+    seen: &Seen<'_, '_, 'x, 'x>,
+    row: &'x CycleRow<'x, 'x>,
 ) -> Result<(), AllocError> {
     let at = placed(seen, row.at);
     if row.from == row.to {
@@ -184,7 +186,7 @@ fn write_cycle<'x>(
         from: named(row.from),
         to: named(row.to),
         at,
-        walk: walk(alloc, row.via.items())?,
+        walk: names_of(alloc, &row.via)?,
     };
     write_line(alloc, text, &line)
 }
@@ -193,7 +195,7 @@ fn write_cycle<'x>(
 fn write_conflict<'x>(
     alloc: Global,
     text: &mut Vec<u8>,
-    seen: &Seen<'_, 'x, 'x>,
+    seen: &Seen<'_, '_, 'x, 'x>,
     row: &'x ConflictRow<'x>,
 ) -> Result<(), AllocError> {
     let line = Line::Conflict {
@@ -210,8 +212,8 @@ fn write_conflict<'x>(
 fn write_forbidden<'x>(
     alloc: Global,
     text: &mut Vec<u8>,
-    seen: &Seen<'_, 'x, 'x>,
-    row: &'x ForbiddenRow<'x>,
+    seen: &Seen<'_, '_, 'x, 'x>,
+    row: &'x ForbiddenRow<'x, 'x>,
 ) -> Result<(), AllocError> {
     let line = Line::Forbidden {
         state: state_name(row.state),
@@ -221,13 +223,13 @@ fn write_forbidden<'x>(
         to: named(row.to),
         to_usage: word(&row.to_marks),
         held: placed(seen, row.unsafe_at),
-        walk: walk(alloc, row.via.items())?,
+        walk: names_of(alloc, &row.via)?,
     };
     write_line(alloc, text, &line)
 }
 
 /// Where something was first seen.
-fn placed<'x>(seen: &Seen<'_, 'x, 'x>, witness: Witness) -> At<'x> {
+fn placed<'x>(seen: &Seen<'_, '_, 'x, 'x>, witness: Witness) -> At<'x> {
     let (file, file_line) = seen.place(witness.line);
     At {
         label: word(seen.label(witness.number)),
@@ -246,12 +248,12 @@ fn named(class: ClassName<'_>) -> Class<'_> {
 }
 
 /// The classes of a walk.
-fn walk<'a>(alloc: Global, names: &[ClassName<'a>]) -> Result<Vec<Class<'a>>, AllocError> {
-    let mut walk = Vec::with_capacity(alloc, names.len())?;
-    for name in names {
-        walk.push(named(*name))?;
+fn names_of<'a>(alloc: Global, walk: &Walk<'_, 'a>) -> Result<Vec<Class<'a>>, AllocError> {
+    let mut names = Vec::with_capacity(alloc, walk.len())?;
+    for place in 0..walk.len() {
+        names.push(named(walk.name(place)))?;
     }
-    Ok(walk)
+    Ok(names)
 }
 
 /// The name of a state.

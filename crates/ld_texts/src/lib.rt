@@ -12,7 +12,7 @@ mod wanted;
 mod writing;
 
 pub use ld_book::{
-    Book, ClassName, ConflictRow, CycleRow, Edge, Findings, ForbiddenRow, Totals, Witness,
+    Book, ClassName, ConflictRow, CycleRow, Edge, Findings, ForbiddenRow, Totals, Walk, Witness,
 };
 pub use ld_counts::Followers;
 pub use overview::{ClassRow, DependencyRow, Overview};

@@ -40,7 +40,7 @@ impl Counts {
 pub(crate) fn list_text(
     alloc: Global,
     book: &Book<'_>,
-    seen: &Seen<'_, '_, '_>,
+    seen: &Seen<'_, '_, '_, '_>,
     counts: &Counts,
     dependencies: bool,
 ) -> Result<Vec<u8>, AllocError> {
@@ -65,7 +65,7 @@ pub(crate) fn list_text(
 pub(crate) fn class_text(
     alloc: Global,
     book: &Book<'_>,
-    seen: &Seen<'_, '_, '_>,
+    seen: &Seen<'_, '_, '_, '_>,
     counts: &Counts,
     name: &[u8],
 ) -> Result<Vec<u8>, AllocError> {
@@ -106,7 +106,7 @@ fn write_row(text: &mut Vec<u8>, counts: &Counts, row: &ClassRow<'_>) -> Result<
 /// those that it begins. Answers where these end.
 fn write_followers(
     text: &mut Vec<u8>,
-    seen: &Seen<'_, '_, '_>,
+    seen: &Seen<'_, '_, '_, '_>,
     rows: &[DependencyRow<'_>],
     start: usize,
     class: u32,
@@ -124,7 +124,7 @@ fn write_followers(
 /// Writes under what a class was acquired, and then what was acquired under it.
 fn write_around(
     text: &mut Vec<u8>,
-    seen: &Seen<'_, '_, '_>,
+    seen: &Seen<'_, '_, '_, '_>,
     rows: &[DependencyRow<'_>],
     class: u32,
 ) -> Result<(), AllocError> {
@@ -144,7 +144,7 @@ fn write_around(
 /// Writes where each usage bit of a class was first seen.
 fn write_usage(
     text: &mut Vec<u8>,
-    seen: &Seen<'_, '_, '_>,
+    seen: &Seen<'_, '_, '_, '_>,
     row: &ClassRow<'_>,
 ) -> Result<(), AllocError> {
     let [in_hard, on_hard, in_soft, on_soft] = row.usage.first;
@@ -158,7 +158,7 @@ fn write_usage(
 fn write_bit(
     text: &mut Vec<u8>,
     words: &[u8],
-    seen: &Seen<'_, '_, '_>,
+    seen: &Seen<'_, '_, '_, '_>,
     first: Option<Witness>,
 ) -> Result<(), AllocError> {
     let Some(at) = first else {
@@ -174,7 +174,7 @@ fn write_bit(
 fn write_named(
     text: &mut Vec<u8>,
     words: &[u8],
-    seen: &Seen<'_, '_, '_>,
+    seen: &Seen<'_, '_, '_, '_>,
     class: ClassName<'_>,
     first: Witness,
 ) -> Result<(), AllocError> {

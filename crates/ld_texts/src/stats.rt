@@ -168,7 +168,7 @@ fn cyclic_sizes(alloc: Global, book: &Book<'_>) -> Result<Vec<u32>, AllocError> 
 }
 
 /// Writes how many violations there are, and how many of each kind.
-fn write_violations(text: &mut Vec<u8>, findings: &Findings<'_>) -> Result<(), AllocError> {
+fn write_violations(text: &mut Vec<u8>, findings: &Findings<'_, '_>) -> Result<(), AllocError> {
     let cycles = findings.cycles.items();
     let conflicts = findings.conflicts.items();
     let forbidden = findings.forbidden.items();

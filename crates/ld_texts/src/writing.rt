@@ -8,18 +8,18 @@ use std::io::Write;
 
 /// Where things were seen: traces by their labels, lines by their files.
 #[derive(Drop)]
-pub(crate) struct Seen<'p, 'f, 'a> {
-    traces: Traces<'a>,
+pub(crate) struct Seen<'b, 'p, 'f, 'a> {
+    traces: Traces<'b, 'a>,
     places: &'p Places<'f>,
 }
 
-impl<'p, 'f, 'a> Seen<'p, 'f, 'a> {
+impl<'b, 'p, 'f, 'a> Seen<'b, 'p, 'f, 'a> {
     /// What the traces of a book are, and the files are, whose lines they have.
     pub(crate) fn new(
         alloc: Global,
-        book: &Book<'a>,
+        book: &'b Book<'a>,
         places: &'p Places<'f>,
-    ) -> Result<Seen<'p, 'f, 'a>, AllocError> {
+    ) -> Result<Seen<'b, 'p, 'f, 'a>, AllocError> {
         let traces = Traces::new(alloc, book)?;
         Ok(Seen { traces, places })
     }
@@ -79,7 +79,7 @@ pub(crate) fn write_marks(text: &mut Vec<u8>, usage: &UsageRow) -> Result<(), Al
 /// Writes where something was first seen: `LABEL FILE:LINE`.
 pub(crate) fn write_at(
     text: &mut Vec<u8>,
-    seen: &Seen<'_, '_, '_>,
+    seen: &Seen<'_, '_, '_, '_>,
     at: Witness,
 ) -> Result<(), AllocError> {
     text.extend_from_slice(seen.label(at.number))?;

@@ -1,7 +1,7 @@
 pub mod ClosingLemmas
 pub mod EachOnceLemmas
 pub mod EarlierLemmas
-pub mod KnownLemmas
+pub mod WasSeenLemmas
 pub mod NewsLemmas
 pub mod NotedLemmas
 pub mod AcquiredLemmas
@@ -24,4 +24,4 @@ pub mod SortedLemmas
 pub mod StayingLemmas
 pub mod UniqueLemmas
 pub mod WitnessLemmas
-pub mod WordLemmas
+pub mod KnownLemmas

@@ -17,10 +17,10 @@ use Rattle.ld_shown.specs.Inner.Names.{ArePlaces}
 use Rattle.ld_shown.proofs.SourceLemmas.{earlier_of-none}
 use Rattle.ld_union.specs.declared.dependencies.Dependencies.{Dependencies}
 use Rattle.ld_union.specs.declared.dependencies.Witnessed.{Witnessed}
-use Rattle.ld_union.specs.Inner.Noted.{AreNoted, IsKnown, IsNoting, placed_dependency, placed_edge, with_all}
+use Rattle.ld_union.specs.Inner.Noted.{AreNoted, IsNoting, IsSeenBefore, placed_dependency, placed_edge, with_all}
 use Rattle.ld_union.specs.Inner.Union.{AreWitnessed, WasSeen, earlier_of, edges_of, named_edge, with_seen}
 use Rattle.ld_union.proofs.EarlierLemmas.{earlier-lower}
-use Rattle.ld_union.proofs.KnownLemmas.{seen-later}
+use Rattle.ld_union.proofs.WasSeenLemmas.{seen-later}
 use Rattle.ld_union.proofs.ReachedLemmas.{front-then, further-same, further-then}
 use Rattle.ld_union.proofs.SeenLemmas.{none_found}
 use Rattle.ld_union.proofs.UnionLemmas.{length_rows, same_dependency-true}
@@ -80,7 +80,7 @@ noted_then places xs ys old mid new first next = record {
 }
 
 -- one that was seen in an earlier trace has its first witness
-known-first : (classes : List PlainClass) (rows : List Witnessed) (places : List ℕ) (edge : WitnessedEdge) → IsKnown rows places edge
+known-first : (classes : List PlainClass) (rows : List Witnessed) (places : List ℕ) (edge : WitnessedEdge) → IsSeenBefore rows places edge
     → (first : Dependency → Option Witness) → AreWitnessed classes rows first → (what : Dependency)
     → with_seen first (named_edge classes (placed_edge places edge)) edge.witness what ≡ first what
 known-first classes rows places edge known first witnessed what = by (same_dependency what named) refl
@@ -104,14 +104,14 @@ known-first classes rows places edge known first witnessed what = by (same_depen
     by false alike = sym (earlier_of-none (first what))
 
 -- where all are known, nothing is to be noted
-known-all : (classes : List PlainClass) (rows : List Witnessed) (places : List ℕ) (told : List WitnessedEdge) → All (IsKnown rows places) told
+known-all : (classes : List PlainClass) (rows : List Witnessed) (places : List ℕ) (told : List WitnessedEdge) → All (IsSeenBefore rows places) told
     → (first : Dependency → Option Witness) → AreWitnessed classes rows first → with_all first (map (placed_dependency classes places) told) ≡ first
 known-all classes rows places [] known first witnessed = refl
 known-all classes rows places (edge ∷ told) known first witnessed =
-    ap (λ f. with_all f (map (placed_dependency classes places) told)) (λ i what. known-first classes rows places edge (All-head (IsKnown rows places) edge told known) first witnessed what i)
-    ∙ known-all classes rows places told (All-tail (IsKnown rows places) edge told known) first witnessed
+    ap (λ f. with_all f (map (placed_dependency classes places) told)) (λ i what. known-first classes rows places edge (All-head (IsSeenBefore rows places) edge told known) first witnessed what i)
+    ∙ known-all classes rows places told (All-tail (IsSeenBefore rows places) edge told known) first witnessed
 
-pub noted-known : (places : List ℕ) (told : List WitnessedEdge) (now : Dependencies) → All (IsKnown now.rows.items places) told → AreNoted places told now now
+pub noted-known : (places : List ℕ) (told : List WitnessedEdge) (now : Dependencies) → All (IsSeenBefore now.rows.items places) told → AreNoted places told now now
 noted-known places told now known = record {
   classes = refl;
   spare_edges = omega arith;
@@ -122,7 +122,7 @@ noted-known places told now known = record {
   closing = λ was. was;
   numbered = λ classes same between. between;
   kept = λ edge trace seen. seen;
-  there = All-weaker (IsKnown now.rows.items places) (λ edge. WasSeen now.rows.items (placed_edge places edge) edge.witness.number)
+  there = All-weaker (IsSeenBefore now.rows.items places) (λ edge. WasSeen now.rows.items (placed_edge places edge) edge.witness.number)
       (λ edge is. seen-later now.rows.items (placed_edge places edge) is.0 edge.witness.number (let low = is.1.0 in omega (arith, low)) is.1.1) told known;
   witnesses = λ classes same between first witnessed.
       subst (AreWitnessed classes now.rows.items) (sym (known-all classes now.rows.items places told known first witnessed)) witnessed;

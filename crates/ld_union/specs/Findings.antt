@@ -93,7 +93,7 @@ plain_cycle_row row = record {
   from = plain_class row.from;
   to = plain_class row.to;
   at = row.at;
-  via = plain_names row.via;
+  via = row.via;
 }
 
 -- a conflict's row
@@ -116,7 +116,7 @@ plain_forbidden_row row = record {
   to = plain_class row.to;
   to_marks = row.to_marks;
   unsafe_at = row.unsafe_at;
-  via = plain_names row.via;
+  via = row.via;
 }
 
 -- the rows of the three kinds

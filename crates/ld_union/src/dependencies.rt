@@ -130,15 +130,15 @@ impl Dependencies {
         known: &mut KnownWords,
         guesses: &mut Guesses,
     )
-        requires words { AreKnownWords self.old.rows.items known.old.classes.items
+        requires known { AreKnownWords self.old.rows.items known.old.classes.items
             known.old.words.items }
         requires count { length places.now ≡ length batch.now.classes }
         requires within { All (λ place. place < self.old.graph.classes) places.now }
         requires spare_edges { length batch.now.edges ≤ self.old.graph.spare_edges }
         requires spare_rows { vec_len self.old.rows + length batch.now.edges
             ≤ vec_capacity self.old.rows }
-        ensures known { IsBatch batch.now }
-        ensures words { AreKnownWords self.new.rows.items known.new.classes.items
+        ensures batch { IsBatch batch.now }
+        ensures known { AreKnownWords self.new.rows.items known.new.classes.items
             known.new.words.items }
         ensures classes { self.new.graph.classes ≡ self.old.graph.classes }
         ensures front { take (length self.old.rows.items) (edges_of self.new.rows.items)

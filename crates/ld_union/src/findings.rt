@@ -28,13 +28,13 @@ use std::alloc::{AllocError, Global};
 
 /// Every violation that some traces show, in the order of the report.
 #[derive(Drop)]
-pub struct Findings<'a> {
+pub struct Findings<'u, 'a> {
     /// The dependencies on cycles, by the names of their classes.
-    pub cycles: Rows<CycleRow<'a>>,
+    pub cycles: Rows<CycleRow<'u, 'a>>,
     /// The conflicts, hard first, then by the name of the class.
     pub conflicts: Rows<ConflictRow<'a>>,
     /// The forbidden walks, hard first, then by the names of their ends.
-    pub forbidden: Rows<ForbiddenRow<'a>>,
+    pub forbidden: Rows<ForbiddenRow<'u, 'a>>,
 }
 
 /// Every violation of a union of which one of each kind was found, if it has one. Where no cycle or
@@ -43,11 +43,11 @@ pub struct Findings<'a> {
 /// # Errors
 ///
 /// `AllocError` where a growth of memory was refused.
-pub fn findings_of<'a>(
+pub fn findings_of<'u, 'a>(
     alloc: Global,
-    union: &Union<'a>,
+    union: &'u Union<'a>,
     found: &Found,
-) -> Result<Findings<'a>, AllocError>
+) -> Result<Findings<'u, 'a>, AllocError>
     ensures { IfOk result (λ findings. (sources : List PlainSource)
         → Shows sources union.now
         → IsOfEach sources found.now

@@ -12,24 +12,24 @@ use std::alloc::Global;
 
 /// Dependencies that a union has, from up to 64 classes of a block to one class.
 #[derive(Clone, Copy, Debug)]
-pub struct KnownWord {
+pub(crate) struct KnownWord {
     /// The block of the classes that were held.
-    pub block: u32,
+    pub(crate) block: u32,
     /// The number of the class that was acquired under them.
-    pub to: u32,
+    pub(crate) to: u32,
     /// Bit k is on where the union has the one from class k of the block.
-    pub bits: u64,
+    pub(crate) bits: u64,
     /// None of them was first seen in a later trace.
-    pub latest: u64,
+    pub(crate) latest: u64,
 }
 
-/// Where a block of a worker's classes is.
+/// Where a block of a worker's classes is among those of a union.
 #[derive(Clone, Copy, Debug)]
-pub struct FoundBlock {
-    /// The block.
-    pub block: u32,
+pub(crate) struct FoundBlock {
+    /// The union's block.
+    pub(crate) block: u32,
     /// Bit k is on where class k of it is the worker's.
-    pub bits: u64,
+    pub(crate) bits: u64,
 }
 
 /// Words that a union knows, and the blocks of their classes.
@@ -37,6 +37,7 @@ pub struct FoundBlock {
 pub(crate) struct KnownWords {
     /// The numbers of the classes of block after block, 64 for each.
     pub(crate) classes: Vec<u32>,
+    /// By the places that guesses have for them.
     pub(crate) words: Vec<KnownWord>,
     /// For a batch that is added, by the number that its worker has for a block.
     pub(crate) found: Vec<FoundBlock>,
@@ -60,7 +61,7 @@ impl KnownWords {
         }
     }
 
-    /// Whether all dependencies of the word are known, and were seen in earlier traces.
+    /// Whether all dependencies of the word are known, and were seen in earlier traces. `false` says nothing.
     pub(crate) fn has(&self, word: &WitnessedWord, to: u32, guesses: &Guesses) -> bool
         ensures { OnTrue result ((rows : List Witnessed) (number_of : ℕ → ℕ)
             → AreKnownWords rows self.now.classes.items self.now.words.items
@@ -103,21 +104,22 @@ impl KnownWords {
     {
         self.found.clear();
         for number in numbers {
-            let own = number_at(places, words.place(*number));
-            self.find_class(*number, own, guesses);
+            let here = number_at(places, words.place(*number));
+            self.find_class(*number, here, guesses);
         }
+        guesses.note_batch();
     }
 
     /// The class with this number of a worker's has this one here, where there is room to know that.
-    fn find_class(&mut self, number: u32, own: u32, guesses: &mut Guesses)
+    fn find_class(&mut self, number: u32, here: u32, guesses: &mut Guesses)
         ensures words { self.new.words ≡ self.old.words }
         ensures known { (rows : List Witnessed) → AreKnownWords rows self.old.classes.items self.old.words.items
             → AreKnownWords rows self.new.classes.items self.new.words.items }
-        ensures found { (number_of : ℕ → ℕ) → number_of number ≡ own
+        ensures found { (number_of : ℕ → ℕ) → number_of number ≡ here
             → AreFound number_of self.old.classes.items self.old.found.items
             → AreFound number_of self.new.classes.items self.new.found.items }
     {
-        if own == NO_CLASS {
+        if here == NO_CLASS {
             return;
         }
         let block = number / 64;
@@ -125,7 +127,7 @@ impl KnownWords {
         let Some(at) = self.block(block, guesses) else {
             return;
         };
-        if fill(&mut self.classes, 64 * at as usize + place as usize, own) {
+        if fill(&mut self.classes, 64 * at as usize + place as usize, here) {
             self.found[block as usize].bits |= 1 << place;
         }
     }
@@ -146,6 +148,7 @@ impl KnownWords {
             return None;
         }
         let found = self.found[number as usize];
+        // What a batch was found in stays its block.
         if found.bits != 0 {
             return self.whole(found.block);
         }
@@ -169,7 +172,8 @@ impl KnownWords {
         more.is_ok()
     }
 
-    /// The block that the guesses say, or else a new one.
+    /// The block that the guesses say, or else a new one; none where this is the first batch of the worker, so that a batch
+    /// alone leaves nothing here.
     fn guessed(&mut self, number: u32, guesses: &mut Guesses) -> Option<u32>
         ensures words { self.new.words ≡ self.old.words }
         ensures found { self.new.found ≡ self.old.found }
@@ -179,7 +183,12 @@ impl KnownWords {
         ensures within { IfSome result (λ at. 64 * at + 64 ≤ length self.new.classes.items) }
     {
         if let Some(at) = guesses.block(number) {
-            return self.whole(at);
+            if let Some(at) = self.whole(at) {
+                return Some(at);
+            }
+        }
+        if !guesses.are_lasting() {
+            return None;
         }
         let at = self.add_block()?;
         guesses.keep_block(number, at);
@@ -213,7 +222,8 @@ impl KnownWords {
         Some(at)
     }
 
-    /// The dependencies of the word are known from now on, as far as there is memory for that.
+    /// The dependencies of the word, which are noted, are known from now on: those of the classes that were found, as far
+    /// as there is memory for that.
     pub(crate) fn keep(&mut self, word: &WitnessedWord, to: u32, guesses: &mut Guesses)
         ensures classes { self.new.classes ≡ self.old.classes }
         ensures found { self.new.found ≡ self.old.found }
@@ -223,37 +233,50 @@ impl KnownWords {
             → AreSeen number_of rows word.now to
             → AreKnownWords rows self.new.classes.items self.new.words.items }
     {
-        let Some(found) = self.found.get(word.block as usize) else {
+        let Some(more) = self.own_word(word, to) else {
             return;
         };
-        let more = KnownWord {
-            block: found.block,
-            to,
-            bits: word.bits & found.bits,
-            latest: word.witness.number,
-        };
-        match guesses.word(word.number) {
-            Some(at) => self.put(at, more),
-            None => {
-                if let Some(at) = self.add(more) {
-                    guesses.keep_word(word.number, at);
-                }
-            }
+        let guess = guesses.word(word.number);
+        if !self.put(guess, more) {
+            self.add(word.number, more, guesses);
         }
     }
 
+    /// The dependencies of the word, as far as its classes are found: none of a batch alone.
+    fn own_word(&self, word: &WitnessedWord, to: u32) -> Option<KnownWord>
+        ensures { IfSome result (λ own. (rows : List Witnessed) (number_of : ℕ → ℕ)
+            → AreFound number_of self.now.classes.items self.now.found.items
+            → AreSeen number_of rows word.now to
+            → IsKnownWord rows self.now.classes.items own) }
+    {
+        let found = self.found.get(word.block as usize)?;
+        let bits = word.bits & found.bits;
+        if bits == 0 {
+            return None;
+        }
+        Some(KnownWord {
+            block: found.block,
+            to,
+            bits,
+            latest: word.witness.number,
+        })
+    }
+
     /// Joins a word to the one at this place, or puts it there where that one is of other dependencies: so a worker has
-    /// no more words than guesses of them.
-    fn put(&mut self, at: u32, more: KnownWord)
+    /// no more words than guesses of them. Tells whether there is such a place.
+    fn put(&mut self, guess: Option<u32>, more: KnownWord) -> bool
         ensures classes { self.new.classes ≡ self.old.classes }
         ensures found { self.new.found ≡ self.old.found }
         ensures known { (rows : List Witnessed) → AreKnownWords rows self.old.classes.items self.old.words.items
             → IsKnownWord rows self.old.classes.items more
             → AreKnownWords rows self.new.classes.items self.new.words.items }
     {
+        let Some(at) = guess else {
+            return false;
+        };
         let at = at as usize;
         if at >= self.words.len() {
-            return;
+            return false;
         }
         let known = self.words[at];
         if known.block == more.block && known.to == more.to {
@@ -261,21 +284,24 @@ impl KnownWords {
         } else {
             self.words[at] = more;
         }
+        true
     }
 
-    /// Puts a word last, where there is memory for it, and tells where it is.
-    fn add(&mut self, more: KnownWord) -> Option<u32>
+    /// Puts a word last, where there is memory for it and for the guess that leads to it.
+    fn add(&mut self, number: u32, more: KnownWord, guesses: &mut Guesses)
         ensures classes { self.new.classes ≡ self.old.classes }
         ensures found { self.new.found ≡ self.old.found }
         ensures known { (rows : List Witnessed) → AreKnownWords rows self.old.classes.items self.old.words.items
             → IsKnownWord rows self.old.classes.items more
             → AreKnownWords rows self.new.classes.items self.new.words.items }
     {
-        let at = u32::try_from(self.words.len()).ok()?;
-        let Ok(()) = self.words.push(more) else {
-            return None;
+        let Ok(at) = u32::try_from(self.words.len()) else {
+            return;
         };
-        Some(at)
+        if guesses.keep_word(number, at) {
+            // Without memory for the word its guess leads nowhere.
+            let _ = self.words.push(more);
+        }
     }
 }
 
@@ -290,17 +316,17 @@ pub(crate) fn number_at(places: &[u32], place: u32) -> u32
 }
 
 /// Puts the class there, where none is, and tells whether it is there then.
-fn fill(classes: &mut Vec<u32>, cell: usize, own: u32) -> bool
+fn fill(classes: &mut Vec<u32>, cell: usize, here: u32) -> bool
     requires { cell < length classes.old.items }
     ensures len { length classes.new.items ≡ length classes.old.items }
     ensures kept { (n : ℕ) → slice_index_or classes.old.items n 0 ≢ 4294967295
         → slice_index_or classes.new.items n 0 ≡ slice_index_or classes.old.items n 0 }
-    ensures is { OnTrue result (slice_index_or classes.new.items cell 0 ≡ own) }
+    ensures is { OnTrue result (slice_index_or classes.new.items cell 0 ≡ here) }
 {
     if classes[cell] == NO_CLASS {
-        classes[cell] = own;
+        classes[cell] = here;
     }
-    classes[cell] == own
+    classes[cell] == here
 }
 
 impl FoundBlock {

@@ -13,6 +13,7 @@ mod rows;
 mod states;
 mod union;
 mod usage;
+mod walk;
 
 pub use alarms::{Alarms, Forbidden, Found};
 pub use dependencies::Witnessed;
@@ -22,3 +23,4 @@ pub use rows::Rows;
 pub use states::PerState;
 pub use union::Union;
 pub use usage::UsageRow;
+pub use walk::Walk;

@@ -113,7 +113,7 @@ impl<'a> Union<'a> {
             guesses,
             &mut news.places,
         )?;
-        // From here on no refusal is answered: a guess without memory is left out.
+        // From here on no refusal is answered: a guess or a known word without memory is left out.
         self.dependencies.enter_classes(self.classes.len());
         let Ok(()) = self.usage.resize(self.classes.len(), UsageRow::unused()) else {
             unreachable!()

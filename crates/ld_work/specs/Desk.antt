@@ -1,5 +1,5 @@
 -- *Desk machine*, and what its feeders' tallies add up to.
-use Rattle.std.specs.Prelude.{◌≡◌, ◌+◌, ◌⊎◌, true, false, List, [], ◌∷◌, ◌++◌, length}
+use Rattle.std.specs.Prelude.{◌≡◌, ◌+◌, ◌⊎◌, true, false, List, ◌++◌, length}
 use Rattle.std.specs.Prelude.{Result, Err, OnErr, OnOk}
 use Rattle.std.specs.List.{sum_by}
 use Rattle.ld_trace.specs.Sources.{PlainSource}

@@ -5,7 +5,7 @@ use Rattle.ld_shown.specs.declared.rows.WitnessedWord.{WitnessedWord}
 use Rattle.ld_union.specs.declared.dependencies.Witnessed.{Witnessed}
 use Rattle.ld_union.specs.declared.known.FoundBlock.{FoundBlock}
 use Rattle.ld_union.specs.declared.known.KnownWord.{KnownWord}
-use Rattle.ld_union.specs.Inner.Union.{WasSeen}
+use Rattle.ld_union.specs.Inner.Union.{WasSeen, WasSeenBefore}
 
 -- the number of a class by its place in a block
 abbrev pub class_in : List ℕ → ℕ → ℕ → ℕ
@@ -16,7 +16,7 @@ pub record HasClass (classes : List ℕ) (block place : ℕ) : Type 0 where
   pub within : 64 * block + place < length classes
   pub some : class_in classes block place ≢ 4294967295
 
--- the dependencies of the bits that are on are there, none of them first seen in a later trace than the latest
+-- each bit that is on is of a class, and the dependency from it is there, first seen in no later trace than the latest
 abbrev pub IsKnownWord : List Witnessed → List ℕ → KnownWord → Type 0
 IsKnownWord rows classes word =
     (k : ℕ) → k < 64 → is_on word.bits k ≡ true
@@ -39,7 +39,7 @@ AreFound number_of classes found =
 abbrev pub AreSeenBefore : (ℕ → ℕ) → List Witnessed → WitnessedWord → ℕ → Type 0
 AreSeenBefore number_of rows word to =
     (k : ℕ) → k < 64 → is_on word.bits k ≡ true
-    → (trace : ℕ) × ((trace < word.witness.number) × WasSeen rows (record { from = number_of (64 * word.block + k); to = to }) trace)
+    → WasSeenBefore rows (record { from = number_of (64 * word.block + k); to = to }) word.witness.number
 
 -- each of them is there, and was seen by this trace
 abbrev pub AreSeen : (ℕ → ℕ) → List Witnessed → WitnessedWord → ℕ → Type 0
@@ -47,6 +47,6 @@ AreSeen number_of rows word to =
     (k : ℕ) → k < 64 → is_on word.bits k ≡ true
     → WasSeen rows (record { from = number_of (64 * word.block + k); to = to }) word.witness.number
 
--- the number here of a class, by the place that a batch has for it
+-- the number here of a class, by the place that a batch has for it; 0 past either end
 abbrev pub number_by : (by places : List ℕ) → ℕ → ℕ
 number_by by places n = slice_index_or places (slice_index_or by n 0) 0

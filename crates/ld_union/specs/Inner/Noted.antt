@@ -9,7 +9,7 @@ use Rattle.ld_graph.specs.declared.Edge.{Edge}
 use Rattle.ld_union.specs.declared.dependencies.Dependencies.{Dependencies}
 use Rattle.ld_union.specs.declared.dependencies.Witnessed.{Witnessed}
 use Rattle.ld_union.specs.Inner.Reached.{AreFurther, StayExact}
-use Rattle.ld_union.specs.Inner.Union.{AreBetween, AreWitnessed, IsCycleEdge, WasSeen, edges_of, named_edge, with_seen}
+use Rattle.ld_union.specs.Inner.Union.{AreBetween, AreWitnessed, IsCycleEdge, WasSeen, WasSeenBefore, edges_of, named_edge, with_seen}
 
 -- the edge between the classes whose numbers stand at these places
 abbrev pub placed_edge : List ℕ → WitnessedEdge → Edge
@@ -20,8 +20,8 @@ abbrev pub placed_dependency : List PlainClass → List ℕ → WitnessedEdge �
 placed_dependency classes places edge = record { what = named_edge classes (placed_edge places edge); witness = edge.witness }
 
 -- the dependency is there, and was seen in an earlier trace
-abbrev pub IsKnown : List Witnessed → List ℕ → WitnessedEdge → Type 0
-IsKnown rows places edge = (trace : ℕ) × ((trace < edge.witness.number) × WasSeen rows (placed_edge places edge) trace)
+abbrev pub IsSeenBefore : List Witnessed → List ℕ → WitnessedEdge → Type 0
+IsSeenBefore rows places edge = WasSeenBefore rows (placed_edge places edge) edge.witness.number
 
 -- both ends are places of this list
 abbrev pub IsPlaced : List ℕ → WitnessedEdge → Type 0
@@ -31,8 +31,8 @@ IsPlaced places edge = (edge.from < length places) × (edge.to < length places)
 abbrev pub with_all : (Dependency → Option Witness) → List (Met Dependency) → Dependency → Option Witness
 with_all first met = fold (λ before m. with_seen before m.what m.witness) first met
 
--- These dependencies were noted, of classes whose numbers stand at these places: no class came, and no more edges
--- than these took the room that there was.
+-- These dependencies were noted, of classes whose numbers stand at these places: no class came, no more edges than
+-- these took the room that there was, each of these was seen, and what was seen before still is.
 pub record AreNoted (places : List ℕ) (told : List WitnessedEdge) (old new : Dependencies) : Type 0 where
   pub classes : new.graph.classes ≡ old.graph.classes
   pub spare_edges : old.graph.spare_edges ≤ new.graph.spare_edges + length told

@@ -47,6 +47,10 @@ pub record WasSeen (rows : List Witnessed) (edge : Edge) (trace : ℕ) : Type 0 
   pub same : (d : Witnessed) → (slice_index_or rows at d).edge ≡ edge
   pub early : (d : Witnessed) → (slice_index_or rows at d).first.number ≤ trace
 
+-- There is one, which was first seen in a trace of a lower number.
+abbrev pub WasSeenBefore : List Witnessed → Edge → ℕ → Type 0
+WasSeenBefore rows edge number = (trace : ℕ) × ((trace < number) × WasSeen rows edge trace)
+
 -- Numbers stand for the classes, and each row is an edge between two of them, of which there is no other.
 pub record AreBetween (classes : List PlainClass) (rows : List Witnessed) : Type 0 where
   pub distinct : AreDistinct classes

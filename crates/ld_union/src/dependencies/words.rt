@@ -1,4 +1,4 @@
-//! The dependencies of a word, noted one by one.
+//! The dependencies of a word, passed over where they are known and else noted one by one.
 ghost use Rattle.std.specs.Prelude.{◌≡◌, ◌+◌, ◌<◌, ◌≤◌, All, length, vec_len, vec_capacity};
 ghost use Rattle.ld_class.specs.Blocks.{IsBlock};
 ghost use Rattle.ld_shown.specs.Inner.Rows.{edges_in};

@@ -35,7 +35,7 @@ pub struct ConflictRow<'a> {
 /// The conflicts, by state, then by the name of the class.
 pub(crate) fn conflict_rows<'a>(
     alloc: Global,
-    indexed: Indexed<'_, 'a>,
+    indexed: Indexed<'_, '_, 'a>,
 ) -> Result<Vec<ConflictRow<'a>>, AllocError>
     ensures { IfOk result (λ rows. (sources : List PlainSource)
         → Shows sources indexed.entry.union.now
@@ -50,7 +50,7 @@ pub(crate) fn conflict_rows<'a>(
 /// The conflicts of a state, by the name of the class.
 fn conflicts_of<'a>(
     alloc: Global,
-    indexed: Indexed<'_, 'a>,
+    indexed: Indexed<'_, '_, 'a>,
     state: State,
 ) -> Result<Vec<ConflictRow<'a>>, AllocError>
     ensures { IfOk result (λ rows. (sources : List PlainSource)

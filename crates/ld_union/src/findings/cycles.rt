@@ -12,8 +12,8 @@ ghost use Rattle.ld_union.specs.Violations.{IsCycle};
 use crate::alarms::Found;
 use crate::findings::indexed::Indexed;
 use crate::findings::walks::walk_names;
-use crate::rows::Rows;
 use crate::union::Union;
+use crate::walk::Walk;
 use ld_class::ClassName;
 use ld_graph::{Distance, Distances, Nexts, Reader};
 use ld_rules::Witness;
@@ -21,7 +21,7 @@ use std::alloc::{AllocError, Global};
 
 /// A dependency on a cycle.
 #[derive(Drop)]
-pub struct CycleRow<'a> {
+pub struct CycleRow<'u, 'a> {
     /// The class of the lock that was held.
     pub from: ClassName<'a>,
     /// The class of the lock that was acquired under it.
@@ -30,15 +30,15 @@ pub struct CycleRow<'a> {
     pub at: Witness,
     /// The shown walk back from `to` to `from`, or nothing where they are equal. A shown walk is a
     /// shortest one, which goes on from each class to the least-named that is one step nearer.
-    pub via: Rows<ClassName<'a>>,
+    pub via: Walk<'u, 'a>,
 }
 
 /// The dependencies that are on cycles, by the names of their classes, where one was found.
-pub(crate) fn cycle_rows<'a>(
+pub(crate) fn cycle_rows<'u, 'a>(
     alloc: Global,
-    indexed: Indexed<'_, 'a>,
+    indexed: Indexed<'u, '_, 'a>,
     found: &Found,
-) -> Result<Vec<CycleRow<'a>>, AllocError>
+) -> Result<Vec<CycleRow<'u, 'a>>, AllocError>
     ensures { IfOk result (λ rows. (sources : List PlainSource)
         → Shows sources indexed.entry.union.now
         → IsOfEach sources found.now
@@ -59,13 +59,13 @@ pub(crate) fn cycle_rows<'a>(
 
 /// Those that leave this class, by the name of the other one. Where there is none, nothing is searched
 /// for.
-fn cycles_from<'a>(
+fn cycles_from<'u, 'a>(
     alloc: Global,
-    indexed: Indexed<'_, 'a>,
+    indexed: Indexed<'u, '_, 'a>,
     components: &[u32],
     distances: &mut Distances,
     from: u32,
-) -> Result<Vec<CycleRow<'a>>, AllocError>
+) -> Result<Vec<CycleRow<'u, 'a>>, AllocError>
     requires components { AreComponentsOf indexed.union.now components.now }
     requires distances { length distances.old ≡ length indexed.union.now.classes }
     requires from { from < length indexed.union.now.classes }
@@ -95,7 +95,7 @@ fn cycles_from<'a>(
 /// The classes to which dependencies on cycles lead from this class, by name.
 fn ends_on_cycle(
     alloc: Global,
-    indexed: Indexed<'_, '_>,
+    indexed: Indexed<'_, '_, '_>,
     components: &[u32],
     from: u32,
 ) -> Result<Vec<u32>, AllocError>
@@ -118,7 +118,7 @@ fn ends_on_cycle(
 /// that stay in the component.
 fn places_on_cycle(
     alloc: Global,
-    indexed: Indexed<'_, '_>,
+    indexed: Indexed<'_, '_, '_>,
     components: &[u32],
     from: u32,
 ) -> Result<Vec<u32>, AllocError>
@@ -141,13 +141,13 @@ fn places_on_cycle(
 
 /// The row of the dependency between these classes, by the distances to the first one, or `None` where
 /// there is none on a cycle.
-fn cycle_row<'a>(
+fn cycle_row<'u, 'a>(
     alloc: Global,
-    indexed: Indexed<'_, 'a>,
+    indexed: Indexed<'u, '_, 'a>,
     distances: &[Distance],
     from: u32,
     to: u32,
-) -> Result<Option<CycleRow<'a>>, AllocError>
+) -> Result<Option<CycleRow<'u, 'a>>, AllocError>
     requires from { from < length indexed.union.now.classes }
     requires distances { AreEnoughFrom indexed.union.now to from distances.now }
     requires to { to < length indexed.union.now.classes }
@@ -168,7 +168,7 @@ fn cycle_row<'a>(
     let at = indexed.union.dependencies()[number as usize].first;
     let via = if to == from {
         // A class that is acquired under itself shows no walk.
-        Rows::from(Vec::new(alloc))
+        Walk::new(indexed.union.classes(), Vec::new(alloc))
     } else {
         let mut nexts = Nexts::new(alloc, 0)?;
         let Some(via) = walk_names(alloc, indexed, distances, &mut nexts, to, from)? else {

@@ -15,8 +15,8 @@ use crate::alarms::{Found, has, in_bit, on_bit};
 use crate::findings::indexed::Indexed;
 use crate::findings::used::{UsedClass, noted};
 use crate::findings::walks::walk_names;
-use crate::rows::Rows;
 use crate::union::Union;
+use crate::walk::Walk;
 use ld_class::ClassName;
 use ld_graph::{Distance, Distances, Nexts};
 use ld_rules::Witness;
@@ -26,7 +26,7 @@ use std::alloc::{AllocError, Global};
 /// A walk from a class that handlers of the state acquire to one that is held where they can
 /// interrupt.
 #[derive(Drop)]
-pub struct ForbiddenRow<'a> {
+pub struct ForbiddenRow<'u, 'a> {
     /// The state that the usage bits are of.
     pub state: State,
     /// The class with the IN bit, where the walk begins.
@@ -42,7 +42,7 @@ pub struct ForbiddenRow<'a> {
     /// Where the ON bit of `to` was first seen: it was held while a handler could interrupt.
     pub unsafe_at: Witness,
     /// The shown walk from `from` to `to`.
-    pub via: Rows<ClassName<'a>>,
+    pub via: Walk<'u, 'a>,
 }
 
 /// A class, and as much of the *Distances* to it as the walks from the classes that handlers acquire need.
@@ -53,11 +53,11 @@ struct Target<'d> {
 }
 
 /// The forbidden walks, by state, then by the names of their ends.
-pub(crate) fn forbidden_rows<'a>(
+pub(crate) fn forbidden_rows<'u, 'a>(
     alloc: Global,
-    indexed: Indexed<'_, 'a>,
+    indexed: Indexed<'u, '_, 'a>,
     found: &Found,
-) -> Result<Vec<ForbiddenRow<'a>>, AllocError>
+) -> Result<Vec<ForbiddenRow<'u, 'a>>, AllocError>
     ensures { IfOk result (λ rows. (sources : List PlainSource)
         → Shows sources indexed.entry.union.now
         → IsOfEach sources found.now
@@ -70,12 +70,12 @@ pub(crate) fn forbidden_rows<'a>(
 }
 
 /// The forbidden walks of a state, by the names of their ends, where one was found.
-fn forbidden_of<'a>(
+fn forbidden_of<'u, 'a>(
     alloc: Global,
-    indexed: Indexed<'_, 'a>,
+    indexed: Indexed<'u, '_, 'a>,
     state: State,
     found: &Found,
-) -> Result<Vec<ForbiddenRow<'a>>, AllocError>
+) -> Result<Vec<ForbiddenRow<'u, 'a>>, AllocError>
     ensures { IfOk result (λ rows. (sources : List PlainSource)
         → Shows sources indexed.entry.union.now
         → IsOfEach sources found.now
@@ -90,11 +90,11 @@ fn forbidden_of<'a>(
 }
 
 /// The same, by the names of the second ends, so that one search serves all the walks to a class.
-fn forbidden_by_end<'a>(
+fn forbidden_by_end<'u, 'a>(
     alloc: Global,
-    indexed: Indexed<'_, 'a>,
+    indexed: Indexed<'u, '_, 'a>,
     state: State,
-) -> Result<Vec<ForbiddenRow<'a>>, AllocError>
+) -> Result<Vec<ForbiddenRow<'u, 'a>>, AllocError>
     ensures { IfOk result (λ rows. (sources : List PlainSource)
         → Shows sources indexed.entry.union.now
         → AreTurnedRows sources state (map plain_forbidden_row rows.items)) }
@@ -122,7 +122,7 @@ fn forbidden_by_end<'a>(
 /// The classes that handlers of the state acquire, by name.
 fn acquired_by_name(
     alloc: Global,
-    indexed: Indexed<'_, '_>,
+    indexed: Indexed<'_, '_, '_>,
     state: State,
 ) -> Result<Vec<u32>, AllocError>
     ensures { IfOk result (λ classes. AreAcquired indexed.entry.union.now state classes.items) }
@@ -138,15 +138,15 @@ fn acquired_by_name(
 
 /// Those that lead to this class, by the name of the other end, which is one of these. The list of distances and that
 /// of next classes are the same for all of them.
-fn forbidden_to<'a>(
+fn forbidden_to<'u, 'a>(
     alloc: Global,
-    indexed: Indexed<'_, 'a>,
+    indexed: Indexed<'u, '_, 'a>,
     state: State,
     acquired: &[u32],
     distances: &mut Distances,
     nexts: &mut Nexts,
     to: u32,
-) -> Result<Vec<ForbiddenRow<'a>>, AllocError>
+) -> Result<Vec<ForbiddenRow<'u, 'a>>, AllocError>
     requires acquired { AreAcquired indexed.union.now state acquired.now }
     requires distances { length distances.old ≡ length indexed.union.now.classes }
     requires to { to < length indexed.union.now.classes }
@@ -180,15 +180,15 @@ fn forbidden_to<'a>(
 
 /// The row of the forbidden walk from the class to the target's, whose ON bit `held` notes, or `None`
 /// where there is none.
-fn forbidden_row<'a>(
+fn forbidden_row<'u, 'a>(
     alloc: Global,
-    indexed: Indexed<'_, 'a>,
+    indexed: Indexed<'u, '_, 'a>,
     target: &Target<'_>,
     nexts: &mut Nexts,
     held: UsedClass<'a>,
     state: State,
     from: u32,
-) -> Result<Option<ForbiddenRow<'a>>, AllocError>
+) -> Result<Option<ForbiddenRow<'u, 'a>>, AllocError>
     requires class { target.now.class < length indexed.union.now.classes }
     requires distances { AreEnoughFrom indexed.union.now from target.now.class target.now.distances.now }
     requires held { (sources : List PlainSource)

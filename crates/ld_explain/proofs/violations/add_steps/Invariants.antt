@@ -2,5 +2,5 @@ use Rattle.std.specs.Prelude.{All}
 use Rattle.ld_explain.specs.Steps.{IsAtFirst}
 use Rattle.ld_explain.proofs.violations.add_steps.Given as goal
 
-abbrev pub invariant-loop-pair : goal.invariant-loop-pair
-invariant-loop-pair l = All (IsAtFirst l.book) l.steps.items
+abbrev pub invariant-loop-place : goal.invariant-loop-place
+invariant-loop-place l = All (IsAtFirst l.book) l.steps.items

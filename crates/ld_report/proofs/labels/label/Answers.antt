@@ -8,6 +8,18 @@ use Rattle.ld_report.specs.Report.{label_of_number}
 use Rattle.ld_report.proofs.TraceLemmas.{label-absent, label-found}
 use Rattle.ld_report.proofs.labels.label.Goals as goal
 
+pub returns-then-trace-number : goal.returns-then-trace-number
+returns-then-trace-number c =
+    let listed = c.listed-in_order.result.now in
+    let number = c.args.number in
+    let trace = c.in-Some.trace.now in
+    let rising : AreRising (sources_of listed) = subst AreRising (sym c.listed-in_order.ensures.sources) c.listed-in_order.ensures.rising in
+    let within : number < length listed = search rules in
+    let found : trace ≡ get_or listed number trace = c.in-Some.ensures.lookup.1 in
+    ap (λ (l : Listed). l.source.name.now) found
+    ∙ label-found listed rising number number trace within (ap (λ (l : Listed). l.source.number) (sym found) ∙ search rules)
+    ∙ ap (λ sources. label_of_number sources number) c.listed-in_order.ensures.sources
+
 pub returns-in-Ok : goal.returns-in-Ok
 returns-in-Ok c =
     let listed = c.listed-in_order.result.now in

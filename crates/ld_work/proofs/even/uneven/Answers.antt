@@ -1,4 +1,4 @@
-use Rattle.std.proofs.Common.{rules, map, sym, subst}
+use Rattle.std.proofs.Common.{map, sym, subst}
 use Rattle.std.proofs.lemmas.List.Sorted.{IsPermutation-sym}
 use Rattle.std.proofs.lemmas.Option.{IfSome_then}
 use Rattle.std.specs.List.Sorted.{IsPermutation}
@@ -6,10 +6,10 @@ use Rattle.ld_trace.specs.Sources.{plain}
 use Rattle.ld_shown.specs.Batch.{AreRising, sources_of}
 use Rattle.ld_work.proofs.EvenLemmas.{IfNone_then, uneven_moved}
 use Rattle.ld_work.proofs.even.uneven.Goals as goal
-use Rattle.ld_work.proofs.even.uneven.Goals.{After-drop-traces-inside}
+use Rattle.ld_work.proofs.even.uneven.Goals.{Joined-traces}
 
 -- the traces in order are those of the book
-moved : (c : After-drop-traces-inside) → IsPermutation (sources_of c.listed-2.result.now) c.args.book.now
+moved : (c : Joined-traces) → IsPermutation (sources_of c.listed-2.result.now) c.args.book.now
 moved c =
     IsPermutation-sym c.args.book.now (sources_of c.listed-2.result.now)
     (subst (IsPermutation c.args.book.now) (sym c.listed-2.ensures.sources) c.in_ok-traces.ensures.same)

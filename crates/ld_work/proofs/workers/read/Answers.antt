@@ -1,4 +1,4 @@
-use Rattle.std.proofs.Common.{◌≡◌, ◌∷◌, [], ◌++◌, List, None, IfSome, refl, subst, sym}
+use Rattle.std.proofs.Common.{◌≡◌, List, None, IfSome, refl, subst, sym}
 use Rattle.std.specs.List.{last_or}
 use Rattle.ld_trace.specs.Sources.{PlainSource, plain}
 use Rattle.ld_rules.proofs.PlaceLemmas.{last_or-push}

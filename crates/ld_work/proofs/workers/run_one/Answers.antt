@@ -1,4 +1,4 @@
-use Rattle.std.proofs.Common.{◌≡◌, ◌+◌, ◌<◌, ◌≤◌, ◌++◌, ◌∷◌, [], ◌∙◌, All, Err, List, None, Ok, OnOk, Result, false, ℕ, IfSome, ap, arith, get_or, length, map, subst, sym, refl}
+use Rattle.std.proofs.Common.{◌≡◌, ◌<◌, ◌++◌, ◌∷◌, [], ◌∙◌, All, Err, List, None, Ok, OnOk, Result, false, ℕ, IfSome, ap, arith, get_or, length, map, subst, sym, refl}
 use Rattle.std.proofs.lemmas.Bool.{true≢false}
 use Rattle.std.proofs.lemmas.List.{get_or-map, get_or_push, length-map, length_push}
 use Rattle.std.proofs.lemmas.Option.{IfSome_then}

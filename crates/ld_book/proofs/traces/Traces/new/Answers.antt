@@ -1,6 +1,6 @@
 use Rattle.std.proofs.Common.{◌≡◌, ◌∙◌, List, IsPermutation, subst, sym}
-use Rattle.std.proofs.lemmas.List.{with_items_is}
-use Rattle.std.proofs.lemmas.List.Sorted.{All-permutation, IsPermutation-map, length_permutation}
+use Rattle.std.specs.Cow.{cow_slice_items}
+use Rattle.std.proofs.lemmas.List.Sorted.{All-permutation, IsPermutation-map}
 use Rattle.ld_trace.specs.Sources.{PlainSource, plain}
 use Rattle.ld_rules.specs.declared.outcome.Listed.{Listed}
 use Rattle.ld_facts.specs.Outcome.{outcome}
@@ -15,32 +15,19 @@ moved_sources sources listed sorted shown moved =
 
 pub invariant_of-result : goal.invariant_of-result
 invariant_of-result c =
-    let sorted = c.sort.new.listed in
-    let copied : c.in_ok-listed.listed.items ≡ c.listed.result.now = c.in_ok-listed.ensures.items_if_clones_equal (λ x y same. same) in
-    let moved : IsPermutation c.listed.result.now sorted =
-    subst (λ l. IsPermutation l sorted) (c.deref_mut.ensures.value ∙ copied) c.sort.ensures.permutation in
-    let put = with_items_is c.in_ok-listed.listed sorted (length_permutation c.deref_mut.result.now sorted c.sort.ensures.permutation ∙ c.deref_mut.ensures.len) in (
-      subst AreOutcomes (sym put) (All-permutation (λ (l : Listed). l.outcome ≡ outcome (plain l.source)) c.listed.result.now sorted moved c.listed.ensures.outcomes),
-      subst (λ (all : List Listed). AreRising (sources_of all)) (sym put)
-          (rising_from_sorted c.args.book.now sorted (moved_sources c.args.book.now c.listed.result.now sorted c.listed.ensures.sources moved) c.listed.ensures.distinct c.sort.ensures.sorted),
+    let before = c.listed.result.now in
+    let sorted = cow_slice_items c.in_ok-listed.listed in
+    let moved = moved_sources c.args.book.now before sorted c.listed.ensures.sources c.in_ok-listed.ensures.permutation in (
+      All-permutation (λ (l : Listed). l.outcome ≡ outcome (plain l.source)) before sorted c.in_ok-listed.ensures.permutation c.listed.ensures.outcomes,
+      rising_from_sorted c.args.book.now sorted moved c.listed.ensures.distinct c.in_ok-listed.ensures.sorted,
     )
 
 pub returns-clause-same : goal.returns-clause-same
 returns-clause-same c =
-    let sorted = c.sort.new.listed in
-    let copied : c.in_ok-listed.listed.items ≡ c.listed.result.now = c.in_ok-listed.ensures.items_if_clones_equal (λ x y same. same) in
-    let moved : IsPermutation c.listed.result.now sorted =
-    subst (λ l. IsPermutation l sorted) (c.deref_mut.ensures.value ∙ copied) c.sort.ensures.permutation in
-    let put = with_items_is c.in_ok-listed.listed sorted (length_permutation c.deref_mut.result.now sorted c.sort.ensures.permutation ∙ c.deref_mut.ensures.len) in
-    subst (λ (all : List Listed). IsPermutation c.args.book.now (sources_of all)) (sym put)
-    (moved_sources c.args.book.now c.listed.result.now sorted c.listed.ensures.sources moved)
+    moved_sources c.args.book.now c.listed.result.now (cow_slice_items c.in_ok-listed.listed) c.listed.ensures.sources c.in_ok-listed.ensures.permutation
 
 pub returns-clause-rising : goal.returns-clause-rising
 returns-clause-rising c =
-    let sorted = c.sort.new.listed in
-    let copied : c.in_ok-listed.listed.items ≡ c.listed.result.now = c.in_ok-listed.ensures.items_if_clones_equal (λ x y same. same) in
-    let moved : IsPermutation c.listed.result.now sorted =
-    subst (λ l. IsPermutation l sorted) (c.deref_mut.ensures.value ∙ copied) c.sort.ensures.permutation in
-    let put = with_items_is c.in_ok-listed.listed sorted (length_permutation c.deref_mut.result.now sorted c.sort.ensures.permutation ∙ c.deref_mut.ensures.len) in
-    subst (λ (all : List Listed). AreRising (sources_of all)) (sym put)
-    (rising_from_sorted c.args.book.now sorted (moved_sources c.args.book.now c.listed.result.now sorted c.listed.ensures.sources moved) c.listed.ensures.distinct c.sort.ensures.sorted)
+    let sorted = cow_slice_items c.in_ok-listed.listed in
+    let moved = moved_sources c.args.book.now c.listed.result.now sorted c.listed.ensures.sources c.in_ok-listed.ensures.permutation in
+    rising_from_sorted c.args.book.now sorted moved c.listed.ensures.distinct c.in_ok-listed.ensures.sorted

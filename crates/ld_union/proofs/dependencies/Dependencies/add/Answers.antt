@@ -42,7 +42,7 @@ pub loop-word-init : goal.loop-word-init
 loop-word-init c = record {
   noting = noting_none c.args.places.now (edges_of c.words-words.result.places.now c.words-words.result.words.now) c.args.self.now;
   found = c.find.ensures.found;
-  known = c.find.ensures.known c.args.self.now.rows.items c.requires.words;
+  known = c.find.ensures.known c.args.self.now.rows.items c.requires.known;
 }
 
 pub add_word-requires-clause-within : goal.add_word-requires-clause-within
@@ -97,8 +97,8 @@ returns c =
     let noted : AreNoted places (edges_of by words) old new = noting_all places (edges_of by words) old new
     (subst (λ these. IsNoting places (edges_of by words) (edges_of by these) old new) (drop_all c.loop-word.word-index words c.loop-word-test.false) c.loop-word.invariant.noting) in
     record {
-      known = exact;
-      words = c.loop-word.invariant.known;
+      batch = exact;
+      known = c.loop-word.invariant.known;
       classes = noted.classes;
       front = noted.front;
       further = noted.further;

@@ -3,7 +3,7 @@ use Rattle.std.proofs.lemmas.Bool.{OnTrue_at}
 use Rattle.ld_shown.specs.Inner.Rows.{edges_in}
 use Rattle.ld_union.specs.Inner.Known.{AreSeen, AreSeenBefore, number_by}
 use Rattle.ld_union.proofs.NotedLemmas.{noted-known}
-use Rattle.ld_union.proofs.WordLemmas.{edges-known, edges-seen, known-rows}
+use Rattle.ld_union.proofs.KnownLemmas.{edges-known, edges-seen, known-rows}
 use Rattle.ld_union.proofs.dependencies.Dependencies.add_word.Goals as goal
 
 pub returns-then-has-clause-noted : goal.returns-then-has-clause-noted

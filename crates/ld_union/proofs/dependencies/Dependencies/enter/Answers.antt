@@ -3,7 +3,7 @@ use Rattle.std.proofs.lemmas.List.{map-append}
 use Rattle.ld_graph.specs.Edges.{IsEdge, PlainGraph, with_edge}
 use Rattle.ld_union.specs.declared.dependencies.Witnessed.{Witnessed}
 use Rattle.ld_union.specs.Inner.Union.{IsCycleEdge, edges_of}
-use Rattle.ld_union.proofs.KnownLemmas.{kept-pushed, there-pushed}
+use Rattle.ld_union.proofs.WasSeenLemmas.{kept-pushed, there-pushed}
 use Rattle.ld_union.proofs.UnionLemmas.{numbered-pushed, witnessed-pushed}
 use Rattle.ld_union.proofs.dependencies.Dependencies.enter.Goals as goal
 

@@ -1,4 +1,4 @@
-use Rattle.std.proofs.Common.{◌≡◌, ◌≢◌, ◌∙◌, [], arith, None, Some, get_or, refl, subst, sym, ap}
+use Rattle.std.proofs.Common.{◌≡◌, ◌≢◌, ◌∙◌, [], arith, map, None, Some, get_or, refl, subst, sym, ap}
 use Rattle.std.specs.Option.{is_some}
 use Rattle.std.proofs.lemmas.List.{get_or_default}
 use Rattle.std.proofs.lemmas.Option.{MatchOption-at_none, MatchOption-at_some}
@@ -6,7 +6,7 @@ use Rattle.ld_graph.specs.Edges.{IsEdge, IsEdgeNumber, edge}
 use Rattle.ld_rules.specs.Union.{dependency_witness}
 use Rattle.ld_rules.specs.Dependency.{Dependency}
 use Rattle.ld_union.specs.declared.dependencies.Witnessed.{Witnessed}
-use Rattle.ld_union.specs.Findings.{IsShown, plain_cycle_row, plain_names}
+use Rattle.ld_union.specs.Findings.{IsShown, plain_cycle_row}
 use Rattle.ld_union.specs.Inner.ByName.{class_name}
 use Rattle.ld_union.specs.Inner.Union.{edges_of}
 use Rattle.ld_union.proofs.CycleLemmas.{cycle-row, no_cycle-back, no_cycle-edge, no_cycle-walk, no_walk}
@@ -50,17 +50,17 @@ returns c sources shows =
     (dependency_witness sources) shows.witnesses what a b n no_row (c.requires.from, refl) (c.requires.to, refl) found in
     let at_row = found_row union.dependencies a b n found in
     let there : IsEdge (edges_of union.dependencies) a b = edge_of_row union.dependencies a b n no_row at_row.0 (at_row.1 no_row) in
-    let none : b ≡ a → plain_names c.if-to-from.via ≡ [] = λ same. elim c.if-to-from.branch [
-      | then-to-from w ↦ ap plain_names (w.via-is ∙ w.from-via.ensures ∙ w.new.ensures.items)
+    let none : b ≡ a → c.if-to-from.via ≡ [] = λ same. elim c.if-to-from.branch [
+      | then-to-from w ↦ w.via-is ∙ w.new-via.ensures ∙ ap (map (class_name w.classes.result.now)) w.new.ensures.items
       | else-to-from+in_ok-nexts+in_ok-via+in-Some-2 w ↦ absurd (w.if-to-from.false same)
     ] in
-    let shown : b ≢ a → IsShown sources (class_name union.classes b) (class_name union.classes a) (plain_names c.if-to-from.via) = λ differs. elim c.if-to-from.branch [
+    let shown : b ≢ a → IsShown sources (class_name union.classes b) (class_name union.classes a) c.if-to-from.via = λ differs. elim c.if-to-from.branch [
       | then-to-from w ↦ absurd (differs w.if-to-from.true)
       | else-to-from+in_ok-nexts+in_ok-via+in-Some-2 w ↦
-          subst (λ via. IsShown sources (class_name union.classes b) (class_name union.classes a) (plain_names via)) (sym w.via-is)
+          subst (λ via. IsShown sources (class_name union.classes b) (class_name union.classes a) via) (sym w.via-is)
           (MatchOption-at_some _ _ w.in-Some-2.via w.in-Some-2.is w.in_ok-via.ensures.walk sources shows)
     ] in
     cycle-row union.classes union.dependencies shows.numbered sources shows.witnesses a b
     (plain_cycle_row (record { from = c.name.result; to = c.name-2.result; at = (get_or c.dependencies.result.now n no_row).first; via = c.if-to-from.via }))
     c.requires.from c.requires.to there
-    (c.name.ensures.name ∙ ap (λ names. class_name names a) c.classes.ensures.same) (c.name-2.ensures.name ∙ ap (λ names. class_name names b) c.classes-2.ensures.same) (sym at) none shown
+    (c.name.ensures.name ∙ ap (λ names. class_name names a) c.classes-2.ensures.same) (c.name-2.ensures.name ∙ ap (λ names. class_name names b) c.classes-3.ensures.same) (sym at) none shown

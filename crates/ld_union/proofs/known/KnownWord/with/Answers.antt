@@ -4,7 +4,7 @@ use Rattle.ld_class.proofs.BlockLemmas.{is_on-or}
 use Rattle.ld_graph.specs.declared.Edge.{Edge}
 use Rattle.ld_union.specs.Inner.Known.{HasClass, class_in}
 use Rattle.ld_union.specs.Inner.Union.{WasSeen}
-use Rattle.ld_union.proofs.KnownLemmas.{seen-later}
+use Rattle.ld_union.proofs.WasSeenLemmas.{seen-later}
 use Rattle.ld_union.proofs.known.KnownWord.with.Goals as goal
 
 either : (a b : Bool) → (a || b) ≡ true → (a ≡ true) ⊎ (b ≡ true)

@@ -1,6 +1,6 @@
 use Rattle.std.proofs.Common.{Vec, subst, sym}
 use Rattle.ld_union.specs.Inner.Known.{AreFound}
-use Rattle.ld_union.proofs.WordLemmas.{found-kept, found-off}
+use Rattle.ld_union.proofs.KnownLemmas.{found-kept, found-off}
 use Rattle.ld_union.proofs.known.KnownWords.block.Goals as goal
 
 pub returns-then-not-reserve-clause-found : goal.returns-then-not-reserve-clause-found

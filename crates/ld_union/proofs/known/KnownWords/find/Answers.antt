@@ -8,5 +8,5 @@ loop-number-preserved c =
     record {
       words = c.find_class.ensures.words ∙ c.loop-number.invariant.words;
       known = λ rows known. c.find_class.ensures.known rows (c.loop-number.invariant.known rows known);
-      found = c.find_class.ensures.found by (sym (c.number_at-own.ensures ∙ ap (λ n. get_or c.args.places.now n 0) c.place.ensures)) c.loop-number.invariant.found;
+      found = c.find_class.ensures.found by (sym (c.number_at-here.ensures ∙ ap (λ n. get_or c.args.places.now n 0) c.place.ensures)) c.loop-number.invariant.found;
     }

@@ -3,7 +3,7 @@ use Rattle.std.proofs.lemmas.Bool.{OnTrue_at}
 use Rattle.std.proofs.lemmas.List.{get_or_default}
 use Rattle.ld_union.specs.declared.known.FoundBlock.{FoundBlock}
 use Rattle.ld_union.specs.Inner.Known.{HasClass, class_in, no_block}
-use Rattle.ld_union.proofs.WordLemmas.{found-filled, found-on, known-filled}
+use Rattle.ld_union.proofs.KnownLemmas.{found-filled, found-on, known-filled}
 use Rattle.ld_union.proofs.known.KnownWords.find_class.Goals as goal
 
 pub returns-in_default-clause-found : goal.returns-in_default-clause-found
@@ -24,10 +24,10 @@ returns-then-fill-clause-found c number_of is found =
     let within : n < length blocks = c.in-Some.ensures.within.0 in
     let same : f ≡ get_or blocks n no_block = c.index_mut.ensures.value ∙ get_or_default blocks n f no_block within in
     let block : f.block ≡ at = ap (λ (f : FoundBlock). f.block) same ∙ c.in-Some.ensures.at in
-    let own : class_in classes f.block place ≡ c.args.own = ap (λ b. class_in classes b place) block ∙ OnTrue_at c.if-fill.true c.fill.ensures.is in
+    let own : class_in classes f.block place ≡ c.args.here = ap (λ b. class_in classes b place) block ∙ OnTrue_at c.if-fill.true c.fill.ensures.is in
     let has : HasClass classes f.block place = record {
       within = let low = c.in-Some.ensures.within.1 in omega (arith, block, low, c.fill.ensures.len);
-      some = λ none. c.if-own-eq-NO_CLASS.false (sym own ∙ none);
+      some = λ none. c.if-here-eq-NO_CLASS.false (sym own ∙ none);
     } in
     found-on number_of classes blocks n place f
     (found-filled c.block.new.self.classes.items classes c.fill.ensures.len c.fill.ensures.kept number_of blocks (c.in-Some.ensures.found number_of found))

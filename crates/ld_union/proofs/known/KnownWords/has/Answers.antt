@@ -8,7 +8,7 @@ use Rattle.ld_union.specs.Inner.Known.{AreFound, AreKnownWords, AreSeenBefore, I
 use Rattle.ld_union.specs.declared.known.FoundBlock.{FoundBlock}
 use Rattle.ld_union.specs.declared.known.KnownWord.{KnownWord}
 use Rattle.ld_union.specs.Inner.Union.{WasSeen}
-use Rattle.ld_union.proofs.WordLemmas.{on-in_both}
+use Rattle.ld_union.proofs.KnownLemmas.{on-in_both}
 use Rattle.ld_union.proofs.known.KnownWords.has.Goals as goal
 
 pub returns : goal.returns

@@ -1,34 +1,13 @@
-use Rattle.std.proofs.Common.{◌≡◌, List, get_or, sym, ap, ◌∙◌}
-use Rattle.std.proofs.lemmas.Bool.{ltb-true}
-use Rattle.std.proofs.lemmas.List.{get_or_default}
-use Rattle.ld_union.specs.declared.known.FoundBlock.{FoundBlock}
-use Rattle.ld_union.specs.Inner.Known.{no_block}
-use Rattle.ld_union.proofs.WordLemmas.{more-known}
+use Rattle.std.proofs.Common.{Vec, sym, subst}
+use Rattle.ld_union.specs.Inner.Known.{IsKnownWord}
 use Rattle.ld_union.proofs.known.KnownWords.keep.Goals as goal
 
-pub returns-in-Some-word-clause-known : goal.returns-in-Some-word-clause-known
-returns-in-Some-word-clause-known c rows number_of known found seen =
-    let here = c.in-Some.ensures.lookup in
-    let block = c.in-Some.found.now in
-    let at = c.args.word.now.block in
-    let is : block ≡ get_or c.args.self.now.found.items at no_block
-    = here.1 ∙ get_or_default c.deref.result.now at _ no_block (ltb-true _ _ (sym here.0)) ∙ ap (λ (fs : List FoundBlock). get_or fs at no_block) c.deref.ensures.value in
-    c.put.ensures.known rows known (more-known rows c.args.self.now.classes.items number_of c.args.self.now.found.items c.args.word.now c.args.to block found is seen)
+pub returns-then-not-put-clause-known : goal.returns-then-not-put-clause-known
+returns-then-not-put-clause-known c rows number_of known found seen =
+    let own = c.in-Some.ensures rows number_of found seen in
+    c.add.ensures.known rows (c.put.ensures.known rows known own)
+    (subst (λ (v : Vec _ _). IsKnownWord rows v.items c.in-Some.more) (sym c.put.ensures.classes) own)
 
-pub returns-in-Some-add-clause-known : goal.returns-in-Some-add-clause-known
-returns-in-Some-add-clause-known c rows number_of known found seen =
-    let here = c.in-Some.ensures.lookup in
-    let block = c.in-Some.found.now in
-    let at = c.args.word.now.block in
-    let is : block ≡ get_or c.args.self.now.found.items at no_block
-    = here.1 ∙ get_or_default c.deref.result.now at _ no_block (ltb-true _ _ (sym here.0)) ∙ ap (λ (fs : List FoundBlock). get_or fs at no_block) c.deref.ensures.value in
-    c.add.ensures.known rows known (more-known rows c.args.self.now.classes.items number_of c.args.self.now.found.items c.args.word.now c.args.to block found is seen)
-
-pub returns-in_default-add-clause-known : goal.returns-in_default-add-clause-known
-returns-in_default-add-clause-known c rows number_of known found seen =
-    let here = c.in-Some.ensures.lookup in
-    let block = c.in-Some.found.now in
-    let at = c.args.word.now.block in
-    let is : block ≡ get_or c.args.self.now.found.items at no_block
-    = here.1 ∙ get_or_default c.deref.result.now at _ no_block (ltb-true _ _ (sym here.0)) ∙ ap (λ (fs : List FoundBlock). get_or fs at no_block) c.deref.ensures.value in
-    c.add.ensures.known rows known (more-known rows c.args.self.now.classes.items number_of c.args.self.now.found.items c.args.word.now c.args.to block found is seen)
+pub returns-else-not-put-clause-known : goal.returns-else-not-put-clause-known
+returns-else-not-put-clause-known c rows number_of known found seen =
+    c.put.ensures.known rows known (c.in-Some.ensures rows number_of found seen)

@@ -136,7 +136,7 @@ returns-clause-added c =
     let named = c.args.batch.now.classes in
     subst (λ union. Adds c.args.batch.now.sources union (after c)) c.self.view_is
     (subst (λ all. Adds c.args.batch.now.sources (before c) (with_rows c all)) (same_rows c)
-    (adds-batch (before c) (with_rows c c.add.new.self.rows.items) c.args.batch.now c.add.ensures.known (c.add.ensures.numbered these (entered c) (numbered c)) (names c) (longer c)
+    (adds-batch (before c) (with_rows c c.add.new.self.rows.items) c.args.batch.now c.add.ensures.batch (c.add.ensures.numbered these (entered c) (numbered c)) (names c) (longer c)
     (λ first witnessed.
     c.add.ensures.witnesses these (entered c) (numbered c) (subst (ArePlaces these named) (sym c.deref.ensures.value) (places c)) first
     (subst (λ all. AreWitnessed these all first) (sym (rows c))
@@ -221,5 +221,5 @@ invariant_of-self-2 c = rw (c.seed_all.ensures.graph, c.seed_all.ensures.rows, c
         (subst (IsCycleEdge (edges_of (old_rows c))) (sym (c.enter_classes.ensures.closing ∙ c.in_ok-room.ensures.closing)) c.self.invariant.0.closing));
     reached = seeded c;
   },
-  c.add.ensures.words,
+  c.add.ensures.known,
 )
