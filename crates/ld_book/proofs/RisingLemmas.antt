@@ -25,7 +25,7 @@ apart-numbers number xs some apart i j d lower within same =
     (sym (get_or-map number xs i some d (omega (arith, lower, below))) ∙ same ∙ get_or-map number xs j some d below)
 
 -- sources that are apart stay so in another order
-apart-moved : (old new : List PlainSource) → IsPermutation old new → AreApart old → AreApart new
+pub apart-moved : (old new : List PlainSource) → IsPermutation old new → AreApart old → AreApart new
 apart-moved old new moved apart =
     apart_by (λ s. s.number) new
     (AllPairs-from_IsDistinct Decides-eqb (map (λ s. s.number) new)

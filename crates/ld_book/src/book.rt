@@ -7,7 +7,7 @@ ghost use Rattle.ld_facts.specs.Union.{dependency_witness, union_classes, use_wi
 ghost use Rattle.ld_facts.specs.Usage.{Use};
 ghost use Rattle.ld_union.specs.Alarms.{AreExact, plain_alarms};
 ghost use Rattle.ld_union.specs.Findings.{AreFindings, plain_findings};
-ghost use Rattle.ld_shown.specs.Batch.{AreOutcomes, empty_batch, sources_of};
+ghost use Rattle.ld_shown.specs.Batch.{AreOutcomes, sources_of};
 ghost use Rattle.ld_book.specs.Book.{is_any_listed, is_listed};
 ghost use Rattle.ld_book.specs.Dependencies.{AreDependencies, usage_of_class};
 ghost use Rattle.ld_trace.specs.Sources.{Fits};
@@ -42,9 +42,9 @@ pub enum BatchRefusal<'a> {
     Memory(Batch<'a>),
 }
 
-/// Why a book didn't take the traces of a batch.
+/// Why the traces of a batch weren't added. The batch stays as it is.
 #[derive(Clone, Copy, Debug, PartialEq, Eq)]
-pub enum TakeRefusal {
+pub enum AddRefusal {
     /// A trace of one of its numbers is listed.
     Twice,
     /// A growth of memory was refused.
@@ -120,37 +120,36 @@ impl<'a> Book<'a> {
         }
     }
 
-    /// Lists the traces of a batch, and adds what they show. The batch then lists none, as a new one
-    /// does, and has its memory for further traces. A batch without traces changes nothing.
+    /// Lists the traces of a batch, and adds what they show. A batch without traces changes nothing. The batch
+    /// stays as it is, but for its guesses, of which no clause speaks: to use its memory for further traces,
+    /// clear it.
     ///
     /// # Errors
     ///
-    /// Book and batch are as before, but for spare memory: `Twice` where a trace of one of its numbers
-    /// is listed, which is tested first, and `Memory` where a growth of memory was refused.
-    pub fn take(&mut self, batch: &mut Batch<'a>) -> Result<(), TakeRefusal>
+    /// The book is as before, but for spare memory: `Twice` where a trace of one of the batch's numbers is
+    /// listed, which is tested first, and `Memory` where a growth of memory was refused.
+    pub fn add_from(&mut self, batch: &mut Batch<'a>) -> Result<(), AddRefusal>
         ensures ok { OnOk result (self.new ≡ self.old ++ batch.old.sources) }
-        ensures emptied { OnOk result (batch.new ≡ empty_batch) }
         ensures err { OnErr result (self.new ≡ self.old) }
-        ensures back { OnErr result (batch.new ≡ batch.old) }
+        ensures batch { batch.new ≡ batch.old }
         ensures twice { is_any_listed self.old batch.old.sources ≡ true
-            → result ≡ Err TakeRefusal.Twice }
+            → result ≡ Err AddRefusal.Twice }
         ensures memory { is_any_listed self.old batch.old.sources ≡ false
-            → OnErr result (result ≡ Err TakeRefusal.Memory) }
+            → OnErr result (result ≡ Err AddRefusal.Memory) }
     {
         if self.listing.has_any(batch.listed()) {
-            return Err(TakeRefusal::Twice);
+            return Err(AddRefusal::Twice);
         }
         let mut guesses = batch.swap_guesses(Guesses::new(self.alloc));
         let entered = self.enter(batch, &mut guesses);
         batch.swap_guesses(guesses);
         if entered.is_err() {
-            return Err(TakeRefusal::Memory);
+            return Err(AddRefusal::Memory);
         }
-        batch.clear();
         Ok(())
     }
 
-    /// Lists the traces of a batch, and adds what they show, as `take` does.
+    /// Lists the traces of a batch, and adds what they show, as `add_from` does.
     ///
     /// # Errors
     ///
@@ -164,13 +163,13 @@ impl<'a> Book<'a> {
         ensures memory { is_any_listed self.old batch.entry.sources ≡ false
             → OnErr result (result ≡ Err (BatchRefusal.Memory batch.entry)) }
     {
-        match self.take(&mut batch) {
+        match self.add_from(&mut batch) {
             Ok(()) => {
                 drop(batch);
                 Ok(())
             }
-            Err(TakeRefusal::Twice) => Err(BatchRefusal::Twice(batch)),
-            Err(TakeRefusal::Memory) => Err(BatchRefusal::Memory(batch)),
+            Err(AddRefusal::Twice) => Err(BatchRefusal::Twice(batch)),
+            Err(AddRefusal::Memory) => Err(BatchRefusal::Memory(batch)),
         }
     }
 
@@ -215,9 +214,10 @@ impl<'a> Book<'a> {
         self.listing.traces()
     }
 
-    /// How much the traces are and show. Takes no memory.
+    /// How much the traces are and show. No two have one number. Takes no memory.
     pub fn totals(&self) -> Totals
-        ensures { result ≡ totals self.now }
+        ensures totals { result ≡ totals self.now }
+        ensures distinct { AllPairs (λ a b. a.number ≢ b.number) self.now }
     {
         Totals {
             traces: self.listing.traces().len() as u64,

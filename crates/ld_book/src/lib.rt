@@ -6,7 +6,7 @@ mod listing;
 mod totals;
 mod traces;
 
-pub use book::{BatchRefusal, Book, Refusal, TakeRefusal};
+pub use book::{AddRefusal, BatchRefusal, Book, Refusal};
 pub use ld_class::{ClassName, Classes};
 pub use ld_facts::{Batch, Witness};
 pub use ld_graph::{Edge, Graph};

@@ -1,7 +1,7 @@
 -- The places of the bits of a word, and the classes of a block.
 use Rattle.std.proofs.Common.{◌≡◌, ◌≢◌, ◌+◌, ◌-◌, ◌*◌, ◌^◌, ◌%◌, ◌/◌, ◌<◌, ◌≤◌, ◌++◌, ◌∷◌, [], ◌||◌, ◌&&◌, ◌==◌, ◌⊎◌, inl, inr, All, Bool, true, false, List, ℕ, suc, zero}
 use Rattle.std.proofs.Common.{cond, map, length, not, nat_eq, ltb, refl, ap, sym, subst, ◌∙◌, arith, w64, max, min, get_or}
-use Rattle.std.proofs.lemmas.Bool.{true≢false, cases_lt, eq-eqb, eqb-true, ne_eqb}
+use Rattle.std.proofs.lemmas.Bool.{and_right, true≢false, cases_lt, eq-eqb, eqb-true, ne_eqb}
 use Rattle.std.proofs.lemmas.List.Elements.{All-cons, All-filter, All-nil, All-weaker}
 use Rattle.std.proofs.lemmas.List.FromFn.{get_or-range_with_len, length-range_with_len}
 use Rattle.std.proofs.lemmas.List.Sums.{count_by-le-length, length-filter}
@@ -116,11 +116,7 @@ none-run : (p : ℕ → Bool) (from count place : ℕ) → place < from → list
 none-run p from zero place below = refl
 none-run p from (suc count) place below =
     (λ i. (p from && ne_eqb place from (λ is. omega (arith, is, below)) i) || none-run p (from + 1) count place (omega (arith, below)) i)
-    ∙ ap (λ b. b || false) (and-false (p from))
-  where
-    and-false : (b : Bool) → (b && false) ≡ false
-    and-false true = refl
-    and-false false = refl
+    ∙ ap (λ b. b || false) (and_right (p from) false refl)
 
 any-run : (p : ℕ → Bool) (from count place : ℕ) → from ≤ place → place < from + count → list_any (λ k. p k && nat_eq place k) (range_with_len from count) ≡ p place
 any-run p from zero place low high = absurd (omega (arith, low, high))
@@ -130,15 +126,11 @@ any-run p from (suc count) place low high = by (cases_lt from place) (λ before.
     or-false true = refl
     or-false false = refl
 
-    and-false : (b : Bool) → (b && false) ≡ false
-    and-false true = refl
-    and-false false = refl
-
     left : Bool
     left = list_any (λ k. p k && nat_eq place k) (range_with_len (from + 1) count)
 
     by : (from < place) ⊎ (place ≤ from) → (from < place → left ≡ p place) → list_any (λ k. p k && nat_eq place k) (range_with_len from (suc count)) ≡ p place
-    by (inl before) later = ap (λ b. b || left) (ap (λ b. p from && b) (ne_eqb place from (λ is. omega (arith, is, before))) ∙ and-false (p from)) ∙ later before
+    by (inl before) later = ap (λ b. b || left) (ap (λ b. p from && b) (ne_eqb place from (λ is. omega (arith, is, before))) ∙ and_right (p from) false refl) ∙ later before
     by (inr reached) later =
         let same : place ≡ from = omega (arith, low, reached) in
         (λ i. (p from && eq-eqb place from same i) || none-run p (from + 1) count place (omega (arith, reached)) i)

@@ -38,6 +38,15 @@ fn expect_insert<R: Abort>(rt: &R, graph: &mut Graph, a: u32, b: u32, wanted: In
     assert_eq!(rt; insert(rt, graph, a, b), wanted);
 }
 
+/// Inserts an edge that is there, and has this number.
+fn expect_known<R: Abort>(rt: &R, graph: &mut Graph, a: u32, b: u32, wanted: u64) {
+    assert!(rt; (a as usize) < graph.len() && (b as usize) < graph.len());
+    assert!(rt; graph.spare_edges() > 0);
+    let (number, answer) = graph.insert_full(a, b);
+    assert_eq!(rt; number, wanted);
+    assert_eq!(rt; answer, Insert::Known);
+}
+
 /// Inserts an edge that is not there yet.
 fn insert_new<R: Abort>(rt: &R, graph: &mut Graph, a: u32, b: u32) {
     let count = graph.edges();
@@ -239,7 +248,7 @@ fn circle(rt: HostRuntime) {
     expect_insert(&rt, &mut graph, 1, 2, Insert::Closed);
     assert!(rt; graph.has_cycle());
     expect_insert(&rt, &mut graph, 3, 3, Insert::AfterCycle);
-    expect_insert(&rt, &mut graph, 0, 1, Insert::Known);
+    expect_known(&rt, &mut graph, 2, 0, 1);
     expect_circle(&rt, alloc, &graph);
     assert!(rt; graph.len() == 4);
     if graph.room(1000, 1000).is_err() {

@@ -2,7 +2,7 @@
 use Rattle.std.proofs.Common.{◌≡◌, ◌≢◌, ◌+◌, ◌*◌, ◌<◌, ◌≤◌, ◌++◌, ◌∷◌, [], ◌⊎◌, inl, inr, All, List, ℕ, zero, suc, None, IfSome}
 use Rattle.std.proofs.Common.{drop, length, map, fold, flat_map, get_or, refl, ap, sym, subst, ◌∙◌, arith}
 use Rattle.std.proofs.lemmas.Bool.{cases_order}
-use Rattle.std.proofs.lemmas.List.{drop_all, get_or_push, length-map, length-take, length_push, map-append}
+use Rattle.std.proofs.lemmas.List.{drop_all, get_or_push, length-map, length_push, map-append}
 use Rattle.std.proofs.lemmas.List.Elements.{All-append, All-drop, All-nil, All-push, All-weaker}
 use Rattle.std.proofs.lemmas.List.Quantifiers.{all_pairs_push}
 use Rattle.std.specs.List.{last_or, list_any}
@@ -99,17 +99,7 @@ few_sources sources fit rise = by (length sources) refl
         let low : (get_or sources n none).number < MOST_TRACES = (fit n none within).number in
         omega (arith, at_least sources none rise n within, low)
 
--- A scan with more has no fewer rows.
-pub more-edges : (old new : Scan) (source : PlainSource) → IsRead old source new → length old.locks.edges ≤ length new.locks.edges
-more-edges old new source shows = omega (
-  arith,
-  length-map old.locks.edges (scans.named_dependency old.classes),
-  length-map new.locks.edges (scans.named_dependency new.classes),
-  ap length shows.first,
-  length-take (length (start_of old).edges) (start_of new).edges,
-)
-
--- nor does it have many more names
+-- A scan with more doesn't have many more names.
 pub room-left : (old new : Scan) (source : PlainSource) → IsRead old source new → length old.classes + 2 * MOST_CLASSES ≤ MOST_NAMES → length new.classes + MOST_CLASSES ≤ MOST_NAMES
 room-left old new source shows room =
     let longer = longer_all old.classes (classes_of source) in

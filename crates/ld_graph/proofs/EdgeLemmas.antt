@@ -1,7 +1,7 @@
 -- An edge in a list, as tests find it.
 use Rattle.std.proofs.Common.{◌≡◌, ◌≢◌, ◌⊎◌, inl, inr, ◌++◌, set, if◌then◌else◌, ℕ, ◌<◌, Bool}
 use Rattle.std.proofs.Common.{true, false, true≢false, ◌&&◌, nat_eq, List, [], ◌∷◌, length, get_or}
-use Rattle.std.proofs.Common.{slice_get, position, Option, Some, arith, refl, sym, ap, subst}
+use Rattle.std.proofs.Common.{slice_get, position, Some, arith, refl, sym, ap, subst}
 use Rattle.std.proofs.Common.{◌∙◌, Contains, ◌↔◌}
 use Rattle.std.specs.List.{list_any, IsDistinct}
 use Rattle.std.proofs.lemmas.Map.Keys.{apart_from_distinct}
@@ -14,10 +14,8 @@ use Rattle.std.proofs.lemmas.Option.{slice_get-get_or, get_or_from_slice_get}
 use Rattle.indexmap.proofs.CallerLemmas.{Contains-list_any}
 use Rattle.ld_graph.specs.declared.Edge.{Edge}
 use Rattle.ld_graph.specs.Edges.{edge, IsEdge, IsEdgeNumber}
-use Rattle.ld_graph.specs.Walks.{DistanceIs}
 use Rattle.ld_graph.specs.Lists.{list_at, IsNear}
 use Rattle.ld_graph.proofs.NearLemmas.{IsNear-push, IsNear-old, IsNear-new}
-use Rattle.ld_graph.proofs.WalkLemmas.{DistanceIs-same}
 use Rattle.indexmap.specs.IndexSet.{insert_key}
 
 -- what `==` computes
@@ -129,12 +127,10 @@ pub insert_key-new : (edges : List Edge) (e : Edge) → list_any (same_edge e) e
     → insert_key same_edge edges e ≡ edges ++ e ∷ []
 insert_key-new edges e h = ap (λ b. if b then edges else edges ++ e ∷ []) h
 
--- distances by equal relations
-pub DistanceIs-near : (lists : List (List ℕ)) (R : ℕ → ℕ → Type 0) → ((x y : ℕ) → IsNear lists x y
-    ↔ R y x) → (x to : ℕ) (o : Option ℕ)
-    → DistanceIs (λ p q. IsNear lists q p) x to o → DistanceIs R x to o
-DistanceIs-near lists R same x to o h = DistanceIs-same (λ p q. IsNear lists q p) R (λ p q. (same q
-    p).0) (λ p q. (same q p).1) x to o h
+-- one that is there changes nothing
+pub insert_key-known : (edges : List Edge) (e : Edge) → list_any (same_edge e) edges ≡ true
+    → insert_key same_edge edges e ≡ edges
+insert_key-known edges e h = ap (λ b. if b then edges else edges ++ e ∷ []) h
 
 -- in a list of distinct edges each stands once
 pub edges_once : (edges : List Edge) → IsDistinct same_edge edges → (i j : ℕ) → i < j
@@ -148,3 +144,14 @@ edges_once edges h i j a b e =
     true≢false (sym (same_edge-refl (get_or edges i (edge 0 0)))
     ∙ ap (λ x. same_edge (get_or edges i (edge 0 0)) x) s
     ∙ apart_from_distinct same_edge edges i j (edge 0 0) h a b)
+
+-- and so one that stands at a place has its number
+pub IsEdgeNumber-stored : (edges : List Edge) (a b i : ℕ) (e : Edge) → IsDistinct same_edge edges → i < length edges
+    → slice_get edges i ≡ Some e → same_edge (edge a b) e ≡ true → IsEdgeNumber edges a b i
+IsEdgeNumber-stored edges a b i e distinct within stored same = record {
+  there = there;
+  first = λ j before is. edges_once edges distinct j i before within (is ∙ sym there);
+}
+  where
+    there : slice_get edges i ≡ Some (edge a b)
+    there = stored ∙ ap (λ x. Some x) (sym (same_edge-≡ (edge a b) e same))

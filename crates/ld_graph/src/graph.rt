@@ -1,6 +1,6 @@
 //! The graph itself.
 
-ghost use Rattle.std.specs.Prelude.{◌≡◌, ◌≢◌, ℕ, ◌+◌, ◌<◌, ◌≤◌, ◌↔◌, length, slice_get};
+ghost use Rattle.std.specs.Prelude.{◌≡◌, ◌≢◌, ℕ, ◌+◌, ◌-◌, ◌<◌, ◌≤◌, ◌↔◌, length, slice_get};
 ghost use Rattle.std.specs.Prelude.{slice_index_or, None, IfOk, IsTrue};
 ghost use Rattle.std.specs.Prelude.{All, OnOk, MatchOption, true, false};
 ghost use Rattle.ld_graph.specs.Components.{AreComponents};
@@ -177,9 +177,32 @@ impl Graph {
         ensures new { (¬ IsEdge self.old.edges a b)
             → self.new ≡ with_edge self.old a b self.new.order }
     {
-        let edge = Edge { from: a, to: b };
-        if self.edges.contains(&edge) {
+        if self.edges.contains(&Edge { from: a, to: b }) {
             return Insert::Known;
+        }
+        let (_, answer) = self.insert_full(a, b);
+        answer
+    }
+
+    /// Inserts the edge as `insert` does, and answers its number too: one look-up tells that and whether it was
+    /// there. It takes a spare edge also where it was. Takes no memory.
+    pub fn insert_full(&mut self, a: u32, b: u32) -> (u64, Insert)
+        requires a { a < self.old.classes }
+        requires b { b < self.old.classes }
+        requires room { 0 < self.old.spare_edges }
+        ensures number { IsEdgeNumber self.new.edges a b result.0 }
+        ensures there { (result.1 ≡ Insert.Known) ↔ IsEdge self.old.edges a b }
+        ensures same { result.1 ≡ Insert.Known
+            → self.new ≡ with_spares self.old self.old.spare_classes (self.old.spare_edges - 1) }
+        ensures inserted { result.1 ≢ Insert.Known → IsInserted self.old a b result.1 self.new }
+        ensures new { result.1 ≢ Insert.Known → self.new ≡ with_edge self.old a b self.new.order }
+    {
+        let Ok((number, added)) = self.edges.insert_full(Edge { from: a, to: b }) else {
+            unreachable!()
+        };
+        self.spare_edges -= 1;
+        if !added {
+            return (number as u64, Insert::Known);
         }
         let answer = place(
             &mut Reader::new(&self.lists),
@@ -188,12 +211,8 @@ impl Graph {
             a,
             b,
         );
-        let Ok(_) = self.edges.insert(edge) else {
-            unreachable!()
-        };
         self.lists.push(a, b);
-        self.spare_edges -= 1;
-        answer
+        (number as u64, answer)
     }
 
     /// Whether there is a cycle. Takes no memory.

@@ -10,7 +10,7 @@ use crate::ranks::Ranks;
 /// What an insert has done.
 #[derive(Clone, Copy, PartialEq, Eq, Debug)]
 pub enum Insert {
-    /// The edge was there already, and nothing has changed.
+    /// The edge was there already, and none was added.
     Known,
     /// The edge was added, and all ranks that there were stand.
     Kept,

@@ -1,11 +1,9 @@
 -- Lines and positions by their numbers, from a number on.
-use Rattle.std.proofs.Common.{◌≡◌, ◌+◌, ◌≤◌, ◌<◌, ◌∷◌, [], List, ℕ, Bool, true, false, eqb, ltb, cond, map, filter, filter_map, Option, Some, None, Ok, Err, refl, ap, arith}
-use Rattle.std.proofs.lemmas.Bool.{eq-eqb, ne_eqb, lt-ltb, le-ltb}
+use Rattle.std.proofs.Common.{◌≡◌, ◌+◌, ◌≤◌, ◌<◌, ◌∷◌, [], List, ℕ, Bool, true, false, eqb, ltb, cond, map, filter, filter_map, Some, None, Ok, Err, refl, ap, arith}
+use Rattle.std.proofs.lemmas.Bool.{eq-eqb, ne_eqb, le-ltb}
 use Rattle.std.specs.List.{cons_option, enumerate_from}
 use Rattle.ld_trace.specs.Lines.{text_of}
-use Rattle.std.specs.Option.{MatchOption, option_map}
-use Rattle.ld_trace.specs.declared.event.Event.{Event}
-use Rattle.ld_trace.specs.Events.{PlainEvent, Said, plain_event, position_of, said_by}
+use Rattle.ld_trace.specs.Events.{Said, position_of, said_by}
 use Rattle.ld_rules.specs.Outcome.{events}
 use Rattle.ld_held.specs.HeldAt.{before_line, events_at}
 use Rattle.ld_held.specs.Inner.Replay.{event_of, lines_from, positions_from}
@@ -53,20 +51,5 @@ events-at n (first ∷ all) line = by (said_by (text_of first)) refl (eqb n line
     by (Err fault) says true is rest = rw (says, is) rest
     by (Err fault) says false is rest = rw is rest
 
--- the positions before a line begin with that of the first, if it is before the line, and are none where it isn't
-pub before-more : (n : ℕ) (first : List ℕ) (others : List (List ℕ)) (line : ℕ) → n < line → before_line (positions_from n (first ∷ others)) line ≡ cons_option
-    (position_of n (said_by (text_of first))) (before_line (positions_from (n + 1) others) line)
-before-more n first others line low = by (said_by (text_of first))
-  where
-    by : (said : Said) → before_line (cons_option (position_of n said) (positions_from (n + 1) others)) line ≡ cons_option (position_of n said) (before_line (positions_from (n + 1) others) line)
-    by (Ok None) = refl
-    by (Ok (Some event)) = let here : ltb n line ≡ true = lt-ltb n line low in rw here refl
-    by (Err fault) = let here : ltb n line ≡ true = lt-ltb n line low in rw here refl
-
 pub before-none : (n : ℕ) (all : List (List ℕ)) (line : ℕ) → line ≤ n → before_line (positions_from n all) line ≡ []
 before-none n all line low = no_position (λ m. ltb m line) n all (λ m at. le-ltb m line (omega arith))
-
--- an answer that is the one event, if there is one
-pub event-match : (events : List PlainEvent) (o : Option Event) → events ≡ cons_option (option_map plain_event o) [] → MatchOption o (events ≡ []) (λ event. events ≡ plain_event event ∷ [])
-event-match events None is = is
-event-match events (Some event) is = is

@@ -1,6 +1,6 @@
 -- A source that is replayed, one line further.
-use Rattle.std.proofs.Common.{◌≡◌, ◌+◌, ◌≤◌, ◌<◌, ◌++◌, ◌∷◌, [], List, ℕ, Bool, true, false, eqb, ltb, length, filter, filter_map, get_or, Option, Some, None, Ok, Err, refl, ap, sym, subst, ◌∙◌, arith, append_assoc, length-append, if◌then◌else◌}
-use Rattle.std.specs.Prelude.{All, MatchOption}
+use Rattle.std.proofs.Common.{◌≡◌, ◌+◌, ◌≤◌, ◌<◌, ◌++◌, ◌∷◌, [], List, ℕ, true, false, eqb, ltb, length, filter, filter_map, get_or, Option, Some, None, Ok, Err, refl, ap, sym, subst, ◌∙◌, arith, append_assoc, length-append, if◌then◌else◌}
+use Rattle.std.specs.Prelude.{All}
 use Rattle.std.proofs.lemmas.Bool.{lt-ltb, ne_eqb}
 use Rattle.std.proofs.lemmas.List.{append-nil}
 use Rattle.std.proofs.lemmas.List.Elements.{All-append, All-cons, All-head, All-nil, All-tail, filter-append}
@@ -15,14 +15,10 @@ use Rattle.ld_rules.specs.Outcome.{events}
 use Rattle.ld_rules.proofs.OutcomeLemmas.{events-push}
 use Rattle.ld_held.specs.HeldAt.{before_line, events_at}
 use Rattle.ld_held.specs.Inner.Task.{IsAfter, PlainTask, stepped, task_in}
-use Rattle.ld_held.specs.Inner.Replay.{IsReplayed, event_of, first_said, lines_from, positions_from}
+use Rattle.ld_held.specs.Inner.Replay.{IsReplayed, event_of, first_said, positions_from}
 use Rattle.ld_held.proofs.LineLemmas.{before-none, events-at, line-above, line-here}
 use Rattle.ld_held.proofs.OpenedLemmas.{events-more}
 use Rattle.ld_held.proofs.StepLemmas.{after-event, after-none}
-
--- nothing is read yet
-pub replay-none : (source : PlainSource) → IsReplayed source source.first_line source.bytes 0 []
-replay-none source = record { past = []; whole = refl; passed = All-nil (λ p. p.line < source.first_line); after = λ name. record { handlers = refl; holds = refl }; count = refl }
 
 -- positions that are all before a line
 before-all : (past : List Position) (n line : ℕ) → All (λ p. p.line < n) past → n ≤ line → before_line past line ≡ past

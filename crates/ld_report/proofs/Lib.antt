@@ -1,5 +1,7 @@
 pub mod CleanLemmas
+pub mod OrderLemmas
 pub mod Permuted
+pub mod QuietLemmas
 pub mod Texts
 pub mod TraceLemmas
 pub mod Unique

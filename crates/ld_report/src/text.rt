@@ -24,9 +24,24 @@ pub fn report(alloc: Global, book: &Book<'_>) -> Result<Vec<u8>, AllocError>
     ensures text { IfOk result (λ text. IsReport book.now text.items) }
     ensures clean { IfOk result (λ text. SaysClean text.items ↔ (¬ HasViolation book.now)) }
 {
-    let traces = Traces::new(alloc, book)?;
+    let totals = book.totals();
     let findings = book.findings(alloc)?;
-    text_of(alloc, &book.totals(), &traces, &findings)
+    // Where no line is about a single trace, their order isn't asked for.
+    if totals.refused == 0 && count_of(&findings) == 0 {
+        return quiet_text(alloc, &totals);
+    }
+    let traces = Traces::new(alloc, book)?;
+    text_of(alloc, &totals, &traces, &findings)
+}
+
+/// The lines where no trace is refused and there is no violation.
+fn quiet_text(alloc: Global, totals: &Totals) -> Result<Vec<u8>, AllocError>
+    ensures { IfOk result (λ text. text.items ≡ summary_line totals.now ++ last_line 0) }
+{
+    let mut lines = Vec::new(alloc);
+    write_summary(&mut lines, totals)?;
+    write_last(&mut lines, 0)?;
+    Ok(lines)
 }
 
 /// All lines, from the totals of the traces to how many violations there are.

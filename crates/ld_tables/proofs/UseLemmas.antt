@@ -1,7 +1,7 @@
 -- Usage bits as a list and as sets.
 use Rattle.std.proofs.Common.{◌≡◌, ◌≢◌, ◌<◌, ◌≤◌, ◌-◌, ◌^◌, ◌∷◌, [], ◌++◌, ◌⊎◌, inl, inr, ◌&&◌, ◌||◌, ◌==◌, not, ℕ, List, Bool, true, false, true≢false}
 use Rattle.std.proofs.Common.{length, get_or, set, take, bit_and, bit_or, refl, ap, sym, subst, ◌∙◌, arith, eqb, fold, map, reverse, if◌then◌else◌, Option, Some, None}
-use Rattle.std.proofs.lemmas.Bool.{and_from, eq-eqb, eqb-true, ne_eqb, or_right, cases_eq, cases_lt}
+use Rattle.std.proofs.lemmas.Bool.{and_from, and_right, eq-eqb, eqb-true, ne_eqb, or_right, cases_eq, cases_lt}
 use Rattle.std.proofs.lemmas.List.{get_or_push, get_or_append_left, get_or_past, get_or-set_same, get_or-set_other, length_push, take-append-le, take_all}
 use Rattle.std.proofs.lemmas.List.Folds.{list_any-append, list_any_at}
 use Rattle.std.proofs.lemmas.Nat.{and_assoc, and_or_apart, and_or_self}
@@ -60,10 +60,6 @@ and_true : (b : Bool) → (b && true) ≡ b
 and_true true = refl
 and_true false = refl
 
-and_false : (b : Bool) → (b && false) ≡ false
-and_false true = refl
-and_false false = refl
-
 -- what a set has after a bit was put into it
 has_added : (a x y : ℕ) → AreSame x y ⊎ AreApart x y → (bit_and (bit_or a x) y == y) ≡ ((bit_and a y == y) || (y == x))
 has_added a x y (inl are) = eq-eqb (bit_and (bit_or a x) y) y (ap (λ n. bit_and (bit_or a n) y) (sym are.same) ∙ and_or_self y a)
@@ -73,7 +69,7 @@ has_added a x y (inr are) = ap (λ n. n == y) (and_or_apart y a x are.none) ∙ 
 -- and after one was taken from it
 has_gone : (a x y : ℕ) → AreSame x y ⊎ AreApart x y → (bit_and (bit_and a (2 ^ 8 - 1 - x)) y == y) ≡ ((bit_and a y == y) && not (y == x))
 has_gone a x y (inl are) = ap (λ n. n == y) (and_assoc y a (2 ^ 8 - 1 - x) ∙ ap (bit_and a) are.gone ∙ and_zero_r a) ∙ are.some
-    ∙ sym (ap (λ t. (bit_and a y == y) && not t) (eq-eqb y x are.same) ∙ and_false (bit_and a y == y))
+    ∙ sym (ap (λ t. (bit_and a y == y) && not t) (eq-eqb y x are.same) ∙ and_right (bit_and a y == y) false refl)
 has_gone a x y (inr are) = ap (λ n. n == y) (and_assoc y a (2 ^ 8 - 1 - x) ∙ ap (bit_and a) are.kept)
     ∙ sym (ap (λ t. (bit_and a y == y) && not t) are.differ ∙ and_true (bit_and a y == y))
 

@@ -5,8 +5,7 @@ use Rattle.std.proofs.lemmas.Bool.{true≢false, and_parts, cases_eq, cases_orde
 use Rattle.std.proofs.lemmas.List.{get_or-map, get_or-take, get_or-set_same, get_or-set_other, get_or_append_left, get_or_default, length-map, length-set, length_push, map-set, map-append, set-get_or}
 use Rattle.std.proofs.lemmas.List.Elements.{All-push}
 use Rattle.std.proofs.lemmas.List.Quantifiers.{Any-push, all_pairs_push, any-set}
-use Rattle.std.proofs.lemmas.Option.{get_or_from_slice_get, slice_get-get_or, slice_get_within}
-use Rattle.std.specs.List.{slice_get}
+use Rattle.std.proofs.lemmas.Option.{get_or_from_slice_get, slice_get_within}
 use Rattle.ld_class.specs.Names.{AreDistinct, IsNameAt, PlainClass, no_class, place_of, same_class}
 use Rattle.ld_class.proofs.NameLemmas.{place_of-None, same_class-Decides}
 use Rattle.ld_graph.specs.declared.Edge.{Edge}
@@ -53,15 +52,6 @@ module _ (rows : List Witnessed) where
   found_row a b n found =
       let within : n < length rows = subst (λ m. n < m) (sym length_rows) (slice_get_within (edges_of rows) n (edge a b) found.there) in
       (within, λ d. sym (at_row n d (edge a b) within) ∙ get_or_from_slice_get (edges_of rows) n (edge a b) (edge a b) found.there)
-
-  -- the number of an edge that has a row, where no edge stands twice
-  pub number_of_row : (a b k : ℕ) (d : Witnessed) → k < length rows → (get_or rows k d).edge ≡ edge a b
-      → ((i j : ℕ) → i < j → j < length (edges_of rows) → slice_get (edges_of rows) i ≢ slice_get (edges_of rows) j)
-      → IsEdgeNumber (edges_of rows) a b k
-  number_of_row a b k d within same once =
-      let below = subst (λ m. k < m) length_rows within in
-      let there : slice_get (edges_of rows) k ≡ Some (edge a b) = slice_get-get_or (edges_of rows) k (edge a b) below ∙ ap Some (at_row k d (edge a b) within ∙ same) in
-      record { there = there; first = λ j before is. once j k before below (is ∙ sym there) }
 
   -- an edge that has a row is one of them
   pub edge_of_row : (a b k : ℕ) (d : Witnessed) → k < length rows → (get_or rows k d).edge ≡ edge a b → IsEdge (edges_of rows) a b
@@ -190,13 +180,6 @@ module _ (classes : List PlainClass) (rows : List Witnessed) (is : AreBetween cl
 
   -- e is in row n: it gets the earlier witness
   module _ (n : ℕ) (e : Edge) (within : n < length rows) (at : (d : Witnessed) → (get_or rows n d).edge ≡ e) (r : Witnessed) (same : r.edge ≡ e) where
-    pub numbered-set : AreBetween classes (set rows n r)
-    numbered-set = record {
-      distinct = is.distinct;
-      ends = subst (All (λ x. (x.from < length classes) × (x.to < length classes))) (sym (edges-set rows n e within at r same)) is.ends;
-      once = subst (AllPairs (λ x y. x ≢ y)) (sym (edges-set rows n e within at r same)) is.once;
-    }
-
     e_ends : (e.from < length classes) × (e.to < length classes)
     e_ends = subst (λ (x : Edge). (x.from < length classes) × (x.to < length classes)) (at r) (ends_of_row n r within)
 

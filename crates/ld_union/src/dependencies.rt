@@ -235,16 +235,18 @@ impl Dependencies {
             → WasSeen self.new.rows.items e trace }
         ensures there { WasSeen self.new.rows.items edge witness.number }
     {
-        match self.graph.edge(edge.from, edge.to) {
-            Some(place) => {
-                self.see(place as usize, edge, witness);
-                guesses.keep_dependency(number, place as usize);
-            }
-            None => {
-                guesses.keep_dependency(number, self.rows.len());
-                self.enter(edge, witness);
-            }
+        let (place, answer) = self.graph.insert_full(edge.from, edge.to);
+        guesses.keep_dependency(number, place as usize);
+        if let Insert::Known = answer {
+            self.see(place as usize, edge, witness);
+            return;
         }
+        self.closing = closing_then(self.closing, edge, answer);
+        self.reach.along(&self.graph, edge);
+        self.rows.push_reserved(Witnessed {
+            edge,
+            first: witness,
+        });
     }
 
     /// Whether the edge has this number, which may be past the last one.
@@ -278,45 +280,6 @@ impl Dependencies {
         if witness.number <= known.first.number {
             known.first = known.first.earlier(witness);
         }
-    }
-
-    /// Enters a dependency that isn't there, and was seen there first.
-    fn enter(&mut self, edge: Edge, witness: Witness)
-        requires from { edge.from < self.old.graph.classes }
-        requires to { edge.to < self.old.graph.classes }
-        requires new { ¬ IsEdge self.old.graph.edges edge.from edge.to }
-        requires spare_edges { 0 < self.old.graph.spare_edges }
-        requires spare_rows { vec_len self.old.rows < vec_capacity self.old.rows }
-        ensures classes { self.new.graph.classes ≡ self.old.graph.classes }
-        ensures spare_edges { self.old.graph.spare_edges ≤ self.new.graph.spare_edges + 1 }
-        ensures spare_rows { (n : ℕ) → vec_len self.old.rows + (n + 1) ≤ vec_capacity self.old.rows
-            → vec_len self.new.rows + n ≤ vec_capacity self.new.rows }
-        ensures front { (n : ℕ) → n ≤ length self.old.rows.items
-            → take n (edges_of self.new.rows.items) ≡ take n (edges_of self.old.rows.items) }
-        ensures further { AreFurther self.old.reach self.new.reach }
-        ensures exact { StayExact (edges_of self.old.rows.items) (edges_of self.new.rows.items)
-            self.old.reach self.new.reach }
-        ensures closing { IsCycleEdge (edges_of self.old.rows.items) self.old.closing
-            → IsCycleEdge (edges_of self.new.rows.items) self.new.closing }
-        ensures numbered { (classes : List PlainClass) → length classes ≡ self.old.graph.classes
-            → AreBetween classes self.old.rows.items → AreBetween classes self.new.rows.items }
-        ensures noted { (classes : List PlainClass) → length classes ≡ self.old.graph.classes
-            → AreBetween classes self.old.rows.items
-            → (first : Dependency → Option Witness)
-            → AreWitnessed classes self.old.rows.items first
-            → AreWitnessed classes self.new.rows.items
-            (with_seen first (named_edge classes edge) witness) }
-        ensures kept { (e : Edge) (trace : ℕ) → WasSeen self.old.rows.items e trace
-            → WasSeen self.new.rows.items e trace }
-        ensures there { WasSeen self.new.rows.items edge witness.number }
-    {
-        let answer = self.graph.insert(edge.from, edge.to);
-        self.closing = closing_then(self.closing, edge, answer);
-        self.reach.along(&self.graph, edge);
-        self.rows.push_reserved(Witnessed {
-            edge,
-            first: witness,
-        });
     }
 
     /// Makes each class a seed of the state of which it got the bit that handlers acquire it.

@@ -1,7 +1,7 @@
 -- Which number tells that sources aren't listed, each once.
-use Rattle.std.proofs.Common.{◌≡◌, ◌≢◌, ◌<◌, ◌≤◌, ◌⊎◌, ◌∙◌, inl, inr, List, ℕ, zero, suc, [], ◌∷◌, length, map, take, get_or, remove, AllPairs, IsPermutation, Option, None, Some, IfNone, arith, ap, refl, sym, subst}
+use Rattle.std.proofs.Common.{◌≡◌, ◌≢◌, ◌<◌, ◌≤◌, ◌⊎◌, ◌∙◌, inl, inr, List, ℕ, zero, suc, [], ◌∷◌, length, map, take, get_or, remove, All, AllPairs, IsPermutation, Option, None, Some, IfNone, arith, ap, refl, sym, subst}
 use Rattle.std.proofs.lemmas.Bool.{cases_order}
-use Rattle.std.proofs.lemmas.List.{get_or-map, get_or-take, get_or_default, length-map, nil_from_length}
+use Rattle.std.proofs.lemmas.List.{get_or-map, get_or-take, get_or_default, nil_from_length, take_all}
 use Rattle.std.proofs.lemmas.List.Sorted.{Contains-permutation, IsPermutation-cons, IsPermutation-map, IsPermutation-refl, IsPermutation-remove, IsPermutation-sym}
 use Rattle.std.proofs.lemmas.List.Sorted.{IsPermutation-trans, length_permutation}
 use Rattle.std.specs.List.{Contains}
@@ -9,7 +9,7 @@ use Rattle.ld_trace.specs.Sources.{AreNumbered, PlainSource, plain}
 use Rattle.ld_rules.specs.declared.outcome.Listed.{Listed}
 use Rattle.ld_shown.specs.Batch.{sources_of}
 use Rattle.ld_shown.specs.Batch.{AreRising}
-use Rattle.ld_work.specs.Inner.Uneven.{IsLeast, IsMissing, IsStray, IsUneven}
+use Rattle.ld_work.specs.Inner.Uneven.{IsMissing, IsUneven}
 
 -- the source that is listed at a place
 pub listed_at : (listed : List Listed) (k : ℕ) (trace : Listed) (d : PlainSource) → k < length listed → trace ≡ get_or listed k trace → get_or (sources_of listed) k d ≡ plain trace.source
@@ -61,7 +61,7 @@ module _ (sources listed : List PlainSource) (n : ℕ) (numbered : AreNumbered s
 
   -- where the next source isn't listed at its place, it is missing
   pub uneven_from_other : n < length sources → ((d : PlainSource) → n < length listed → get_or listed n d ≡ get_or sources n d → ⊥) → IsUneven sources listed n
-  uneven_from_other within other = inl (record { is = (within, absent); least = missing_above })
+  uneven_from_other within other = record { missing = (within, absent); least = missing_above }
     where
       absent : (d : PlainSource) → Contains listed (get_or sources n d) → ⊥
       absent d (p, inside, is) =
@@ -73,52 +73,13 @@ module _ (sources listed : List PlainSource) (n : ℕ) (numbered : AreNumbered s
           other source (subst (λ k. k < length listed) here inside)
           (subst (λ k. get_or listed k source ≡ source) here is ∙ get_or_default sources n d source within)
 
-  -- where all sources are listed, what stands next has no source
-  pub uneven_from_more : n ≡ length sources → (d : PlainSource) → n < length listed → IsUneven sources listed (get_or listed n d).number
-  uneven_from_more all d inside = inr (
-    (λ m missing. let high = missing_above m missing in let low = missing.0 in omega (arith, all, high, low)),
-    record {
-      is = (
-        (let high = rising_above listed rising n d inside in omega (arith, all, high)),
-        (n, subst (λ k. n < k) (sym (length-map listed (λ s. s.number))) inside, get_or-map (λ s. s.number) listed n d (get_or listed n d).number inside),
-      );
-      least = least;
-    },
-  )
-    where
-      least : (m : ℕ) → IsStray sources listed m → (get_or listed n d).number ≤ m
-      least m (high, (p, within, is)) = by (cases_order n p)
-        where
-          below : p < length listed
-          below = subst (λ k. p < k) (length-map listed (λ s. s.number)) within
-
-          number : (get_or listed p d).number ≡ m
-          number = sym (get_or-map (λ s. s.number) listed p d m below) ∙ is
-
-          by : (n ≡ p) ⊎ ((n < p) ⊎ (p < n)) → (get_or listed n d).number ≤ m
-          by (inl here) = let same : (get_or listed n d).number ≡ (get_or listed p d).number = ap (λ k. (get_or listed k d).number) here in omega (arith, same, number)
-          by (inr (inl less)) = let rise = rising n p d less below in omega (arith, rise, number)
-          by (inr (inr more)) = absurd (let up = place_above p d (omega (arith, number, all, high)) in omega (arith, up, more))
-
 -- of a list in another order the same number tells
 pub uneven_moved : (sources old new : List PlainSource) (n : ℕ) → IsPermutation old new → IsUneven sources old n → IsUneven sources new n
-uneven_moved sources old new n moved uneven = by uneven
+uneven_moved sources old new n moved uneven =
+    record { missing = missing old new (IsPermutation-sym old new moved) n uneven.missing; least = λ m is. uneven.least m (missing new old moved m is) }
   where
     missing : (from to : List PlainSource) → IsPermutation to from → (m : ℕ) → IsMissing sources from m → IsMissing sources to m
     missing from to back m (within, absent) = (within, λ d has. absent d (Contains-permutation to from (get_or sources m d) back has))
-
-    stray : (from to : List PlainSource) → IsPermutation from to → (m : ℕ) → IsStray sources from m → IsStray sources to m
-    stray from to on m (high, has) = (high, Contains-permutation (map (λ s. s.number) from) (map (λ s. s.number) to) m (IsPermutation-map (λ s. s.number) from to on) has)
-
-    back : IsPermutation new old
-    back = IsPermutation-sym old new moved
-
-    by : IsLeast (IsMissing sources old) n ⊎ (((other : ℕ) → IsMissing sources old other → ⊥) × IsLeast (IsStray sources old) n) → IsUneven sources new n
-    by (inl first) = inl (record { is = missing old new back n first.is; least = λ m is. first.least m (missing new old moved m is) })
-    by (inr (none, first)) = inr (
-      (λ m is. none m (missing new old moved m is)),
-      record { is = stray old new moved n first.is; least = λ m is. first.least m (stray new old back m is) },
-    )
 
 -- what follows from what a clause says of no value
 pub IfNone_then : {X P Q : Type 0} (r : Option X) → IfNone r P → (P → Q) → IfNone r Q
@@ -160,3 +121,24 @@ own_place sources source numbered (p, inside, is) =
   where
     here : p ≡ source.number
     here = sym (numbered p source inside) ∙ ap (λ s. s.number) is
+
+-- a listed source whose number is its place is the source of that number
+pub same_by_number : (sources listed : List PlainSource) (k : ℕ) (d : PlainSource) → AreNumbered sources → All (Contains sources) listed
+    → k < length listed → (get_or listed k d).number ≡ k → get_or listed k d ≡ get_or sources k d
+same_by_number sources listed k d numbered among within is =
+    sym ((own_place sources (get_or listed k d) numbered (among k d within)).1 d) ∙ ap (λ n. get_or sources n d) is
+
+-- where the first n are the sources at their places, and there are no more sources, nothing else is listed
+pub all_in_place : (sources listed : List PlainSource) (n : ℕ) → AreNumbered sources → AreRising listed → All (Contains sources) listed
+    → n ≡ length sources → n ≤ length listed → take n listed ≡ take n sources → listed ≡ sources
+all_in_place sources listed n numbered rising among all there same = sym (take_all n listed few) ∙ (same ∙ take_all n sources (omega (arith, all)))
+  where
+    few : length listed ≤ n
+    few = by (cases_order n (length listed))
+      where
+        by : (n ≡ length listed) ⊎ ((n < length listed) ⊎ (length listed < n)) → length listed ≤ n
+        by (inl is) = omega (arith, is)
+        by (inr (inl more)) = absurd (let low = rising_above listed rising n any more in
+            let high = (own_place sources (get_or listed n any) numbered (among n any more)).0 in
+            omega (arith, low, high, all))
+        by (inr (inr less)) = omega (arith, less)

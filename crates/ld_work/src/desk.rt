@@ -1,32 +1,44 @@
 //! A book behind a lock, which several threads feed.
 ghost use Rattle.std.specs.Prelude.{◌≡◌, ◌≢◌, ◌≤◌, ◌<◌, ◌+◌, ◌^◌, ◌↔◌, ◌∷◌, [], length, All};
 ghost use Rattle.std.specs.Prelude.{IfErr, IfOk, IsErr, OnErr, OnOk};
-ghost use Rattle.ld_shown.specs.Batch.{empty_batch};
 ghost use Rattle.ld_book.specs.Totals.{event_count};
 ghost use Rattle.ld_work.specs.Desk.{IsAddition, IsEvent, sum_of, tally_of};
 
 use crate::feeder::{Feeder, MOST_FEEDERS, Tally};
 use crate::sums::{added_since, audited, count, joined};
-use ld_book::{Batch, BatchRefusal, Book, Refusal, TakeRefusal};
+use ld_book::{AddRefusal, Batch, BatchRefusal, Book, Refusal};
 use ld_facts::Facts;
 use std::alloc::{AllocError, Global};
-use std::marker::Model;
+use std::marker::{Brand, Model, PhantomData};
 use std::sync::ledger::{Blank, Ledger, Share};
 use std::sync::{Mutex, MutexGuard, Wait, ledger};
 
+/// Which sources the book of a desk may list. Only proofs read it. `Brand` lets the book list any; where a function
+/// over a scope is called with `Brand`, the proof of the call may pick others.
+pub trait Scope {
+    ghost use Rattle.ld_trace.specs.Sources.{PlainSource};
+
+    ghost may_list: { PlainSource → Type 0 };
+}
+
+impl Scope for Brand {
+    ghost may_list = { λ _. Unit {0} };
+}
+
 /// What the lock of a desk keeps: the book, beside the sum of what all feeders added to it.
 #[derive(Drop)]
-struct Locked<'a, T: Ledger, E: Ledger> {
+struct Locked<'a, T: Ledger, E: Ledger, S: Scope> {
     book: Book<'a>,
     trace_sum: ledger::Book<T>,
     event_sum: ledger::Book<E>,
     /// Of no feeder, to begin a sum with.
     no_traces: Share<T>,
     no_events: Share<E>,
+    scope: PhantomData<S>,
 }
 
-impl<'a, T: Ledger, E: Ledger> Model for Locked<'a, T, E> {
-    ghost use Rattle.std.specs.Prelude.{◌≡◌, List, length};
+impl<'a, T: Ledger, E: Ledger, S: Scope> Model for Locked<'a, T, E, S> {
+    ghost use Rattle.std.specs.Prelude.{◌≡◌, List, length, All};
     ghost use Rattle.ld_trace.specs.Sources.{PlainSource};
     ghost use Rattle.ld_book.specs.Totals.{event_count};
 
@@ -37,33 +49,24 @@ impl<'a, T: Ledger, E: Ledger> Model for Locked<'a, T, E> {
     ghost invariant = { λ l. (l.trace_sum.total ≡ length l.book)
         × (l.event_sum.total ≡ event_count l.book)
         × (l.no_traces.parts ≡ 0) × (l.no_traces.amount ≡ 0)
-        × (l.no_events.parts ≡ 0) × (l.no_events.amount ≡ 0) };
+        × (l.no_events.parts ≡ 0) × (l.no_events.amount ≡ 0)
+        × All S.may_list l.book };
 }
 
-impl<'a, T: Ledger, E: Ledger> Locked<'a, T, E> {
-    /// Adds a trace to the book, and to the tally of the feeder.
-    fn submit(&mut self, feeder: &mut Feeder<T, E>, facts: Facts<'a>) -> Result<(), Refusal<'a>>
-        ensures added { IsAddition (facts.entry.source ∷ [])
-            (Refusal.Twice facts.entry) (Refusal.Memory facts.entry) result
+impl<'a, T: Ledger, E: Ledger, S: Scope> Locked<'a, T, E, S> {
+    /// Adds the traces of a batch to the book, and to the tally of the feeder.
+    fn submit_from(
+        &mut self,
+        feeder: &mut Feeder<T, E>,
+        batch: &mut Batch<'a>,
+    ) -> Result<(), AddRefusal>
+        requires { All S.may_list batch.old.sources }
+        ensures added { IsAddition batch.old.sources AddRefusal.Twice AddRefusal.Memory result
             self.old self.new feeder.old feeder.new }
+        ensures batch { batch.new ≡ batch.old }
     {
         let before = self.book.totals();
-        self.book.add(facts)?;
-        let more = added_since(before, self.book.totals());
-        count(&mut self.trace_sum, &mut self.event_sum, feeder, more);
-        Ok(())
-    }
-
-    /// Adds the traces of a batch to the book, and to the tally of the feeder, and leaves the batch
-    /// without traces.
-    fn take(&mut self, feeder: &mut Feeder<T, E>, batch: &mut Batch<'a>) -> Result<(), TakeRefusal>
-        ensures added { IsAddition batch.old.sources TakeRefusal.Twice TakeRefusal.Memory result
-            self.old self.new feeder.old feeder.new }
-        ensures emptied { OnOk result (batch.new ≡ empty_batch) }
-        ensures back { OnErr result (batch.new ≡ batch.old) }
-    {
-        let before = self.book.totals();
-        self.book.take(batch)?;
+        self.book.add_from(batch)?;
         let more = added_since(before, self.book.totals());
         count(&mut self.trace_sum, &mut self.event_sum, feeder, more);
         Ok(())
@@ -81,17 +84,32 @@ impl<'a, T: Ledger, E: Ledger> Locked<'a, T, E> {
     }
 }
 
+impl<'a, T: Ledger, E: Ledger> Locked<'a, T, E, Brand> {
+    /// Adds a trace to the book, and to the tally of the feeder.
+    fn submit(&mut self, feeder: &mut Feeder<T, E>, facts: Facts<'a>) -> Result<(), Refusal<'a>>
+        ensures added { IsAddition (facts.entry.source ∷ [])
+            (Refusal.Twice facts.entry) (Refusal.Memory facts.entry) result
+            self.old self.new feeder.old feeder.new }
+    {
+        let before = self.book.totals();
+        self.book.add(facts)?;
+        let more = added_since(before, self.book.totals());
+        count(&mut self.trace_sum, &mut self.event_sum, feeder, more);
+        Ok(())
+    }
+}
+
 /// A book that several threads feed, seen as the number of its feeders.
 ///
 /// The book has as many traces and events as the feeders added. `T` and `E` name the desk's ledgers of traces and of
-/// events, by which a feeder is known to be of this desk.
+/// events, by which a feeder is known to be of this desk, and `S` what its book may list: any source, where it is left out.
 #[derive(Drop)]
-pub struct Desk<'a, T: Ledger, E: Ledger> {
-    locked: Mutex<Locked<'a, T, E>>,
+pub struct Desk<'a, T: Ledger, E: Ledger, S: Scope = Brand> {
+    locked: Mutex<Locked<'a, T, E, S>>,
     feeders: usize,
 }
 
-impl<'a, T: Ledger, E: Ledger> Model for Desk<'a, T, E> {
+impl<'a, T: Ledger, E: Ledger, S: Scope> Model for Desk<'a, T, E, S> {
     ghost use Rattle.std.specs.Prelude.{◌≡◌, ℕ};
 
     ghost Value = { ℕ };
@@ -103,11 +121,11 @@ impl<'a, T: Ledger, E: Ledger> Model for Desk<'a, T, E> {
 
 /// The book of a desk, while no other thread has it, seen as the list of its traces.
 #[derive(Drop)]
-pub struct Look<'d, 'a, T: Ledger, E: Ledger> {
-    guard: MutexGuard<'d, Locked<'a, T, E>>,
+pub struct Look<'d, 'a, T: Ledger, E: Ledger, S: Scope = Brand> {
+    guard: MutexGuard<'d, Locked<'a, T, E, S>>,
 }
 
-impl<'d, 'a, T: Ledger, E: Ledger> Model for Look<'d, 'a, T, E> {
+impl<'d, 'a, T: Ledger, E: Ledger, S: Scope> Model for Look<'d, 'a, T, E, S> {
     ghost use Rattle.std.specs.Prelude.{List};
     ghost use Rattle.std.specs.Sync.Mutex.{mutex_guard_value};
     ghost use Rattle.ld_trace.specs.Sources.{PlainSource};
@@ -128,14 +146,14 @@ pub struct Gathered<'a> {
 
 /// What wasn't gathered, because the feeders aren't as many as the desk was made with.
 #[derive(Drop)]
-pub struct Back<'a, T: Ledger, E: Ledger> {
+pub struct Back<'a, T: Ledger, E: Ledger, S: Scope = Brand> {
     /// The desk, whose book is as before.
-    pub desk: Desk<'a, T, E>,
+    pub desk: Desk<'a, T, E, S>,
     /// The feeders that were handed in.
     pub feeders: Vec<Feeder<T, E>>,
 }
 
-impl<'a, T: Ledger, E: Ledger> Desk<'a, T, E> {
+impl<'a, T: Ledger, E: Ledger, S: Scope> Desk<'a, T, E, S> {
     /// A desk with an empty book, and its feeders, which have added nothing.
     ///
     /// # Errors
@@ -146,7 +164,7 @@ impl<'a, T: Ledger, E: Ledger> Desk<'a, T, E> {
         traces: Blank,
         events: Blank,
         feeders: usize,
-    ) -> Result<(Desk<'a, T, E>, Vec<Feeder<T, E>>), AllocError>
+    ) -> Result<(Desk<'a, T, E, S>, Vec<Feeder<T, E>>), AllocError>
         requires some { (1 ≤ feeders) × (feeders ≤ MOST_FEEDERS) }
         requires traces { (traces.name ≡ T.name) × (traces.parts ≡ T.parts)
             × (traces.parts ≡ feeders) }
@@ -175,12 +193,13 @@ impl<'a, T: Ledger, E: Ledger> Desk<'a, T, E> {
             event_sum,
             no_traces,
             no_events,
+            scope: PhantomData,
         });
         Ok((Desk { locked, feeders }, made))
     }
 
     /// Waits until no other thread has the book, and lends it. Takes no memory.
-    pub fn look<R: Wait>(&self, rt: &R) -> Look<'_, 'a, T, E> {
+    pub fn look<R: Wait>(&self, rt: &R) -> Look<'_, 'a, T, E, S> {
         Look {
             guard: self.locked.lock(rt),
         }
@@ -192,12 +211,13 @@ impl<'a, T: Ledger, E: Ledger> Desk<'a, T, E> {
     /// # Errors
     ///
     /// Desk and feeders come back where the feeders aren't as many as the desk was made with.
-    pub fn gather(self, feeders: Vec<Feeder<T, E>>) -> Result<Gathered<'a>, Back<'a, T, E>>
+    pub fn gather(self, feeders: Vec<Feeder<T, E>>) -> Result<Gathered<'a>, Back<'a, T, E, S>>
         ensures not_all { IsErr result ↔ (length feeders.items ≢ self.entry) }
         ensures back { IfErr result (λ back.
             (back.desk ≡ self.entry) × (back.feeders ≡ feeders)) }
         ensures sum { IfOk result (λ all. all.tally ≡ sum_of feeders.items) }
         ensures book { IfOk result (λ all. all.tally ≡ tally_of all.book) }
+        ensures scope { IfOk result (λ all. All S.may_list all.book) }
     {
         if feeders.len() != self.feeders {
             return Err(Back {
@@ -211,6 +231,7 @@ impl<'a, T: Ledger, E: Ledger> Desk<'a, T, E> {
             event_sum,
             no_traces,
             no_events,
+            ..
         } = self.locked.into_inner();
         let (traces, events) = joined(feeders, no_traces, no_events);
         let tally = audited(&book, trace_sum, event_sum, traces, events);
@@ -218,7 +239,7 @@ impl<'a, T: Ledger, E: Ledger> Desk<'a, T, E> {
     }
 }
 
-impl<'d, 'a, T: Ledger, E: Ledger> Look<'d, 'a, T, E> {
+impl<'d, 'a, T: Ledger, E: Ledger, S: Scope> Look<'d, 'a, T, E, S> {
     /// The desk's book, as it is until this look ends. Takes no memory.
     pub fn book(&self) -> &Book<'a>
         ensures { result.now ≡ self.now }
@@ -226,6 +247,40 @@ impl<'d, 'a, T: Ledger, E: Ledger> Look<'d, 'a, T, E> {
         &self.guard.book
     }
 
+    /// Adds the traces of a batch to the desk's book, as `Book::add_from` does, and counts them in the
+    /// feeder's tally. All have to be among those that the book may list. The batch stays as it is, but for
+    /// its guesses, so that it can be cleared once the look has ended.
+    ///
+    /// # Errors
+    ///
+    /// Those of `Book::add_from`: the book and the tally are as before.
+    pub fn submit_from(
+        &mut self,
+        feeder: &mut Feeder<T, E>,
+        batch: &mut Batch<'a>,
+    ) -> Result<(), AddRefusal>
+        requires { All S.may_list batch.old.sources }
+        ensures added { IsAddition batch.old.sources AddRefusal.Twice AddRefusal.Memory result
+            self.old self.new feeder.old feeder.new }
+        ensures batch { batch.new ≡ batch.old }
+        ensures event { IsEvent self.old self.new feeder.old feeder.new }
+    {
+        self.guard.submit_from(feeder, batch)
+    }
+
+    /// Changes nothing, and tells that the book has at least the traces and the events that this
+    /// feeder added to it. Takes no memory.
+    pub fn covers(&mut self, feeder: &mut Feeder<T, E>)
+        ensures book { self.new ≡ self.old }
+        ensures feeder { feeder.new ≡ feeder.old }
+        ensures traces { feeder.old.traces ≤ length self.old }
+        ensures events { feeder.old.events ≤ event_count self.old }
+    {
+        self.guard.covers(feeder)
+    }
+}
+
+impl<'d, 'a, T: Ledger, E: Ledger> Look<'d, 'a, T, E> {
     /// Adds a trace to the desk's book, as `Book::add` does, and counts it in the feeder's tally.
     ///
     /// # Errors
@@ -256,44 +311,13 @@ impl<'d, 'a, T: Ledger, E: Ledger> Look<'d, 'a, T, E> {
             self.old self.new feeder.old feeder.new }
         ensures event { IsEvent self.old self.new feeder.old feeder.new }
     {
-        match self.guard.take(feeder, &mut batch) {
+        match self.guard.submit_from(feeder, &mut batch) {
             Ok(()) => {
                 drop(batch);
                 Ok(())
             }
-            Err(TakeRefusal::Twice) => Err(BatchRefusal::Twice(batch)),
-            Err(TakeRefusal::Memory) => Err(BatchRefusal::Memory(batch)),
+            Err(AddRefusal::Twice) => Err(BatchRefusal::Twice(batch)),
+            Err(AddRefusal::Memory) => Err(BatchRefusal::Memory(batch)),
         }
-    }
-
-    /// Adds the traces of a batch to the desk's book, as `Book::take` does, and counts them in the
-    /// feeder's tally. The batch then lists none, and has its memory for further traces.
-    ///
-    /// # Errors
-    ///
-    /// Those of `Book::take`: the batch, the book and the tally are as before.
-    pub fn take(
-        &mut self,
-        feeder: &mut Feeder<T, E>,
-        batch: &mut Batch<'a>,
-    ) -> Result<(), TakeRefusal>
-        ensures added { IsAddition batch.old.sources TakeRefusal.Twice TakeRefusal.Memory result
-            self.old self.new feeder.old feeder.new }
-        ensures emptied { OnOk result (batch.new ≡ empty_batch) }
-        ensures back { OnErr result (batch.new ≡ batch.old) }
-        ensures event { IsEvent self.old self.new feeder.old feeder.new }
-    {
-        self.guard.take(feeder, batch)
-    }
-
-    /// Changes nothing, and tells that the book has at least the traces and the events that this
-    /// feeder added to it. Takes no memory.
-    pub fn covers(&mut self, feeder: &mut Feeder<T, E>)
-        ensures book { self.new ≡ self.old }
-        ensures feeder { feeder.new ≡ feeder.old }
-        ensures traces { feeder.old.traces ≤ length self.old }
-        ensures events { feeder.old.events ≤ event_count self.old }
-    {
-        self.guard.covers(feeder)
     }
 }

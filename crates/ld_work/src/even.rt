@@ -1,5 +1,5 @@
-//! Compares what a book lists with the sources that it is to list.
-ghost use Rattle.std.specs.Prelude.{◌≡◌, ◌≢◌, ◌↔◌, AllPairs, IfNone, IfOk, IfSome, IsTrue, map};
+//! Whether a book lists all of the sources that it is to list, and which one it doesn't.
+ghost use Rattle.std.specs.Prelude.{◌≡◌, ◌≢◌, ◌↔◌, All, AllPairs, IfNone, IfOk, IfSome, IsTrue, map};
 ghost use Rattle.std.specs.List.{Contains};
 ghost use Rattle.ld_trace.specs.Sources.{AreNumbered, plain};
 ghost use Rattle.ld_shown.specs.Batch.{AreRising, sources_of};
@@ -11,9 +11,8 @@ use ld_rules::Listed;
 use ld_trace::Source;
 use std::alloc::{AllocError, Global};
 
-/// Which number tells that the book doesn't list each source exactly once, as it stands, and nothing
-/// else: the least one whose source isn't listed so, or else the least one that has no source. `None`
-/// where the book lists them so.
+/// Which number tells that the book, which lists nothing but sources, doesn't list each exactly once: the
+/// least one whose source it doesn't list. `None` where it lists them so.
 ///
 /// # Errors
 ///
@@ -23,7 +22,8 @@ pub fn uneven<'a>(
     sources: &[Source<'a>],
     book: &Book<'a>,
 ) -> Result<Option<u64>, AllocError>
-    requires { AreNumbered (map plain sources.now) }
+    requires numbered { AreNumbered (map plain sources.now) }
+    requires among { All (Contains (map plain sources.now)) book.now }
     ensures even { IfOk result (λ answer.
         IfNone answer (ListsEachOnce (map plain sources.now) book.now)) }
     ensures uneven { IfOk result (λ answer. IfSome answer (λ number.
@@ -37,55 +37,30 @@ pub fn uneven<'a>(
     Ok(first_uneven(sources, traces.listed()))
 }
 
-/// Whether these traces, no two of which have one number, are just the sources, each as it stands, in whatever order.
+/// Whether these traces, which are sources and no two of which have one number, are all of the sources, in whatever
+/// order. None is missing then where they are as many.
 fn are_all(sources: &[Source<'_>], listed: &[Listed<'_>]) -> bool
-    requires numbered { AreNumbered (map plain sources.now) }
     requires apart { AllPairs (λ a b. a.number ≢ b.number) (sources_of listed.now) }
+    requires among { All (Contains (map plain sources.now)) (sources_of listed.now) }
     ensures { IsTrue result ↔ ListsEachOnce (map plain sources.now) (sources_of listed.now) }
 {
-    // Since they are apart, none of the sources is missing where they are as many.
-    if listed.len() != sources.len() {
-        return false;
-    }
-    for trace in listed {
-        if !is_among(sources, &trace.source) {
-            return false;
-        }
-    }
-    true
-}
-
-/// Whether this is one of the sources. It could only stand at the place of its number.
-fn is_among(sources: &[Source<'_>], source: &Source<'_>) -> bool
-    requires { AreNumbered (map plain sources.now) }
-    ensures { IsTrue result ↔ Contains (map plain sources.now) (plain source.now) }
-{
-    match sources.get(source.number as usize) {
-        Some(own) => is_same(source, own),
-        None => false,
-    }
+    listed.len() == sources.len()
 }
 
 /// As `uneven`, of traces in the order of their numbers.
 fn first_uneven(sources: &[Source<'_>], listed: &[Listed<'_>]) -> Option<u64>
     requires numbered { AreNumbered (map plain sources.now) }
     requires rising { AreRising (sources_of listed.now) }
+    requires among { All (Contains (map plain sources.now)) (sources_of listed.now) }
     ensures even { IfNone result (sources_of listed.now ≡ map plain sources.now) }
     ensures uneven { IfSome result (λ number.
         IsUneven (map plain sources.now) (sources_of listed.now) number) }
 {
     for place in 0..sources.len() {
         match listed.get(place) {
-            Some(trace) if is_same(&trace.source, &sources[place]) => {}
+            Some(trace) if trace.source.number == place as u64 => {}
             _ => return Some(place as u64),
         }
     }
-    let trace = listed.get(sources.len())?;
-    Some(trace.source.number)
-}
-
-fn is_same(a: &Source<'_>, b: &Source<'_>) -> bool
-    ensures { IsTrue result ↔ (plain a.now ≡ plain b.now) }
-{
-    a == b
+    None
 }

@@ -8,7 +8,7 @@ mod gate;
 mod sums;
 mod workers;
 
-pub use desk::{Back, Desk, Gathered, Look};
+pub use desk::{Back, Desk, Gathered, Look, Scope};
 pub use feeder::{Feeder, MOST_FEEDERS, Tally};
 pub use gate::{Gate, NoGate};
 pub use ld_tickets::{DrawSeat, Drawn, Tickets};

@@ -1,16 +1,16 @@
 //! Reads traces by several workers at once.
 ghost use Rattle.std.specs.Prelude.{◌≡◌, ◌≤◌, ◌<◌, ℕ, [], None, All, Err, IfOk, IfSome, OnOk, false, length, map};
-ghost use Rattle.std.specs.List.{last_or};
-ghost use Rattle.ld_trace.specs.Sources.{AreNumbered, Fits, plain};
+ghost use Rattle.std.specs.List.{Contains, last_or};
+ghost use Rattle.ld_trace.specs.Sources.{AreNumbered, Fits, PlainSource, plain};
 ghost use Rattle.ld_tickets.specs.Draw.{IsSeatOf};
 ghost use Rattle.ld_work.specs.Inner.Uneven.{IsUneven};
 ghost use Rattle.ld_work.specs.Work.{ListsEachOnce};
 
-use crate::desk::Desk;
+use crate::desk::{Desk, Scope};
 use crate::even::uneven;
 use crate::feeder::{Feeder, MOST_FEEDERS};
 use crate::gate::Gate;
-use ld_book::{Batch, Book, TakeRefusal};
+use ld_book::{AddRefusal, Batch, Book};
 use ld_tickets::{DrawSeat, Tickets};
 use ld_trace::{MOST_TRACES, Source};
 use std::alloc::{AllocError, Global};
@@ -27,8 +27,7 @@ pub enum WorkFault {
     /// A growth of memory was refused.
     #[error("out of memory")]
     Memory,
-    /// The source of this number wasn't listed once, as it stands; or, where all are, this number was
-    /// listed and has no source. Each time the least such number.
+    /// The source of this number wasn't listed: the least such number.
     #[error("uneven at {0}")]
     Uneven(u64),
 }
@@ -90,14 +89,15 @@ pub fn work<'a, G: Gate + Sync, R: Threads + Wait + Sync>(
 {
     let traces = Blank::new(workers as u64);
     let events = Blank::new(workers as u64);
-    work_at::<Brand, Brand, G, R>(rt, alloc, traces, events, sources, workers, gate)
+    work_at::<Brand, Brand, Brand, G, R>(rt, alloc, traces, events, sources, workers, gate)
 }
 
-/// As `work`, with the ledgers of the desk.
+/// As `work`, with the ledgers of the desk, and by a desk that may list just the sources.
 fn work_at<
     'a,
     T: Ledger + Send + Sync,
     E: Ledger + Send + Sync,
+    S: Scope + Send + Sync,
     G: Gate + Sync,
     R: Threads + Wait + Sync,
 >(
@@ -117,9 +117,11 @@ fn work_at<
     requires few { length sources.now ≤ MOST_TRACES }
     requires numbered { AreNumbered (map plain sources.now) }
     requires fit { All (λ source. Fits (plain source)) sources.now }
+    requires scope { All (λ source. S.may_list (plain source)) sources.now }
+    requires only { (s : PlainSource) → S.may_list s → Contains (map plain sources.now) s }
     ensures { IfOk result (λ book. ListsEachOnce (map plain sources.now) book) }
 {
-    let (desk, feeders) = Desk::<T, E>::new(alloc, traces, events, workers)?;
+    let (desk, feeders) = Desk::<T, E, S>::new(alloc, traces, events, workers)?;
     let fed = feed(rt, alloc, &desk, sources, gate, feeders);
     let book = gathered(desk, fed)?;
     match settled(alloc, sources, &book) {
@@ -140,12 +142,13 @@ fn feed<
     'a,
     T: Ledger + Send + Sync,
     E: Ledger + Send + Sync,
+    S: Scope + Send + Sync,
     G: Gate + Sync,
     R: Threads + Wait + Sync,
 >(
     rt: &R,
     alloc: Global,
-    desk: &Desk<'a, T, E>,
+    desk: &Desk<'a, T, E, S>,
     sources: &[Source<'a>],
     gate: &G,
     feeders: Vec<Feeder<T, E>>,
@@ -154,6 +157,7 @@ fn feed<
     requires few { length sources.now ≤ MOST_TRACES }
     requires numbered { AreNumbered (map plain sources.now) }
     requires fit { All (λ source. Fits (plain source)) sources.now }
+    requires scope { All (λ source. S.may_list (plain source)) sources.now }
     ensures { IfOk result (λ fed. length fed.items ≡ length feeders.items) }
 {
     let (tickets, seats) = Tickets::new(alloc, sources.len() as u64, feeders.len())?;
@@ -163,11 +167,12 @@ fn feed<
 }
 
 /// The book of a desk, all of whose feeders were given back, unless memory was refused.
-fn gathered<'a, T: Ledger, E: Ledger>(
-    desk: Desk<'a, T, E>,
+fn gathered<'a, T: Ledger, E: Ledger, S: Scope>(
+    desk: Desk<'a, T, E, S>,
     fed: Result<Vec<Feeder<T, E>>, AllocError>,
 ) -> Result<Book<'a>, AllocError>
     requires { IfOk fed (λ feeders. length feeders.items ≡ desk) }
+    ensures { IfOk result (All S.may_list) }
 {
     let feeders = match fed {
         Ok(feeders) => feeders,
@@ -209,12 +214,13 @@ fn run<
     'a,
     T: Ledger + Send + Sync,
     E: Ledger + Send + Sync,
+    S: Scope + Send + Sync,
     G: Gate + Sync,
     R: Threads + Wait + Sync,
 >(
     rt: &R,
     alloc: Global,
-    desk: &Desk<'a, T, E>,
+    desk: &Desk<'a, T, E, S>,
     tickets: &Tickets,
     sources: &[Source<'a>],
     gate: &G,
@@ -224,6 +230,7 @@ fn run<
     requires seats { All (λ job. IsSeatOf tickets.now job.seat) jobs.items }
     requires numbered { AreNumbered (map plain sources.now) }
     requires fit { All (λ source. Fits (plain source)) sources.now }
+    requires scope { All (λ source. S.may_list (plain source)) sources.now }
     ensures { IfOk result (λ done. length done.items ≡ length jobs.items) }
 {
     thread::map_vec(
@@ -235,10 +242,10 @@ fn run<
 
 /// Does one job: draws the numbers of traces, reads these and hands them on, until none is left or
 /// memory is refused.
-fn run_one<'a, T: Ledger, E: Ledger, G: Gate, R: Wait>(
+fn run_one<'a, T: Ledger, E: Ledger, S: Scope, G: Gate, R: Wait>(
     rt: &R,
     alloc: Global,
-    desk: &Desk<'a, T, E>,
+    desk: &Desk<'a, T, E, S>,
     tickets: &Tickets,
     sources: &[Source<'a>],
     gate: &G,
@@ -248,6 +255,7 @@ fn run_one<'a, T: Ledger, E: Ledger, G: Gate, R: Wait>(
     requires seat { IsSeatOf tickets.now job.seat }
     requires numbered { AreNumbered (map plain sources.now) }
     requires fit { All (λ source. Fits (plain source)) sources.now }
+    requires scope { All (λ source. S.may_list (plain source)) sources.now }
 {
     let Job {
         worker,
@@ -272,17 +280,20 @@ fn run_one<'a, T: Ledger, E: Ledger, G: Gate, R: Wait>(
 }
 
 /// Reads a trace into the batch, and hands on a batch of `MOST_IN_BATCH` traces.
-fn read<'a, T: Ledger, E: Ledger, R: Wait>(
+fn read<'a, T: Ledger, E: Ledger, S: Scope, R: Wait>(
     rt: &R,
-    desk: &Desk<'a, T, E>,
+    desk: &Desk<'a, T, E, S>,
     source: Source<'a>,
     batch: &mut Batch<'a>,
     feeder: &mut Feeder<T, E>,
 ) -> Result<(), AllocError>
     requires fits { Fits (plain source) }
+    requires scope { S.may_list (plain source) }
     requires above { IfSome (last_or None batch.old.sources) (λ last. last.number < source.number) }
-    ensures { OnOk result
+    requires batch { All S.may_list batch.old.sources }
+    ensures last { OnOk result
         (IfSome (last_or None batch.new.sources) (λ last. last.number ≡ source.entry.number)) }
+    ensures batch { OnOk result (All S.may_list batch.new.sources) }
 {
     // Read before the lock is taken, so that the workers read at the same time.
     batch.push(source)?;
@@ -294,23 +305,21 @@ fn read<'a, T: Ledger, E: Ledger, R: Wait>(
 
 /// Adds the traces of the batch to the desk's book, unless one of their numbers is listed, and leaves
 /// a batch without traces.
-fn submit<'a, T: Ledger, E: Ledger, R: Wait>(
+fn submit<'a, T: Ledger, E: Ledger, S: Scope, R: Wait>(
     rt: &R,
-    desk: &Desk<'a, T, E>,
+    desk: &Desk<'a, T, E, S>,
     batch: &mut Batch<'a>,
     feeder: &mut Feeder<T, E>,
 ) -> Result<(), AllocError>
+    requires { All S.may_list batch.old.sources }
     ensures { batch.new.sources ≡ [] }
 {
-    let answer = desk.look(rt).take(feeder, batch);
-    let Err(refusal) = answer else {
-        return Ok(());
-    };
-    // What wasn't taken is given up: a worker goes on with its next draw, or ends.
+    let answer = desk.look(rt).submit_from(feeder, batch);
+    // The lock is free again. What wasn't added is given up: a worker goes on with its next draw, or ends.
     batch.clear();
-    match refusal {
-        TakeRefusal::Memory => Err(AllocError),
-        TakeRefusal::Twice => Ok(()),
+    match answer {
+        Err(AddRefusal::Memory) => Err(AllocError),
+        Ok(()) | Err(AddRefusal::Twice) => Ok(()),
     }
 }
 
@@ -339,13 +348,14 @@ fn feeders_of<T: Ledger, E: Ledger>(
     }
 }
 
-/// Answers Ok where the book lists each source exactly once, as it stands, and nothing else.
+/// Answers Ok where the book, which lists nothing but sources, lists each exactly once.
 ///
 /// # Errors
 ///
 /// `Memory` where memory was refused, and else `Uneven` with the number that tells it.
 fn settled<'a>(alloc: Global, sources: &[Source<'a>], book: &Book<'a>) -> Result<(), WorkFault>
-    requires { AreNumbered (map plain sources.now) }
+    requires numbered { AreNumbered (map plain sources.now) }
+    requires among { All (Contains (map plain sources.now)) book.now }
     ensures even { OnOk result (ListsEachOnce (map plain sources.now) book.now) }
     ensures uneven { (number : ℕ) → result ≡ Err (WorkFault.Uneven number)
         → IsUneven (map plain sources.now) book.now number }

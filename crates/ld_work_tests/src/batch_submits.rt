@@ -3,7 +3,7 @@ ghost use Rattle.std.specs.Prelude.{◌≡◌, ◌∷◌, []};
 ghost use Rattle.ld_trace.specs.Sources.{plain};
 
 use crate::common::{sources_of, tally, totals, totals_of};
-use ld_book::{Batch, BatchRefusal};
+use ld_book::{AddRefusal, Batch, BatchRefusal};
 use ld_trace::Source;
 use ld_work::{Desk, Feeder};
 use std::alloc::Global;
@@ -81,6 +81,18 @@ fn submit_first<'a, T: Ledger, E: Ledger, R: Wait + Abort>(
     assert_eq!(rt; totals_of(rt, desk), totals(2, 4, 2, 1));
 }
 
+/// Submits the traces of a batch one number of which is listed. The batch stays as it is.
+fn is_twice<'a, T: Ledger, E: Ledger, R: Wait + Abort>(
+    rt: &R,
+    desk: &Desk<'a, T, E>,
+    batch: &mut Batch<'a>,
+    feeder: &mut Feeder<T, E>,
+) {
+    let answer = desk.look(rt).submit_from(feeder, batch);
+    assert_eq!(rt; answer, Err(AddRefusal::Twice));
+    assert_eq!(rt; batch.listed().len(), 1);
+}
+
 /// Submits a batch one number of which is listed, and gives it as it comes back.
 fn comes_back<'a, T: Ledger, E: Ledger, R: Wait + Abort>(
     rt: &R,
@@ -99,13 +111,14 @@ fn comes_back<'a, T: Ledger, E: Ledger, R: Wait + Abort>(
     }
 }
 
-/// Submits a batch one number of which is listed: it comes back, and nothing is counted.
+/// Submits a batch one number of which is listed: it stays or comes back, and nothing is counted.
 fn submit_again<'a, T: Ledger, E: Ledger, R: Wait + Abort>(
     rt: &R,
     desk: &Desk<'a, T, E>,
-    batch: Batch<'a>,
+    mut batch: Batch<'a>,
     feeder: &mut Feeder<T, E>,
 ) {
+    is_twice(rt, desk, &mut batch, feeder);
     let batch = comes_back(rt, desk, batch, feeder);
     assert_eq!(rt; batch.listed().len(), 1);
     drop(batch);

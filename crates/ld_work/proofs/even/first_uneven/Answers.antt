@@ -1,10 +1,8 @@
-use Rattle.std.proofs.Common.{rules, ◌≡◌, ◌<◌, ◌≤◌, ◌∙◌, ap, arith, length, map, sym, subst, get_or}
-use Rattle.std.proofs.lemmas.Bool.{true≢false}
-use Rattle.std.proofs.lemmas.List.{get_or-map, length-map, take_more_same}
+use Rattle.std.proofs.Common.{rules, ◌≡◌, ◌<◌, ◌≤◌, ◌∙◌, ap, arith, length, map, sym, get_or}
+use Rattle.std.proofs.lemmas.List.{length-map, take_more_same}
 use Rattle.ld_trace.specs.Sources.{PlainSource, plain}
 use Rattle.ld_shown.specs.Batch.{sources_of}
-use Rattle.ld_work.specs.Inner.Uneven.{IsUneven}
-use Rattle.ld_work.proofs.EvenLemmas.{any, listed_at, uneven_from_more, uneven_from_other}
+use Rattle.ld_work.proofs.EvenLemmas.{all_in_place, any, listed_at, same_by_number, uneven_from_other}
 use Rattle.ld_work.proofs.even.first_uneven.Goals as goal
 
 pub loop-place-preserved : goal.loop-place-preserved
@@ -16,13 +14,12 @@ loop-place-preserved c =
     let within : place < length c.args.listed.now = search rules in
     let below : place < length c.args.sources.now = search rules in
     let found : trace ≡ get_or c.args.listed.now place trace = c.in-Some.ensures.lookup.1 in
-    let same : get_or listed place any ≡ get_or sources place any =
-    listed_at c.args.listed.now place trace any within found
-    ∙ c.is_same.ensures.0 (search rules)
-    ∙ sym (get_or-map plain c.args.sources.now place _ any below) in (
+    let is : trace.source.number ≡ place = search rules in
+    let inside : place < length listed = omega (arith, within, length-map c.args.listed.now (λ l. plain l.source)) in
+    let number : (get_or listed place any).number ≡ place = ap (λ (s : PlainSource). s.number) (listed_at c.args.listed.now place trace any within found) ∙ is in (
       omega (arith, within),
-      take_more_same listed sources place any (omega (arith, within, length-map c.args.listed.now (λ l. plain l.source)))
-          (omega (arith, below, length-map c.args.sources.now plain)) c.loop-place.invariant.1 same,
+      take_more_same listed sources place any inside (omega (arith, below, length-map c.args.sources.now plain)) c.loop-place.invariant.1
+          (same_by_number sources listed place any c.requires.numbered c.requires.among inside number),
     )
 
 pub returns-in_default-clause-uneven : goal.returns-in_default-clause-uneven
@@ -35,11 +32,10 @@ returns-in_default-clause-uneven c =
     let below : place < length c.args.sources.now = search rules in
     let found : trace ≡ get_or c.args.listed.now place trace = c.in-Some.ensures.lookup.1 in
     let inside : place < length sources = omega (arith, below, length-map c.args.sources.now plain) in
+    let differs : trace.source.number ≡ place → ⊥ = search rules in
     uneven_from_other sources listed place c.requires.numbered c.requires.rising (omega (arith, inside))
     (omega (arith, within, length-map c.args.listed.now (λ l. plain l.source))) c.loop-place.invariant.1
-    inside (λ d more is.
-    let same : plain trace.source ≡ get_or sources place d = sym (listed_at c.args.listed.now place trace d within found) ∙ is in
-    absurd (true≢false (sym (c.if-is_same.ensures.1 (same ∙ get_or-map plain c.args.sources.now place _ d below)))))
+    inside (λ d more is. differs (ap (λ (s : PlainSource). s.number) (sym (listed_at c.args.listed.now place trace d within found) ∙ is) ∙ c.requires.numbered place d inside))
 
 pub returns-in_default-2-clause-uneven : goal.returns-in_default-2-clause-uneven
 returns-in_default-2-clause-uneven c =
@@ -53,16 +49,12 @@ returns-in_default-2-clause-uneven c =
     (omega (arith, c.loop-place.invariant.0, length-map c.args.listed.now (λ l. plain l.source))) c.loop-place.invariant.1
     inside (λ d more is. omega (arith, more, past, length-map c.args.listed.now (λ l. plain l.source)))
 
-pub returns-clause-uneven : goal.returns-clause-uneven
-returns-clause-uneven c =
+pub returns-clause-even : goal.returns-clause-even
+returns-clause-even c =
     let listed = sources_of c.args.listed.now in
     let sources = map plain c.args.sources.now in
     let place = c.loop-place.place in
-    let trace = c.in_ok-trace.trace.now in
-    let within : place < length c.args.listed.now = search rules in
     let all : place ≡ length c.args.sources.now = search rules in
-    let found : trace ≡ get_or c.args.listed.now place trace = search rules in
-    let inside : place < length listed = omega (arith, within, length-map c.args.listed.now (λ l. plain l.source)) in
-    let is : place ≡ length sources = omega (arith, all, length-map c.args.sources.now plain) in
-    subst (λ number. IsUneven sources listed number) (ap (λ (s : PlainSource). s.number) (listed_at c.args.listed.now place trace any within found))
-    (uneven_from_more sources listed place c.requires.numbered c.requires.rising (omega (arith, is)) (omega (arith, inside)) c.loop-place.invariant.1 is any inside)
+    all_in_place sources listed place c.requires.numbered c.requires.rising c.requires.among
+    (omega (arith, all, length-map c.args.sources.now plain))
+    (omega (arith, c.loop-place.invariant.0, length-map c.args.listed.now (λ l. plain l.source))) c.loop-place.invariant.1

@@ -1,6 +1,7 @@
 use Rattle.std.proofs.Common.{map, sym, subst}
-use Rattle.std.proofs.lemmas.List.Sorted.{IsPermutation-sym}
+use Rattle.std.proofs.lemmas.List.Sorted.{All-permutation, IsPermutation-sym}
 use Rattle.std.proofs.lemmas.Option.{IfSome_then}
+use Rattle.std.specs.List.{Contains}
 use Rattle.std.specs.List.Sorted.{IsPermutation}
 use Rattle.ld_trace.specs.Sources.{plain}
 use Rattle.ld_shown.specs.Batch.{AreRising, sources_of}
@@ -16,6 +17,11 @@ moved c =
 
 pub first_uneven-requires-clause-rising : goal.first_uneven-requires-clause-rising
 first_uneven-requires-clause-rising c = subst AreRising (sym c.listed-2.ensures.sources) c.listed-2.ensures.rising
+
+pub first_uneven-requires-clause-among : goal.first_uneven-requires-clause-among
+first_uneven-requires-clause-among c =
+    All-permutation (Contains (map plain c.args.sources.now)) c.args.book.now (sources_of c.listed-2.result.now)
+    (subst (IsPermutation c.args.book.now) (sym c.listed-2.ensures.sources) c.in_ok-traces.ensures.same) c.requires.among
 
 pub returns-clause-even : goal.returns-clause-even
 returns-clause-even c =

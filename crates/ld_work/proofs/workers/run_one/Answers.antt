@@ -57,7 +57,8 @@ loop-number-preserved g c =
           omega (arith, rises, longer, above);
       last = λ k all.
           let above = last_below c.loop-number.seat.drawn number k (subst (All (λ n. n < k)) drawn all) in
-          let told = if_not_err c.read.result c.read.ensures (sym c.is_err-refused.ensures.value ∙ c.if-refused.false) in
+          let told = if_not_err c.read.result c.read.ensures.last (sym c.is_err-refused.ensures.value ∙ c.if-refused.false) in
           IfSome_then (last_or None c.read.new.batch.sources) told (λ last is.
           subst (λ n. n < k) (sym (is ∙ number_at c.args.sources.now number _ c.requires.numbered within)) above);
+      batch = if_not_err c.read.result c.read.ensures.batch (sym c.is_err-refused.ensures.value ∙ c.if-refused.false);
     }

@@ -14,6 +14,6 @@ returns-clause-reduced c =
       found.2,
       record {
         reduced = found.3;
-        verdict_is = c.verdict_of_reduced-verdict.ensures ∙ ap (λ (t : Totals). verdict_of_reduced c.args.keep_refused t.refused) (c.totals.ensures ∙ sym same);
+        verdict_is = c.verdict_of_reduced-verdict.ensures ∙ ap (λ (t : Totals). verdict_of_reduced c.args.keep_refused t.refused) (c.totals.ensures.totals ∙ sym same);
       },
     )

@@ -5,8 +5,8 @@ use Rattle.ld_book.specs.Totals.{totals}
 use Rattle.ld_book.proofs.TotalLemmas.{length-edges}
 use Rattle.ld_book.proofs.book.Book.totals.Goals as goal
 
-pub returns : goal.returns
-returns c =
+pub returns-clause-totals : goal.returns-clause-totals
+returns-clause-totals c =
     let union = c.self.inside.union in
     let shows = c.self.invariant.shows in
     (λ i. record {

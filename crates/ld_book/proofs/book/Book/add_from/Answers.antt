@@ -2,7 +2,7 @@ use Rattle.std.proofs.Common.{◌∙◌, ap, sym}
 use Rattle.std.proofs.lemmas.Bool.{true≢false}
 use Rattle.ld_shown.specs.Batch.{PlainBatch}
 use Rattle.ld_book.specs.Book.{is_any_listed}
-use Rattle.ld_book.proofs.book.Book.take.Goals as goal
+use Rattle.ld_book.proofs.book.Book.add_from.Goals as goal
 
 pub returns-then-has_any-clause-memory : goal.returns-then-has_any-clause-memory
 returns-then-has_any-clause-memory c absent = absurd (true≢false (c.if-has_any.ensures ∙ (λ i. is_any_listed (c.self.view_is i) (c.listed.ensures.sources i)) ∙ absent))
