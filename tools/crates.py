@@ -92,7 +92,7 @@ def copy_kept(one, other):
     them."""
 
     def put(one, other):
-        if one.endswith(".oantt") or "/rlib/" in one:
+        if one.endswith(".oantt") or ".rlib/" in one:
             with contextlib.suppress(OSError):
                 return os.link(one, other)
         return shutil.copy2(one, other)
