@@ -9,6 +9,8 @@ FOLDER = "must-fail-proofs"
 FUNCTION = re.compile(r"( *)(?:pub(?:\([^)]*\))? )?(?:const )?fn (\w+)")
 OPEN = re.compile(r"note: (src/\S+?):(\d+):\d+: (it is not proved .*)")
 ERROR = re.compile(r"(?:\./)?(proofs|specs|src)/(\S+?):(\d+):\d+: error: (.*)")
+# How an error goes on in the next line, where it first shows a record with all its fields.
+REST = re.compile(r"  (has no field `.*)")
 UNCOMPILED = re.compile(r"(?m)^(src/\S+?):(\d+):\d+: error\[")
 # A `use` of several names, in one line, by which nothing is handed on.
 USE = re.compile(r"((?:ghost )?use [\w:.]+\{)([^{}]*)(?=\};$)")
@@ -17,7 +19,9 @@ ANEW = "(goals of this function are named anew)"
 # The most edits of a round: one with more gains little, and others would wait for its end.
 MOST = 16
 # What is said where a proof file names what an edit took away.
-NAMES = re.compile(r"has no field|is not in scope|has no `|was not admitted")
+NAMES = re.compile(
+    r"has no (`|field|constructor|member)|is not (in scope|a (field|constructor) of)|was not admitted|\(nearest: "
+)
 # Nothing is told of the goals of such a function.
 UNTOLD = "which antt refuses"
 # Such a function calls one that isn't proved.
@@ -242,6 +246,8 @@ class Said:
                 notes.append(note.groups())
             elif error := ERROR.match(line):
                 errors.append(error.groups())
+            elif errors and (rest := REST.match(line)):
+                errors[-1] = (*errors[-1][:3], f"{errors[-1][3]} {rest[1]}")
             elif function := re.match(r"fn (\S+): (.*)", line):
                 self.add_notes(notes if UNTOLD not in function[2] else [], RESTS in function[2])
                 notes = []
