@@ -6,6 +6,8 @@ import re
 from crates import read
 
 FOLDER = "must-fail-proofs"
+# Those that the gate doesn't try.
+MORE = "must-fail-more"
 FUNCTION = re.compile(r"( *)(?:pub(?:\([^)]*\))? )?(?:const )?fn (\w+)")
 OPEN = re.compile(r"note: (src/\S+?):(\d+):\d+: (it is not proved .*)")
 ERROR = re.compile(r"(?:\./)?(proofs|specs|src)/(\S+?):(\d+):\d+: error: (.*)")
@@ -127,9 +129,9 @@ class Edit:
     """An edit: the lines that it changes, by file and number, and the functions whose bodies they stand in;
     none, where it changes something else."""
 
-    def __init__(self, folder, crate, name):
+    def __init__(self, folder, crate, kind, name):
         self.folder, self.crate, self.label = folder, crate, f"{crate}/{name}"
-        self.text = read(f"{self.folder}/{FOLDER}/{name}")
+        self.text = read(f"{folder}/{kind}/{name}")
         self.changed, self.functions = {}, []
         file = old = None
         texts = {}
@@ -184,12 +186,12 @@ class Edit:
         return any(it.has_proofs(path) for it in self.functions)
 
 
-def edits_of(folder, crate):
-    """The edits of a crate in a folder, and why others can't be applied."""
+def edits_of(folder, crate, kind):
+    """The edits of a crate in a folder, of the kind FOLDER or MORE, and why others can't be applied."""
     found, bad = [], []
-    for name in sorted(os.listdir(f"{folder}/{FOLDER}")) if os.path.isdir(f"{folder}/{FOLDER}") else []:
+    for name in sorted(os.listdir(f"{folder}/{kind}")) if os.path.isdir(f"{folder}/{kind}") else []:
         try:
-            found.append(Edit(folder, crate, name))
+            found.append(Edit(folder, crate, kind, name))
         except Wrong as why:
             bad.append(str(why))
     return found, bad
