@@ -6,9 +6,13 @@ import re
 from crates import read
 
 FOLDER = "must-fail-proofs"
+# Those that the gate doesn't try.
+MORE = "must-fail-more"
 FUNCTION = re.compile(r"( *)(?:pub(?:\([^)]*\))? )?(?:const )?fn (\w+)")
 OPEN = re.compile(r"note: (src/\S+?):(\d+):\d+: (it is not proved .*)")
 ERROR = re.compile(r"(?:\./)?(proofs|specs|src)/(\S+?):(\d+):\d+: error: (.*)")
+# How an error goes on in the next line, where it first shows a record with all its fields.
+REST = re.compile(r"  (has no field `.*)")
 UNCOMPILED = re.compile(r"(?m)^(src/\S+?):(\d+):\d+: error\[")
 # A `use` of several names, in one line, by which nothing is handed on.
 USE = re.compile(r"((?:ghost )?use [\w:.]+\{)([^{}]*)(?=\};$)")
@@ -17,7 +21,9 @@ ANEW = "(goals of this function are named anew)"
 # The most edits of a round: one with more gains little, and others would wait for its end.
 MOST = 16
 # What is said where a proof file names what an edit took away.
-NAMES = re.compile(r"has no field|is not in scope|has no `|was not admitted")
+NAMES = re.compile(
+    r"has no (`|field|constructor|member)|is not (in scope|a (field|constructor) of)|was not admitted|\(nearest: "
+)
 # Nothing is told of the goals of such a function.
 UNTOLD = "which antt refuses"
 # Such a function calls one that isn't proved.
@@ -123,9 +129,9 @@ class Edit:
     """An edit: the lines that it changes, by file and number, and the functions whose bodies they stand in;
     none, where it changes something else."""
 
-    def __init__(self, folder, crate, name):
+    def __init__(self, folder, crate, kind, name):
         self.folder, self.crate, self.label = folder, crate, f"{crate}/{name}"
-        self.text = read(f"{self.folder}/{FOLDER}/{name}")
+        self.text = read(f"{folder}/{kind}/{name}")
         self.changed, self.functions = {}, []
         file = old = None
         texts = {}
@@ -180,12 +186,12 @@ class Edit:
         return any(it.has_proofs(path) for it in self.functions)
 
 
-def edits_of(folder, crate):
-    """The edits of a crate in a folder, and why others can't be applied."""
+def edits_of(folder, crate, kind):
+    """The edits of a crate in a folder, of the kind FOLDER or MORE, and why others can't be applied."""
     found, bad = [], []
-    for name in sorted(os.listdir(f"{folder}/{FOLDER}")) if os.path.isdir(f"{folder}/{FOLDER}") else []:
+    for name in sorted(os.listdir(f"{folder}/{kind}")) if os.path.isdir(f"{folder}/{kind}") else []:
         try:
-            found.append(Edit(folder, crate, name))
+            found.append(Edit(folder, crate, kind, name))
         except Wrong as why:
             bad.append(str(why))
     return found, bad
@@ -242,6 +248,8 @@ class Said:
                 notes.append(note.groups())
             elif error := ERROR.match(line):
                 errors.append(error.groups())
+            elif errors and (rest := REST.match(line)):
+                errors[-1] = (*errors[-1][:3], f"{errors[-1][3]} {rest[1]}")
             elif function := re.match(r"fn (\S+): (.*)", line):
                 self.add_notes(notes if UNTOLD not in function[2] else [], RESTS in function[2])
                 notes = []
