@@ -10,6 +10,7 @@ PLANTED = os.path.join(HERE, "planted")
 RUN = os.path.join(HERE, "run")
 EXPLAIN = os.path.join(HERE, "explain")
 LOCKCHECK = os.environ.get("LOCKCHECK", os.path.join(HERE, "..", "..", "lockcheck"))
+PROVED = os.path.join(HERE, "..", "..", "tools", "proved")
 COMPILERS = {
     ".c": [*shlex.split(os.environ.get("CC", "cc")), "-std=gnu11"],
     ".cc": [*shlex.split(os.environ.get("CXX", "c++")), "-std=gnu++17"],
@@ -30,6 +31,13 @@ def must(holds, text):
 def call(command, **settings):
     return subprocess.run(command, capture_output=True, text=True, timeout=120, check=False,
                           **settings)
+
+
+def have_lockcheck():
+    """Has lockcheck proved and built, where it is the repository's and isn't yet: until then it takes
+    a minute for each stream. A release has it."""
+    if "LOCKCHECK" not in os.environ and os.path.exists(PROVED):
+        must(subprocess.run([PROVED], check=False).returncode == 0, "lockcheck isn't built")
 
 
 def said(recorded):
