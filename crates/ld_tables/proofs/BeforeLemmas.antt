@@ -1,5 +1,5 @@
 -- What was there when a trace began, as its events add to it.
-use Rattle.std.proofs.Common.{◌≡◌, ◌∷◌, [], ◌++◌, List, ℕ, Result, Ok, Err, OnOk, OnErr, length, take, ap, sym, subst, ◌∙◌, arith}
+use Rattle.std.proofs.Common.{◌≡◌, ◌<◌, ◌∷◌, [], ◌++◌, List, ℕ, Result, Ok, Err, OnOk, OnErr, length, take, ap, sym, subst, ◌∙◌, arith}
 use Rattle.std.proofs.lemmas.List.{length-take, length-take-le, length_push, take-append-le, take-take, take_all}
 use Rattle.std.proofs.lemmas.List.Elements.{All-weaker}
 use Rattle.std.specs.List.{All}
@@ -9,8 +9,9 @@ use Rattle.ld_tables.specs.declared.words.Telling.{Telling}
 use Rattle.ld_tables.specs.Inner.Chains.{KeptChains, chains_of}
 use Rattle.ld_tables.specs.Inner.Edges.{KeptEdges, edges_of}
 use Rattle.ld_tables.specs.Inner.Stacks.{PlainStack}
-use Rattle.ld_tables.specs.Inner.Locks.{AreTied, HasItsEdges, HasItsMasks, IsAtStart, IsExtended, IsKept, held_by_tasks}
+use Rattle.ld_tables.specs.Inner.Locks.{AreTied, HasItsEdges, HasItsMasks, IsAtStart, IsExtended, IsKept, IsRoomy, held_by_tasks}
 use Rattle.ld_tables.proofs.LockLemmas.{HasItsEdges-kept}
+use Rattle.ld_tables.proofs.RoomLemmas.{complete_then, start_then}
 
 module _ (before : Before) (chains : List (List ℕ)) (told : List ℕ) (tellings : List Telling) (is : IsAtStart before chains told tellings) where
   -- more that is told, behind what is there
@@ -63,18 +64,33 @@ tied_none chains told edges complete = record {
   complete = complete;
 }
 
+-- what came since is taken back, and room is made where nothing is left
 pub undone : (before : Before) (chains : KeptChains) (told : List ℕ) (edges : KeptEdges) → IsAtStart before (chains_of chains.links) told edges.tellings →
     HasItsMasks (chains_of chains.links) chains.masks edges.words → (stacks : List PlainStack) (numbers : List ℕ) (left : KeptEdges) → stacks ≡ [] →
-    numbers ≡ take before.told told → left ≡ record edges { tellings = take before.edges edges.tellings } → IsKept stacks chains numbers left before
-undone before chains told edges is masked stacks numbers left none numbers_are left_is =
-    subst (λ ss. IsKept ss chains numbers left before) (sym none)
-    (subst (λ es. IsKept [] chains numbers es before) (sym left_is)
-    (subst (λ ns. IsKept [] chains ns (record edges { tellings = take before.edges edges.tellings }) before) (sym numbers_are)
-    (record {
-      tied = tied_none (chains_of chains.links) (take before.told told) (edges_of (take before.edges edges.tellings)) is.complete;
-      start = before_again before (chains_of chains.links) told edges.tellings is;
-      masked = masked;
-    })))
+    numbers ≡ take before.told told → left ≡ record edges { tellings = take before.edges edges.tellings } → (now : KeptChains) (last : KeptEdges) → (0 < length numbers → now ≡ chains) →
+    last.tellings ≡ left.tellings → (HasItsMasks (chains_of chains.links) chains.masks left.words → HasItsMasks (chains_of now.links) now.masks last.words) →
+    (numbers ≡ [] → left.tellings ≡ [] → IsRoomy now last) → IsKept stacks now numbers last before
+undone before chains told edges is masked stacks numbers left none numbers_are left_is now last alike same masks roomy = record {
+  tied =
+      subst (λ ss. AreTied ss (chains_of now.links) numbers (edges_of last.tellings)) (sym none)
+      (tied_none (chains_of now.links) numbers (edges_of last.tellings) (complete_then chains now numbers alike (edges_of last.tellings) complete));
+  start = start_then chains now numbers alike before last.tellings start;
+  masked = masks (subst (HasItsMasks (chains_of chains.links) chains.masks) (sym (ap (λ (k : KeptEdges). k.words) left_is)) masked);
+  room = λ _ untold empty. roomy untold (sym same ∙ empty);
+}
+  where
+    left_at : last.tellings ≡ take before.edges edges.tellings
+    left_at = same ∙ ap (λ (k : KeptEdges). k.tellings) left_is
+
+    start : IsAtStart before (chains_of chains.links) numbers last.tellings
+    start =
+        subst (λ ns. IsAtStart before (chains_of chains.links) ns last.tellings) (sym numbers_are)
+        (subst (λ ts. IsAtStart before (chains_of chains.links) (take before.told told) ts) (sym left_at) (before_again before (chains_of chains.links) told edges.tellings is))
+
+    complete : All (λ number. HasItsEdges (chains_of chains.links) (edges_of last.tellings) number) numbers
+    complete =
+        subst (All (λ number. HasItsEdges (chains_of chains.links) (edges_of last.tellings) number)) (sym numbers_are)
+        (subst (λ ts. All (λ number. HasItsEdges (chains_of chains.links) (edges_of ts) number) (take before.told told)) (sym left_at) is.complete)
 
 -- a trace begins here
 pub before_now : (chains : List (List ℕ)) (told : List ℕ) (tellings : List Telling) → All (λ number. HasItsEdges chains (edges_of tellings) number) told → (before : Before) →

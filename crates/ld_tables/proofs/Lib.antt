@@ -11,6 +11,7 @@ pub mod MaskLemmas
 pub mod LockLemmas
 pub mod TopLemmas
 pub mod OutLemmas
+pub mod RoomLemmas
 pub mod FirstLemmas
 pub mod BeforeLemmas
 pub mod MaskedLemmas

@@ -5,30 +5,81 @@ ghost use Rattle.std.specs.Bool.{OnTrue};
 ghost use Rattle.ld_tables.specs.declared.words.Word.{Word};
 ghost use Rattle.ld_tables.specs.declared.edges.TheConstants.{MOST_WORDS};
 ghost use Rattle.ld_tables.specs.Inner.Chains.{HasRoom, chains_of, link_with};
-ghost use Rattle.ld_tables.specs.Inner.Locks.{HasItsMasks, IsChainIfAny, IsExtended, IsNumbered, chain_of};
+ghost use Rattle.ld_tables.specs.Inner.Locks.{HasItsMasks, IsChainIfAny, IsExtended, IsNumbered, IsRoomy, chain_of};
 ghost use Rattle.ld_tables.specs.Inner.Stacks.{plain_held};
 ghost use Rattle.ld_rules.specs.declared.outcome.TheConstants.{MOST_HELD};
 
 use crate::chains::{Chains, Link};
 use crate::edges::Edges;
 use crate::held::Held;
+use crate::marked::Marked;
 use std::alloc::{AllocError, Global};
 
-/// Takes all chains away, and the numbers of words, where there is no room for further ones of either. There is no
-/// dependency.
-pub fn make_room(chains: &mut Chains, edges: &mut Edges)
+/// What stays of the cache where all else is taken away. Only the functions of this file make one, by counting.
+#[derive(Clone, Copy, Debug, PartialEq, Eq)]
+pub struct Kept {
+    chains: usize,
+    words: usize,
+}
+
+impl Kept {
+    /// How many chains.
+    pub fn chains(&self) -> usize
+        ensures { result ≡ self.now.chains }
+    {
+        self.chains
+    }
+
+    /// How many words have numbers.
+    pub fn words(&self) -> usize
+        ensures { result ≡ self.now.words }
+    {
+        self.words
+    }
+}
+
+/// Counts the chains, and the words with numbers.
+fn count(chains: &Chains, edges: &Edges) -> Kept
+    ensures chains { result.chains ≡ length chains.now.links }
+    ensures words { result.words ≡ length edges.now.words }
+{
+    Kept {
+        chains: chains.len(),
+        words: edges.numbered(),
+    }
+}
+
+/// Takes all chains away, and the numbers of words, where there is no room for further ones of either, and counts
+/// those that stay. There is no dependency.
+pub fn make_room(chains: &mut Chains, edges: &mut Edges) -> Kept
     requires { edges.old.tellings ≡ [] }
+    ensures chains { result.chains ≡ length chains.new.links }
+    ensures words { result.words ≡ length edges.new.words }
     ensures room { HasRoom chains.new }
-    ensures words { length edges.new.words < MOST_WORDS }
+    ensures few { length edges.new.words < MOST_WORDS }
     ensures edges { edges.new.tellings ≡ [] }
     ensures numbered { HasItsMasks (chains_of chains.old.links) chains.old.masks edges.old.words
         → HasItsMasks (chains_of chains.new.links) chains.new.masks edges.new.words }
 {
     if chains.has_room() && edges.has_room() {
-        return;
+        return count(chains, edges);
     }
     chains.clear();
     edges.clear();
+    count(chains, edges)
+}
+
+/// The same at the start of a trace, where nothing was told.
+pub fn make_room_if_untold(chains: &mut Chains, told: &Marked, edges: &mut Edges)
+    ensures room { told.now ≡ [] → edges.old.tellings ≡ [] → IsRoomy chains.new edges.new }
+    ensures same { 0 < length told.now → chains.new ≡ chains.old }
+    ensures edges { edges.new.tellings ≡ edges.old.tellings }
+    ensures numbered { HasItsMasks (chains_of chains.old.links) chains.old.masks edges.old.words
+        → HasItsMasks (chains_of chains.new.links) chains.new.masks edges.new.words }
+{
+    if told.as_slice().is_empty() && edges.tellings().is_empty() {
+        make_room(chains, edges);
+    }
 }
 
 /// The number of the chain of a stack's classes and one more, which may be new. `None` where that of the

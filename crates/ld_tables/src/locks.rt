@@ -24,7 +24,7 @@ use crate::facts::all_facts;
 use crate::guesses::Guesses;
 use crate::held::{Held, Stacks};
 use crate::interrupts::{Flag, Interrupts};
-use crate::linking::{is_unlinked, learn, linked, make_room};
+use crate::linking::{Kept, is_unlinked, learn, linked, make_room, make_room_if_untold};
 use crate::marked::Marked;
 use crate::words::Telling;
 use ld_class::ClassName;
@@ -40,15 +40,6 @@ struct Before {
     edges: usize,
     /// How many chains had the dependencies of their last class told.
     told: usize,
-}
-
-/// What stays of the cache where all else is taken away.
-#[derive(Clone, Copy, Debug, PartialEq, Eq)]
-pub struct Kept {
-    /// How many chains.
-    pub chains: usize,
-    /// How many words have numbers.
-    pub words: usize,
 }
 
 /// What each task of a trace holds and where it is, by the task's number, and the dependencies so
@@ -127,6 +118,7 @@ impl<'a> Locks<'a> {
         } }
     {
         self.stacks.begin();
+        make_room_if_untold(&mut self.chains, &self.told, &mut self.edges);
         self.before = Before {
             edges: self.edges.tellings().len(),
             told: self.told.as_slice().len(),
@@ -145,6 +137,7 @@ impl<'a> Locks<'a> {
         self.stacks.begin();
         self.edges.cut(self.before.edges);
         self.told.cut(self.before.told);
+        make_room_if_untold(&mut self.chains, &self.told, &mut self.edges);
     }
 
     /// Takes all away. The memory stays; and so do the chains that were met and the numbers of
@@ -158,12 +151,8 @@ impl<'a> Locks<'a> {
         self.stacks.begin();
         self.told.cut(0);
         self.edges.cut(0);
-        make_room(&mut self.chains, &mut self.edges);
         self.before = Before { edges: 0, told: 0 };
-        Kept {
-            chains: self.chains.len(),
-            words: self.edges.numbered(),
-        }
+        make_room(&mut self.chains, &mut self.edges)
     }
 
     /// One more task, which holds nothing and is outside frames.

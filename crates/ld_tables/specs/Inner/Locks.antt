@@ -8,7 +8,8 @@ use Rattle.ld_tables.specs.declared.edges.EdgeFact.{EdgeFact}
 use Rattle.ld_tables.specs.declared.words.Mask.{Mask}
 use Rattle.ld_tables.specs.declared.words.Telling.{Telling}
 use Rattle.ld_tables.specs.declared.words.Word.{Word}
-use Rattle.ld_tables.specs.Inner.Chains.{KeptChains, chain_before, chains_of}
+use Rattle.ld_tables.specs.declared.edges.TheConstants.{MOST_WORDS}
+use Rattle.ld_tables.specs.Inner.Chains.{HasRoom, KeptChains, chain_before, chains_of}
 use Rattle.ld_tables.specs.Inner.Edges.{AreMasks, AreToldTo, KeptEdges, edge_to, edges_of, same_pair}
 use Rattle.ld_rules.specs.Held.{same_lock}
 use Rattle.ld_tables.specs.Inner.Interrupts.{fresh, start_now, starts_of}
@@ -144,12 +145,18 @@ pub record IsAtStart (before : Before) (chains : List (List ℕ)) (told : List �
   pub complete :
       All (λ number. HasItsEdges chains (edges_of (take before.edges tellings)) number) (take before.told told)
 
--- what ties all that is kept
+-- there may be one more chain, the masks of one more may be kept, and one more word may have a number
+pub record IsRoomy (chains : KeptChains) (edges : KeptEdges) : Type 0 where
+  pub chain : HasRoom chains
+  pub word : length edges.words < MOST_WORDS
+
+-- what ties all that is kept; and while there is no task, and nothing was told, there is room
 pub record IsKept (stacks : List PlainStack) (chains : KeptChains) (told : List ℕ)
     (edges : KeptEdges) (before : Before) : Type 0 where
   pub tied : AreTied stacks (chains_of chains.links) told (edges_of edges.tellings)
   pub start : IsAtStart before (chains_of chains.links) told edges.tellings
   pub masked : HasItsMasks (chains_of chains.links) chains.masks edges.words
+  pub room : stacks ≡ [] → told ≡ [] → edges.tellings ≡ [] → IsRoomy chains edges
 
 -- it is of this lock
 abbrev pub is_of : PlainLock → Hold → Bool

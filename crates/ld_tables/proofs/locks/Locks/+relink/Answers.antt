@@ -10,6 +10,7 @@ use Rattle.ld_tables.specs.Inner.Stacks.{PlainStack, empty_stack, plain_held}
 use Rattle.ld_rules.specs.declared.outcome.TheConstants.{MOST_HELD}
 use Rattle.ld_tables.proofs.LockLemmas.{held_shown, interrupts_shown}
 use Rattle.ld_tables.proofs.TopLemmas.{fewer, held_again, room_again, stays_within, tied}
+use Rattle.ld_tables.proofs.RoomLemmas.{some_task_then}
 use Rattle.ld_tables.proofs.locks.Locks.+relink.Goals as goal
 use Rattle.ld_tables.proofs.locks.Locks.+relink.Goals.{then-is_unlinked+in_ok-relink, else-is_unlinked}
 
@@ -30,6 +31,7 @@ invariant_of-self t c = record {
       (chains_of c.self.inside.chains.links) c.self.inside.told c.self.invariant.tied;
   start = c.self.invariant.start;
   masked = c.self.invariant.masked;
+  room = λ none _ _. some_task_then c.self.inside.stacks (edges_of c.self.inside.edges.tellings) c.args.self.now c.args.task c.self.view_is c.requires.task c.truncate.new.self _ c.truncate.ensures none;
 }
 
 pub relink-requires : goal.relink-requires

@@ -7,6 +7,7 @@ use Rattle.ld_tables.specs.Inner.Stacks.{PlainStack, empty_stack, plain_held}
 use Rattle.ld_tables.specs.declared.held.Held.{Held}
 use Rattle.ld_tables.specs.Inner.Chains.{chains_of}
 use Rattle.ld_tables.proofs.LockLemmas.{chained_entered, held_shown, interrupts_shown, moved_is, moved_to, shown_as, tied_moved, within_shown}
+use Rattle.ld_tables.proofs.RoomLemmas.{some_task_then}
 use Rattle.ld_tables.proofs.locks.Locks.enter.Goals as goal
 
 pub invariant_of-self : goal.invariant_of-self
@@ -21,6 +22,7 @@ invariant_of-self c = record {
       c.held-start.ensures.held refl c.enter.ensures.entered (c.self.invariant.tied.chained c.args.task));
   start = c.self.invariant.start;
   masked = c.self.invariant.masked;
+  room = λ none _ _. some_task_then c.self.inside.stacks (edges_of c.self.inside.edges.tellings) c.args.self.now c.args.task c.self.view_is c.requires.task c.enter.new.self _ c.enter.ensures.changed none;
 }
 
 pub returns-clause-moved : goal.returns-clause-moved

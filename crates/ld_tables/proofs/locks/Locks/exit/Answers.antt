@@ -6,6 +6,7 @@ use Rattle.ld_tables.specs.Inner.Locks.{hold_of}
 use Rattle.ld_tables.specs.Inner.Stacks.{PlainStack, empty_stack}
 use Rattle.ld_tables.specs.Inner.Chains.{chains_of}
 use Rattle.ld_tables.proofs.LockLemmas.{chained_left, holds_shown, interrupts_shown, moved_is, moved_to, shown_as, tied_moved, within_shown}
+use Rattle.ld_tables.proofs.RoomLemmas.{some_task_then}
 use Rattle.ld_tables.proofs.locks.Locks.exit.Goals as goal
 
 pub invariant_of-self : goal.invariant_of-self
@@ -23,6 +24,7 @@ invariant_of-self c = record {
       refl c.exit.ensures.left (c.self.invariant.tied.chained c.args.task));
   start = c.self.invariant.start;
   masked = c.self.invariant.masked;
+  room = λ none _ _. some_task_then c.self.inside.stacks (edges_of c.self.inside.edges.tellings) c.args.self.now c.args.task c.self.view_is c.requires.task c.exit.new.self _ c.exit.ensures.changed none;
 }
 
 pub returns-clause-moved : goal.returns-clause-moved

@@ -1,6 +1,7 @@
 use Rattle.ld_tables.specs.Inner.Edges.{edges_of}
 use Rattle.ld_tables.specs.Inner.Chains.{chains_of}
 use Rattle.ld_tables.proofs.LockLemmas.{tied_grown}
+use Rattle.ld_tables.proofs.RoomLemmas.{room_grown}
 use Rattle.ld_tables.proofs.locks.Locks.grow.Goals as goal
 
 pub invariant_of-self : goal.invariant_of-self
@@ -10,4 +11,5 @@ invariant_of-self c = record {
       c.grow.new.self c.grow.ensures.grown c.grow.ensures.refused;
   start = c.self.invariant.start;
   masked = c.self.invariant.masked;
+  room = λ none. room_grown c.grow.result c.self.inside.stacks c.grow.new.self c.grow.ensures.grown c.grow.ensures.refused c.self.invariant.room none;
 }

@@ -7,6 +7,7 @@ use Rattle.ld_tables.specs.Inner.Chains.{chains_of}
 use Rattle.ld_tables.specs.Inner.Locks.{AreTied, Hold, IsChainIfAny, hold_of, held_by_tasks}
 use Rattle.ld_tables.proofs.BeforeLemmas.{before_extended}
 use Rattle.ld_tables.proofs.LockLemmas.{classes_shown, holds_at, numbered, numbered_as, start_within, tied_push, shown_held, within_shown}
+use Rattle.ld_tables.proofs.RoomLemmas.{some_task_then}
 use Rattle.ld_tables.proofs.locks.Locks.hold.Goals as goal
 
 pub innermost-stack-requires-clause-start : goal.innermost-stack-requires-clause-start
@@ -30,6 +31,7 @@ invariant_of-self-2 c = record {
   start = before_extended c.self.inside.before (chains_of c.self.inside.chains.links) c.self.inside.told c.self.inside.edges.tellings c.self.invariant.start
       (chains_of c.linked.new.chains.links) c.linked.ensures.more;
   masked = c.linked.ensures.numbered c.self.inside.edges.words c.self.invariant.masked;
+  room = λ none _ _. some_task_then c.self.inside.stacks (edges_of c.self.inside.edges.tellings) c.args.self.now c.args.task c.self.view_is c.requires.task c.push.new.self _ c.push.ensures none;
 }
 
 pub returns-clause-held : goal.returns-clause-held

@@ -6,6 +6,7 @@ use Rattle.ld_trace.specs.Events.{plain_lock}
 use Rattle.ld_tables.specs.Inner.Chains.{chains_of}
 use Rattle.ld_tables.specs.Inner.Locks.{AreTied, Hold, hold_of, held_by_tasks}
 use Rattle.ld_tables.proofs.LockLemmas.{holds_at, shown_held, tied_push, within_shown}
+use Rattle.ld_tables.proofs.RoomLemmas.{some_task_then}
 use Rattle.ld_tables.proofs.locks.Locks.put.Goals as goal
 
 pub invariant_of-self : goal.invariant_of-self
@@ -19,6 +20,7 @@ invariant_of-self c = record {
       (record { more = omega arith; kept = λ n within. refl }) tt);
   start = c.self.invariant.start;
   masked = c.self.invariant.masked;
+  room = λ none _ _. some_task_then c.self.inside.stacks (edges_of c.self.inside.edges.tellings) c.args.self.now c.args.task c.self.view_is c.requires.task c.push.new.self _ c.push.ensures none;
 }
 
 pub returns : goal.returns

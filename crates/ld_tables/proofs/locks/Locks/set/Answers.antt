@@ -5,6 +5,7 @@ use Rattle.ld_tables.specs.Inner.Locks.{AreChainedIn}
 use Rattle.ld_tables.specs.Inner.Stacks.{PlainStack, empty_stack}
 use Rattle.ld_tables.specs.Inner.Chains.{chains_of}
 use Rattle.ld_tables.proofs.LockLemmas.{interrupts_shown, moved_is, moved_to, shown_as, tied_moved, within_shown}
+use Rattle.ld_tables.proofs.RoomLemmas.{some_task_then}
 use Rattle.ld_tables.proofs.locks.Locks.set.Goals as goal
 
 pub invariant_of-self : goal.invariant_of-self
@@ -17,6 +18,7 @@ invariant_of-self c = record {
       (sym c.set.ensures.set.starts) (c.self.invariant.tied.chained c.args.task));
   start = c.self.invariant.start;
   masked = c.self.invariant.masked;
+  room = λ none _ _. some_task_then c.self.inside.stacks (edges_of c.self.inside.edges.tellings) c.args.self.now c.args.task c.self.view_is c.requires.task c.set.new.self _ c.set.ensures.changed none;
 }
 
 pub returns-clause-moved : goal.returns-clause-moved

@@ -1,6 +1,5 @@
-use Rattle.std.proofs.Common.{◌≡◌, ◌<◌, ◌∷◌, [], ◌++◌, Bool, List, ℕ, Option, Some, Result, Ok, Err, OnOk, true, refl, fold, get_or, length, map, sym, ap, subst, ◌∙◌, take, arith}
+use Rattle.std.proofs.Common.{◌≡◌, ◌<◌, ◌∷◌, [], ◌++◌, List, ℕ, Option, Some, Result, Ok, Err, OnOk, refl, fold, get_or, length, map, sym, ap, subst, ◌∙◌, take, arith}
 use Rattle.std.proofs.lemmas.Bool.{eqb-true}
-use Rattle.std.specs.List.{list_any}
 use Rattle.ld_tables.specs.declared.edges.EdgeFact.{EdgeFact}
 use Rattle.ld_tables.specs.declared.held.Held.{Held}
 use Rattle.ld_tables.specs.declared.locks.Before.{Before}
@@ -13,6 +12,7 @@ use Rattle.ld_tables.proofs.LockLemmas.{classes_shown, known_told, numbered, num
 use Rattle.ld_tables.proofs.MaskedLemmas.{known_masks, masked_more}
 use Rattle.ld_tables.proofs.ToldLemmas.{keeps-first, tells-exact, told-to}
 use Rattle.ld_tables.specs.declared.words.Telling.{Telling}
+use Rattle.ld_tables.proofs.RoomLemmas.{some_task}
 use Rattle.ld_tables.proofs.locks.Locks.tell_linked.Goals as goal
 
 pub innermost-stack-requires-clause-start : goal.innermost-stack-requires-clause-start
@@ -121,6 +121,7 @@ invariant_of-self-in_err-tell_to c = record {
       c.learn.ensures.edges c.tell_to-2.new.self.tellings c.tell_to-2.ensures.first;
   masked = masked_more (chains_of c.learn.new.chains.links) c.learn.new.chains.masks c.learn.new.edges.words c.tell_to-2.new.self.words c.tell_to-2.ensures.more
       c.learn.ensures.numbered;
+  room = λ none _ _. some_task c.self.inside.stacks (edges_of c.self.inside.edges.tellings) c.args.self.now c.args.task c.self.view_is c.requires none;
 }
 
 pub invariant_of-self-2 : goal.invariant_of-self-2
@@ -144,6 +145,7 @@ invariant_of-self-2 c =
           c.add.ensures.added c.add.ensures.refused;
       start = before_told c.self.inside.before chains c.self.inside.told new start c.add.result c.in-Some.chain c.add.new.self c.add.ensures.added c.add.ensures.refused;
       masked = masked_more chains c.learn.new.chains.masks c.learn.new.edges.words c.tell_to-2.new.self.words c.tell_to-2.ensures.more c.learn.ensures.numbered;
+      room = λ none _ _. some_task c.self.inside.stacks (edges_of c.self.inside.edges.tellings) c.args.self.now c.args.task c.self.view_is c.requires none;
     }
 
 pub returns-clause-told : goal.returns-clause-told
@@ -168,6 +170,7 @@ invariant_of-self-in_default c =
           c.tell_to.new.self.tellings c.tell_to.ensures.first;
       masked = masked_more (chains_of chains.links) chains.masks edges.words c.tell_to.new.self.words c.tell_to.ensures.more
           (c.linked.ensures.numbered edges.words c.self.invariant.masked);
+      room = λ none _ _. some_task c.self.inside.stacks (edges_of c.self.inside.edges.tellings) c.args.self.now c.args.task c.self.view_is c.requires none;
     }
 
 pub returns-in_default-clause-told : goal.returns-in_default-clause-told
