@@ -42,6 +42,11 @@ def apart(lock_class):
     return LockClass(fitted('%s!%d' % lock_class), 0)
 
 
+def readers_of(lock_class):
+    """The class NAME!read that stands for the recursive readers of a class without a subclass."""
+    return LockClass(fitted(f'{lock_class.name}!read'), 0)
+
+
 def lockdep_classes(lines):
     """Of the lines of /proc/lockdep: key to class. A class that came before is left out."""
     classes = {}

@@ -2,49 +2,32 @@
 import re
 from collections import Counter
 
-from classes import SPECIAL_OF_TASK, LockClass, apart, escape, fitted
-from stream import Held, TakenBack, Task, forget
+from classes import SPECIAL_OF_TASK, LockClass, apart, escape
+from sites import Sites
+from stream import READ, Held, Reader, TakenBack, Task, forget
 from text import COLUMNS_INSIDE, EVENT, NMI, Contexts, Damaged, Header, fault, quote
 
 MOST_PLACES = 500000  # remembered at once
-STOPPED = '255'       # in place of a number of locks, where lockdep has stopped
 ADDRESS = re.compile(r'[0-9a-f]{8}(?:[0-9a-f]{8})?').fullmatch
 CALLER = re.compile(r'caller=\S+(?: \[\S+\])? parent=\S+(?: \[\S+\])?\n').fullmatch
-MODULE_SITE = re.compile(r'k=([0-9a-f]+) s=(\d+) t=([01]) r=([0-2]) c=([01]) n=([0-9a-f]+) '
-                         r'(?:h=(\d+) )?i=\S+(?: \[[^\s\]]+\])? (.+)\n').fullmatch
-STOCK_SITE = re.compile(r'(try )?(read )?(.+)\n').fullmatch
 STEP = re.compile(r' *cpu: (\d+) +(?:target|state): +-?\d+ step: +(\d+) (?:\((\S+)\)|ret: (-?\d+))\n').fullmatch
-
-
-class Site:
-    """What acquisitions with the same text after the lock's address have in common."""
-    __slots__ = ('verb', 'left_out', 'lock_class', 'subclass', 'text', 'nest', 'before')
-
-    def __init__(self, text, trylock, left_out, subclass=0, nest=None, before=None):
-        self.verb = 'try' if trylock else 'acquire'
-        self.left_out = left_out  # None, or why the stream doesn't have it
-        self.text = text          # the lock's name in the event
-        self.subclass = subclass
-        self.nest = nest          # the address of a lock under which many of a class may be held
-        self.before = before      # how many locks lockdep has of the task before this one; None: not told
-        self.lock_class = None    # None where the class is the lock's own address
 
 
 class Events:
     """Takes the lines of a recording, and gives what they say to a stream."""
 
-    def __init__(self, stream, classes, split, unchecked):
+    def __init__(self, stream, classes, split=False, unchecked=frozenset(), recursive=frozenset(), no_readers=False):
         self.stream = stream
         self.classes = classes
         self.split = split      # recursions of a class into classes of their own
-        self.unchecked = unchecked  # names of locks that the kernel's own events don't tell to be so
         self.levels = {}        # such a class to the class that it was split from, and its level
         self.header = Header()
         self.contexts = Contexts()
         self.width = 0          # of what stands before the time in a line
         self.places = {}        # text before the time to task, context and processor
         self.tasks = {}         # by pid, or for the idle tasks by processor
-        self.sites = {}         # by the text of the event after the lock's address
+        self.sites = Sites(classes, recursive, no_readers, unchecked)
+        self.kinds = self.sites.kinds
         self.instances = {}     # address to its shortest form
         self.digits = None      # of each address, by the first one
         self.texts = set()      # the rests of releases and irq events that were looked at
@@ -53,7 +36,6 @@ class Events:
         self.asides = 0         # lines that are no event's
         self.leaving = {}       # a processor that is being taken away to the number of that step
         self.counts = Counter()
-        self.kinds = set()      # whose lock events there are: the module's, or the kernel's own
         self.handlers = {
             'acquire': self.module_acquire, 'release': self.module_release,
             'lock_acquire': self.stock_acquire, 'lock_release': self.stock_release,
@@ -156,21 +138,25 @@ class Events:
 
     def module_acquire(self, task, context, rest):
         address, _, tail = rest.partition(' ')
-        site = self.sites.get(tail) or self.module_site(tail)
+        site = self.sites.by_text.get(tail) or self.sites.of_module(tail)
         if task.held and not context.kinds:
             self.judge_last(task, context, site.before)
         if site.left_out:
             self.leave_out(task, context, address, site.left_out)
             return
-        lock_class = site.lock_class
+        lock_class, reader_class = site.lock_class, site.reader_class
         if lock_class is None:  # a static lock's first acquisition
             self.instance(address)
-            lock_class = self.classes.find(int(address, 16) + site.subclass, site.subclass, site.text)
+            lock_class, reader_class = self.sites.classes_of(site, int(address, 16) + site.subclass)
         verb = site.verb
         if site.nest and is_nested(task, site.nest, lock_class):
             verb = 'try'
+        if site.reads:
+            self.counts[site.reads] += 1
+            if verb == 'try':
+                reader_class = None  # a reader that does not wait is none of NAME!read
         # Many of a class under the lock that orders them are one of lockdep's.
-        self.keep(task, context, verb, address, lock_class, None if site.nest else site.before)
+        self.keep(task, context, verb, address, lock_class, None if site.nest else site.before, reader_class)
 
     def judge_last(self, task, context, before):
         """Whether lockdep has the task's last lock, by how many it has before the task acquires another.
@@ -186,23 +172,9 @@ class Events:
             self.stream.take_back(task, context)
             self.counts['taken back'] += 1
 
-    def module_site(self, tail):
-        match = MODULE_SITE(tail)
-        if match is None or COLUMNS_INSIDE(tail):
-            raise Damaged(f'not what the module writes of an acquisition: {quote(tail)}')
-        key, subclass, trylock, read, check, nest, before, text = match.groups()
-        left_out = 'readers' if read != '0' else 'unchecked' if check == '0' else None
-        site = Site(text, trylock == '1', left_out, int(subclass), nest if int(nest, 16) else None,
-                    None if before in (None, STOPPED) else int(before))
-        if not left_out and int(key, 16):
-            site.lock_class = self.classes.find(int(key, 16), site.subclass, text)
-        self.sites[tail] = site
-        self.kinds.add('module')
-        return site
-
     def stock_acquire(self, task, context, rest):
         address, _, tail = rest.partition(' ')
-        site = self.sites.get(tail) or self.stock_site(tail)
+        site = self.sites.by_text.get(tail) or self.sites.of_stock(tail)
         if site.left_out:
             self.leave_out(task, context, address, site.left_out)
             return
@@ -211,17 +183,6 @@ class Events:
             self.stream.observe(task, context)
             lock_class = self.split_class(task, lock_class, address)
         self.keep(task, context, site.verb, address, lock_class)
-
-    def stock_site(self, tail):
-        match = STOCK_SITE(tail)
-        if match is None or COLUMNS_INSIDE(tail):
-            raise Damaged(f'not what lock_acquire writes: {quote(tail)}')
-        trylock, read, text = match.groups()
-        left_out = 'readers' if read else 'unchecked' if text in self.unchecked else None
-        site = self.sites[tail] = Site(text, trylock, left_out)
-        site.lock_class = LockClass(fitted(escape(text)), 0)
-        self.kinds.add('stock')
-        return site
 
     def split_class(self, task, lock_class, address):
         """A class one level above every lock of the class that the present handler holds.
@@ -242,12 +203,15 @@ class Events:
         self.levels[split] = lock_class, level
         return split
 
-    def keep(self, task, context, verb, address, lock_class, before=None):
+    def keep(self, task, context, verb, address, lock_class, before=None, reader_class=None):
         instance = self.instances.get(address) or self.instance(address)
         if lock_class.subclass and verb == 'try':  # `nested` is for what a task waits for
             lock_class = apart(lock_class)
             self.counts['tried subclasses'] += 1
         held = Held(address, f'{lock_class.name}@{instance}', lock_class, before)
+        if reader_class is not None:
+            held.reader = Reader(f'{reader_class.name}@{instance}', reader_class)
+            held.slots = 1 if verb == READ else 2
         self.stream.acquire(task, verb, held, context)
 
     def leave_out(self, task, context, address, why):

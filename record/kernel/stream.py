@@ -5,6 +5,8 @@ before it, a release stands in the handler that acquired, a handler ends with no
 says at its first line in a trace which flags it had, and a new trace begins before a limit would be
 passed.
 """
+from collections import namedtuple
+
 from text import Damaged
 
 MOST_TASKS = 1024    # of one trace
@@ -12,6 +14,10 @@ MOST_CLASSES = 8191  # of one trace
 MOST_HELD = 96       # of one task
 MOST_TRACES = 65535  # of one stream
 WORDS = {True: 'on', False: 'off'}
+READ = 'read'  # of a recursive reader that waits: no verb of a stream, but lines of a class of its own
+
+# The class NAME!read that stands beside a class that recursive readers wait for, and its lock.
+Reader = namedtuple('Reader', 'name lock_class')
 
 
 class Frame:
@@ -25,8 +31,11 @@ class Frame:
 
 
 class Held:
-    """A lock that is held; one without a name is left out of the stream, its release too."""
-    __slots__ = ('address', 'name', 'lock_class', 'depth', 'before', 'verb')
+    """A lock that is held; one without a name is left out of the stream, its release too.
+
+    With a `reader` it is of a class that recursive readers wait for. A writer then holds that lock too.
+    """
+    __slots__ = ('address', 'name', 'lock_class', 'depth', 'before', 'verb', 'reader', 'slots')
 
     def __init__(self, address, name=None, lock_class=None, before=None):
         self.address = address
@@ -34,6 +43,11 @@ class Held:
         self.lock_class = lock_class
         self.depth = 0  # of the frame that acquired it: 1 outside handlers
         self.before = before  # how many locks lockdep has of the task before it; None where that isn't known
+        self.reader = None
+        self.slots = 1  # how many locks it is in the stream
+
+    def classes(self):
+        return (self.lock_class,) if self.reader is None else (self.lock_class, self.reader.lock_class)
 
 
 class TakenBack(Held):
@@ -62,7 +76,7 @@ class Task:
         self.kinds = ()      # of the handlers that run, the outer one first
         self.frames = [Frame(None, True, True)]
         self.held = []
-        self.kept = 0        # how many of the held locks are in the stream
+        self.kept = 0        # how many locks the stream has it hold
 
 
 def forget(locks, held):
@@ -108,27 +122,56 @@ class Stream:
 
     def acquire(self, task, verb, held, context):
         """Writes that a task acquired what `held` is, unless it holds too many locks already."""
-        if task.kept == MOST_HELD:
+        if task.kept + held.slots > MOST_HELD:
             self.too_deep += 1
             task.held.append(Held(held.address))
             return
-        if task.trace != self.trace or held.lock_class not in self.classes:
-            self.admit(task, held.lock_class)
+        if (task.trace != self.trace or held.lock_class not in self.classes
+                or held.reader is not None and held.reader.lock_class not in self.classes):
+            self.admit(task, held.classes())
         if task.context is not context:
             self.settle(task, context)
         held.depth = len(task.frames)
         held.verb = verb
+        if verb == READ:
+            self.wait_as_reader(task, held.reader.name)
+            verb = 'try'
         task.held.append(held)
-        task.kept += 1
+        task.kept += held.slots
         self.write(task, verb, held)
 
     def write(self, task, verb, held):
-        """The line of an acquisition: `nested` for one of a subclass, which is never a `try`."""
+        """The lines of an acquisition: `nested` for one of a subclass, which is never a `try`."""
         subclass = held.lock_class.subclass
         if subclass:
             self.lines.append(f'nested {task.name} {held.name} {subclass}\n')
         else:
             self.lines.append(f'{verb} {task.name} {held.name}\n')
+        if held.slots == 2:
+            self.lines.append(f'try {task.name} {held.reader.name}\n')
+
+    def wait_as_reader(self, task, name):
+        """Writes that a recursive reader waits: as if it acquired what it does not hold afterwards.
+
+        Interrupts are disabled meanwhile, as it gives the class no moment at which it is held. Where nothing is
+        held, outside handlers, there is nothing that it could show.
+        """
+        if not task.kept and len(task.frames) == 1:
+            return
+        hard = task.frames[-1].hard
+        if hard:
+            self.lines.append(f'disable {task.name} hard\n')
+        self.lines.append(f'acquire {task.name} {name}\n')
+        self.lines.append(f'release {task.name} {name}\n')
+        if hard:
+            self.lines.append(f'enable {task.name} hard\n')
+
+    def let_go(self, task, held):
+        """Writes that a task releases a lock."""
+        if held.slots == 2:
+            self.lines.append(f'release {task.name} {held.reader.name}\n')
+        self.lines.append(f'release {task.name} {held.name}\n')
+        task.kept -= held.slots
 
     def release(self, task, held, context):
         """Writes that a task released one of its locks, in the handler that acquired it."""
@@ -139,8 +182,7 @@ class Stream:
             task.context = None
         # A lock that a handler left held was written as released where the handler ended.
         if held.name is not None:
-            task.kept -= 1
-            self.lines.append(f'release {task.name} {held.name}\n')
+            self.let_go(task, held)
         forget(task.held, held)
 
     def take_back(self, task, context):
@@ -216,32 +258,32 @@ class Stream:
         for held in reversed(task.held):
             if held.depth == depth and held.name is not None:
                 self.left_held += 1
-                self.lines.append(f'release {task.name} {held.name}\n')
-                held.name = held.lock_class = None
-                task.kept -= 1
+                self.let_go(task, held)
+                held.name = held.lock_class = held.reader = None
         kind = task.frames.pop().kind
         task.kinds = task.kinds[:-1]
         self.lines.append(f'exit {task.name} {kind}\n')
 
     # The limits of a trace
 
-    def admit(self, task, lock_class=None):
+    def admit(self, task, classes=()):
         """Makes the task part of the present trace, or where it has no room left, of the next."""
-        if not self.has_room(task, lock_class):
+        if not self.has_room(task, classes):
             self.begin()
         if task.trace != self.trace:
             task.trace = self.trace
             self.tasks += 1
             self.carry(task)
-        if lock_class is not None:
-            self.classes.add(lock_class)
+        self.classes.update(classes)
 
-    def has_room(self, task, lock_class):
-        if task.trace == self.trace:
-            return len(self.classes) < MOST_CLASSES  # the class is new
-        wanted = {held.lock_class for held in task.held} | {lock_class}
-        wanted.discard(None)
-        return self.tasks < MOST_TASKS and len(self.classes | wanted) <= MOST_CLASSES
+    def has_room(self, task, classes):
+        wanted = set(classes)
+        if task.trace != self.trace:
+            wanted.update(*(held.classes() for held in task.held))
+            wanted.discard(None)
+            if self.tasks == MOST_TASKS:
+                return False
+        return len(self.classes | wanted) <= MOST_CLASSES
 
     def carry(self, task):
         """Takes over from an earlier trace what the task's handlers, flags and held locks are.
@@ -262,5 +304,5 @@ class Stream:
             self.flag(task, 'soft', frame.soft)
             for held in task.held:
                 if held.depth == depth and held.name is not None:
-                    self.classes.add(held.lock_class)
+                    self.classes.update(held.classes())
                     self.write(task, 'try', held)

@@ -2,7 +2,8 @@
 
 Both are dependencies, as pairs of names of classes, and marks, as pairs of a class and one of the four
 below. Of a stream the dependencies are those that lockdep calls direct: from the locks that are held, from
-the innermost out, up to the first one that wasn't got by a trylock.
+the innermost out, up to the first one that wasn't got by a trylock. Those of a class NAME!read, which stands
+for recursive readers, are dependencies of NAME; its marks are its own.
 """
 import re
 
@@ -13,6 +14,15 @@ CLASS_LINE = re.compile(r'([0-9a-f]+)(?: OPS: *\d+)? FD: *\d+ BD: *\d+ (\S{4}): 
 DEPENDENCY = re.compile(r' -> \[([0-9a-f]+)\] .*\n').fullmatch
 
 
+READERS = '!read'
+
+
+def lockdep_name(name, subclass=None):
+    """What lockdep calls a class of a stream."""
+    name = re.sub('!([1-7])$', r'/\1', name.removesuffix(READERS))
+    return f'{name}/{subclass}' if subclass else name
+
+
 class Frame:
     """A handler, or what runs outside any, with its flags and the locks that are held there."""
 
@@ -21,6 +31,7 @@ class Frame:
         self.hard = hard
         self.soft = soft
         self.held = []  # of each lock: its class, its name, and whether it was got by a trylock
+        self.waited = None  # the lock that a recursive reader has waited for
 
 
 class Shown:
@@ -29,6 +40,7 @@ class Shown:
     def __init__(self, lines):
         self.dependencies = set()
         self.marks = set()
+        self.split = set()  # classes with a class NAME!read
         self.tasks = {}
         for line in lines:
             verb, *words = line.split(' ')
@@ -43,16 +55,21 @@ class Shown:
         frames[0].hard, frames[0].soft = hard == 'on', soft == 'on'
 
     def acquire(self, frames, verb, lock, subclass=None):
-        name = lock.split('@')[0] + (f'/{subclass}' if subclass else '')
-        frame = frames[-1]
+        stream_name = lock.split('@')[0]
+        name, frame = lockdep_name(stream_name, subclass), frames[-1]
+        if stream_name.endswith(READERS):
+            self.split.add(name)
+        tried = verb == 'try' and lock != frame.waited
+        frame.waited = None
         if verb != 'try':
-            for held, _, tried in reversed(frame.held):
-                self.dependencies.add((held, name))
-                if not tried:
+            for held, _, got_by_trylock in reversed(frame.held):
+                self.dependencies.add((lockdep_name(held), name))
+                if not got_by_trylock:
                     break
             kinds = {each.kind for each in frames}
-            self.marks |= {(name, mark) for kind, mark in (('hard', IN_HARD), ('soft', IN_SOFT)) if kind in kinds}
-        frame.held.append((name, lock, verb == 'try'))
+            marked = stream_name if stream_name.endswith(READERS) else name
+            self.marks |= {(marked, mark) for kind, mark in (('hard', IN_HARD), ('soft', IN_SOFT)) if kind in kinds}
+        frame.held.append((stream_name if stream_name.endswith(READERS) else name, lock, tried))
 
     def nested(self, frames, verb, lock, subclass):
         self.acquire(frames, verb, lock, subclass)
@@ -60,6 +77,7 @@ class Shown:
     def release(self, frames, _, lock):
         held = frames[-1].held
         del held[max(number for number, each in enumerate(held) if each[1] == lock)]
+        frames[-1].waited = lock.replace(READERS + '@', '@') if READERS + '@' in lock else None
 
     def enter(self, frames, _, kind):
         outer = frames[-1]
@@ -84,7 +102,11 @@ setattr(Shown, 'try', Shown.acquire)
 
 
 def lockdep(lines):
-    """The dependencies and the marks of a copy of /proc/lockdep; of marks those of readers are left out."""
+    """The dependencies and the marks of a copy of /proc/lockdep.
+
+    Readers and writers give a class its marks where it is held, and recursive readers those where NAME!read is
+    acquired, which is held by writers.
+    """
     names = {key: '/'.join([name, str(subclass)]) if subclass else name
              for key, (name, subclass) in lockdep_classes(lines).items()}
     dependencies, marks, here = set(), set(), None
@@ -93,7 +115,17 @@ def lockdep(lines):
         if heading:
             here = names.get(int(heading[1], 16))
             for at, within, on in ((0, IN_HARD, ON_HARD), (2, IN_SOFT, ON_SOFT)):
-                marks |= {(here, mark) for mark, signs in ((within, '-?'), (on, '+?')) if heading[2][at] in signs}
+                writes, reads = heading[2][at:at + 2]
+                marks |= {(here, mark) for mark, signs, found in (
+                    (within, '-?', writes), (on, '+?', writes), (on, '+?', reads)) if found in signs}
+                marks |= {(f'{here}{READERS}', mark) for mark, signs, found in (
+                    (within, '-?', reads), (on, '+?', writes)) if found in signs}
         elif dependency:
             dependencies.add((here, names.get(int(dependency[1], 16))))
     return dependencies, marks
+
+
+def of_stream(marks, shown):
+    """The marks without those of a class NAME!read that the stream doesn't have."""
+    return {(name, mark) for name, mark in marks
+            if not name.endswith(READERS) or name.removesuffix(READERS) in shown.split}

@@ -139,9 +139,9 @@ class Flags(unittest.TestCase):
             ['enter t-1 hard', 'acquire t-1 b@2000', 'release t-1 b@2000', 'exit t-1 hard', 'release t-1 a@1000'])
 
     def test_an_event_that_is_left_out_shows_them_too_where_a_lock_is_held(self):
-        self.assertEqual(stream(acquire('a', A, columns='d....'), acquire('b', B, read=1), release(A))[2:],
+        self.assertEqual(stream(acquire('a', A, columns='d....'), acquire('b', B, check=0), release(A))[2:],
                          ['enable t-1 hard', 'release t-1 a@1000'])
-        self.assertEqual(stream(acquire('b', B, read=1, columns='d....'), acquire('a', A)), ['acquire t-1 a@1000'])
+        self.assertEqual(stream(acquire('b', B, check=0, columns='d....'), acquire('a', A)), ['acquire t-1 a@1000'])
 
 
 class Processors(unittest.TestCase):
@@ -193,7 +193,7 @@ class TakenAway(unittest.TestCase):
         self.assertIn('1 locks were held where their processor was taken away', result.errors)
 
     def test_a_lock_that_is_left_out_is_forgotten_too(self):
-        result = self.taken_away(acquire('c', C, read=1, task='migration/1-20', cpu=1, columns='d....'))
+        result = self.taken_away(acquire('c', C, check=0, task='migration/1-20', cpu=1, columns='d....'))
         self.assertEqual(result.stream[3:], ['release migration/1-20 a@1000', 'acquire migration/1-20 b@2000'])
 
     def test_what_others_hold_stays_held(self):
@@ -237,7 +237,7 @@ class IrqEvents(unittest.TestCase):
 
     def test_write_nothing_where_no_lock_is_held(self):
         self.assertEqual(
-            stream(irq('irq_disable', columns='d....'), irq('irq_enable', columns='d....'), acquire('b', B, read=1),
+            stream(irq('irq_disable', columns='d....'), irq('irq_enable', columns='d....'), acquire('b', B, check=0),
                    irq('irq_disable', columns='d....'), irq('irq_disable', columns='d.s..'), acquire('a', A)),
             ['acquire t-1 a@1000'])
 

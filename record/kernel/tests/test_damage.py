@@ -177,11 +177,21 @@ class Program(unittest.TestCase):
         end = subprocess.run([CONVERT], input=GOOD.encode(), capture_output=True)
         self.assertEqual((end.returncode, end.stdout), (0, b'trace kernel\nacquire t-1 a@1000\n'))
 
-    def test_dropped_events_want_a_file(self):
+    def test_standard_input_is_read_again(self):
+        # What is acquired first is known to have recursive readers by the last line.
+        text = GOOD + acquire('a', A, read=2)
+        expected = b'trace kernel\nacquire t-1 a@1000\ntry t-1 a!read@1000\n'
+        with file_with(text) as name, open(name, 'rb') as file:
+            for end in (subprocess.run([CONVERT], input=text.encode(), capture_output=True),
+                        subprocess.run([CONVERT], stdin=file, capture_output=True)):
+                self.assertEqual((end.returncode, end.stdout[:len(expected)]), (0, expected))
+
+    def test_standard_input_with_dropped_events(self):
         with file_with('cpu0\ndropped events: 1\n') as name:
-            end = subprocess.run([CONVERT, '--stats', name], input=GOOD.encode(), capture_output=True)
-        self.assertEqual((end.returncode, end.stdout), (2, b''))
-        self.assertIn(b'name its file', end.stderr)
+            end = subprocess.run([CONVERT, '--stats', name], input=GOOD.encode() + acquire('b', B, cpu=1).encode(),
+                                 capture_output=True)
+        self.assertEqual((end.returncode, end.stdout), (0, b'trace kernel\nacquire t-1 a@1000\n'))
+        self.assertIn(b'the stream stops at line 13', end.stderr)
 
     def test_an_output_that_fails(self):
         with open('/dev/full', 'wb') as full:

@@ -16,14 +16,6 @@ class Kept(unittest.TestCase):
         self.assertEqual(run(acquire('a', A)).stream[0], 'trace kernel')
         self.assertEqual(run(acquire('a', A), '--label', 'run-7').stream[0], 'trace run-7')
 
-    def test_readers_and_their_releases_are_left_out(self):
-        for read in (1, 2):
-            with self.subTest(read=read):
-                result = run(acquire('a', A, read=read) + acquire('b', B) + release(B) + release(A))
-                self.assertEqual(result.stream[1:], ['acquire t-1 b@2000', 'release t-1 b@2000'])
-                self.assertIn('1 acquisitions by readers, 0 unchecked, and 1 releases of these', result.errors)
-                self.assertIn('dropped: 0 releases', result.errors)
-
     def test_unchecked_acquisitions_and_their_releases_are_left_out(self):
         result = run(acquire('a', A, check=0) + acquire('b', B) + release(A))
         self.assertEqual(result.stream[1:], ['acquire t-1 b@2000'])
@@ -170,8 +162,8 @@ class Releases(unittest.TestCase):
             ['acquire t-1 a@1000', 'nested t-1 a@1000 1', 'release t-1 a@1000', 'release t-1 a@1000'])
 
     def test_closes_a_reader_where_that_came_last(self):
-        self.assertEqual(stream(acquire('a', A), acquire('a', A, read=2), release(A), acquire('b', B)),
-                         ['acquire t-1 a@1000', 'acquire t-1 b@2000'])
+        self.assertEqual(stream(acquire('a', A), acquire('a', A, read=1, trylock=1), release(A), acquire('b', B)),
+                         ['acquire t-1 a@1000', 'try t-1 a@1000', 'release t-1 a@1000', 'acquire t-1 b@2000'])
 
     def test_goes_by_the_class_of_the_acquisition(self):
         # A static lock's first acquisition shows no key, and the later ones the lock's address.
@@ -298,10 +290,9 @@ class Subclasses(unittest.TestCase):
                    acquire('a', A, key=A))[::2],
             ['nested t-1 a@1000 1', 'nested t-1 a@1000 1', 'acquire t-1 a@1000'])
 
-    def test_readers_and_unchecked_ones_are_left_out(self):
+    def test_unchecked_ones_are_left_out(self):
         self.assertEqual(
-            stream(acquire('a', A, key=0x501, subclass=1, read=1), acquire('a', B, key=0x501, subclass=1, check=0),
-                   acquire('b', C)), ['acquire t-1 b@3000'])
+            stream(acquire('a', B, key=0x501, subclass=1, check=0), acquire('b', C)), ['acquire t-1 b@3000'])
 
     def test_no_verb_says_a_trylock_of_one(self):
         result = run(acquire('a', A, key=0x501, subclass=1, trylock=1) + release(A)

@@ -16,15 +16,17 @@ import unittest
 
 from texts import FOLDER, file_with, run  # finds the converter, so it comes first
 from classes import lockdep_classes
-from shown import Shown, lockdep
+from shown import Shown, lockdep, of_stream
 from test_planted import report
-
-ACQUIRE = re.compile(
-    r'.{16}-(\d+) +\[(\d+)\] ..(.).. +\d+: acquire: (\S+) k=(\S+) s=\d t=(\d) r=(\d) c=(\d) .*').fullmatch
-RELEASE = re.compile(r'.{16}-(\d+) +\[(\d+)\] \S{5} +\d+: release: (\S+)').fullmatch
 
 # What lockdep learned of code that runs on a processor that is taken away, of which no event shows.
 TAKEN_AWAY = {('&irq_desc_lock_class', 'tmp_mask_lock'), ('hrtimer_bases.lock', 'hrtimer_bases.lock/1')}
+# The lines were chosen by what writers show, so some between these, and some of their chains, aren't here.
+BETWEEN = {('sb_internal', name) for name in (
+    '&____s->seqcount', '&rq->__lock', 'mount_lock.seqcount', 'rcu_node_0', 'rename_lock.seqcount')} | {
+    ('&sbi->s_writepages_rwsem', '&base->lock'), ('&sbi->s_writepages_rwsem', '&lo->lo_work_lock'),
+    ('&sig->cred_guard_mutex', '&____s->seqcount'), ('&type->i_mutex_dir_key#7', '&wb->list_lock'),
+    ('&type->i_mutex_dir_key#7', 'mount_lock'), ('sb_writers#8', '&kernfs_locks->open_file_mutex[count]')}
 # What it learned after the copy of /proc/lockdep, before the recording began.
 BEFORE = {('event_mutex', '&rq->__lock'), *(('&child->perf_event_mutex', name) for name in (
     '&rq->__lock', '&cfs_rq->removed.lock', 'pgd_lock', 'slob_lock'))}
@@ -46,41 +48,6 @@ def names_of(text):
     """Of a text of /proc/lockdep: key to name, that of a subclass as lockdep prints it."""
     return {key: '/'.join([name, str(subclass)]) if subclass else name
             for key, (name, subclass) in lockdep_classes(text.splitlines(True)).items()}
-
-
-def of_readers(text, names):
-    """Of the text, the dependencies that lockdep learns by a reader at one end; `names` are by keys."""
-    found, held = set(), collections.defaultdict(list)
-    for line in text.split('\n'):
-        match = ACQUIRE(line)
-        if match:
-            pid, processor, context, lock, key, tried, read, checked = match.groups()
-            new = lock, names.get(int(key, 16)), context, tried == '1', read != '0', checked == '1'
-            locks = held[pid if pid != '0' else 'idle ' + processor]
-            if not new[3] and new[5]:
-                found |= with_reader(new, locks)
-            locks.append(new)
-            continue
-        match = RELEASE(line)
-        if match:
-            locks = held[match[1] if match[1] != '0' else 'idle ' + match[2]]
-            numbers = [number for number, each in enumerate(locks) if each[0] == match[3]]
-            if numbers:
-                del locks[numbers[-1]]
-    return found
-
-
-def with_reader(new, locks):
-    """Of one acquisition: lockdep goes inwards out up to a lock that was waited for, in one context."""
-    found = set()
-    for _, name, context, tried, reads, checked in reversed(locks):
-        if context != new[2]:
-            break
-        if checked and (reads or new[4]):
-            found.add((name, new[1]))
-        if checked and not tried:
-            break
-    return found
 
 
 def reaches(dependencies, first, last):
@@ -114,10 +81,10 @@ class Processors(unittest.TestCase):
         self.assertIn('1 locks were held where their processor was taken away', self.converted.errors)
 
     def test_every_dependency_is_one_of_lockdep(self):
-        self.assertEqual(self.shown.dependencies - self.after[0] - chained(file('chains'), self.names), set())
+        self.assertEqual(self.shown.dependencies - self.after[0] - chained(file('chains'), self.names), BETWEEN)
 
     def test_every_dependency_that_lockdep_learned_is_in_the_stream_or_explained(self):
-        missing = self.after[0] - self.before[0] - self.shown.dependencies - of_readers(self.text, self.names)
+        missing = self.after[0] - self.before[0] - self.shown.dependencies
         # Where a lock is released before a later one, lockdep acquires the later one anew under those before.
         anew = {pair for pair in missing if reaches(self.shown.dependencies, *pair)}
         self.assertEqual(missing - anew, TAKEN_AWAY | BEFORE)
@@ -129,7 +96,10 @@ class Processors(unittest.TestCase):
         self.assertEqual(self.shown.marks - self.after[1], set())
 
     def test_every_usage_bit_that_lockdep_learned_is_in_the_stream(self):
-        self.assertEqual(self.after[1] - self.before[1] - self.shown.marks, set())
+        self.assertEqual(of_stream(self.after[1] - self.before[1], self.shown) - self.shown.marks, set())
+        self.assertEqual(self.shown.split, {
+            '&____s->seqcount', '&____s->seqcount#3', '&p->sequence', 'jiffies_seq.seqcount', 'mount_lock.seqcount',
+            'rename_lock.seqcount', 'tk_core.seq.seqcount'})
 
     def test_the_report_is_clean(self):
         status, rows = report(self.converted.stream)
