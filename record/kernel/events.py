@@ -81,7 +81,8 @@ class Events:
         if len(self.places) == MOST_PLACES:
             self.places.clear()
         self.width = match.end(4)
-        self.places[line[:self.width]] = self.task(comm, pid, processor), self.contexts[columns], processor
+        task = self.task(comm, pid, processor, match[5])
+        self.places[line[:self.width]] = task, self.contexts[columns], processor
         yield from self.take((line,))
 
     def beside(self, line):
@@ -116,13 +117,13 @@ class Events:
             raise Damaged('two lines in one: bytes between them are missing')
         self.counts['other events'] += 1
 
-    def task(self, comm, pid, processor):
+    def task(self, comm, pid, processor, time):
         """A task that is new, or the idle task of a processor."""
         key = pid if pid != '0' else 'idle/%d' % int(processor)
         task = self.tasks.get(key)
         if task is None:
             name = key if pid == '0' else escape(f'{comm.lstrip()}-{pid}', SPECIAL_OF_TASK)
-            task = self.tasks[key] = Task(name)
+            task = self.tasks[key] = Task(name, time)
         return task
 
     def instance(self, address):
@@ -140,9 +141,11 @@ class Events:
         address, _, tail = rest.partition(' ')
         site = self.sites.by_text.get(tail) or self.sites.of_module(tail)
         if task.held and not context.kinds:
-            self.judge_last(task, context, site.before)
+            last, before = task.held[-1], site.before
+            if last.__class__ is TakenBack or before is not None and last.before is not None and before <= last.before:
+                self.judge(task, context, before, address)
         if site.left_out:
-            self.leave_out(task, context, address, site.left_out)
+            self.leave_out(task, context, address, site)
             return
         lock_class, reader_class = site.lock_class, site.reader_class
         if lock_class is None:  # a static lock's first acquisition
@@ -155,34 +158,43 @@ class Events:
             self.counts[site.reads] += 1
             if verb == 'try':
                 reader_class = None  # a reader that does not wait is none of NAME!read
-        # Many of a class under the lock that orders them are one of lockdep's.
-        self.keep(task, context, verb, address, lock_class, None if site.nest else site.before, reader_class)
+        self.keep(task, context, verb, address, site, lock_class, reader_class)
 
-    def judge_last(self, task, context, before):
-        """Whether lockdep has the task's last lock, by how many it has before the task acquires another.
+    def judge(self, task, context, before, address):
+        """Whether lockdep has the task's last locks, by how many it has before the task acquires another.
 
         An event tells of an acquisition right before lockdep takes it up. A task that is preempted in
-        between acquires the scheduler's locks without holding that one.
+        between acquires the scheduler's locks without holding that one. And where the event of a release is
+        missing, lockdep has fewer locks than are held here. Either way they are taken back. If lockdep has
+        even fewer later on, or the task acquires such a lock again, its release is missing.
         """
-        last = task.held[-1]
-        if isinstance(last, TakenBack):
-            if before != last.before:
-                self.stream.give_again(task, context)
-        elif before is not None and before == last.before and last.depth == 1:
-            self.stream.take_back(task, context)
-            self.counts['taken back'] += 1
+        doubtful = []
+        for held in reversed(task.held):
+            if held.__class__ is not TakenBack and (
+                    before is None or held.before is None or held.before < before or held.depth != 1):
+                break
+            doubtful.append(held)
+        for held in reversed(doubtful):
+            if held.__class__ is not TakenBack:
+                self.stream.take_back(task, held, context)
+            elif before is None or held.before is None or before > held.before:
+                self.stream.give_again(task, held, context)
+                self.counts['taken back'] += 1
+            elif before < held.before or held.address == address:
+                forget(task.held, held)
+                self.counts['lost releases'] += 1
 
     def stock_acquire(self, task, context, rest):
         address, _, tail = rest.partition(' ')
         site = self.sites.by_text.get(tail) or self.sites.of_stock(tail)
         if site.left_out:
-            self.leave_out(task, context, address, site.left_out)
+            self.leave_out(task, context, address, site)
             return
         lock_class = site.lock_class
         if self.split and task.kept:
             self.stream.observe(task, context)
             lock_class = self.split_class(task, lock_class, address)
-        self.keep(task, context, site.verb, address, lock_class)
+        self.keep(task, context, site.verb, address, site, lock_class)
 
     def split_class(self, task, lock_class, address):
         """A class one level above every lock of the class that the present handler holds.
@@ -203,25 +215,27 @@ class Events:
         self.levels[split] = lock_class, level
         return split
 
-    def keep(self, task, context, verb, address, lock_class, before=None, reader_class=None):
+    def keep(self, task, context, verb, address, site, lock_class, reader_class=None):
         instance = self.instances.get(address) or self.instance(address)
         if lock_class.subclass and verb == 'try':  # `nested` is for what a task waits for
             lock_class = apart(lock_class)
             self.counts['tried subclasses'] += 1
-        held = Held(address, f'{lock_class.name}@{instance}', lock_class, before)
+        # Many of a class under the lock that orders them are one of lockdep's.
+        held = Held(address, site, self.time, f'{lock_class.name}@{instance}', lock_class,
+                    None if site.nest else site.before)
         if reader_class is not None:
             held.reader = Reader(f'{reader_class.name}@{instance}', reader_class)
             held.slots = 1 if verb == READ else 2
         self.stream.acquire(task, verb, held, context)
 
-    def leave_out(self, task, context, address, why):
+    def leave_out(self, task, context, address, site):
         """Remembers a lock that the stream doesn't have, so that its release is left out too."""
         if address not in self.instances:
             self.instance(address)
         if task.kept:
             self.stream.observe(task, context)
-        task.held.append(Held(address))
-        self.counts[why] += 1
+        task.held.append(Held(address, site, self.time))
+        self.counts[site.left_out] += 1
 
     # Releases, and flags of interrupts
 
@@ -235,12 +249,12 @@ class Events:
             self.unseen(task, context, address)
             return
         if held is not task.held[-1]:
-            lower(task.held, held)
+            self.counts['lost releases'] += lower(task.held, held)
         if held.name is not None:
             self.stream.release(task, held, context)
             return
         forget(task.held, held)
-        self.counts['released of these'] += not isinstance(held, TakenBack)
+        self.counts['taken back' if held.__class__ is TakenBack else 'released of these'] += 1
         if task.kept:
             self.stream.observe(task, context)
 
@@ -310,10 +324,19 @@ class Events:
 
 
 def lower(locks, released):
-    """Of the locks that are held above one that is released, lockdep has one less before each."""
-    for held in locks[locks.index(released) + 1:]:
-        if held.before is not None:
+    """Of the locks that are held above one that is released, lockdep has one less before each.
+
+    What was taken back there isn't held any more: lockdep can't be about to take it up. Answers how many.
+    """
+    above = locks.index(released) + 1
+    gone = 0
+    for held in locks[above:]:
+        if held.__class__ is TakenBack:
+            locks.remove(held)
+            gone += 1
+        elif held.before is not None:
             held.before -= 1
+    return gone
 
 
 def is_nested(task, nest, lock_class):

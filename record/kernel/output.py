@@ -32,13 +32,13 @@ class Output:
 
     def note(self, steps, first):
         """Goes through the steps, one for each input line from this one on, and notes its lines."""
-        written, sources = self.stream.lines, self.sources
+        stream, sources = self.stream, self.sources
         for number, _ in enumerate(steps, first):
-            if len(written) != len(sources):
-                sources.extend([number] * (len(written) - len(sources)))
+            if len(stream.lines) != len(sources):
+                sources.extend([number] * (len(stream.lines) - len(sources)))
 
     def flush(self):
-        lines = self.stream.lines
+        lines = self.stream.take() if self.sources is None else self.stream.take(self.sources)
         text = ''.join(['\n', *lines])
         for verb in VERBS:
             self.verbs[verb] += text.count(f'\n{verb} ')
@@ -50,7 +50,6 @@ class Output:
             self.map.write(''.join(map('{}\n'.format, self.sources)).encode('ascii'))
             self.sources.clear()
         self.lines += len(lines)
-        lines.clear()
 
     def hand_over(self, map_name):
         """Writes the map, and then the stream to standard output."""

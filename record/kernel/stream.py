@@ -35,36 +35,41 @@ class Held:
 
     With a `reader` it is of a class that recursive readers wait for. A writer then holds that lock too.
     """
-    __slots__ = ('address', 'name', 'lock_class', 'depth', 'before', 'verb', 'reader', 'slots')
+    __slots__ = ('address', 'site', 'since', 'name', 'lock_class', 'depth', 'before', 'verb', 'reader', 'slots',
+                 'seen')
 
-    def __init__(self, address, name=None, lock_class=None, before=None):
+    def __init__(self, address, site, since, name=None, lock_class=None, before=None):
         self.address = address
+        self.site = site    # what its event has in common with others
+        self.since = since  # the time of that event
         self.name = name
         self.lock_class = lock_class
         self.depth = 0  # of the frame that acquired it: 1 outside handlers
         self.before = before  # how many locks lockdep has of the task before it; None where that isn't known
         self.reader = None
         self.slots = 1  # how many locks it is in the stream
+        self.seen = 0   # behind which line of the stream it surely was held, outside handlers
 
     def classes(self):
         return (self.lock_class,) if self.reader is None else (self.lock_class, self.reader.lock_class)
 
 
 class TakenBack(Held):
-    """Stands where a lock stood that lockdep hasn't taken up yet."""
+    """Stands where a lock stood that lockdep doesn't have: not yet, or not any more."""
     __slots__ = ('lock',)
 
     def __init__(self, lock):
-        super().__init__(lock.address, before=lock.before)
+        super().__init__(lock.address, lock.site, lock.since, before=lock.before)
         self.lock = lock
 
 
 class Task:
     """One task as the trace has it so far."""
-    __slots__ = ('name', 'processor', 'time', 'trace', 'starts', 'context', 'kinds', 'frames', 'held', 'kept')
+    __slots__ = ('name', 'first', 'processor', 'time', 'trace', 'starts', 'context', 'kinds', 'frames', 'held', 'kept')
 
-    def __init__(self, name):
+    def __init__(self, name, first):
         self.name = name
+        self.first = first   # the time of its first event
         self.processor = self.time = None  # of its latest event
         self.trace = 0       # the number of the trace that it was last in
         self.starts = False  # that trace has no line of it yet
@@ -93,6 +98,8 @@ class Stream:
     def __init__(self, label):
         self.label = label
         self.lines = []       # not yet taken by the caller
+        self.early = []       # lines that belong before the one with this number among them
+        self.taken = 0        # how many the caller took, without those
         self.trace = 0        # the number of the present trace, from 1
         self.tasks = 0        # in the present trace
         self.classes = set()  # of the present trace
@@ -118,13 +125,24 @@ class Stream:
             task.forget()
         self.begin()
 
+    def take(self, *beside):
+        """The lines that were not taken yet; lists of as many things get others where lines come in between."""
+        lines, early = self.lines, sorted(self.early, key=lambda each: each[0])
+        self.taken += len(lines)
+        self.lines, self.early = [], []
+        for at, more in reversed(early):
+            for each in beside:
+                each[at:at] = [each[at - 1]] * len(more)
+            lines[at:at] = more
+        return lines
+
     # What happens to a task
 
     def acquire(self, task, verb, held, context):
         """Writes that a task acquired what `held` is, unless it holds too many locks already."""
         if task.kept + held.slots > MOST_HELD:
             self.too_deep += 1
-            task.held.append(Held(held.address))
+            task.held.append(Held(held.address, held.site, held.since))
             return
         if (task.trace != self.trace or held.lock_class not in self.classes
                 or held.reader is not None and held.reader.lock_class not in self.classes):
@@ -136,9 +154,12 @@ class Stream:
         if verb == READ:
             self.wait_as_reader(task, held.reader.name)
             verb = 'try'
+        self.write(task, verb, held)
+        held.seen = self.taken + len(self.lines)
+        if task.held and len(task.frames) == 1:
+            task.held[-1].seen = held.seen
         task.held.append(held)
         task.kept += held.slots
-        self.write(task, verb, held)
 
     def write(self, task, verb, held):
         """The lines of an acquisition: `nested` for one of a subclass, which is never a `try`."""
@@ -185,16 +206,29 @@ class Stream:
             self.let_go(task, held)
         forget(task.held, held)
 
-    def take_back(self, task, context):
-        """Writes the task's last lock as released, since it isn't held yet."""
-        last = task.held[-1]
-        self.release(task, last, context)
-        task.held.append(TakenBack(last))
+    def take_back(self, task, held, context):
+        """Writes a lock of the task as released, since lockdep does not have it.
 
-    def give_again(self, task, context):
-        """Writes that the task acquires the lock that was taken back last."""
-        lock = task.held.pop().lock
-        self.acquire(task, lock.verb, lock, context)
+        The release stands where the lock was last known to be held, unless those lines are taken already.
+        """
+        place, at = task.held.index(held), held.seen - self.taken
+        if at > 0:
+            rest, self.lines = self.lines, []
+            self.let_go(task, held)
+            self.early.append((at, self.lines))
+            self.lines = rest
+            forget(task.held, held)
+        else:
+            self.release(task, held, context)
+        task.held.insert(place, TakenBack(held))
+
+    def give_again(self, task, held, context):
+        """Writes that the task acquires a lock that was taken back."""
+        place = task.held.index(held)
+        del task.held[place]
+        held.lock.before = held.before  # locks below it may have been released meanwhile
+        self.acquire(task, held.lock.verb, held.lock, context)
+        task.held.insert(place, task.held.pop())
 
     def observe(self, task, context):
         """Writes how handlers and flags have changed up to this event of a task that holds locks."""
@@ -306,3 +340,5 @@ class Stream:
                 if held.depth == depth and held.name is not None:
                     self.classes.update(held.classes())
                     self.write(task, 'try', held)
+                    if depth == 1:
+                        held.seen = self.taken + len(self.lines)

@@ -1,4 +1,5 @@
 """What the converter says of a stream on standard error."""
+from ending import ending
 from output import VERBS
 from stream import MOST_HELD
 
@@ -30,6 +31,8 @@ def summary(events, output, number, options):
     if counts['taken back']:
         yield ('%d locks were acquired for lockdep only after their task had been preempted: not held before'
                % counts['taken back'])
+    if counts['lost releases']:
+        yield '%d releases are missing, by the number of locks that lockdep has: released there' % counts['lost releases']
     if stream.left_held:
         yield '%d locks were still held where a handler ended: released there' % stream.left_held
     if counts['taken away']:
@@ -41,6 +44,7 @@ def summary(events, output, number, options):
     entries, told = number - events.asides, events.header.entries
     if told is not None and told > entries:
         yield "the text's header tells of %d events, and %d were read" % (told, entries)
+    yield from ending(events.tasks.values())
     yield from precision(events, options)
 
 

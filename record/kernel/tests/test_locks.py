@@ -131,7 +131,7 @@ class TakenUp(unittest.TestCase):
             stream(acquire('a', A, before=0), acquire('b', B, before=1), release(A), acquire('c', C, before=1)), held)
         self.assertEqual(
             stream(acquire('a', A, before=0), acquire('b', B, before=1), release(A), acquire('c', C, before=0)),
-            [*held[:3], 'release t-1 b@2000', held[3]])
+            [*held[:2], 'release t-1 b@2000', *held[2:]])
 
     def test_a_lock_from_before_the_recording_that_is_released(self):
         self.assertEqual(
