@@ -76,11 +76,11 @@ static void write_module(uint64_t address)
 
 /* Writes a record on a lock with the calls that led to it. A lock of a module, which wasn't
    initialised by a call, is named by itself. */
-static void write_place(enum operation operation, uint64_t lock)
+static void write_place(enum operation operation, uint64_t lock, unsigned place)
 {
     uint64_t places[MOST_CALLS + 1] = {0};
     unsigned count = 0;
-    if (operation == RECORD_FIRST && is_in_module(lock))
+    if (operation != RECORD_INIT && is_in_module(lock))
         write_module(lock);
     else
         count = callers(places, MOST_CALLS);
@@ -91,7 +91,7 @@ static void write_place(enum operation operation, uint64_t lock)
     if (!first)
         return;
     memcpy(&first[1], places, following * sizeof *first);
-    finish(first, operation, following, lock);
+    finish_at(first, operation, following, place, lock);
 }
 
 /* Tells a place of the program, with its module. */
@@ -124,7 +124,7 @@ void record_init(const void *lock)
 {
     if (!enter())
         return;
-    write_place(RECORD_INIT, (uint64_t)lock);
+    write_place(RECORD_INIT, (uint64_t)lock, 0);
     __atomic_store_n(place_of((uint64_t)lock), (uint64_t)lock, __ATOMIC_RELAXED);
     leave();
 }
@@ -145,9 +145,23 @@ void record_got(enum operation operation, const void *lock, const struct frame *
         return;
     uint64_t *place = place_of((uint64_t)lock);
     if (__atomic_load_n(place, __ATOMIC_RELAXED) != (uint64_t)lock) {
-        write_place(RECORD_FIRST, (uint64_t)lock);
+        write_place(RECORD_FIRST, (uint64_t)lock, 0);
         __atomic_store_n(place, (uint64_t)lock, __ATOMIC_RELAXED);
     }
     write_one(operation, (uint64_t)lock, wants_places ? place_of_frame(frame) : 0);
+    leave();
+}
+
+/* Notes that this thread is about to wait for a lock. One that wasn't told yet isn't now either: its
+   class is that of who takes it first, if anyone does. */
+void record_wait(const void *lock, const struct frame *frame)
+{
+    if (!enter())
+        return;
+    unsigned place = wants_places ? place_of_frame(frame) : 0;
+    if (__atomic_load_n(place_of((uint64_t)lock), __ATOMIC_RELAXED) == (uint64_t)lock)
+        write_one(RECORD_WAIT, (uint64_t)lock, place);
+    else
+        write_place(RECORD_WAIT, (uint64_t)lock, place);
     leave();
 }

@@ -9,21 +9,18 @@
 #include "wrappers.h"
 
 /* A robust mutex whose owner died is held all the same. */
-static int got(enum operation operation, const void *lock, int answer,
-               const struct frame *frame)
+static bool is_got(int answer)
 {
-    if (answer == 0 || answer == EOWNERDEAD)
-        record_got(operation, lock, frame);
-    return answer;
+    return answer == 0 || answer == EOWNERDEAD;
 }
 
 WRAP_INIT(pthread_mutex_init, pthread_mutex_t, const pthread_mutexattr_t *)
 WRAP_DESTROY(pthread_mutex_destroy, pthread_mutex_t)
 
-WRAP_TAKE(RECORD_ACQUIRE, got, pthread_mutex_lock, pthread_mutex_t)
-WRAP_TAKE(RECORD_TRY, got, pthread_mutex_trylock, pthread_mutex_t)
-WRAP_TIMED(got, pthread_mutex_timedlock, pthread_mutex_t)
-WRAP_CLOCKED(got, pthread_mutex_clocklock, pthread_mutex_t)
+WRAP_TRY(is_got, pthread_mutex_trylock, pthread_mutex_t)
+WRAP_TAKE(is_got, pthread_mutex_lock, pthread_mutex_trylock, pthread_mutex_t)
+WRAP_TIMED(is_got, pthread_mutex_timedlock, pthread_mutex_trylock, pthread_mutex_t, true)
+WRAP_CLOCKED(is_got, pthread_mutex_clocklock, pthread_mutex_trylock, pthread_mutex_t, is_clock(clock))
 
 EXPORTED int pthread_mutex_unlock(pthread_mutex_t *mutex)
 {
@@ -91,17 +88,14 @@ EXPORTED void mtx_destroy(mtx_t *mutex)
     record_destroy(mutex);
 }
 
-static int got_c11(enum operation operation, const void *mutex, int answer,
-               const struct frame *frame)
+static bool is_got_c11(int answer)
 {
-    if (answer == thrd_success)
-        record_got(operation, mutex, frame);
-    return answer;
+    return answer == thrd_success;
 }
 
-WRAP_TAKE(RECORD_ACQUIRE, got_c11, mtx_lock, mtx_t)
-WRAP_TAKE(RECORD_TRY, got_c11, mtx_trylock, mtx_t)
-WRAP_TIMED(got_c11, mtx_timedlock, mtx_t)
+WRAP_TRY(is_got_c11, mtx_trylock, mtx_t)
+WRAP_TAKE(is_got_c11, mtx_lock, mtx_trylock, mtx_t)
+WRAP_TIMED(is_got_c11, mtx_timedlock, mtx_trylock, mtx_t, true)
 
 EXPORTED int mtx_unlock(mtx_t *mutex)
 {

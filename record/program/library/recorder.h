@@ -85,6 +85,7 @@ void record(enum operation operation, const void *lock);
 void record_init(const void *lock);
 void record_destroy(const void *lock);
 void record_got(enum operation operation, const void *lock, const struct frame *frame);
+void record_wait(const void *lock, const struct frame *frame);
 
 /* frames.c */
 extern bool wants_places;

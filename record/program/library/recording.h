@@ -28,21 +28,24 @@ enum operation {
     RECORD_RELEASE, /* [lock] is about to be given back */
     RECORD_UNDO,    /* [lock] wasn't given back: the call for it failed */
     RECORD_PLACE,   /* [address] is a place of the program; `struct told_place` follows */
+    RECORD_WAIT,    /* [lock] wasn't free: the thread begins to wait for it; where it wasn't told yet,
+                       the calls that led there follow */
+    RECORD_GIVE_UP, /* [lock] was waited for, and wasn't got */
 };
 
-/* In `head`: the operation (4 bits), the number of units that follow (8), the place (16), which is 0
-   where there is none, and the event's number (36). */
+/* In `head`: the operation (5 bits), the number of units that follow (8), the place (16), which is 0
+   where there is none, and the event's number (35). */
 struct unit {
     uint64_t head;
     uint64_t value;
 };
 
-#define HEAD_OPERATION(head) ((enum operation)((head) & 0xf))
-#define HEAD_FOLLOWING(head) ((unsigned)((head) >> 4 & 0xff))
-#define HEAD_PLACE(head) ((unsigned)((head) >> 12 & 0xffff))
-#define HEAD_NUMBER(head) ((head) >> 28)
+#define HEAD_OPERATION(head) ((enum operation)((head) & 0x1f))
+#define HEAD_FOLLOWING(head) ((unsigned)((head) >> 5 & 0xff))
+#define HEAD_PLACE(head) ((unsigned)((head) >> 13 & 0xffff))
+#define HEAD_NUMBER(head) ((head) >> 29)
 #define HEAD_OF(operation, following, place, number)                                      \
-    ((uint64_t)(number) << 28 | (uint64_t)(place) << 12 | (uint64_t)(following) << 4 | \
+    ((uint64_t)(number) << 29 | (uint64_t)(place) << 13 | (uint64_t)(following) << 5 | \
      (uint64_t)(operation))
 
 /* A place is the return address of a call. The place inside it, if there is one, is that of the call

@@ -9,16 +9,13 @@
 WRAP_INIT(pthread_spin_init, pthread_spinlock_t, int)
 WRAP_DESTROY(pthread_spin_destroy, pthread_spinlock_t)
 
-static int got(enum operation operation, const volatile void *lock, int answer,
-               const struct frame *frame)
+static bool is_got(int answer)
 {
-    if (answer == 0)
-        record_got(operation, (const void *)lock, frame);
-    return answer;
+    return answer == 0;
 }
 
-WRAP_TAKE(RECORD_ACQUIRE, got, pthread_spin_lock, pthread_spinlock_t)
-WRAP_TAKE(RECORD_TRY, got, pthread_spin_trylock, pthread_spinlock_t)
+WRAP_TRY(is_got, pthread_spin_trylock, pthread_spinlock_t)
+WRAP_TAKE(is_got, pthread_spin_lock, pthread_spin_trylock, pthread_spinlock_t)
 
 EXPORTED int pthread_spin_unlock(pthread_spinlock_t *lock)
 {
@@ -34,18 +31,23 @@ WRAP_DESTROY(pthread_rwlock_destroy, pthread_rwlock_t)
    release what nobody holds exclusively, and are no event to the merger. */
 static __thread bool took_write_lock __attribute__((tls_model("initial-exec")));
 
-static int wrote(enum operation operation, pthread_rwlock_t *lock, int answer,
-               const struct frame *frame)
+static bool wrote(int answer)
 {
-    if (answer == 0)
-        took_write_lock = true;
-    return got(operation, lock, answer, frame);
+    took_write_lock = took_write_lock || answer == 0;
+    return answer == 0;
 }
 
-WRAP_TAKE(RECORD_ACQUIRE, wrote, pthread_rwlock_wrlock, pthread_rwlock_t)
-WRAP_TAKE(RECORD_TRY, wrote, pthread_rwlock_trywrlock, pthread_rwlock_t)
-WRAP_TIMED(wrote, pthread_rwlock_timedwrlock, pthread_rwlock_t)
-WRAP_CLOCKED(wrote, pthread_rwlock_clockwrlock, pthread_rwlock_t)
+/* libc looks at the clock and the time before it looks at the lock. */
+static bool is_time(const struct timespec *until)
+{
+    return until->tv_nsec >= 0 && until->tv_nsec < 1000000000;
+}
+
+WRAP_TRY(wrote, pthread_rwlock_trywrlock, pthread_rwlock_t)
+WRAP_TAKE(wrote, pthread_rwlock_wrlock, pthread_rwlock_trywrlock, pthread_rwlock_t)
+WRAP_TIMED(wrote, pthread_rwlock_timedwrlock, pthread_rwlock_trywrlock, pthread_rwlock_t, is_time(until))
+WRAP_CLOCKED(wrote, pthread_rwlock_clockwrlock, pthread_rwlock_trywrlock, pthread_rwlock_t,
+             is_clock(clock) && is_time(until))
 
 EXPORTED int pthread_rwlock_unlock(pthread_rwlock_t *lock)
 {

@@ -3,6 +3,9 @@
 #ifndef WRAPPERS_H
 #define WRAPPERS_H
 
+#include <errno.h>
+#include <time.h>
+
 #include "next.h"
 #include "recorder.h"
 
@@ -24,23 +27,58 @@
         return answer;                          \
     }
 
-/* `got` tells the recorder of the lock that was taken, by the operation. */
-#define WRAP_TAKE(operation, got, call, lock_type)           \
-    EXPORTED int call(lock_type *lock)                       \
-    {                                                        \
-        return got(operation, lock, NEXT(call)(lock), HERE); \
+#define WRAP_TRY(is_got, call, lock_type)          \
+    EXPORTED int call(lock_type *lock)             \
+    {                                              \
+        int answer = NEXT(call)(lock);             \
+        if (is_got(answer))                        \
+            TELL_GOT(RECORD_TRY, lock);            \
+        return answer;                             \
     }
 
-#define WRAP_TIMED(got, call, lock_type)                                 \
-    EXPORTED int call(lock_type *lock, const struct timespec *until)     \
-    {                                                                    \
-        return got(RECORD_ACQUIRE, lock, NEXT(call)(lock, until), HERE); \
+#define TELL_GOT(operation, lock) record_got(operation, (const void *)(lock), HERE)
+
+/* A call that may wait. First it is tried whether the lock is free: where it isn't, the recorder notes
+   before the thread waits that it does, since that may be for ever. */
+#define TAKE(is_got, operation, lock, trial, taking)                 \
+    int answer = trial;                                              \
+    if (is_got(answer)) {                                            \
+        TELL_GOT(operation, lock);                                   \
+        return answer;                                               \
+    }                                                                \
+    record_wait((const void *)(lock), HERE);                         \
+    answer = taking;                                                 \
+    if (is_got(answer))                                              \
+        TELL_GOT(operation, lock);                                   \
+    else                                                             \
+        record(RECORD_GIVE_UP, (const void *)(lock));                \
+    return answer
+
+#define WRAP_TAKE(is_got, call, try_call, lock_type)                                    \
+    EXPORTED int call(lock_type *lock)                                                  \
+    {                                                                                   \
+        TAKE(is_got, RECORD_ACQUIRE, lock, NEXT(try_call)(lock), NEXT(call)(lock)); \
     }
 
-#define WRAP_CLOCKED(got, call, lock_type)                                            \
-    EXPORTED int call(lock_type *lock, clockid_t clock, const struct timespec *until) \
-    {                                                                                 \
-        return got(RECORD_ACQUIRE, lock, NEXT(call)(lock, clock, until), HERE);       \
+/* `may_try` says where libc takes a free lock whatever the clock and the time are. Elsewhere it refuses
+   some of them before it looks at the lock, and then nothing is tried. */
+#define WRAP_TIMED(is_got, call, try_call, lock_type, may_try)                          \
+    EXPORTED int call(lock_type *lock, const struct timespec *until)                    \
+    {                                                                                   \
+        TAKE(is_got, RECORD_ACQUIRE, lock, may_try ? NEXT(try_call)(lock) : EINVAL,     \
+             NEXT(call)(lock, until));                                                  \
     }
+
+#define WRAP_CLOCKED(is_got, call, try_call, lock_type, may_try)                        \
+    EXPORTED int call(lock_type *lock, clockid_t clock, const struct timespec *until)   \
+    {                                                                                   \
+        TAKE(is_got, RECORD_ACQUIRE, lock, may_try ? NEXT(try_call)(lock) : EINVAL,     \
+             NEXT(call)(lock, clock, until));                                           \
+    }
+
+static inline bool is_clock(clockid_t clock)
+{
+    return clock == CLOCK_REALTIME || clock == CLOCK_MONOTONIC;
+}
 
 #endif

@@ -1,7 +1,9 @@
 /* Reads the files that the library left. Any of them may be cut off or damaged at any place. */
 #define _GNU_SOURCE
 #include <dirent.h>
+#include <errno.h>
 #include <fcntl.h>
+#include <signal.h>
 #include <stdlib.h>
 #include <string.h>
 #include <sys/mman.h>
@@ -81,6 +83,16 @@ size_t read_recordings(const char *directory, struct recording **recordings)
     if (count)
         qsort(*recordings, count, sizeof **recordings, by_start);
     return count;
+}
+
+/* Answers whether a process has not ended. One that went on to another program has a later recording. */
+bool still_runs(const struct recording *all, size_t count, size_t which)
+{
+    uint64_t pid = all[which].process->pid;
+    for (size_t later = which + 1; later < count; later++)
+        if (all[later].process->pid == pid)
+            return false;
+    return kill((pid_t)pid, 0) == 0 || errno == EPERM;
 }
 
 const struct unit *unit_at(const struct recording *recording, uint32_t unit)

@@ -1,8 +1,19 @@
-/* Memory, and names as the trace format has them. */
+/* What is said, memory, and names as the trace format has them. */
+#include <stdarg.h>
 #include <stdlib.h>
 #include <string.h>
 
 #include "merger.h"
+
+void say(const char *format, ...)
+{
+    va_list arguments;
+    va_start(arguments, format);
+    fputs("record/program/run: ", stderr);
+    vfprintf(stderr, format, arguments);
+    fputc('\n', stderr);
+    va_end(arguments);
+}
 
 void *must(void *memory)
 {

@@ -7,8 +7,6 @@
 #define _GNU_SOURCE
 #include <errno.h>
 #include <inttypes.h>
-#include <signal.h>
-#include <stdarg.h>
 #include <stdlib.h>
 #include <string.h>
 #include <sys/stat.h>
@@ -17,16 +15,6 @@
 
 FILE *stream;
 struct totals totals;
-
-__attribute__((format(printf, 1, 2))) static void say(const char *format, ...)
-{
-    va_list arguments;
-    va_start(arguments, format);
-    fputs("record/program/run: ", stderr);
-    vfprintf(stderr, format, arguments);
-    fputc('\n', stderr);
-    va_end(arguments);
-}
 
 static void say_ends(const struct recording *all, size_t count)
 {
@@ -39,10 +27,7 @@ static void say_ends(const struct recording *all, size_t count)
         if (process->lost_children)
             say("process %zu: %" PRIu64 " of its children couldn't be recorded", number + 1,
                 process->lost_children);
-        bool is_latest = true;
-        for (size_t later = number + 1; later < count; later++)
-            is_latest = is_latest && all[later].process->pid != process->pid;
-        if (is_latest && (kill((pid_t)process->pid, 0) == 0 || errno == EPERM))
+        if (still_runs(all, count, number))
             say("process %zu still runs: its trace ends here", number + 1);
     }
 }

@@ -124,6 +124,12 @@ struct place {
     uint32_t task;
 };
 
+/* That a task waits for a lock. */
+struct wait {
+    const struct unit *first; /* of the record */
+    uint32_t task;
+};
+
 /* What a child of a fork begins with. */
 struct start {
     struct locks locks;
@@ -153,6 +159,7 @@ extern FILE *stream;
 extern struct totals totals;
 
 /* helpers.c */
+__attribute__((format(printf, 1, 2))) void say(const char *format, ...);
 void *must(void *memory);
 void *grown(void *all, size_t count, size_t *room, size_t size);
 const char *base_of(const char *path);
@@ -163,6 +170,7 @@ void cut_name(char *text, size_t most);
 /* files.c */
 size_t read_recordings(const char *directory, struct recording **recordings);
 void place_records(struct recording *recording);
+bool still_runs(const struct recording *all, size_t count, size_t which);
 const struct unit *unit_at(const struct recording *recording, uint32_t unit);
 
 /* binaries.c */
@@ -234,7 +242,14 @@ void end_writer(void);
 void hold_from_start(uint32_t task, struct locks *locks, uint32_t number);
 void write_got(const char *verb, uint32_t task, struct locks *locks, struct lock *lock);
 void write_released(struct lock *lock, struct locks *locks);
+void write_waiting(uint32_t task, struct locks *locks, const struct lock *lock, uint32_t place);
 size_t held_by(uint32_t task, const uint32_t **held);
+
+/* waits.c */
+void begin_wait(uint32_t task, const struct unit *first);
+void end_wait(uint32_t task, uint64_t address);
+size_t waits_left(const struct wait **all);
+void forget_waits(void);
 
 /* replay.c */
 void survey(struct recording *all, size_t count);

@@ -1,4 +1,5 @@
 /* Goes over the records of one process in the order of their numbers. */
+#include <inttypes.h>
 #include <stdlib.h>
 
 #include "merger.h"
@@ -33,6 +34,7 @@ static void on_got(const char *verb, uint32_t task, const struct unit *first)
 {
     uint64_t address = first->value;
     struct lock *lock = find_lock(&locks, address, true);
+    end_wait(task, address);
     if (!lock->class)
         begin_lock(lock, class_of_calls(&modules, "first", first, 0));
     if (lock->holder == task) {
@@ -113,6 +115,12 @@ static void step(const struct unit *first, uint32_t task)
     case RECORD_UNDO:
         on_undo(value);
         break;
+    case RECORD_WAIT:
+        begin_wait(task, first);
+        break;
+    case RECORD_GIVE_UP:
+        end_wait(task, value);
+        break;
     default:
         totals.damaged++;
     }
@@ -126,7 +134,7 @@ static void survey_step(const struct unit *first, uint32_t task)
     (void)task;
     if (operation == RECORD_MODULE)
         add_module(&modules, first, following);
-    if (operation == RECORD_INIT || operation == RECORD_FIRST)
+    if (operation == RECORD_INIT || operation == RECORD_FIRST || operation == RECORD_WAIT)
         ask_for_calls(&modules, (const uint64_t *)&first[1], 2 * following);
     if (operation == RECORD_PLACE && following)
         ask_for_place(&modules, first);
@@ -181,6 +189,38 @@ static uint64_t next_fork(struct recording *all, size_t count, size_t which, con
     return next;
 }
 
+/* Says that a task waits for a lock where the trace ends, and who holds it. */
+static void say_wait(const struct recording *all, size_t count, size_t which, uint32_t task,
+                     const struct lock *lock)
+{
+    char holder[64];
+    bool is_cut = all[which].process->ended != ENDED_NOT;
+    const char *ended = !is_cut && still_runs(all, count, which) ? "still ran" : "ended";
+    if (lock->holder == task)
+        snprintf(holder, sizeof holder, "itself");
+    else if (lock->holder)
+        snprintf(holder, sizeof holder, "t%" PRIu32, lock->holder);
+    else
+        snprintf(holder, sizeof holder, "nobody that is known");
+    say("%sprocess %zu %s while t%" PRIu32 " waited for %s, held by %s",
+        is_cut ? "the recording of " : "", which + 1, ended, task, lock->class->name, holder);
+}
+
+/* Writes what tasks still wait for at the end. */
+static void write_waits(const struct recording *all, size_t count, size_t which)
+{
+    const struct wait *waits;
+    size_t left = waits_left(&waits);
+    for (size_t number = 0; number < left; number++) {
+        const struct unit *first = waits[number].first;
+        on_first(first->value, first, HEAD_FOLLOWING(first->head));
+        const struct lock *lock = find_lock(&locks, first->value, true);
+        write_waiting(waits[number].task, &locks, lock, place_numbered(HEAD_PLACE(first->head)));
+        say_wait(all, count, which, waits[number].task, lock);
+    }
+    forget_waits();
+}
+
 static void begin_replay(struct start *start)
 {
     locks = start->locks;
@@ -209,6 +249,7 @@ static void go_over(struct recording *all, size_t count, size_t which,
             see(unit_at(recording, place.unit), place.task);
     }
     keep_starts(all, count, which, UINT64_MAX, is_kept);
+    write_waits(all, count, which);
     end_writer();
     free_locks(&locks);
     free(modules.all);

@@ -152,6 +152,20 @@ void write_got(const char *verb, uint32_t number, struct locks *locks, struct lo
     }
 }
 
+/* A lock that a task still waits for where the trace ends: an acquisition too, since a dependency says
+   that a lock was attempted. */
+void write_waiting(uint32_t number, struct locks *locks, const struct lock *lock, uint32_t place)
+{
+    struct task *task = task_at(number);
+    if (must_open(task, lock->class))
+        open_trace(locks);
+    lock->class->under_itself += holds_class(task, locks, lock->class);
+    if (task->written < MOST_HELD)
+        write_event("acquire", number, lock, place);
+    else
+        totals.too_deep++;
+}
+
 /* The holder's latest locks are looked at first: most are given back in turn. */
 void write_released(struct lock *lock, struct locks *locks)
 {
