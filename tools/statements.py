@@ -5,6 +5,7 @@ it loads none. `rt ci` builds the libraries so, but no command of `rt` does that
 with the words that `rt` has for it.
 """
 import contextlib
+import fcntl
 import functools
 import hashlib
 import os
@@ -12,7 +13,7 @@ import shutil
 import subprocess
 import sys
 
-from crates import LINES, PARTS, ROOT, USED, copy_kept, files_below, write
+from crates import LINES, PARTS, ROOT, USED, copy_kept, files_below, locked, read, write
 
 # Where the statements of a crate are kept, with a sum of all that they were made from: in its out/.
 KEPT = "statements"
@@ -27,6 +28,8 @@ def toolchain():
 
     # What it starts ends with this process. Its first call starts a process of its own, before any thread does.
     rtlib.guarded()
+    # Each crate's stamp once, and not once for each path that leads to it.
+    rtlib.Crate.stamp = functools.lru_cache(maxsize=None)(rtlib.Crate.stamp)
     return rtlib
 
 
@@ -57,15 +60,25 @@ def kept(name):
     return f"{ROOT}/crates/{name}/out/{KEPT}"
 
 
-def keep(name, rlib, stamp):
-    """Keeps a library's statements in the tree."""
-    to = kept(name)
+def put(to, rlib, stamp):
+    """Puts a library and its stamp in the place of a folder."""
     shutil.rmtree(f"{to}.new", ignore_errors=True)
     os.makedirs(f"{to}.new")
-    copy_kept(rlib, f"{to}.new/{name}.rlib")
+    copy_kept(rlib, f"{to}.new/{os.path.basename(rlib)}")
     write(f"{to}.new/stamp", stamp)
     shutil.rmtree(to, ignore_errors=True)
     os.rename(f"{to}.new", to)
+
+
+def keep(name, rlib, stamp):
+    """Keeps a library's statements in the tree."""
+    put(kept(name), rlib, stamp)
+
+
+def has_stamp(folder, stamp):
+    with contextlib.suppress(OSError):
+        return read(f"{folder}/stamp") == stamp
+    return False
 
 
 class Sources:
@@ -113,16 +126,29 @@ class Sources:
     def take(self, name):
         """Takes the statements that the tree keeps, where they are of these sources. False where it keeps none."""
         with contextlib.suppress(OSError):
-            with open(f"{kept(name)}/stamp", encoding="ascii") as stamp:
-                if stamp.read() != self.stamps.of(name):
-                    return False
+            if not self.is_kept(name):
+                return False
             os.makedirs(os.path.dirname(self.rlib(name)))
             copy_kept(f"{kept(name)}/{name}.rlib", self.rlib(name))
-            with open(f"{kept(name)}/stamp", encoding="ascii") as stamp:
-                if stamp.read() == self.stamps.of(name):
-                    return True
+            if self.is_kept(name):
+                return True
         shutil.rmtree(os.path.dirname(self.rlib(name)), ignore_errors=True)
         return False
+
+    def is_kept(self, name):
+        return has_stamp(kept(name), self.stamps.of(name))
+
+    def lend(self):
+        """Has `rt` take the libraries that the tree keeps statements of for its own, so that a check of a crate proves
+        that crate alone. All or none: statements fit only the libraries that they were made over."""
+        libraries = [it for it in self.crates.values() if not it.is_program]
+        own = {it.name: f"{ROOT}/crates/{it.name}/out/rlib" for it in libraries}
+        if all(has_stamp(own[it.name], it.stamp()) for it in libraries):
+            return
+        if all(map(self.is_kept, own)):
+            for it in libraries:
+                with locked(f"{ROOT}/crates/{it.name}", fcntl.LOCK_EX):
+                    put(own[it.name], f"{kept(it.name)}/{it.name}.rlib", it.stamp())
 
     def give(self, name):
         """Has the tree keep the statements that were made of a crate here."""
