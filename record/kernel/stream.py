@@ -5,6 +5,7 @@ before it, a release stands in the handler that acquired, a handler ends with no
 says at its first line in a trace which flags it had, and a new trace begins before a limit would be
 passed.
 """
+import math
 from collections import namedtuple
 
 from text import Damaged
@@ -13,6 +14,7 @@ MOST_TASKS = 1024    # of one trace
 MOST_CLASSES = 8191  # of one trace
 MOST_HELD = 96       # of one task
 MOST_TRACES = 65535  # of one stream
+MOST_CUTS = 60000    # of these, so that a trace which has no room left can end all the same
 WORDS = {True: 'on', False: 'off'}
 READ = 'read'  # of a recursive reader that waits: no verb of a stream, but lines of a class of its own
 
@@ -49,6 +51,10 @@ class Held:
         self.reader = None
         self.slots = 1  # how many locks it is in the stream
         self.seen = 0   # behind which line of the stream it surely was held, outside handlers
+
+    def key(self):
+        """Lockdep's key of its class."""
+        return self.site.key or int(self.address, 16) + self.site.subclass
 
     def classes(self):
         return (self.lock_class,) if self.reader is None else (self.lock_class, self.reader.lock_class)
@@ -95,8 +101,11 @@ def forget(locks, held):
 class Stream:
     """The lines of the stream, and the state that makes the next one right."""
 
-    def __init__(self, label):
+    def __init__(self, label, cut=None, with_dependencies=False):
         self.label = label
+        self.cut = cut        # after how many lines a trace ends, or None
+        self.end = math.inf   # the number of lines at which the present one does
+        self.dependencies = {} if with_dependencies else None  # pairs of keys to those of names
         self.lines = []       # not yet taken by the caller
         self.early = []       # lines that belong before the one with this number among them
         self.taken = 0        # how many the caller took, without those
@@ -116,6 +125,8 @@ class Stream:
         self.trace += 1
         self.tasks = 0
         self.classes = set()
+        if self.cut is not None:
+            self.end = self.taken + len(self.lines) + self.cut if self.trace < MOST_CUTS else math.inf
         label = self.label if self.trace == 1 else f'{self.label}.{self.trace}'
         self.lines.append(f'trace {label}\n')
 
@@ -144,6 +155,8 @@ class Stream:
             self.too_deep += 1
             task.held.append(Held(held.address, held.site, held.since))
             return
+        if self.taken + len(self.lines) >= self.end:
+            self.begin()
         if (task.trace != self.trace or held.lock_class not in self.classes
                 or held.reader is not None and held.reader.lock_class not in self.classes):
             self.admit(task, held.classes())
@@ -151,6 +164,8 @@ class Stream:
             self.settle(task, context)
         held.depth = len(task.frames)
         held.verb = verb
+        if self.dependencies is not None and verb != 'try':
+            self.depend(task, held)
         if verb == READ:
             self.wait_as_reader(task, held.reader.name)
             verb = 'try'
@@ -160,6 +175,15 @@ class Stream:
             task.held[-1].seen = held.seen
         task.held.append(held)
         task.kept += held.slots
+
+    def depend(self, task, wanted):
+        """Notes the dependencies on a lock that lockdep looks for: from the innermost lock out, up to a first
+        one that was no trylock."""
+        for held in reversed(task.held):
+            if held.name is not None and held.depth == wanted.depth:
+                self.dependencies[held.key(), wanted.key()] = held.name, wanted.name
+                if held.verb != 'try':
+                    break
 
     def write(self, task, verb, held):
         """The lines of an acquisition: `nested` for one of a subclass, which is never a `try`."""

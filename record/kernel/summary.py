@@ -1,7 +1,7 @@
 """What the converter says of a stream on standard error."""
 from ending import ending
 from output import VERBS
-from stream import MOST_HELD
+from stream import MOST_CUTS, MOST_HELD
 
 SPLIT_HIDES = ('--split-recursion: %d acquisitions under another lock of their class became a class '
                'of their own; a real recursion between two locks of one class is hidden by it')
@@ -44,6 +44,8 @@ def summary(events, output, number, options):
     entries, told = number - events.asides, events.header.entries
     if told is not None and told > entries:
         yield "the text's header tells of %d events, and %d were read" % (told, entries)
+    if options.cut is not None and stream.trace >= MOST_CUTS:
+        yield 'the stream has %d traces: --cut ended none after that' % MOST_CUTS
     yield from ending(events.tasks.values())
     yield from precision(events, options)
 
@@ -55,8 +57,9 @@ def precision(events, options):
                'and recursions and inversions may be false')
         if options.split_recursion:
             yield SPLIT_HIDES % events.counts['split recursions']
-        if options.lockdep:
-            yield '--lockdep has no effect on these events: they show no class'
+        for option in 'lockdep', 'check':
+            if getattr(options, option):
+                yield f'--{option} has no effect on these events: they show no class'
         return
     if options.split_recursion:
         yield "--split-recursion has no effect on the module's events: they show the class"

@@ -110,8 +110,9 @@ class Record(unittest.TestCase):
     def stop(self, dropped):
         self.write('tracefs/trace', 'the text\n')
         for cpu in (0, 1):
-            self.write('tracefs/per_cpu/cpu%d/stats' % cpu, 'entries: 1\ndropped events: %d\n' % dropped)
+            self.write('tracefs/per_cpu/cpu%d/stats' % cpu, 'entries: 20000000\ndropped events: %d\n' % dropped)
         self.write('proc/lockdep', 'all lock classes:\n')
+        self.write('proc/lockdep_chains', 'all lock chains:\n')
         return self.record('stop', self.folder + '/out')
 
     def test_stop_writes_the_recording(self):
@@ -120,9 +121,70 @@ class Record(unittest.TestCase):
         self.assertEqual(self.read('tracefs/tracing_on'), '0\n')
         self.assertEqual(self.read('out/trace'), 'the text\n')
         self.assertEqual(self.read('out/stats'),
-                         'cpu0\nentries: 1\ndropped events: 0\ncpu1\nentries: 1\ndropped events: 0\n')
+                         'cpu0\nentries: 20000000\ndropped events: 0\ncpu1\nentries: 20000000\ndropped events: 0\n')
         self.assertEqual(self.read('out/lockdep'), 'all lock classes:\n')
+        self.assertEqual(self.read('out/lockdep_chains'), 'all lock chains:\n')
         self.assertNotIn('dropped', said)
+
+    def test_stop_says_how_much_it_is_going_to_read(self):
+        # 40,000,000 events of 135 bytes each.
+        self.assertRegex(self.stop(0)[1], 'reading 40000000 events, about 5149 MB of text; .*/out has [0-9]+ MB free')
+
+    def test_stop_without_files_of_lockdep(self):
+        self.write('tracefs/trace', 'the text\n')
+        self.write('tracefs/per_cpu/cpu0/stats', 'entries: 1\n')
+        status, said = self.record('stop', self.folder + '/out')
+        self.assertEqual((status, os.path.exists(self.folder + '/out/lockdep_chains')), (0, False))
+        self.assertIn("lockdep_chains can't be read (CONFIG_PROVE_LOCKING)", said)
+
+    def vm(self, *words, loaded=False):
+        """`record vm` in a folder of its own, with a module and an insmod that writes down what it loads."""
+        for name in ('per_cpu/cpu0/stats', 'trace'):
+            self.write('tracefs/' + name, 'entries: 1\n')
+        self.write('proc/modules', 'lockcheck_events 1 0\n' if loaded else '')
+        self.write('kernel/module/lockcheck_events.ko', '')
+        shutil.copy(RECORD, self.folder + '/kernel/record')
+        self.write('bin/insmod', '#!/bin/sh\necho "$1" >>%s/loaded\nexit "${INSMOD:-0}"\n' % self.folder)
+        os.chmod(self.folder + '/bin/insmod', 0o755)
+        end = subprocess.run(
+            [self.folder + '/kernel/record', 'vm', *words], capture_output=True, text=True,
+            env={**os.environ, 'TRACEFS': self.folder + '/tracefs', 'PROC': self.folder + '/proc',
+                 'PATH': self.folder + '/bin:' + os.environ['PATH'], **self.settings})
+        return end.returncode, end.stdout, end.stderr
+
+    settings = {}
+
+    def test_vm_records_a_command(self):
+        self.events(*STOCK, *MODULE)
+        status, out, said = self.vm(self.folder + '/out', 'sh', '-c', 'cat "$TRACEFS/tracing_on"; echo "$@"; exit 7',
+                                    'sh', 'two words')
+        self.assertEqual((status, out), (7, '1\ntwo words\n'))
+        self.assertEqual(self.read('loaded'), self.folder + '/kernel/module/lockcheck_events.ko\n')
+        self.assertEqual((self.read('tracefs/tracing_on'), self.read('tracefs/buffer_size_kb')), ('0\n', '65536\n'))
+        self.assertEqual(self.read('out/stats'), 'cpu0\nentries: 1\n')
+        self.assertIn('wrote', said)
+
+    def test_vm_with_a_ring_of_another_size_and_a_module_that_is_loaded(self):
+        self.events(*STOCK, *MODULE)
+        self.settings = {'KB': '123'}
+        self.assertEqual(self.vm(self.folder + '/out', 'true', loaded=True)[0], 0)
+        self.assertEqual(self.read('tracefs/buffer_size_kb'), '123\n')
+        self.assertFalse(os.path.exists(self.folder + '/loaded'))
+
+    def test_vm_runs_no_command_where_there_would_be_no_recording(self):
+        self.events(*STOCK)
+        command = 'touch', self.folder + '/ran'
+        self.settings = {'INSMOD': '1'}
+        status, _, said = self.vm(self.folder + '/out', *command)
+        self.assertEqual(status, 2)
+        self.assertIn('could not be loaded', said)
+        self.settings = {}
+        self.write('out/trace', 'another\n')
+        status, _, said = self.vm(self.folder + '/out', *command)
+        self.assertEqual((status, self.read('out/trace')), (2, 'another\n'))
+        shutil.rmtree(self.folder + '/tracefs/events')
+        self.assertEqual(self.vm(self.folder + '/other', *command)[0], 2)
+        self.assertFalse(os.path.exists(self.folder + '/ran'))
 
     def test_stop_says_that_events_were_dropped(self):
         status, said = self.stop(4)
@@ -136,7 +198,8 @@ class Record(unittest.TestCase):
         self.assertIn('another folder', said)
 
     def test_other_words(self):
-        for words in ((), ('begin',), ('start', 'x'), ('start', '1', '2'), ('stop',), ('stop', ''), ('stop', 'a', 'b')):
+        for words in ((), ('begin',), ('start', 'x'), ('start', '1', '2'), ('stop',), ('stop', ''), ('stop', 'a', 'b'),
+                      ('vm',), ('vm', 'a'), ('vm', '', 'b')):
             with self.subTest(words=words):
                 status, said = self.record(*words)
                 self.assertEqual(status, 2)
