@@ -1,10 +1,11 @@
-"""What the converter writes: the stream, and its map."""
+"""What the converter writes: the stream, and what is told of its lines in files beside it."""
 import os
 import shutil
 import sys
 import tempfile
 from collections import Counter
 
+from places import Places
 from text import Damaged
 
 MOST_BYTES = 2147483648   # of a stream that lockcheck reads
@@ -12,13 +13,14 @@ VERBS = ('begin', 'acquire', 'nested', 'try', 'release', 'enter', 'exit', 'enabl
 
 
 class Output:
-    """The stream and its map, kept apart until both are whole."""
+    """The stream, the lines of the recording that its lines come from, and its map, kept apart until all are whole."""
 
-    def __init__(self, stream, with_map):
+    def __init__(self, stream, with_sources):
         self.stream = stream
         self.text = tempfile.TemporaryFile('w+b')
-        self.map = tempfile.TemporaryFile('w+b') if with_map else None
-        self.sources = [] if with_map else None  # the input lines of the stream's lines since `flush`
+        self.source_text = tempfile.TemporaryFile('w+b') if with_sources else None
+        self.sources = [] if with_sources else None  # the input lines of the stream's lines since `flush`
+        self.places = Places() if stream.places is not None else None
         self.lines = 0
         self.verbs = Counter()  # of the stream's lines
 
@@ -26,9 +28,9 @@ class Output:
         return self
 
     def __exit__(self, *_):
-        self.text.close()
-        if self.map is not None:
-            self.map.close()
+        for file in self.text, self.source_text, self.places and self.places.numbers:
+            if file is not None:
+                file.close()
 
     def note(self, steps, first):
         """Goes through the steps, one for each input line from this one on, and notes its lines."""
@@ -38,7 +40,11 @@ class Output:
                 sources.extend([number] * (len(stream.lines) - len(sources)))
 
     def flush(self):
-        lines = self.stream.take() if self.sources is None else self.stream.take(self.sources)
+        numbers = None
+        if self.places is not None:
+            numbers = self.places.numbered(self.stream.places, len(self.stream.lines))
+            self.stream.places.clear()
+        lines = self.stream.take(self.sources, numbers)
         text = ''.join(['\n', *lines])
         for verb in VERBS:
             self.verbs[verb] += text.count(f'\n{verb} ')
@@ -46,18 +52,27 @@ class Output:
         if self.text.tell() > MOST_BYTES:
             raise Damaged(f'the stream would have more than the {MOST_BYTES} bytes that lockcheck '
                           'reads: record in several parts')
-        if self.map is not None:
-            self.map.write(''.join(map('{}\n'.format, self.sources)).encode('ascii'))
+        if self.sources is not None:
+            self.source_text.write(''.join(map('{}\n'.format, self.sources)).encode('ascii'))
             self.sources.clear()
+        if numbers is not None:
+            self.places.keep(numbers)
         self.lines += len(lines)
 
-    def hand_over(self, map_name):
-        """Writes the map, and then the stream to standard output."""
-        if self.map is not None:
-            self.map.seek(0)
-            with open(map_name + '.part', 'wb') as part:
-                shutil.copyfileobj(self.map, part)
-            os.replace(map_name + '.part', map_name)
+    def hand_over(self, sources_name, map_name):
+        """Writes the files beside the stream, and then the stream to standard output."""
+        if sources_name is not None:
+            self.source_text.seek(0)
+            replace(sources_name, lambda part: shutil.copyfileobj(self.source_text, part))
+        if map_name is not None:
+            replace(map_name, self.places.write)
         self.text.seek(0)
         shutil.copyfileobj(self.text, sys.stdout.buffer, 1 << 20)
         sys.stdout.buffer.flush()
+
+
+def replace(name, write):
+    """Writes a file, which has its name only when it is whole."""
+    with open(name + '.part', 'wb') as part:
+        write(part)
+    os.replace(name + '.part', name)

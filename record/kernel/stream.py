@@ -101,7 +101,7 @@ def forget(locks, held):
 class Stream:
     """The lines of the stream, and the state that makes the next one right."""
 
-    def __init__(self, label, cut=None, with_dependencies=False):
+    def __init__(self, label, cut=None, with_dependencies=False, with_places=False):
         self.label = label
         self.cut = cut        # after how many lines a trace ends, or None
         self.end = math.inf   # the number of lines at which the present one does
@@ -109,6 +109,8 @@ class Stream:
         self.lines = []       # not yet taken by the caller
         self.early = []       # lines that belong before the one with this number among them
         self.taken = 0        # how many the caller took, without those
+        # Of acquisitions among the lines: the line's number, the site, and the class that was acquired there.
+        self.places = [] if with_places else None
         self.trace = 0        # the number of the present trace, from 1
         self.tasks = 0        # in the present trace
         self.classes = set()  # of the present trace
@@ -136,15 +138,17 @@ class Stream:
             task.forget()
         self.begin()
 
-    def take(self, *beside):
-        """The lines that were not taken yet; lists of as many things get others where lines come in between."""
+    def take(self, sources=None, numbers=None):
+        """The lines that were not taken yet. Lists with the source and the number of each get those of early lines."""
         lines, early = self.lines, sorted(self.early, key=lambda each: each[0])
         self.taken += len(lines)
         self.lines, self.early = [], []
         for at, more in reversed(early):
-            for each in beside:
-                each[at:at] = [each[at - 1]] * len(more)
             lines[at:at] = more
+            if sources is not None:
+                sources[at:at] = [sources[at - 1]] * len(more)
+            if numbers is not None:
+                numbers[at:at] = [0] * len(more)
         return lines
 
     # What happens to a task
@@ -167,7 +171,7 @@ class Stream:
         if self.dependencies is not None and verb != 'try':
             self.depend(task, held)
         if verb == READ:
-            self.wait_as_reader(task, held.reader.name)
+            self.wait_as_reader(task, held)
             verb = 'try'
         self.write(task, verb, held)
         held.seen = self.taken + len(self.lines)
@@ -185,17 +189,25 @@ class Stream:
                 if held.verb != 'try':
                     break
 
-    def write(self, task, verb, held):
+    def write(self, task, verb, held, is_new=True):
         """The lines of an acquisition: `nested` for one of a subclass, which is never a `try`."""
         subclass = held.lock_class.subclass
+        if self.places is not None:
+            self.place(held, held.lock_class, is_new)
         if subclass:
             self.lines.append(f'nested {task.name} {held.name} {subclass}\n')
         else:
             self.lines.append(f'{verb} {task.name} {held.name}\n')
         if held.slots == 2:
+            if self.places is not None:
+                self.place(held, held.reader.lock_class, is_new)
             self.lines.append(f'try {task.name} {held.reader.name}\n')
 
-    def wait_as_reader(self, task, name):
+    def place(self, held, lock_class, is_new):
+        """Notes who acquired what the next line acquires."""
+        self.places.append((len(self.lines), held.site, lock_class.name if is_new else None))
+
+    def wait_as_reader(self, task, held):
         """Writes that a recursive reader waits: as if it acquired what it does not hold afterwards.
 
         Interrupts are disabled meanwhile, as it gives the class no moment at which it is held. Where nothing is
@@ -203,9 +215,11 @@ class Stream:
         """
         if not task.kept and len(task.frames) == 1:
             return
-        hard = task.frames[-1].hard
+        hard, name = task.frames[-1].hard, held.reader.name
         if hard:
             self.lines.append(f'disable {task.name} hard\n')
+        if self.places is not None:
+            self.place(held, held.reader.lock_class, True)
         self.lines.append(f'acquire {task.name} {name}\n')
         self.lines.append(f'release {task.name} {name}\n')
         if hard:
@@ -363,6 +377,6 @@ class Stream:
             for held in task.held:
                 if held.depth == depth and held.name is not None:
                     self.classes.update(held.classes())
-                    self.write(task, 'try', held)
+                    self.write(task, 'try', held, is_new=False)
                     if depth == 1:
                         held.seen = self.taken + len(self.lines)

@@ -55,6 +55,8 @@ def precision(events, options):
     if 'stock' in events.kinds:
         yield ('the events show no class: locks of one name count as one class, '
                'and recursions and inversions may be false')
+        if options.map:
+            yield '--map tells no places: these events do not show the function that acquired'
         if options.split_recursion:
             yield SPLIT_HIDES % events.counts['split recursions']
         for option in 'lockdep', 'check':

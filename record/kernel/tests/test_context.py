@@ -366,7 +366,7 @@ class Map(unittest.TestCase):
         text = (acquire('a', A, columns='d....') + irq('irq_enable', columns='d....') + line('other: x')
                 + release(B) + release(A) + 'CPU:0 [LOST 1 EVENTS]\n' + acquire('b', B))
         with file_with('') as name:
-            result = run(text, '--map', name)
+            result = run(text, '--lines', name)
             with open(name) as file:
                 numbers = [int(number) for number in file]
         self.assertEqual(

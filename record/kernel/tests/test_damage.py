@@ -36,7 +36,7 @@ class Refused(unittest.TestCase):
     def refused(self, text, number, words):
         """The text is refused at this line, in these words, and nothing is written."""
         with tempfile.TemporaryDirectory() as folder:
-            result = run(text, '--map', os.path.join(folder, 'map'))
+            result = run(text, '--lines', os.path.join(folder, 'map'))
             self.assertEqual(os.listdir(folder), [])
         self.assertEqual((result.status, result.stream), (2, []), result.errors)
         self.assertIn('convert: line %d: ' % number, result.errors)
@@ -161,7 +161,7 @@ class OtherFiles(unittest.TestCase):
         for option in ('--lockdep', '--stats'):
             with self.subTest(option=option):
                 self.refused((option, '/nowhere/file'), '/nowhere/file')
-        self.refused(('--map', '/nowhere/map'), '/nowhere/map')
+        self.refused(('--lines', '/nowhere/map'), '/nowhere/map')
 
     def test_labels(self):
         for label in ('', 'two words', 'x' * 59, 'é'):

@@ -23,7 +23,7 @@ class MissingReleases(unittest.TestCase):
         text = (acquire('a', A, before=0, **disabled) + acquire('b', B, before=1, **disabled)
                 + release(B, **disabled) + irq('irq_enable', **disabled) + acquire('c', C, before=0))
         with file_with('') as name:
-            converted = run(text, '--map', name)
+            converted = run(text, '--lines', name)
             with open(name) as file:
                 lines = file.read().split()
         self.assertEqual(converted.stream[1:], [

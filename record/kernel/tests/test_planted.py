@@ -44,7 +44,7 @@ class Planted(unittest.TestCase):
 
     def test_every_planted_fault_is_reported_at_its_line_and_nothing_else(self):
         with file_with('') as name:
-            converted = run(recording('plant-all'), '--label', 'all', '--map', name)
+            converted = run(recording('plant-all'), '--label', 'all', '--lines', name)
             with open(name) as file:
                 lines = file.read().split()
         status, rows = report(converted.stream)
@@ -56,7 +56,7 @@ class Planted(unittest.TestCase):
 
     def test_the_nested_lock_is_one_of_the_subclass(self):
         with file_with('') as name:
-            converted = run(recording('plant-all'), '--map', name)
+            converted = run(recording('plant-all'), '--lines', name)
             with open(name) as file:
                 there = dict(zip(file.read().split(), converted.stream))
         self.assertEqual([there['6221'], there['6222']],
@@ -75,7 +75,7 @@ class Planted(unittest.TestCase):
 
     def test_a_whole_stream_has_a_line_for_each_line_of_its_map(self):
         with file_with('') as name:
-            converted = run(recording('plant-clean'), '--map', name)
+            converted = run(recording('plant-clean'), '--lines', name)
             with open(name) as file:
                 numbers = [int(number) for number in file]
         self.assertEqual(len(numbers), len(converted.stream))
