@@ -10,6 +10,7 @@ CLASS_LINE = re.compile(
     r'([0-9a-f]+)(?: OPS: *\d+)?(?: FD: *\d+ BD: *\d+ \S+)?: (.+)\n').fullmatch
 BESIDE = re.compile(r'all lock classes:\n|\n| -> \[[0-9a-f]+\] .*\n').fullmatch
 VERSIONED = re.compile(r'(.+?)(?:#(\d+))?(?:/([1-7]))?').fullmatch
+NUMBERED = re.compile(r'(.+)#\d+').fullmatch
 SPECIAL = re.compile(r'[^\x21-\x7e]|[@/%!#]')
 SPECIAL_OF_TASK = re.compile(r'[^\x21-\x7e]|%')
 MOST_SUBCLASS = 7  # of lockdep, and of the trace format
@@ -89,16 +90,35 @@ class Classes:
         self.versions = {}  # (text, key of subclass 0) to version
         self.count = {}     # text to the number of its versions
         self.unknown = 0    # classes that the lockdep file doesn't have
+        numbered = (NUMBERED(lock_class.name) for lock_class in self.lockdep.values())
+        self.several = {match[1] for match in numbered if match}  # names that lockdep has for several keys
+        self.by_symbol = {}  # name with a symbol to the key of subclass 0
 
-    def find(self, key, subclass, text):
-        """The class with this key, which an event with this subclass calls by this text."""
+    def find(self, key, subclass, text, symbol=None):
+        """The class with this key, which an event with this subclass calls by this text.
+
+        The symbol is what the key lies in, where that is known.
+        """
         lock_class = self.by_key.get(key)
         if lock_class is None:
             lock_class = self.lockdep.get(key)
             if lock_class is None or not is_of(lock_class, subclass, text):
                 lock_class = self.own(key - subclass, subclass, text)
+            elif symbol is not None:
+                lock_class = self.with_symbol(lock_class, key, symbol)
             self.by_key[key] = lock_class
         return lock_class
+
+    def with_symbol(self, lock_class, key, symbol):
+        """One of several classes of a name, with the symbol in place of the number, which another boot may give
+        to another one. The number stays where two keys lie in the same."""
+        match = NUMBERED(lock_class.name)
+        name = match[1] if match else lock_class.name
+        if name not in self.several:
+            return lock_class
+        named = LockClass(fitted(f'{name}#{escape(symbol)}'), lock_class.subclass)
+        first = self.by_symbol.setdefault(named.name, key - lock_class.subclass)
+        return named if first == key - lock_class.subclass else lock_class
 
     def own(self, base, subclass, text):
         """A class without lockdep's help: versions count the keys of one text as they appear."""

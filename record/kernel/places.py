@@ -1,14 +1,13 @@
 """The map of a stream: which function acquired what a line acquires."""
 import array
-import re
 import sys
 import tempfile
 from collections import Counter
 
 from classes import SPECIAL_OF_TASK, escape
+from sites import ADDRESS
 
 MOST_OF_TWO_BYTES = 65535
-ADDRESS = re.compile(r'(?:0x)?[0-9a-f]{8,16}').fullmatch
 
 
 class Places:

@@ -7,7 +7,8 @@ from text import COLUMNS_INSIDE, Damaged, quote
 
 STOPPED = '255'       # in place of a number of locks, where lockdep has stopped
 MODULE_SITE = re.compile(r'k=([0-9a-f]+) s=(\d+) t=([01]) r=([0-2]) c=([01]) n=([0-9a-f]+) '
-                         r'(?:h=(\d+) )?i=(\S+(?: \[[^\s\]]+\])?) (.+)\n').fullmatch
+                         r'(?:h=(\d+) )?(?:y=(\S+(?: \[[^\s\]]+\])?) )?i=(\S+(?: \[[^\s\]]+\])?) (.+)\n').fullmatch
+ADDRESS = re.compile(r'(?:0x)?[0-9a-f]{8,16}').fullmatch  # in the place of a symbol
 STOCK_SITE = re.compile(r'(try )?(read )?(.+)\n').fullmatch
 # Lockdep's kinds of acquisitions: by a writer, by a reader that waits for waiting writers, and by one that
 # does not, which may read what its task reads already.
@@ -29,10 +30,15 @@ def recursive_keys(lines):
     return keys
 
 
+def symbol_of(text):
+    """The symbol, with its module in brackets if it is one's; None where the kernel has none for the key."""
+    return None if text is None or ADDRESS(text) else text.replace(' ', '')
+
+
 class Site:
     """What acquisitions with the same text after the lock's address have in common."""
     __slots__ = ('verb', 'reads', 'left_out', 'lock_class', 'reader_class', 'key', 'subclass', 'text', 'nest',
-                 'before', 'caller')
+                 'before', 'caller', 'symbol')
 
     def __init__(self, text, trylock, kind=WRITER, left_out=None):
         self.verb = 'try' if trylock else READ if kind == RECURSIVE else 'acquire'
@@ -44,6 +50,7 @@ class Site:
         self.key = self.subclass = 0  # of the class; no key where it is the lock's own address
         self.nest = None          # the address of a lock under which many of a class may be held
         self.caller = None        # the function that acquired, with its offset
+        self.symbol = None        # what the key lies in
         self.before = None        # how many locks lockdep has of the task before this one; None: not told
 
 
@@ -62,12 +69,12 @@ class Sites:
         match = MODULE_SITE(tail)
         if match is None or COLUMNS_INSIDE(tail):
             raise Damaged(f'not what the module writes of an acquisition: {quote(tail)}')
-        key, subclass, trylock, read, check, nest, before, caller, text = match.groups()
+        key, subclass, trylock, read, check, nest, before, symbol, caller, text = match.groups()
         left_out = 'unchecked' if check == '0' else 'readers' if self.no_readers and read != WRITER else None
         site = Site(text, trylock == '1', read, left_out)
         site.key, site.subclass = int(key, 16), int(subclass)
         site.nest = nest if int(nest, 16) else None
-        site.caller = caller
+        site.caller, site.symbol = caller, symbol_of(symbol)
         site.before = None if before in (None, STOPPED) else int(before)
         if not left_out and site.key:
             site.lock_class, site.reader_class = self.classes_of(site, site.key)
@@ -77,7 +84,7 @@ class Sites:
 
     def classes_of(self, site, key):
         """The class with this key for a site, and the one of its recursive readers where the site needs it."""
-        lock_class = self.classes.find(key, site.subclass, site.text)
+        lock_class = self.classes.find(key, site.subclass, site.text, site.symbol)
         if site.verb != READ and key not in self.recursive:
             return lock_class, None
         if lock_class.subclass:  # no `try` has a subclass

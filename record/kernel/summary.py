@@ -32,7 +32,8 @@ def summary(events, output, number, options):
         yield ('%d locks were acquired for lockdep only after their task had been preempted: not held before'
                % counts['taken back'])
     if counts['lost releases']:
-        yield '%d releases are missing, by the number of locks that lockdep has: released there' % counts['lost releases']
+        yield ('%d releases are missing, by the number of locks that lockdep has: released there'
+               % counts['lost releases'])
     if stream.left_held:
         yield '%d locks were still held where a handler ended: released there' % stream.left_held
     if counts['taken away']:

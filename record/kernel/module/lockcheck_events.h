@@ -13,7 +13,8 @@
 /*
  * `how` is 1 for a trylock, and 2 where lockdep checks. `held` is how many locks lockdep has of the task
  * before this one, since it takes a lock up after the event, and the task may be preempted before that;
- * or 255 where lockdep has stopped. The name is copied here and not by __assign_str(), whose arguments
+ * or 255 where lockdep has stopped. `y=` is the symbol that the key lies in, which, unlike lockdep's number
+ * of a class, is the same in another boot; it is looked up when the text is read. The name is copied here and not by __assign_str(), whose arguments
  * are others from 6.10 on.
  */
 TRACE_EVENT(acquire,
@@ -48,10 +49,10 @@ TRACE_EVENT(acquire,
 			__get_dynamic_array_len(name));
 	),
 
-	TP_printk("%p k=%p s=%u t=%u r=%u c=%u n=%p h=%u i=%pS %s",
+	TP_printk("%p k=%p s=%u t=%u r=%u c=%u n=%p h=%u y=%ps i=%pS %s",
 		  __entry->lock, __entry->key, __entry->subclass, __entry->how & 1,
 		  __entry->read, __entry->how >> 1, __entry->nest, __entry->held,
-		  __entry->caller, __get_str(name))
+		  __entry->key, __entry->caller, __get_str(name))
 );
 
 TRACE_EVENT(release,

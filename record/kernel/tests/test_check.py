@@ -59,7 +59,8 @@ class Check(unittest.TestCase):
         self.assertEqual(self.check(text), ["0 of 0 dependencies are in this boot's lockdep_chains"])
 
     def test_readers_are_of_their_class(self):
-        text = acquire('a', A, key=A_KEY, read=2) + acquire('b', B, key=B_KEY, read=2) + acquire('c', C, key=C_KEY, read=1)
+        text = (acquire('a', A, key=A_KEY, read=2) + acquire('b', B, key=B_KEY, read=2)
+                + acquire('c', C, key=C_KEY, read=1))
         self.assertEqual(self.check(text), ["2 of 2 dependencies are in this boot's lockdep_chains"])
 
     def test_static_locks_and_subclasses(self):

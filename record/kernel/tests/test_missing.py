@@ -85,7 +85,8 @@ class HeldLong(unittest.TestCase):
     def test_a_lock_that_is_held_longer_than_the_rest(self):
         result = run(acquire('b', B, time=2) + release(B, time=3) + acquire('a', A, time=5) + line('x: y', time=9))
         self.assertIn(self.SAYS, result.errors)
-        result = run(stock('acquire', B, 'b', time=2) + stock('acquire', A, 'a', time=5) + stock('release', B, 'b', time=9))
+        result = run(stock('acquire', B, 'b', time=2) + stock('acquire', A, 'a', time=5)
+                     + stock('release', B, 'b', time=9))
         self.assertIn(self.SAYS, result.errors)
 
     def test_one_that_is_held_no_longer_than_that(self):
@@ -97,7 +98,8 @@ class HeldLong(unittest.TestCase):
         self.assertNotIn('longer than the rest', result.errors)
 
     def test_one_that_is_left_out(self):
-        result = run(acquire('b', B, time=4) + release(B, time=4) + acquire('a', A, check=0, time=5) + line('x: y', time=9))
+        result = run(acquire('b', B, time=4) + release(B, time=4) + acquire('a', A, check=0, time=5)
+                     + line('x: y', time=9))
         self.assertNotIn('longer than the rest', result.errors)
 
     def test_no_more_than_twenty_are_told(self):

@@ -137,7 +137,8 @@ class LeftOut(unittest.TestCase):
         self.assertIn('left out: 0 acquisitions by readers, 1 unchecked, and 1 releases of these', converted.errors)
 
     def test_all_readers_if_that_is_asked_for(self):
-        text = acquire('a', A) + acquire('b', B, read=READER) + acquire('a', C, read=RECURSIVE) + release(C) + release(B)
+        text = (acquire('a', A) + acquire('b', B, read=READER) + acquire('a', C, read=RECURSIVE) + release(C)
+                + release(B))
         converted = run(text, '--no-readers')
         self.assertEqual(converted.stream[1:], ['acquire t-1 a@1000'])
         self.assertIn('left out: 2 acquisitions by readers (--no-readers), 0 unchecked, and 2 releases of these',

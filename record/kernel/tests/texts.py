@@ -36,14 +36,17 @@ def line(what, task='t-1', columns='.....', cpu=0, time=1.0):
     return '%16s-%-7s [%03d] %s %12.6f: %s\n' % (comm, pid, cpu, columns, time, what)
 
 
-def acquire(name, lock, key=None, subclass=0, trylock=0, read=0, check=1, nest=0, before=None, **where):
+def acquire(name, lock, key=None, subclass=0, trylock=0, read=0, check=1, nest=0, before=None, symbol=None,
+            **where):
     """An acquisition as the module writes it. Without a key the class is named by the name alone.
 
-    `before` is how many locks lockdep has; without it the line is one of a module that didn't tell that yet.
+    `before` is how many locks lockdep has, and `symbol` what the key lies in; without them the line is one of a
+    module that didn't tell that yet.
     """
     key = 0x9000 + 0x100 * sum(name.encode()) if key is None else key
+    told = ('' if before is None else 'h=%d ' % before) + ('' if symbol is None else 'y=%s ' % symbol)
     return line('acquire: %016x k=%016x s=%d t=%d r=%d c=%d n=%016x %si=caller+0x1/0x2 %s' % (
-        lock, key, subclass, trylock, read, check, nest, '' if before is None else 'h=%d ' % before, name), **where)
+        lock, key, subclass, trylock, read, check, nest, told, name), **where)
 
 
 def release(lock, **where):
