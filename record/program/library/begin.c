@@ -48,9 +48,11 @@ static bool read_settings(void)
 {
     const char *where = getenv("LOCKCHECK_RECORD_DIRECTORY");
     const char *places = getenv("LOCKCHECK_RECORD_PLACES");
+    const char *readers = getenv("LOCKCHECK_RECORD_READERS");
     if (!where || strlen(where) >= sizeof directory)
         return false;
     wants_places = places && strcmp(places, "1") == 0;
+    leaves_readers_out = readers && strcmp(readers, "0") == 0;
     strcpy(directory, where);
     return true;
 }

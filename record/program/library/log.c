@@ -141,7 +141,7 @@ void record_destroy(const void *lock)
 
 void record_got(enum operation operation, const void *lock, const struct frame *frame)
 {
-    if (!enter())
+    if (operation == RECORD_NOTHING || !enter())
         return;
     uint64_t *place = place_of((uint64_t)lock);
     if (__atomic_load_n(place, __ATOMIC_RELAXED) != (uint64_t)lock) {
@@ -152,16 +152,17 @@ void record_got(enum operation operation, const void *lock, const struct frame *
     leave();
 }
 
-/* Notes that this thread is about to wait for a lock. One that wasn't told yet isn't now either: its
-   class is that of who takes it first, if anyone does. */
-void record_wait(const void *lock, const struct frame *frame)
+/* Notes that this thread is about to wait for a lock, and what it wants of it. One that wasn't told yet
+   isn't now either: its class is that of who takes it first, if anyone does. */
+void record_wait(enum operation wanted, const void *lock, const struct frame *frame)
 {
     if (!enter())
         return;
+    enum operation operation = wanted == RECORD_READ ? RECORD_WAIT_READ : RECORD_WAIT;
     unsigned place = wants_places ? place_of_frame(frame) : 0;
     if (__atomic_load_n(place_of((uint64_t)lock), __ATOMIC_RELAXED) == (uint64_t)lock)
-        write_one(RECORD_WAIT, (uint64_t)lock, place);
+        write_one(operation, (uint64_t)lock, place);
     else
-        write_place(RECORD_WAIT, (uint64_t)lock, place);
+        write_place(operation, (uint64_t)lock, place);
     leave();
 }

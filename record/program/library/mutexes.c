@@ -17,10 +17,11 @@ static bool is_got(int answer)
 WRAP_INIT(pthread_mutex_init, pthread_mutex_t, const pthread_mutexattr_t *)
 WRAP_DESTROY(pthread_mutex_destroy, pthread_mutex_t)
 
-WRAP_TRY(is_got, pthread_mutex_trylock, pthread_mutex_t)
-WRAP_TAKE(is_got, pthread_mutex_lock, pthread_mutex_trylock, pthread_mutex_t)
-WRAP_TIMED(is_got, pthread_mutex_timedlock, pthread_mutex_trylock, pthread_mutex_t, true)
-WRAP_CLOCKED(is_got, pthread_mutex_clocklock, pthread_mutex_trylock, pthread_mutex_t, is_clock(clock))
+WRAP_TRY(is_got, RECORD_TRY, pthread_mutex_trylock, pthread_mutex_t)
+WRAP_TAKE(is_got, RECORD_ACQUIRE, pthread_mutex_lock, pthread_mutex_trylock, pthread_mutex_t)
+WRAP_TIMED(is_got, RECORD_ACQUIRE, pthread_mutex_timedlock, pthread_mutex_trylock, pthread_mutex_t, true)
+WRAP_CLOCKED(is_got, RECORD_ACQUIRE, pthread_mutex_clocklock, pthread_mutex_trylock, pthread_mutex_t,
+             is_clock(clock))
 
 EXPORTED int pthread_mutex_unlock(pthread_mutex_t *mutex)
 {
@@ -93,9 +94,9 @@ static bool is_got_c11(int answer)
     return answer == thrd_success;
 }
 
-WRAP_TRY(is_got_c11, mtx_trylock, mtx_t)
-WRAP_TAKE(is_got_c11, mtx_lock, mtx_trylock, mtx_t)
-WRAP_TIMED(is_got_c11, mtx_timedlock, mtx_trylock, mtx_t, true)
+WRAP_TRY(is_got_c11, RECORD_TRY, mtx_trylock, mtx_t)
+WRAP_TAKE(is_got_c11, RECORD_ACQUIRE, mtx_lock, mtx_trylock, mtx_t)
+WRAP_TIMED(is_got_c11, RECORD_ACQUIRE, mtx_timedlock, mtx_trylock, mtx_t, true)
 
 EXPORTED int mtx_unlock(mtx_t *mutex)
 {

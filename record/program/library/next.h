@@ -24,6 +24,10 @@
     each(pthread_rwlock_trywrlock)  \
     each(pthread_rwlock_timedwrlock) \
     each(pthread_rwlock_clockwrlock) \
+    each(pthread_rwlock_rdlock)     \
+    each(pthread_rwlock_tryrdlock)  \
+    each(pthread_rwlock_timedrdlock) \
+    each(pthread_rwlock_clockrdlock) \
     each(pthread_rwlock_unlock)     \
     each(mtx_init)                  \
     each(mtx_destroy)               \

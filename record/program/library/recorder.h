@@ -85,7 +85,10 @@ void record(enum operation operation, const void *lock);
 void record_init(const void *lock);
 void record_destroy(const void *lock);
 void record_got(enum operation operation, const void *lock, const struct frame *frame);
-void record_wait(const void *lock, const struct frame *frame);
+void record_wait(enum operation wanted, const void *lock, const struct frame *frame);
+
+/* rwlocks.c */
+extern bool leaves_readers_out;
 
 /* frames.c */
 extern bool wants_places;

@@ -31,6 +31,17 @@ enum operation {
     RECORD_WAIT,    /* [lock] wasn't free: the thread begins to wait for it; where it wasn't told yet,
                        the calls that led there follow */
     RECORD_GIVE_UP, /* [lock] was waited for, and wasn't got */
+    /* Of a read-write lock whose readers are recursive: who reads it may read it again while a writer
+       waits. Its writers: */
+    RECORD_WRITE,     /* as RECORD_ACQUIRE */
+    RECORD_TRY_WRITE, /* as RECORD_TRY */
+    /* and its readers: */
+    RECORD_READ,      /* [lock] was got for reading by a call that may have waited */
+    RECORD_WAIT_READ, /* as RECORD_WAIT */
+    /* Of other read-write locks: */
+    RECORD_SHARE, /* as RECORD_READ */
+    /* Of all: */
+    RECORD_TRY_READ, /* [lock] was got for reading by a call that couldn't wait */
 };
 
 /* In `head`: the operation (5 bits), the number of units that follow (8), the place (16), which is 0

@@ -173,6 +173,21 @@ struct class *class_of_static(const struct modules *modules, uint64_t address)
     return class_named(name, places, TOLD_BY_STATIC);
 }
 
+/* Gives the class of what recursive readers of a class's locks wait for: `!read` behind its name. */
+struct class *readers_of(struct class *class)
+{
+    static const char end[] = "!read";
+    char name[TEXT_BYTES];
+    if (class->readers)
+        return class->readers;
+    snprintf(name, sizeof name, "%s", class->name);
+    cut_name(name, MOST_NAME - strlen(end));
+    append(name, end);
+    class->readers = class_named(name, class->places, class->telling);
+    class->readers->locks = class;
+    return class->readers;
+}
+
 /* Counts the classes that stand in a trace: some locks are initialised and never taken. */
 size_t class_count(void)
 {
@@ -202,12 +217,13 @@ void each_class(void (*see)(const struct class *))
 static void write_class(const struct class *class)
 {
     static char maker[TEXT_BYTES];
+    const struct class *made = class->locks ? class->locks : class;
     fprintf(stream, "# class %s %s\n", class->name, class->places);
     end_line(0, NULL);
-    if (!class->has_several_callers)
+    if (!made->has_several_callers)
         return;
     maker[0] = 0;
-    append_clean(maker, sizeof maker, class->maker, "");
+    append_clean(maker, sizeof maker, made->maker, "");
     fprintf(stream, "# maker %s %s\n", class->name, maker);
     end_line(0, NULL);
 }

@@ -17,19 +17,21 @@ static const char *const known[] = {
     "g_mutex_init", "g_mutex_lock", "g_mutex_trylock", "g_mutex_impl_new", "g_mutex_get_impl",
     "g_rec_mutex_init", "g_rec_mutex_lock", "g_rec_mutex_trylock", "g_rec_mutex_impl_new",
     "g_rec_mutex_get_impl", "g_rw_lock_init", "g_rw_lock_writer_lock", "g_rw_lock_writer_trylock",
-    "g_rw_lock_impl_new", "g_rw_lock_get_impl", "g_cond_wait", "g_cond_wait_until",
+    "g_rw_lock_reader_lock", "g_rw_lock_reader_trylock", "g_rw_lock_impl_new", "g_rw_lock_get_impl", "g_cond_wait", "g_cond_wait_until",
     /* apr */
     "apr_thread_mutex_create", "apr_thread_mutex_lock", "apr_thread_mutex_trylock",
     "apr_thread_mutex_timedlock", "apr_thread_rwlock_create", "apr_thread_rwlock_wrlock",
-    "apr_thread_rwlock_trywrlock", "apr_thread_cond_wait", "apr_thread_cond_timedwait",
+    "apr_thread_rwlock_trywrlock", "apr_thread_rwlock_rdlock",
+    "apr_thread_rwlock_tryrdlock", "apr_thread_cond_wait", "apr_thread_cond_timedwait",
     "apr_proc_mutex_create", "apr_proc_mutex_lock", "apr_global_mutex_create",
     "apr_global_mutex_lock",
     /* libuv */
     "uv_mutex_init", "uv_mutex_init_recursive", "uv_mutex_lock", "uv_mutex_trylock",
-    "uv_rwlock_init", "uv_rwlock_wrlock", "uv_rwlock_trywrlock", "uv_cond_wait",
+    "uv_rwlock_init", "uv_rwlock_wrlock", "uv_rwlock_trywrlock", "uv_rwlock_rdlock",
+    "uv_rwlock_tryrdlock", "uv_cond_wait",
     "uv_cond_timedwait",
     /* OpenSSL */
-    "CRYPTO_THREAD_lock_new", "CRYPTO_THREAD_write_lock",
+    "CRYPTO_THREAD_lock_new", "CRYPTO_THREAD_write_lock", "CRYPTO_THREAD_read_lock",
     /* boost */
     "boost::mutex::mutex", "boost::mutex::lock", "boost::mutex::try_lock",
     "boost::recursive_mutex::recursive_mutex", "boost::recursive_mutex::lock",

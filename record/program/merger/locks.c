@@ -48,7 +48,7 @@ void copy_locks(struct locks *to, const struct locks *from)
     for (size_t number = 0; number < from->count; number++) {
         to->all[number] = from->all[number];
         to->all[number].holder = 0;
-        to->all[number].written = false;
+        to->all[number].readers = 0;
         to->all[number].undo = UNDO_NOTHING;
     }
     to->slots = must(malloc((from->slot_count + 1) * sizeof *to->slots));

@@ -83,6 +83,8 @@ struct call {
 };
 
 struct class {
+    struct class *readers; /* what recursive readers of its locks wait for, or NULL */
+    struct class *locks;   /* of such a class: that of the locks, else NULL */
     char *name;
     char *places; /* how and where its locks came to be, for a reader */
     enum telling telling;
@@ -102,12 +104,28 @@ struct lock {
     uint64_t address;
     struct class *class; /* none where there is no lock now */
     uint64_t instance;
-    uint32_t place;  /* of the program, where it was taken */
-    uint32_t holder; /* a task, or 0 */
-    uint32_t last_holder;
+    uint32_t holder;  /* the task that has it alone, or 0 */
+    uint32_t readers; /* how many times it is held by tasks that share it */
     uint32_t level;
-    bool written; /* the stream says that it is held */
+    uint32_t last_holder;
+    uint32_t last_place; /* of the program, where that took it */
     enum undo undo;
+};
+
+/* That a task holds a lock. */
+struct hold {
+    uint32_t lock;   /* its number */
+    uint32_t place;  /* of the program, where it was taken */
+    bool is_shared;  /* by a reader */
+    bool is_split;   /* by a writer, which holds what the readers wait for too */
+    bool is_written; /* the stream says so */
+};
+
+/* How a lock was got. */
+struct taking {
+    bool waits; /* or might have */
+    bool is_shared;
+    bool is_recursive; /* the lock's readers may read it again while a writer waits */
 };
 
 struct locks {
@@ -134,7 +152,7 @@ struct wait {
 struct start {
     struct locks locks;
     struct modules modules;
-    uint32_t *held; /* locks, by number */
+    struct hold *held;
     size_t held_count;
 };
 
@@ -216,6 +234,7 @@ bool telling_call(const struct modules *modules, const uint64_t *calls, unsigned
 struct class *class_of_calls(const struct modules *modules, const char *how,
                              const struct unit *first, unsigned following);
 struct class *class_of_static(const struct modules *modules, uint64_t address);
+struct class *readers_of(struct class *class);
 size_t class_count(void);
 size_t classes_told(enum telling telling);
 void each_class(void (*see)(const struct class *));
@@ -239,11 +258,14 @@ bool remove_places(const char *stream_path);
 /* trace.c */
 void begin_writer(const char *label, size_t process);
 void end_writer(void);
-void hold_from_start(uint32_t task, struct locks *locks, uint32_t number);
-void write_got(const char *verb, uint32_t task, struct locks *locks, struct lock *lock);
-void write_released(struct lock *lock, struct locks *locks);
-void write_waiting(uint32_t task, struct locks *locks, const struct lock *lock, uint32_t place);
-size_t held_by(uint32_t task, const uint32_t **held);
+void hold_from_start(uint32_t task, struct locks *locks, struct hold hold);
+void write_got(struct taking taking, uint32_t task, struct locks *locks, struct lock *lock, uint32_t place);
+void write_waiting(bool is_recursive, uint32_t task, struct locks *locks, const struct lock *lock,
+                   uint32_t place);
+void write_released(uint32_t task, struct lock *lock, struct locks *locks);
+bool does_hold(uint32_t task, const struct locks *locks, const struct lock *lock);
+uint32_t next_holder(uint32_t task, const struct locks *locks, const struct lock *lock);
+size_t held_by(uint32_t task, const struct hold **held);
 
 /* waits.c */
 void begin_wait(uint32_t task, const struct unit *first);

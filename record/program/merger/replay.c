@@ -1,17 +1,27 @@
 /* Goes over the records of one process in the order of their numbers. */
 #include <inttypes.h>
 #include <stdlib.h>
+#include <string.h>
 
 #include "merger.h"
 
 static struct locks locks;
 static struct modules modules;
 
+/* Nobody holds the lock any more. */
+static void end_holds(struct lock *lock)
+{
+    if (lock->holder)
+        write_released(lock->holder, lock, &locks);
+    for (uint32_t task = 0; lock->readers && (task = next_holder(task, &locks, lock));)
+        write_released(task, lock, &locks);
+    lock->readers = 0;
+}
+
 /* A lock begins anew at its address. What was held there before is no more. */
 static void begin_lock(struct lock *lock, struct class *class)
 {
-    if (lock->holder)
-        write_released(lock, &locks);
+    end_holds(lock);
     lock->class = class;
     lock->instance = class ? ++class->instances : 0;
     lock->undo = UNDO_NOTHING;
@@ -28,36 +38,47 @@ static void on_first(uint64_t address, const struct unit *first, unsigned follow
     begin_lock(lock, class);
 }
 
+static struct taking taking_by(enum operation got)
+{
+    return (struct taking){
+        .waits = got == RECORD_ACQUIRE || got == RECORD_WRITE || got == RECORD_READ || got == RECORD_SHARE,
+        .is_shared = got == RECORD_READ || got == RECORD_SHARE || got == RECORD_TRY_READ,
+        .is_recursive = got == RECORD_READ || got == RECORD_WRITE || got == RECORD_TRY_WRITE,
+    };
+}
+
 /* A lock that someone else is seen to get was given back by a call that wasn't seen, or by the end of
    its holder. Inner levels of a recursive mutex aren't written. */
-static void on_got(const char *verb, uint32_t task, const struct unit *first)
+static void on_got(enum operation operation, uint32_t task, const struct unit *first)
 {
-    uint64_t address = first->value;
-    struct lock *lock = find_lock(&locks, address, true);
-    end_wait(task, address);
+    struct lock *lock = find_lock(&locks, first->value, true);
+    struct taking taking = taking_by(operation);
+    end_wait(task, first->value);
     if (!lock->class)
         begin_lock(lock, class_of_calls(&modules, "first", first, 0));
-    if (lock->holder == task) {
+    if (lock->holder == task && !taking.is_shared) {
         lock->level++;
         return;
     }
-    if (lock->holder)
-        write_released(lock, &locks);
-    lock->place = place_numbered(HEAD_PLACE(first->head));
-    write_got(verb, task, &locks, lock);
+    if (lock->holder || (lock->readers && !taking.is_shared))
+        end_holds(lock);
+    write_got(taking, task, &locks, lock, place_numbered(HEAD_PLACE(first->head)));
 }
 
-/* Whoever gives the lock back: it is its holder's no more. */
-static void on_release(uint64_t address)
+/* Whoever gives the lock back: it is its holder's no more. Who reads it gives back what it has of its own. */
+static void on_release(uint32_t task, uint64_t address)
 {
     struct lock *lock = find_lock(&locks, address, false);
-    if (!lock || !lock->holder)
+    if (!lock || (!lock->holder && !lock->readers))
         return;
-    if (lock->level > 1) {
+    if (!lock->holder) {
+        uint32_t reader = does_hold(task, &locks, lock) ? task : next_holder(0, &locks, lock);
+        write_released(reader, lock, &locks);
+    } else if (lock->level > 1) {
         lock->level--;
         lock->undo = UNDO_LEVEL;
     } else {
-        write_released(lock, &locks);
+        write_released(lock->holder, lock, &locks);
         lock->undo = UNDO_HOLD;
     }
 }
@@ -70,7 +91,7 @@ static void on_undo(uint64_t address)
     if (lock->undo == UNDO_LEVEL && lock->holder)
         lock->level++;
     if (lock->undo == UNDO_HOLD && !lock->holder)
-        write_got("try", lock->last_holder, &locks, lock);
+        write_got(taking_by(RECORD_TRY), lock->last_holder, &locks, lock, lock->last_place);
     lock->undo = UNDO_NOTHING;
 }
 
@@ -85,7 +106,8 @@ static void step(const struct unit *first, uint32_t task)
 {
     uint64_t value = first->value;
     unsigned following = HEAD_FOLLOWING(first->head);
-    switch (HEAD_OPERATION(first->head)) {
+    enum operation operation = HEAD_OPERATION(first->head);
+    switch (operation) {
     case RECORD_MODULE:
         add_module(&modules, first, following);
         break;
@@ -104,18 +126,22 @@ static void step(const struct unit *first, uint32_t task)
         on_destroy(value);
         break;
     case RECORD_ACQUIRE:
-        on_got("acquire", task, first);
-        break;
     case RECORD_TRY:
-        on_got("try", task, first);
+    case RECORD_WRITE:
+    case RECORD_TRY_WRITE:
+    case RECORD_READ:
+    case RECORD_SHARE:
+    case RECORD_TRY_READ:
+        on_got(operation, task, first);
         break;
     case RECORD_RELEASE:
-        on_release(value);
+        on_release(task, value);
         break;
     case RECORD_UNDO:
         on_undo(value);
         break;
     case RECORD_WAIT:
+    case RECORD_WAIT_READ:
         begin_wait(task, first);
         break;
     case RECORD_GIVE_UP:
@@ -134,7 +160,8 @@ static void survey_step(const struct unit *first, uint32_t task)
     (void)task;
     if (operation == RECORD_MODULE)
         add_module(&modules, first, following);
-    if (operation == RECORD_INIT || operation == RECORD_FIRST || operation == RECORD_WAIT)
+    if (operation == RECORD_INIT || operation == RECORD_FIRST || operation == RECORD_WAIT ||
+        operation == RECORD_WAIT_READ)
         ask_for_calls(&modules, (const uint64_t *)&first[1], 2 * following);
     if (operation == RECORD_PLACE && following)
         ask_for_place(&modules, first);
@@ -143,7 +170,7 @@ static void survey_step(const struct unit *first, uint32_t task)
 /* Keeps what a child of a fork begins with. */
 static void keep_start(struct recording *child)
 {
-    const uint32_t *held;
+    const struct hold *held;
     size_t count = held_by((uint32_t)child->process->parent_task, &held);
     struct start *start = &child->start;
     copy_locks(&start->locks, &locks);
@@ -152,8 +179,8 @@ static void keep_start(struct recording *child)
     for (size_t module = 0; module < modules.count; module++)
         start->modules.all[module] = modules.all[module];
     start->held = must(malloc((count + 1) * sizeof *held));
-    for (size_t lock = 0; lock < count; lock++)
-        start->held[lock] = held[lock];
+    for (size_t hold = 0; hold < count; hold++)
+        start->held[hold] = held[hold];
     start->held_count = count;
 }
 
@@ -189,19 +216,30 @@ static uint64_t next_fork(struct recording *all, size_t count, size_t which, con
     return next;
 }
 
-/* Says that a task waits for a lock where the trace ends, and who holds it. */
+/* Says who holds a lock that a task waits for: of its readers the first one, and how many more there are. */
+static void name_holder(char *text, size_t size, const struct lock *lock, uint32_t task)
+{
+    uint32_t holder = lock->holder;
+    if (lock->readers)
+        holder = does_hold(task, &locks, lock) ? task : next_holder(0, &locks, lock);
+    if (holder == task)
+        snprintf(text, size, "itself");
+    else if (holder)
+        snprintf(text, size, "t%" PRIu32, holder);
+    else
+        snprintf(text, size, "nobody that is known");
+    if (lock->readers > 1)
+        snprintf(text + strlen(text), size - strlen(text), " and %" PRIu32 " more", lock->readers - 1);
+}
+
+/* Says that a task waits for a lock where the trace ends. */
 static void say_wait(const struct recording *all, size_t count, size_t which, uint32_t task,
                      const struct lock *lock)
 {
     char holder[64];
     bool is_cut = all[which].process->ended != ENDED_NOT;
     const char *ended = !is_cut && still_runs(all, count, which) ? "still ran" : "ended";
-    if (lock->holder == task)
-        snprintf(holder, sizeof holder, "itself");
-    else if (lock->holder)
-        snprintf(holder, sizeof holder, "t%" PRIu32, lock->holder);
-    else
-        snprintf(holder, sizeof holder, "nobody that is known");
+    name_holder(holder, sizeof holder, lock, task);
     say("%sprocess %zu %s while t%" PRIu32 " waited for %s, held by %s",
         is_cut ? "the recording of " : "", which + 1, ended, task, lock->class->name, holder);
 }
@@ -215,7 +253,8 @@ static void write_waits(const struct recording *all, size_t count, size_t which)
         const struct unit *first = waits[number].first;
         on_first(first->value, first, HEAD_FOLLOWING(first->head));
         const struct lock *lock = find_lock(&locks, first->value, true);
-        write_waiting(waits[number].task, &locks, lock, place_numbered(HEAD_PLACE(first->head)));
+        write_waiting(HEAD_OPERATION(first->head) == RECORD_WAIT_READ, waits[number].task, &locks, lock,
+                      place_numbered(HEAD_PLACE(first->head)));
         say_wait(all, count, which, waits[number].task, lock);
     }
     forget_waits();

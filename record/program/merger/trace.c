@@ -6,10 +6,10 @@
 #include "merger.h"
 
 struct task {
-    uint32_t *held; /* locks, by number, the latest last */
+    struct hold *held; /* the latest last */
     size_t held_count;
     size_t held_room;
-    unsigned written; /* how many of them the stream says to be held */
+    unsigned written; /* how many locks the stream says that it holds */
     uint64_t trace;   /* the latest trace that it is in */
 };
 
@@ -45,25 +45,25 @@ static struct task *task_at(uint32_t number)
     return &tasks[number];
 }
 
-size_t held_by(uint32_t task, const uint32_t **held)
+size_t held_by(uint32_t task, const struct hold **held)
 {
     *held = task_at(task)->held;
     return task_at(task)->held_count;
 }
 
-static void write_event(const char *verb, uint32_t task, const struct lock *lock, uint32_t place)
+static void write_event(const char *verb, uint32_t task, struct class *class, const struct lock *lock,
+                        uint32_t place)
 {
     if (task_at(task)->trace != totals.traces) {
         task_at(task)->trace = totals.traces;
         tasks_of_trace++;
     }
-    if (lock->class->trace != totals.traces) {
-        lock->class->trace = totals.traces;
+    if (class->trace != totals.traces) {
+        class->trace = totals.traces;
         classes_of_trace++;
     }
-    fprintf(stream, "%s t%" PRIu32 " %s@%" PRIu64 "\n", verb, task, lock->class->name,
-            lock->instance);
-    end_line(place, lock->class);
+    fprintf(stream, "%s t%" PRIu32 " %s@%" PRIu64 "\n", verb, task, class->name, lock->instance);
+    end_line(place, class);
     totals.events++;
 }
 
@@ -83,107 +83,174 @@ static void write_header(void)
     classes_of_trace = 0;
 }
 
-/* A new trace takes up what is held. One task and one class stay free for who comes next, so what
+/* How many locks of a trace one is that is held so. */
+static unsigned locks_of(const struct hold *hold)
+{
+    return hold->is_split ? 2 : 1;
+}
+
+/* A new trace takes up what is held. One task and two classes stay free for who comes next, so what
    would fill the trace at once is left out. */
+static void take_up(const struct locks *locks, uint32_t number, struct hold *hold)
+{
+    struct task *task = &tasks[number];
+    const struct lock *lock = &locks->all[hold->lock];
+    hold->is_written = task->written + locks_of(hold) <= MOST_HELD && tasks_of_trace < MOST_TASKS - 1 &&
+                       classes_of_trace + locks_of(hold) <= MOST_CLASSES - 2;
+    if (!hold->is_written) {
+        totals.not_taken_up++;
+        return;
+    }
+    task->written += locks_of(hold);
+    write_event("try", number, lock->class, lock, hold->place);
+    if (hold->is_split)
+        write_event("try", number, lock->class->readers, lock, hold->place);
+}
+
 static void open_trace(const struct locks *locks)
 {
     write_header();
     for (uint32_t number = 0; number < task_count; number++) {
-        struct task *task = &tasks[number];
-        task->written = 0;
-        for (size_t place = 0; place < task->held_count; place++) {
-            struct lock *lock = &locks->all[task->held[place]];
-            lock->written = task->written < MOST_HELD && tasks_of_trace < MOST_TASKS - 1 &&
-                            classes_of_trace < MOST_CLASSES - 1;
-            if (lock->written) {
-                task->written++;
-                write_event("try", number, lock, lock->place);
-            } else {
-                totals.not_taken_up++;
-            }
-        }
+        tasks[number].written = 0;
+        for (size_t place = 0; place < tasks[number].held_count; place++)
+            take_up(locks, number, &tasks[number].held[place]);
     }
 }
 
-static bool must_open(const struct task *task, const struct class *class)
+static unsigned is_new(const struct class *class)
 {
-    return traces_of_process == 0 ||
-           (task->trace != totals.traces && tasks_of_trace == MOST_TASKS) ||
-           (class->trace != totals.traces && classes_of_trace == MOST_CLASSES);
+    return class && class->trace != totals.traces;
 }
 
-static void push(struct task *task, uint32_t lock)
+/* Opens a trace where there is none, or where the task and the classes find no room in it. */
+static void make_room(const struct locks *locks, const struct task *task, const struct class *class,
+                      const struct class *other)
+{
+    if (traces_of_process == 0 || (task->trace != totals.traces && tasks_of_trace == MOST_TASKS) ||
+        classes_of_trace + is_new(class) + is_new(other) > MOST_CLASSES)
+        open_trace(locks);
+}
+
+static void push(struct task *task, struct hold hold)
 {
     task->held = grown(task->held, task->held_count, &task->held_room, sizeof *task->held);
-    task->held[task->held_count++] = lock;
+    task->held[task->held_count++] = hold;
 }
 
 /* A child of a fork begins with the locks that the thread which forked it held. */
-void hold_from_start(uint32_t task, struct locks *locks, uint32_t number)
+void hold_from_start(uint32_t task, struct locks *locks, struct hold hold)
 {
-    struct lock *lock = &locks->all[number];
-    lock->holder = task;
-    push(task_at(task), number);
+    struct lock *lock = &locks->all[hold.lock];
+    if (hold.is_shared)
+        lock->readers++;
+    else
+        lock->holder = task;
+    push(task_at(task), hold);
 }
 
 static bool holds_class(const struct task *task, const struct locks *locks, const struct class *class)
 {
     for (size_t place = 0; place < task->held_count; place++)
-        if (locks->all[task->held[place]].class == class)
+        if (locks->all[task->held[place].lock].class == class)
             return true;
     return false;
 }
 
-void write_got(const char *verb, uint32_t number, struct locks *locks, struct lock *lock)
+/* Writes that a task got a lock (docs/RECORD.md, Readers). A lock with recursive readers is two: who
+   reads it holds the first one, and enters it without waiting for other readers; who writes it holds both.
+   What a reader waits for is the second one, which it passes. */
+void write_got(struct taking taking, uint32_t number, struct locks *locks, struct lock *lock, uint32_t place)
 {
     struct task *task = task_at(number);
-    if (must_open(task, lock->class))
-        open_trace(locks);
-    lock->class->under_itself += holds_class(task, locks, lock->class);
-    lock->holder = number;
-    lock->level = 1;
-    lock->written = task->written < MOST_HELD;
-    push(task, (uint32_t)(lock - locks->all));
-    if (lock->written) {
-        task->written++;
-        write_event(verb, number, lock, lock->place);
+    struct class *class = lock->class;
+    struct class *readers = taking.is_recursive ? readers_of(class) : class->readers;
+    struct hold hold = {.lock = (uint32_t)(lock - locks->all), .place = place, .is_shared = taking.is_shared};
+    hold.is_split = !taking.is_shared && readers;
+    bool passes = taking.is_shared && taking.is_recursive && taking.waits && task->held_count > 0;
+    make_room(locks, task, class, hold.is_split || passes ? readers : NULL);
+    class->under_itself += !passes && holds_class(task, locks, class);
+    hold.is_written = task->written + locks_of(&hold) <= MOST_HELD;
+    if (taking.is_shared) {
+        lock->readers++;
     } else {
-        totals.too_deep++;
+        lock->holder = number;
+        lock->level = 1;
     }
+    push(task, hold);
+    if (!hold.is_written) {
+        totals.too_deep++;
+        return;
+    }
+    task->written += locks_of(&hold);
+    if (passes) {
+        write_event("acquire", number, readers, lock, place);
+        write_event("release", number, readers, lock, 0);
+    }
+    bool waits = taking.waits && !(taking.is_shared && taking.is_recursive);
+    write_event(waits ? "acquire" : "try", number, class, lock, place);
+    if (hold.is_split)
+        write_event("try", number, readers, lock, place);
 }
 
 /* A lock that a task still waits for where the trace ends: an acquisition too, since a dependency says
    that a lock was attempted. */
-void write_waiting(uint32_t number, struct locks *locks, const struct lock *lock, uint32_t place)
+void write_waiting(bool is_recursive, uint32_t number, struct locks *locks, const struct lock *lock,
+                   uint32_t place)
 {
     struct task *task = task_at(number);
-    if (must_open(task, lock->class))
-        open_trace(locks);
+    struct class *class = is_recursive ? readers_of(lock->class) : lock->class;
+    make_room(locks, task, class, NULL);
     lock->class->under_itself += holds_class(task, locks, lock->class);
     if (task->written < MOST_HELD)
-        write_event("acquire", number, lock, place);
+        write_event("acquire", number, class, lock, place);
     else
         totals.too_deep++;
 }
 
-/* The holder's latest locks are looked at first: most are given back in turn. */
-void write_released(struct lock *lock, struct locks *locks)
+/* Gives where a task's latest hold of a lock is among those of the task, counted from 1, or 0. */
+static size_t find_hold(const struct task *task, uint32_t lock)
 {
-    struct task *task = task_at(lock->holder);
-    uint32_t number = (uint32_t)(lock - locks->all);
     size_t place = task->held_count;
-    while (place > 0 && task->held[place - 1] != number)
+    while (place > 0 && task->held[place - 1].lock != lock)
         place--;
-    if (place > 0) {
-        memmove(&task->held[place - 1], &task->held[place],
-                (task->held_count - place) * sizeof *task->held);
-        task->held_count--;
+    return place;
+}
+
+bool does_hold(uint32_t task, const struct locks *locks, const struct lock *lock)
+{
+    return find_hold(task_at(task), (uint32_t)(lock - locks->all)) > 0;
+}
+
+/* Gives a task that holds the lock, from one on, or 0 where there is none. */
+uint32_t next_holder(uint32_t task, const struct locks *locks, const struct lock *lock)
+{
+    for (; task < task_count; task++)
+        if (does_hold(task, locks, lock))
+            return task;
+    return 0;
+}
+
+/* A task's latest hold of a lock ends. Mostly the latest locks are given back first. */
+void write_released(uint32_t number, struct lock *lock, struct locks *locks)
+{
+    struct task *task = task_at(number);
+    size_t place = find_hold(task, (uint32_t)(lock - locks->all));
+    if (lock->holder == number) {
+        lock->last_holder = number;
+        lock->holder = 0;
+    } else if (lock->readers > 0) {
+        lock->readers--;
     }
-    if (lock->written) {
-        task->written--;
-        write_event("release", lock->holder, lock, 0);
-    }
-    lock->last_holder = lock->holder;
-    lock->holder = 0;
-    lock->written = false;
+    if (place == 0)
+        return;
+    struct hold hold = task->held[place - 1];
+    memmove(&task->held[place - 1], &task->held[place], (task->held_count - place) * sizeof *task->held);
+    task->held_count--;
+    lock->last_place = hold.place;
+    if (!hold.is_written)
+        return;
+    task->written -= locks_of(&hold);
+    if (hold.is_split)
+        write_event("release", number, lock->class->readers, lock, 0);
+    write_event("release", number, lock->class, lock, 0);
 }

@@ -2,10 +2,10 @@
  * A circle through three locks: a mutex, the write side of a read-write lock, and a spin lock.
  *
  * Report:
- * traces 1 refused 0 events 12 classes 3 dependencies 3
+ * traces 1 refused 0 events 16 classes 4 dependencies 4
  * inversion circle:A -> circle:B at circle-1:4 via circle:B -> main:circle.c:46 -> circle:A
- * inversion circle:B -> main:circle.c:46 at circle-1:8 via main:circle.c:46 -> circle:A -> circle:B
- * inversion main:circle.c:46 -> circle:A at circle-1:12 via circle:A -> circle:B -> main:circle.c:46
+ * inversion circle:B -> main:circle.c:46 at circle-1:11 via main:circle.c:46 -> circle:A -> circle:B
+ * inversion main:circle.c:46 -> circle:A at circle-1:16 via circle:A -> circle:B -> main:circle.c:46
  * violations 3
  */
 #include "planted.h"

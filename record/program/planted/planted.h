@@ -31,4 +31,10 @@ static inline void run_thread(void *(*work)(void *))
     must(pthread_join(thread, NULL) == 0);
 }
 
+static inline void take_and_give(pthread_mutex_t *lock)
+{
+    must(pthread_mutex_lock(lock) == 0);
+    must(pthread_mutex_unlock(lock) == 0);
+}
+
 #endif
