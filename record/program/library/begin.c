@@ -26,6 +26,9 @@
 struct life *life;
 __thread struct self self __attribute__((tls_model("initial-exec")));
 
+/* Valgrind doesn't take the call by which a chunk is mapped. */
+bool is_under_valgrind;
+
 static char directory[2048];
 /* These two live on in a child of a fork, and say whose child it is. */
 static struct process *latest;
@@ -49,9 +52,11 @@ static bool read_settings(void)
     const char *where = getenv("LOCKCHECK_RECORD_DIRECTORY");
     const char *places = getenv("LOCKCHECK_RECORD_PLACES");
     const char *readers = getenv("LOCKCHECK_RECORD_READERS");
+    const char *loaded = getenv("LD_PRELOAD");
     if (!where || strlen(where) >= sizeof directory)
         return false;
     wants_places = places && strcmp(places, "1") == 0;
+    is_under_valgrind = loaded && strstr(loaded, "/vgpreload_");
     leaves_readers_out = readers && strcmp(readers, "0") == 0;
     strcpy(directory, where);
     return true;

@@ -26,7 +26,7 @@ static struct chunk *map_chunk(struct process *process, uint64_t number)
     munlock(process, PROCESS_BYTES);
     char *copy = mremap(process, 0, before + CHUNK_BYTES, MREMAP_MAYMOVE);
     if (copy == MAP_FAILED) {
-        end_recording(ENDED_NO_MEMORY);
+        end_recording(is_under_valgrind ? ENDED_BY_VALGRIND : ENDED_NO_MEMORY);
         return NULL;
     }
     munmap(copy, before);

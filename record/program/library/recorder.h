@@ -72,6 +72,7 @@ extern struct life *life;
 extern __thread struct self self __attribute__((tls_model("initial-exec")));
 
 /* begin.c */
+extern bool is_under_valgrind;
 bool begin(void);
 void end_recording(enum ended why);
 

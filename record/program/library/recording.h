@@ -77,7 +77,7 @@ struct chunk {
 };
 
 /* Why the recording of a process ended before the process did. */
-enum ended { ENDED_NOT, ENDED_NO_SPACE, ENDED_NO_MEMORY };
+enum ended { ENDED_NOT, ENDED_NO_SPACE, ENDED_NO_MEMORY, ENDED_BY_VALGRIND };
 
 struct process {
     uint64_t magic;

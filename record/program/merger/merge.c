@@ -2,7 +2,7 @@
  * merge DIRECTORY STREAM LABEL PLACES [FUNCTION ..]: puts the files of a recording together as one stream of
  * traces, and says on standard error how much it was. With 1 for PLACES the places at which locks were
  * taken go to STREAM.places. The functions are those through which the program
- * makes its locks. The status is 0 where the stream was written.
+ * makes its locks. The status is 0 where the stream was written, 1 where no process was recorded.
  */
 #define _GNU_SOURCE
 #include <errno.h>
@@ -12,6 +12,8 @@
 #include <sys/stat.h>
 
 #include "merger.h"
+
+enum status { WRITTEN, NOTHING_RECORDED, NOT_WRITTEN };
 
 FILE *stream;
 struct totals totals;
@@ -24,6 +26,8 @@ static void say_ends(const struct recording *all, size_t count)
             say("process %zu: recording ended before it did: no space on the disk", number + 1);
         if (process->ended == ENDED_NO_MEMORY)
             say("process %zu: recording ended before it did: no address space", number + 1);
+        if (process->ended == ENDED_BY_VALGRIND)
+            say("process %zu ran under valgrind, and the recorder can't", number + 1);
         if (process->lost_children)
             say("process %zu: %" PRIu64 " of its children couldn't be recorded", number + 1,
                 process->lost_children);
@@ -34,6 +38,8 @@ static void say_ends(const struct recording *all, size_t count)
 
 static void say_limits(int64_t bytes)
 {
+    if (totals.events == 0)
+        say("no process took a lock that the recorder sees: no report on the stream says anything");
     if (totals.too_deep)
         say("%" PRIu64 " locks were left out: their task held %d already", totals.too_deep,
             MOST_HELD);
@@ -98,19 +104,17 @@ int main(int argument_count, char **arguments)
 {
     struct recording *all;
     if (argument_count < 5)
-        return 2;
+        return NOT_WRITTEN;
     through = arguments + 5;
     through_count = (size_t)argument_count - 5;
     through_met = must(calloc(through_count + 1, sizeof *through_met));
     size_t count = read_recordings(arguments[1], &all);
-    if (count == 0) {
-        say("no process was recorded");
-        return 1;
-    }
+    if (count == 0)
+        return NOTHING_RECORDED;
     stream = fopen(arguments[2], "we");
     if (!stream) {
         say("%s: %s", arguments[2], strerror(errno));
-        return 2;
+        return NOT_WRITTEN;
     }
     setvbuf(stream, NULL, _IOFBF, 1 << 20);
     bool wants_places = strcmp(arguments[4], "1") == 0 && is_file(stream);
@@ -122,7 +126,7 @@ int main(int argument_count, char **arguments)
     bool whole = !ferror(stream);
     if (fclose(stream) != 0 || !whole) {
         say("%s: the stream couldn't be written", arguments[2]);
-        return 2;
+        return NOT_WRITTEN;
     }
     if (!(wants_places ? has_places && close_places(arguments[2]) : remove_places(arguments[2])))
         say("%s.places couldn't be %s", arguments[2], wants_places ? "written" : "removed");
@@ -131,5 +135,5 @@ int main(int argument_count, char **arguments)
     say_classes();
     say("%s: %" PRIu64 " events, %zu classes, %zu processes, %" PRIu64 " traces", arguments[2],
         totals.events, class_count(), count, totals.traces);
-    return 0;
+    return WRITTEN;
 }

@@ -1,0 +1,85 @@
+"""What `run` says of a stream before the program runs, and where there is nothing to record."""
+
+import os
+import shutil
+import signal
+
+from planting import SAYS, call, must, record, said
+
+NO_LOCK = SAYS + "no process took a lock that the recorder sees: no report on the stream says anything\n"
+
+
+def old(path):
+    """Makes what an earlier recording left."""
+    for name in (path, path + ".places"):
+        with open(name, "w", encoding="ascii") as file:
+            file.write("trace old\n")
+
+
+def check_old_stream(directory):
+    """An earlier recording is gone before the program runs, also where that is killed with `run`."""
+    stream = os.path.join(directory, "old.trace")
+    old(stream)
+    answer = record(stream, "old", ["sh", "-c", f"ls {stream} {stream}.places; kill -KILL $PPID"])
+    must((answer.returncode, answer.stdout) == (-signal.SIGKILL, ""),
+         f"old stream: {answer.returncode} {answer.stdout}")
+    must(not os.path.exists(stream), "there is a stream of an earlier recording")
+    link = os.path.join(directory, "link.trace")
+    old(stream)
+    os.symlink(stream, link)
+    record(link, "old", ["true"])
+    with open(stream, encoding="ascii") as lines:
+        must(os.path.islink(link) and "old" not in lines.read(), "a link isn't followed to the stream")
+
+
+def check_no_folder(directory):
+    """A stream that can't be written is refused before the program runs."""
+    ran = os.path.join(directory, "ran")
+    nowhere = os.path.join(directory, "nowhere")
+    for stream, text in ((os.path.join(nowhere, "t"), f"there is no folder {nowhere}"),
+                         (directory, "is a folder")):
+        answer = record(stream, "none", ["touch", ran])
+        must((answer.returncode, answer.stderr) == (125, f"{SAYS}{stream}: {text}\n"),
+             f"{stream}: {answer.returncode} {answer.stderr}")
+    must(not os.path.exists(ran), "the program ran though its stream can't be written")
+    answer = record("/dev/null", "none", ["true"])
+    must(answer.returncode == 0, f"/dev/null: {answer.stderr}")
+
+
+def check_nothing_seen(directory):
+    """A program that can't be recorded is said to be what it is, also one that a script names; and there is
+    no stream. The status is its own."""
+    program, script = os.path.join(directory, "static"), os.path.join(directory, "script")
+    compiled = call(["cc", "-static", "-x", "c", "-o", program, "-"], input="int main(void) { return 3; }")
+    must(compiled.returncode == 0, f"static: {compiled.stderr}")
+    with open(script, "w", encoding="ascii") as file:
+        file.write(f"#!{program}\n")
+    os.chmod(script, 0o755)
+    stream = os.path.join(directory, "static.trace")
+    for command in (program, script):
+        old(stream)
+        answer = record(stream, "static", [command])
+        text = f"{stream} wasn't written: {program} is static, so that it loads no recorder\n"
+        must((answer.returncode, answer.stderr) == (3, SAYS + text), f"static: {answer.stderr}")
+        must(not os.path.exists(stream), "there is a stream of a static program")
+    if os.geteuid() != 0 or os.statvfs(directory).f_flag & os.ST_NOSUID:
+        return
+    rights = os.path.join(directory, "rights")
+    shutil.copy(shutil.which("true"), rights)
+    os.chown(rights, 65534, -1)
+    os.chmod(rights, 0o4755)
+    answer = record(stream, "rights", [rights])
+    must("rights gets other rights as it starts, so that it loads no recorder" in answer.stderr,
+         f"setuid: {answer.stderr}")
+
+
+def check_no_lock(directory):
+    """A program that took no lock, and one under valgrind, are said to be so."""
+    stream = os.path.join(directory, "no-lock.trace")
+    must(NO_LOCK in said(record(stream, "true", ["true"])), "true: run doesn't say that it took no lock")
+    inversion = os.path.join(directory, "inversion-0", "inversion")
+    must(NO_LOCK not in said(record(stream, "inversion", [inversion])), "inversion took locks")
+    if shutil.which("valgrind"):
+        notes = said(record(stream, "valgrind", ["valgrind", "-q", inversion]))
+        must("ran under valgrind, and the recorder can't\n" in notes and NO_LOCK in notes,
+             f"valgrind: {notes}")
