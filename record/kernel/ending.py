@@ -1,5 +1,5 @@
 """What tasks hold and wait for where a recording ends."""
-from stream import TakenBack
+from tasks import TakenBack
 
 MOST_SAID = 20  # of one kind
 

@@ -4,7 +4,7 @@ from collections import Counter
 
 from classes import SPECIAL_OF_TASK, LockClass, apart, escape
 from sites import Sites
-from stream import READ, Held, Reader, TakenBack, Task, forget
+from tasks import READ, Held, Reader, TakenBack, Task, forget
 from text import COLUMNS_INSIDE, EVENT, NMI, Contexts, Damaged, Header, fault, quote
 
 MOST_PLACES = 500000  # remembered at once

@@ -59,6 +59,13 @@ class Output:
             self.places.keep(numbers)
         self.lines += len(lines)
 
+    def comment(self, lines):
+        """Writes comments behind the stream."""
+        self.text.write(''.join(lines).encode('ascii'))
+        self.lines += len(lines)
+        if self.places is not None:
+            self.places.keep([0] * len(lines))
+
     def hand_over(self, sources_name, map_name):
         """Writes the files beside the stream, and then the stream to standard output."""
         if sources_name is not None:

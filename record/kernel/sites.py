@@ -2,7 +2,7 @@
 import re
 
 from classes import LockClass, apart, escape, fitted, readers_of
-from stream import READ
+from tasks import READ
 from text import COLUMNS_INSIDE, Damaged, quote
 
 STOPPED = '255'       # in place of a number of locks, where lockdep has stopped

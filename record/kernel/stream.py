@@ -6,8 +6,8 @@ says at its first line in a trace which flags it had, and a new trace begins bef
 passed.
 """
 import math
-from collections import namedtuple
 
+from tasks import READ, Frame, Held, Nesting, TakenBack, forget
 from text import Damaged
 
 MOST_TASKS = 1024    # of one trace
@@ -16,86 +16,6 @@ MOST_HELD = 96       # of one task
 MOST_TRACES = 65535  # of one stream
 MOST_CUTS = 60000    # of these, so that a trace which has no room left can end all the same
 WORDS = {True: 'on', False: 'off'}
-READ = 'read'  # of a recursive reader that waits: no verb of a stream, but lines of a class of its own
-
-# The class NAME!read that stands beside a class that recursive readers wait for, and its lock.
-Reader = namedtuple('Reader', 'name lock_class')
-
-
-class Frame:
-    """A handler that runs over a task, or (of kind None) what runs outside any; and its flags."""
-    __slots__ = ('kind', 'hard', 'soft')
-
-    def __init__(self, kind, hard, soft):
-        self.kind = kind
-        self.hard = hard
-        self.soft = soft
-
-
-class Held:
-    """A lock that is held; one without a name is left out of the stream, its release too.
-
-    With a `reader` it is of a class that recursive readers wait for. A writer then holds that lock too.
-    """
-    __slots__ = ('address', 'site', 'since', 'name', 'lock_class', 'depth', 'before', 'verb', 'reader', 'slots',
-                 'seen')
-
-    def __init__(self, address, site, since, name=None, lock_class=None, before=None):
-        self.address = address
-        self.site = site    # what its event has in common with others
-        self.since = since  # the time of that event
-        self.name = name
-        self.lock_class = lock_class
-        self.depth = 0  # of the frame that acquired it: 1 outside handlers
-        self.before = before  # how many locks lockdep has of the task before it; None where that isn't known
-        self.reader = None
-        self.slots = 1  # how many locks it is in the stream
-        self.seen = 0   # behind which line of the stream it surely was held, outside handlers
-
-    def key(self):
-        """Lockdep's key of its class."""
-        return self.site.key or int(self.address, 16) + self.site.subclass
-
-    def classes(self):
-        return (self.lock_class,) if self.reader is None else (self.lock_class, self.reader.lock_class)
-
-
-class TakenBack(Held):
-    """Stands where a lock stood that lockdep doesn't have: not yet, or not any more."""
-    __slots__ = ('lock',)
-
-    def __init__(self, lock):
-        super().__init__(lock.address, lock.site, lock.since, before=lock.before)
-        self.lock = lock
-
-
-class Task:
-    """One task as the trace has it so far."""
-    __slots__ = ('name', 'first', 'processor', 'time', 'trace', 'starts', 'context', 'kinds', 'frames', 'held', 'kept')
-
-    def __init__(self, name, first):
-        self.name = name
-        self.first = first   # the time of its first event
-        self.processor = self.time = None  # of its latest event
-        self.trace = 0       # the number of the trace that it was last in
-        self.starts = False  # that trace has no line of it yet
-        self.forget()
-
-    def forget(self):
-        """As a task is at the begin of a trace: outside handlers, both flags on, nothing held."""
-        self.context = None  # the one that frames and flags were last made to agree with
-        self.kinds = ()      # of the handlers that run, the outer one first
-        self.frames = [Frame(None, True, True)]
-        self.held = []
-        self.kept = 0        # how many locks the stream has it hold
-
-
-def forget(locks, held):
-    """Takes a lock out of those held: mostly it is the last one."""
-    if locks[-1] is held:
-        locks.pop()
-    else:
-        locks.remove(held)
 
 
 class Stream:
@@ -114,6 +34,7 @@ class Stream:
         self.trace = 0        # the number of the present trace, from 1
         self.tasks = 0        # in the present trace
         self.classes = set()  # of the present trace
+        self.nestings = {}    # of a class, its locks that were acquired under another one of it
         self.left_held = 0    # locks that a handler still held when it ended
         self.too_deep = 0     # acquisitions left out since the task held as many as a trace may
         self.begin()
@@ -170,6 +91,8 @@ class Stream:
         held.verb = verb
         if self.dependencies is not None and verb != 'try':
             self.depend(task, held)
+        if task.held and verb != 'try':
+            self.nest(task, held)
         if verb == READ:
             self.wait_as_reader(task, held)
             verb = 'try'
@@ -188,6 +111,17 @@ class Stream:
                 self.dependencies[held.key(), wanted.key()] = held.name, wanted.name
                 if held.verb != 'try':
                     break
+
+    def nest(self, task, wanted):
+        """Notes a lock that is acquired under another one of its class, which is a recursion."""
+        lock_class = wanted.lock_class
+        for held in reversed(task.held):
+            # Who reads holds nothing that a recursive reader would wait for.
+            if (held.lock_class == lock_class and held.depth == wanted.depth
+                    and (wanted.verb != READ or held.slots == 2)):
+                name = wanted.reader.lock_class if wanted.verb == READ else lock_class
+                self.nestings.setdefault(name, Nesting()).add(held.address, wanted.address)
+                break
 
     def write(self, task, verb, held, is_new=True):
         """The lines of an acquisition: `nested` for one of a subclass, which is never a `try`."""

@@ -47,8 +47,8 @@ class Map(unittest.TestCase):
     def test_of_a_class_with_recursive_readers(self):
         _, lines, _, numbers = mapped(by('w+0x1/0x2', 'a', A) + by('r+0x1/0x2', 'a', C, read=2))
         self.assertEqual(lines[4:], ['taken a 1 1', 'taken a 2 1', 'taken a!read 1 1', 'taken a!read 2 1'])
-        # trace, acquire, try; disable, acquire, release, enable, try
-        self.assertEqual(numbers, [0, 1, 1, 0, 2, 0, 0, 2])
+        # trace, acquire, try; disable, acquire, release, enable, try; and a comment
+        self.assertEqual(numbers, [0, 1, 1, 0, 2, 0, 0, 2, 0])
 
     def test_what_goes_over_into_another_trace_was_acquired_there(self):
         result, lines, _, numbers = mapped(by('f+0x1/0x2', 'a', A) + by('g+0x1/0x2', 'b', B), '--cut', '1')
@@ -77,7 +77,7 @@ class Map(unittest.TestCase):
     def test_of_a_recording(self):
         text = file('trace')
         result, lines, _, numbers = mapped(text)
-        self.assertEqual(len(numbers), len(result.stream))
+        self.assertEqual(len(numbers), len(result.stream + result.comments))
         there = {int(words[1]): words[2:] for words in map(str.split, lines) if words[0] == 'place'}
         for number, event in zip(numbers, result.stream):
             self.assertEqual(number != 0, event.split()[0] in ('acquire', 'nested', 'try'), event)

@@ -63,11 +63,12 @@ def stock(what, lock, name, flags='', **where):
 
 
 class Result:
-    """What a run of the converter gave: its status, the stream's lines, and standard error."""
+    """What a run of the converter gave: its status, the stream's lines, those behind it, and standard error."""
 
     def __init__(self, status, stream, errors):
         self.status = status
-        self.stream = stream
+        self.stream = [line for line in stream if not line.startswith('#')]
+        self.comments = stream[len(self.stream):]
         self.errors = errors
 
 

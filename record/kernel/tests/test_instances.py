@@ -1,0 +1,69 @@
+"""Comments behind the stream: how the locks of a class were acquired one under another."""
+import unittest
+
+from texts import acquire, file_with, release, run, stock
+
+A, B, C = 0x1000, 0x2000, 0x3000  # addresses of locks
+
+
+def comments(*lines, words=()):
+    return run(''.join(lines), *words).comments
+
+
+def under(outer, inner, name='a', **words):
+    return acquire(name, outer) + acquire(name, inner, **words) + release(inner) + release(outer)
+
+
+class Instances(unittest.TestCase):
+
+    def test_in_one_order_of_addresses(self):
+        self.assertEqual(comments(under(A, B), under(A, B), under(B, C)), ['# instances a times 3 locks 3 order up'])
+        self.assertEqual(comments(under(C, B)), ['# instances a times 1 locks 2 order down'])
+
+    def test_in_both_orders(self):
+        self.assertEqual(comments(under(A, B), under(B, A)), ['# instances a times 2 locks 2 order both'])
+        self.assertEqual(comments(under(A, A), under(A, B)), ['# instances a times 2 locks 2 order both'])
+
+    def test_one_lock_under_itself(self):
+        self.assertEqual(comments(under(A, A)), ['# instances a times 1 locks 1 order same'])
+
+    def test_stand_behind_the_last_trace_by_name(self):
+        result = run(under(A, B, 'b') + under(A, B), '--cut', '3')
+        self.assertEqual(result.comments,
+                         ['# instances a times 1 locks 2 order up', '# instances b times 1 locks 2 order up'])
+        self.assertIn('trace kernel.2', result.stream)
+
+    def test_what_is_no_recursion(self):
+        self.assertEqual(comments(under(A, B, trylock=1), acquire('a', A) + acquire('b', B)), [])
+        self.assertEqual(comments(acquire('a', A), acquire('a', B, columns='d.h..')), [])
+        self.assertEqual(comments(acquire('a', A, key=0x500), acquire('a', B, key=0x501, subclass=1)), [])
+
+    def test_of_a_subclass(self):
+        self.assertEqual(
+            comments(acquire('a', A, key=0x501, subclass=1), acquire('a', B, key=0x501, subclass=1)),
+            ['# instances a/1 times 1 locks 2 order up'])
+
+    def test_of_readers(self):
+        self.assertEqual(comments(acquire('a', A, read=1), acquire('a', B, read=1)),
+                         ['# instances a times 1 locks 2 order up'])
+        self.assertEqual(comments(acquire('a', A, read=2), acquire('a', B, read=2)), [])
+        self.assertEqual(comments(acquire('a', A), acquire('a', B, read=2)),
+                         ['# instances a!read times 1 locks 2 order up'])
+        self.assertEqual(comments(acquire('a', A, read=2), acquire('a', B)), ['# instances a times 1 locks 2 order up'])
+
+    def test_of_the_kernel_s_own_events(self):
+        self.assertEqual(comments(stock('acquire', A, 'a'), stock('acquire', B, 'a')),
+                         ['# instances a times 1 locks 2 order up'])
+
+    def test_they_are_lines_of_the_map(self):
+        with file_with('') as name:
+            result = run(under(A, B), '--map', name)
+            lines = result.stream + result.comments
+            with open(name, 'rb') as file:
+                text = file.read()
+        self.assertIn(b'\nlines %d bytes 2\n' % len(lines), text)
+        self.assertEqual(len(text.partition(b'\nnumbers\n')[2]), 2 * len(lines))
+
+
+if __name__ == '__main__':
+    unittest.main()
