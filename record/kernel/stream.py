@@ -7,7 +7,8 @@ passed.
 """
 import math
 
-from tasks import READ, Frame, Held, Nesting, TakenBack, forget
+from nesting import Nesting
+from tasks import READ, Frame, Held, TakenBack, forget
 from text import Damaged
 
 MOST_TASKS = 1024    # of one trace

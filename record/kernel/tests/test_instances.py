@@ -17,20 +17,27 @@ def under(outer, inner, name='a', **words):
 class Instances(unittest.TestCase):
 
     def test_in_one_order_of_addresses(self):
-        self.assertEqual(comments(under(A, B), under(A, B), under(B, C)), ['# instances a times 3 locks 3 order up'])
-        self.assertEqual(comments(under(C, B)), ['# instances a times 1 locks 2 order down'])
+        self.assertEqual(comments(under(A, B), under(A, B), under(B, C)), ['# instances a 3 3 upwards'])
+        self.assertEqual(comments(under(C, B)), ['# instances a 1 2 downwards'])
 
-    def test_in_both_orders(self):
-        self.assertEqual(comments(under(A, B), under(B, A)), ['# instances a times 2 locks 2 order both'])
-        self.assertEqual(comments(under(A, A), under(A, B)), ['# instances a times 2 locks 2 order both'])
+    def test_in_another_order_without_a_cycle(self):
+        self.assertEqual(comments(under(A, C), under(C, B)), ['# instances a 2 3 order'])
+
+    def test_with_a_cycle(self):
+        self.assertEqual(comments(under(A, B), under(B, A)), ['# instances a 2 2 cycle @1000 @2000 @1000'])
+        self.assertEqual(comments(under(A, B), under(B, C), under(C, A), under(A, C)),
+                         ['# instances a 4 3 cycle @1000 @2000 @3000 @1000'])
+        # The way to the cycle is no part of it.
+        self.assertEqual(comments(under(A, C), under(C, B), under(B, C)), ['# instances a 3 3 cycle @3000 @2000 @3000'])
 
     def test_one_lock_under_itself(self):
-        self.assertEqual(comments(under(A, A)), ['# instances a times 1 locks 1 order same'])
+        self.assertEqual(comments(under(A, A)), ['# instances a 1 1 cycle @1000 @1000'])
+        self.assertEqual(comments(under(A, B), under(B, B)), ['# instances a 2 2 cycle @2000 @2000'])
 
     def test_stand_behind_the_last_trace_by_name(self):
         result = run(under(A, B, 'b') + under(A, B), '--cut', '3')
         self.assertEqual(result.comments,
-                         ['# instances a times 1 locks 2 order up', '# instances b times 1 locks 2 order up'])
+                         ['# instances a 1 2 upwards', '# instances b 1 2 upwards'])
         self.assertIn('trace kernel.2', result.stream)
 
     def test_what_is_no_recursion(self):
@@ -41,19 +48,19 @@ class Instances(unittest.TestCase):
     def test_of_a_subclass(self):
         self.assertEqual(
             comments(acquire('a', A, key=0x501, subclass=1), acquire('a', B, key=0x501, subclass=1)),
-            ['# instances a/1 times 1 locks 2 order up'])
+            ['# instances a/1 1 2 upwards'])
 
     def test_of_readers(self):
         self.assertEqual(comments(acquire('a', A, read=1), acquire('a', B, read=1)),
-                         ['# instances a times 1 locks 2 order up'])
+                         ['# instances a 1 2 upwards'])
         self.assertEqual(comments(acquire('a', A, read=2), acquire('a', B, read=2)), [])
         self.assertEqual(comments(acquire('a', A), acquire('a', B, read=2)),
-                         ['# instances a!read times 1 locks 2 order up'])
-        self.assertEqual(comments(acquire('a', A, read=2), acquire('a', B)), ['# instances a times 1 locks 2 order up'])
+                         ['# instances a!read 1 2 upwards'])
+        self.assertEqual(comments(acquire('a', A, read=2), acquire('a', B)), ['# instances a 1 2 upwards'])
 
     def test_of_the_kernel_s_own_events(self):
         self.assertEqual(comments(stock('acquire', A, 'a'), stock('acquire', B, 'a')),
-                         ['# instances a times 1 locks 2 order up'])
+                         ['# instances a 1 2 upwards'])
 
     def test_they_are_lines_of_the_map(self):
         with file_with('') as name:
