@@ -34,45 +34,45 @@ OPEN = "pairs:_ZN4Pair4openEi+HEX"
 TAKE_BOTH = "take_both(pthread_mutex_t*, pthread_mutex_t*)"
 EXPLAINED = [
     ("recursion.c", None, f"""\
-recursion new_lock:recursion.c:18 at recursion-1:4
-    recursion-1:4 takes new_lock:recursion.c:18 in take_both at {SOURCE}/planted.h:21
-        and holds new_lock:recursion.c:18 since line 3, taken in take_both at {SOURCE}/planted.h:20
-new_lock:recursion.c:18
+recursion new_lock:recursion.c at recursion-1:4
+    recursion-1:4 takes new_lock:recursion.c in take_both at {SOURCE}/planted.h:21
+        and holds new_lock:recursion.c since line 3, taken in take_both at {SOURCE}/planted.h:20
+new_lock:recursion.c
     initialised in new_lock at {SOURCE}/recursion.c:18
 """),
     ("pairs.cc", None,
      both_ways((f"Pair::forth() at {SOURCE}/pairs.cc:55", f"Pair::forth() at {SOURCE}/pairs.cc:56"),
                (f"Pair::back() at {SOURCE}/pairs.cc:61", f"Pair::back() at {SOURCE}/pairs.cc:62"),
-               "Pair::open:pairs.cc:44", "Pair::open:pairs.cc:48") + f"""\
-Pair::open:pairs.cc:44
+               "Pair::in", "Pair::out") + f"""\
+Pair::in
     first locked in Pair::open(int) at {SOURCE}/pairs.cc:44
-{callers("Pair::open")}Pair::open:pairs.cc:48
+Pair::out
     first locked in Pair::open(int) at {SOURCE}/pairs.cc:48
-{callers("Pair::open")}"""),
+"""),
     # A variable, whose symbol isn't its name.
     ("links.cc", ["-O0"], f"""\
-inversion conn_init:links.cc:28 -> links:_ZL5table at links-1:8 via links:_ZL5table -> conn_init:links.cc:28
+inversion conn_init:links.cc -> links:_ZL5table at links-1:8 via links:_ZL5table -> conn_init:links.cc
     links-1:8 takes links:_ZL5table in {TAKE_BOTH} at {SOURCE}/planted.h:21
-        and holds conn_init:links.cc:28 since line 7, taken in {TAKE_BOTH} at {SOURCE}/planted.h:20
-inversion links:_ZL5table -> conn_init:links.cc:28 at links-1:4 via conn_init:links.cc:28 -> links:_ZL5table
-    links-1:4 takes conn_init:links.cc:28 in {TAKE_BOTH} at {SOURCE}/planted.h:21
+        and holds conn_init:links.cc since line 7, taken in {TAKE_BOTH} at {SOURCE}/planted.h:20
+inversion links:_ZL5table -> conn_init:links.cc at links-1:4 via conn_init:links.cc -> links:_ZL5table
+    links-1:4 takes conn_init:links.cc in {TAKE_BOTH} at {SOURCE}/planted.h:21
         and holds links:_ZL5table since line 3, taken in {TAKE_BOTH} at {SOURCE}/planted.h:20
-conn_init:links.cc:28
+conn_init:links.cc
     initialised in conn_init.. at {SOURCE}/links.cc:28
 {callers("conn_init")}links:_ZL5table
     is the variable table of ../links
 """),
     # Locks of two kinds by one function, which isn't said: the inversion is none.
     ("kinds.c", ["-O2"], f"""\
-inversion kinds:table -> lock_new:kinds.c:25 at kinds-1:8 via lock_new:kinds.c:25 -> kinds:table
-    kinds-1:8 takes lock_new:kinds.c:25 in take_both at {SOURCE}/planted.h:21
+inversion kinds:table -> lock_new:kinds.c at kinds-1:8 via lock_new:kinds.c -> kinds:table
+    kinds-1:8 takes lock_new:kinds.c in take_both at {SOURCE}/planted.h:21
         and holds kinds:table since line 7, taken in take_both at {SOURCE}/planted.h:20
-inversion lock_new:kinds.c:25 -> kinds:table at kinds-1:4 via kinds:table -> lock_new:kinds.c:25
+inversion lock_new:kinds.c -> kinds:table at kinds-1:4 via kinds:table -> lock_new:kinds.c
     kinds-1:4 takes kinds:table in take_both at {SOURCE}/planted.h:21
-        and holds lock_new:kinds.c:25 since line 3, taken in take_both at {SOURCE}/planted.h:20
+        and holds lock_new:kinds.c since line 3, taken in take_both at {SOURCE}/planted.h:20
 kinds:table
     is the variable table of ../kinds
-lock_new:kinds.c:25
+lock_new:kinds.c
     initialised in lock_new at {SOURCE}/kinds.c:25
 {callers("lock_new")}"""),
     # Without debug information there are functions where there are symbols, and no lines.

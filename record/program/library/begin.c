@@ -118,6 +118,7 @@ static void describe(struct process *process, const struct process *parent)
     process->pid = (uint64_t)getpid();
     process->started = (uint64_t)now.tv_sec * 1000000000 + (uint64_t)now.tv_nsec;
     snprintf(process->program, sizeof process->program, "%s", program_path());
+    snprintf(process->name, sizeof process->name, "%s", program_name());
     if (parent) {
         process->parent_pid = parent->pid;
         process->parent_started = parent->started;

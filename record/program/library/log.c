@@ -49,7 +49,7 @@ static void finish_at(struct unit *first, enum operation operation, unsigned fol
     __atomic_store_n(&first->head, HEAD_OF(operation, following, place, number), __ATOMIC_RELEASE);
 }
 
-static void finish(struct unit *first, enum operation operation, unsigned following, uint64_t value)
+void finish_record(struct unit *first, enum operation operation, unsigned following, uint64_t value)
 {
     finish_at(first, operation, following, 0, value);
 }
@@ -71,7 +71,7 @@ static void write_module(uint64_t address)
         return;
     first[1] = (struct unit){range[1], range[2]};
     memcpy(&first[2], path, length);
-    finish(first, RECORD_MODULE, 1 + path_units, range[0]);
+    finish_record(first, RECORD_MODULE, 1 + path_units, range[0]);
 }
 
 /* Writes a record on a lock with the calls that led to it. A lock of a module, which wasn't
@@ -86,6 +86,8 @@ static void write_place(enum operation operation, uint64_t lock, unsigned place)
         count = callers(places, MOST_CALLS);
     for (unsigned caller = 0; caller < count; caller++)
         write_module(places[caller]);
+    if (operation != RECORD_INIT && count)
+        tell_frames(lock, places, count);
     unsigned following = (count + 1) / 2;
     struct unit *first = take_units(1 + following);
     if (!first)
@@ -102,7 +104,7 @@ void tell_place(uint64_t address, struct told_place place)
     if (!first)
         return;
     first[1] = (struct unit){place.number, place.inside};
-    finish(first, RECORD_PLACE, 1, address);
+    finish_record(first, RECORD_PLACE, 1, address);
 }
 
 static void write_one(enum operation operation, uint64_t lock, unsigned place)

@@ -3,7 +3,10 @@
 #define _GNU_SOURCE
 #include <dlfcn.h>
 #include <link.h>
+#include <stdio.h>
 #include <string.h>
+#include <sys/auxv.h>
+#include <sys/stat.h>
 #include <unistd.h>
 #include <unwind.h>
 
@@ -18,6 +21,7 @@ struct told {
 static struct told told[TOLD_PLACES];
 
 static char program[2048];
+static char name[256];
 static struct dl_find_object own;
 
 const char *program_path(void)
@@ -25,13 +29,39 @@ const char *program_path(void)
     return program;
 }
 
+const char *program_name(void)
+{
+    return name;
+}
+
+/* Gives what the program was started as, maybe by a link, where that leads to it. Of a script it leads to another
+   file, and of a descriptor it is no name. */
+static const char *started_as(void)
+{
+    const char *path = (const char *)getauxval(AT_EXECFN);
+    struct stat started, own_file;
+    if (!path || strncmp(path, "/proc/", 6) == 0 || strncmp(path, "/dev/", 5) == 0 || stat(path, &started) != 0 ||
+        stat("/proc/self/exe", &own_file) != 0)
+        return program;
+    return started.st_dev == own_file.st_dev && started.st_ino == own_file.st_ino ? path : program;
+}
+
+static void find_program(void)
+{
+    ssize_t length = readlink("/proc/self/exe", program, sizeof program - 1);
+    program[length > 0 ? length : 0] = 0;
+    const char *path = started_as();
+    const char *base = strrchr(path, '/');
+    snprintf(name, sizeof name, "%s", base ? base + 1 : path);
+}
+
 void find_own_place(void)
 {
     memset(told, 0, sizeof told);
+    forget_stacks();
     if (own.dlfo_map_start)
         return;
-    ssize_t length = readlink("/proc/self/exe", program, sizeof program - 1);
-    program[length > 0 ? length : 0] = 0;
+    find_program();
     _dl_find_object((void *)find_own_place, &own);
 }
 

@@ -91,6 +91,13 @@ void record_wait(enum operation wanted, const void *lock, const struct frame *fr
 /* rwlocks.c */
 extern bool leaves_readers_out;
 
+/* Writes the head of a record, which is finished then. */
+void finish_record(struct unit *first, enum operation operation, unsigned following, uint64_t value);
+
+/* stacks.c */
+void forget_stacks(void);
+void tell_frames(uint64_t lock, const uint64_t *calls, unsigned count);
+
 /* frames.c */
 extern bool wants_places;
 unsigned place_of_frame(const struct frame *frame);
@@ -104,6 +111,7 @@ unsigned callers(uint64_t *places, unsigned most);
 bool is_in_module(uint64_t address);
 bool must_tell_module(uint64_t address, uint64_t range[3], const char **path);
 const char *program_path(void);
+const char *program_name(void);
 
 /* next.c */
 void find_all_next(void);

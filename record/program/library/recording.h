@@ -42,6 +42,8 @@ enum operation {
     RECORD_SHARE, /* as RECORD_READ */
     /* Of all: */
     RECORD_TRY_READ, /* [lock] was got for reading by a call that couldn't wait */
+    RECORD_FRAMES,  /* [lock] is about to be told as taken first, by these frames: their number and the end of what
+                       is known of the stack, then each `struct told_frame`, then the stack */
 };
 
 /* In `head`: the operation (5 bits), the number of units that follow (8), the place (16), which is 0
@@ -65,6 +67,16 @@ struct told_place {
     uint64_t number;
     uint64_t inside; /* the number of that place, or 0 */
 };
+
+/* A frame: its return address, the stack there, and registers that calls keep, which on x86-64 are rbx, rbp and r12
+   to r15. */
+#define KEPT_REGISTERS 6
+struct told_frame {
+    uint64_t address;
+    uint64_t stack;
+    uint64_t registers[KEPT_REGISTERS];
+};
+#define MOST_STACK_BYTES 2560
 
 #define PLACE_NUMBERS 65536
 /* The most places that are one inside the other. */
@@ -92,12 +104,14 @@ struct process {
     uint64_t ended;         /* enum ended */
     uint64_t lost_children; /* children of forks for which no file could be made */
     char program[2048];
+    char name[256]; /* of the program, as it was started */
 };
 
 #define PROCESS_BYTES 4096
 
 _Static_assert(sizeof(struct unit) == 16, "a unit is 16 bytes");
 _Static_assert(sizeof(struct told_place) == sizeof(struct unit), "a place is told by one more unit");
+_Static_assert(sizeof(struct told_frame) % sizeof(struct unit) == 0, "a frame is whole units");
 _Static_assert(sizeof(struct chunk) == CHUNK_BYTES, "a chunk is whole");
 _Static_assert(sizeof(struct process) <= PROCESS_BYTES, "the first page holds the process");
 

@@ -1,6 +1,5 @@
 /* ELF files: their sections, the code in them, and the symbols of functions and variables. */
 #define _GNU_SOURCE
-#include <elf.h>
 #include <fcntl.h>
 #include <stdlib.h>
 #include <string.h>
@@ -8,18 +7,13 @@
 #include <sys/stat.h>
 #include <unistd.h>
 
-#include "merger.h"
-
-struct symbol {
-    uint64_t start;
-    uint64_t size;
-    const char *name;
-};
+#include "elf-parts.h"
 
 struct binary **binaries;
 size_t binary_count;
 
-static const void *part(const struct binary *binary, uint64_t start, uint64_t length)
+/* Gives bytes of the file, or NULL where it hasn't got them all. */
+const void *part(const struct binary *binary, uint64_t start, uint64_t length)
 {
     bool fits = start <= binary->length && length <= binary->length - start;
     return fits ? binary->bytes + start : NULL;
@@ -41,7 +35,7 @@ static void map_file(struct binary *binary)
     close(file);
 }
 
-static const Elf64_Ehdr *header_of(const struct binary *binary)
+const Elf64_Ehdr *header_of(const struct binary *binary)
 {
     const Elf64_Ehdr *header = part(binary, 0, sizeof *header);
     if (!header || memcmp(header->e_ident, ELFMAG, SELFMAG) != 0 ||
@@ -51,7 +45,7 @@ static const Elf64_Ehdr *header_of(const struct binary *binary)
     return header;
 }
 
-static const Elf64_Shdr *sections_of(const struct binary *binary, unsigned *count)
+const Elf64_Shdr *sections_of(const struct binary *binary, unsigned *count)
 {
     const Elf64_Ehdr *header = header_of(binary);
     *count = header ? header->e_shnum : 0;
@@ -74,58 +68,6 @@ struct bytes section_of(const struct binary *binary, const char *name)
             return (struct bytes){start, (const unsigned char *)start + section->sh_size};
     }
     return (struct bytes){NULL, NULL};
-}
-
-/* Gives the bytes that stand at an address of the file, or NULL where there are none. */
-static const unsigned char *code_at(const struct binary *binary, uint64_t address, uint64_t length)
-{
-    const Elf64_Ehdr *header = header_of(binary);
-    const Elf64_Phdr *segments = NULL;
-    if (header)
-        segments = part(binary, header->e_phoff, (uint64_t)header->e_phnum * sizeof *segments);
-    for (unsigned number = 0; segments && number < header->e_phnum; number++) {
-        const Elf64_Phdr *segment = &segments[number];
-        if (segment->p_type == PT_LOAD && address >= segment->p_vaddr &&
-            address - segment->p_vaddr + length <= segment->p_filesz)
-            return part(binary, segment->p_offset + (address - segment->p_vaddr), length);
-    }
-    return NULL;
-}
-
-/* Answers whether an address is in code that isn't a step to another file. */
-static bool is_own_code(const struct binary *binary, uint64_t address)
-{
-    unsigned count;
-    const Elf64_Shdr *sections = sections_of(binary, &count);
-    unsigned names = sections ? header_of(binary)->e_shstrndx : 0;
-    for (unsigned number = 0; sections && names < count && number < count; number++) {
-        const Elf64_Shdr *section = &sections[number];
-        if (!(section->sh_flags & SHF_EXECINSTR) || address < section->sh_addr ||
-            address - section->sh_addr >= section->sh_size)
-            continue;
-        const char *name = part(binary, sections[names].sh_offset + section->sh_name, 4);
-        return name && memcmp(name, ".plt", 4) != 0;
-    }
-    return false;
-}
-
-/* Gives the function that the call before a return address names, or 0 where it isn't a call of a
-   function that stands in the same file. */
-uint64_t called_before(const struct binary *binary, uint64_t address)
-{
-#ifdef __x86_64__
-    const unsigned char *call = address >= 5 ? code_at(binary, address - 5, 5) : NULL;
-    int32_t distance;
-    if (!call || call[0] != 0xe8)
-        return 0;
-    memcpy(&distance, call + 1, sizeof distance);
-    uint64_t target = address + (uint64_t)(int64_t)distance;
-    return is_own_code(binary, target) ? target : 0;
-#else
-    (void)binary;
-    (void)address;
-    return 0;
-#endif
 }
 
 static bool is_wanted(const Elf64_Sym *symbol)
@@ -172,6 +114,17 @@ static void read_symbols(struct binary *binary)
         qsort(binary->symbols, binary->symbol_count, sizeof *binary->symbols, by_address);
 }
 
+/* Gives the name that a library has for those that are linked with it, or NULL. */
+static const char *shared_name(const struct binary *binary)
+{
+    struct bytes entries = section_of(binary, ".dynamic"), names = section_of(binary, ".dynstr");
+    const Elf64_Dyn *entry = (const Elf64_Dyn *)entries.at;
+    for (; entry && (const unsigned char *)(entry + 1) <= entries.end && entry->d_tag != DT_NULL; entry++)
+        if (entry->d_tag == DT_SONAME)
+            return text_in(names, entry->d_un.d_val);
+    return NULL;
+}
+
 /* Each file is read once. It stays mapped. */
 struct binary *binary_of(const char *path)
 {
@@ -184,6 +137,8 @@ struct binary *binary_of(const char *path)
     binary->path = must(strdup(path));
     map_file(binary);
     read_symbols(binary);
+    const char *name = shared_name(binary);
+    binary->name = must(strdup(base_of(name && name[0] ? name : path)));
     binaries[binary_count++] = binary;
     return binary;
 }

@@ -60,6 +60,35 @@ void ask_for_calls(const struct modules *modules, const uint64_t *calls, unsigne
     each_place(modules, calls, count, ask_for_one, NULL);
 }
 
+static void ask_for_file(const struct module *module, uint64_t offset, void *nothing)
+{
+    (void)offset;
+    (void)nothing;
+    if (module)
+        ask_for_sources(module->binary);
+}
+
+/* Asks for the other places in the same files where locks can be initialised, too. */
+void ask_for_inits(const struct modules *modules, const uint64_t *calls, unsigned count)
+{
+    ask_for_calls(modules, calls, count);
+    each_place(modules, calls, count, ask_for_file, NULL);
+}
+
+static void add_sum(const struct module *module, uint64_t offset, void *argument)
+{
+    uint64_t *sum = argument;
+    *sum = (*sum + offset + (uintptr_t)(module ? module->binary : NULL)) * UINT64_C(0x9e3779b97f4a7c15);
+}
+
+/* Gives a number for calls, which is the same for the same places in files. */
+uint64_t sum_of_calls(const struct modules *modules, const uint64_t *calls, unsigned count)
+{
+    uint64_t sum = 1;
+    each_place(modules, calls, count, add_sum, &sum);
+    return sum;
+}
+
 static void add_frames(const struct module *module, uint64_t offset, void *argument)
 {
     struct frames *frames = argument;
@@ -67,7 +96,7 @@ static void add_frames(const struct module *module, uint64_t offset, void *argum
     size_t count = site && site->frame_count ? site->frame_count : 1;
     for (size_t number = 0; number < count && frames->count < MOST_FRAMES; number++) {
         struct call *call = &frames->all[frames->count++];
-        *call = (struct call){module, offset, {NULL, NULL, 0}};
+        *call = (struct call){module, offset, {NULL, NULL, 0, 0}};
         if (site && site->frame_count)
             call->frame = site->frames[number];
     }
@@ -80,22 +109,31 @@ void name_function(char *name, size_t size, const struct call *call)
     if (call->frame.function)
         short_function(name, size, call->frame.function);
     else
-        snprintf(name, size, "%s:+0x%" PRIx64, base_of(call->module->path), call->offset + 1);
+        snprintf(name, size, "%s:+0x%" PRIx64, call->module->name, call->offset + 1);
 }
 
-static bool is_through(const struct call *call)
+static bool leads_through(const struct call *call)
 {
     char name[256];
-    bool is_any = false;
     const char *function = call->frame.function;
     if (!function && !call->module)
         return false;
     name_function(name, sizeof name, call);
-    for (size_t number = 0; number < through_count; number++)
-        if (strcmp(through[number], name) == 0 ||
-            (function && strcmp(through[number], function) == 0))
-            is_any = through_met[number] = true;
-    return is_any;
+    return is_through(function, name, through_met);
+}
+
+/* Answers whether a place is in a function that the user named, or one that stands in it. */
+bool is_place_through(const struct binary *binary, uint64_t offset)
+{
+    char name[256];
+    const struct site *site = site_at(binary, offset);
+    for (size_t number = 0; site && number < site->frame_count; number++) {
+        const char *function = site->frames[number].function;
+        short_function(name, sizeof name, function ? function : "");
+        if (function && is_through(function, name, NULL))
+            return true;
+    }
+    return false;
 }
 
 /* Gives the first frame from `start` on that isn't one through which others make their locks. Frames
@@ -134,7 +172,7 @@ bool telling_call(const struct modules *modules, const uint64_t *calls, unsigned
     size_t start = 0;
     each_place(modules, calls, count, add_frames, &frames);
     for (size_t number = 0; number < frames.count; number++)
-        if (is_through(&frames.all[number]))
+        if (leads_through(&frames.all[number]))
             start = number + 1;
     start = behind_makers(&frames, start);
     if (start >= frames.count)

@@ -63,7 +63,7 @@ static void append_place(char *name, const struct module *module, uint64_t offse
 {
     uint64_t into;
     const char *symbol = symbol_at(module->binary, offset, &into);
-    append_clean(name, TEXT_BYTES, base_of(module->path), "@/");
+    append_clean(name, TEXT_BYTES, module->name, "@/");
     append(name, ":");
     if (symbol)
         append_clean(name, TEXT_BYTES, symbol, "@/");
@@ -80,21 +80,25 @@ static void append_file(char *places, const struct module *module, uint64_t offs
     append_offset(places, offset);
 }
 
-/* Appends a source line: its function, where it is known, its file and its number. Of a function whose
-   name is too long the end is left out, and a checksum stands for the whole. */
-static void append_line(char *name, const struct frame *frame)
+/* Appends a place in a source: its function, where it is known, and its file, with its number among the places of
+   that function, if it isn't the first. Of a function whose name is too long the end is left out, and a checksum
+   stands for the whole. Where that number isn't known the line stands for it. */
+static void append_line(char *name, const struct frame *frame, unsigned place)
 {
-    char function[TEXT_BYTES] = "", line[TEXT_BYTES] = "", number[16], short_name[1024];
-    snprintf(number, sizeof number, ":%u", frame->line);
-    append_clean(line, sizeof line, base_of(frame->file), "@/");
-    append(line, number);
+    char function[TEXT_BYTES] = "", file[TEXT_BYTES] = "", number[16] = "", short_name[1024];
+    if (place == 0)
+        snprintf(number, sizeof number, ":%u", frame->line);
+    else if (place > 1)
+        snprintf(number, sizeof number, "#%u", place);
+    append_clean(file, sizeof file, base_of(frame->file), "@/");
+    append(file, number);
     short_function(short_name, sizeof short_name, function_of(frame));
     append_clean(function, sizeof function, short_name, "@/");
-    if (strlen(line) + 16 < MOST_NAME)
-        cut_name(function, MOST_NAME - 1 - strlen(line));
+    if (strlen(file) + 16 < MOST_NAME)
+        cut_name(function, MOST_NAME - 1 - strlen(file));
     append(name, function);
     append(name, function[0] ? ":" : "");
-    append(name, line);
+    append(name, file);
 }
 
 static void append_source(char *places, const struct frame *frame)
@@ -120,8 +124,23 @@ static void note_callers(struct class *class, const struct call *call, uint64_t 
     class->has_several_callers = class->has_several_callers || class->callers != callers;
 }
 
-struct class *class_of_calls(const struct modules *modules, const char *how,
-                             const struct unit *first, unsigned following)
+/* Names a class by the call that tells it, and says in `places` where that is. */
+static enum telling name_by_call(const struct call *call, const char *how, char *name, char *places)
+{
+    bool is_init = strcmp(how, "init") == 0;
+    append_file(places, call->module, call->offset);
+    if (!call->frame.line) {
+        append_place(name, call->module, call->offset, 1);
+        return TOLD_BY_ADDRESS;
+    }
+    append_line(name, &call->frame, is_init ? number_in_function(call->module->binary, &call->frame) : 0);
+    append_source(places, &call->frame);
+    return is_init ? TOLD_BY_LINE : TOLD_BY_FIRST;
+}
+
+/* Gives the class of the locks of these calls. One that was found to be a member has its name by that. */
+static struct class *class_of_calls(const struct modules *modules, const char *how, const struct unit *first,
+                                    unsigned following, const char *member)
 {
     static char name[TEXT_BYTES], places[TEXT_BYTES];
     struct call call;
@@ -134,20 +153,33 @@ struct class *class_of_calls(const struct modules *modules, const char *how,
         append(places, " ?");
         call.module = NULL;
     } else {
-        append_file(places, call.module, call.offset);
-        if (call.frame.line) {
-            telling = strcmp(how, "first") == 0 ? TOLD_BY_FIRST : TOLD_BY_LINE;
-            append_line(name, &call.frame);
-            append_source(places, &call.frame);
-        } else {
-            append_place(name, call.module, call.offset, 1);
-        }
+        telling = name_by_call(&call, how, name, places);
+    }
+    if (member) {
+        name[0] = 0;
+        append_clean(name, sizeof name, member, "@/");
+        telling = TOLD_BY_MEMBER;
     }
     cut_name(name, MOST_NAME);
     struct class *class = class_named(name, places, telling);
-    if (call.module)
+    if (call.module && !member)
         note_callers(class, &call, callers);
     return class;
+}
+
+struct class *class_of_init(const struct modules *modules, const struct unit *first, unsigned following)
+{
+    return class_of_calls(modules, "init", first, following, NULL);
+}
+
+/* Gives the class of a lock that no call initialised and these calls take first; by what their frames say, if they
+   were told. */
+struct class *class_of_first(const struct modules *modules, const struct unit *first, unsigned following,
+                             const struct unit *frames)
+{
+    char member[1024];
+    bool is_member = name_member(modules, first, following, frames, member, sizeof member);
+    return class_of_calls(modules, "first", first, following, is_member ? member : NULL);
 }
 
 /* Gives the class of a lock that stands in a module, or none where it stands in no module. */

@@ -76,7 +76,7 @@ static void run_addr2line(const char *path, int input, int output)
 
 static void add_frame(struct site *site, const char *function, char *place)
 {
-    struct frame frame = {NULL, NULL, 0};
+    struct frame frame = {NULL, NULL, 0, 0};
     char *more = strstr(place, " (");
     if (more)
         *more = 0;
@@ -153,6 +153,7 @@ static void mend(const struct binary *binary, struct site *site)
         if (!first->file || strcmp(base_of(first->file), base_of(site->file)) != 0)
             first->file = site->file;
         first->line = site->line;
+        first->column = site->column;
     }
     const struct frame *last = &site->frames[site->frame_count - 1];
     if (last != first && first->function && last->function) {

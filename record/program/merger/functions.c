@@ -12,6 +12,9 @@ bool *through_met;
 /* Beginnings of names. What stands in these is never the program's own. */
 static const char *const known_starts[] = {"__gthread_", "__gthrw_", "std::", "__gnu_cxx::"};
 
+static const char *const inits[] = {"pthread_mutex_init", "pthread_spin_init", "pthread_rwlock_init",
+                                    "mtx_init"};
+
 static const char *const known[] = {
     /* glib */
     "g_mutex_init", "g_mutex_lock", "g_mutex_trylock", "g_mutex_impl_new", "g_mutex_get_impl",
@@ -154,6 +157,14 @@ const char *function_of(const struct frame *frame)
     return is_known ? lines[low].function : frame->function;
 }
 
+static bool is_in(const char *const *names, size_t count, const char *name)
+{
+    for (size_t number = 0; number < count; number++)
+        if (strcmp(name, names[number]) == 0)
+            return true;
+    return false;
+}
+
 /* Answers whether the caller's line counts and not that of this place. */
 bool is_maker(const struct frame *frame)
 {
@@ -165,8 +176,74 @@ bool is_maker(const struct frame *frame)
     for (size_t number = 0; number < sizeof known_starts / sizeof *known_starts; number++)
         if (strncmp(name, known_starts[number], strlen(known_starts[number])) == 0)
             return true;
-    for (size_t number = 0; number < sizeof known / sizeof *known; number++)
-        if (strcmp(name, known[number]) == 0)
+    return is_in(known, sizeof known / sizeof *known, name);
+}
+
+/* Answers whether the user said that the program makes its locks through a function, by either of its names,
+   and notes in `is_met`, if there is one, that it was met. */
+bool is_through(const char *function, const char *short_name, bool *is_met)
+{
+    bool is_any = false;
+    for (size_t number = 0; number < through_count; number++) {
+        if (strcmp(through[number], short_name) != 0 &&
+            (!function || strcmp(through[number], function) != 0))
+            continue;
+        is_any = true;
+        if (is_met)
+            is_met[number] = true;
+    }
+    return is_any;
+}
+
+/* Gives how a symbol of C++ has a name: each part of it behind its length. */
+static void coded_name(char *text, size_t size, const char *name)
+{
+    char plain[256];
+    size_t length = 0;
+    short_function(plain, sizeof plain, name);
+    for (const char *at = plain; *at && length < size;) {
+        const char *end = strstr(at, "::");
+        int part = (int)(end ? (size_t)(end - at) : strlen(at));
+        length += (size_t)snprintf(text + length, size - length, "%d%.*s", part, part, at);
+        at += part + (end ? 2 : 0);
+    }
+}
+
+/* Answers whether a call of the function with this symbol may make a lock. */
+bool may_be_maker(const char *symbol)
+{
+    char coded[512];
+    if (is_in(inits, sizeof inits / sizeof *inits, symbol) ||
+        is_in(known, sizeof known / sizeof *known, symbol))
+        return true;
+    for (size_t number = 0; number < through_count; number++) {
+        coded[0] = 0;
+        coded_name(coded, sizeof coded, through[number]);
+        if (strcmp(symbol, through[number]) == 0 || (symbol[0] == '_' && strstr(symbol, coded)))
             return true;
+    }
     return false;
+}
+
+static char **through_types;
+static size_t through_type_count, through_type_room;
+
+/* Notes that a function which the user named takes records of this type, which are locks to the program then. */
+void add_through_type(const char *type)
+{
+    if (is_through_type(type))
+        return;
+    through_types = grown(through_types, through_type_count, &through_type_room, sizeof *through_types);
+    through_types[through_type_count++] = must(strdup(type));
+}
+
+/* Answers whether a type is as good as a lock to the program: what a function takes that the user named, or the type
+   of such a function. */
+bool is_through_type(const char *type)
+{
+    size_t length = strlen(type);
+    for (size_t number = 0; length && number < through_count; number++)
+        if (strncmp(through[number], type, length) == 0 && strncmp(through[number] + length, "::", 2) == 0)
+            return true;
+    return length && is_in((const char *const *)through_types, through_type_count, type);
 }

@@ -40,6 +40,15 @@ const char *base_of(const char *path)
     return base ? base + 1 : path;
 }
 
+/* Gives the text that begins so far into some bytes, or NULL where it doesn't end there. */
+const char *text_in(struct bytes bytes, uint64_t offset)
+{
+    uint64_t length = (uint64_t)(bytes.end - bytes.at);
+    if (offset >= length || !memchr(bytes.at + offset, 0, length - offset))
+        return NULL;
+    return (const char *)bytes.at + offset;
+}
+
 /* FNV-1a of 32 bits. */
 uint32_t checksum(const char *text)
 {

@@ -6,7 +6,7 @@
 #include <stdlib.h>
 #include <string.h>
 
-#include "merger.h"
+#include "dwarf.h"
 
 enum { CONTENT_PATH = 1, CONTENT_DIRECTORY = 2 };
 
@@ -16,6 +16,7 @@ enum {
     STEP_ADVANCE_ADDRESS,
     STEP_ADVANCE_LINE,
     STEP_SET_FILE,
+    STEP_SET_COLUMN,
     STEP_ADD_CONSTANT = 8,
     STEP_ADVANCE_FIXED,
 };
@@ -45,6 +46,7 @@ struct row {
     uint64_t address;
     uint64_t file;
     uint64_t line;
+    uint64_t column;
 };
 
 /* What a run of rows has behind it. */
@@ -63,58 +65,22 @@ struct reader {
 
 static uint64_t number_of(struct reader *reader, unsigned size)
 {
-    uint64_t value = 0;
-    if ((size_t)(reader->rest.end - reader->rest.at) < size) {
-        reader->rest = (struct bytes){NULL, NULL};
-        return 0;
-    }
-    for (unsigned byte = 0; byte < size; byte++)
-        value |= (uint64_t)reader->rest.at[byte] << 8 * byte;
-    reader->rest.at += size;
-    return value;
+    return take_number(&reader->rest, size);
 }
 
 static uint64_t packed(struct reader *reader, bool is_signed)
 {
-    uint64_t value = 0;
-    for (unsigned shift = 0; reader->rest.at < reader->rest.end; shift += 7) {
-        unsigned char byte = *reader->rest.at++;
-        if (shift < 64)
-            value |= (uint64_t)(byte & 0x7f) << shift;
-        if (!(byte & 0x80)) {
-            if (is_signed && (byte & 0x40) && shift < 57)
-                value |= ~UINT64_C(0) << (shift + 7);
-            return value;
-        }
-    }
-    reader->rest = (struct bytes){NULL, NULL};
-    return 0;
-}
-
-static const char *text_in(struct bytes bytes, uint64_t offset)
-{
-    uint64_t length = (uint64_t)(bytes.end - bytes.at);
-    if (offset >= length || !memchr(bytes.at + offset, 0, length - offset))
-        return NULL;
-    return (const char *)bytes.at + offset;
+    return take_packed(&reader->rest, is_signed);
 }
 
 static const char *text_of(struct reader *reader)
 {
-    const char *text = text_in(reader->rest, 0);
-    if (text)
-        reader->rest.at += strlen(text) + 1;
-    else
-        reader->rest = (struct bytes){NULL, NULL};
-    return text;
+    return take_text(&reader->rest);
 }
 
 static void skip(struct reader *reader, uint64_t count)
 {
-    if (count > (uint64_t)(reader->rest.end - reader->rest.at))
-        reader->rest = (struct bytes){NULL, NULL};
-    else
-        reader->rest.at += count;
+    take_skip(&reader->rest, count);
 }
 
 /* Reads a field of an entry of version 5, as a text or a number. */
@@ -224,6 +190,7 @@ static void close_row(struct reader *reader, const struct unit_lines *unit,
     for (; low < reader->binary->site_count && sites[low].offset < sequence->row.address; low++) {
         sites[low].file = path_of(unit, sequence->before.file);
         sites[low].line = sites[low].file ? (unsigned)sequence->before.line : 0;
+        sites[low].column = (unsigned)sequence->before.column;
     }
 }
 
@@ -239,7 +206,7 @@ static void add_row(struct reader *reader, const struct unit_lines *unit, struct
 
 static void begin_sequence(struct sequence *sequence)
 {
-    *sequence = (struct sequence){.row = {0, 1, 1}};
+    *sequence = (struct sequence){.row = {0, 1, 1, 0}};
 }
 
 static void extended_step(struct reader *reader, struct unit_lines *unit, struct sequence *sequence)
@@ -272,6 +239,8 @@ static void standard_step(struct reader *reader, const struct unit_lines *unit,
         row->line += packed(reader, true);
     else if (step == STEP_SET_FILE)
         row->file = packed(reader, false);
+    else if (step == STEP_SET_COLUMN)
+        row->column = packed(reader, false);
     else if (step == STEP_ADD_CONSTANT)
         row->address += (255 - unit->first_special) / unit->line_range * unit->least_instruction;
     else if (step == STEP_ADVANCE_FIXED)

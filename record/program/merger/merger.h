@@ -25,6 +25,7 @@ enum telling {
     TOLD_BY_FIRST,   /* no call initialised it: the source line that took it first */
     TOLD_BY_ADDRESS, /* the address of such a call, for want of debug information */
     TOLD_BY_STATIC,  /* the variable that it is */
+    TOLD_BY_MEMBER,  /* the member of a record that it is */
 };
 
 struct bytes {
@@ -37,7 +38,8 @@ struct bytes {
 struct frame {
     const char *function; /* NULL where it isn't known */
     const char *file;
-    unsigned line; /* 0 where it isn't known */
+    unsigned line;   /* 0 where it isn't known */
+    unsigned column; /* likewise: of an innermost frame alone */
 };
 
 /* A place in the code of a file, and its frames, the innermost first. */
@@ -47,10 +49,12 @@ struct site {
     size_t frame_count;
     const char *file; /* as the table of lines has it */
     unsigned line;    /* likewise, or 0 */
+    unsigned column;
 };
 
 struct binary {
     char *path;
+    char *name; /* what others link it by, or its own without directories */
     const char *bytes; /* NULL where it can't be read */
     uint64_t length;
     struct symbol *symbols;
@@ -59,6 +63,8 @@ struct binary {
     struct site *sites;
     size_t site_count;
     size_t site_room;
+    struct sources *sources;
+    struct debug *debug;
 };
 
 struct module {
@@ -66,10 +72,12 @@ struct module {
     uint64_t last;
     uint64_t load;
     char *path;
+    const char *name; /* as classes have it */
     struct binary *binary;
 };
 
 struct modules {
+    const struct process *process;
     struct module *all;
     size_t count;
     size_t room;
@@ -109,6 +117,7 @@ struct lock {
     uint32_t level;
     uint32_t last_holder;
     uint32_t last_place; /* of the program, where that took it */
+    const struct unit *frames; /* of the calls that are about to take it first */
     enum undo undo;
 };
 
@@ -181,6 +190,7 @@ __attribute__((format(printf, 1, 2))) void say(const char *format, ...);
 void *must(void *memory);
 void *grown(void *all, size_t count, size_t *room, size_t size);
 const char *base_of(const char *path);
+const char *text_in(struct bytes bytes, uint64_t offset);
 uint32_t checksum(const char *text);
 void append_clean(char *text, size_t size, const char *bytes, const char *without);
 void cut_name(char *text, size_t most);
@@ -196,8 +206,14 @@ extern struct binary **binaries;
 extern size_t binary_count;
 struct binary *binary_of(const char *path);
 struct bytes section_of(const struct binary *binary, const char *name);
-uint64_t called_before(const struct binary *binary, uint64_t address);
 const char *symbol_at(const struct binary *binary, uint64_t address, uint64_t *offset);
+
+/* code.c */
+uint64_t called_before(const struct binary *binary, uint64_t address);
+void each_call(struct binary *binary, bool (*is_wanted)(const struct binary *, uint64_t),
+               void (*see)(struct binary *, uint64_t, bool));
+void each_import(struct binary *binary, void (*see)(struct binary *, const char *, uint64_t));
+void each_symbol(struct binary *binary, void (*see)(struct binary *, const char *, uint64_t));
 
 /* debug.c */
 const struct binary *debug_file_of(const struct binary *binary);
@@ -216,9 +232,21 @@ void short_function(char *text, size_t size, const char *function);
 void know_function(const struct frame *frame);
 const char *function_of(const struct frame *frame);
 bool is_maker(const struct frame *frame);
+bool is_through(const char *function, const char *short_name, bool *is_met);
+bool may_be_maker(const char *symbol);
+bool is_through_type(const char *type);
+void add_through_type(const char *type);
 extern char **through;
 extern size_t through_count;
 extern bool *through_met;
+
+/* members.c */
+bool name_member(const struct modules *modules, const struct unit *first, unsigned following,
+                 const struct unit *frames, char *name, size_t size);
+
+/* sources.c */
+void ask_for_sources(struct binary *binary);
+unsigned number_in_function(const struct binary *binary, const struct frame *frame);
 
 /* modules.c */
 void add_module(struct modules *modules, const struct unit *first, unsigned following);
@@ -226,13 +254,17 @@ const struct module *module_at(const struct modules *modules, uint64_t address);
 
 /* calls.c */
 void ask_for_calls(const struct modules *modules, const uint64_t *calls, unsigned count);
+void ask_for_inits(const struct modules *modules, const uint64_t *calls, unsigned count);
+bool is_place_through(const struct binary *binary, uint64_t offset);
+uint64_t sum_of_calls(const struct modules *modules, const uint64_t *calls, unsigned count);
 void name_function(char *name, size_t size, const struct call *call);
 bool telling_call(const struct modules *modules, const uint64_t *calls, unsigned count,
                   struct call *call, uint64_t *callers);
 
 /* classes.c */
-struct class *class_of_calls(const struct modules *modules, const char *how,
-                             const struct unit *first, unsigned following);
+struct class *class_of_init(const struct modules *modules, const struct unit *first, unsigned following);
+struct class *class_of_first(const struct modules *modules, const struct unit *first, unsigned following,
+                             const struct unit *frames);
 struct class *class_of_static(const struct modules *modules, uint64_t address);
 struct class *readers_of(struct class *class);
 size_t class_count(void);

@@ -34,7 +34,8 @@ static void on_first(uint64_t address, const struct unit *first, unsigned follow
         return;
     struct class *class = following ? NULL : class_of_static(&modules, address);
     if (!class)
-        class = class_of_calls(&modules, "first", first, following);
+        class = class_of_first(&modules, first, following, lock->frames);
+    lock->frames = NULL;
     begin_lock(lock, class);
 }
 
@@ -55,7 +56,7 @@ static void on_got(enum operation operation, uint32_t task, const struct unit *f
     struct taking taking = taking_by(operation);
     end_wait(task, first->value);
     if (!lock->class)
-        begin_lock(lock, class_of_calls(&modules, "first", first, 0));
+        begin_lock(lock, class_of_first(&modules, first, 0, NULL));
     if (lock->holder == task && !taking.is_shared) {
         lock->level++;
         return;
@@ -113,7 +114,7 @@ static void step(const struct unit *first, uint32_t task)
         break;
     case RECORD_INIT:
         begin_lock(find_lock(&locks, value, true),
-                   class_of_calls(&modules, "init", first, following));
+                   class_of_init(&modules, first, following));
         break;
     case RECORD_FIRST:
         on_first(value, first, following);
@@ -121,6 +122,9 @@ static void step(const struct unit *first, uint32_t task)
     case RECORD_PLACE:
         if (following)
             add_place(&modules, first);
+        break;
+    case RECORD_FRAMES:
+        find_lock(&locks, value, true)->frames = first;
         break;
     case RECORD_DESTROY:
         on_destroy(value);
@@ -160,8 +164,9 @@ static void survey_step(const struct unit *first, uint32_t task)
     (void)task;
     if (operation == RECORD_MODULE)
         add_module(&modules, first, following);
-    if (operation == RECORD_INIT || operation == RECORD_FIRST || operation == RECORD_WAIT ||
-        operation == RECORD_WAIT_READ)
+    if (operation == RECORD_INIT)
+        ask_for_inits(&modules, (const uint64_t *)&first[1], 2 * following);
+    if (operation == RECORD_FIRST || operation == RECORD_WAIT || operation == RECORD_WAIT_READ)
         ask_for_calls(&modules, (const uint64_t *)&first[1], 2 * following);
     if (operation == RECORD_PLACE && following)
         ask_for_place(&modules, first);
@@ -260,10 +265,11 @@ static void write_waits(const struct recording *all, size_t count, size_t which)
     forget_waits();
 }
 
-static void begin_replay(struct start *start)
+static void begin_replay(struct start *start, const struct process *process)
 {
     locks = start->locks;
     modules = start->modules;
+    modules.process = process;
     for (size_t held = 0; held < start->held_count; held++)
         hold_from_start(1, &locks, start->held[held]);
     free(start->held);
@@ -274,7 +280,7 @@ static void go_over(struct recording *all, size_t count, size_t which,
 {
     struct recording *recording = &all[which];
     bool *is_kept = must(calloc(count, sizeof *is_kept));
-    begin_replay(&recording->start);
+    begin_replay(&recording->start, recording->process);
     begin_places();
     place_records(recording);
     uint64_t fork = next_fork(all, count, which, is_kept);

@@ -3,9 +3,9 @@
  *
  * Report:
  * traces 1 refused 0 events 16 classes 4 dependencies 4
- * inversion circle:A -> circle:B at circle-1:4 via circle:B -> main:circle.c:46 -> circle:A
- * inversion circle:B -> main:circle.c:46 at circle-1:11 via main:circle.c:46 -> circle:A -> circle:B
- * inversion main:circle.c:46 -> circle:A at circle-1:16 via circle:A -> circle:B -> main:circle.c:46
+ * inversion circle:A -> circle:B at circle-1:4 via circle:B -> main:circle.c -> circle:A
+ * inversion circle:B -> main:circle.c at circle-1:11 via main:circle.c -> circle:A -> circle:B
+ * inversion main:circle.c -> circle:A at circle-1:16 via circle:A -> circle:B -> main:circle.c
  * violations 3
  */
 #include "planted.h"

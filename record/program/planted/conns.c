@@ -12,12 +12,12 @@
  *
  * Report:
  * traces 1 refused 0 events 8 classes 2 dependencies 2
- * inversion conn_new:conns.c:37 -> conns:table at conns-1:8 via conns:table -> conn_new:conns.c:37
- * inversion conns:table -> conn_new:conns.c:37 at conns-1:4 via conn_new:conns.c:37 -> conns:table
+ * inversion conn_new:conns.c -> conns:table at conns-1:8 via conns:table -> conn_new:conns.c
+ * inversion conns:table -> conn_new:conns.c at conns-1:4 via conn_new:conns.c -> conns:table
  * violations 2
  *
- * Taken: 1 conn_new:conns.c:37 take_both planted.h:20
- * Taken: 1 conn_new:conns.c:37 take_both planted.h:21
+ * Taken: 1 conn_new:conns.c take_both planted.h:20
+ * Taken: 1 conn_new:conns.c take_both planted.h:21
  * Taken: 1 conns:table take_both planted.h:20
  * Taken: 1 conns:table take_both planted.h:21
  */

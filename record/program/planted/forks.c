@@ -4,14 +4,14 @@
  *
  * Report:
  * traces 2 refused 0 events 10 classes 2 dependencies 2
- * inversion forks:A -> new_lock:forks.c:26 at forks-2:12 via new_lock:forks.c:26 -> forks:A
- * inversion new_lock:forks.c:26 -> forks:A at forks-1:6 via forks:A -> new_lock:forks.c:26
+ * inversion forks:A -> new_lock:forks.c at forks-2:12 via new_lock:forks.c -> forks:A
+ * inversion new_lock:forks.c -> forks:A at forks-1:6 via forks:A -> new_lock:forks.c
  * violations 2
  *
  * Taken: 2 forks:A main forks.c:36
  * Taken: 1 forks:A take_both planted.h:21
- * Taken: 1 new_lock:forks.c:26 main forks.c:40
- * Taken: 1 new_lock:forks.c:26 take_both planted.h:20
+ * Taken: 1 new_lock:forks.c main forks.c:40
+ * Taken: 1 new_lock:forks.c take_both planted.h:20
  */
 #include <sys/wait.h>
 #include <unistd.h>

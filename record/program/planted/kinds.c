@@ -10,8 +10,8 @@
  * traces 1 refused 0 events 8 classes 3 dependencies 2
  * clean
  *
- * Class: main:kinds.c:43
- * Class: main:kinds.c:44
+ * Class: main:kinds.c
+ * Class: main:kinds.c#2
  */
 #include "planted.h"
 

@@ -7,14 +7,14 @@
  *
  * Report:
  * traces 1 refused 0 events 8 classes 2 dependencies 2
- * inversion main:known.c:45 -> main:known.c:46 at known-1:4 via main:known.c:46 -> main:known.c:45
- * inversion main:known.c:46 -> main:known.c:45 at known-1:8 via main:known.c:45 -> main:known.c:46
+ * inversion main:known.c -> main:known.c#2 at known-1:4 via main:known.c#2 -> main:known.c
+ * inversion main:known.c#2 -> main:known.c at known-1:8 via main:known.c -> main:known.c#2
  * violations 2
  *
- * Taken: 1 main:known.c:45 take_two known.c:36
- * Taken: 1 main:known.c:45 take_two known.c:37
- * Taken: 1 main:known.c:46 take_two known.c:36
- * Taken: 1 main:known.c:46 take_two known.c:37
+ * Taken: 1 main:known.c take_two known.c:36
+ * Taken: 1 main:known.c take_two known.c:37
+ * Taken: 1 main:known.c#2 take_two known.c:36
+ * Taken: 1 main:known.c#2 take_two known.c:37
  */
 #include "planted.h"
 

@@ -9,12 +9,12 @@
  * traces 1 refused 0 events 14 classes 7 dependencies 0
  * clean
  *
- * Says: process 1 ended while t2 waited for main:lasting.c:73, held by t1
+ * Says: process 1 ended while t2 waited for main:lasting.c, held by t1
  * Says: process 1 ended while t3 waited for lasting:written, held by t1
  * Says: process 1 ended while t4 waited for lasting:written_in_time, held by t1
  * Says: process 1 ended while t5 waited for lasting:written_by_clock, held by t1
- * Says: process 1 ended while t6 waited for main:lasting.c:74, held by t1
- * Says: process 1 ended while t7 waited for main:lasting.c:75, held by t1
+ * Says: process 1 ended while t6 waited for main:lasting.c#2, held by t1
+ * Says: process 1 ended while t7 waited for main:lasting.c#3, held by t1
  * Says: process 1 ended while t8 waited for lasting:mutex, held by t1
  */
 #define _GNU_SOURCE

@@ -8,7 +8,7 @@
  * clean
  *
  * Says: 1 locks were left out: their task held 96 already
- * Class: a_function_with_a_name_that_is_longer_than_~..:limits.c:39
+ * Class: a_function_with_a_name_that_is_longer_than_a_c~..:limits.c
  */
 #include "planted.h"
 

@@ -10,8 +10,8 @@
  *
  * Report:
  * traces 1 refused 0 events 8 classes 2 dependencies 2
- * inversion loop:table -> main:loop.c:38 at loop-1:4 via main:loop.c:38 -> loop:table
- * inversion main:loop.c:38 -> loop:table at loop-1:8 via loop:table -> main:loop.c:38
+ * inversion loop:table -> main:loop.c at loop-1:4 via main:loop.c -> loop:table
+ * inversion main:loop.c -> loop:table at loop-1:8 via loop:table -> main:loop.c
  * violations 2
  */
 #include "planted.h"

@@ -9,8 +9,8 @@
  *
  * Report:
  * traces 1 refused 0 events 8 classes 2 dependencies 2
- * inversion main:maker.c:49 -> main:maker.c:50 at maker-1:4 via main:maker.c:50 -> main:maker.c:49
- * inversion main:maker.c:50 -> main:maker.c:49 at maker-1:8 via main:maker.c:49 -> main:maker.c:50
+ * inversion main:maker.c -> main:maker.c#2 at maker-1:4 via main:maker.c#2 -> main:maker.c
+ * inversion main:maker.c#2 -> main:maker.c at maker-1:8 via main:maker.c -> main:maker.c#2
  * violations 2
  *
  * Says: no lock was made through nobody

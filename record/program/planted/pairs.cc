@@ -1,7 +1,7 @@
 /*
  * A class of C++ with two locks as members, which no call initialises, and with two constructors. What
  * first takes them is a function that both call, by locks of the standard library that are called or
- * inlined. One thread takes the locks of one object in turn, another those of the other object in the
+ * inlined. Their classes are the members. One thread takes the locks of one object in turn, another those of the other object in the
  * other turn.
  *
  * Flags: -O0
@@ -12,18 +12,18 @@
  *
  * Report:
  * traces 1 refused 0 events 16 classes 2 dependencies 2
- * inversion Pair::open:pairs.cc:44 -> Pair::open:pairs.cc:48 at pairs-1:12 via Pair::open:pairs.cc:48 -> Pair::open:pairs.cc:44
- * inversion Pair::open:pairs.cc:48 -> Pair::open:pairs.cc:44 at pairs-1:16 via Pair::open:pairs.cc:44 -> Pair::open:pairs.cc:48
+ * inversion Pair::in -> Pair::out at pairs-1:12 via Pair::out -> Pair::in
+ * inversion Pair::out -> Pair::in at pairs-1:16 via Pair::in -> Pair::out
  * violations 2
  *
- * Taken: 2 Pair::open:pairs.cc:44 Pair::open(int) pairs.cc:44
- * Taken: 2 Pair::open:pairs.cc:48 Pair::open(int) pairs.cc:48
- * Taken: 1 Pair::open:pairs.cc:44 Pair::forth() pairs.cc:55
- * Taken: 1 Pair::open:pairs.cc:48 Pair::forth() pairs.cc:56
- * Taken: 1 Pair::open:pairs.cc:48 Pair::back() pairs.cc:61
- * Taken: 1 Pair::open:pairs.cc:44 Pair::back() pairs.cc:62
- *
- * Says: 2 of 2 classes go by the line that took a lock first, since no call initialised it: locks of a kind may be several classes, and orders are missed
+ * Class: Pair::in
+ * Class: Pair::out
+ * Taken: 2 Pair::in Pair::open(int) pairs.cc:44
+ * Taken: 2 Pair::out Pair::open(int) pairs.cc:48
+ * Taken: 1 Pair::in Pair::forth() pairs.cc:55
+ * Taken: 1 Pair::out Pair::forth() pairs.cc:56
+ * Taken: 1 Pair::out Pair::back() pairs.cc:61
+ * Taken: 1 Pair::in Pair::back() pairs.cc:62
  */
 #include <mutex>
 

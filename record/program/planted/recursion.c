@@ -3,7 +3,7 @@
  *
  * Report:
  * traces 1 refused 0 events 4 classes 1 dependencies 1
- * recursion new_lock:recursion.c:18 at recursion-1:4
+ * recursion new_lock:recursion.c at recursion-1:4
  * violations 1
  */
 #include "planted.h"

@@ -9,8 +9,8 @@
  *
  * Report:
  * traces 1 refused 0 events 8 classes 2 dependencies 2
- * inversion conn_init:tails.c:.. -> tails:table at tails-1:8 via tails:table -> conn_init:tails.c:..
- * inversion tails:table -> conn_init:tails.c:.. at tails-1:4 via conn_init:tails.c:.. -> tails:table
+ * inversion conn_init:tails.c -> tails:table at tails-1:8 via tails:table -> conn_init:tails.c
+ * inversion tails:table -> conn_init:tails.c at tails-1:4 via conn_init:tails.c -> tails:table
  * violations 2
  */
 #include "planted.h"
