@@ -39,6 +39,7 @@ recursion new_lock:recursion.c at recursion-1:4
         and holds new_lock:recursion.c since line 3, taken in take_both at {SOURCE}/planted.h:20
 new_lock:recursion.c
     initialised in new_lock at {SOURCE}/recursion.c:18
+    taken under itself once, 2 instances, one order, by addresses that grow
 """),
     ("pairs.cc", None,
      both_ways((f"Pair::forth() at {SOURCE}/pairs.cc:55", f"Pair::forth() at {SOURCE}/pairs.cc:56"),
@@ -81,6 +82,23 @@ lock_new:kinds.c
                OPEN, OPEN)
      + f"{OPEN}\n    first locked in Pair::open(int) at ../pairs+HEX\n{callers('Pair::open')}" * 2),
 ]
+
+
+ORDERED = """\
+new_account:accounts.c
+    initialised in new_account at ../planted/accounts.c:28
+    taken under itself 6 times, 3 instances, one order, by addresses that grow
+new_cell:accounts.c
+    initialised in new_cell at ../planted/accounts.c:33
+    taken under itself 3 times, 3 instances, CYCLE @1 -> @2 -> @3 -> @1
+"""
+
+
+def check_explain_orders(directory):
+    """Of a recursion the order of its locks is said."""
+    answer = explained(directory, "accounts.c")
+    end = answer.stdout[answer.stdout.index("\nnew_account:accounts.c\n") + 1:]
+    must(re.fullmatch(re.escape(ORDERED).replace(r"\.\./", r"\S*/"), end), f"explain of orders: {answer.stdout}")
 
 
 def explained(directory, name, flags=None):

@@ -4,7 +4,7 @@ import os
 import re
 import shutil
 
-from planting import COMPILERS, FLAGS, PLANTED, Planted, call, must, record
+from planting import COMPILERS, FLAGS, PLANTED, RUN, Planted, call, lockcheck, must, record
 
 
 def names_in(stream):
@@ -89,7 +89,35 @@ def check_versions(directory):
              f"{library}: the classes are {names}")
 
 
+def check_labels(directory):
+    """A trace has the name of its program, and a comment has the words that it was started with."""
+    program = os.path.join(directory, "two-runs-0", "two-runs")
+    stream = os.path.join(directory, "labels.trace")
+    answer = call([RUN, "-o", stream, "sh", "-c", f"{program} forth; exec {program} back"])
+    with open(stream, encoding="ascii") as lines:
+        text = lines.read()
+    must(answer.returncode == 0, f"labels: {answer.stderr}")
+    must(re.findall("^trace (.*)$", text, re.M) == ["two-runs-2", "two-runs-3"], f"labels: {text}")
+    for number, word in ((2, "forth"), (3, "back")):
+        must(f"# process {number} {program} {word}\n" in text, f"labels: the words aren't there: {text}")
+
+
+def check_single_locks(directory):
+    """With --instances each lock is a class of its own, and the order of addresses is no recursion."""
+    program = os.path.join(directory, "accounts-0", "accounts")
+    stream = os.path.join(directory, "instances.trace")
+    record(stream, "single", [program], ["--instances"])
+    with open(stream, encoding="ascii") as lines:
+        report = lockcheck(lines.read()).stdout.splitlines()
+    cells = [f"new_cell:accounts.c[{number}]" for number in (1, 2, 3)]
+    circle = dict(zip(cells, cells[1:] + cells[:1]))
+    found = {tuple(line.split()[1:4:2]) for line in report if line.startswith("inversion ")}
+    must(found == set(circle.items()) and report[-1] == "violations 3", f"--instances: {report}")
+
+
 def check_naming(directory):
+    check_labels(directory)
+    check_single_locks(directory)
     check_comments(directory)
     check_links(directory)
     check_versions(directory)

@@ -70,6 +70,7 @@ class Planted:
         self.runs = self.values(lines, "Run: ") or [""]
         self.says = self.values(lines, "Says: ")
         self.classes = self.values(lines, "Class: ")
+        self.has = self.values(lines, "Has: ")
         self.never = self.values(lines, "Not: ")
         self.taken = sorted(self.values(lines, "Taken: "))
         start = lines.index("Report:") + 1 if "Report:" in lines else len(lines)

@@ -119,6 +119,8 @@ static void describe(struct process *process, const struct process *parent)
     process->started = (uint64_t)now.tv_sec * 1000000000 + (uint64_t)now.tv_nsec;
     snprintf(process->program, sizeof process->program, "%s", program_path());
     snprintf(process->name, sizeof process->name, "%s", program_name());
+    const char *arguments = program_arguments(&process->argument_bytes);
+    memcpy(process->arguments, arguments, process->argument_bytes);
     if (parent) {
         process->parent_pid = parent->pid;
         process->parent_started = parent->started;

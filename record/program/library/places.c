@@ -3,11 +3,7 @@
 #define _GNU_SOURCE
 #include <dlfcn.h>
 #include <link.h>
-#include <stdio.h>
 #include <string.h>
-#include <sys/auxv.h>
-#include <sys/stat.h>
-#include <unistd.h>
 #include <unwind.h>
 
 #include "recorder.h"
@@ -20,40 +16,7 @@ struct told {
 };
 static struct told told[TOLD_PLACES];
 
-static char program[2048];
-static char name[256];
 static struct dl_find_object own;
-
-const char *program_path(void)
-{
-    return program;
-}
-
-const char *program_name(void)
-{
-    return name;
-}
-
-/* Gives what the program was started as, maybe by a link, where that leads to it. Of a script it leads to another
-   file, and of a descriptor it is no name. */
-static const char *started_as(void)
-{
-    const char *path = (const char *)getauxval(AT_EXECFN);
-    struct stat started, own_file;
-    if (!path || strncmp(path, "/proc/", 6) == 0 || strncmp(path, "/dev/", 5) == 0 || stat(path, &started) != 0 ||
-        stat("/proc/self/exe", &own_file) != 0)
-        return program;
-    return started.st_dev == own_file.st_dev && started.st_ino == own_file.st_ino ? path : program;
-}
-
-static void find_program(void)
-{
-    ssize_t length = readlink("/proc/self/exe", program, sizeof program - 1);
-    program[length > 0 ? length : 0] = 0;
-    const char *path = started_as();
-    const char *base = strrchr(path, '/');
-    snprintf(name, sizeof name, "%s", base ? base + 1 : path);
-}
 
 void find_own_place(void)
 {
@@ -108,7 +71,7 @@ bool must_tell_module(uint64_t address, uint64_t range[3], const char **path)
     range[0] = (uint64_t)object.dlfo_map_start;
     range[1] = (uint64_t)object.dlfo_map_end - 1;
     range[2] = map->l_addr;
-    *path = map->l_name && map->l_name[0] ? map->l_name : program;
+    *path = map->l_name && map->l_name[0] ? map->l_name : program_path();
     struct told *place = &told[range[0] * UINT64_C(0x9e3779b97f4a7c15) >> 54];
     uint64_t end_and_map = range[1] ^ (uint64_t)map << 16;
     if (__atomic_load_n(&place->start, __ATOMIC_RELAXED) == range[0] &&

@@ -110,8 +110,12 @@ void find_own_place(void);
 unsigned callers(uint64_t *places, unsigned most);
 bool is_in_module(uint64_t address);
 bool must_tell_module(uint64_t address, uint64_t range[3], const char **path);
+
+/* program.c */
+void find_program(void);
 const char *program_path(void);
 const char *program_name(void);
+const char *program_arguments(size_t *length);
 
 /* next.c */
 void find_all_next(void);

@@ -91,6 +91,8 @@ struct chunk {
 /* Why the recording of a process ended before the process did. */
 enum ended { ENDED_NOT, ENDED_NO_SPACE, ENDED_NO_MEMORY, ENDED_BY_VALGRIND };
 
+#define MOST_ARGUMENT_BYTES 1536
+
 struct process {
     uint64_t magic;
     uint64_t pid;
@@ -105,6 +107,8 @@ struct process {
     uint64_t lost_children; /* children of forks for which no file could be made */
     char program[2048];
     char name[256]; /* of the program, as it was started */
+    uint64_t argument_bytes;
+    char arguments[MOST_ARGUMENT_BYTES]; /* with its name before them, each with a 0 behind it; maybe cut off */
 };
 
 #define PROCESS_BYTES 4096

@@ -1,5 +1,6 @@
 /* The classes of locks, which are named by source lines, by places in modules and by variables. */
 #define _GNU_SOURCE
+#include <inttypes.h>
 #include <stdlib.h>
 #include <string.h>
 
@@ -218,6 +219,17 @@ struct class *readers_of(struct class *class)
     class->readers = class_named(name, class->places, class->telling);
     class->readers->locks = class;
     return class->readers;
+}
+
+/* Gives a lock of a class a class of its own. */
+struct class *class_of_instance(struct class *class)
+{
+    char name[TEXT_BYTES], end[32];
+    snprintf(end, sizeof end, "[%" PRIu64 "]", ++class->instances);
+    snprintf(name, sizeof name, "%s", class->name);
+    cut_name(name, MOST_NAME - strlen(end));
+    strcat(name, end);
+    return class_named(name, class->places, class->telling);
 }
 
 /* Counts the classes that stand in a trace: some locks are initialised and never taken. */

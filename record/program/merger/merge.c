@@ -1,8 +1,9 @@
 /*
- * merge DIRECTORY STREAM LABEL PLACES [FUNCTION ..]: puts the files of a recording together as one stream of
- * traces, and says on standard error how much it was. With 1 for PLACES the places at which locks were
- * taken go to STREAM.places. The functions are those through which the program
- * makes its locks. The status is 0 where the stream was written, 1 where no process was recorded.
+ * merge [--cut N] [--instances] DIRECTORY STREAM LABEL PLACES [FUNCTION ..]: puts the files of a recording
+ * together as one stream of traces, and says on standard error how much it was. An empty LABEL is each program's
+ * name. With 1 for PLACES the places at which locks were taken go to STREAM.places. The functions are those
+ * through which the program makes its locks. The status is 0 where the stream was
+ * written, 1 where no process was recorded.
  */
 #define _GNU_SOURCE
 #include <errno.h>
@@ -80,18 +81,36 @@ static void say_classes(void)
             say("no lock was made through %s", through[number]);
 }
 
+/* Says which program a process was, and its arguments. */
+static void write_process(const struct process *process, size_t number)
+{
+    static char text[8 * PROCESS_BYTES];
+    size_t length = process->argument_bytes < MOST_ARGUMENT_BYTES ? process->argument_bytes : MOST_ARGUMENT_BYTES;
+    const char *end = process->arguments + length;
+    text[0] = 0;
+    append_clean(text, sizeof text, process->program, "");
+    const char *argument = process->arguments + strnlen(process->arguments, length);
+    while (argument + 1 < end) {
+        char *own = must(strndup(argument + 1, (size_t)(end - argument - 1)));
+        strcat(text, " ");
+        append_clean(text, sizeof text, own, "");
+        argument += 1 + strlen(own);
+        free(own);
+    }
+    fprintf(stream, "# process %zu %s%s\n", number, text, length == MOST_ARGUMENT_BYTES ? " .." : "");
+    end_line(0, NULL);
+}
+
 static void replay_all(struct recording *all, size_t count, const char *label)
 {
-    char clean[256] = "";
-    append_clean(clean, sizeof clean, label, "");
     for (size_t number = 0; number < count; number++) {
-        char program[4096] = "";
-        append_clean(program, sizeof program, all[number].process->program, "");
-        fprintf(stream, "# process %zu %s\n", number + 1, program);
-        end_line(0, NULL);
+        char clean[1024] = "";
+        append_clean(clean, sizeof clean, label[0] ? label : all[number].process->name, "");
+        write_process(all[number].process, number + 1);
         replay(all, count, number, clean);
     }
     write_classes();
+    write_instances();
 }
 
 static bool is_file(FILE *file)
@@ -103,8 +122,11 @@ static bool is_file(FILE *file)
 int main(int argument_count, char **arguments)
 {
     struct recording *all;
-    if (argument_count < 5)
+    int first = read_settings(argument_count, arguments);
+    if (first == 0 || argument_count - first < 4)
         return NOT_WRITTEN;
+    arguments += first - 1;
+    argument_count -= first - 1;
     through = arguments + 5;
     through_count = (size_t)argument_count - 5;
     through_met = must(calloc(through_count + 1, sizeof *through_met));

@@ -16,6 +16,7 @@ enum {
     MOST_CLASSES = 8191,
     MOST_HELD = 96,
     MOST_TRACES = 65535,
+    MOST_CUT_TRACES = 60000, /* after these a trace isn't cut any more, so that the stream can be read */
 };
 #define MOST_STREAM_BYTES INT64_C(2147483648)
 
@@ -182,8 +183,17 @@ struct totals {
     uint64_t damaged;
 };
 
+struct settings {
+    uint64_t cut;       /* lines after which a new trace begins, or 0 */
+    bool has_instances; /* each lock is a class of its own */
+};
+
 extern FILE *stream;
 extern struct totals totals;
+
+/* settings.c */
+extern struct settings settings;
+int read_settings(int count, char **words);
 
 /* helpers.c */
 __attribute__((format(printf, 1, 2))) void say(const char *format, ...);
@@ -267,6 +277,7 @@ struct class *class_of_first(const struct modules *modules, const struct unit *f
                              const struct unit *frames);
 struct class *class_of_static(const struct modules *modules, uint64_t address);
 struct class *readers_of(struct class *class);
+struct class *class_of_instance(struct class *class);
 size_t class_count(void);
 size_t classes_told(enum telling telling);
 void each_class(void (*see)(const struct class *));
@@ -304,6 +315,10 @@ void begin_wait(uint32_t task, const struct unit *first);
 void end_wait(uint32_t task, uint64_t address);
 size_t waits_left(const struct wait **all);
 void forget_waits(void);
+
+/* instances.c */
+void note_order(const struct lock *outer, const struct lock *inner);
+void write_instances(void);
 
 /* replay.c */
 void survey(struct recording *all, size_t count);

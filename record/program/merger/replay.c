@@ -22,8 +22,8 @@ static void end_holds(struct lock *lock)
 static void begin_lock(struct lock *lock, struct class *class)
 {
     end_holds(lock);
-    lock->class = class;
-    lock->instance = class ? ++class->instances : 0;
+    lock->class = class && settings.has_instances ? class_of_instance(class) : class;
+    lock->instance = lock->class ? ++lock->class->instances : 0;
     lock->undo = UNDO_NOTHING;
 }
 

@@ -21,6 +21,7 @@ static size_t process;
 static unsigned traces_of_process;
 static unsigned tasks_of_trace;
 static unsigned classes_of_trace;
+static uint64_t lines_of_trace; /* behind those that took up what was held */
 
 void begin_writer(const char *label_of_all, size_t process_number)
 {
@@ -65,6 +66,7 @@ static void write_event(const char *verb, uint32_t task, struct class *class, co
     fprintf(stream, "%s t%" PRIu32 " %s@%" PRIu64 "\n", verb, task, class->name, lock->instance);
     end_line(place, class);
     totals.events++;
+    lines_of_trace++;
 }
 
 static void write_header(void)
@@ -115,6 +117,12 @@ static void open_trace(const struct locks *locks)
         for (size_t place = 0; place < tasks[number].held_count; place++)
             take_up(locks, number, &tasks[number].held[place]);
     }
+    lines_of_trace = 0;
+}
+
+static bool must_cut(void)
+{
+    return settings.cut && lines_of_trace >= settings.cut && totals.traces < MOST_CUT_TRACES;
 }
 
 static unsigned is_new(const struct class *class)
@@ -126,7 +134,7 @@ static unsigned is_new(const struct class *class)
 static void make_room(const struct locks *locks, const struct task *task, const struct class *class,
                       const struct class *other)
 {
-    if (traces_of_process == 0 || (task->trace != totals.traces && tasks_of_trace == MOST_TASKS) ||
+    if (traces_of_process == 0 || must_cut() || (task->trace != totals.traces && tasks_of_trace == MOST_TASKS) ||
         classes_of_trace + is_new(class) + is_new(other) > MOST_CLASSES)
         open_trace(locks);
 }
@@ -148,12 +156,19 @@ void hold_from_start(uint32_t task, struct locks *locks, struct hold hold)
     push(task_at(task), hold);
 }
 
-static bool holds_class(const struct task *task, const struct locks *locks, const struct class *class)
+/* Answers whether a task holds a lock of the class of another one, and notes in which order it took them. */
+static bool holds_class(const struct task *task, const struct locks *locks, const struct lock *lock, bool waits)
 {
-    for (size_t place = 0; place < task->held_count; place++)
-        if (locks->all[task->held[place].lock].class == class)
-            return true;
-    return false;
+    bool does = false;
+    for (size_t place = 0; place < task->held_count; place++) {
+        const struct lock *held = &locks->all[task->held[place].lock];
+        if (held->class != lock->class)
+            continue;
+        does = true;
+        if (waits)
+            note_order(held, lock);
+    }
+    return does;
 }
 
 /* Writes that a task got a lock (docs/RECORD.md, Readers). A lock with recursive readers is two: who
@@ -166,9 +181,10 @@ void write_got(struct taking taking, uint32_t number, struct locks *locks, struc
     struct class *readers = taking.is_recursive ? readers_of(class) : class->readers;
     struct hold hold = {.lock = (uint32_t)(lock - locks->all), .place = place, .is_shared = taking.is_shared};
     hold.is_split = !taking.is_shared && readers;
+    bool waits = taking.waits && !(taking.is_shared && taking.is_recursive);
     bool passes = taking.is_shared && taking.is_recursive && taking.waits && task->held_count > 0;
     make_room(locks, task, class, hold.is_split || passes ? readers : NULL);
-    class->under_itself += !passes && holds_class(task, locks, class);
+    class->under_itself += !passes && holds_class(task, locks, lock, waits);
     hold.is_written = task->written + locks_of(&hold) <= MOST_HELD;
     if (taking.is_shared) {
         lock->readers++;
@@ -186,7 +202,6 @@ void write_got(struct taking taking, uint32_t number, struct locks *locks, struc
         write_event("acquire", number, readers, lock, place);
         write_event("release", number, readers, lock, 0);
     }
-    bool waits = taking.waits && !(taking.is_shared && taking.is_recursive);
     write_event(waits ? "acquire" : "try", number, class, lock, place);
     if (hold.is_split)
         write_event("try", number, readers, lock, place);
@@ -200,7 +215,7 @@ void write_waiting(bool is_recursive, uint32_t number, struct locks *locks, cons
     struct task *task = task_at(number);
     struct class *class = is_recursive ? readers_of(lock->class) : lock->class;
     make_room(locks, task, class, NULL);
-    lock->class->under_itself += holds_class(task, locks, lock->class);
+    lock->class->under_itself += holds_class(task, locks, lock, !is_recursive);
     if (task->written < MOST_HELD)
         write_event("acquire", number, class, lock, place);
     else
