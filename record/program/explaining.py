@@ -32,18 +32,23 @@ SOURCE = "../planted"
 # The symbol of Pair::open(int), and a place in the program, whose path has an address behind it.
 OPEN = "pairs:_ZN4Pair4openEi+HEX"
 TAKE_BOTH = "take_both(pthread_mutex_t*, pthread_mutex_t*)"
+LINKS = f"at {SOURCE}/links.cc"
+KINDS = f"at {SOURCE}/kinds.c"
 EXPLAINED = [
     ("recursion.c", None, f"""\
 recursion new_lock:recursion.c at recursion-1:4
-    recursion-1:4 takes new_lock:recursion.c in take_both at {SOURCE}/planted.h:21
-        and holds new_lock:recursion.c since line 3, taken in take_both at {SOURCE}/planted.h:20
+    recursion-1:4 takes new_lock:recursion.c in take_both at {SOURCE}/planted.h:21, from main at {SOURCE}/recursion.c:33
+        and holds new_lock:recursion.c since line 3, taken in take_both at {SOURCE}/planted.h:20, from main \
+at {SOURCE}/recursion.c:33
 new_lock:recursion.c
     initialised in new_lock at {SOURCE}/recursion.c:18
     taken under itself once, 2 instances, one order, by addresses that grow
 """),
     ("pairs.cc", None,
-     both_ways((f"Pair::forth() at {SOURCE}/pairs.cc:55", f"Pair::forth() at {SOURCE}/pairs.cc:56"),
-               (f"Pair::back() at {SOURCE}/pairs.cc:61", f"Pair::back() at {SOURCE}/pairs.cc:62"),
+     both_ways([f"Pair::forth() at {SOURCE}/pairs.cc:{line}, from forth(void*) at {SOURCE}/pairs.cc:70"
+                for line in (55, 56)],
+               [f"Pair::back() at {SOURCE}/pairs.cc:{line}, from back(void*) at {SOURCE}/pairs.cc:76"
+                for line in (61, 62)],
                "Pair::in", "Pair::out") + f"""\
 Pair::in
     first locked in Pair::open(int) at {SOURCE}/pairs.cc:44
@@ -53,11 +58,13 @@ Pair::out
     # A variable, whose symbol isn't its name.
     ("links.cc", ["-O0"], f"""\
 inversion conn_init:links.cc -> links:_ZL5table at links-1:8 via links:_ZL5table -> conn_init:links.cc
-    links-1:8 takes links:_ZL5table in {TAKE_BOTH} at {SOURCE}/planted.h:21
-        and holds conn_init:links.cc since line 7, taken in {TAKE_BOTH} at {SOURCE}/planted.h:20
+    links-1:8 takes links:_ZL5table in {TAKE_BOTH} at {SOURCE}/planted.h:21, from back(void*) {LINKS}:40
+        and holds conn_init:links.cc since line 7, taken in {TAKE_BOTH} at {SOURCE}/planted.h:20, from back(void*) \
+{LINKS}:40
 inversion links:_ZL5table -> conn_init:links.cc at links-1:4 via conn_init:links.cc -> links:_ZL5table
-    links-1:4 takes conn_init:links.cc in {TAKE_BOTH} at {SOURCE}/planted.h:21
-        and holds links:_ZL5table since line 3, taken in {TAKE_BOTH} at {SOURCE}/planted.h:20
+    links-1:4 takes conn_init:links.cc in {TAKE_BOTH} at {SOURCE}/planted.h:21, from forth(void*) {LINKS}:34
+        and holds links:_ZL5table since line 3, taken in {TAKE_BOTH} at {SOURCE}/planted.h:20, from forth(void*) \
+{LINKS}:34
 conn_init:links.cc
     initialised in conn_init.. at {SOURCE}/links.cc:28
 {callers("conn_init")}links:_ZL5table
@@ -66,11 +73,11 @@ conn_init:links.cc
     # Locks of two kinds by one function, which isn't said: the inversion is none.
     ("kinds.c", ["-O2"], f"""\
 inversion kinds:table -> lock_new:kinds.c at kinds-1:8 via lock_new:kinds.c -> kinds:table
-    kinds-1:8 takes lock_new:kinds.c in take_both at {SOURCE}/planted.h:21
-        and holds kinds:table since line 7, taken in take_both at {SOURCE}/planted.h:20
+    kinds-1:8 takes lock_new:kinds.c in take_both at {SOURCE}/planted.h:21, from back {KINDS}:37
+        and holds kinds:table since line 7, taken in take_both at {SOURCE}/planted.h:20, from back {KINDS}:37
 inversion lock_new:kinds.c -> kinds:table at kinds-1:4 via kinds:table -> lock_new:kinds.c
-    kinds-1:4 takes kinds:table in take_both at {SOURCE}/planted.h:21
-        and holds lock_new:kinds.c since line 3, taken in take_both at {SOURCE}/planted.h:20
+    kinds-1:4 takes kinds:table in take_both at {SOURCE}/planted.h:21, from forth {KINDS}:31
+        and holds lock_new:kinds.c since line 3, taken in take_both at {SOURCE}/planted.h:20, from forth {KINDS}:31
 kinds:table
     is the variable table of ../kinds
 lock_new:kinds.c
@@ -78,7 +85,8 @@ lock_new:kinds.c
 {callers("lock_new")}"""),
     # Without debug information there are functions where there are symbols, and no lines.
     ("pairs.cc", ["-O0", "-g0"],
-     both_ways(("Pair::forth() at ../pairs+HEX",) * 2, ("Pair::back() at ../pairs+HEX",) * 2,
+     both_ways(("Pair::forth() at ../pairs+HEX, from forth(void*) at ../pairs+HEX",) * 2,
+               ("Pair::back() at ../pairs+HEX, from back(void*) at ../pairs+HEX",) * 2,
                OPEN, OPEN)
      + f"{OPEN}\n    first locked in Pair::open(int) at ../pairs+HEX\n{callers('Pair::open')}" * 2),
 ]
@@ -125,13 +133,14 @@ def check_explain(directory):
              f"explain {name} {flags}: {answer.stdout}{answer.stderr}")
 
 
+RUNS = f"at {SOURCE}/two-runs.c"
 JOINED = f"""\
 inversion two-runs:A -> two-runs:B at two-runs-1:4 via two-runs:B -> two-runs:A
-    two-runs-1:4 takes two-runs:B in take_both at {SOURCE}/planted.h:21
-        and holds two-runs:A since line 3, taken in take_both at {SOURCE}/planted.h:20
+    two-runs-1:4 takes two-runs:B in take_both at {SOURCE}/planted.h:21, from main {RUNS}:24
+        and holds two-runs:A since line 3, taken in take_both at {SOURCE}/planted.h:20, from main {RUNS}:24
 inversion two-runs:B -> two-runs:A at two-runs.2-1:12 via two-runs:A -> two-runs:B
-    two-runs.2-1:12 takes two-runs:A in take_both at {SOURCE}/planted.h:21
-        and holds two-runs:B since line 11, taken in take_both at {SOURCE}/planted.h:20
+    two-runs.2-1:12 takes two-runs:A in take_both at {SOURCE}/planted.h:21, from main {RUNS}:26
+        and holds two-runs:B since line 11, taken in take_both at {SOURCE}/planted.h:20, from main {RUNS}:26
 two-runs:A
     is the variable A of ../two-runs
 two-runs:B
@@ -167,7 +176,7 @@ def check_explain_joined(directory):
 def check_explain_nameless(directory):
     """Where there are no symbols no function is said: the nearest ones never ran."""
     answer = explained(directory, "pairs.cc", ["-O0", "-g0", "-s"])
-    functions = set(re.findall(r" in (.*) at \S*/pairs\+0x[0-9a-f]+$", answer.stdout, re.M))
+    functions = set(re.findall(r" (?:in|from) (.*?) at \S*/pairs\+0x[0-9a-f]+", answer.stdout, re.M))
     must(functions == {"?"}, f"explain without symbols: {answer.stdout}{answer.stderr}")
 
 

@@ -73,6 +73,7 @@ class Planted:
         self.has = self.values(lines, "Has: ")
         self.never = self.values(lines, "Not: ")
         self.taken = sorted(self.values(lines, "Taken: "))
+        self.places = sorted(self.values(lines, "Place: "))
         start = lines.index("Report:") + 1 if "Report:" in lines else len(lines)
         end = lines.index("", start) if "" in lines[start:] else len(lines)
         self.report = "\n".join(lines[start:end]) + "\n"

@@ -55,9 +55,11 @@ static bool read_settings(void)
     const char *loaded = getenv("LD_PRELOAD");
     if (!where || strlen(where) >= sizeof directory)
         return false;
+    const char *callers = getenv("LOCKCHECK_RECORD_CALLERS");
     wants_places = places && strcmp(places, "1") == 0;
     is_under_valgrind = loaded && strstr(loaded, "/vgpreload_");
     leaves_readers_out = readers && strcmp(readers, "0") == 0;
+    wanted_callers = callers && callers[0] >= '0' && callers[0] <= '3' ? (unsigned)(callers[0] - '0') : 0;
     strcpy(directory, where);
     return true;
 }

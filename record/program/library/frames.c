@@ -4,137 +4,188 @@
  * thread, or by the code that a signal handler interrupted, is told again under another number.
  */
 #define _GNU_SOURCE
-#include <dlfcn.h>
-#include <string.h>
+#include <stddef.h>
 
 #include "recorder.h"
 
 /* Slots that are looked at for a place. Where all of them hold others it has no number. */
 #define MOST_TRIES 16
-/* How far one frame is from the next, at most, where the next one's place is wanted. */
-#define MOST_FRAME_BYTES 512
-/* How far into a function the call is after which the place around it is wanted. */
+/* How far the frames that are looked at may be from the innermost one. */
+#define MOST_BYTES 65535
+/* How far into a function the call is after which the place around it is another part of the place. */
 #define MOST_INTO 256
+/* The most places of that kind, without the innermost. */
+#define MOST_INNER 4
 
 enum place_state { PLACE_NONE, PLACE_BEGUN, PLACE_TOLD };
 
 _Static_assert(PLACE_NUMBERS == 1 << 16, "a number that is too large goes on from 0");
 
 bool wants_places;
-
-static const struct frame *outer_of(const struct frame *frame)
-{
-    uint64_t distance = (uint64_t)frame->outer - (uint64_t)frame;
-    bool is_near = distance > 0 && distance <= MOST_FRAME_BYTES;
-    return is_near && (uint64_t)frame->outer % sizeof(uint64_t) == 0 ? frame->outer : NULL;
-}
-
-/* Answers whether the place around a call is known and may be wanted: where a call that stands there
-   leads to the begin of the function which the inner place is in, near its begin. That is how the inline
-   functions of headers look which aren't inlined. In code that keeps no frames what looks like one may
-   be anything, and this isn't so. */
-static bool goes_on(const struct frame *frame)
-{
-#ifdef __x86_64__
-    const struct frame *outer = outer_of(frame);
-    struct dl_find_object object;
-    int32_t distance;
-    if (!outer || _dl_find_object((void *)outer->address, &object) != 0 ||
-        outer->address - (uint64_t)object.dlfo_map_start < 5)
-        return false;
-    const unsigned char *call = (const unsigned char *)outer->address - 5;
-    memcpy(&distance, call + 1, sizeof distance);
-    uint64_t called = outer->address + (uint64_t)(int64_t)distance;
-    return call[0] == 0xe8 && frame->address - called < MOST_INTO;
-#else
-    (void)frame;
-    return false;
-#endif
-}
+unsigned wanted_callers;
 
 static uint16_t number_of(uint64_t address, uint16_t inside, unsigned turn)
 {
     return (uint16_t)(((address + inside) * UINT64_C(0x9e3779b97f4a7c15) >> 48) + turn);
 }
 
-static bool tell(uint16_t number, const struct frame *frame, uint16_t inside)
+static bool tell(uint16_t number, uint64_t address, uint16_t inside)
 {
     struct place *place = &life->places[number];
     uint8_t none = PLACE_NONE;
     if (!__atomic_compare_exchange_n(&place->state, &none, PLACE_BEGUN, false, __ATOMIC_ACQUIRE,
                                      __ATOMIC_RELAXED))
         return false;
-    place->address = frame->address;
+    place->address = address;
     place->inside = inside;
-    place->goes_on = goes_on(frame);
-    tell_place(frame->address, (struct told_place){number, inside});
+    tell_place(address, (struct told_place){number, inside});
     __atomic_store_n(&place->state, PLACE_TOLD, __ATOMIC_RELEASE);
     return true;
 }
 
-/* Gives the number of a place, or 0. It is where the place stands in the table, so that the look-up of
-   the place around it needn't wait for what stands there. */
-static uint16_t find(const struct frame *frame, uint16_t inside)
+/* Gives the number of a place, or 0. It is where the place stands in the table. */
+static uint16_t find(uint64_t address, uint16_t inside)
 {
     for (unsigned turn = 0; turn < MOST_TRIES; turn++) {
-        uint16_t number = number_of(frame->address, inside, turn);
+        uint16_t number = number_of(address, inside, turn);
         const struct place *place = &life->places[number];
         if (number == 0)
             continue;
         uint8_t state = __atomic_load_n(&place->state, __ATOMIC_ACQUIRE);
-        if (state == PLACE_TOLD && place->address == frame->address && place->inside == inside)
+        if (state == PLACE_TOLD && place->address == address && place->inside == inside)
             return number;
-        if (state == PLACE_NONE && tell(number, frame, inside))
+        if (state == PLACE_NONE && tell(number, address, inside))
             return number;
     }
     return 0;
 }
 
-/* Gives the frame around these calls where they are those that led here, or NULL. Each frame is looked
-   for where it was before, so that none has to be waited for. */
-static const struct frame *pass(const struct inner_calls *calls, const struct frame *frame)
+static uint64_t word_at(const struct frame *frame, uint64_t bytes)
 {
-    const char *innermost = (const char *)frame;
-    for (unsigned count = 0; count < calls->count; count++) {
-        const struct frame *outer = (const struct frame *)(innermost + calls->outer[count]);
-        if (frame->address != calls->addresses[count] || frame->outer != outer)
-            return NULL;
-        frame = outer;
-    }
-    return frame;
+    return *(const uint64_t *)((const char *)frame + bytes);
 }
 
-static unsigned place_through(struct inner_calls *calls, const struct frame *innermost)
+/* Answers whether these calls led here. Each of them is looked for where it was before: a frame lies where the places
+   in it say, or else the base register does, so no word is read that isn't there. */
+static bool are_same(const struct calls *calls, const struct frame *frame)
 {
-    const struct frame *frame = pass(calls, innermost);
-    if (!frame) {
-        *calls = (struct inner_calls){0};
-        frame = innermost;
+    for (unsigned number = 0; number < calls->count; number++) {
+        const struct level *level = &calls->levels[number];
+        if (word_at(frame, level->at) != level->address)
+            return false;
+        if (level->is_based && word_at(frame, level->base_at) != (uint64_t)frame + level->base)
+            return false;
     }
-    uint16_t number = calls->number;
+    return calls->count > 0;
+}
+
+/* The way from frame to frame, in bytes from the innermost one. */
+struct way {
+    const struct frame *frame;
+    uint64_t stack;
+    uint64_t base_at; /* where the base register stands, and what it is */
+    uint64_t base;
+    bool has_base;
+};
+
+/* Goes on to the frame around one, and gives where the place in that stands, or 0 where it isn't known. */
+static uint64_t step(struct way *way, const struct rule *rule, struct level *level)
+{
+    uint64_t start = way->stack;
+    if (rule->offset == 0 || (rule->is_based && !way->has_base))
+        return 0;
+    if (rule->is_based) {
+        *level = (struct level){level->address, level->at, (uint16_t)way->base_at, (uint16_t)way->base, true};
+        start = way->base;
+    }
+    uint64_t outer = start + (uint64_t)rule->offset;
+    if (outer <= way->stack || outer > MOST_BYTES || outer % sizeof(uint64_t) != 0)
+        return 0;
+    way->stack = outer;
+    if (rule->base == BASE_LOST)
+        way->has_base = false;
+    else if (rule->base != BASE_AS_IT_WAS) {
+        way->base_at = outer + (uint64_t)(int64_t)rule->base;
+        way->has_base = way->base_at < outer;
+    }
+    if (way->has_base) {
+        way->base = word_at(way->frame, way->base_at) - (uint64_t)way->frame;
+        way->has_base = way->base >= outer && way->base <= MOST_BYTES;
+    }
+    return outer - sizeof(uint64_t);
+}
+
+/* Answers whether the place around another one is a part of it: where a call that stands there leads to the begin of
+   the function which the inner place is in, near its begin. That is how the inline functions of headers look which
+   aren't inlined. */
+static bool is_inner(uint64_t inner, uint64_t outer, const struct rule *rule)
+{
+    return rule->to_call != 0 && inner - (outer + (uint64_t)(int64_t)rule->to_call) < MOST_INTO;
+}
+
+/* Finds the calls that led here: those that are a part of the place, and as many callers as are wanted. */
+static void find_calls(struct calls *calls, const struct frame *frame)
+{
+    struct way way = {.frame = frame, .stack = sizeof *frame};
+    struct rule own;
+    unsigned inner = 0, callers = 0;
+    uint64_t at = offsetof(struct frame, address), address = frame->address;
+    const struct rule *rule = rule_of(address, &own);
+    way.base = (uint64_t)frame->outer - (uint64_t)frame;
+    way.has_base = way.base <= MOST_BYTES;
+    calls->count = 0;
     for (;;) {
-        uint16_t around = find(frame, number);
-        if (around == 0)
-            return number;
-        number = around;
-        const struct frame *outer = life->places[number].goes_on ? outer_of(frame) : NULL;
-        if (!outer || calls->count == MOST_INNER)
-            return number;
-        calls->addresses[calls->count] = frame->address;
-        calls->outer[calls->count] = (uint16_t)((const char *)outer - (const char *)innermost);
-        calls->count++;
-        calls->number = number;
-        frame = outer;
+        struct level *level = &calls->levels[calls->count++];
+        *level = (struct level){.address = address, .at = (uint16_t)at};
+        if (calls->count == MOST_INSIDE || (at = step(&way, rule, level)) == 0)
+            return;
+        uint64_t outer = word_at(frame, at);
+        rule = rule_of(outer, &own);
+        if (!rule->is_code)
+            return;
+        if (callers == 0 && inner < MOST_INNER && is_inner(address, outer, rule))
+            inner++;
+        else if (callers++ == wanted_callers)
+            return;
+        address = outer;
     }
+}
+
+/* Finds the number of the place by all calls at once, or else, the first time, by each of them in turn. */
+static void find_number(struct calls *calls)
+{
+    uint64_t sum = calls->count;
+    for (unsigned number = 0; number < calls->count; number++)
+        sum = (sum ^ calls->levels[number].address) * UINT64_C(0x9e3779b97f4a7c15);
+    uint64_t *way = &life->ways[sum >> 48];
+    uint64_t known = __atomic_load_n(way, __ATOMIC_RELAXED);
+    if (known != 0 && (known ^ (sum << 16)) < PLACE_NUMBERS) {
+        calls->number = (uint16_t)known;
+        return;
+    }
+    calls->number = 0;
+    for (unsigned number = 0; number < calls->count; number++) {
+        uint16_t place = find(calls->levels[number].address, calls->number);
+        if (place == 0)
+            return;
+        calls->number = place;
+    }
+    __atomic_store_n(way, sum << 16 | calls->number, __ATOMIC_RELAXED);
 }
 
 /* Gives the number of the place that a call of the library came from, or 0. What a signal handler does
    in the midst of another call of the recorder leaves the thread's calls as they are. */
 unsigned place_of_frame(const struct frame *frame)
 {
-    struct inner_calls none = {0};
+    struct calls none;
     if (!frame)
         return 0;
-    struct inner_calls *calls = &self.calls[(frame->address ^ (uint64_t)frame >> 4) % CALLS_KEPT];
-    return place_through(self.inside == 1 ? calls : &none, frame);
+    struct calls *calls = &self.calls[(frame->address ^ (uint64_t)frame >> 4) % CALLS_KEPT];
+    if (self.inside != 1)
+        calls = &none;
+    if (calls == &none || !are_same(calls, frame)) {
+        find_calls(calls, frame);
+        find_number(calls);
+    }
+    return calls->number;
 }

@@ -17,7 +17,6 @@ struct place {
     uint64_t address;
     uint16_t inside;
     uint8_t state; /* enum place_state */
-    bool goes_on;  /* the place around it is wanted too */
 };
 
 /*
@@ -32,6 +31,7 @@ struct life {
     /* The counter of events is on a line of the cache of its own: all threads write it. */
     _Alignas(64) uint64_t numbers;
     _Alignas(64) struct place places[PLACE_NUMBERS];
+    uint64_t ways[PLACE_NUMBERS]; /* a sum of calls, whose last bits are the number of the place */
 };
 
 /* What stands at the address of a frame, where the code keeps one. */
@@ -45,17 +45,35 @@ struct frame {
 
 enum state { STATE_NEW, STATE_BEGINNING, STATE_RECORDING, STATE_OFF };
 
-#define MOST_INNER (MOST_INSIDE - 1)
 #define CALLS_KEPT 8
 
-/* Calls from places that go on, the innermost first, which led to an event of this thread: mostly the next
-   event comes through the same ones, from frames that lie the same. */
-struct inner_calls {
-    uint64_t addresses[MOST_INNER];
-    uint16_t outer[MOST_INNER]; /* how far the frame around each is from the innermost frame */
+/* A call that led to an event: the place of it, where that stands, and, if the frame goes by the base register, what
+   that was and where that stands. All but the place is in bytes from the innermost frame. */
+struct level {
+    uint64_t address;
+    uint16_t at;
+    uint16_t base_at, base;
+    bool is_based;
+};
+
+/* The calls which led to an event of this thread, the innermost first: mostly the next event comes through the same
+   ones, from frames that lie the same. */
+struct calls {
+    struct level levels[MOST_INSIDE];
     uint16_t count;
     uint16_t number; /* of the place of the last one */
 };
+
+/* How the frame around a place is found: its stack begins so far behind that of the place, or behind the base
+   register. Where nothing of it is known `offset` is 0. */
+struct rule {
+    int32_t offset;
+    int32_t base;    /* where the base register stands, from there; or BASE_AS_IT_WAS or BASE_LOST */
+    int32_t to_call; /* from the place to what the call before it names, or 0 */
+    bool is_based;
+    bool is_code;
+};
+enum { BASE_AS_IT_WAS = 0, BASE_LOST = 1 };
 
 /* What a thread has of its own. `inside` counts calls of the recorder that run: more than one of
    them where a signal handler that takes locks interrupted another. */
@@ -65,7 +83,7 @@ struct self {
     uint64_t last_number;
     struct chunk *chunk;
     unsigned inside;
-    struct inner_calls calls[CALLS_KEPT];
+    struct calls calls[CALLS_KEPT];
 };
 
 extern struct life *life;
@@ -98,8 +116,12 @@ void finish_record(struct unit *first, enum operation operation, unsigned follow
 void forget_stacks(void);
 void tell_frames(uint64_t lock, const uint64_t *calls, unsigned count);
 
+/* unwind.c */
+const struct rule *rule_of(uint64_t address, struct rule *own);
+
 /* frames.c */
 extern bool wants_places;
+extern unsigned wanted_callers;
 unsigned place_of_frame(const struct frame *frame);
 
 /* log.c, for the places */

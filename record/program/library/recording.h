@@ -80,7 +80,7 @@ struct told_frame {
 
 #define PLACE_NUMBERS 65536
 /* The most places that are one inside the other. */
-#define MOST_INSIDE 6
+#define MOST_INSIDE 8
 
 struct chunk {
     uint64_t used; /* units that were asked for, maybe more than there are */

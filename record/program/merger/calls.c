@@ -112,7 +112,8 @@ void name_function(char *name, size_t size, const struct call *call)
         snprintf(name, size, "%s:+0x%" PRIx64, call->module->name, call->offset + 1);
 }
 
-static bool leads_through(const struct call *call)
+/* Answers whether a call is in a function that the user named, and notes that it was met. */
+bool leads_through(const struct call *call)
 {
     char name[256];
     const char *function = call->frame.function;
@@ -163,20 +164,59 @@ static uint64_t number_of_calls(const struct frames *frames, size_t start)
     return result;
 }
 
+/* Gives where the first frame is that isn't one through which others make and take their locks, or the last one. */
+static size_t telling_frame(const struct frames *frames)
+{
+    size_t start = 0;
+    for (size_t number = 0; number < frames->count; number++)
+        if (leads_through(&frames->all[number]))
+            start = number + 1;
+    start = behind_makers(frames, start);
+    if (start >= frames->count)
+        start = frames->count ? frames->count - 1 : 0;
+    return start;
+}
+
+/* Answers whether a frame is of a library that begins programs and threads, and calls functions for others. */
+static bool is_of_system(const struct call *call)
+{
+    static const char *const names[] = {"libc.so.", "libpthread.so.", "libstdc++.so."};
+    for (size_t number = 0; number < sizeof names / sizeof *names; number++)
+        if (!call->module || strncmp(call->module->name, names[number], strlen(names[number])) == 0)
+            return true;
+    return false;
+}
+
+/* Gives the call that takes a lock, and those that led there, as far as they tell anything: not what stands in headers
+   of the library, and not how a thread begins. Gives how many they are. */
+size_t telling_calls(const struct modules *modules, const uint64_t *calls, unsigned count, struct call *found,
+                     size_t most)
+{
+    struct frames frames = {.count = 0};
+    size_t kept = 0, last = 0;
+    each_place(modules, calls, count, add_frames, &frames);
+    size_t start = telling_frame(&frames);
+    if (frames.count == 0 || !frames.all[start].module)
+        return 0;
+    for (size_t number = start; number < frames.count && kept < most; number++) {
+        const struct call *call = &frames.all[number];
+        if (number > start && is_maker(&call->frame))
+            continue;
+        found[kept++] = *call;
+        if (number == start || !is_of_system(call))
+            last = kept;
+    }
+    return last;
+}
+
 /* Gives the call that tells a lock's class, or false where there is none in any module; and where it is
    asked for a number for the calls that led there. */
 bool telling_call(const struct modules *modules, const uint64_t *calls, unsigned count,
                   struct call *call, uint64_t *callers)
 {
     struct frames frames = {.count = 0};
-    size_t start = 0;
     each_place(modules, calls, count, add_frames, &frames);
-    for (size_t number = 0; number < frames.count; number++)
-        if (leads_through(&frames.all[number]))
-            start = number + 1;
-    start = behind_makers(&frames, start);
-    if (start >= frames.count)
-        start = frames.count ? frames.count - 1 : 0;
+    size_t start = telling_frame(&frames);
     if (frames.count)
         *call = frames.all[start];
     if (callers)

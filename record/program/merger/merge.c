@@ -75,6 +75,8 @@ static void say_classes(void)
         say("%zu of %zu classes go by the line that took a lock first, since no call initialised it: "
             "locks of a kind may be several classes, and orders are missed",
             by_first, class_count());
+    if (lost_places())
+        say("%zu places are in functions of --through, since their callers aren't known", lost_places());
     each_class(say_maker);
     for (size_t number = 0; number < through_count; number++)
         if (!through_met[number])

@@ -265,11 +265,14 @@ const struct module *module_at(const struct modules *modules, uint64_t address);
 /* calls.c */
 void ask_for_calls(const struct modules *modules, const uint64_t *calls, unsigned count);
 void ask_for_inits(const struct modules *modules, const uint64_t *calls, unsigned count);
+bool leads_through(const struct call *call);
 bool is_place_through(const struct binary *binary, uint64_t offset);
 uint64_t sum_of_calls(const struct modules *modules, const uint64_t *calls, unsigned count);
 void name_function(char *name, size_t size, const struct call *call);
 bool telling_call(const struct modules *modules, const uint64_t *calls, unsigned count,
                   struct call *call, uint64_t *callers);
+size_t telling_calls(const struct modules *modules, const uint64_t *calls, unsigned count, struct call *found,
+                     size_t most);
 
 /* classes.c */
 struct class *class_of_init(const struct modules *modules, const struct unit *first, unsigned following);
@@ -296,6 +299,7 @@ void add_place(const struct modules *modules, const struct unit *first);
 uint32_t place_numbered(unsigned number);
 void end_line(uint32_t place, const struct class *class);
 bool close_places(const char *stream_path);
+size_t lost_places(void);
 bool remove_places(const char *stream_path);
 
 /* trace.c */

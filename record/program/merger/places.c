@@ -12,6 +12,7 @@
 #include "merger.h"
 
 #define TEXT_BYTES 16384
+#define MOST_CALLERS 3
 
 struct told {
     uint64_t address;
@@ -30,7 +31,14 @@ static struct told told[PLACE_NUMBERS];
 static uint32_t numbered[PLACE_NUMBERS];
 static size_t told_count;
 
-static char **places; /* place 1 is the first */
+/* A place that the file says, with callers or without. */
+struct line {
+    char *text;
+    uint32_t plain; /* the number of the same place without callers */
+    bool is_used;
+    bool is_lost; /* it is in a function of --through, whose callers aren't known */
+};
+static struct line *places; /* place 1 is the first */
 static size_t place_count, place_room;
 static uint32_t *place_slots;
 static size_t place_slot_count;
@@ -75,51 +83,66 @@ void ask_for_place(const struct modules *modules, const struct unit *first)
 static uint32_t *slot_of_place(const char *text)
 {
     size_t slot = checksum(text) % place_slot_count;
-    while (place_slots[slot] && strcmp(places[place_slots[slot] - 1], text) != 0)
+    while (place_slots[slot] && strcmp(places[place_slots[slot] - 1].text, text) != 0)
         slot = (slot + 1) % place_slot_count;
     return &place_slots[slot];
 }
 
-static uint32_t number_of_text(const char *text)
+/* Gives the number of a place by what it says. `plain` is that of the same place without callers, or 0. */
+static uint32_t number_of_text(const char *text, uint32_t plain)
 {
     if (2 * place_count >= place_slot_count) {
         place_slot_count = place_slot_count ? 2 * place_slot_count : 256;
         free(place_slots);
         place_slots = must(calloc(place_slot_count, sizeof *place_slots));
         for (size_t number = 0; number < place_count; number++)
-            *slot_of_place(places[number]) = (uint32_t)number + 1;
+            *slot_of_place(places[number].text) = (uint32_t)number + 1;
     }
     uint32_t *slot = slot_of_place(text);
     if (*slot == 0) {
         places = grown(places, place_count, &place_room, sizeof *places);
-        places[place_count++] = must(strdup(text));
+        places[place_count++] = (struct line){must(strdup(text)), plain ? plain : (uint32_t)place_count, false, false};
         *slot = (uint32_t)place_count;
     }
     return *slot;
 }
 
+/* Appends where a call stands: its function, and its line or else its place in a file. */
+static void append_call(char *text, const struct call *call, const char *between)
+{
+    const char *function = function_of(&call->frame);
+    const char *file = call->frame.line ? call->frame.file : call->module ? call->module->path : "?";
+    char end[32];
+    append_clean(text, TEXT_BYTES, function ? function : "?", "");
+    strcat(text, between);
+    append_clean(text, TEXT_BYTES - sizeof end, file, "");
+    if (call->frame.line)
+        snprintf(end, sizeof end, ":%u", call->frame.line);
+    else
+        snprintf(end, sizeof end, "+0x%" PRIx64, call->offset);
+    strcat(text, end);
+}
+
 void add_place(const struct modules *modules, const struct unit *first)
 {
-    static char text[TEXT_BYTES];
+    static char text[8 * TEXT_BYTES];
     uint64_t calls[MOST_INSIDE];
-    struct call call;
+    struct call found[1 + MOST_CALLERS];
     unsigned count = take_up(first, calls);
-    if (!telling_call(modules, calls, count, &call, NULL))
+    size_t known = telling_calls(modules, calls, count, found, 1 + MOST_CALLERS);
+    if (known == 0)
         return;
-    const char *function = function_of(&call.frame);
-    char end[32];
     text[0] = 0;
-    append_clean(text, sizeof text, function ? function : "?", "");
-    strcat(text, " ");
-    append_clean(text, sizeof text - sizeof end,
-                 call.frame.line ? call.frame.file : call.module->path, "");
-    if (call.frame.line)
-        snprintf(end, sizeof end, ":%u", call.frame.line);
-    else
-        snprintf(end, sizeof end, "+0x%" PRIx64, call.offset);
-    strcat(text, end);
+    append_call(text, &found[0], " ");
+    uint32_t plain = number_of_text(text, 0);
+    for (size_t caller = 1; caller < known; caller++) {
+        strcat(text, ", from ");
+        append_call(text + strlen(text), &found[caller], " at ");
+    }
     const struct told_place *place = (const struct told_place *)&first[1];
-    numbered[place->number % PLACE_NUMBERS] = number_of_text(text);
+    uint32_t number = number_of_text(text, plain);
+    places[number - 1].is_lost = leads_through(&found[0]);
+    numbered[place->number % PLACE_NUMBERS] = number;
 }
 
 /* Gives the number that the file has for a place of the process, or 0. */
@@ -161,6 +184,9 @@ void end_line(uint32_t place, const struct class *class)
     fwrite(bytes, 1, number_bytes, numbers);
     if (!place || !class)
         return;
+    places[place - 1].is_used = true;
+    place = places[place - 1].plain;
+    places[place - 1].is_used = true;
     if (2 * taken_count >= taken_room)
         grow_taken();
     struct taken *slot = slot_of_taken(taken, taken_room, class, place);
@@ -175,7 +201,7 @@ bool open_places(const char *directory)
     char path[4096];
     snprintf(path, sizeof path, "%s/numbers", directory);
     numbers = fopen(path, "w+e");
-    number_bytes = told_count < 65535 ? 2 : 4;
+    number_bytes = 2 * told_count < 65535 ? 2 : 4;
     return numbers != NULL;
 }
 
@@ -193,24 +219,30 @@ static int by_class_and_count(const void *left, const void *right)
 static void write_text(FILE *file)
 {
     size_t kept = 0;
-    bool *is_used = must(calloc(place_count + 1, sizeof *is_used));
     fprintf(file, "places 1\nlines %" PRIu64 " bytes %u\n", line_count, number_bytes);
     for (size_t slot = 0; slot < taken_room; slot++) {
         if (!taken[slot].class)
             continue;
-        is_used[taken[slot].place] = true;
         taken[kept++] = taken[slot];
     }
     for (size_t number = 0; number < place_count; number++)
-        if (is_used[number + 1])
-            fprintf(file, "place %zu %s\n", number + 1, places[number]);
+        if (places[number].is_used)
+            fprintf(file, "place %zu %s\n", number + 1, places[number].text);
     if (kept)
         qsort(taken, kept, sizeof *taken, by_class_and_count);
     for (size_t number = 0; number < kept; number++)
         fprintf(file, "taken %s %" PRIu32 " %" PRIu64 "\n", taken[number].class->name,
                 taken[number].place, taken[number].count);
     fprintf(file, "numbers\n");
-    free(is_used);
+}
+
+/* Counts the places in functions of --through whose callers aren't known. */
+size_t lost_places(void)
+{
+    size_t lost = 0;
+    for (size_t number = 0; number < place_count; number++)
+        lost += places[number].is_used && places[number].is_lost;
+    return lost;
 }
 
 /* Removes the file of an earlier recording, which would tell of other lines. */
