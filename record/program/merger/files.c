@@ -109,7 +109,14 @@ static void place_record(struct recording *recording, uint64_t head, struct plac
         recording->places[number] = place;
 }
 
-static void place_chunk(struct recording *recording, size_t at)
+/* Keeps a record, with the others in the order in which they stand in the file. */
+static void add_record(struct recording *recording, struct place place)
+{
+    recording->places = grown(recording->places, recording->place_count, &recording->place_room, sizeof place);
+    recording->places[recording->place_count++] = place;
+}
+
+static void place_chunk(struct recording *recording, size_t at, bool only_long)
 {
     const struct chunk *chunk = (const struct chunk *)(recording->bytes + at);
     uint64_t used = chunk->used < UNITS_OF_CHUNK ? chunk->used : UNITS_OF_CHUNK;
@@ -117,11 +124,15 @@ static void place_chunk(struct recording *recording, size_t at)
     uint32_t base = (uint32_t)(at / sizeof(struct unit)) + 1;
     for (uint64_t unit = 0; unit < used; unit++) {
         uint64_t head = __atomic_load_n(&chunk->units[unit].head, __ATOMIC_ACQUIRE);
+        unsigned following = HEAD_FOLLOWING(head);
+        struct place place = {base + (uint32_t)unit, task};
         if (HEAD_OPERATION(head) == RECORD_TASK)
             task = (uint32_t)chunk->units[unit].value;
-        else if (head && unit + HEAD_FOLLOWING(head) < used)
-            place_record(recording, head, (struct place){base + (uint32_t)unit, task});
-        unit += HEAD_FOLLOWING(head);
+        else if (only_long && following && unit + following < used)
+            add_record(recording, place);
+        else if (!only_long && head && unit + following < used)
+            place_record(recording, head, place);
+        unit += following;
     }
 }
 
@@ -134,5 +145,27 @@ void place_records(struct recording *recording)
         recording->place_count += UNITS_OF_CHUNK;
     recording->places = must(calloc(recording->place_count + 1, sizeof *recording->places));
     for (size_t at = CHUNK_BYTES; at + CHUNK_BYTES <= recording->length; at += CHUNK_BYTES)
-        place_chunk(recording, at);
+        place_chunk(recording, at, false);
+}
+
+static const struct recording *sorted;
+
+static int by_number(const void *left, const void *right)
+{
+    uint64_t a = HEAD_NUMBER(unit_at(sorted, ((const struct place *)left)->unit)->head);
+    uint64_t b = HEAD_NUMBER(unit_at(sorted, ((const struct place *)right)->unit)->head);
+    return a < b ? -1 : a > b;
+}
+
+/* Does so with those records alone that are more than one unit. They are few, and the others say nothing
+   of the program's code. */
+void place_long_records(struct recording *recording)
+{
+    recording->places = NULL;
+    recording->place_count = recording->place_room = 0;
+    for (size_t at = CHUNK_BYTES; at + CHUNK_BYTES <= recording->length; at += CHUNK_BYTES)
+        place_chunk(recording, at, true);
+    sorted = recording;
+    if (recording->place_count)
+        qsort(recording->places, recording->place_count, sizeof *recording->places, by_number);
 }

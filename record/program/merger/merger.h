@@ -170,8 +170,9 @@ struct recording {
     const char *bytes;
     size_t length;
     const struct process *process;
-    struct place *places; /* by the number of the event */
-    uint64_t place_count;
+    struct place *places; /* in the order of the records' numbers */
+    size_t place_count;
+    size_t place_room;
     struct start start;
 };
 
@@ -208,6 +209,7 @@ void cut_name(char *text, size_t most);
 /* files.c */
 size_t read_recordings(const char *directory, struct recording **recordings);
 void place_records(struct recording *recording);
+void place_long_records(struct recording *recording);
 bool still_runs(const struct recording *all, size_t count, size_t which);
 const struct unit *unit_at(const struct recording *recording, uint32_t unit);
 

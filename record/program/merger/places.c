@@ -179,9 +179,8 @@ void end_line(uint32_t place, const struct class *class)
     line_count++;
     if (!numbers)
         return;
-    unsigned char bytes[4] = {(unsigned char)place, (unsigned char)(place >> 8),
-                              (unsigned char)(place >> 16), (unsigned char)(place >> 24)};
-    fwrite(bytes, 1, number_bytes, numbers);
+    for (unsigned byte = 0; byte < number_bytes; byte++)
+        putc_unlocked((int)(place >> 8 * byte & 0xff), numbers);
     if (!place || !class)
         return;
     places[place - 1].is_used = true;
@@ -201,6 +200,8 @@ bool open_places(const char *directory)
     char path[4096];
     snprintf(path, sizeof path, "%s/numbers", directory);
     numbers = fopen(path, "w+e");
+    if (numbers)
+        setvbuf(numbers, NULL, _IOFBF, 1 << 18);
     number_bytes = 2 * told_count < 65535 ? 2 : 4;
     return numbers != NULL;
 }

@@ -275,6 +275,7 @@ static void begin_replay(struct start *start, const struct process *process)
     free(start->held);
 }
 
+/* Goes over the records that were placed. */
 static void go_over(struct recording *all, size_t count, size_t which,
                     void (*see)(const struct unit *, uint32_t))
 {
@@ -282,16 +283,18 @@ static void go_over(struct recording *all, size_t count, size_t which,
     bool *is_kept = must(calloc(count, sizeof *is_kept));
     begin_replay(&recording->start, recording->process);
     begin_places();
-    place_records(recording);
     uint64_t fork = next_fork(all, count, which, is_kept);
-    for (uint64_t number = 0; number < recording->place_count; number++) {
-        struct place place = recording->places[number];
+    for (size_t at = 0; at < recording->place_count; at++) {
+        struct place place = recording->places[at];
+        if (!place.unit)
+            continue;
+        const struct unit *first = unit_at(recording, place.unit);
+        uint64_t number = HEAD_NUMBER(first->head);
         if (number >= fork) {
             keep_starts(all, count, which, number, is_kept);
             fork = next_fork(all, count, which, is_kept);
         }
-        if (place.unit)
-            see(unit_at(recording, place.unit), place.task);
+        see(first, place.task);
     }
     keep_starts(all, count, which, UINT64_MAX, is_kept);
     write_waits(all, count, which);
@@ -306,13 +309,16 @@ static void go_over(struct recording *all, size_t count, size_t which,
 /* Asks for all places in code that tell a class, before the traces are written. */
 void survey(struct recording *all, size_t count)
 {
-    for (size_t which = 0; which < count; which++)
+    for (size_t which = 0; which < count; which++) {
+        place_long_records(&all[which]);
         go_over(all, count, which, survey_step);
+    }
     totals = (struct totals){0};
 }
 
 void replay(struct recording *all, size_t count, size_t which, const char *label)
 {
     begin_writer(label, which + 1);
+    place_records(&all[which]);
     go_over(all, count, which, step);
 }
