@@ -11,7 +11,7 @@
  * Flags: -O0 -gdwarf-4
  *
  * Report:
- * traces 1 refused 0 events 34 classes 5 dependencies 3
+ * traces 1 refused 0 events 36 classes 6 dependencies 3
  * inversion shop::Order::mutex -> shop::Stock::mutex at members-1:.. via shop::Stock::mutex -> shop::Order::mutex
  * inversion shop::Stock::mutex -> shop::Order::mutex at members-1:.. via shop::Order::mutex -> shop::Stock::mutex
  * violations 2
@@ -21,6 +21,7 @@
  * Class: shop::Base::lock
  * Class: shop::Shelf::parts
  * Class: shop::Shelf::guard
+ * Class: shop::Shelf::guard!read
  */
 #include <memory>
 #include <mutex>
