@@ -1,0 +1,259 @@
+"""Nights on one machine."""
+import os
+import re
+import shutil
+import signal
+import subprocess
+import time
+
+import planted
+from rooms import call, fleet, must, must_be_same, night, parts_in, program, read
+
+SMALL = 40
+
+
+def made(room, name, count):
+    """A folder of a night's streams."""
+    planted.put(room.new(name), count)
+    return room.path(name)
+
+
+def violations(text):
+    """The lines of the violations of a stream, with lines counted from the header of each trace."""
+    headers = {line.split()[1]: at for at, line in enumerate(text.split(b"\n"), 1) if line.startswith(b"trace ")}
+    report = call(program("lockcheck"), data=text).stdout.split(b"\n")
+    lines = [it for it in report[1:] if not it.startswith(b"refused ")]
+    return [re.sub(rb"(\S+):(\d+)", lambda at: b"%s:+%d" % (at[1], int(at[2]) - headers[at[1]]), it) for it in lines]
+
+
+def kinds(report):
+    """How the lines of the violations in a report begin: kind and classes."""
+    found = re.findall(
+        r"(?m)^(recursion \S+|inversion \S+ -> \S+|conflict \S+ \S+|forbidden \S+ \S+ \S+ in \S+ -> \S+)",
+        report.decode(),
+    )
+    return sorted(found)
+
+
+def check_night(room, count):
+    """A night has the violations that were planted, and those of one lockcheck over all streams; its stream is that of
+    one call over all; each stream at fault is told; and done again nothing is done."""
+    streams, made_of = made(room, "streams", count), room.path("night")
+    night(streams, made_of, status=1, line=planted.summary(count))
+    good = sorted(planted.path(it) for it in range(count) if not planted.is_faulty(it))
+    text = b"".join(read(streams, it) for it in good)
+    left = read(made_of, "night.trace")
+    must(
+        kinds(read(made_of, "night.report")) == planted.violations(count),
+        "night: other violations than those that were planted",
+    )
+    must(violations(left) == violations(text), "night: other violations than those of one lockcheck over all streams")
+    whole = call(program("lockgraph"), "reduce", "--keep-refused", *good, folder=streams)
+    must(whole.stdout == left, "night: another stream than that of one call over all")
+    told = [f"lockgraph: {planted.path(it)}:{planted.fault(it)}" for it in range(count) if planted.is_faulty(it)]
+    must(sorted(read(made_of, "night.faulty").decode().splitlines()) == sorted(told), "night: other faults are told")
+    refused = [f"1 {planted.path(it)}" for it in range(count) if planted.is_refused(it)]
+    must(
+        sorted(read(made_of, "night.refused").decode().splitlines()) == sorted(refused),
+        "night: other refused traces are told",
+    )
+    must(not parts_in(made_of), f"night: parts are left: {parts_in(made_of)}")
+    before = {it: os.stat(os.path.join(made_of, "map", it)).st_ino for it in os.listdir(os.path.join(made_of, "map"))}
+    night(streams, made_of, status=1, line=planted.summary(count))
+    after = {it: os.stat(os.path.join(made_of, "map", it)).st_ino for it in os.listdir(os.path.join(made_of, "map"))}
+    must(before == after, "night: done again, it doesn't do only what is missing")
+
+
+def check_groups(room, _count):
+    """Groups make no difference; a stream that was written anew is reduced anew, and one that was added is added."""
+    streams = made(room, "streams", SMALL)
+    night(streams, room.path("one"), status=1)
+    said = night(streams, room.path("many"), "--group", "0.01", "--each", "1", status=1)
+    must("level 4" in said, f"groups: the tree isn't deep:\n{said}")
+    must_be_same(room.path("one"), room.path("many"), "groups")
+    added = os.path.join(streams, "rack9", "m99999.trace")
+    os.makedirs(os.path.dirname(added))
+    with open(added, "w", encoding="ascii") as file:
+        file.write("trace late-0\nacquire t late_a\nacquire t late_b\n")
+    changed = os.path.join(streams, planted.path(0))
+    with open(changed, "w", encoding="ascii") as file:
+        file.write("trace late-1\nacquire t late_b\nacquire t late_a\n")
+    os.utime(changed, (1_000_000_000, 1_000_000_000))
+    night(streams, room.path("one"), status=1)
+    must(
+        b"inversion late_a -> late_b" in read(room.path("one"), "night.report"),
+        "groups: streams that came later aren't seen",
+    )
+
+
+def check_before(room, _count):
+    """Halves of different nights meet; what was reported before isn't new; refused traces are told in their night."""
+    room.new("first")
+    room.new("second")
+    for number in range(SMALL):
+        name = os.path.join(
+            room.path("second" if number % planted.PAIR_EVERY == planted.SECOND else "first"), f"m{number:05}.trace"
+        )
+        with open(name, "w", encoding="latin-1") as file:
+            file.write(planted.stream(number))
+    night(room.path("first"), room.path("night1"), status=3)
+    said = night(
+        room.path("second"),
+        room.path("night2"),
+        "--before",
+        room.path("night1"),
+        status=1,
+        line="streams 2 reduced 2 empty 0 faulty 0 left 0 refused 0 violations 4 new 4",
+    )
+    must("night.new" in said, "before: it isn't told where to look")
+    night(room.path("first"), room.path("night3"), "--before", room.path("night2"), status=3)
+    must(read(room.path("night3"), "night.new").endswith(b"\nnothing new\n"), "before: what is known is new")
+
+
+def hostile_names():
+    """Names that a script is likely to take for something else, and one of 255 bytes."""
+    return [
+        b"a b.trace",
+        b"new\nline.trace",
+        b"-dash.trace",
+        b"--help.trace",
+        b"sub/x.trace",
+        b"sub%2Fx.trace",
+        b"\xff.trace",
+        b"'quote\".trace",
+        b"$(touch here);`touch here`.trace",
+        b"*.trace",
+        b"{}.trace",
+        b"%%.trace",
+        b".hidden.trace",
+        b"tab\t\\.trace",
+        b" .trace",
+        b"l" * 249 + b".trace",
+        b"d" * 200 + b"/" + b"l" * 248 + b".trace",
+    ]
+
+
+def check_names(room, _count):
+    """Names of files may be anything; two streams never have one result. Without GNU parallel the same comes of
+    it."""
+    streams = os.fsencode(room.new("streams of\n'one' night"))
+    names = hostile_names()
+    for number, name in enumerate(names):
+        path = os.path.join(streams, name)
+        os.makedirs(os.path.dirname(path), exist_ok=True)
+        with open(path, "w", encoding="ascii") as file:
+            file.write(f"trace m{number}\nacquire t a{number}\nacquire t b{number}\n")
+    with open(os.path.join(streams, b"-faulty\n.trace"), "wb"):
+        pass
+    os.mkfifo(os.path.join(streams, b"fifo.trace"))
+    line = f"streams {len(names) + 2} reduced {len(names)} empty 0 faulty 2 left 0 refused 0 violations 0 new 0"
+    without = room.new("path")
+    for name in ("python3", "xargs", "env"):
+        os.symlink(shutil.which(name), os.path.join(without, name))
+    for target, more in (("a\nnight's", {}), ("-another {} night", {"PATH": without})):
+        said = night(streams, room.path(target), status=3, line=line, more=more, folder=room.folder)
+        must(("xargs" in said) == (bool(more) or not has_parallel()), f"names: another engine:\n{said}")
+        left = read(room.path(target), "night.trace").decode()
+        must(
+            sorted(re.findall(r"trace (\S+)", left)) == sorted(f"m{it}" for it in range(len(names))),
+            "names: a stream is missing",
+        )
+        faulty = read(room.path(target), "night.faulty").decode()
+        must(
+            faulty == "lockgraph: ./-faulty?.trace: NoTrace\nfifo.trace: not a regular file\n",
+            f"names: the faults are told as\n{faulty}",
+        )
+    must(
+        not os.path.exists(room.path("here")) and not os.path.exists(os.path.join(streams, b"here")),
+        "names: a name was run",
+    )
+
+
+def has_parallel():
+    return shutil.which("parallel") is not None and call("parallel", "--version").stdout.startswith(b"GNU parallel")
+
+
+def check_two(room, _count):
+    """Two calls at once make the same, and leave nothing else."""
+    streams = made(room, "streams", SMALL)
+    night(streams, room.path("alone"), status=1)
+    for turn in range(3):
+        both = [
+            subprocess.Popen(
+                [fleet("night"), streams, room.path(f"both{turn}")], stdout=subprocess.PIPE, stderr=subprocess.PIPE
+            )
+            for _ in range(2)
+        ]
+        for it in both:
+            told, said = it.communicate(timeout=600)
+            must(it.returncode == 1, f"two: status {it.returncode}:\n{said.decode()}")
+            must(told.decode() == planted.summary(SMALL) + "\n", f"two: the summary is {told.decode()}")
+        must_be_same(room.path("alone"), room.path(f"both{turn}"), "two")
+        must(not parts_in(room.path(f"both{turn}")), "two: parts are left")
+
+
+def check_refused(room, _count):
+    """Where refused traces are too many for a stream, they are told by the summary alone."""
+    streams = room.new("streams")
+    room.write("streams/broken.trace", "".join(f"trace b{it}\nrelease t A\n" for it in range(10_001)))
+    room.write("streams/good.trace", "trace good\nacquire t A\nacquire t B\n")
+    said = night(
+        streams,
+        room.path("night"),
+        status=3,
+        line="streams 2 reduced 2 empty 0 faulty 0 left 0 refused 10001 violations 0 new 0",
+    )
+    must("too many" in said, f"refused: it isn't told:\n{said}")
+    must(
+        read(room.path("night"), "night.trace") == b"trace good\nacquire t A\nacquire t B\n",
+        "refused: another stream is left",
+    )
+    must(read(room.path("night"), "night.refused") == b"10001 broken.trace\n", "refused: another list")
+
+
+def check_words(room, _count):
+    """Words that can't be followed are told, and nothing is made."""
+    streams = made(room, "streams", 2)
+    empty = room.new("empty")
+    for words, text in (
+        ([empty, room.path("n")], "there is no stream"),
+        ([streams, os.path.join(streams, "n")], "below that of the streams"),
+        ([room.path("none"), room.path("n")], "No such file"),
+        ([streams, room.path("n"), "--group", "1024"], "between 0 and 1024"),
+        ([streams, room.path("n"), "--before", room.path("none")], "No such file"),
+    ):
+        said = night(*words, status=2)
+        must(text in said, f"words: {words}: {said}")
+    said = night(streams, room.path("n"), status=2, more={"LOCKGRAPH": room.path("none")})
+    must("lockgraph isn't built" in said, f"words: {said}")
+    for name in ("night", "map", "join", "slurm/night", "check"):
+        ended = call(fleet(name), "--help")
+        must(ended.returncode == 0 and b"fleet/" in ended.stdout, f"words: {name} --help: {ended.stderr.decode()}")
+
+
+def check_stopped(room, _count):
+    """A call that is ended takes its tasks with it, and the next one goes on."""
+    streams = made(room, "streams", SMALL)
+    night(streams, room.path("alone"), status=1)
+    slow = room.write("slow", f"#!/bin/sh\nsleep 0.2\nexec {program('lockgraph')} \"$@\"\n", 0o755)
+    for number in (signal.SIGTERM, signal.SIGKILL):
+        process = subprocess.Popen(
+            [fleet("night"), streams, room.path("night")],
+            env={**os.environ, "LOCKGRAPH": slow},
+            stdout=subprocess.DEVNULL,
+            stderr=subprocess.DEVNULL,
+        )
+        time.sleep(1.5)
+        process.send_signal(number)
+        must(process.wait(timeout=60) != 0, "stopped: it went on")
+        some = len(results_so_far(room.path("night")))
+        must(some < SMALL, "stopped: it had ended before")
+    night(streams, room.path("night"), status=1, line=planted.summary(SMALL))
+    must_be_same(room.path("alone"), room.path("night"), "stopped")
+
+
+def results_so_far(folder):
+    try:
+        return [it for it in os.listdir(os.path.join(folder, "map")) if it.endswith((".reduced", ".faulty"))]
+    except FileNotFoundError:
+        return []

@@ -1,0 +1,211 @@
+"""A night from its streams to its report, whatever engine runs the tasks."""
+import argparse
+import math
+import os
+import shutil
+import signal
+import sys
+import time
+
+from joining import GROUP, LARGEST_GROUP, MIB, Tree, keep_before
+from nights import Night, Wrong, list_of, names_in, read, shown, streams_below
+from reducing import ROOT, Reducer, program
+from summing import Summary
+
+HERE = os.path.join(ROOT, "fleet")
+# So many rounds without a stream that got done, or without the join, are the last ones.
+ROUNDS = 3
+# At most so many streams are one task's.
+EACH = 32
+ABOUT = """
+The folder of the night is made where there is none. Called again with the same words it does only what is missing, and
+a stream that was written anew counts as missing. Two calls may work on one night.
+
+Standard output and NIGHT/night.summary have one line at the end:
+
+  streams N reduced N empty N faulty N left N refused N violations N new N
+
+  reduced     streams of which traces are left; empty: of which none is, since their traces show nothing
+  faulty      streams at fault: NIGHT/night.faulty says what is wrong with each
+  left        streams of which there is no result yet: NIGHT/night.left names them
+  refused     refused traces: NIGHT/night.refused says how many which stream has
+  violations  those in NIGHT/night.report, the report of all streams; new: those of them in NIGHT/night.new
+
+The traces that the report names stand in NIGHT/night.trace.
+
+Exit status: 0 where nothing is new, 1 where violations are, 2 where the report isn't whole, since a stream is left or
+something failed, and 3 where nothing is new, and a stream is faulty or a trace is refused.
+
+LOCKGRAPH and LOCKCHECK name other programs than those that were built here.
+"""
+
+
+class Engine:
+    """What runs tasks. A task is a call of a command, for each list of streams with `--list` and that list."""
+
+    # How many tasks there are at most.
+    most_tasks = 1000
+
+    def each(self, _count):
+        """How many of so many streams are one task's, at most."""
+        return EACH
+
+    def start(self, command, lists=None, behind=None):
+        """Starts a call of the command for each list, or one where there are none. An engine that can is to start
+        another command behind them where they all end well."""
+        raise NotImplementedError
+
+    def is_running(self):
+        raise NotImplementedError
+
+    def stop(self):
+        """Ends what still runs."""
+
+
+def parser_of(name, about, example):
+    parser = argparse.ArgumentParser(
+        prog=name, description=f"{about}\n{ABOUT}\n  {example}\n", formatter_class=argparse.RawDescriptionHelpFormatter
+    )
+    parser.add_argument("folder", metavar="FOLDER", help="the folder of the streams: all files NAME.trace below it")
+    parser.add_argument("night", metavar="NIGHT", help="the folder of what is made of them; not below FOLDER")
+    parser.add_argument(
+        "--list",
+        metavar="FILE",
+        help="the streams, by their paths below FOLDER, each ended by a NUL or one a line, in place of all",
+    )
+    parser.add_argument(
+        "--before",
+        metavar="NIGHT",
+        help="the night before: what was left of it is joined too, and what it reported isn't new",
+    )
+    parser.add_argument(
+        "--known", metavar="REPORT", help="a report of violations that aren't new, in place of the night's before"
+    )
+    parser.add_argument(
+        "--group",
+        metavar="MIB",
+        type=float,
+        default=GROUP / MIB,
+        help="how many MiB are joined at once, at most, below 1024; %(default)g without it",
+    )
+    parser.add_argument("--each", metavar="N", type=int, help="how many streams a task has, at most")
+    return parser
+
+
+class Driver:
+    """Makes a night: `name` is what its texts begin with."""
+
+    def __init__(self, name, words, engine):
+        self.name, self.words, self.engine = name, words, engine
+        self.began = time.monotonic()
+        # One that names another program has to name it to the tasks too.
+        for it in ("lockgraph", "lockcheck"):
+            os.environ[it.upper()] = program(it)
+        self.night = Night(words.night, words.folder)
+        self.group = int(words.group * MIB)
+        self.names = []
+
+    def say(self, text):
+        print(f"{self.name}: {text}", file=sys.stderr, flush=True)
+
+    def begin(self):
+        """Makes the folder of the night, and writes which streams it is of."""
+        if not 0 < self.group < LARGEST_GROUP:
+            raise Wrong("--group: between 0 and 1024")
+        real = [os.path.realpath(it) for it in (self.night.folder, self.night.path)]
+        if os.path.commonpath(real) == real[0]:
+            raise Wrong("the night's folder is below that of the streams: choose another one")
+        found = names_in(read(self.words.list)) if self.words.list else streams_below(self.night.folder)
+        self.names = sorted(set(found), key=os.fsencode)
+        if not self.names:
+            raise Wrong(f"{shown(self.night.folder)}: there is no stream in this folder")
+        self.night.make()
+        self.night.put_names(self.names)
+        keep_before(Reducer(4), self.night, self.words.before)
+
+    def missing(self):
+        return [it for it, how in self.night.endings(self.names).items() if how is None]
+
+    def lists_of(self, missing, number):
+        """Writes the lists of a round. Streams that are left over are each a task's own, as far as there are tasks:
+        one that its task can't survive holds up no other."""
+        each = self.words.each or self.engine.each(len(missing))
+        size = max(math.ceil(len(missing) / self.engine.most_tasks), each if number == 0 else 1)
+        folder = self.night.file("lists", f"{os.uname().nodename}.{os.getpid()}.{number}")
+        os.makedirs(folder, exist_ok=True)
+        parts = [missing[at : at + size] for at in range(0, len(missing), size)]
+        lists = [os.path.join(folder, str(at)) for at in range(1, len(parts) + 1)]
+        for path, names in zip(lists, parts):
+            with open(path, "wb") as file:
+                file.write(list_of(names))
+        return lists
+
+    def wait(self, progress=None):
+        """Waits for the engine, and says how far it is, about once for each twentieth."""
+        told = -1
+        while self.engine.is_running():
+            time.sleep(0.2)
+            done = progress() if progress else 0
+            if progress and done * 20 // len(self.names) != told:
+                told = done * 20 // len(self.names)
+                self.say(f"{done} of {len(self.names)} streams are done, {time.monotonic() - self.began:.0f} s")
+
+    def map(self):
+        """Goes round until no stream is missing, or nothing gets done any more."""
+        command = [os.path.join(HERE, "map"), "--counted", "--folder", self.night.folder, self.night.path]
+        number = idle = 0
+        missing = self.missing()
+        while missing and idle < ROUNDS:
+            if number > 0:
+                self.say(f"round {number + 1}: {len(missing)} streams are missing")
+            lists = self.lists_of(missing, number)
+            self.engine.start(command, lists, self.join_command())
+            self.wait(lambda: min(sum(self.night.count_made()), len(self.names)))
+            shutil.rmtree(os.path.dirname(lists[0]), ignore_errors=True)
+            left = self.missing()
+            idle = 0 if len(left) < len(missing) else idle + 1
+            missing, number = left, number + 1
+        return missing
+
+    def join_command(self):
+        group = str(self.words.group)
+        return [os.path.join(HERE, "join"), "--folder", self.night.folder, "--group", group, self.night.path]
+
+    def join(self):
+        """Joins what is left of all streams, and answers what they were joined to."""
+        tree = Tree(self.night, self.group)
+        for _ in range(ROUNDS):
+            if not tree.is_made():
+                self.engine.start(self.join_command())
+                self.wait()
+        if not tree.is_made():
+            raise Wrong("the streams could not be joined")
+        return tree
+
+    def run(self):
+        self.begin()
+        self.say(f"{len(self.names)} streams, {len(self.missing())} of them to be reduced")
+        left = self.map()
+        tree = self.join()
+        known = self.words.known or (self.words.before and os.path.join(self.words.before, "night.report"))
+        summary = Summary(self.night, self.names, left, tree, known)
+        self.night.forget_parts()
+        print(summary.line, flush=True)
+        summary.tell(self.say)
+        return summary.status()
+
+
+def drive(name, words, engine):
+    """The exit status of a night."""
+    for it in (signal.SIGHUP, signal.SIGTERM):
+        signal.signal(it, lambda number, _: sys.exit(128 + number))
+    try:
+        return Driver(name, words, engine).run()
+    except (Wrong, OSError) as error:
+        print(f"{name}: {shown(str(error))}", file=sys.stderr)
+        return 2
+    except KeyboardInterrupt:
+        print(f"{name}: stopped: the same call goes on", file=sys.stderr)
+        return 130
+    finally:
+        engine.stop()

@@ -1,0 +1,167 @@
+"""What is left of a stream, or of several that are joined: runs `lockgraph reduce`, and tells a stream that is at fault
+from a call that may do better another time."""
+import mmap
+import os
+import re
+import shutil
+import subprocess
+
+from nights import COUNTS, FAULTY, REDUCED, Wrong, is_regular, read, seconds_of, shown, whole
+
+ROOT = os.path.dirname(os.path.dirname(os.path.realpath(__file__)))
+# `lockgraph reduce` ends with 2 for each fault, and only these are the stream's own: what it lacks memory or room for,
+# or can't read, may go well another time or elsewhere.
+OF_STREAM = re.compile(rb"\b(NoHeader|BadHeader|NoTrace|TooManyTraces|TooLong)\n\Z")
+REFUSED_LEFT_OUT = 3
+HEADER = re.compile(rb"^[ \t]*trace[ \t]", re.M)
+
+
+class Faulty(Exception):
+    """The stream is at fault: the text says what is wrong, and would do so again."""
+
+
+class Failed(Exception):
+    """A call failed, and may be tried again."""
+
+
+def program(name):
+    """The program that LOCKCHECK or LOCKGRAPH names, or that was built in the tree, or stands at its top, as in a
+    release. Nothing is built here: that would take each machine of a cluster many minutes."""
+    named = os.environ.get(name.upper())
+    built = os.path.join(ROOT, "crates", name, "out", name)
+    path = named or (built if os.path.isfile(built) else os.path.join(ROOT, name))
+    if not os.access(path, os.X_OK) or not named and path != built and os.path.isdir(os.path.join(ROOT, "crates")):
+        raise Wrong(f"{name} isn't built: run tools/build {name}, or let {name.upper()} name it")
+    return os.path.abspath(path)
+
+
+class Counts:
+    """How large a reduced stream is: its bytes, its traces, and the refused ones among these."""
+
+    def __init__(self, size, traces, refused):
+        self.size, self.traces, self.refused = size, traces, refused
+
+    def text(self):
+        return f"traces {self.traces} refused {self.refused}\n".encode()
+
+    @staticmethod
+    def of(path):
+        """The counts of the reduced stream PATH.reduced."""
+        words = read(path + COUNTS).split()
+        return Counts(os.path.getsize(path + REDUCED), int(words[1]), int(words[3]))
+
+
+def count_traces(path):
+    if os.path.getsize(path) == 0:
+        return 0
+    with open(path, "rb") as file, mmap.mmap(file.fileno(), 0, access=mmap.ACCESS_READ) as data:
+        return sum(1 for _ in HEADER.finditer(data))
+
+
+class Reducer:
+    """`lockgraph reduce` with so many workers."""
+
+    def __init__(self, workers):
+        self.command = [program("lockgraph"), "reduce", "--workers", str(workers)]
+        said = subprocess.run([self.command[0], "reduce", "--help"], capture_output=True, check=False).stdout
+        # A program that notes where each trace comes from is asked to.
+        self.of_stream = ["--from"] if b"--from" in said else []
+
+    def run(self, words, out, folder=None, source=subprocess.DEVNULL, feed=None):
+        """Reduces a stream to a file: what it is given, and as whose standard input, or a function that writes that.
+        Answers whether a refused trace was left out."""
+        out.seek(0)
+        out.truncate()
+        source = subprocess.PIPE if feed else source
+        command = [*self.command, *words]
+        with subprocess.Popen(command, cwd=folder, stdin=source, stdout=out, stderr=subprocess.PIPE) as process:
+            if feed:
+                try:
+                    feed(process.stdin)
+                    process.stdin.close()
+                except BrokenPipeError:
+                    pass  # Its status says why it didn't read on.
+            said = process.stderr.read()
+        status = process.returncode
+        if status == 2 and OF_STREAM.search(said):
+            raise Faulty(one_line(said))
+        if status not in (0, REFUSED_LEFT_OUT):
+            how = f"ended by signal {-status}" if status < 0 else f"status {status}"
+            raise Failed(one_line(said) or f"lockgraph reduce: {how}")
+        return status == REFUSED_LEFT_OUT
+
+
+def one_line(said):
+    """A text on standard error as one line: the name of a file may have more."""
+    return shown(os.fsdecode(said.removesuffix(b"\n").replace(b"\n", b"?")))
+
+
+def reduce_stream(reducer, night, name):
+    """Makes the result of a stream: what is left of it, or what is wrong with it. `Failed` where it may be tried again;
+    then there is none."""
+    path = night.stream(name)
+    try:
+        time = seconds_of(path)
+        if time is not None and not is_regular(path):
+            raise Faulty(f"{shown(name)}: not a regular file")
+        keep_stream(reducer, night, name, time)
+    except Faulty as fault:
+        with whole(night.result(name, FAULTY), time) as file:
+            file.write(f"{fault}\n".encode())
+    except OSError as error:
+        # Another process may have made the result, and taken the part of this one away.
+        if night.ending(name) is None:
+            raise Failed(f"{shown(error.filename or name)}: {error.strerror}") from None
+    if seconds_of(path) != time:
+        raise Failed(f"{shown(name)}: it was written to meanwhile")
+
+
+def keep_stream(reducer, night, name, time):
+    """Makes what is left of a stream, with refused traces, so that the report of the night names them."""
+    with open(night.stream(name), "rb") as stream, whole(night.result(name, REDUCED), time) as out:
+        word, source = (word_of(name), subprocess.DEVNULL) if is_utf8(name) else ("-", stream)
+        refused = 0
+        if reducer.run([*reducer.of_stream, word], out, night.folder, source):
+            read_only = count_traces(out.name)
+            stream.seek(0)
+            reducer.run([*reducer.of_stream, "--keep-refused", word], out, night.folder, source)
+            refused = count_traces(out.name) - read_only
+        put_counts(night.result(name, COUNTS), out, refused)
+
+
+def is_utf8(name):
+    """Whether lockgraph takes a name as a word: it is given any other stream as standard input."""
+    try:
+        os.fsencode(name).decode()
+        return True
+    except UnicodeDecodeError:
+        return False
+
+
+def word_of(name):
+    """A name as a word that isn't taken for an option."""
+    return f"./{name}" if name.startswith("-") else name
+
+
+def put_counts(path, out, refused):
+    """Writes how many traces a reduced stream has. They get their name before the stream does."""
+    with whole(path) as file:
+        file.write(Counts(0, count_traces(out.name), refused).text())
+
+
+def join_streams(reducer, target, paths, keeps_refused):
+    """Joins reduced streams, given without their endings, to another one."""
+
+    def feed(pipe):
+        for path in paths:
+            with open(path + REDUCED, "rb") as file:
+                shutil.copyfileobj(file, pipe, 1 << 20)
+
+    try:
+        with whole(target + REDUCED) as out:
+            reducer.run(["--keep-refused"] if keeps_refused else [], out, feed=feed)
+            refused = sum(Counts.of(it).refused for it in paths) if keeps_refused else 0
+            put_counts(target + COUNTS, out, refused)
+    except OSError as error:
+        if not os.path.exists(target + REDUCED):
+            raise Failed(f"{shown(error.filename or target)}: {error.strerror}") from None
