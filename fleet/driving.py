@@ -3,12 +3,11 @@ import argparse
 import math
 import os
 import shutil
-import signal
 import sys
 import time
 
 from joining import GROUP, LARGEST_GROUP, MIB, Tree, keep_before
-from nights import Night, Wrong, list_of, names_in, read, shown, streams_below
+from nights import Night, Wrong, end_in_order, list_of, names_in, read, shown, streams_below
 from reducing import ROOT, Reducer, program
 from summing import Summary
 
@@ -197,8 +196,7 @@ class Driver:
 
 def drive(name, words, engine):
     """The exit status of a night."""
-    for it in (signal.SIGHUP, signal.SIGTERM):
-        signal.signal(it, lambda number, _: sys.exit(128 + number))
+    end_in_order()
     try:
         return Driver(name, words, engine).run()
     except (Wrong, OSError) as error:

@@ -15,7 +15,9 @@ import contextlib
 import hashlib
 import os
 import re
+import signal
 import stat
+import sys
 import urllib.parse
 
 STREAM = ".trace"
@@ -166,6 +168,12 @@ class Night:
                 if os.path.exists(part.rpartition("%%")[0]):
                     with contextlib.suppress(FileNotFoundError):
                         os.unlink(part)
+
+
+def end_in_order():
+    """Has a signal that ends this process take away what isn't whole."""
+    for it in (signal.SIGHUP, signal.SIGTERM):
+        signal.signal(it, lambda number, _: sys.exit(128 + number))
 
 
 def is_regular(path):

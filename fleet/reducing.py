@@ -75,13 +75,11 @@ class Reducer:
         source = subprocess.PIPE if feed else source
         command = [*self.command, *words]
         with subprocess.Popen(command, cwd=folder, stdin=source, stdout=out, stderr=subprocess.PIPE) as process:
-            if feed:
-                try:
-                    feed(process.stdin)
-                    process.stdin.close()
-                except BrokenPipeError:
-                    pass  # Its status says why it didn't read on.
-            said = process.stderr.read()
+            try:
+                said = said_by(process, feed)
+            except BaseException:
+                process.kill()
+                raise
         status = process.returncode
         if status == 2 and OF_STREAM.search(said):
             raise Faulty(one_line(said))
@@ -89,6 +87,17 @@ class Reducer:
             how = f"ended by signal {-status}" if status < 0 else f"status {status}"
             raise Failed(one_line(said) or f"lockgraph reduce: {how}")
         return status == REFUSED_LEFT_OUT
+
+
+def said_by(process, feed):
+    """What a process says on standard error, where a function may feed its standard input."""
+    if feed:
+        try:
+            feed(process.stdin)
+            process.stdin.close()
+        except BrokenPipeError:
+            pass  # Its status says why it didn't read on.
+    return process.stderr.read()
 
 
 def one_line(said):

@@ -10,7 +10,7 @@ import time
 
 import planted
 from machine import made
-from rooms import call, fleet, kill_marked, must, must_be_same, night, parts_in, program, read, say, MARK
+from rooms import call, fleet, kill_marked, must, must_be_same, night, parts_in, program, read, say, until, MARK
 
 NODES = ["n1", "n2", "n3", "n4"]
 SLURM = ("slurmctld", "slurmd", "sbatch", "munged")
@@ -108,13 +108,6 @@ def start(room, name, *words, **more):
         return subprocess.Popen(
             words, stdin=subprocess.DEVNULL, stdout=out, stderr=out, env={**os.environ, **more}, start_new_session=True
         )
-
-
-def until(holds, text, seconds=60):
-    ends = time.monotonic() + seconds
-    while not holds():
-        must(time.monotonic() < ends, text)
-        time.sleep(0.2)
 
 
 def start_slurm(room):

@@ -4,10 +4,9 @@ import re
 import shutil
 import signal
 import subprocess
-import time
 
 import planted
-from rooms import call, fleet, must, must_be_same, night, parts_in, program, read
+from rooms import MARK, call, fleet, marked, must, must_be_same, night, parts_in, program, read, until
 
 SMALL = 40
 
@@ -232,22 +231,21 @@ def check_words(room, _count):
 
 
 def check_stopped(room, _count):
-    """A call that is ended takes its tasks with it, and the next one goes on."""
+    """A call that is ended takes its tasks with it, and what isn't whole; the next one goes on."""
     streams = made(room, "streams", SMALL)
     night(streams, room.path("alone"), status=1)
-    slow = room.write("slow", f"#!/bin/sh\nsleep 0.2\nexec {program('lockgraph')} \"$@\"\n", 0o755)
+    slow = room.write("slow", f'#!/bin/sh\nsleep 0.5\nexec {program("lockgraph")} "$@"\n', 0o755)
+    command = [fleet("night"), "--jobs", "2", streams, room.path("night")]
+    more = {**os.environ, "LOCKGRAPH": slow}
     for number in (signal.SIGTERM, signal.SIGKILL):
-        process = subprocess.Popen(
-            [fleet("night"), streams, room.path("night")],
-            env={**os.environ, "LOCKGRAPH": slow},
-            stdout=subprocess.DEVNULL,
-            stderr=subprocess.DEVNULL,
-        )
-        time.sleep(1.5)
+        process = subprocess.Popen(command, env=more, stdout=subprocess.DEVNULL, stderr=subprocess.DEVNULL)
+        until(lambda: parts_in(room.path("night")), "stopped: nothing begins")
         process.send_signal(number)
         must(process.wait(timeout=60) != 0, "stopped: it went on")
-        some = len(results_so_far(room.path("night")))
-        must(some < SMALL, "stopped: it had ended before")
+        must(len(results_so_far(room.path("night"))) < SMALL, "stopped: it had ended before")
+        if number == signal.SIGTERM:
+            until(lambda: not marked(f"{MARK}={room.folder}"), "stopped: tasks go on")
+            must(not parts_in(room.path("night")), "stopped: parts are left")
     night(streams, room.path("night"), status=1, line=planted.summary(SMALL))
     must_be_same(room.path("alone"), room.path("night"), "stopped")
 

@@ -138,6 +138,13 @@ def night(*words, status, line=None, **how):
     return said
 
 
+def until(holds, text, seconds=60):
+    ends = time.monotonic() + seconds
+    while not holds():
+        must(time.monotonic() < ends, text)
+        time.sleep(0.2)
+
+
 def parts_in(folder):
     """What has no whole name below a folder."""
     return [name for _, _, names in os.walk(folder) for name in names if name.endswith(".part")]
