@@ -1,0 +1,11 @@
+pub mod RingLemmas
+pub mod PlaceLemmas
+pub mod RankLemmas
+pub mod WalkLemmas
+pub mod ShiftLemmas
+pub mod SpreadLemmas
+pub mod AppendLemmas
+pub mod SparseLemmas
+pub mod SortedLemmas
+pub mod PlaceOfLemmas
+pub mod ClassLemmas
