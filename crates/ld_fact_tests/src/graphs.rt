@@ -62,24 +62,36 @@ fn insert_moved<R: Abort>(rt: &R, graph: &mut Graph, a: u32, b: u32, most: u64) 
     }
 }
 
-fn rank<R: Abort>(rt: &R, graph: &Graph, class: u32) -> Option<u32> {
-    assert!(rt; (class as usize) < graph.len());
-    graph.rank(class)
+/// Asserts the rank of each class.
+fn expect_order<R: Abort>(rt: &R, graph: &mut Graph, wanted: &[u32]) {
+    match graph.order() {
+        Some(ranks) => assert_eq!(rt; ranks, wanted),
+        None => panic!(rt; "a cycle"),
+    }
 }
 
-/// Asserts the ranks of the first four classes.
-fn expect_ranks<R: Abort>(rt: &R, graph: &Graph, wanted: [Option<u32>; 4]) {
-    for class in 0..4 {
-        assert_eq!(rt; rank(rt, graph, class), wanted[class as usize]);
+/// Asserts that there is no order.
+fn expect_no_order<R: Abort>(rt: &R, graph: &mut Graph) {
+    assert!(rt; graph.has_cycle());
+    assert!(rt; graph.order().is_none());
+}
+
+/// The rank of the class.
+fn rank<R: Abort>(rt: &R, graph: &mut Graph, class: u32) -> u32 {
+    match graph.order() {
+        Some(ranks) => {
+            assert!(rt; (class as usize) < ranks.len());
+            ranks[class as usize]
+        }
+        None => panic!(rt; "a cycle"),
     }
 }
 
 /// Asserts that there is no cycle, and that the ranks of these classes rise.
-fn expect_rise<R: Abort>(rt: &R, graph: &Graph, classes: &[u32]) {
-    assert!(rt; !graph.has_cycle());
+fn expect_rise<R: Abort>(rt: &R, graph: &mut Graph, classes: &[u32]) {
     let mut last = None;
     for class in classes {
-        let next = rank(rt, graph, *class);
+        let next = Some(rank(rt, graph, *class));
         assert!(rt; last < next);
         last = next;
     }
@@ -196,10 +208,9 @@ fn expect_walks_along<R: Abort>(
 }
 
 /// Asserts the answers of the graph with the edges (0, 1), (2, 0), (1, 2) and (3, 3).
-fn expect_circle<R: Abort>(rt: &R, alloc: Global, graph: &Graph) {
+fn expect_circle<R: Abort>(rt: &R, alloc: Global, graph: &mut Graph) {
     let places = [0, 1, 2, 3];
-    assert!(rt; graph.has_cycle());
-    expect_ranks(rt, graph, [None; 4]);
+    expect_no_order(rt, graph);
     assert_eq!(rt; graph.len(), 4);
     assert_eq!(rt; graph.edges(), 4);
     expect_edge(rt, graph, 0, 1, Some(0));
@@ -224,38 +235,34 @@ fn expect_circle<R: Abort>(rt: &R, alloc: Global, graph: &Graph) {
 fn circle(rt: HostRuntime) {
     let alloc = rt.alloc();
     let mut graph = Graph::new(alloc);
-    make_room(&rt, &mut graph, 4, 5);
+    make_room(&rt, &mut graph, 4, 6);
     add_classes(&rt, &mut graph, 4);
-    expect_ranks(&rt, &graph, [None; 4]);
+    expect_order(&rt, &mut graph, &[0, 1, 2, 3]);
     expect_insert(&rt, &mut graph, 0, 1, Insert::Kept);
-    expect_insert(&rt, &mut graph, 2, 0, Insert::Kept);
-    expect_rise(&rt, &graph, &[2, 0, 1]);
-    let ranks = [
-        rank(&rt, &graph, 0),
-        rank(&rt, &graph, 1),
-        rank(&rt, &graph, 2),
-        None,
-    ];
-    expect_ranks(&rt, &graph, ranks);
+    expect_order(&rt, &mut graph, &[0, 1, 2, 3]);
+    insert_moved(&rt, &mut graph, 2, 0, 3);
+    expect_order(&rt, &mut graph, &[1, 2, 0, 3]);
     expect_insert(&rt, &mut graph, 0, 1, Insert::Known);
-    expect_ranks(&rt, &graph, ranks);
+    expect_order(&rt, &mut graph, &[1, 2, 0, 3]);
     // Where a growth of this graph is refused, each answer is as before.
     assert!(rt; graph.len() == 4);
     if graph.room(100, 100).is_err() {
-        expect_ranks(&rt, &graph, ranks);
+        expect_order(&rt, &mut graph, &[1, 2, 0, 3]);
     }
     make_room(&rt, &mut graph, 100, 100);
+    expect_order(&rt, &mut graph, &[1, 2, 0, 3]);
     expect_insert(&rt, &mut graph, 1, 2, Insert::Closed);
-    assert!(rt; graph.has_cycle());
+    expect_no_order(&rt, &mut graph);
     expect_insert(&rt, &mut graph, 3, 3, Insert::AfterCycle);
+    expect_insert(&rt, &mut graph, 0, 1, Insert::Known);
     expect_known(&rt, &mut graph, 2, 0, 1);
-    expect_circle(&rt, alloc, &graph);
+    expect_circle(&rt, alloc, &mut graph);
     assert!(rt; graph.len() == 4);
     if graph.room(1000, 1000).is_err() {
-        expect_circle(&rt, alloc, &graph);
+        expect_circle(&rt, alloc, &mut graph);
     }
     make_room(&rt, &mut graph, 1000, 1000);
-    expect_circle(&rt, alloc, &graph);
+    expect_circle(&rt, alloc, &mut graph);
     drop(graph);
 }
 
@@ -263,23 +270,44 @@ fn circle(rt: HostRuntime) {
 fn repaired(rt: HostRuntime) {
     let alloc = rt.alloc();
     let mut graph = Graph::new(alloc);
-    make_room(&rt, &mut graph, 6, 7);
+    make_room(&rt, &mut graph, 6, 5);
     add_classes(&rt, &mut graph, 6);
     expect_insert(&rt, &mut graph, 0, 5, Insert::Kept);
-    expect_insert(&rt, &mut graph, 1, 2, Insert::Kept);
-    expect_insert(&rt, &mut graph, 3, 4, Insert::Kept);
-    expect_rise(&rt, &graph, &[0, 5, 1, 2, 3, 4]);
-    let kept = [rank(&rt, &graph, 0), rank(&rt, &graph, 5)];
     insert_moved(&rt, &mut graph, 4, 1, 4);
-    expect_rise(&rt, &graph, &[0, 5, 3, 4, 1, 2]);
-    assert_eq!(rt; rank(&rt, &graph, 0), kept[0]);
-    assert_eq!(rt; rank(&rt, &graph, 5), kept[1]);
+    expect_rise(&rt, &mut graph, &[0, 4, 1, 5]);
+    assert_eq!(rt; rank(&rt, &mut graph, 0), 0);
+    assert_eq!(rt; rank(&rt, &mut graph, 5), 5);
     expect_insert(&rt, &mut graph, 1, 4, Insert::Closed);
+    expect_no_order(&rt, &mut graph);
     expect_insert(&rt, &mut graph, 5, 0, Insert::AfterCycle);
     expect_insert(&rt, &mut graph, 0, 5, Insert::Known);
     drop(graph);
 }
 
+#[test]
+fn a_class_after_itself(rt: HostRuntime) {
+    let mut graph = Graph::new(rt.alloc());
+    make_room(&rt, &mut graph, 1, 1);
+    add_classes(&rt, &mut graph, 1);
+    expect_insert(&rt, &mut graph, 0, 0, Insert::Closed);
+    expect_no_order(&rt, &mut graph);
+    drop(graph);
+}
+
+#[test]
+fn a_class_added_later(rt: HostRuntime) {
+    let mut graph = Graph::new(rt.alloc());
+    make_room(&rt, &mut graph, 3, 2);
+    add_classes(&rt, &mut graph, 2);
+    insert_moved(&rt, &mut graph, 1, 0, 2);
+    expect_order(&rt, &mut graph, &[1, 0]);
+    assert!(rt; graph.spare_classes() > 0);
+    assert_eq!(rt; graph.add_class(), 2);
+    expect_order(&rt, &mut graph, &[1, 0, 2]);
+    drop(graph);
+}
+
+// Each class goes directly before the one that went last, so a gap between two labels is used up again and again.
 #[test]
 fn a_chain_from_its_end(rt: HostRuntime) {
     let alloc = rt.alloc();
@@ -287,9 +315,10 @@ fn a_chain_from_its_end(rt: HostRuntime) {
     make_room(&rt, &mut graph, 2_000, 2_000);
     add_classes(&rt, &mut graph, 2_000);
     for a in 0..1_999 {
-        expect_insert(&rt, &mut graph, a + 1, a, Insert::Kept);
+        insert_moved(&rt, &mut graph, a + 1, a, 2);
     }
-    expect_rise(&rt, &graph, &[1_999, 1_000, 1, 0]);
+    expect_rise(&rt, &mut graph, &[1_999, 1_000, 1, 0]);
+    assert_eq!(rt; rank(&rt, &mut graph, 1_000), 999);
     drop(graph);
 }
 

@@ -6,7 +6,7 @@ use Rattle.ld_graph.specs.declared.graph.Graph.TheInside.{Inside}
 use Rattle.ld_graph.specs.declared.graph.TheConstants.{MOST_GRAPH_CLASSES}
 use Rattle.ld_graph.specs.Lists.{IsNear, ListsGrown}
 use Rattle.ld_graph.specs.Edges.{IsEdge}
-use Rattle.ld_graph.specs.Order.{HasCycle, HasStep}
+use Rattle.ld_graph.specs.Order.{HasCycle}
 use Rattle.ld_graph.specs.Inner.Kept.{IsKept}
 
 -- the graph is as before, with at least the memory that it had
@@ -53,9 +53,6 @@ IsKept-grown old new g h =
       ranked = ap length g.ranks ∙ h.ranked ∙ sym g.classes;
       rises = λ f x y e. subst (λ r. get_or r x 0 < get_or r y 0) (sym g.ranks)
           (h.rises (sym g.has_cycle ∙ f) x y (subst (λ k. IsEdge k x y) g.keys e));
-      free = λ f c. subst (λ r. (0 < get_or r c 0) ↔ HasStep (IsEdge new.edges.keys) c) (sym g.ranks)
-          (subst (λ k. (0 < get_or old.ranks.ranks c 0) ↔ HasStep (IsEdge k) c) (sym g.keys)
-          (h.free (sym g.has_cycle ∙ f) c));
       cycle = λ t. subst (λ k. HasCycle (IsEdge k)) (sym g.keys) (h.cycle (sym g.has_cycle ∙ t));
     }
 
@@ -104,7 +101,6 @@ IsKept-spare g classes edges more_classes more_edges h m n e a b c d r f =
       few = omega (arith, m, f, h.few);
       ranked = h.ranked;
       rises = h.rises;
-      free = h.free;
       cycle = h.cycle;
     }
 

@@ -20,6 +20,15 @@ pub bool_cases : (b : Bool) → (b ≡ true) ⊎ (b ≡ false)
 bool_cases true = inl refl
 bool_cases false = inr refl
 
+-- whether a number is one of these
+pub has_or_not : (found : List ℕ) (k : ℕ) → Contains found k ⊎ (¬ Contains found k)
+has_or_not found k = by (bool_cases (list_any (nat_eq k) found))
+  where
+    by : (list_any (nat_eq k) found ≡ true) ⊎ (list_any (nat_eq k) found ≡ false)
+        → Contains found k ⊎ (¬ Contains found k)
+    by (inl e) = inl (Contains-from_any {eq = nat_eq} (λ x y t. eqb-true x y t) k found e)
+    by (inr e) = inr (λ n. true≢false (sym (list_any-from_Contains nat_eq_equiv k found n) ∙ e))
+
 pub AreMarked-none : AreMarked [] []
 AreMarked-none = record {
   once = IsDistinct-none;
@@ -43,19 +52,6 @@ module _ (marks : List Bool) (found : List ℕ) (h : AreMarked marks found) wher
 
   pub unmarked : (k : ℕ) → get_or marks k false ≡ false → ¬ Contains found k
   unmarked k e n = true≢false (sym ((h.marked k).1 n) ∙ e)
-
-  pub has_exact : (k : ℕ) → get_or marks k false ≡ list_any (nat_eq k) found
-  has_exact k = by (bool_cases (get_or marks k false)) (bool_cases (list_any (nat_eq k) found))
-    where
-      by : (get_or marks k false ≡ true) ⊎ (get_or marks k false ≡ false)
-          → (list_any (nat_eq k) found ≡ true) ⊎ (list_any (nat_eq k) found ≡ false)
-          → get_or marks k false ≡ list_any (nat_eq k) found
-      by (inl a) (inl b) = a ∙ sym b
-      by (inr a) (inr b) = a ∙ sym b
-      by (inl a) (inr b) = absurd (true≢false (sym (list_any-from_Contains nat_eq_equiv k found
-          ((h.marked k).0 a)) ∙ b))
-      by (inr a) (inl b) = absurd (unmarked k a (Contains-from_any {eq = nat_eq} (λ x y t. eqb-true
-          x y t) k found b))
 
   module _ (offset : ℕ) (within : offset < length marks) (free : get_or marks offset false ≡ false) where
     pub AreMarked-add : AreMarked (set marks offset true) (found ++ offset ∷ [])

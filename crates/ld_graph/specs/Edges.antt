@@ -1,6 +1,6 @@
 -- A graph as its callers see it. Classes are numbers, from 0 on.
 use Rattle.std.specs.Prelude.{◌≡◌, ◌≢◌, ℕ, ◌+◌, ◌-◌, ◌<◌, List, [], ◌∷◌, ◌++◌, Option, None, Some}
-use Rattle.std.specs.Prelude.{Contains, slice_get, slice_index, ◌⊎◌}
+use Rattle.std.specs.Prelude.{Contains, length, slice_get, slice_index, ◌⊎◌}
 use Rattle.ld_graph.specs.declared.Edge.{Edge}
 
 -- the edge from one class to another
@@ -23,14 +23,13 @@ ComesBefore places x y =
     ⊎ ((slice_index places x ≡ slice_index places y) × (x < y))
 
 -- a graph: how many classes it has, its edges in order of insertion, for how many more of both it
--- has memory, and, so long as there is no cycle, for each class its rank, or none for a class without
--- an edge
+-- has memory, and, so long as there is no cycle, the rank of each class
 pub record PlainGraph : Type 0 where
   pub classes : ℕ
   pub edges : List Edge
   pub spare_classes : ℕ
   pub spare_edges : ℕ
-  pub order : Option (List (Option ℕ))
+  pub order : Option (List ℕ)
 
 -- no class, no edge and no memory
 abbrev pub empty_graph : PlainGraph
@@ -42,21 +41,21 @@ empty_graph = record {
   order = Some [];
 }
 
--- the ranks with one more class, which has none
-abbrev pub with_unranked : Option (List (Option ℕ)) → Option (List (Option ℕ))
-with_unranked None = None
-with_unranked (Some ranks) = Some (ranks ++ None ∷ [])
+-- the ranks with one more class, which has the last one
+abbrev pub with_last : Option (List ℕ) → Option (List ℕ)
+with_last None = None
+with_last (Some ranks) = Some (ranks ++ length ranks ∷ [])
 
 -- the graph with one more class, which took a spare one
 abbrev pub with_class : PlainGraph → PlainGraph
 with_class g = record g {
   classes = g.classes + 1;
   spare_classes = g.spare_classes - 1;
-  order = with_unranked g.order;
+  order = with_last g.order;
 }
 
 -- the graph with one more edge, which took a spare one, and with this order
-abbrev pub with_edge : PlainGraph → ℕ → ℕ → Option (List (Option ℕ)) → PlainGraph
+abbrev pub with_edge : PlainGraph → ℕ → ℕ → Option (List ℕ) → PlainGraph
 with_edge g a b order = record g {
   edges = g.edges ++ edge a b ∷ [];
   spare_edges = g.spare_edges - 1;

@@ -5,7 +5,7 @@ pub mod Sides
 pub mod Levels
 pub mod Repairs
 pub mod Marks
-pub mod Lines
+pub mod Affected
 pub mod Ranks
 pub mod Placed
 pub mod Kept
@@ -13,3 +13,4 @@ pub mod KeptReach
 pub mod Trails
 pub mod Insides
 pub mod Distances
+pub mod Lending

@@ -6,3 +6,4 @@ pub mod Edges
 pub mod Order
 pub mod Reach
 pub mod Components
+pub mod Lending

@@ -1,14 +1,14 @@
 //! The graph itself.
 
 ghost use Rattle.std.specs.Prelude.{◌≡◌, ◌≢◌, ℕ, ◌+◌, ◌-◌, ◌<◌, ◌≤◌, ◌↔◌, length, slice_get};
-ghost use Rattle.std.specs.Prelude.{slice_index_or, None, IfOk, IsTrue};
+ghost use Rattle.std.specs.Prelude.{slice_index_or, None, Some, IfOk, IsTrue};
 ghost use Rattle.std.specs.Prelude.{All, OnOk, MatchOption, true, false};
 ghost use Rattle.ld_graph.specs.Components.{AreComponents};
 ghost use Rattle.ld_graph.specs.Edges.{ComesBefore, IsEdge, IsEdgeNumber};
 ghost use Rattle.ld_graph.specs.Edges.{empty_graph, with_class, with_edge, with_spares};
 ghost use Rattle.ld_graph.specs.Lists.{IsNear};
 ghost use Rattle.ld_graph.specs.Nexts.{AreNexts};
-ghost use Rattle.ld_graph.specs.Order.{HasCycle, IsInserted, IsOrder, rank_of};
+ghost use Rattle.ld_graph.specs.Order.{HasCycle, IsInserted, IsOrder};
 ghost use Rattle.ld_graph.specs.Walks.{AreEnough, DistanceIs, HasWalk, IsShownWalk, Reaches};
 
 use crate::Edge;
@@ -56,6 +56,9 @@ impl Model for Graph {
 }
 
 impl Graph {
+    ghost use Rattle.std.specs.Borrow.{sem};
+    ghost use Rattle.ld_graph.specs.Lending.{StaysAs};
+
     /// A graph with no class and no edge. Takes no memory.
     pub fn new(alloc: Global) -> Graph
         ensures { result ≡ empty_graph }
@@ -139,8 +142,7 @@ impl Graph {
         Ok(())
     }
 
-    /// Adds a class, which takes a spare one and has no rank until its first edge comes, and answers its
-    /// number. Takes no memory.
+    /// Adds a class, which takes a spare one and gets the last rank, and answers its number. Takes no memory.
     pub fn add_class(&mut self) -> u32
         requires { 0 < self.old.spare_classes }
         ensures number { result ≡ self.old.classes }
@@ -164,9 +166,8 @@ impl Graph {
         Some(number as u64)
     }
 
-    /// Inserts the edge from `a` to `b`, which takes a spare one. So long as there is no cycle, a class
-    /// whose first edge it is gets a rank before or behind all that there were. Where `a` is ranked below
-    /// `b` then, all ranks stand. Else those from the rank of `b` to that of `a` are repaired, or the edge
+    /// Inserts the edge from `a` to `b`, which takes a spare one. So long as there is no cycle, all ranks stand
+    /// where `a` is ranked below `b`. Else those from the rank of `b` to that of `a` are repaired, or the edge
     /// closes a cycle, and from then on there is no order. An edge that is there already changes nothing.
     /// Takes no memory.
     pub fn insert(&mut self, a: u32, b: u32) -> Insert
@@ -222,18 +223,18 @@ impl Graph {
         self.has_cycle
     }
 
-    /// The rank of the class, or `None` where it has no edge or there is a cycle. Where there is none, the
-    /// ranks are an order: every edge goes from a lesser to a greater one. Takes no memory.
-    pub fn rank(&self, class: u32) -> Option<u32>
-        requires { class < self.now.classes }
-        ensures rank { MatchOption self.now.order (result ≡ None) (λ ranks. result ≡ rank_of ranks class) }
-        ensures order { MatchOption self.now.order (HasCycle (IsEdge self.now.edges))
-            (IsOrder (IsEdge self.now.edges) self.now.classes) }
+    /// The rank of each class, or `None` where there is a cycle. Where there is none, the ranks are an order: the
+    /// numbers from 0 on, each once, and every edge goes from a lesser to a greater one. Takes no memory.
+    pub fn order(&mut self) -> Option<&[u32]>
+        ensures* same { sem 𝓛 (StaysAs self.entry) }
+        ensures order { MatchOption result (HasCycle (IsEdge self.old.edges))
+            (λ ranks. IsOrder (IsEdge self.old.edges) self.old.classes ranks.now) }
+        ensures value { MatchOption result (self.old.order ≡ None) (λ ranks. self.old.order ≡ Some ranks.now) }
     {
         if self.has_cycle {
             return None;
         }
-        self.ranks.rank(class)
+        Some(self.ranks.list())
     }
 
     /// For each class a class of its component, the same one for all of a component: two classes have the

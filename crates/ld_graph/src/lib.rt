@@ -2,25 +2,23 @@
 //! by repairs, and what walks lead to from some classes.
 #![tactic(auto)]
 
+mod affected;
 mod components;
 mod distance;
 mod graph;
 mod inside;
 mod levels;
-mod line;
 mod lists;
 mod marks;
 mod neighbours;
 mod nexts;
 mod placed;
-mod pool;
 mod ranks;
 mod reach;
-mod repair;
+mod reorder;
 mod search;
 mod shown;
 mod trail;
-mod turns;
 
 pub use distance::Distance;
 pub use graph::{Graph, MOST_GRAPH_CLASSES};

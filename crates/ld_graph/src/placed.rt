@@ -12,7 +12,7 @@ use crate::ranks::Ranks;
 pub enum Insert {
     /// The edge was there already, and none was added.
     Known,
-    /// The edge was added, and all ranks that there were stand.
+    /// The edge was added, and all ranks stand.
     Kept,
     /// The edge was added, and the ranks were repaired.
     Moved {
@@ -58,30 +58,12 @@ pub fn place(
         *has_cycle = true;
         return Insert::Closed;
     }
-    match (ranks.rank(a), ranks.rank(b)) {
-        // A class without a rank has no other edge, so it may stand before or behind all.
-        (None, None) => {
-            ranks.put_last(a);
-            ranks.put_last(b);
-            Insert::Kept
-        }
-        (None, Some(_)) => {
-            ranks.put_first(a);
-            Insert::Kept
-        }
-        (Some(_), None) => {
-            ranks.put_last(b);
-            Insert::Kept
-        }
-        (Some(from), Some(to)) => {
-            if from < to {
-                return Insert::Kept;
-            }
-            let Some(expanded) = ranks.repair(reader, a, b) else {
-                *has_cycle = true;
-                return Insert::Closed;
-            };
-            Insert::Moved { expanded }
-        }
+    if ranks.is_before(a, b) {
+        return Insert::Kept;
     }
+    let Some(expanded) = ranks.repair(reader, a, b) else {
+        *has_cycle = true;
+        return Insert::Closed;
+    };
+    Insert::Moved { expanded }
 }

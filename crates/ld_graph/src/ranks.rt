@@ -1,82 +1,54 @@
-//! The ranks of the classes, kept both ways.
+//! The ranks of a graph's classes: the order, and the space that its repairs take.
 
-ghost use Rattle.std.specs.Prelude.{◌≡◌, ◌↔◌, ℕ, ◌+◌, ◌<◌, ◌≤◌, [], ◌∷◌, ◌++◌, length};
-ghost use Rattle.std.specs.Prelude.{slice_index, IfSome, MatchOption, OnOk};
+ghost use Rattle.std.specs.Prelude.{◌≡◌, ◌≢◌, ◌↔◌, ℕ, ◌<◌, ◌≤◌, [], ◌∷◌, ◌++◌, length, slice_index, IsTrue, IfSome, MatchOption, OnOk};
 ghost use Rattle.ld_graph.specs.declared.graph.TheConstants.{MOST_GRAPH_CLASSES};
-ghost use Rattle.ld_graph.specs.Inner.Repairs.{AreInverse, IsPut, IsRepaired, IsOrReaches, told};
+ghost use Rattle.ld_graph.specs.Inner.Repairs.{IsOrReaches, IsRepaired};
 ghost use Rattle.ld_graph.specs.Lists.{IsNear};
+ghost use Rattle.ld_order.specs.Orders.{AreRanks};
 
-use crate::line::Line;
 use crate::lists::Reader;
-use crate::repair::{Space, mend};
+use crate::reorder::reorder;
 use crate::search::Search;
+use ld_order::Order;
 use std::alloc::{AllocError, Global};
 use std::marker::Model;
 
-/// The rank of each class that has one, and the ranked classes in their order.
+/// The rank of each class: its place in the order.
 #[derive(Drop)]
 pub struct Ranks {
-    /// The rank of each class, or 0 where it has none. No class is ranked 0.
-    ranks: Vec<u32>,
-    /// The ranked classes in their order.
-    order: Line,
-    /// The rank of the first class in the order.
-    first: u32,
-    /// The classes of a range, where all of its ranks are dealt out.
-    row: Vec<u32>,
-    space: Space,
+    order: Order,
+    backward: Search,
+    forward: Search,
     /// For how many classes there is memory.
     room: usize,
 }
 
 impl Model for Ranks {
-    ghost use Rattle.ld_graph.specs.Inner.Repairs.{Ranked};
+    ghost use Rattle.ld_order.specs.Orders.{Ordered};
 
-    ghost Value = { Ranked };
+    ghost Value = { Ordered };
 
-    ghost use Rattle.ld_graph.specs.Inner.Ranks.{shown, IsRanked};
+    ghost use Rattle.ld_graph.specs.Inner.Ranks.{IsRanked};
 
-    ghost view = { shown };
+    ghost view = { λ r. record { ranks = r.order.ranks; room = r.room } };
 
     ghost invariant = { IsRanked };
 }
 
 impl Ranks {
+    ghost use Rattle.std.specs.Borrow.{sem};
+    ghost use Rattle.ld_graph.specs.Inner.Lending.{StayAs};
+
     /// No class.
     pub fn new(alloc: Global) -> Ranks
         ensures ranks { result.ranks ≡ [] }
         ensures room { result.room ≡ 0 }
     {
-        let space = Space {
-            behind: Search::new(alloc),
-            ahead: Search::new(alloc),
-            moved: Vec::new(alloc),
-            rest: Vec::new(alloc),
-            pool: Vec::new(alloc),
-            shared: Vec::new(alloc),
-        };
         Ranks {
-            ranks: Vec::new(alloc),
-            order: Line::new(alloc),
-            // The middle of all numbers, so that there are ranks for all classes on both sides.
-            first: 1 << 31,
-            row: Vec::new(alloc),
-            space,
+            order: Order::new(alloc),
+            backward: Search::new(alloc),
+            forward: Search::new(alloc),
             room: 0,
-        }
-    }
-
-    /// The rank of the class, if it has one.
-    pub fn rank(&self, class: u32) -> Option<u32>
-        requires { class < length self.now.ranks }
-        ensures rank { result ≡ told (slice_index self.now.ranks class) }
-        ensures inverse { AreInverse self.now.ranks self.now.order self.now.first }
-    {
-        // Read so that the invariant, which speaks of all fields, is at hand.
-        let _ = &self.room;
-        match self.ranks[class as usize] {
-            0 => None,
-            rank => Some(rank),
         }
     }
 
@@ -90,56 +62,41 @@ impl Ranks {
         if classes <= self.room {
             return Ok(());
         }
-        self.ranks.reserve(classes - self.ranks.len())?;
+        self.backward.room(classes)?;
+        self.forward.room(classes)?;
         self.order.room(classes)?;
-        self.row.clear();
-        self.row.reserve(classes)?;
-        self.space.behind.room(classes)?;
-        self.space.ahead.room(classes)?;
-        self.space.moved.resize(classes, 0)?;
-        self.space.rest.resize(classes, 0)?;
-        self.space.pool.clear();
-        self.space.pool.reserve(classes)?;
-        self.space.shared.clear();
-        self.space.shared.reserve(classes)?;
         self.room = classes;
         Ok(())
     }
 
-    /// Adds a class, which has no rank.
+    /// Adds a class, which gets the last rank.
     pub fn add_class(&mut self)
         requires { length self.old.ranks < self.old.room }
-        ensures ranks { self.new.ranks ≡ self.old.ranks ++ 0 ∷ [] }
+        ensures ranks { self.new.ranks ≡ self.old.ranks ++ length self.old.ranks ∷ [] }
         ensures room { self.new.room ≡ self.old.room }
     {
-        self.ranks.push_reserved(0);
+        self.order.add_class();
     }
 
-    /// Ranks a class that has no rank before all others.
-    pub fn put_first(&mut self, class: u32)
-        requires class { class < length self.old.ranks }
-        requires free { slice_index self.old.ranks class ≡ 0 }
-        ensures room { self.new.room ≡ self.old.room }
-        ensures put { IsPut class self.old.ranks self.new.ranks }
-        ensures first { (c : ℕ) → 0 < slice_index self.old.ranks c
-            → slice_index self.new.ranks class < slice_index self.old.ranks c }
+    /// Whether the class `a` is ranked below the class `b`.
+    pub fn is_before(&self, a: u32, b: u32) -> bool
+        requires a { a < length self.now.ranks }
+        requires b { b < length self.now.ranks }
+        ensures before { IsTrue result ↔ (slice_index self.now.ranks a < slice_index self.now.ranks b) }
+        ensures ranks { AreRanks self.now.ranks }
     {
-        self.first -= 1;
-        self.ranks[class as usize] = self.first;
-        self.order.put_first(class);
+        // Read so that the invariant, which speaks of all fields, is at hand.
+        let _ = &self.backward;
+        self.order.is_before(a, b)
     }
 
-    /// Ranks a class that has no rank behind all others.
-    pub fn put_last(&mut self, class: u32)
-        requires class { class < length self.old.ranks }
-        requires free { slice_index self.old.ranks class ≡ 0 }
-        ensures room { self.new.room ≡ self.old.room }
-        ensures put { IsPut class self.old.ranks self.new.ranks }
-        ensures last { (c : ℕ) → 0 < slice_index self.old.ranks c
-            → slice_index self.old.ranks c < slice_index self.new.ranks class }
+    /// The rank of each class.
+    pub fn list(&mut self) -> &[u32]
+        ensures* same { sem 𝓛 (StayAs self.entry) }
+        ensures ranks { result.now ≡ self.old.ranks }
+        ensures dense { AreRanks self.old.ranks }
     {
-        self.ranks[class as usize] = self.first + self.order.len() as u32;
-        self.order.put_last(class);
+        self.order.ranks()
     }
 
     /// Repairs the ranks for an edge from `a` to `b` that goes against them, and answers how many
@@ -148,7 +105,6 @@ impl Ranks {
     pub fn repair(&mut self, reader: &mut Reader<'_>, a: u32, b: u32) -> Option<u64>
         requires a { a < length self.old.ranks }
         requires b { b < length self.old.ranks }
-        requires ranked { 0 < slice_index self.old.ranks b }
         requires against { slice_index self.old.ranks b < slice_index self.old.ranks a }
         requires classes { (length reader.old.lists.after.lists ≡ length self.old.ranks)
             × (length reader.old.lists.before.lists ≡ length self.old.ranks) }
@@ -166,15 +122,16 @@ impl Ranks {
             ((self.new.ranks ≡ self.old.ranks) × IsOrReaches (IsNear reader.old.lists.after.lists) b a)
             (IsRepaired (IsNear reader.old.lists.after.lists) a b self.old.ranks self.new.ranks) }
     {
-        mend(
-            reader,
-            &mut self.ranks,
+        let repaired = reorder(
             &mut self.order,
-            self.first,
+            reader,
             a,
             b,
-            &mut self.row,
-            &mut self.space,
-        )
+            &mut self.backward,
+            &mut self.forward,
+        );
+        self.backward.clear();
+        self.forward.clear();
+        if repaired { Some(reader.count()) } else { None }
     }
 }

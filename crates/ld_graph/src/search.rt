@@ -3,17 +3,17 @@
 ghost use Rattle.std.specs.Prelude.{◌≡◌, ℕ, ◌<◌, ◌≤◌, [], nat_eq, Contains, OnOk, true, false};
 ghost use Rattle.std.specs.Prelude.{length, slice_index, slice_index_or, MatchOption};
 ghost use Rattle.std.specs.Prelude.{◌↔◌, IsTrue};
-ghost use Rattle.std.specs.List.{IsDistinct, list_any};
+ghost use Rattle.std.specs.List.{IsDistinct};
 ghost use Rattle.ld_graph.specs.Inner.Repairs.{IsAdded};
 
 use std::alloc::{AllocError, Global};
 use std::marker::Model;
 
-/// The offsets that a search has found, in the order in which it found them.
+/// The classes that a search has found, in the order in which it found them.
 #[derive(Drop)]
 pub struct Search {
     found: Vec<u32>,
-    /// For each offset whether it was found.
+    /// For each class whether it was found.
     marks: Vec<bool>,
 }
 
@@ -32,7 +32,7 @@ impl Model for Search {
 }
 
 impl Search {
-    /// A search among no offsets.
+    /// A search among no classes.
     pub fn new(alloc: Global) -> Search
         ensures found { result.found ≡ [] }
     {
@@ -42,7 +42,7 @@ impl Search {
         }
     }
 
-    /// Takes the memory for a search among so many offsets.
+    /// Takes the memory for a search among so many classes.
     pub fn room(&mut self, size: usize) -> Result<(), AllocError>
         ensures found { self.new.found ≡ self.old.found }
         ensures kept { self.old.size ≤ self.new.size }
@@ -56,27 +56,27 @@ impl Search {
         Ok(())
     }
 
-    /// Finds an offset. One that was found stays where it is.
-    pub fn add(&mut self, offset: u32)
-        requires { offset < self.old.size }
-        ensures found { IsAdded self.old.found offset self.new.found }
+    /// Finds a class. One that was found stays where it is.
+    pub fn add(&mut self, class: u32)
+        requires { class < self.old.size }
+        ensures found { IsAdded self.old.found class self.new.found }
         ensures size { self.new.size ≡ self.old.size }
     {
-        if !self.marks[offset as usize] {
-            self.marks[offset as usize] = true;
-            self.found.push_reserved(offset);
+        if !self.marks[class as usize] {
+            self.marks[class as usize] = true;
+            self.found.push_reserved(class);
         }
     }
 
-    /// Whether the offset was found.
-    pub fn has(&self, offset: u32) -> bool
-        requires { offset < self.now.size }
-        ensures { result ≡ list_any (nat_eq offset) self.now.found }
+    /// Whether the class was found.
+    pub fn has(&self, class: u32) -> bool
+        requires { class < self.now.size }
+        ensures { IsTrue result ↔ Contains self.now.found class }
     {
-        self.marks[offset as usize]
+        self.marks[class as usize]
     }
 
-    /// The offsets that were found.
+    /// The classes that were found.
     pub fn found(&self) -> &[u32]
         ensures found { result.now ≡ self.now.found }
         ensures once { IsDistinct nat_eq self.now.found }
@@ -86,10 +86,10 @@ impl Search {
         &self.found
     }
 
-    /// The offset that was found as number `number`, from 0 on.
-    pub fn offset(&self, number: usize) -> u32
+    /// The class that was found as number `number`, from 0 on.
+    pub fn class(&self, number: usize) -> u32
         requires { number < length self.now.found }
-        ensures offset { result ≡ slice_index self.now.found number }
+        ensures class { result ≡ slice_index self.now.found number }
         ensures once { IsDistinct nat_eq self.now.found }
         ensures below { (k : ℕ) → Contains self.now.found k → k < self.now.size }
     {
@@ -98,7 +98,7 @@ impl Search {
         self.found[number]
     }
 
-    /// Whether no more than so many offsets were found.
+    /// Whether no more than so many classes were found.
     pub fn ends_at(&self, number: usize) -> bool
         ensures { IsTrue result ↔ (length self.now.found ≤ number) }
     {
@@ -118,13 +118,13 @@ impl Search {
     }
 }
 
-/// Takes the marks of these offsets away.
+/// Takes the marks of these classes away.
 fn unmark(marks: &mut [bool], found: &[u32])
     requires { (k : ℕ) → Contains found.now k → k < length marks.old }
     ensures { (k : ℕ) → slice_index_or marks.new k false ≡ true
         → (slice_index_or marks.old k false ≡ true) × (¬ Contains found.now k) }
 {
-    for offset in found {
-        marks[*offset as usize] = false;
+    for class in found {
+        marks[*class as usize] = false;
     }
 }

@@ -95,13 +95,13 @@ module _ (old new : PlainGraph) (a b : ℕ) where
       subst (λ edges. IsCycleAt edges (edge a b)) (sym same)
       (cycle-closed old.edges a b inserted.no_cycle (subst (λ edges. HasCycle (IsEdge edges)) same inserted.cycle))
 
-  grown : (closing : Option Edge) (order : Option (List (Option ℕ))) → new ≡ with_edge old a b order → ¬ HasCycle (IsEdge new.edges) → IsCycleEdge old.edges closing → IsCycleEdge new.edges closing
+  grown : (closing : Option Edge) (order : Option (List ℕ)) → new ≡ with_edge old a b order → ¬ HasCycle (IsEdge new.edges) → IsCycleEdge old.edges closing → IsCycleEdge new.edges closing
   grown None order is none closing = no_cycle-none new.edges none
   grown (Some e) order is none closing = subst (λ edges. IsCycleAt edges e) (sym (ap (λ (g : PlainGraph). g.edges) is)) (cycle-stays old.edges (edge a b) e closing)
 
   pub closing-other : (closing : Option Edge) (answer : Insert) → (answer ≡ Closed → ⊥) → IsInserted old a b answer new → IsCycleEdge old.edges closing → IsCycleEdge new.edges closing
   closing-other closing Known other inserted was = subst (λ (g : PlainGraph). IsCycleEdge g.edges closing) (sym inserted.same) was
-  closing-other closing Kept other inserted was = grown closing new.order inserted.graph inserted.no_cycle was
+  closing-other closing Kept other inserted was = grown closing old.order inserted.graph inserted.no_cycle was
   closing-other closing (Moved expanded) other inserted was = grown closing new.order inserted.graph inserted.no_cycle was
   closing-other closing Closed other inserted was = absurd (other refl)
   closing-other None AfterCycle other inserted was = absurd (was (cycle-some old.edges inserted.cycle))

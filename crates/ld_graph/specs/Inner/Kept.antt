@@ -1,18 +1,17 @@
 -- What a graph keeps true of its fields, and what callers see of them.
 use Rattle.std.specs.Prelude.{◌≡◌, ◌↔◌, ℕ, ◌+◌, ◌<◌, ◌≤◌, length, Some, None, Option}
-use Rattle.std.specs.Prelude.{Bool, true, false, List, slice_index, map}
+use Rattle.std.specs.Prelude.{Bool, true, false, List, slice_index}
 use Rattle.indexmap.specs.IndexSet.{spare}
 use Rattle.ld_graph.specs.declared.graph.Graph.TheInside.{Inside}
 use Rattle.ld_graph.specs.declared.graph.TheConstants.{MOST_GRAPH_CLASSES}
 use Rattle.ld_graph.specs.Edges.{IsEdge, PlainGraph}
 use Rattle.ld_graph.specs.Lists.{IsNear}
-use Rattle.ld_graph.specs.Order.{HasCycle, HasStep}
-use Rattle.ld_graph.specs.Inner.Repairs.{told}
+use Rattle.ld_graph.specs.Order.{HasCycle}
 
 -- the ranks, so long as there is no cycle
-abbrev pub order_of : Bool → List ℕ → Option (List (Option ℕ))
+abbrev pub order_of : Bool → List ℕ → Option (List ℕ)
 order_of true ranks = None
-order_of false ranks = Some (map told ranks)
+order_of false ranks = Some ranks
 
 -- what callers see of the fields
 abbrev pub graph_of : Inside → PlainGraph
@@ -42,11 +41,8 @@ pub record IsKept (g : Inside) : Type 0 where
       × (length g.edges.keys + g.spare_edges ≤ g.lists.before.item_room)
   pub room_ranks : g.classes + g.spare_classes ≤ g.ranks.room
   pub few : g.classes + g.spare_classes ≤ MOST_GRAPH_CLASSES
-  -- so long as there is no cycle, each edge goes from a lesser to a greater rank, and the classes
-  -- with an edge are those that have one
+  -- so long as there is no cycle, each edge goes from a lesser to a greater rank
   pub ranked : length g.ranks.ranks ≡ g.classes
   pub rises : g.has_cycle ≡ false → (x y : ℕ) → IsEdge g.edges.keys x y
       → slice_index g.ranks.ranks x < slice_index g.ranks.ranks y
-  pub free : g.has_cycle ≡ false → (c : ℕ) → (0 < slice_index g.ranks.ranks c)
-      ↔ HasStep (IsEdge g.edges.keys) c
   pub cycle : g.has_cycle ≡ true → HasCycle (IsEdge g.edges.keys)

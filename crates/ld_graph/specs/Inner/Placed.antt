@@ -1,17 +1,8 @@
 -- What an edge that is new does to the ranks. No public contract cites this file.
-use Rattle.std.specs.Prelude.{◌≡◌, ◌≢◌, ℕ, ◌<◌, Bool, true, false, List, length, slice_index, ⊤}
+use Rattle.std.specs.Prelude.{◌≡◌, ℕ, ◌<◌, Bool, true, false, List, slice_index, ⊤}
 use Rattle.ld_graph.specs.declared.placed.Insert.{Insert}
 use Rattle.ld_graph.specs.declared.placed.Insert.TheVariants.{Known, Kept, Moved, Closed, AfterCycle}
 use Rattle.ld_graph.specs.Inner.Repairs.{IsRepaired, IsOrReaches}
-
--- the ranks fit an edge from a to b, and only its ends may have got one
-pub record AreFit (a b : ℕ) (old new : List ℕ) : Type 0 where
-  pub len : length new ≡ length old
-  pub below : 0 < slice_index old a → 0 < slice_index old b → slice_index old a < slice_index old b
-  pub stays : (c : ℕ) → 0 < slice_index old c → slice_index new c ≡ slice_index old c
-  pub others : (c : ℕ) → a ≢ c → b ≢ c → slice_index new c ≡ slice_index old c
-  pub some : 0 < slice_index new a
-  pub up : slice_index new a < slice_index new b
 
 -- the answer for an edge from a to b that isn't there yet, whether there was a cycle and is one, and
 -- the ranks before and after
@@ -19,10 +10,10 @@ abbrev pub IsPlaced : (step : ℕ → ℕ → Type 0) → (a b : ℕ) → Insert
     → (old new : List ℕ) → Type 0
 IsPlaced step a b Known was now old new = ⊥
 IsPlaced step a b Kept was now old new =
-    (was ≡ false) × ((now ≡ false) × AreFit a b old new)
+    (was ≡ false) × ((now ≡ false) × ((new ≡ old) × (slice_index old a < slice_index old b)))
 IsPlaced step a b (Moved expanded) was now old new =
-    (was ≡ false) × ((now ≡ false) × ((0 < slice_index old b)
-    × ((slice_index old b < slice_index old a) × IsRepaired step a b old new expanded)))
+    (was ≡ false) × ((now ≡ false) × ((slice_index old b < slice_index old a)
+    × IsRepaired step a b old new expanded))
 IsPlaced step a b Closed was now old new =
     (was ≡ false) × ((now ≡ true) × ((new ≡ old) × IsOrReaches step b a))
 IsPlaced step a b AfterCycle was now old new = (was ≡ true) × ((now ≡ true) × (new ≡ old))

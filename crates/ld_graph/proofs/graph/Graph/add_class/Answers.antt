@@ -1,9 +1,7 @@
-use Rattle.std.proofs.Common.{◌<◌, ◌↔◌, ℕ, List, [], arith, ap, get_or, length, sym, subst, ◌∙◌}
-use Rattle.std.proofs.lemmas.List.{length_push}
+use Rattle.std.proofs.Common.{◌<◌, ℕ, List, [], ◌∷◌, arith, ap, get_or, length, sym, subst, ◌∙◌}
+use Rattle.std.proofs.lemmas.List.{get_or_append_left, length_push}
 use Rattle.ld_graph.specs.Edges.{IsEdge}
 use Rattle.ld_graph.proofs.NearLemmas.{near_class}
-use Rattle.ld_graph.proofs.RankLemmas.{read_more}
-use Rattle.ld_graph.specs.Order.{HasStep}
 use Rattle.ld_graph.proofs.graph.Graph.add_class.Goals as goal
 
 pub invariant_of-self : goal.invariant_of-self
@@ -54,18 +52,13 @@ invariant_of-self c =
       );
       few = omega (arith, now, c.requires, i.few);
       ranked = let r = ap length c.add_class-2.ensures.ranks in
-          let p = length_push c.self.inside.ranks.ranks 0 in
+          let p = length_push c.self.inside.ranks.ranks (length c.self.inside.ranks.ranks) in
           omega (arith, r, p, i.ranked);
       rises = λ f x y e.
-          let u = i.rises f x y e in
-          let m = read_more c.self.inside.ranks.ranks x in
-          let n = read_more c.self.inside.ranks.ranks y in
+          let u = i.rises f x y e in let h = i.ends x y e in
+          let m = get_or_append_left c.self.inside.ranks.ranks (length c.self.inside.ranks.ranks ∷ []) 0 x (omega (arith, h.0, i.ranked)) in
+          let n = get_or_append_left c.self.inside.ranks.ranks (length c.self.inside.ranks.ranks ∷ []) 0 y (omega (arith, h.1, i.ranked)) in
           subst (λ r. get_or r x 0 < get_or r y 0) (sym c.add_class-2.ensures.ranks)
           (omega (arith, u, m, n));
-      free = λ f d.
-          subst (λ r. (0 < get_or r d 0) ↔ HasStep (IsEdge c.self.inside.edges.keys) d)
-          (sym c.add_class-2.ensures.ranks)
-          (subst (λ n. (0 < n) ↔ HasStep (IsEdge c.self.inside.edges.keys) d)
-          (sym (read_more c.self.inside.ranks.ranks d)) (i.free f d));
       cycle = i.cycle;
     }

@@ -1,16 +1,16 @@
 use Rattle.std.proofs.lemmas.Bool.{true≢false}
 use Rattle.std.proofs.lemmas.List.{length_push, length-set}
-use Rattle.std.proofs.Common.{rules, ◌≡◌, ◌<◌, ◌++◌, ◌∷◌, [], ◌↔◌, Bool, true, false, arith, get_or, length, set, ap}
+use Rattle.std.proofs.Common.{rules, ◌≡◌, ◌<◌, ◌++◌, ◌∷◌, [], ◌↔◌, Bool, true, false, arith, length, set, ap}
 use Rattle.std.proofs.Common.{refl, sym, subst, ◌∙◌}
 use Rattle.std.specs.Prelude.{not}
 use Rattle.ld_graph.specs.Edges.{edge, IsEdge}
 use Rattle.ld_graph.specs.Lists.{IsNear, list_at}
 use Rattle.ld_graph.proofs.EdgeLemmas.{IsEdge-found, IsEdgeNumber-stored, insert_key-known, insert_key-new, IsNear-edge, IsNear-turned}
 use Rattle.ld_graph.proofs.EdgeLemmas.{ends_push, IsEdge-missing}
-use Rattle.ld_graph.specs.Order.{HasCycle, HasStep, IsInserted}
+use Rattle.ld_graph.specs.Order.{HasCycle, IsInserted}
 use Rattle.ld_graph.specs.Inner.Kept.{graph_of}
 use Rattle.ld_graph.specs.Inner.Placed.{IsPlaced}
-use Rattle.ld_graph.proofs.PlacedLemmas.{inserted, made, placed_cycle, placed_free, placed_length}
+use Rattle.ld_graph.proofs.PlacedLemmas.{inserted, made, placed_cycle, placed_length}
 use Rattle.ld_graph.proofs.PlacedLemmas.{placed_rises}
 use Rattle.ld_graph.proofs.graph.Graph.insert_full.Goals as goal
 
@@ -45,7 +45,6 @@ invariant_of-self c =
       few = i.few;
       ranked = i.ranked;
       rises = λ f x y e. i.rises f x y (subst (λ k. IsEdge k x y) keys e);
-      free = λ f d. subst (λ k. (0 < get_or c.self.inside.ranks.ranks d 0) ↔ HasStep (IsEdge k) d) (sym keys) (i.free f d);
       cycle = λ t. subst (λ k. HasCycle (IsEdge k)) (sym keys) (i.cycle t);
     }
 
@@ -133,9 +132,6 @@ invariant_of-self-2 c =
       rises = λ f x y e. placed_rises c.self.inside i c.args.a c.args.b c.place-answer.new.has_cycle
           c.place-answer.new.ranks.ranks c.place-answer.result placed f x y
           (subst (λ k. IsEdge k x y) keys e);
-      free = λ f d. subst (λ k. (0 < get_or c.place-answer.new.ranks.ranks d 0) ↔ HasStep (IsEdge k) d)
-          (sym keys) (placed_free c.self.inside i c.args.a c.args.b c.place-answer.new.has_cycle
-          c.place-answer.new.ranks.ranks c.place-answer.result placed f d);
       cycle = λ t. subst (λ k. HasCycle (IsEdge k)) (sym keys) (placed_cycle c.self.inside i c.args.a
           c.args.b c.place-answer.new.has_cycle c.place-answer.new.ranks.ranks c.place-answer.result
           placed t);

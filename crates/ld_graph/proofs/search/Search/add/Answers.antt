@@ -8,35 +8,35 @@ use Rattle.ld_graph.proofs.search.Search.add.Goals as goal
 pub invariant_of-self : goal.invariant_of-self
 invariant_of-self c =
     let size = ap (λ s. s.size) c.self.view_is in
-    let within : c.args.offset < length c.self.inside.marks.items = omega (arith, size, c.requires) in
-    let free : get_or c.self.inside.marks.items c.args.offset false ≡ false =
-    sym (get_or_read c.self.inside.marks.items c.args.offset c.index.result.now within
+    let within : c.args.class < length c.self.inside.marks.items = omega (arith, size, c.requires) in
+    let free : get_or c.self.inside.marks.items c.args.class false ≡ false =
+    sym (get_or_read c.self.inside.marks.items c.args.class c.index.result.now within
     c.index.ensures false) ∙ c.if-not-index.true in (
-      subst (AreMarked (set c.self.inside.marks.items c.args.offset true)) (sym c.push_reserved.ensures.items)
+      subst (AreMarked (set c.self.inside.marks.items c.args.class true)) (sym c.push_reserved.ensures.items)
           (AreMarked-add c.self.inside.marks.items c.self.inside.found.items c.self.invariant.0
-          c.args.offset within free),
+          c.args.class within free),
       omega (arith, c.self.invariant.1, c.push_reserved.ensures.capacity),
     )
 
 pub push_reserved-requires : goal.push_reserved-requires
 push_reserved-requires c =
     let size = ap (λ s. s.size) c.self.view_is in
-    let within : c.args.offset < length c.self.inside.marks.items = omega (arith, size, c.requires) in
-    let free : get_or c.self.inside.marks.items c.args.offset false ≡ false =
-    sym (get_or_read c.self.inside.marks.items c.args.offset c.index.result.now within
+    let within : c.args.class < length c.self.inside.marks.items = omega (arith, size, c.requires) in
+    let free : get_or c.self.inside.marks.items c.args.class false ≡ false =
+    sym (get_or_read c.self.inside.marks.items c.args.class c.index.result.now within
     c.index.ensures false) ∙ c.if-not-index.true in
-    let less = found_less c.self.inside.marks.items c.self.inside.found.items c.args.offset
+    let less = found_less c.self.inside.marks.items c.self.inside.found.items c.args.class
     c.self.invariant.0 within free in
     omega (arith, less, c.self.invariant.1)
 
 pub returns-else-not-index-clause-found : goal.returns-else-not-index-clause-found
 returns-else-not-index-clause-found c =
     let size = ap (λ s. s.size) c.self.view_is in
-    let within : c.args.offset < length c.self.inside.marks.items = omega (arith, size, c.requires) in
-    let read = get_or_read c.self.inside.marks.items c.args.offset c.index.result.now within
+    let within : c.args.class < length c.self.inside.marks.items = omega (arith, size, c.requires) in
+    let read = get_or_read c.self.inside.marks.items c.args.class c.index.result.now within
     c.index.ensures false in
     inl (
-      subst (λ s. Contains s.found c.args.offset) c.self.view_is
-          ((c.self.invariant.0.marked c.args.offset).0 (sym read ∙ c.if-not-index.false)),
+      subst (λ s. Contains s.found c.args.class) c.self.view_is
+          ((c.self.invariant.0.marked c.args.class).0 (sym read ∙ c.if-not-index.false)),
       refl,
     )

@@ -1,0 +1,112 @@
+-- One turn of a search through a range of labels.
+use Rattle.std.proofs.Common.{◌≡◌, ◌≢◌, ◌⊎◌, inl, inr, ℕ, ◌+◌, ◌<◌, ◌≤◌, List, [], ◌∷◌, ◌++◌, nat_eq, length, get_or, Contains, arith, refl, sym, ap, subst, ◌∙◌}
+use Rattle.std.specs.List.{IsDistinct}
+use Rattle.std.proofs.lemmas.Bool.{cases_eq, eqb-true}
+use Rattle.std.proofs.lemmas.Map.Views.{Contains-from_any}
+use Rattle.std.proofs.lemmas.Map.Steps.{length-le_from_distinct_below}
+use Rattle.std.proofs.lemmas.List.{get_or_append_left, get_or_default, length_push}
+use Rattle.std.proofs.lemmas.List.Elements.{Contains-push_cases, Contains-get_or}
+use Rattle.ld_graph.specs.Inner.Affected.{IsFound, IsIn, IsReached}
+use Rattle.ld_graph.specs.Inner.Repairs.{IsAdded, IsOrReaches}
+use Rattle.ld_graph.proofs.SoughtLemmas.{IsOrReaches-next}
+
+module _ (near : ℕ → Type 0) (label : ℕ → ℕ) (low high : ℕ) where
+  pub IsReached-none : (old : List ℕ) → IsReached near label low high old old
+  IsReached-none old = record { longer = omega arith; front = λ i l. refl; fresh = λ k c. inl c }
+
+  pub IsReached-added : (old mid new : List ℕ) (x : ℕ) → IsReached near label low high old mid → near x
+      → IsIn low high (label x) → IsAdded mid x new → IsReached near label low high old new
+  IsReached-added old mid new x h n e (inl a) = subst (IsReached near label low high old) (sym a.1) h
+  IsReached-added old mid new x h n e (inr a) =
+      let g = h.longer in let p = length_push mid x in
+      subst (IsReached near label low high old) (sym a.1) (record {
+        longer = omega (arith, g, p);
+        front = λ i b. get_or_append_left mid (x ∷ []) 0 i (omega (arith, b, g)) ∙ h.front i b;
+        fresh = λ k c. by k (Contains-push_cases mid x k c);
+      })
+    where
+      by : (k : ℕ) → Contains mid k ⊎ (x ≡ k) → Contains old k ⊎ (near k × IsIn low high (label k))
+      by k (inl c) = h.fresh k c
+      by k (inr c) = inr (subst near c n, subst (λ z. IsIn low high (label z)) c e)
+
+  pub reached_keeps : (old new : List ℕ) (k : ℕ) → IsReached near label low high old new → Contains old k
+      → Contains new k
+  reached_keeps old new k h n =
+      let l = n.1 in let g = h.longer in
+      let at : get_or new n.0 0 ≡ k = h.front n.0 l ∙ get_or_default old n.0 0 k l ∙ n.2 in
+      subst (Contains new) at (Contains-get_or new n.0 0 (omega (arith, l, g)))
+
+module _ (near : ℕ → ℕ → Type 0) (label : ℕ → ℕ) (n low high : ℕ) (list old new : List ℕ) (done : ℕ)
+    (read : (y : ℕ) → near (get_or old done 0) y → Contains list y) (real : (y : ℕ) → Contains list y → near (get_or old done 0) y)
+    (ends : (x y : ℕ) → near x y → y < n)
+    (waits : done < length old) (h : IsFound near label n low high old done)
+    (g : IsReached (Contains list) label low high old new)
+    (taken : (x : ℕ) → Contains list x → IsIn low high (label x) → Contains new x) where
+  pub same_first : get_or new 0 0 ≡ get_or old 0 0
+  same_first = g.front 0 h.some
+
+  pub found-more : IsFound near label n low high new (done + 1)
+  found-more = record {
+    some = let a = h.some in let b = g.longer in omega (arith, a, b);
+    upto = let b = g.longer in omega (arith, waits, b);
+    within = λ k c. within k (g.fresh k c);
+    reached = λ k c. subst (λ z. IsOrReaches near z k) (sym same_first) (reached k (g.fresh k c));
+    closed = λ i y l s e. closed i y l s e (cases_eq i done);
+  }
+    where
+      within : (k : ℕ) → Contains old k ⊎ (Contains list k × IsIn low high (label k)) → (k < n) × IsIn low high (label k)
+      within k (inl c) = h.within k c
+      within k (inr c) = (ends (get_or old done 0) k (real k c.0), c.1)
+
+      reached : (k : ℕ) → Contains old k ⊎ (Contains list k × IsIn low high (label k)) → IsOrReaches near (get_or old 0 0) k
+      reached k (inl c) = h.reached k c
+      reached k (inr c) = IsOrReaches-next near (get_or old 0 0) (get_or old done 0) k
+          (h.reached (get_or old done 0) (Contains-get_or old done 0 waits)) (real k c.0)
+
+      closed : (i y : ℕ) → i < done + 1 → near (get_or new i 0) y → IsIn low high (label y) → (i ≡ done) ⊎ (i ≢ done)
+          → Contains new y
+      closed i y l s e (inl z) =
+          taken y (read y (subst (λ w. near w y) (ap (λ w. get_or new w 0) z ∙ g.front done waits) s)) e
+      closed i y l s e (inr z) =
+          reached_keeps (Contains list) label low high old new y g
+          (h.closed i y (omega (arith, l, z)) (subst (λ w. near w y) (g.front i (omega (arith, l, z, waits))) s) e)
+
+-- no more are found than there are nodes
+pub found-few : (near : ℕ → ℕ → Type 0) (label : ℕ → ℕ) (n low high : ℕ) (found : List ℕ) (done : ℕ)
+    → IsFound near label n low high found done → IsDistinct nat_eq found → length found ≤ n
+found-few near label n low high found done h once = length-le_from_distinct_below found n once
+    (λ q e. (h.within q (Contains-from_any {eq = nat_eq} (λ x y t. eqb-true x y t) q found e)).0)
+
+pub found-less : (near : ℕ → ℕ → Type 0) (label : ℕ → ℕ) (n low high : ℕ) (found : List ℕ) (done less : ℕ)
+    → less ≤ done → IsFound near label n low high found done → IsFound near label n low high found less
+found-less near label n low high found done less l h = record {
+  some = h.some;
+  upto = let a = h.upto in omega (arith, a, l);
+  within = h.within;
+  reached = h.reached;
+  closed = λ i y b. h.closed i y (omega (arith, b, l));
+}
+
+-- the first node
+pub found-one : (near : ℕ → ℕ → Type 0) (label : ℕ → ℕ) (n low high x : ℕ) (old new : List ℕ) → old ≡ [] → IsAdded old x new
+    → x < n → IsIn low high (label x) → IsFound near label n low high new 0
+found-one near label n low high x old new e (inl a) l i = absurd (none x old e a.0)
+  where
+    none : (x : ℕ) (old : List ℕ) → old ≡ [] → ¬ Contains old x
+    none x old e h = let b = ap length e in let c = h.1 in omega (arith, b, c)
+found-one near label n low high x old new e (inr a) l i =
+    let is : new ≡ x ∷ [] = a.1 ∙ ap (λ o. o ++ x ∷ []) e in
+    subst (λ f. IsFound near label n low high f 0) (sym is) (record {
+      some = omega arith;
+      upto = omega arith;
+      within = λ k c. let q = only k c in (subst (λ z. z < n) q l, subst (λ z. IsIn low high (label z)) q i);
+      reached = λ k c. inl (only k c);
+      closed = λ j y b. absurd (omega (arith, b));
+    })
+  where
+    only : (k : ℕ) → Contains (x ∷ []) k → x ≡ k
+    only k c = by (Contains-push_cases [] x k c)
+      where
+        by : Contains [] k ⊎ (x ≡ k) → x ≡ k
+        by (inl h) = let b = h.1 in absurd (omega (arith, b))
+        by (inr h) = h

@@ -1,0 +1,174 @@
+//! Two searches for what an edge against the order affects: backward from where it leaves, and forward from where it
+//! enters.
+
+ghost use Rattle.std.specs.Prelude.{◌≡◌, ℕ, ◌+◌, ◌<◌, ◌≤◌, ◌^◌, [], Contains, length, slice_index, MatchOption};
+ghost use Rattle.std.specs.Bool.{Decides};
+ghost use Rattle.ld_graph.specs.Inner.Affected.{HasEnded, IsFound, IsIn, IsReached, of_direction};
+ghost use Rattle.ld_graph.specs.Lists.{IsNear, list_at};
+
+use crate::lists::Reader;
+use crate::search::Search;
+
+/// Which way a search follows the edges.
+#[derive(Clone, Copy)]
+pub enum Direction {
+    /// To the successors.
+    Forward,
+    /// To the predecessors.
+    Backward,
+}
+
+/// Finds those of these classes whose labels are in the range.
+fn find_near(near: &[u32], labels: &[u64], low: u64, high: u64, search: &mut Search)
+    requires ends { (x : ℕ) → Contains near.now x → x < length labels.now }
+    requires size { length labels.now ≤ search.old.size }
+    ensures size { search.new.size ≡ search.old.size }
+    ensures reached { IsReached (Contains near.now) (slice_index labels.now) low high
+        search.old.found search.new.found }
+    ensures taken { (x : ℕ) → Contains near.now x → IsIn low high (slice_index labels.now x)
+        → Contains search.new.found x }
+{
+    for x in near {
+        if is_in(labels[*x as usize], low, high) {
+            search.add(*x);
+        }
+    }
+}
+
+/// Whether a label is in the range.
+fn is_in(label: u64, low: u64, high: u64) -> bool
+    ensures { Decides result (IsIn low high label) }
+{
+    low <= label && label <= high
+}
+
+/// The neighbours of a class in this direction. Adds one to the count.
+fn neighbours_of<'l>(reader: &mut Reader<'l>, direction: Direction, class: u32) -> &'l [u32]
+    requires class { class < length (of_direction direction reader.old.lists) }
+    requires few { reader.old.count + 1 < 2 ^ 64 }
+    ensures near { result.now ≡ list_at (of_direction direction reader.old.lists) class }
+    ensures lists { reader.new.lists ≡ reader.old.lists }
+    ensures step { reader.new.count ≡ reader.old.count + 1 }
+{
+    match direction {
+        Direction::Forward => reader.after(class),
+        Direction::Backward => reader.before(class),
+    }
+}
+
+/// Goes on from the class that was found as number `done`, whose neighbours these are, and answers those of the next
+/// class that was found. Answers `None` where there is no next one.
+fn expand<'l>(
+    direction: Direction,
+    reader: &mut Reader<'l>,
+    labels: &[u64],
+    low: u64,
+    high: u64,
+    near: &'l [u32],
+    search: &mut Search,
+    done: usize,
+) -> Option<&'l [u32]>
+    requires lists { length (of_direction direction reader.old.lists) ≡ length labels.now }
+    requires ends { (x y : ℕ) → IsNear (of_direction direction reader.old.lists) x y → y < length labels.now }
+    requires size { length labels.now ≤ search.old.size }
+    requires few { reader.old.count + 1 < 2 ^ 64 }
+    requires waits { done < length search.old.found }
+    requires small { done + 1 < 2 ^ 64 }
+    requires near { near.now ≡ list_at (of_direction direction reader.old.lists) (slice_index search.old.found done) }
+    requires found { IsFound (IsNear (of_direction direction reader.old.lists)) (slice_index labels.now)
+        (length labels.now) low high search.old.found done }
+    ensures size { search.new.size ≡ search.old.size }
+    ensures lists { reader.new.lists ≡ reader.old.lists }
+    ensures found { IsFound (IsNear (of_direction direction reader.old.lists)) (slice_index labels.now)
+        (length labels.now) low high search.new.found (done + 1) }
+    ensures most { length search.new.found ≤ length labels.now }
+    ensures first { slice_index search.new.found 0 ≡ slice_index search.old.found 0 }
+    ensures next { MatchOption result (length search.new.found ≤ done + 1)
+        (λ near. (done + 1 < length search.new.found)
+        × (near.now ≡ list_at (of_direction direction reader.old.lists) (slice_index search.new.found (done + 1)))) }
+    ensures count { MatchOption result (reader.new.count ≡ reader.old.count)
+        (λ _. reader.new.count ≡ reader.old.count + 1) }
+{
+    find_near(near, labels, low, high, search);
+    // Read so that it is known that each was found once.
+    let _ = search.found();
+    if search.ends_at(done + 1) {
+        return None;
+    }
+    let class = search.class(done + 1);
+    Some(neighbours_of(reader, direction, class))
+}
+
+/// Searches backward from `a` and forward from `b`, within the labels from that of `b` to that of `a`, until one of
+/// the two has ended, and answers which one. The one whose lists have fewer neighbours, with the list that waits, goes
+/// on.
+pub fn find_affected(
+    reader: &mut Reader<'_>,
+    labels: &[u64],
+    a: u32,
+    b: u32,
+    backward: &mut Search,
+    forward: &mut Search,
+) -> Direction
+    requires a { a < length labels.now }
+    requires b { b < length labels.now }
+    requires against { slice_index labels.now b < slice_index labels.now a }
+    requires few { length labels.now ≤ 2 ^ 31 }
+    requires lists { (length reader.old.lists.after.lists ≡ length labels.now)
+        × (length reader.old.lists.before.lists ≡ length labels.now) }
+    requires after { (x y : ℕ) → IsNear reader.old.lists.after.lists x y → y < length labels.now }
+    requires before { (x y : ℕ) → IsNear reader.old.lists.before.lists x y → y < length labels.now }
+    requires backward { (backward.old.found ≡ []) × (length labels.now ≤ backward.old.size) }
+    requires forward { (forward.old.found ≡ []) × (length labels.now ≤ forward.old.size) }
+    requires steps { reader.old.count ≡ 0 }
+    ensures size { (backward.new.size ≡ backward.old.size) × (forward.new.size ≡ forward.old.size) }
+    ensures lists { reader.new.lists ≡ reader.old.lists }
+    ensures first { (slice_index backward.new.found 0 ≡ a) × (slice_index forward.new.found 0 ≡ b) }
+    ensures ended { HasEnded result reader.old.lists (slice_index labels.now) (length labels.now)
+        (slice_index labels.now b) (slice_index labels.now a) backward.new.found forward.new.found }
+    ensures read { reader.new.count ≤ length backward.new.found + length forward.new.found }
+    ensures some { 0 < reader.new.count }
+{
+    let (low, high) = (labels[b as usize], labels[a as usize]);
+    backward.add(a);
+    forward.add(b);
+    let mut near_backward = reader.before(a);
+    let mut near_forward = reader.after(b);
+    let (mut read_backward, mut read_forward) = (near_backward.len(), near_forward.len());
+    let (mut done_backward, mut done_forward) = (0, 0);
+    loop {
+        if read_backward <= read_forward {
+            let Some(near) = expand(
+                Direction::Backward,
+                reader,
+                labels,
+                low,
+                high,
+                near_backward,
+                backward,
+                done_backward,
+            ) else {
+                return Direction::Backward;
+            };
+            near_backward = near;
+            done_backward += 1;
+            read_backward = read_backward.saturating_add(near.len()).saturating_add(1);
+        } else {
+            let Some(near) = expand(
+                Direction::Forward,
+                reader,
+                labels,
+                low,
+                high,
+                near_forward,
+                forward,
+                done_forward,
+            ) else {
+                return Direction::Forward;
+            };
+            near_forward = near;
+            done_forward += 1;
+            read_forward = read_forward.saturating_add(near.len()).saturating_add(1);
+        }
+    }
+}
