@@ -1,7 +1,7 @@
 //! A worked reach beside its graph. The call that takes memory is made once more where it was refused,
 //! so these hold whichever allocation fails.
 
-use ld_graph::{Graph, MOST_GRAPH_CLASSES, Reach};
+use ld_graph::{Graph, MOST_GRAPH_CLASSES, Reach, Reader};
 use std::process::Abort;
 
 /// Makes room. Where memory is refused nothing else changes, and the call made again answers `Ok`.
@@ -36,7 +36,7 @@ fn insert<R: Abort>(rt: &R, graph: &mut Graph, reach: &mut Reach, a: u32, b: u32
     assert!(rt; (a as usize) < graph.len() && (b as usize) < graph.len());
     assert!(rt; graph.spare_edges() > 0);
     graph.insert(a, b);
-    reach.along(graph, a, b);
+    reach.along(&mut Reader::new(graph.lists()), a, b);
 }
 
 fn expect_sources<R: Abort>(rt: &R, reach: &Reach, wanted: &[Option<u32>]) {
@@ -54,7 +54,7 @@ fn a_seed_is_reached_where_a_walk_comes_back(rt: HostRuntime) {
     let mut reach = Reach::new(alloc);
     add_classes(&rt, &mut graph, &mut reach, 3);
     assert!(rt; reach.len() == 3 && graph.len() == 3);
-    reach.seed(&graph, 0);
+    reach.seed(&mut Reader::new(graph.lists()), 0);
     expect_sources(&rt, &reach, &[None, None, None]);
     insert(&rt, &mut graph, &mut reach, 1, 2);
     expect_sources(&rt, &reach, &[None, None, None]);

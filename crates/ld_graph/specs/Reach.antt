@@ -1,10 +1,17 @@
 -- What is reached from some seeds.
 use Rattle.std.specs.Prelude.{◌≡◌, ◌↔◌, ◌⊎◌, ℕ, ◌-◌, Bool, true, false, List, [], ◌∷◌, ◌++◌, Option, None, IsSome, MatchOption, Contains, slice_index_or}
+use Rattle.ld_graph.specs.declared.Edge.{Edge}
+use Rattle.ld_graph.specs.Edges.{IsEdge}
+use Rattle.ld_graph.specs.Lists.{IsNear, Sides}
 use Rattle.ld_graph.specs.Walks.{HasWalk}
 
 -- s is one of the seeds, and a walk of at least one step leads from it to c
 abbrev pub IsSource : (ℕ → ℕ → Type 0) → List ℕ → ℕ → ℕ → Type 0
 IsSource step seeds c s = Contains seeds s × HasWalk step s c
+
+-- the lists of successors are those of these edges
+abbrev pub AreSuccessors : Sides → List Edge → Type 0
+AreSuccessors lists edges = (x y : ℕ) → IsNear lists.after.lists x y ↔ IsEdge edges x y
 
 -- what is seen of a reach: for each class its source, if it has one, and whether it was expanded; the
 -- classes with a source, in the order in which they got it; for how many further classes there is

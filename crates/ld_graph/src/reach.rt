@@ -6,11 +6,11 @@ ghost use Rattle.std.specs.List.{IsDistinct};
 ghost use Rattle.ld_graph.specs.Edges.{IsEdge, edge};
 ghost use Rattle.ld_graph.specs.Inner.KeptReach.{AreReached, IsGiven, IsSpread, all_ahead, none_ahead};
 ghost use Rattle.ld_graph.specs.Lists.{IsNear};
-ghost use Rattle.ld_graph.specs.Reach.{IsReach, mark_of, no_reach, source_of, with_unreached};
+ghost use Rattle.ld_graph.specs.Reach.{AreSuccessors, IsReach, mark_of, no_reach, source_of, with_unreached};
 ghost use Rattle.ld_graph.specs.Walks.{HasWalk};
 
 use crate::Edge;
-use crate::graph::{Graph, MOST_GRAPH_CLASSES};
+use crate::graph::MOST_GRAPH_CLASSES;
 use crate::lists::Reader;
 use crate::marks::Marks;
 use std::alloc::{AllocError, Global};
@@ -110,12 +110,17 @@ impl Reach {
         self.spare -= 1;
     }
 
-    /// Makes the class `c` a seed. Takes no memory.
-    pub fn seed(&mut self, graph: &Graph, c: u32)
-        requires same { length self.old.marks ≡ graph.now.classes }
-        requires class { c < graph.now.classes }
-        ensures exact { (seeds : List ℕ) → IsReach (IsEdge graph.now.edges) seeds self.old
-            → IsReach (IsEdge graph.now.edges) (seeds ++ c ∷ []) self.new }
+    /// Makes the class `c` a seed of the graph whose lists the reader gives. Each list that is read for it is that
+    /// of a class that is expanded. Takes no memory.
+    pub fn seed(&mut self, reader: &mut Reader<'_>, c: u32)
+        requires classes { length reader.old.lists.after.lists ≡ length self.old.marks }
+        requires ends { (x y : ℕ) → IsNear reader.old.lists.after.lists x y → y < length self.old.marks }
+        requires class { c < length self.old.marks }
+        requires few { reader.old.count ≤ self.old.expanded }
+        ensures exact { (edges : List Edge) (seeds : List ℕ) → AreSuccessors reader.old.lists edges
+            → IsReach (IsEdge edges) seeds self.old → IsReach (IsEdge edges) (seeds ++ c ∷ []) self.new }
+        ensures lists { reader.new.lists ≡ reader.old.lists }
+        ensures read { reader.new.count + self.old.expanded ≡ reader.old.count + self.new.expanded }
         ensures len { length self.new.marks ≡ length self.old.marks }
         ensures spare { self.new.spare ≡ self.old.spare }
         ensures front { take (length self.old.reached) self.new.reached ≡ self.old.reached }
@@ -126,9 +131,8 @@ impl Reach {
             return;
         }
         let known = self.reached.len();
-        let mut reader = Reader::new(graph.lists());
         expand(
-            &mut reader,
+            reader,
             c,
             c,
             &mut self.sources,
@@ -136,7 +140,7 @@ impl Reach {
             &mut self.reached,
         );
         spread(
-            &mut reader,
+            reader,
             known,
             &mut self.sources,
             &mut self.marks,
@@ -144,15 +148,19 @@ impl Reach {
         );
     }
 
-    /// Follows the edge from `a` to `b`, which came to the graph last. Takes no memory.
-    pub fn along(&mut self, graph: &Graph, a: u32, b: u32)
-        requires same { length self.old.marks ≡ graph.now.classes }
-        requires from { a < graph.now.classes }
-        requires to { b < graph.now.classes }
+    /// Follows the edge from `a` to `b`, which came last to the graph whose lists the reader gives. Each list that is
+    /// read for it is that of a class that is expanded. Takes no memory.
+    pub fn along(&mut self, reader: &mut Reader<'_>, a: u32, b: u32)
+        requires classes { length reader.old.lists.after.lists ≡ length self.old.marks }
+        requires ends { (x y : ℕ) → IsNear reader.old.lists.after.lists x y → y < length self.old.marks }
+        requires from { a < length self.old.marks }
+        requires to { b < length self.old.marks }
+        requires few { reader.old.count ≤ self.old.expanded }
         ensures exact { (before : List Edge) (seeds : List ℕ)
-            → graph.now.edges ≡ before ++ edge a b ∷ []
-            → IsReach (IsEdge before) seeds self.old
-            → IsReach (IsEdge graph.now.edges) seeds self.new }
+            → AreSuccessors reader.old.lists (before ++ edge a b ∷ []) → IsReach (IsEdge before) seeds self.old
+            → IsReach (IsEdge (before ++ edge a b ∷ [])) seeds self.new }
+        ensures lists { reader.new.lists ≡ reader.old.lists }
+        ensures read { reader.new.count + self.old.expanded ≡ reader.old.count + self.new.expanded }
         ensures len { length self.new.marks ≡ length self.old.marks }
         ensures spare { self.new.spare ≡ self.old.spare }
         ensures front { take (length self.old.reached) self.new.reached ≡ self.old.reached }
@@ -166,7 +174,7 @@ impl Reach {
         let known = self.reached.len();
         give(b, from, &mut self.sources, &mut self.reached);
         spread(
-            &mut Reader::new(graph.lists()),
+            reader,
             known,
             &mut self.sources,
             &mut self.marks,

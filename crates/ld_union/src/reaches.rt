@@ -11,7 +11,7 @@ ghost use Rattle.ld_union.specs.Inner.States.{of_state};
 use crate::news::NewBit;
 use crate::states::PerState;
 use ld_class::Usage;
-use ld_graph::{Edge, Graph, Reach};
+use ld_graph::{Edge, Graph, Reach, Reader};
 use ld_trace::State;
 use std::alloc::{AllocError, Global};
 
@@ -71,8 +71,10 @@ impl PerState<Reach> {
             → StayExact before graph.now.edges self.old self.new }
         ensures further { AreFurther self.old self.new }
     {
-        self.hard.along(graph, edge.from, edge.to);
-        self.soft.along(graph, edge.from, edge.to);
+        self.hard
+            .along(&mut Reader::new(graph.lists()), edge.from, edge.to);
+        self.soft
+            .along(&mut Reader::new(graph.lists()), edge.from, edge.to);
     }
 
     /// Makes each class a seed of the state of which it got the bit that handlers acquire it.
@@ -104,9 +106,11 @@ impl PerState<Reach> {
         ensures further { AreFurther self.old self.new }
     {
         if told.bit == Usage::IN_HARD {
-            self.hard.seed(graph, told.class);
+            self.hard
+                .seed(&mut Reader::new(graph.lists()), told.class);
         } else if told.bit == Usage::IN_SOFT {
-            self.soft.seed(graph, told.class);
+            self.soft
+                .seed(&mut Reader::new(graph.lists()), told.class);
         }
     }
 

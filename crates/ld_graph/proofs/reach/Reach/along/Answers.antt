@@ -10,36 +10,33 @@ use Rattle.ld_graph.proofs.ReachLemmas.{IsGiven-drop, IsSource-along, marks_len,
 use Rattle.ld_graph.proofs.reach.Reach.along.Goals as goal
 
 pub returns-then-not-is_on-clause-exact : goal.returns-then-not-is_on-clause-exact
-returns-then-not-is_on-clause-exact c = λ before seeds is exact.
+returns-then-not-is_on-clause-exact c = λ before seeds there exact.
     let old : PlainReach = reach_of c.self.inside in
-    let within : c.args.a < length old.marks = omega (arith, c.requires.from, c.requires.same, marks_len c.self.inside c.args.self.now c.self.view_is) in
+    let within : c.args.a < length old.marks = omega (arith, c.requires.from, marks_len c.self.inside c.args.self.now c.self.view_is) in
     let was : IsReach (IsEdge before) seeds old = subst (IsReach (IsEdge before) seeds) (sym c.self.view_is) exact in
     let off : get_or old.marks c.args.a false ≡ false = sym c.is_on.ensures ∙ c.if-not-is_on.true in
-    subst (λ edges. IsReach (IsEdge edges) seeds c.args.self.now) (sym is)
-    (subst (IsReach (IsEdge (before ++ edge c.args.a c.args.b ∷ [])) seeds) c.self.view_is
-    (spread-reach (IsEdge (before ++ edge c.args.a c.args.b ∷ [])) seeds old.sources old.marks (spread-unmarked before seeds old c.args.a c.args.b off was) old.reached old.spare old.expanded))
+    subst (IsReach (IsEdge (before ++ edge c.args.a c.args.b ∷ [])) seeds) c.self.view_is
+    (spread-reach (IsEdge (before ++ edge c.args.a c.args.b ∷ [])) seeds old.sources old.marks (spread-unmarked before seeds old c.args.a c.args.b off was) old.reached old.spare old.expanded)
 
 pub spread-requires-clause-ends : goal.spread-requires-clause-ends
-spread-requires-clause-ends c = rw (c.new.ensures.lists) (λ x y h.
-    let ends = c.lists.ensures.ends x y ((c.lists.ensures.after x y).0 h) in
-    omega (arith, ends, c.requires.same, marks_len c.self.inside c.args.self.now c.self.view_is))
+spread-requires-clause-ends c = λ x y h.
+    let e = c.requires.ends x y h in omega (arith, e, marks_len c.self.inside c.args.self.now c.self.view_is)
 
 pub returns-clause-exact : goal.returns-clause-exact
-returns-clause-exact c = λ before seeds is exact.
-    let step = IsEdge c.args.graph.now.edges in
-    let near = IsNear c.new.result.lists.after.lists in
-    let near_is : (x y : ℕ) → near x y ↔ step x y = rw (c.new.ensures.lists) c.lists.ensures.after in
+returns-clause-exact c = λ before seeds near_is exact.
+    let step = IsEdge (before ++ edge c.args.a c.args.b ∷ []) in
+    let near = IsNear c.args.reader.now.lists.after.lists in
     let old : PlainReach = reach_of c.self.inside in
     let kept = marks_len c.self.inside c.args.self.now c.self.view_is in
     let was : IsReach (IsEdge before) seeds old = subst (IsReach (IsEdge before) seeds) (sym c.self.view_is) exact in
     let first : IsSpread step seeds (λ x y. (x ≡ c.args.a) × (y ≡ c.args.b)) old.sources old.marks [] =
-    subst (λ edges. IsSpread (IsEdge edges) seeds (λ x y. (x ≡ c.args.a) × (y ≡ c.args.b)) old.sources old.marks []) (sym is) (spread-edge before seeds old c.args.a c.args.b was) in
-    let there : step c.args.a c.args.b = subst (λ edges. IsEdge edges c.args.a c.args.b) (sym is) (Contains-push before (edge c.args.a c.args.b)) in
-    let within : c.args.a < length old.marks = omega (arith, c.requires.from, c.requires.same, kept) in
+    spread-edge before seeds old c.args.a c.args.b was in
+    let there : step c.args.a c.args.b = Contains-push before (edge c.args.a c.args.b) in
+    let within : c.args.a < length old.marks = omega (arith, c.requires.from, kept) in
     let on : get_or old.marks c.args.a false ≡ true = sym c.is_on.ensures ∙ c.if-not-is_on.false in
     let from : unwrap_or (get_or old.sources c.args.a None) c.args.a ≡ c.unwrap_or-from.result =
     ap (λ o. unwrap_or o c.args.a) (get_or_default old.sources c.args.a None c.index.result.now
-    (omega (arith, within, kept, c.requires.from, c.requires.same, c.self.invariant.same, c.self.inside.sources.ok.0)) ∙ sym c.index.ensures)
+    (omega (arith, within, kept, c.requires.from, c.self.invariant.same, c.self.inside.sources.ok.0)) ∙ sym c.index.ensures)
     ∙ sym c.unwrap_or-from.ensures in
     let source = IsSource-along step seeds (λ x y. (x ≡ c.args.a) × (y ≡ c.args.b)) old.sources old.marks [] c.args.a c.args.b first on there in
     let none : drop c.len-known.result c.self.inside.reached.items ≡ [] = drop_all c.len-known.result c.self.inside.reached.items (omega (arith, c.len-known.ensures, c.self.inside.reached.ok.0)) in
@@ -47,7 +44,7 @@ returns-clause-exact c = λ before seeds is exact.
     spread-given step seeds (λ x y. (x ≡ c.args.a) × (y ≡ c.args.b)) none_ahead c.args.b c.unwrap_or-from.result
     c.deref_mut.result.now old.marks (drop c.len-known.result c.self.inside.reached.items) c.give.new.sources (drop c.len-known.result c.give.new.reached.items)
     (rw (c.deref_mut.ensures.value, none) first) (subst (IsSource step seeds c.args.b) from source)
-    (omega (arith, c.requires.to, c.requires.same, kept, c.self.invariant.same, c.deref_mut.ensures.len)) (λ x y h. inr h.1)
+    (omega (arith, c.requires.to, kept, c.self.invariant.same, c.deref_mut.ensures.len)) (λ x y h. inr h.1)
     (IsGiven-drop c.args.b c.unwrap_or-from.result c.deref_mut.result.now c.self.inside.reached.items c.give.new.sources c.give.new.reached.items
     c.len-known.result (omega (arith, c.len-known.ensures, c.self.inside.reached.ok.0)) c.give.ensures.given) in
     let sources : c.deref_mut-2.result.now ≡ c.give.new.sources = c.deref_mut-2.ensures.value
