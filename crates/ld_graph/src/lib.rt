@@ -23,7 +23,7 @@ mod trail;
 pub use distance::Distance;
 pub use graph::{Graph, MOST_GRAPH_CLASSES};
 pub use inside::Distances;
-pub use lists::{Lists, Reader};
+pub use lists::{Lists, Reader, Steps};
 pub use nexts::Nexts;
 pub use placed::Insert;
 pub use reach::Reach;

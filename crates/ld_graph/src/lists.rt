@@ -1,7 +1,7 @@
 //! For each class its successors and its predecessors, which are read one list at a time, by a reader
 //! that counts.
 
-ghost use Rattle.std.specs.Prelude.{◌≡◌, ◌+◌, ◌<◌, ◌≤◌, ◌^◌, [], ◌∷◌, ◌++◌, OnOk, length};
+ghost use Rattle.std.specs.Prelude.{◌≡◌, ◌+◌, ◌<◌, ◌≤◌, ◌^◌, [], ◌∷◌, ◌++◌, OnOk, length, false, true, slice_index_or, slice_set};
 ghost use Rattle.std.specs.Prelude.{nat_eq};
 ghost use Rattle.std.specs.List.{IsDistinct};
 ghost use Rattle.ld_graph.specs.Lists.{HasRoom, IsNear, IsNextClass, IsNextItem, ListsGrown};
@@ -42,22 +42,44 @@ impl Lists {
         }
     }
 
-    /// The successors of the class `c`, each once. Takes no memory.
-    fn after(&self, c: u32) -> &[u32]
-        requires { c < length self.now.after.lists }
+    /// The successors of the class `c`, each once. Adds one to the count. Takes no memory.
+    pub fn after(&self, c: u32, steps: &mut Steps) -> &[u32]
+        requires class { c < length self.now.after.lists }
+        requires few { steps.old + 1 < 2 ^ 64 }
         ensures near { result.now ≡ list_at self.now.after.lists c }
         ensures once { IsDistinct nat_eq result.now }
+        ensures step { steps.new ≡ steps.old + 1 }
     {
+        steps.count += 1;
         self.after.of(c)
     }
 
-    /// The predecessors of the class `c`, each once. Takes no memory.
-    fn before(&self, c: u32) -> &[u32]
-        requires { c < length self.now.before.lists }
+    /// The predecessors of the class `c`, each once. Adds one to the count. Takes no memory.
+    pub fn before(&self, c: u32, steps: &mut Steps) -> &[u32]
+        requires class { c < length self.now.before.lists }
+        requires few { steps.old + 1 < 2 ^ 64 }
         ensures near { result.now ≡ list_at self.now.before.lists c }
         ensures once { IsDistinct nat_eq result.now }
+        ensures step { steps.new ≡ steps.old + 1 }
     {
+        steps.count += 1;
         self.before.of(c)
+    }
+
+    /// What `after` gives, and puts the mark of the class on, which has to be off. So by one list of marks no class's
+    /// successors are read twice. Takes no memory.
+    pub fn once(&self, c: u32, marks: &mut [bool], steps: &mut Steps) -> &[u32]
+        requires class { c < length self.now.after.lists }
+        requires marks { length marks.old ≡ length self.now.after.lists }
+        requires off { slice_index_or marks.old c false ≡ false }
+        requires few { steps.old + 1 < 2 ^ 64 }
+        ensures near { result.now ≡ list_at self.now.after.lists c }
+        ensures once { IsDistinct nat_eq result.now }
+        ensures on { marks.new ≡ slice_set marks.old c true }
+        ensures step { steps.new ≡ steps.old + 1 }
+    {
+        marks[c as usize] = true;
+        self.after(c, steps)
     }
 
     /// Takes the memory for so many further classes and edges.
@@ -104,12 +126,42 @@ impl Lists {
     }
 }
 
+/// How many lists were read. Nothing but reading a list raises it.
+#[derive(Drop)]
+pub struct Steps {
+    count: u64,
+}
+
+impl Model for Steps {
+    ghost use Rattle.std.specs.Prelude.{ℕ};
+
+    ghost Value = { ℕ };
+
+    ghost view = { λ s. s.count };
+}
+
+impl Steps {
+    /// No list was read. Takes no memory.
+    pub fn new() -> Steps
+        ensures { result ≡ 0 }
+    {
+        Steps { count: 0 }
+    }
+
+    /// The number of lists that were read. Takes no memory.
+    pub fn count(&self) -> u64
+        ensures { result ≡ self.now }
+    {
+        self.count
+    }
+}
+
 /// A graph's lists, and how many of them were read. Who is handed a reader reads by it alone: it
 /// gives neither the lists themselves nor another reader, and each read counts.
 #[derive(Drop)]
 pub struct Reader<'l> {
     lists: &'l Lists,
-    count: u64,
+    steps: Steps,
 }
 
 impl<'l> Model for Reader<'l> {
@@ -117,7 +169,7 @@ impl<'l> Model for Reader<'l> {
 
     ghost Value = { Reading };
 
-    ghost view = { λ r. record { lists = r.lists.now; count = r.count } };
+    ghost view = { λ r. record { lists = r.lists.now; count = r.steps } };
 }
 
 impl<'l> Reader<'l> {
@@ -126,14 +178,17 @@ impl<'l> Reader<'l> {
         ensures lists { result.lists ≡ lists.entry.now }
         ensures none { result.count ≡ 0 }
     {
-        Reader { lists, count: 0 }
+        Reader {
+            lists,
+            steps: Steps::new(),
+        }
     }
 
     /// The number of lists that were read. Takes no memory.
     pub fn count(&self) -> u64
         ensures { result ≡ self.now.count }
     {
-        self.count
+        self.steps.count()
     }
 
     /// The successors of the class `c`, each once. Adds one to the count. Takes no memory.
@@ -145,8 +200,7 @@ impl<'l> Reader<'l> {
         ensures lists { self.new.lists ≡ self.old.lists }
         ensures step { self.new.count ≡ self.old.count + 1 }
     {
-        self.count += 1;
-        self.lists.after(c)
+        self.lists.after(c, &mut self.steps)
     }
 
     /// The predecessors of the class `c`, each once. Adds one to the count. Takes no memory.
@@ -158,7 +212,21 @@ impl<'l> Reader<'l> {
         ensures lists { self.new.lists ≡ self.old.lists }
         ensures step { self.new.count ≡ self.old.count + 1 }
     {
-        self.count += 1;
-        self.lists.before(c)
+        self.lists.before(c, &mut self.steps)
+    }
+
+    /// What `after` gives, and puts the mark of the class on, which has to be off. Takes no memory.
+    pub fn once(&mut self, c: u32, marks: &mut [bool]) -> &'l [u32]
+        requires class { c < length self.old.lists.after.lists }
+        requires marks { length marks.old ≡ length self.old.lists.after.lists }
+        requires off { slice_index_or marks.old c false ≡ false }
+        requires few { self.old.count + 1 < 2 ^ 64 }
+        ensures near { result.now ≡ list_at self.old.lists.after.lists c }
+        ensures once { IsDistinct nat_eq result.now }
+        ensures on { marks.new ≡ slice_set marks.old c true }
+        ensures lists { self.new.lists ≡ self.old.lists }
+        ensures step { self.new.count ≡ self.old.count + 1 }
+    {
+        self.lists.once(c, marks, &mut self.steps)
     }
 }

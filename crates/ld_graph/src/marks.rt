@@ -110,8 +110,7 @@ impl Marks {
         ensures counted { self.new.count ≡ count_by (λ mark. mark) self.new.each }
         ensures room { self.new.room ≡ self.old.room }
     {
-        self.marks[c as usize] = true;
         self.count += 1;
-        reader.after(c)
+        reader.once(c, &mut self.marks)
     }
 }
