@@ -165,6 +165,7 @@ static void keep(const struct debug *debug, struct entry *entry, uint64_t attrib
     case 0x40: entry->frame_base = *value; break;
     case 0x49: entry->type = reference(unit, value); break;
     case 0x55: entry->ranges = *value; break;
+    case 0x57: entry->call_column = value->number; break;
     case 0x72: entry->bases[BASE_TEXTS] = value->number; break;
     case 0x73: entry->bases[BASE_ADDRESSES] = value->number; break;
     case 0x74: entry->bases[BASE_RANGES] = value->number; break;

@@ -94,6 +94,7 @@ struct entry {
     const char *name;
     uint64_t type, origin, sibling; /* offsets of other entries, or 0 */
     uint64_t size, count, offset; /* of the type, of the range, of the member */
+    uint64_t call_column;         /* where an inlined function is called */
     bool has_size, has_count, has_offset;
     struct value location, frame_base, low, high, ranges;
     uint64_t bases[BASES]; /* of a unit */

@@ -19,11 +19,21 @@ bool has_addr2line = true;
 /* What stands in the place of a program that isn't there. */
 #define NO_PROGRAM 127
 
-void ask_for(struct binary *binary, uint64_t offset)
+static void add_site(struct binary *binary, struct site site)
 {
     binary->sites =
         grown(binary->sites, binary->site_count, &binary->site_room, sizeof *binary->sites);
-    binary->sites[binary->site_count++] = (struct site){.offset = offset};
+    binary->sites[binary->site_count++] = site;
+}
+
+void ask_for(struct binary *binary, uint64_t offset)
+{
+    add_site(binary, (struct site){.offset = offset});
+}
+
+void ask_for_init(struct binary *binary, uint64_t offset)
+{
+    add_site(binary, (struct site){.offset = offset, .is_init = true});
 }
 
 static int by_offset(const void *left, const void *right)
@@ -32,10 +42,18 @@ static int by_offset(const void *left, const void *right)
     return a->offset < b->offset ? -1 : a->offset > b->offset;
 }
 
+/* Those where locks are initialised stand before others of the same place, and are kept. */
+static int by_offset_and_kind(const void *left, const void *right)
+{
+    const struct site *a = left, *b = right;
+    int order = by_offset(left, right);
+    return order ? order : (int)b->is_init - (int)a->is_init;
+}
+
 static void sort_sites(struct binary *binary)
 {
     size_t kept = 0;
-    qsort(binary->sites, binary->site_count, sizeof *binary->sites, by_offset);
+    qsort(binary->sites, binary->site_count, sizeof *binary->sites, by_offset_and_kind);
     for (size_t number = 0; number < binary->site_count; number++)
         if (kept == 0 || binary->sites[kept - 1].offset != binary->sites[number].offset)
             binary->sites[kept++] = binary->sites[number];
@@ -185,6 +203,7 @@ void find_frames(void)
         find_lines(binary);
         for (size_t site = 0; site < binary->site_count; site++) {
             mend(binary, &binary->sites[site]);
+            mend_by_entries(binary, &binary->sites[site]);
             for (size_t frame = 0; frame < binary->sites[site].frame_count; frame++)
                 know_function(&binary->sites[site].frames[frame]);
         }

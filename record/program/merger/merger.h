@@ -40,7 +40,7 @@ struct frame {
     const char *function; /* NULL where it isn't known */
     const char *file;
     unsigned line;   /* 0 where it isn't known */
-    unsigned column; /* likewise: of an innermost frame alone */
+    unsigned column; /* likewise: of outer frames where a lock is initialised alone */
 };
 
 /* A place in the code of a file, and its frames, the innermost first. */
@@ -51,6 +51,7 @@ struct site {
     const char *file; /* as the table of lines has it */
     unsigned line;    /* likewise, or 0 */
     unsigned column;
+    bool is_init; /* a lock is initialised there */
 };
 
 struct binary {
@@ -236,6 +237,7 @@ void find_lines(struct binary *binary);
 /* frames.c */
 extern bool has_addr2line;
 void ask_for(struct binary *binary, uint64_t offset);
+void ask_for_init(struct binary *binary, uint64_t offset);
 void find_frames(void);
 const struct site *site_at(const struct binary *binary, uint64_t offset);
 
@@ -255,6 +257,9 @@ extern bool *through_met;
 /* members.c */
 bool name_member(const struct modules *modules, const struct unit *first, unsigned following,
                  const struct unit *frames, char *name, size_t size);
+
+/* inlined.c */
+void mend_by_entries(struct binary *binary, struct site *site);
 
 /* sources.c */
 void ask_for_sources(struct binary *binary);

@@ -60,8 +60,8 @@ static void add_init(struct binary *binary, uint64_t at, bool is_jump)
     uint64_t into;
     if (is_jump && symbol_at(binary, at, &into))
         init.seen = at - into;
-    ask_for(binary, init.at);
-    ask_for(binary, init.seen);
+    ask_for_init(binary, init.at);
+    ask_for_init(binary, init.seen);
     sources->inits = grown(sources->inits, sources->init_count, &sources->init_room, sizeof init);
     sources->inits[sources->init_count++] = init;
 }

@@ -7,8 +7,8 @@
  *
  * Report:
  * traces 1 refused 0 events 8 classes 2 dependencies 2
- * inversion ..links.cc.. -> links:_ZL5table at links-1:8 via links:_ZL5table -> ..links.cc..
- * inversion links:_ZL5table -> ..links.cc.. at links-1:4 via ..links.cc.. -> links:_ZL5table
+ * inversion conn_init:links.cc -> links:_ZL5table at links-1:8 via links:_ZL5table -> conn_init:links.cc
+ * inversion links:_ZL5table -> conn_init:links.cc at links-1:4 via conn_init:links.cc -> links:_ZL5table
  * violations 2
  *
  * Not: make_first:
