@@ -18,15 +18,17 @@ WAITS_AS_READER = ' t=0 r=2 c=1 '
 RECURSIVE_WAIT = re.compile(r' acquire: ([0-9a-f]+) k=([0-9a-f]+) s=(\d+) t=0 r=2 c=1 ').search
 
 
-def recursive_keys(lines):
-    """The keys of the classes that a recursive reader waits for, anywhere in the text."""
+def recursive_keys(blocks):
+    """The keys of the classes that a recursive reader waits for, anywhere in blocks of whole lines."""
     keys = set()
-    for line in lines:
-        if WAITS_AS_READER in line:
-            match = RECURSIVE_WAIT(line)
+    for block in blocks:
+        at = block.find(WAITS_AS_READER)
+        while at >= 0:
+            match = RECURSIVE_WAIT(block, block.rfind('\n', 0, at) + 1)
             if match:
                 address, key, subclass = match.groups()
                 keys.add(int(key, 16) or int(address, 16) + int(subclass))
+            at = block.find(WAITS_AS_READER, at + 1)
     return keys
 
 

@@ -81,7 +81,7 @@ class Stream:
             self.too_deep += 1
             task.held.append(Held(held.address, held.site, held.since))
             return
-        if self.taken + len(self.lines) >= self.end:
+        if self.cut is not None and self.taken + len(self.lines) >= self.end:
             self.begin()
         if (task.trace != self.trace or held.lock_class not in self.classes
                 or held.reader is not None and held.reader.lock_class not in self.classes):

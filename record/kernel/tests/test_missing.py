@@ -38,6 +38,32 @@ class MissingReleases(unittest.TestCase):
                 'acquire t-1 a@1000', 'acquire t-1 b@2000', 'release t-1 b@2000', 'release t-1 a@1000',
                 'acquire t-1 c@3000'])
 
+    def test_a_handler_in_between_is_no_place_for_it(self):
+        inside = {'columns': 'd.h..'}
+        self.assertEqual(
+            stream(acquire('a', A, before=0), acquire('b', B, before=1, **inside), release(B, **inside),
+                   acquire('c', C, before=0)),
+            ['acquire t-1 a@1000', 'release t-1 a@1000', 'enter t-1 hard', 'acquire t-1 b@2000',
+             'release t-1 b@2000', 'exit t-1 hard', 'acquire t-1 c@3000'])
+
+    def test_what_went_over_into_another_trace_is_released_there(self):
+        text = (acquire('a', A, before=0) + acquire('b', B, before=1) + release(B) + acquire('c', C, before=0))
+        self.assertEqual(run(text, '--cut', '2').stream, [
+            'trace kernel', 'acquire t-1 a@1000', 'trace kernel.2', 'try t-1 a@1000', 'acquire t-1 b@2000',
+            'release t-1 a@1000', 'release t-1 b@2000', 'trace kernel.3', 'acquire t-1 c@3000'])
+        text = (acquire('a', A, before=0, columns='d....') + acquire('b', B, columns='d.h..')
+                + release(B, columns='d.h..') + acquire('c', C, before=0, columns='d....'))
+        self.assertEqual(run(text, '--cut', '3').stream[3:7], [
+            'trace kernel.2', 'begin t-1 off on', 'try t-1 a@1000', 'release t-1 a@1000'])
+
+    def test_where_it_is_not_known_which_locks_are_below(self):
+        # The release of d was never seen acquired, so it may have been below a.
+        text = acquire('a', A, before=0) + acquire('b', B, before=0) + release(B) + release(D)
+        self.assertEqual(
+            run(text + acquire('c', C, before=1) + release(C) + acquire('c', C, before=0)).stream[4:],
+            ['release t-1 b@2000', 'acquire t-1 a@1000', 'acquire t-1 c@3000', 'release t-1 c@3000',
+             'acquire t-1 c@3000'])
+
     def test_a_writer_releases_both_of_its_locks_there(self):
         self.assertEqual(
             stream(acquire('a', A, before=0), line('other: x'), acquire('b', B, before=0),

@@ -65,6 +65,13 @@ class Writers(unittest.TestCase):
         self.assertIn('1 acquisitions by tasks that held 96 locks already were left out', converted.errors)
         self.assertIn(' refused 0 ', report(converted.stream)[1][0])
 
+    def test_there_has_to_be_room_for_two(self):
+        text = ''.join(acquire('b', B + 16 * number) for number in range(95)) + acquire('a', A) + LATER
+        converted = run(text)
+        self.assertEqual(converted.stream[96:], OF_LATER)
+        self.assertIn('1 acquisitions by tasks that held 96 locks already were left out', converted.errors)
+        self.assertIn(' refused 0 ', report(converted.stream)[1][0])
+
 
 class Readers(unittest.TestCase):
 
