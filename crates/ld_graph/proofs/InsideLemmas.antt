@@ -15,7 +15,7 @@ use Rattle.ld_graph.proofs.WalkLemmas.{IsWalk-same}
 module _ (step : ℕ → ℕ → Type 0) (before : List (List ℕ)) (turned : (x y : ℕ) → IsNear before x y ↔ step y x) (n : ℕ)
     (ends : (x y : ℕ) → step x y → (x < n) × (y < n)) (components : List ℕ) (are : AreComponents step n components) (end : ℕ) (within : end < n) where
   abbrev inside : ℕ → ℕ → Type 0
-  inside a b = IsNearInside before components (get_or components end 0) b a
+  inside a b = IsNear before b a × (get_or components a 0 ≡ get_or components end 0)
 
   outer : (a b : ℕ) → inside a b → step a b
   outer a b h = (turned b a).0 h.0
@@ -66,11 +66,11 @@ module _ (step : ℕ → ℕ → Type 0) (before : List (List ℕ)) (turned : (x
 -- where the steps are given by the lists of predecessors, over the whole graph
 module _ (before : List (List ℕ)) (step : ℕ → ℕ → Type 0) (turned : (x y : ℕ) → IsNear before x y ↔ step y x) where
   abbrev against : ℕ → ℕ → Type 0
-  against a b = IsNear before b a
+  against a b = IsNearInside before None 0 b a
 
   pub AreEnough-near : (w end : ℕ) (levels : List (Option ℕ)) → AreLevelsFor against w end levels
       → AreEnough step w end (level_at levels)
-  AreEnough-near w end levels h = AreEnough-same against step against (λ a b. turned b a) w end (level_at levels) (record {
+  AreEnough-near w end levels h = AreEnough-same against step against (λ a b. (λ h. (turned b a).0 h.0, λ s. ((turned b a).1 s, tt))) w end (level_at levels) (record {
     own = h.own;
     right = λ c n on e. h.right c n e;
     nearer = λ c m n on d e l. h.nearer c m n d e l;

@@ -1,5 +1,7 @@
 -- What is left of what was touched, when some of it is taken away.
 use Rattle.std.proofs.Common.{◌≡◌, ◌≢◌, ◌<◌, ◌≤◌, ◌+◌, ◌⊎◌, inl, inr, ◌∙◌, ◌∷◌, ◌++◌, [], ℕ, Contains, List, Option, Some, None, arith, get_or, length, set, sym, subst, ap, refl}
+use Rattle.std.specs.Prelude.{IfSome}
+use Rattle.std.specs.Borrow.{Bor}
 use Rattle.std.proofs.lemmas.Bool.{cases_eq, cases_lt}
 use Rattle.std.proofs.lemmas.List.{get_or-set_same, get_or-set_other, length-set}
 use Rattle.std.proofs.lemmas.List.Elements.{Contains-append_left, Contains-push, Contains-push_cases}
@@ -45,3 +47,9 @@ touched_more levels touched class level within h = record {
     by : (x k : ℕ) → level_at (set levels class (Some level)) x ≡ Some k → (x ≡ class) ⊎ (x ≢ class) → Contains (touched ++ class ∷ []) x
     by x k e (inl s) = subst (Contains (touched ++ class ∷ [])) (sym s) (Contains-push touched class)
     by x k e (inr ne) = Contains-append_left touched (class ∷ []) x (h.all x k (sym (get_or-set_other levels class x (Some level) None ne) ∙ e))
+
+-- a class that is below the number of classes has a component, where components are given
+pub within_if : (components : Option (Bor (List ℕ))) (n x : ℕ) → IfSome components (λ c. length c.now ≡ n) → x < n
+    → IfSome components (λ c. x < length c.now)
+within_if None n x e l = tt
+within_if (Some c) n x e l = omega (arith, e, l)

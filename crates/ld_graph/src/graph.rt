@@ -269,7 +269,7 @@ impl Graph {
             all.push(class)?;
         }
         let mut distances = Distances::new(alloc, self.len())?;
-        distances.search(&self.lists, &all, to);
+        distances.search(&self.lists, None, &all, to);
         Ok(distances.into_levels())
     }
 
@@ -284,7 +284,7 @@ impl Graph {
         ensures enough { All (λ c. AreEnough (IsEdge self.now.edges) c to
             (λ x. slice_index_or distances.new x None)) wanted.now }
     {
-        distances.search(&self.lists, wanted, to);
+        distances.search(&self.lists, None, wanted, to);
     }
 
     /// What `distances_to` gives, for each of the wanted classes that `to` reaches, by a search that stays in the
@@ -304,7 +304,7 @@ impl Graph {
         ensures enough { All (λ c. Reaches (IsEdge self.now.edges) to c
             → AreEnough (IsEdge self.now.edges) c to (λ x. slice_index_or distances.new x None)) wanted.now }
     {
-        distances.search_inside(&self.lists, components, wanted, to);
+        distances.search(&self.lists, Some(components), wanted, to);
     }
 
     /// A shortest walk from `a` to `b`, or `None` where there is none. Each next class but the last

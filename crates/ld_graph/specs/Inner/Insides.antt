@@ -1,15 +1,25 @@
--- What the search within a component says of its working space. No public contract cites this file.
-use Rattle.std.specs.Prelude.{◌≡◌, ℕ, ◌<◌, List, length, slice_index_or, Option, Some, Contains}
+-- What a search for distances says of its working space. No public contract cites this file.
+use Rattle.std.specs.Prelude.{◌≡◌, ℕ, ◌<◌, List, length, slice_index, Option, None, Some, IfSome, Contains}
+use Rattle.std.specs.Borrow.{Bor}
 use Rattle.ld_graph.specs.Inner.Levels.{level_at}
 use Rattle.ld_graph.specs.Lists.{list_at}
 use Rattle.ld_graph.specs.Walks.{DistanceIs, IsDistance}
 
+-- the class is one of the component of this number; where no components are given, any class is
+abbrev pub StaysIn : Option (Bor (List ℕ)) → (component x : ℕ) → Type 0
+StaysIn components component x = IfSome components (λ c. slice_index c.now x ≡ component)
+
+-- the number of a class's component
+abbrev pub component_at : Option (Bor (List ℕ)) → ℕ → ℕ
+component_at None x = 0
+component_at (Some components) x = slice_index components.now x
+
 -- one of these classes, and of this component
-abbrev pub IsInsideOf : (components : List ℕ) (component : ℕ) (near : List ℕ) → ℕ → Type 0
-IsInsideOf components component near x = Contains near x × (slice_index_or components x 0 ≡ component)
+abbrev pub IsInsideOf : (components : Option (Bor (List ℕ))) (component : ℕ) (near : List ℕ) → ℕ → Type 0
+IsInsideOf components component near x = Contains near x × StaysIn components component x
 
 -- b is a neighbour of a, and of this component
-abbrev pub IsNearInside : (lists : List (List ℕ)) (components : List ℕ) (component a b : ℕ) → Type 0
+abbrev pub IsNearInside : (lists : List (List ℕ)) (components : Option (Bor (List ℕ))) (component a b : ℕ) → Type 0
 IsNearInside lists components component a b = IsInsideOf components component (list_at lists a) b
 
 -- what has a level is one of these classes

@@ -1,7 +1,6 @@
 use Rattle.std.proofs.Common.{◌≡◌, ◌<◌, ◌∙◌, ap, arith, get_or, length, None, subst, sym}
 use Rattle.ld_graph.specs.Edges.{IsEdge}
-use Rattle.ld_graph.specs.Inner.Insides.{AreLevelsFor}
-use Rattle.ld_graph.specs.Lists.{IsNear}
+use Rattle.ld_graph.specs.Inner.Insides.{AreLevelsFor, IsNearInside}
 use Rattle.ld_graph.specs.Walks.{DistanceIs}
 use Rattle.ld_graph.proofs.InsideLemmas.{DistanceIs-all}
 use Rattle.ld_graph.proofs.KeptLemmas.{before_ends}
@@ -23,5 +22,5 @@ returns-clause-each c = λ x.
     (λ w within.
     let low : w < c.loop-class.class = omega (arith, within, classes, c.loop-class-test.false, c.len-class-end.ensures.count) in
     let is : get_or c.deref.result.now w 0 ≡ w = ap (λ ns. get_or ns w 0) wanted ∙ i.each w low in
-    subst (λ z. AreLevelsFor (λ a b. IsNear c.self.inside.lists.before.lists b a) z c.args.to c.search.new.self) is
+    subst (λ z. AreLevelsFor (λ a b. IsNearInside c.self.inside.lists.before.lists None 0 b a) z c.args.to c.search.new.self) is
     (c.search.ensures.levels w 0 (omega (arith, low, all, i.len, c.loop-class.all.ok.0)))) x))

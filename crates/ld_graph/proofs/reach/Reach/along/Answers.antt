@@ -1,4 +1,4 @@
-use Rattle.std.proofs.Common.{◌≡◌, ◌↔◌, ◌<◌, ℕ, length, ◌++◌, ◌∷◌, [], arith, false, true, inr, subst, sym, ap, ◌∙◌, unwrap_or, get_or, None, drop}
+use Rattle.std.proofs.Common.{◌≡◌, ◌<◌, length, ◌++◌, ◌∷◌, [], arith, false, true, inr, subst, sym, ap, ◌∙◌, unwrap_or, get_or, None, drop}
 use Rattle.std.specs.Vec.{with_items}
 use Rattle.std.proofs.lemmas.List.{drop_all, get_or_default, with_items_is}
 use Rattle.std.proofs.lemmas.List.Elements.{Contains-push}

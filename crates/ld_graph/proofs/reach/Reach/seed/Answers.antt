@@ -1,4 +1,4 @@
-use Rattle.std.proofs.Common.{◌≡◌, ◌↔◌, ◌<◌, ℕ, ap, length, ◌++◌, ◌∷◌, [], arith, inl, refl, subst, sym, ◌∙◌, set, true, drop}
+use Rattle.std.proofs.Common.{◌≡◌, ◌<◌, ap, length, ◌++◌, ◌∷◌, [], arith, inl, refl, subst, sym, ◌∙◌, set, true, drop}
 use Rattle.std.specs.Vec.{with_items}
 use Rattle.std.proofs.lemmas.List.{drop_all, length-set, with_items_is}
 use Rattle.std.proofs.lemmas.List.Elements.{Contains-push}
