@@ -106,11 +106,9 @@ impl PerState<Reach> {
         ensures further { AreFurther self.old self.new }
     {
         if told.bit == Usage::IN_HARD {
-            self.hard
-                .seed(&mut Reader::new(graph.lists()), told.class);
+            self.hard.seed(&mut Reader::new(graph.lists()), told.class);
         } else if told.bit == Usage::IN_SOFT {
-            self.soft
-                .seed(&mut Reader::new(graph.lists()), told.class);
+            self.soft.seed(&mut Reader::new(graph.lists()), told.class);
         }
     }
 
