@@ -72,6 +72,7 @@ class Planted:
         self.classes = self.values(lines, "Class: ")
         self.has = self.values(lines, "Has: ")
         self.never = self.values(lines, "Not: ")
+        self.unsaid = self.values(lines, "Unsaid: ")
         self.taken = sorted(self.values(lines, "Taken: "))
         self.places = sorted(self.values(lines, "Place: "))
         start = lines.index("Report:") + 1 if "Report:" in lines else len(lines)

@@ -178,6 +178,7 @@ bool begin(void)
     if (can && self.generation != life->generation) {
         self.chunk = NULL;
         self.last_number = 0;
+        self.thread = (int)syscall(SYS_gettid);
         memset(self.calls, 0, sizeof self.calls);
         self.task = __atomic_add_fetch(&life->tasks, 1, __ATOMIC_RELAXED);
         self.generation = life->generation;

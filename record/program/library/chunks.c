@@ -101,6 +101,8 @@ static void hand_on(void *ended)
     (void)ended;
     if (!chunk || self.generation != life->generation)
         return;
+    record(RECORD_END, NULL);
+    chunk = self.chunk;
     self.chunk = NULL;
     bool kept = false;
     bool worth = chunk->used + WORTH_KEEPING <= UNITS_OF_CHUNK;

@@ -131,13 +131,22 @@ void record_init(const void *lock)
     leave();
 }
 
-void record_destroy(const void *lock)
+/* Writes a record with the place of the program that it comes from. */
+void record_at(enum operation operation, const void *lock, const struct frame *frame)
+{
+    if (!enter())
+        return;
+    write_one(operation, (uint64_t)lock, wants_places ? place_of_frame(frame) : 0);
+    leave();
+}
+
+void record_destroy(const void *lock, const struct frame *frame)
 {
     if (!enter())
         return;
     uint64_t told = (uint64_t)lock;
     __atomic_compare_exchange_n(place_of(told), &told, 0, false, __ATOMIC_RELAXED, __ATOMIC_RELAXED);
-    write_one(RECORD_DESTROY, (uint64_t)lock, 0);
+    write_one(RECORD_DESTROY, (uint64_t)lock, wants_places ? place_of_frame(frame) : 0);
     leave();
 }
 

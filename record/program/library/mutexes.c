@@ -23,9 +23,18 @@ WRAP_TIMED(is_got, RECORD_ACQUIRE, pthread_mutex_timedlock, pthread_mutex_tryloc
 WRAP_CLOCKED(is_got, RECORD_ACQUIRE, pthread_mutex_clocklock, pthread_mutex_trylock, pthread_mutex_t,
              is_clock(clock))
 
+/* A mutex says who holds it. A thread that hasn't begun to record doesn't know its own number yet. */
+static inline void give_back(const pthread_mutex_t *mutex, const struct frame *frame)
+{
+    if (self.thread == mutex->__data.__owner || self.thread == 0)
+        record(RECORD_RELEASE, mutex);
+    else
+        record_at(RECORD_RELEASE_OTHER, mutex, frame);
+}
+
 EXPORTED int pthread_mutex_unlock(pthread_mutex_t *mutex)
 {
-    record(RECORD_RELEASE, mutex);
+    give_back(mutex, HERE);
     int answer = NEXT(pthread_mutex_unlock)(mutex);
     if (answer != 0)
         record(RECORD_UNDO, mutex);
@@ -52,7 +61,7 @@ static int waited(const void *mutex, int answer, const struct frame *frame)
 EXPORTED int pthread_cond_wait(pthread_cond_t *condition, pthread_mutex_t *mutex)
 {
     int answer;
-    record(RECORD_RELEASE, mutex);
+    record_at(RECORD_CONDITION, mutex, HERE);
     pthread_cleanup_push(cancelled, mutex);
     answer = NEXT(pthread_cond_wait)(condition, mutex);
     pthread_cleanup_pop(0);
@@ -63,7 +72,7 @@ EXPORTED int pthread_cond_timedwait(pthread_cond_t *condition, pthread_mutex_t *
                                     const struct timespec *until)
 {
     int answer;
-    record(RECORD_RELEASE, mutex);
+    record_at(RECORD_CONDITION, mutex, HERE);
     pthread_cleanup_push(cancelled, mutex);
     answer = NEXT(pthread_cond_timedwait)(condition, mutex, until);
     pthread_cleanup_pop(0);
@@ -74,7 +83,7 @@ EXPORTED int pthread_cond_clockwait(pthread_cond_t *condition, pthread_mutex_t *
                                     clockid_t clock, const struct timespec *until)
 {
     int answer;
-    record(RECORD_RELEASE, mutex);
+    record_at(RECORD_CONDITION, mutex, HERE);
     pthread_cleanup_push(cancelled, mutex);
     answer = NEXT(pthread_cond_clockwait)(condition, mutex, clock, until);
     pthread_cleanup_pop(0);
@@ -86,7 +95,7 @@ WRAP_INIT(mtx_init, mtx_t, int)
 EXPORTED void mtx_destroy(mtx_t *mutex)
 {
     NEXT(mtx_destroy)(mutex);
-    record_destroy(mutex);
+    record_destroy(mutex, HERE);
 }
 
 static bool is_got_c11(int answer)
@@ -98,9 +107,10 @@ WRAP_TRY(is_got_c11, RECORD_TRY, mtx_trylock, mtx_t)
 WRAP_TAKE(is_got_c11, RECORD_ACQUIRE, mtx_lock, mtx_trylock, mtx_t)
 WRAP_TIMED(is_got_c11, RECORD_ACQUIRE, mtx_timedlock, mtx_trylock, mtx_t, true)
 
+/* libc's mutexes of C11 are those of pthread. */
 EXPORTED int mtx_unlock(mtx_t *mutex)
 {
-    record(RECORD_RELEASE, mutex);
+    give_back((const pthread_mutex_t *)mutex, HERE);
     int answer = NEXT(mtx_unlock)(mutex);
     if (answer != thrd_success)
         record(RECORD_UNDO, mutex);
@@ -119,7 +129,7 @@ static int waited_c11(const void *mutex, int answer, const struct frame *frame)
 EXPORTED int cnd_wait(cnd_t *condition, mtx_t *mutex)
 {
     int answer;
-    record(RECORD_RELEASE, mutex);
+    record_at(RECORD_CONDITION, mutex, HERE);
     pthread_cleanup_push(cancelled, mutex);
     answer = NEXT(cnd_wait)(condition, mutex);
     pthread_cleanup_pop(0);
@@ -130,7 +140,7 @@ EXPORTED int cnd_timedwait(cnd_t *restrict condition, mtx_t *restrict mutex,
                            const struct timespec *restrict until)
 {
     int answer;
-    record(RECORD_RELEASE, mutex);
+    record_at(RECORD_CONDITION, mutex, HERE);
     pthread_cleanup_push(cancelled, mutex);
     answer = NEXT(cnd_timedwait)(condition, mutex, until);
     pthread_cleanup_pop(0);

@@ -81,6 +81,7 @@ struct self {
     uint64_t generation; /* that of the recording for which the rest holds */
     uint64_t task;
     uint64_t last_number;
+    int thread; /* the kernel's number of it */
     struct chunk *chunk;
     unsigned inside;
     struct calls calls[CALLS_KEPT];
@@ -102,7 +103,8 @@ struct unit *take_units(unsigned count);
 /* log.c */
 void record(enum operation operation, const void *lock);
 void record_init(const void *lock);
-void record_destroy(const void *lock);
+void record_at(enum operation operation, const void *lock, const struct frame *frame);
+void record_destroy(const void *lock, const struct frame *frame);
 void record_got(enum operation operation, const void *lock, const struct frame *frame);
 void record_wait(enum operation wanted, const void *lock, const struct frame *frame);
 

@@ -42,6 +42,12 @@ enum operation {
     RECORD_SHARE, /* as RECORD_READ */
     /* Of all: */
     RECORD_TRY_READ, /* [lock] was got for reading by a call that couldn't wait */
+    /* What is a mistake, or may be: */
+    RECORD_RELEASE_OTHER, /* as RECORD_RELEASE, by a thread that doesn't hold the lock, as that tells */
+    RECORD_RELEASE_ANY,   /* as RECORD_RELEASE, of a lock that doesn't tell who holds it */
+    RECORD_CONDITION,     /* as RECORD_RELEASE, by a wait on a condition */
+    RECORD_KEPT,          /* [lock] wasn't destroyed, since it is held */
+    RECORD_END,           /* the thread ends, unless more of it follows */
     RECORD_FRAMES,  /* [lock] is about to be told as taken first, by these frames: their number and the end of what
                        is known of the stack, then each `struct told_frame`, then the stack */
 };

@@ -6,6 +6,9 @@
 #include "recorder.h"
 #include "wrappers.h"
 
+/* libc has the number of readers above three bits for other things. */
+#define READER_SHIFT 3
+
 bool leaves_readers_out;
 
 WRAP_INIT(pthread_rwlock_init, pthread_rwlock_t, const pthread_rwlockattr_t *)
@@ -76,9 +79,22 @@ WRAP_TIMED(is_got, reading(lock), pthread_rwlock_timedrdlock, pthread_rwlock_try
 WRAP_CLOCKED(is_got, reading(lock), pthread_rwlock_clockrdlock, pthread_rwlock_tryrdlock, pthread_rwlock_t,
              is_clock(clock) && is_time(until))
 
+/* A lock says who writes it, and how many read it, but not who they are. */
+static void give_back(const pthread_rwlock_t *lock, const struct frame *frame)
+{
+    int writer = lock->__data.__cur_writer;
+    bool is_read = lock->__data.__readers >= 1 << READER_SHIFT;
+    if (self.thread == 0 || (writer == 0 && is_read))
+        record(RECORD_RELEASE_ANY, lock);
+    else if (writer == self.thread)
+        record(RECORD_RELEASE, lock);
+    else
+        record_at(RECORD_RELEASE_OTHER, lock, frame);
+}
+
 EXPORTED int pthread_rwlock_unlock(pthread_rwlock_t *lock)
 {
     if (!leaves_readers_out || took_write_lock)
-        record(RECORD_RELEASE, lock);
+        give_back(lock, HERE);
     return NEXT(pthread_rwlock_unlock)(lock);
 }

@@ -19,6 +19,6 @@ WRAP_TAKE(is_got, RECORD_ACQUIRE, pthread_spin_lock, pthread_spin_trylock, pthre
 
 EXPORTED int pthread_spin_unlock(pthread_spinlock_t *lock)
 {
-    record(RECORD_RELEASE, (const void *)lock);
+    record(RECORD_RELEASE_ANY, (const void *)lock);
     return NEXT(pthread_spin_unlock)(lock);
 }

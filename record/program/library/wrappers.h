@@ -18,13 +18,15 @@
         return answer;                                       \
     }
 
-#define WRAP_DESTROY(call, lock_type)           \
-    EXPORTED int call(lock_type *lock)          \
-    {                                           \
-        int answer = NEXT(call)(lock);          \
-        if (answer == 0)                        \
-            record_destroy((const void *)lock); \
-        return answer;                          \
+#define WRAP_DESTROY(call, lock_type)                         \
+    EXPORTED int call(lock_type *lock)                        \
+    {                                                         \
+        int answer = NEXT(call)(lock);                        \
+        if (answer == 0)                                      \
+            record_destroy((const void *)lock, HERE);         \
+        else if (answer == EBUSY)                             \
+            record_at(RECORD_KEPT, (const void *)lock, HERE); \
+        return answer;                                        \
     }
 
 #define TELL_GOT(doing, lock) record_got(doing, (const void *)(lock), HERE)

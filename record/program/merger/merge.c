@@ -157,6 +157,7 @@ int main(int argument_count, char **arguments)
     say_ends(all, count);
     say_limits(bytes);
     say_classes();
+    say_misuse();
     say("%s: %" PRIu64 " events, %zu classes, %zu processes, %" PRIu64 " traces", arguments[2],
         totals.events, class_count(), count, totals.traces);
     return WRITTEN;

@@ -109,6 +109,16 @@ struct class {
 /* What the latest release of a lock changed, for the case that it failed. */
 enum undo { UNDO_NOTHING, UNDO_LEVEL, UNDO_HOLD };
 
+/* Mistakes that aren't ones of order. */
+enum misuse {
+    MISUSE_OTHER,     /* a lock was given back by a thread that doesn't hold it */
+    MISUSE_UNTOLD,    /* likewise; where it was taken is known alone */
+    MISUSE_FREE,      /* a lock was given back that nobody holds */
+    MISUSE_DESTROYED, /* a lock was destroyed while it was held */
+    MISUSE_ENDED,     /* a thread ended while it held a lock */
+    MISUSE_CONDITION, /* a thread waited on a condition while it held another lock */
+};
+
 /* The lock at an address, or what was last there. */
 struct lock {
     uint64_t address;
@@ -121,6 +131,7 @@ struct lock {
     uint32_t last_place; /* of the program, where that took it */
     const struct unit *frames; /* of the calls that are about to take it first */
     enum undo undo;
+    size_t misuse; /* the number of the mistake that its latest release was, or 0 */
 };
 
 /* That a task holds a lock. */
@@ -304,6 +315,7 @@ void begin_places(void);
 void ask_for_place(const struct modules *modules, const struct unit *first);
 void add_place(const struct modules *modules, const struct unit *first);
 uint32_t place_numbered(unsigned number);
+void name_place(char *text, size_t size, uint32_t place);
 void end_line(uint32_t place, const struct class *class);
 bool close_places(const char *stream_path);
 size_t lost_places(void);
@@ -317,9 +329,17 @@ void write_got(struct taking taking, uint32_t task, struct locks *locks, struct 
 void write_waiting(bool is_recursive, uint32_t task, struct locks *locks, const struct lock *lock,
                    uint32_t place);
 void write_released(uint32_t task, struct lock *lock, struct locks *locks);
+uint32_t place_of_hold(uint32_t task, const struct locks *locks, const struct lock *lock);
+void end_task(uint32_t task);
+void note_ended(const struct locks *locks);
 bool does_hold(uint32_t task, const struct locks *locks, const struct lock *lock);
 uint32_t next_holder(uint32_t task, const struct locks *locks, const struct lock *lock);
 size_t held_by(uint32_t task, const struct hold **held);
+
+/* misuse.c */
+size_t note_misuse(enum misuse how, const struct class *class, const struct class *other, uint32_t place);
+void take_back_misuse(size_t number);
+void say_misuse(void);
 
 /* waits.c */
 void begin_wait(uint32_t task, const struct unit *first);

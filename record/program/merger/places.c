@@ -151,6 +151,17 @@ uint32_t place_numbered(unsigned number)
     return numbered[number % PLACE_NUMBERS];
 }
 
+/* Says where a place is, without its callers. */
+void name_place(char *text, size_t size, uint32_t place)
+{
+    const char *words = place ? places[places[place - 1].plain - 1].text : NULL;
+    const char *file = words ? strchr(words, ' ') : NULL;
+    if (file)
+        snprintf(text, size, "in %.*s at %s", (int)(file - words), words, file + 1);
+    else
+        snprintf(text, size, "at a place that isn't known");
+}
+
 static struct taken *slot_of_taken(struct taken *all, size_t room, const struct class *class,
                                    uint32_t place)
 {

@@ -66,19 +66,48 @@ static void on_got(enum operation operation, uint32_t task, const struct unit *f
     write_got(taking, task, &locks, lock, place_numbered(HEAD_PLACE(first->head)));
 }
 
-/* Whoever gives the lock back: it is its holder's no more. Who reads it gives back what it has of its own. */
-static void on_release(uint32_t task, uint64_t address)
+/* Notes a release by a task that doesn't hold the lock: where the lock said so itself, or where it says
+   nothing and another task was seen to take it. */
+static void note_release(enum operation operation, uint32_t task, struct lock *lock, uint32_t place)
 {
-    struct lock *lock = find_lock(&locks, address, false);
-    if (!lock || (!lock->holder && !lock->readers))
+    bool is_held = lock->holder || lock->readers;
+    lock->misuse = 0;
+    if (does_hold(task, &locks, lock))
         return;
-    if (!lock->holder) {
+    if (operation == RECORD_RELEASE_OTHER)
+        lock->misuse = note_misuse(is_held ? MISUSE_OTHER : MISUSE_FREE, lock->class, NULL, place);
+    else if (operation == RECORD_RELEASE_ANY && is_held)
+        lock->misuse = note_misuse(MISUSE_UNTOLD, lock->class, NULL,
+                                   place_of_hold(next_holder(0, &locks, lock), &locks, lock));
+}
+
+/* Notes a wait on a condition by a task that holds another lock than the one it gives back. */
+static void note_condition(uint32_t task, struct lock *lock, uint32_t place)
+{
+    const struct hold *held;
+    size_t count = held_by(task, &held);
+    if (count && &locks.all[held[count - 1].lock] != lock)
+        lock->misuse = note_misuse(MISUSE_CONDITION, lock->class, locks.all[held[count - 1].lock].class, place);
+    else if (count > 1)
+        lock->misuse = note_misuse(MISUSE_CONDITION, lock->class, locks.all[held[count - 2].lock].class, place);
+}
+
+/* Whoever gives the lock back: it is its holder's no more. Who reads it gives back what it has of its own. */
+static void on_release(enum operation operation, uint32_t task, const struct unit *first)
+{
+    struct lock *lock = find_lock(&locks, first->value, operation == RECORD_RELEASE_OTHER);
+    if (!lock)
+        return;
+    note_release(operation, task, lock, place_numbered(HEAD_PLACE(first->head)));
+    if (operation == RECORD_CONDITION)
+        note_condition(task, lock, place_numbered(HEAD_PLACE(first->head)));
+    if (!lock->holder && lock->readers) {
         uint32_t reader = does_hold(task, &locks, lock) ? task : next_holder(0, &locks, lock);
         write_released(reader, lock, &locks);
-    } else if (lock->level > 1) {
+    } else if (lock->holder && lock->level > 1) {
         lock->level--;
         lock->undo = UNDO_LEVEL;
-    } else {
+    } else if (lock->holder) {
         write_released(lock->holder, lock, &locks);
         lock->undo = UNDO_HOLD;
     }
@@ -94,12 +123,19 @@ static void on_undo(uint64_t address)
     if (lock->undo == UNDO_HOLD && !lock->holder)
         write_got(taking_by(RECORD_TRY), lock->last_holder, &locks, lock, lock->last_place);
     lock->undo = UNDO_NOTHING;
+    take_back_misuse(lock->misuse);
+    lock->misuse = 0;
 }
 
-static void on_destroy(uint64_t address)
+/* A mutex that is held can't be destroyed; other locks, and those of C11, are all the same. */
+static void on_destroy(bool is_kept, const struct unit *first)
 {
-    struct lock *lock = find_lock(&locks, address, false);
-    if (lock)
+    struct lock *lock = find_lock(&locks, first->value, false);
+    if (!lock)
+        return;
+    if (lock->holder || lock->readers)
+        note_misuse(MISUSE_DESTROYED, lock->class, NULL, place_numbered(HEAD_PLACE(first->head)));
+    if (!is_kept)
         begin_lock(lock, NULL);
 }
 
@@ -127,7 +163,11 @@ static void step(const struct unit *first, uint32_t task)
         find_lock(&locks, value, true)->frames = first;
         break;
     case RECORD_DESTROY:
-        on_destroy(value);
+    case RECORD_KEPT:
+        on_destroy(operation == RECORD_KEPT, first);
+        break;
+    case RECORD_END:
+        end_task(task);
         break;
     case RECORD_ACQUIRE:
     case RECORD_TRY:
@@ -139,7 +179,10 @@ static void step(const struct unit *first, uint32_t task)
         on_got(operation, task, first);
         break;
     case RECORD_RELEASE:
-        on_release(task, value);
+    case RECORD_RELEASE_OTHER:
+    case RECORD_RELEASE_ANY:
+    case RECORD_CONDITION:
+        on_release(operation, task, first);
         break;
     case RECORD_UNDO:
         on_undo(value);
@@ -298,6 +341,7 @@ static void go_over(struct recording *all, size_t count, size_t which,
     }
     keep_starts(all, count, which, UINT64_MAX, is_kept);
     write_waits(all, count, which);
+    note_ended(&locks);
     end_writer();
     free_locks(&locks);
     free(modules.all);

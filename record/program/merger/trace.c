@@ -11,6 +11,7 @@ struct task {
     size_t held_room;
     unsigned written; /* how many locks the stream says that it holds */
     uint64_t trace;   /* the latest trace that it is in */
+    bool has_ended;   /* as far as is known */
 };
 
 static struct task *tasks;
@@ -229,6 +230,7 @@ void write_got(struct taking taking, uint32_t number, struct locks *locks, struc
     struct class *readers = taking.is_recursive ? readers_of(class) : class->readers;
     struct hold hold = {.lock = (uint32_t)(lock - locks->all), .place = place, .is_shared = taking.is_shared};
     hold.is_split = !taking.is_shared && readers;
+    task->has_ended = false;
     bool waits = taking.waits && !(taking.is_shared && taking.is_recursive);
     bool passes = taking.is_shared && taking.is_recursive && taking.waits && task->held_count > 0;
     make_room(locks, task, class, hold.is_split || passes ? readers : NULL);
@@ -279,6 +281,13 @@ static size_t find_hold(const struct task *task, uint32_t lock)
     return place;
 }
 
+/* Gives the place of the program where a task took a lock that it holds, or 0. */
+uint32_t place_of_hold(uint32_t task, const struct locks *locks, const struct lock *lock)
+{
+    size_t place = find_hold(task_at(task), (uint32_t)(lock - locks->all));
+    return place ? tasks[task].held[place - 1].place : 0;
+}
+
 bool does_hold(uint32_t task, const struct locks *locks, const struct lock *lock)
 {
     return find_hold(task_at(task), (uint32_t)(lock - locks->all)) > 0;
@@ -291,6 +300,22 @@ uint32_t next_holder(uint32_t task, const struct locks *locks, const struct lock
         if (does_hold(task, locks, lock))
             return task;
     return 0;
+}
+
+/* A task's thread ends. What it gives back behind that is given back. */
+void end_task(uint32_t task)
+{
+    task_at(task)->has_ended = true;
+}
+
+/* Notes what tasks hold whose threads have ended. */
+void note_ended(const struct locks *locks)
+{
+    for (size_t task = 0; task < task_count; task++)
+        for (size_t place = 0; tasks[task].has_ended && place < tasks[task].held_count; place++) {
+            const struct hold *hold = &tasks[task].held[place];
+            note_misuse(MISUSE_ENDED, locks->all[hold->lock].class, NULL, hold->place);
+        }
 }
 
 /* A task's latest hold of a lock ends. Mostly the latest locks are given back first. */

@@ -10,7 +10,7 @@
  * clean
  *
  * Not: acquire t2
- * Not: ended while
+ * Unsaid: ended while
  */
 #define _GNU_SOURCE
 #include <errno.h>
