@@ -1,7 +1,7 @@
 /*
  * Which calls led to a place, by what `.eh_frame` says of the frames of their functions. The rule of each place is
- * read once, so a frame is passed by two look-ups of memory. Where a rule is none of the plain ones, the calls around it
- * aren't known. On other processors than x86-64 none are.
+ * read once, so a frame is passed by two look-ups of memory. Where a rule is none of the plain ones, the calls around
+ * it aren't known. On other processors than x86-64 none are.
  */
 #define _GNU_SOURCE
 #include <dlfcn.h>
