@@ -327,15 +327,16 @@ def lower(locks, released):
     """Of the locks that are held above one that is released, lockdep has one less before each.
 
     What was taken back there isn't held any more: lockdep can't be about to take it up. Answers how many.
+    A lock that was itself taken back was none of those before the others.
     """
     above = locks.index(released) + 1
-    gone = 0
+    gone, less = 0, released.__class__ is not TakenBack
     for held in locks[above:]:
         if held.__class__ is TakenBack:
             locks.remove(held)
             gone += 1
         elif held.before is not None:
-            held.before -= 1
+            held.before -= less
     return gone
 
 

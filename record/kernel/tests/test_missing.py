@@ -97,6 +97,13 @@ class MissingReleases(unittest.TestCase):
         self.assertEqual(result.stream[-3:], ['acquire t-1 a@1000', 'release t-1 a@1000', 'acquire t-1 d@4000'])
         self.assertIn(MISSING % 1, result.errors)
 
+    def test_of_a_lock_of_the_scheduler_over_one_that_lockdep_had_not_taken_up(self):
+        # The task was preempted at the event of a; the release of b is missing.
+        self.assertEqual(
+            stream(acquire('a', A, before=0), acquire('b', B, before=0), release(A), acquire('c', C, before=0)),
+            ['acquire t-1 a@1000', 'release t-1 a@1000', 'acquire t-1 b@2000', 'release t-1 b@2000',
+             'acquire t-1 c@3000'])
+
     def test_handlers_tell_nothing_of_it(self):
         self.assertEqual(
             stream(acquire('a', A, before=0), acquire('b', B, before=0, columns='d.h..'))[:2],
