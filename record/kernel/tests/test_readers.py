@@ -1,7 +1,8 @@
 """How readers are told, by the table of docs/FORMAT.md: one test for each of its rows."""
 import unittest
+from unittest import mock
 
-from texts import acquire, release, run, stock, stream
+from texts import CONVERT, acquire, file_with, release, run, stock, stream
 from test_planted import report
 
 A, B, C, N = 0x1000, 0x2000, 0x3000, 0x4000  # addresses of locks
@@ -157,6 +158,25 @@ class LeftOut(unittest.TestCase):
         self.assertEqual(converted.stream[1:], ['acquire t-1 a@1000'])
         self.assertIn('left out: 2 acquisitions by readers, whose kind these events do not tell, 0 unchecked',
                       converted.errors)
+
+
+class FirstLook(unittest.TestCase):
+    """Which classes recursive readers wait for has to be known before the first line is written."""
+
+    TEXT = acquire('a', A, cpu=1) + acquire('b', B) + acquire('a', C, read=RECURSIVE)
+
+    def test_no_further_than_the_stream_goes(self):
+        with file_with('cpu1\ndropped events: 1\n') as name:
+            self.assertEqual(run(self.TEXT, '--stats', name).stream, ['trace kernel', 'acquire t-1 a@1000'])
+        with file_with('cpu0\ndropped events: 1\n') as name:
+            self.assertEqual(run(self.TEXT, '--stats', name).stream[:3],
+                             ['trace kernel', 'acquire t-1 a@1000', 'try t-1 a!read@1000'])
+
+    def test_in_blocks_of_any_size(self):
+        whole = run(self.TEXT).stream
+        for size in 1, 50, 130, 131, 200:
+            with mock.patch.object(CONVERT, 'BLOCK', size):
+                self.assertEqual(run(self.TEXT).stream, whole)
 
 
 class Names(unittest.TestCase):
