@@ -4,8 +4,8 @@ import hashlib
 import os
 import shutil
 
-from nights import COUNTS, REDUCED, Wrong, encoded, seconds_of, shown, whole
-from reducing import Counts, Failed, Faulty, count_traces, join_streams
+from nights import COUNTS, REDUCED, Wrong, encoded, is_counted, seconds_of, shown, whole
+from reducing import Counts, Failed, Faulty, join_streams, put_counts
 
 MIB = 1 << 20
 # A group is held in memory as it is reduced, and a stream has at most 2 GiB.
@@ -30,11 +30,9 @@ class Member:
 def members_of(night):
     """The reduced streams of a night, in the order of their names, and before them that of the night before. Those that
     are empty, of traces that show nothing, have nothing to be joined."""
-    paths = [
-        night.file("before"),
-        *(night.file("map", encoded(it)) for it, how in night.endings(night.names()).items() if how == REDUCED),
-    ]
-    found = [Member(it) for it in paths if os.path.exists(it + REDUCED)]
+    names = [it for it, how in night.endings(night.names()).items() if how == REDUCED]
+    before = [night.file("before")] if is_counted(night.file("before") + REDUCED) else []
+    found = [Member(it) for it in before + [night.file("map", encoded(it)) for it in names]]
     return [it for it in found if it.counts.size > 0]
 
 
@@ -91,7 +89,7 @@ class Tree:
         if len(group) == 1 and self.keeps:
             return group[0]
         target = self.night.file("join", name_of(group, self.keeps))
-        if not os.path.exists(target + REDUCED):
+        if not is_counted(target + REDUCED):
             try:
                 join_streams(reducer, target, [it.path for it in group], self.keeps)
             except Faulty as fault:
@@ -120,7 +118,6 @@ def keep_before(reducer, night, before):
         with open(trace, "rb") as source, whole(path + REDUCED, seconds_of(trace)) as out:
             if os.path.getsize(trace) > 0:
                 reducer.run(["-"], out, source=source)
-            with whole(path + COUNTS) as file:
-                file.write(Counts(0, count_traces(out.name), 0).text())
+            put_counts(path + COUNTS, out, 0)
     except (OSError, Faulty, Failed) as error:
         raise Wrong(f"{shown(trace)}: {error}") from None

@@ -88,16 +88,26 @@ def seconds_of(path):
         return None
 
 
+def is_counted(path):
+    """Whether a reduced stream is there with its counts. These aren't synced, so a machine that fails may lose them."""
+    try:
+        return os.path.exists(path) and os.path.getsize(path.removesuffix(REDUCED) + COUNTS) > 0
+    except OSError:
+        return False
+
+
 @contextlib.contextmanager
-def whole(path, time=None):
-    """A file to be written, which gets this name, and this time, once it is whole. Nothing is left of it otherwise,
-    unless the process is killed. A part that has gone was taken away since another process made the file."""
+def whole(path, time=None, is_synced=True):
+    """A file to be written, which gets this name, and this time, once it is whole, and on the disk unless it needn't
+    be. Nothing is left of it otherwise, unless the process is killed. A part that has gone was taken away since another
+    process made the file."""
     part = f"{path}%%{os.uname().nodename}.{os.getpid()}.{os.urandom(4).hex()}{PART}"
     try:
         with open(part, "wb") as file:
             yield file
             file.flush()
-            os.fsync(file.fileno())
+            if is_synced:
+                os.fsync(file.fileno())
         try:
             if time is not None:
                 os.utime(part, (time, time))
@@ -145,8 +155,9 @@ class Night:
         """`.reduced` or `.faulty` where that was made of the stream as it is, or of one that has gone, else None."""
         time = seconds_of(self.stream(name))
         for ending in (REDUCED, FAULTY):
-            made = seconds_of(self.result(name, ending))
-            if made is not None and time in (made, None):
+            path = self.result(name, ending)
+            made = seconds_of(path)
+            if made is not None and time in (made, None) and (ending == FAULTY or is_counted(path)):
                 return ending
         return None
 

@@ -6,7 +6,7 @@ import re
 import shutil
 import subprocess
 
-from nights import COUNTS, FAULTY, REDUCED, Wrong, is_regular, read, seconds_of, shown, whole
+from nights import COUNTS, FAULTY, REDUCED, Wrong, is_counted, is_regular, read, seconds_of, shown, whole
 
 ROOT = os.path.dirname(os.path.dirname(os.path.realpath(__file__)))
 # `lockgraph reduce` ends with 2 for each fault, and only these are the stream's own: what it lacks memory or room for,
@@ -154,7 +154,7 @@ def word_of(name):
 
 def put_counts(path, out, refused):
     """Writes how many traces a reduced stream has. They get their name before the stream does."""
-    with whole(path) as file:
+    with whole(path, is_synced=False) as file:
         file.write(Counts(0, count_traces(out.name), refused).text())
 
 
@@ -172,5 +172,5 @@ def join_streams(reducer, target, paths, keeps_refused):
             refused = sum(Counts.of(it).refused for it in paths) if keeps_refused else 0
             put_counts(target + COUNTS, out, refused)
     except OSError as error:
-        if not os.path.exists(target + REDUCED):
+        if not is_counted(target + REDUCED):
             raise Failed(f"{shown(error.filename or target)}: {error.strerror}") from None

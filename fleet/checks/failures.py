@@ -112,6 +112,18 @@ def check_killed(room, _count):
     must_be_same(room.path("alone"), room.path("poisoned"), "killed")
 
 
+def check_lost(room, _count):
+    """A machine that fails may lose what wasn't synced, which are the counts alone: the stream is reduced again."""
+    streams = made(room, "streams", SMALL)
+    night(streams, room.path("alone"), status=1)
+    night(streams, room.path("night"), status=1)
+    room.write(f"night/map/rack4%2F{os.path.basename(planted.path(9))}.counts", "")
+    os.unlink(room.path("night", "map", f"rack1%2F{os.path.basename(planted.path(21))}.counts"))
+    said = night(streams, room.path("night"), status=1, line=planted.summary(SMALL))
+    must("40 streams, 2 of them to be reduced" in said, f"lost: another number of streams is reduced:\n{said}")
+    must_be_same(room.path("alone"), room.path("night"), "lost")
+
+
 def check_full(room, _count):
     """A full disk loses nothing, and is told; with more room the same call goes on."""
     streams = made(room, "streams", SMALL)

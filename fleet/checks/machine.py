@@ -118,6 +118,7 @@ def hostile_names():
         b"--help.trace",
         b"sub/x.trace",
         b"sub%2Fx.trace",
+        b"other/x.trace",
         b"\xff.trace",
         b"'quote\".trace",
         b"$(touch here);`touch here`.trace",
