@@ -120,7 +120,7 @@ def check_lost(room, _count):
     room.write(f"night/map/rack4%2F{os.path.basename(planted.path(9))}.counts", "")
     os.unlink(room.path("night", "map", f"rack1%2F{os.path.basename(planted.path(21))}.counts"))
     said = night(streams, room.path("night"), status=1, line=planted.summary(SMALL))
-    must("40 streams, 2 of them to be reduced" in said, f"lost: another number of streams is reduced:\n{said}")
+    must(f"{SMALL} streams, 2 of them to be reduced" in said, f"lost: another number of streams is reduced:\n{said}")
     must_be_same(room.path("alone"), room.path("night"), "lost")
 
 

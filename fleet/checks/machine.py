@@ -8,7 +8,8 @@ import subprocess
 import planted
 from rooms import MARK, call, fleet, marked, must, must_be_same, night, parts_in, program, read, until
 
-SMALL = 40
+# So many streams have one at least of each kind.
+SMALL = 31
 
 
 def made(room, name, count):
@@ -177,7 +178,7 @@ def check_two(room, _count):
     """Two calls at once make the same, and leave nothing else."""
     streams = made(room, "streams", SMALL)
     night(streams, room.path("alone"), status=1)
-    for turn in range(3):
+    for turn in range(2):
         both = [
             subprocess.Popen(
                 [fleet("night"), streams, room.path(f"both{turn}")], stdout=subprocess.PIPE, stderr=subprocess.PIPE
