@@ -7,6 +7,11 @@ __lockcheck_files() {
     COMPREPLY=($(compgen -f -- "$1"))
 }
 
+# The options of a script that a word follows, by its help.
+__lockcheck_valued() {
+    "$1" --help 2>/dev/null | sed -nE 's/^ +(--?[a-z-]+) [A-Z].*/\1/p'
+}
+
 # The options that the help of a script names. A script answers at once; a program may not be built yet.
 __lockcheck_help() {
     "$1" --help 2>/dev/null | grep -oE -- '(^|[ ,])--?[a-z][a-z-]*' | tr -d ' ,' | sort -u
@@ -48,14 +53,14 @@ _lockgraph() {
 # A script whose options are those of its help: the recorder of programs, which begins with options and goes on with
 # a program and its arguments, and the converter.
 _lockcheck_script() {
-    local word=${COMP_WORDS[COMP_CWORD]} at=1
+    local word=${COMP_WORDS[COMP_CWORD]} at=1 valued
     case $1 in
         *convert) at=$COMP_CWORD ;;
         *)
+            valued=" $(__lockcheck_valued "$1" | tr '\n' ' ')"
             while [ "$at" -lt "$COMP_CWORD" ]; do
                 case ${COMP_WORDS[at]} in
-                    -o | --label | --through) at=$((at + 2)) ;;
-                    -*) at=$((at + 1)) ;;
+                    -*) case $valued in *" ${COMP_WORDS[at]} "*) at=$((at + 1)) ;; esac; at=$((at + 1)) ;;
                     *) break ;;
                 esac
             done
