@@ -50,7 +50,7 @@ static inline struct stuck *begin_stuck(void (*work)(void))
 
 static inline char state_of(const struct stuck *stuck)
 {
-    char path[64], name[64], state;
+    char path[64], name[64], state = '?';
     snprintf(path, sizeof path, "/proc/self/task/%d/stat", stuck->thread);
     FILE *file = fopen(path, "r");
     must(file && fscanf(file, "%*d %63s %c", name, &state) == 2);
