@@ -106,23 +106,27 @@ def one_line(said):
 
 
 def reduce_stream(reducer, night, name):
-    """Makes the result of a stream: what is left of it, or what is wrong with it. `Failed` where it may be tried again;
-    then there is none."""
-    path = night.stream(name)
+    """Makes the result of a stream. `Failed` where that may be tried again; then there is none."""
+    time = seconds_of(night.stream(name))
     try:
-        time = seconds_of(path)
-        if time is not None and not is_regular(path):
+        keep_result(reducer, night, name, time)
+    except OSError as error:
+        # Another process may have made the result, and taken the part of this one away.
+        if night.ending(name) is None:
+            raise Failed(f"{shown(error.filename or name)}: {error.strerror}") from None
+    if seconds_of(night.stream(name)) != time:
+        raise Failed(f"{shown(name)}: it was written to meanwhile")
+
+
+def keep_result(reducer, night, name, time):
+    """Makes what is left of a stream, or else what is wrong with it."""
+    try:
+        if time is not None and not is_regular(night.stream(name)):
             raise Faulty(f"{shown(name)}: not a regular file")
         keep_stream(reducer, night, name, time)
     except Faulty as fault:
         with whole(night.result(name, FAULTY), time) as file:
             file.write(f"{fault}\n".encode())
-    except OSError as error:
-        # Another process may have made the result, and taken the part of this one away.
-        if night.ending(name) is None:
-            raise Failed(f"{shown(error.filename or name)}: {error.strerror}") from None
-    if seconds_of(path) != time:
-        raise Failed(f"{shown(name)}: it was written to meanwhile")
 
 
 def keep_stream(reducer, night, name, time):

@@ -128,6 +128,12 @@ def check_full(room, _count):
     """A full disk loses nothing, and is told; with more room the same call goes on."""
     streams = made(room, "streams", SMALL)
     night(streams, room.path("alone"), status=1)
+    # No file may have a byte: then not even a fault can be noted.
+    names = [planted.path(0), planted.path(planted.FAULTY)]
+    words = [fleet("map"), "--folder", streams, room.path("none"), *names]
+    none = call("sh", "-c", 'ulimit -f 0; exec "$@"', "sh", *words)
+    must(none.returncode == 1 and b"2 of 2 streams are left" in none.stderr, f"full: {none.stderr.decode()}")
+    must(os.listdir(room.path("none", "map")) == [], "full: something is left where nothing can be")
     # No file may have more than 4 KiB.
     limited = call("sh", "-c", 'ulimit -f 8; exec "$@"', "sh", fleet("night"), streams, room.path("limited"))
     must(limited.returncode == 2, f"full: status {limited.returncode}: {limited.stderr.decode()}")
