@@ -101,7 +101,8 @@ static uint32_t number_of_text(const char *text, uint32_t plain)
     uint32_t *slot = slot_of_place(text);
     if (*slot == 0) {
         places = grown(places, place_count, &place_room, sizeof *places);
-        places[place_count++] = (struct line){must(strdup(text)), plain ? plain : (uint32_t)place_count, false, false};
+        uint32_t number = (uint32_t)place_count + 1;
+        places[place_count++] = (struct line){must(strdup(text)), plain ? plain : number, false, false};
         *slot = (uint32_t)place_count;
     }
     return *slot;
