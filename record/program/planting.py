@@ -3,6 +3,7 @@
 import os
 import re
 import shlex
+import shutil
 import subprocess
 
 HERE = os.path.dirname(os.path.realpath(__file__))
@@ -15,6 +16,7 @@ COMPILERS = {
     ".c": [*shlex.split(os.environ.get("CC", "cc")), "-std=gnu11"],
     ".cc": [*shlex.split(os.environ.get("CXX", "c++")), "-std=gnu++17"],
 }
+CLANG = {".c": ["clang", "-std=gnu11"], ".cc": ["clang++", "-std=gnu++17"]}
 FLAGS = ["-g", "-Wall", "-Wextra", "-Werror", "-pthread"]
 SAYS = "record/program/run: "
 
@@ -56,6 +58,12 @@ def lockcheck(text):
                           check=False)
 
 
+def has_clang():
+    """Whether clang is there beside the compilers that are set."""
+    set_here = {words[0] for words in COMPILERS.values()}
+    return all(map(shutil.which, ("clang", "clang++"))) and not set_here & {"clang", "clang++"}
+
+
 class Planted:
     """A planted program and what its comment claims."""
 
@@ -66,6 +74,8 @@ class Planted:
             comment = source.read().partition("*/")[0]
         lines = [line.removeprefix(" *").strip() for line in comment.splitlines()]
         self.flags = self.values(lines, "Flags: ") or ["-O0"]
+        by_clang = has_clang() and not self.values(lines, "Not by clang: ")
+        self.compilers = [COMPILERS, CLANG] if by_clang else [COMPILERS]
         self.options = " ".join(self.values(lines, "Options: ")).split()
         self.runs = self.values(lines, "Run: ") or [""]
         self.says = self.values(lines, "Says: ")
@@ -79,8 +89,9 @@ class Planted:
         end = lines.index("", start) if "" in lines[start:] else len(lines)
         self.report = "\n".join(lines[start:end]) + "\n"
 
-    def compile(self, flags, target):
-        answer = call([*COMPILERS[self.kind], *FLAGS, *flags, "-o", target, self.source])
+    def compile(self, flags, target, compilers=None):
+        words = (compilers or COMPILERS)[self.kind]
+        answer = call([*words, *FLAGS, *flags, "-o", target, self.source])
         must(answer.returncode == 0, f"{self.name} {flags}: {answer.stderr}")
 
     @staticmethod
