@@ -2,7 +2,6 @@
  * Locks that are taken through guards of the standard library: by two guards at one line each, by one guard
  * from frames that lie elsewhere each time, and the same once more in a child of a fork. Each line counts
  * what it took.
- *
  * Not by clang: at -O2 it puts the functions into main, and addr2line names main alone
  * Flags: -O0
  * Flags: -O2
@@ -11,11 +10,11 @@
  * traces 2 refused 0 events 90 classes 2 dependencies 1
  * clean
  *
- * Taken: 9 guards:first deeper(int) guards.cc:32
- * Taken: 9 guards:first rounds() guards.cc:39
- * Taken: 9 guards:second rounds() guards.cc:40
- * Taken: 9 guards:first rounds() guards.cc:43
- * Taken: 9 guards:second rounds() guards.cc:44
+ * Taken: 9 guards:first deeper(int) guards.cc:31
+ * Taken: 9 guards:first rounds() guards.cc:38
+ * Taken: 9 guards:second rounds() guards.cc:39
+ * Taken: 9 guards:first rounds() guards.cc:42
+ * Taken: 9 guards:second rounds() guards.cc:43
  */
 #include <mutex>
 #include <sys/wait.h>

@@ -1,7 +1,6 @@
 /*
  * A function of C in a program of C++ makes the locks, and the compiler puts it into its two callers: of
  * such a function `addr2line` may say the caller's name. The class is one, and has no wrong name.
- *
  * Not by clang: at -O2 addr2line names the caller of a C function that was put into C++
  * Flags: -O0
  * Flags: -O2

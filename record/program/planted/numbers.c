@@ -3,7 +3,6 @@
  * has its number by the places that the code has, and not by those that the run came to: so the lock of the second
  * place, which is taken after the table in one run and before it in another, is of one class. The locks of one line
  * are of two, and to take one of them under the other is no recursion.
- *
  * Not by clang: at -O2 it makes one call of the two on a line
  * Flags: -O0
  * Flags: -O2
