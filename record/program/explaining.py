@@ -198,7 +198,7 @@ def check_explain_ends(directory):
     reader, writer = os.pipe()
     os.close(reader)
     answer = subprocess.run([EXPLAIN, report, report], stdout=writer, stderr=subprocess.PIPE,
-                            timeout=120, check=False)
+                            timeout=600, check=False)
     os.close(writer)
     must((answer.returncode, answer.stderr) == (-signal.SIGPIPE, b""),
          f"explain to nobody: {answer.returncode} {answer.stderr}")

@@ -31,7 +31,7 @@ def must(holds, text):
 
 
 def call(command, **settings):
-    return subprocess.run(command, capture_output=True, text=True, timeout=120, check=False,
+    return subprocess.run(command, capture_output=True, text=True, timeout=600, check=False,
                           **settings)
 
 
@@ -54,7 +54,7 @@ def record(stream, label, command, options=(), **settings):
 
 
 def lockcheck(text):
-    return subprocess.run([LOCKCHECK], input=text, capture_output=True, text=True, timeout=120,
+    return subprocess.run([LOCKCHECK], input=text, capture_output=True, text=True, timeout=600,
                           check=False)
 
 
