@@ -75,15 +75,6 @@ class Task:
         self.kept = 0        # how many locks the stream has it hold
 
 
-def forget(self):
-        """As a task is at the begin of a trace: outside handlers, both flags on, nothing held."""
-        self.context = None  # the one that frames and flags were last made to agree with
-        self.kinds = ()      # of the handlers that run, the outer one first
-        self.frames = [Frame(None, True, True)]
-        self.held = []
-        self.kept = 0        # how many locks the stream has it hold
-
-
 class Nesting:
     """How the locks of a class were acquired one under another."""
 
