@@ -4,6 +4,7 @@ import os
 import shutil
 import signal
 
+from building import HERE, OUT
 from planting import SAYS, call, must, record, said
 
 NO_LOCK = SAYS + "no process took a lock that the recorder sees: no report on the stream says anything\n"
@@ -83,3 +84,84 @@ def check_no_lock(directory):
         notes = said(record(stream, "valgrind", ["valgrind", "-q", inversion]))
         must("ran under valgrind, and the recorder can't\n" in notes and NO_LOCK in notes,
              f"valgrind: {notes}")
+
+
+# A compiler that says the version in VERSION, counts in `built` what it builds, and makes what is built already.
+COMPILER = """\
+#!/bin/sh
+[ "$1" = --version ] && exec cat VERSION
+for target; do :; done
+echo "$target" >>VERSION.built
+case $target in *merge.*) exec cp OUT/merge "$target" ;; esac
+exec cp OUT/liblockrecord.so "$target"
+"""
+
+
+def copy_of_recorder(directory):
+    """Copies what `run` needs into a folder of its own, and gives the copy of `run`."""
+    folder = os.path.join(directory, "copied")
+    os.mkdir(folder)
+    for name in ("run", "building.py"):
+        shutil.copy(os.path.join(HERE, name), folder)
+    for name in ("library", "merger"):
+        shutil.copytree(os.path.join(HERE, name), os.path.join(folder, name))
+    return os.path.join(folder, "run")
+
+
+def replace(path, old, new):
+    with open(path, encoding="utf-8") as file:
+        text = file.read()
+    must(old in text, f"{path} has no {old}")
+    with open(path, "w", encoding="utf-8") as file:
+        file.write(text.replace(old, new))
+
+
+def check_makers(directory):
+    """The library and the merger are built anew by another compiler, another version of it or with other flags, and
+    not else. What came without a note of its maker stays, and so does all if the compiler can't be asked."""
+    run = copy_of_recorder(directory)
+    folder, compiler = os.path.dirname(run), os.path.join(directory, "compiler")
+    version, other = os.path.join(directory, "version"), os.path.join(directory, "other")
+    for path, text in ((version, "one"), (version + ".built", ""),
+                       (compiler, COMPILER.replace("VERSION", version).replace("OUT", OUT))):
+        with open(path, "w", encoding="utf-8") as file:
+            file.write(text)
+    os.chmod(compiler, 0o755)
+    os.symlink(compiler, other)
+
+    def built_by(words):
+        """How many files `run` builds where the compiler is set to these words."""
+        with open(version + ".built", encoding="utf-8") as lines:
+            before = len(lines.readlines())
+        answer = call([run, "-o", os.path.join(directory, "made.trace"), "true"], env=os.environ | {"CC": words})
+        must(answer.returncode == 0, f"{words}: {answer.stderr}")
+        with open(version + ".built", encoding="utf-8") as lines:
+            return len(lines.readlines()) - before
+
+    def forget_makers():
+        for name in ("liblockrecord.so", "merge"):
+            os.unlink(os.path.join(folder, "out", name + ".made"))
+
+    for change, words, expected in (
+            (lambda: None, compiler, 2),
+            (lambda: None, compiler, 0),
+            (lambda: replace(version, "one", "two"), compiler, 2),
+            (lambda: None, other, 2),
+            (lambda: replace(os.path.join(folder, "building.py"), "-gdwarf-4", "-gdwarf-5"), other, 1),
+            (lambda: None, "false", 0),
+            (forget_makers, compiler, 0),
+            (lambda: os.utime(os.path.join(folder, "merger", "merge.c")), compiler, 1)):
+        change()
+        count = built_by(words)
+        must(count == expected, f"makers: {count} files were built, and not {expected}")
+
+
+def check_valgrind_by_clang(directory):
+    """A recorder that clang built says that a program ran under valgrind, too."""
+    if not shutil.which("clang") or not shutil.which("valgrind"):
+        return
+    run = os.path.join(directory, "copied", "run")
+    inversion = os.path.join(directory, "inversion-0", "inversion")
+    answer = call([run, "-o", os.path.join(directory, "clang.trace"), "valgrind", "-q", inversion],
+                  env=os.environ | {"CC": "clang"})
+    must("ran under valgrind, and the recorder can't\n" in answer.stderr, f"valgrind, by clang: {answer.stderr}")
