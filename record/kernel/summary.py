@@ -23,6 +23,18 @@ def summary(events, output, number, options):
             counts['reads'], counts['recursive reads'], len(events.sites.recursive))
     yield 'dropped: %d releases that were never seen acquired, %d events in NMI context, %d other events' % (
         counts['unseen'], counts['in NMI'], counts['other events'])
+    yield from doubts(counts, stream)
+    entries, told = number - events.asides, events.header.entries
+    if told is not None and told > entries:
+        yield "the text's header tells of %d events, and %d were read" % (told, entries)
+    if options.cut is not None and stream.trace >= MOST_CUTS:
+        yield 'the stream has %d traces: --cut ended none after that' % MOST_CUTS
+    yield from ending(events.tasks.values())
+    yield from precision(events, options)
+
+
+def doubts(counts, stream):
+    """Where the stream may say another order than there was, or less."""
     if counts['losses']:
         yield 'events are missing at %d places: nothing is held after each' % counts['losses']
     if counts['moves at one time']:
@@ -42,13 +54,6 @@ def summary(events, output, number, options):
         yield '%d trylocks of a subclass: a class NAME!N of its own' % counts['tried subclasses']
     if stream.too_deep:
         yield '%d acquisitions by tasks that held %d locks already were left out' % (stream.too_deep, MOST_HELD)
-    entries, told = number - events.asides, events.header.entries
-    if told is not None and told > entries:
-        yield "the text's header tells of %d events, and %d were read" % (told, entries)
-    if options.cut is not None and stream.trace >= MOST_CUTS:
-        yield 'the stream has %d traces: --cut ended none after that' % MOST_CUTS
-    yield from ending(events.tasks.values())
-    yield from precision(events, options)
 
 
 def precision(events, options):

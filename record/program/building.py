@@ -15,7 +15,7 @@ LIBRARY_FLAGS = (
     f"-std=gnu11 -O2 -gdwarf-4 {WARNINGS} -fPIC -shared -fvisibility=hidden "
     "-fno-optimize-sibling-calls -static-libgcc -Wl,-z,now -Wl,-Bsymbolic"
 )
-MERGER_FLAGS = f"-std=gnu11 -O2 -gdwarf-4 {WARNINGS}"
+MERGER_FLAGS = f"-std=gnu11 -O2 -g {WARNINGS}"
 
 
 class NotBuilt(Exception):

@@ -116,6 +116,16 @@ def replace(path, old, new):
         file.write(text.replace(old, new))
 
 
+def built_by(run, log, compiler):
+    """How many files `run` builds where this compiler is set, which notes each in a log."""
+    with open(log, encoding="utf-8") as lines:
+        before = len(lines.readlines())
+    answer = call([run, "-o", log + ".trace", "true"], env=os.environ | {"CC": compiler})
+    must(answer.returncode == 0, f"{compiler}: {answer.stderr}")
+    with open(log, encoding="utf-8") as lines:
+        return len(lines.readlines()) - before
+
+
 def check_makers(directory):
     """The library and the merger are built anew by another compiler, another version of it or with other flags, and
     not else. What came without a note of its maker stays, and so does all if the compiler can't be asked."""
@@ -128,15 +138,6 @@ def check_makers(directory):
             file.write(text)
     os.chmod(compiler, 0o755)
     os.symlink(compiler, other)
-
-    def built_by(words):
-        """How many files `run` builds where the compiler is set to these words."""
-        with open(version + ".built", encoding="utf-8") as lines:
-            before = len(lines.readlines())
-        answer = call([run, "-o", os.path.join(directory, "made.trace"), "true"], env=os.environ | {"CC": words})
-        must(answer.returncode == 0, f"{words}: {answer.stderr}")
-        with open(version + ".built", encoding="utf-8") as lines:
-            return len(lines.readlines()) - before
 
     def forget_makers():
         for name in ("liblockrecord.so", "merge"):
@@ -152,7 +153,7 @@ def check_makers(directory):
             (forget_makers, compiler, 0),
             (lambda: os.utime(os.path.join(folder, "merger", "merge.c")), compiler, 1)):
         change()
-        count = built_by(words)
+        count = built_by(run, version + ".built", words)
         must(count == expected, f"makers: {count} files were built, and not {expected}")
 
 

@@ -121,6 +121,27 @@ static bool is_file(FILE *file)
     return fstat(fileno(file), &status) == 0 && S_ISREG(status.st_mode);
 }
 
+/* Gives how long the stream is, or -1 if it isn't whole. */
+static int64_t close_stream(const char *path)
+{
+    int64_t bytes = ftello(stream);
+    bool whole = !ferror(stream);
+    if (fclose(stream) == 0 && whole)
+        return bytes;
+    say("%s: the stream couldn't be written", path);
+    return -1;
+}
+
+static void say_all(const struct recording *all, size_t count, const char *path, int64_t bytes)
+{
+    say_ends(all, count);
+    say_limits(bytes);
+    say_classes();
+    say_misuse();
+    say("%s: %" PRIu64 " events, %zu classes, %zu processes, %" PRIu64 " traces", path, totals.events,
+        class_count(), count, totals.traces);
+}
+
 int main(int argument_count, char **arguments)
 {
     struct recording *all;
@@ -146,19 +167,11 @@ int main(int argument_count, char **arguments)
     find_frames();
     bool has_places = wants_places && open_places(arguments[1]);
     replay_all(all, count, arguments[3]);
-    int64_t bytes = ftello(stream);
-    bool whole = !ferror(stream);
-    if (fclose(stream) != 0 || !whole) {
-        say("%s: the stream couldn't be written", arguments[2]);
+    int64_t bytes = close_stream(arguments[2]);
+    if (bytes < 0)
         return NOT_WRITTEN;
-    }
     if (!(wants_places ? has_places && close_places(arguments[2]) : remove_places(arguments[2])))
         say("%s.places couldn't be %s", arguments[2], wants_places ? "written" : "removed");
-    say_ends(all, count);
-    say_limits(bytes);
-    say_classes();
-    say_misuse();
-    say("%s: %" PRIu64 " events, %zu classes, %zu processes, %" PRIu64 " traces", arguments[2],
-        totals.events, class_count(), count, totals.traces);
+    say_all(all, count, arguments[2], bytes);
     return WRITTEN;
 }

@@ -139,35 +139,60 @@ static void on_destroy(bool is_kept, const struct unit *first)
         begin_lock(lock, NULL);
 }
 
-static void step(const struct unit *first, uint32_t task)
+/* Takes what a record tells of modules, of places and of where locks begin. Answers whether it tells that. */
+static bool take_told(enum operation operation, const struct unit *first)
 {
-    uint64_t value = first->value;
     unsigned following = HEAD_FOLLOWING(first->head);
-    enum operation operation = HEAD_OPERATION(first->head);
     switch (operation) {
     case RECORD_MODULE:
         add_module(&modules, first, following);
-        break;
+        return true;
     case RECORD_INIT:
-        begin_lock(find_lock(&locks, value, true),
-                   class_of_init(&modules, first, following));
-        break;
+        begin_lock(find_lock(&locks, first->value, true), class_of_init(&modules, first, following));
+        return true;
     case RECORD_FIRST:
-        on_first(value, first, following);
-        break;
+        on_first(first->value, first, following);
+        return true;
     case RECORD_PLACE:
         if (following)
             add_place(&modules, first);
-        break;
+        return true;
     case RECORD_FRAMES:
-        find_lock(&locks, value, true)->frames = first;
-        break;
+        find_lock(&locks, first->value, true)->frames = first;
+        return true;
+    default:
+        return false;
+    }
+}
+
+/* Notes where a task begins and ceases to wait, and where it ends. Answers whether a record is one of these. */
+static bool take_wait(enum operation operation, const struct unit *first, uint32_t task)
+{
+    switch (operation) {
+    case RECORD_WAIT:
+    case RECORD_WAIT_READ:
+        begin_wait(task, first);
+        return true;
+    case RECORD_GIVE_UP:
+        end_wait(task, first->value);
+        return true;
+    case RECORD_END:
+        end_task(task);
+        return true;
+    default:
+        return false;
+    }
+}
+
+static void step(const struct unit *first, uint32_t task)
+{
+    enum operation operation = HEAD_OPERATION(first->head);
+    if (take_told(operation, first) || take_wait(operation, first, task))
+        return;
+    switch (operation) {
     case RECORD_DESTROY:
     case RECORD_KEPT:
         on_destroy(operation == RECORD_KEPT, first);
-        break;
-    case RECORD_END:
-        end_task(task);
         break;
     case RECORD_ACQUIRE:
     case RECORD_TRY:
@@ -185,14 +210,7 @@ static void step(const struct unit *first, uint32_t task)
         on_release(operation, task, first);
         break;
     case RECORD_UNDO:
-        on_undo(value);
-        break;
-    case RECORD_WAIT:
-    case RECORD_WAIT_READ:
-        begin_wait(task, first);
-        break;
-    case RECORD_GIVE_UP:
-        end_wait(task, value);
+        on_undo(first->value);
         break;
     default:
         totals.damaged++;
