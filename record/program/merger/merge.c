@@ -1,9 +1,9 @@
 /*
- * merge [--cut N] [--instances] DIRECTORY STREAM LABEL PLACES [FUNCTION ..]: puts the files of a recording
- * together as one stream of traces, and says on standard error how much it was. An empty LABEL is each program's
- * name. With 1 for PLACES the places at which locks were taken go to STREAM.places. The functions are those
- * through which the program makes its locks. The status is 0 where the stream was
- * written, 1 where no process was recorded.
+ * merge [--cut N] [--callers N] [--instances] DIRECTORY STREAM LABEL PLACES [FUNCTION ..]: puts the files of a
+ * recording together as one stream of traces, and says on standard error how much it was. An empty LABEL is each
+ * program's name. With 1 for PLACES the places at which locks were taken go to STREAM.places, each with as many
+ * callers as are wanted. The functions are those through which the program makes its locks. The status is 0 if the
+ * stream was written, 1 if no process was recorded.
  */
 #define _GNU_SOURCE
 #include <errno.h>

@@ -196,8 +196,11 @@ struct totals {
     uint64_t damaged;
 };
 
+#define MOST_CALLERS 3
+
 struct settings {
     uint64_t cut;       /* lines after which a new trace begins, or 0 */
+    uint64_t callers;   /* how many calls that led to a place are said, at most MOST_CALLERS */
     bool has_instances; /* each lock is a class of its own */
 };
 

@@ -12,7 +12,6 @@
 #include "merger.h"
 
 #define TEXT_BYTES 16384
-#define MOST_CALLERS 3
 
 struct told {
     uint64_t address;
@@ -130,7 +129,7 @@ void add_place(const struct modules *modules, const struct unit *first)
     uint64_t calls[MOST_INSIDE];
     struct call found[1 + MOST_CALLERS];
     unsigned count = take_up(first, calls);
-    size_t known = telling_calls(modules, calls, count, found, 1 + MOST_CALLERS);
+    size_t known = telling_calls(modules, calls, count, found, 1 + settings.callers);
     if (known == 0)
         return;
     text[0] = 0;

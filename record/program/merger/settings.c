@@ -4,12 +4,13 @@
 
 #include "merger.h"
 
-struct settings settings;
+struct settings settings = {.callers = MOST_CALLERS};
 
 /* Takes the words that begin with `--`, and gives the number of the first that doesn't, or 0 where one isn't known. */
 int read_settings(int count, char **words)
 {
     static const struct option options[] = {
+        {"callers", required_argument, NULL, 'n'},
         {"cut", required_argument, NULL, 'c'},
         {"instances", no_argument, NULL, 'i'},
         {NULL, 0, NULL, 0},
@@ -18,10 +19,14 @@ int read_settings(int count, char **words)
     while ((option = getopt_long(count, words, "+", options, NULL)) != -1) {
         if (option == 'c')
             settings.cut = strtoull(optarg, NULL, 10);
+        else if (option == 'n')
+            settings.callers = strtoull(optarg, NULL, 10);
         else if (option == 'i')
             settings.has_instances = true;
         else
             return 0;
     }
+    if (settings.callers > MOST_CALLERS)
+        settings.callers = MOST_CALLERS;
     return optind;
 }
