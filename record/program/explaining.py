@@ -114,8 +114,8 @@ def explained(directory, name, flags=None):
     planted = Planted(name)
     program = os.path.join(directory, f"{planted.name}-0", planted.name)
     if flags:
-        program = os.path.join(directory, "explained", planted.name)
-        os.makedirs(os.path.dirname(program), exist_ok=True)
+        program = os.path.join(directory, f"explained-{name}" + "".join(flags), planted.name)
+        os.makedirs(os.path.dirname(program))
         planted.compile(flags, program)
         record(program + ".trace", planted.name, [program])
     with open(program + ".trace", encoding="ascii") as stream, \

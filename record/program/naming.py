@@ -41,23 +41,23 @@ def compilers():
     return [COMPILERS[".c"][0]] + [name for name in ("clang",) if shutil.which(name)]
 
 
-def check_comments(directory):
-    """A class keeps its name where lines are put before it, in its function or above."""
-    old, new = os.path.join(directory, "before"), os.path.join(directory, "after")
+def check_comments(name, directory):
+    """The classes of a planted program keep their names where lines are put before them, in their functions or
+    above."""
+    old, new = os.path.join(directory, f"{name}-before"), os.path.join(directory, f"{name}-after")
     for place in (old, new):
         os.mkdir(place)
-    for name in ("conns", "loop", "maker", "numbers", "tails"):
-        planted, changed = Planted(f"{name}.c"), Planted(f"{name}.c")
-        changed.source = os.path.join(new, f"{name}.c")
-        with_comments(planted.source, changed.source)
-        for compiler in compilers():
-            for flags in (["-O0"], ["-O2"]):
-                names = [names_of(os.path.join(place, name), program, flags, compiler)
-                         for place, program in ((old, planted), (new, changed))]
-                # What a compiler made of several calls has no line, and goes by its address.
-                names = [{name for name in some if "+0x" not in name} for some in names]
-                must(names[0] == names[1] and names[0],
-                     f"{name} {compiler} {flags}: classes are {names[1]} and before {names[0]}")
+    planted, changed = Planted(f"{name}.c"), Planted(f"{name}.c")
+    changed.source = os.path.join(new, f"{name}.c")
+    with_comments(planted.source, changed.source)
+    for compiler in compilers():
+        for flags in (["-O0"], ["-O2"]):
+            names = [names_of(os.path.join(place, name), program, flags, compiler)
+                     for place, program in ((old, planted), (new, changed))]
+            # What a compiler made of several calls has no line, and goes by its address.
+            names = [{name for name in some if "+0x" not in name} for some in names]
+            must(names[0] == names[1] and names[0],
+                 f"{name} {compiler} {flags}: classes are {names[1]} and before {names[0]}")
 
 
 def check_links(directory):
@@ -113,11 +113,3 @@ def check_single_locks(directory):
     circle = dict(zip(cells, cells[1:] + cells[:1]))
     found = {tuple(line.split()[1:4:2]) for line in report if line.startswith("inversion ")}
     must(found == set(circle.items()) and report[-1] == "violations 3", f"--instances: {report}")
-
-
-def check_naming(directory):
-    check_labels(directory)
-    check_single_locks(directory)
-    check_comments(directory)
-    check_links(directory)
-    check_versions(directory)

@@ -73,7 +73,7 @@ class Planted:
         with open(self.source, encoding="ascii") as source:
             comment = source.read().partition("*/")[0]
         lines = [line.removeprefix(" *").strip() for line in comment.splitlines()]
-        self.flags = self.values(lines, "Flags: ") or ["-O0"]
+        self.flags = self.values(lines, "Flags: ") or ["-O0", "-O2"]
         by_clang = has_clang() and not self.values(lines, "Not by clang: ")
         self.compilers = [COMPILERS, CLANG] if by_clang else [COMPILERS]
         self.options = " ".join(self.values(lines, "Options: ")).split()

@@ -97,9 +97,8 @@ exec cp OUT/liblockrecord.so "$target"
 """
 
 
-def copy_of_recorder(directory):
-    """Copies what `run` needs into a folder of its own, and gives the copy of `run`."""
-    folder = os.path.join(directory, "copied")
+def copy_of_recorder(folder):
+    """Copies what `run` needs into a new folder, and gives the copy of `run`."""
     os.mkdir(folder)
     for name in ("run", "building.py"):
         shutil.copy(os.path.join(HERE, name), folder)
@@ -129,7 +128,7 @@ def built_by(run, log, compiler):
 def check_makers(directory):
     """The library and the merger are built anew by another compiler, another version of it or with other flags, and
     not else. What came without a note of its maker stays, and so does all if the compiler can't be asked."""
-    run = copy_of_recorder(directory)
+    run = copy_of_recorder(os.path.join(directory, "by-makers"))
     folder, compiler = os.path.dirname(run), os.path.join(directory, "compiler")
     version, other = os.path.join(directory, "version"), os.path.join(directory, "other")
     for path, text in ((version, "one"), (version + ".built", ""),
@@ -161,7 +160,7 @@ def check_valgrind_by_clang(directory):
     """A recorder that clang built says that a program ran under valgrind, too."""
     if not shutil.which("clang") or not shutil.which("valgrind"):
         return
-    run = os.path.join(directory, "copied", "run")
+    run = copy_of_recorder(os.path.join(directory, "by-clang"))
     inversion = os.path.join(directory, "inversion-0", "inversion")
     answer = call([run, "-o", os.path.join(directory, "clang.trace"), "valgrind", "-q", inversion],
                   env=os.environ | {"CC": "clang"})

@@ -12,7 +12,7 @@ static pthread_mutex_t B = PTHREAD_MUTEX_INITIALIZER;
 
 int main(void)
 {
-    int *volatile nowhere = NULL;
+    volatile int *volatile nowhere = NULL;
     pthread_mutex_lock(&A);
     pthread_mutex_lock(&B);
     pthread_mutex_unlock(&B);

@@ -1,0 +1,75 @@
+"""The end of a program, its input and output, its descriptors and signals are its own, also where it is recorded."""
+
+import os
+import signal
+import subprocess
+import sys
+
+from planting import RUN, lockcheck, must, record, said
+
+
+def check_statuses(directory):
+    """The end, the input, the output and the descriptors are the program's own."""
+    stream = os.path.join(directory, "sh.trace")
+    for script, status in (("exit 7", 7), ("kill -TERM $$", -signal.SIGTERM),
+                           ("kill -SEGV $$", -signal.SIGSEGV)):
+        answer = record(stream, "sh", ["sh", "-c", script])
+        must(answer.returncode == status, f"sh -c '{script}': status {answer.returncode}")
+    answer = record(stream, "none", [os.path.join(directory, "there is no such program")])
+    must(answer.returncode == 127, f"no program: status {answer.returncode}")
+    answer = record(stream, "sh", ["sh", "-c", "cat; echo words >&2; exit 3"], input="lines\n")
+    said(answer)
+    must((answer.stdout, answer.stderr, answer.returncode) == ("lines\n", "words\n", 3),
+         "sh: input, output or status are not the program's own")
+    with open(os.path.join(directory, "handed"), "w+b") as file:
+        # A shell takes descriptors of one digit alone.
+        script = f"import os; os.write({file.fileno()}, b'handed down')"
+        answer = record(stream, "handed", [sys.executable, "-c", script], pass_fds=[file.fileno()])
+        file.seek(0)
+        must(file.read() == b"handed down", f"a descriptor wasn't handed down: {answer.stderr}")
+
+
+def check_signal(directory):
+    """A signal to `run` goes on to the program, and what was recorded by then is kept."""
+    stream = os.path.join(directory, "term.trace")
+    program = subprocess.Popen([RUN, "-o", stream, "sh", "-c", "echo ready; exec sleep 30"],
+                               stdout=subprocess.PIPE, stderr=subprocess.DEVNULL, text=True)
+    must(program.stdout.readline() == "ready\n", "sh wasn't started")
+    program.send_signal(signal.SIGTERM)
+    must(program.wait(timeout=120) == -signal.SIGTERM, "SIGTERM didn't go on to the program")
+    must(os.path.exists(stream), "there is no stream after SIGTERM")
+
+
+SLOW_START = """\
+import os, signal, subprocess
+quick = subprocess.Popen
+def slow(*words, **settings):
+    subprocess.Popen = quick
+    program = quick(*words, **settings)
+    os.kill(os.getpid(), signal.SIGTERM)
+    return program
+subprocess.Popen = slow
+"""
+
+
+def check_early_signal(directory):
+    """So does one that comes while the program starts, before `run` knows of it."""
+    # Python imports a module of this name at its start: so `run` sends itself the signal, right behind the start.
+    with open(os.path.join(directory, "sitecustomize.py"), "w", encoding="ascii") as module:
+        module.write(SLOW_START)
+    answer = record(os.path.join(directory, "early.trace"), "early", ["sleep", "30"],
+                    env=os.environ | {"PYTHONPATH": directory})
+    must(answer.returncode == -signal.SIGTERM, "a SIGTERM at the start didn't go on to the program")
+
+
+def check_no_space(directory):
+    """Where a file can't grow the recording ends, `run` says so, and the program goes on."""
+    stream = os.path.join(directory, "space.trace")
+    script = f"ulimit -f 512; exec {os.path.join(directory, 'hides-0', 'hides')} root"
+    answer = record(stream, "space", ["sh", "-c", script])
+    must(answer.returncode == 0, f"no space: status {answer.returncode}")
+    must("recording ended before it did: no space on the disk" in said(answer),
+         "no space: run doesn't say that the recording ended")
+    with open(stream, encoding="ascii") as lines:
+        report = lockcheck(lines.read()).stdout
+    must(" refused 0 " in report and " events 0 " not in report, f"no space: {report}")
