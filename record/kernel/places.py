@@ -38,7 +38,7 @@ class Places:
         self.numbers.write(packed('I', numbers))
 
     def write(self, file):
-        """Writes the map, whose form docs/RECORD.md tells."""
+        """Writes the map, whose form docs/PROGRAMS.md has."""
         width = 2 if len(self.by_text) <= MOST_OF_TWO_BYTES else 4
         lines = ['places 1', f'lines {self.lines} bytes {width}']
         for text, number in self.by_text.items():

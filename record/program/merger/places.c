@@ -1,5 +1,5 @@
 /*
- * The places of the program from which locks were taken, as a file beside the stream (docs/RECORD.md):
+ * The places of the program from which locks were taken, as a file beside the stream (docs/PROGRAMS.md):
  * what each place is, how often each class was taken there, and the place of each line of the stream.
  */
 #define _GNU_SOURCE

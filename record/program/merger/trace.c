@@ -220,7 +220,7 @@ static bool holds_class(const struct task *task, const struct locks *locks, cons
     return does;
 }
 
-/* Writes that a task got a lock (docs/RECORD.md, Readers). A lock with recursive readers is two: who
+/* Writes that a task got a lock (docs/FORMAT.md, Readers). A lock with recursive readers is two: who
    reads it holds the first one, and enters it without waiting for other readers; who writes it holds both.
    What a reader waits for is the second one, which it passes. */
 void write_got(struct taking taking, uint32_t number, struct locks *locks, struct lock *lock, uint32_t place)
