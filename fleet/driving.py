@@ -7,13 +7,15 @@ import sys
 import time
 
 from joining import GROUP, LARGEST_GROUP, MIB, Tree, keep_before
-from nights import Night, Wrong, end_in_order, list_of, names_in, read, shown, streams_below
+from nights import STREAM, Found, Night, Wrong, end_in_order, found_below, list_of, names_in, read, shown
 from reducing import ROOT, Reducer, program
 from summing import Summary
 
 HERE = os.path.join(ROOT, "fleet")
 # So many rounds without a stream that got done, or without the join, are the last ones.
 ROUNDS = 3
+# For so many seconds nothing need be said.
+QUIET = 10
 # At most so many streams are one task's.
 EACH = 32
 ABOUT = """
@@ -42,8 +44,13 @@ LOCKGRAPH and LOCKCHECK name other programs than those that were built here.
 class Engine:
     """What runs tasks. A task is a call of a command, for each list of streams with `--list` and that list."""
 
+    # The program's name, with which its texts begin.
+    name = ""
     # How many tasks there are at most.
     most_tasks = 1000
+
+    def say(self, text):
+        print(f"{self.name}: {text}", file=sys.stderr, flush=True)
 
     def each(self, _count):
         """How many of so many streams are one task's, at most."""
@@ -56,6 +63,10 @@ class Engine:
 
     def is_running(self):
         raise NotImplementedError
+
+    def state(self):
+        """What the tasks that were started are at, if the engine knows, for whoever waits for them."""
+        return ""
 
     def stop(self):
         """Ends what still runs."""
@@ -92,20 +103,17 @@ def parser_of(name, about, example):
 
 
 class Driver:
-    """Makes a night: `name` is what its texts begin with."""
+    """Makes a night."""
 
-    def __init__(self, name, words, engine):
-        self.name, self.words, self.engine = name, words, engine
+    def __init__(self, words, engine):
+        self.words, self.engine, self.say = words, engine, engine.say
         self.began = time.monotonic()
         # One that names another program has to name it to the tasks too.
         for it in ("lockgraph", "lockcheck"):
             os.environ[it.upper()] = program(it)
         self.night = Night(words.night, words.folder)
         self.group = int(words.group * MIB)
-        self.names = []
-
-    def say(self, text):
-        print(f"{self.name}: {text}", file=sys.stderr, flush=True)
+        self.names, self.unread = [], []
 
     def begin(self):
         """Makes the folder of the night, and writes which streams it is of."""
@@ -114,13 +122,34 @@ class Driver:
         real = [os.path.realpath(it) for it in (self.night.folder, self.night.path)]
         if os.path.commonpath(real) == real[0]:
             raise Wrong("the night's folder is below that of the streams: choose another one")
-        found = names_in(read(self.words.list)) if self.words.list else streams_below(self.night.folder)
-        self.names = sorted(set(found), key=os.fsencode)
+        self.refuse_own_results()
+        found = self.find()
+        self.names, self.unread = sorted(set(found.streams), key=os.fsencode), found.unread
         if not self.names:
             raise Wrong(f"{shown(self.night.folder)}: there is no stream in this folder")
         self.night.make()
+        self.night.forget_summary()
         self.night.put_names(self.names)
         keep_before(Reducer(4), self.night, self.words.before)
+
+    def refuse_own_results(self):
+        """What this night reports would else be taken for what was known before."""
+        for word, path in (("--before", self.words.before), ("--known", self.words.known)):
+            folder = path and os.path.realpath(path if word == "--before" else os.path.dirname(os.path.abspath(path)))
+            if folder == os.path.realpath(self.night.path):
+                raise Wrong(f"{word}: this is the night itself: name another one")
+
+    def find(self):
+        """What is below the folder, or in the list. What is no stream is told."""
+        if self.words.list:
+            return Found(names_in(read(self.words.list)), [], [])
+        found = found_below(self.night.folder, self.night.path)
+        for it in found.unread:
+            self.say(f"{shown(it)}: this folder can't be read, so its streams are left")
+        if found.others:
+            count, first = len(found.others), shown(found.others[0])
+            self.say(f"{count} files aren't read, since their names don't end with {STREAM}: {first} is one")
+        return found
 
     def missing(self):
         return [it for it, how in self.night.endings(self.names).items() if how is None]
@@ -140,14 +169,19 @@ class Driver:
         return lists
 
     def wait(self, progress=None):
-        """Waits for the engine, and says how far it is, about once for each twentieth."""
-        told = -1
+        """Waits for the engine, and says how far it is, about once for each twentieth. If nothing can be said for some
+        seconds, it says what the tasks are at, and then each time after twice as long."""
+        told, quiet, said_at = -1, QUIET, time.monotonic()
         while self.engine.is_running():
             time.sleep(0.2)
-            done = progress() if progress else 0
+            done, now = progress() if progress else 0, time.monotonic()
             if progress and done * 20 // len(self.names) != told:
-                told = done * 20 // len(self.names)
-                self.say(f"{done} of {len(self.names)} streams are done, {time.monotonic() - self.began:.0f} s")
+                told, quiet, said_at = done * 20 // len(self.names), QUIET, now
+                self.say(f"{done} of {len(self.names)} streams are done, {now - self.began:.0f} s")
+            elif now - said_at > quiet:
+                quiet, said_at = 2 * quiet, now
+                if state := self.engine.state():
+                    self.say(f"waiting: {state}")
 
     def map(self):
         """Goes round until no stream is missing, or nothing gets done any more."""
@@ -184,7 +218,7 @@ class Driver:
     def run(self):
         self.begin()
         self.say(f"{len(self.names)} streams, {len(self.missing())} of them to be reduced")
-        left = self.map()
+        left = self.map() + self.unread
         tree = self.join()
         known = self.words.known or (self.words.before and os.path.join(self.words.before, "night.report"))
         summary = Summary(self.night, self.names, left, tree, known)
@@ -194,16 +228,16 @@ class Driver:
         return summary.status()
 
 
-def drive(name, words, engine):
+def drive(words, engine):
     """The exit status of a night."""
     end_in_order()
     try:
-        return Driver(name, words, engine).run()
+        return Driver(words, engine).run()
     except (Wrong, OSError) as error:
-        print(f"{name}: {shown(str(error))}", file=sys.stderr)
+        engine.say(shown(str(error)))
         return 2
     except KeyboardInterrupt:
-        print(f"{name}: stopped: the same call goes on", file=sys.stderr)
+        engine.say("stopped: the same call goes on")
         return 130
     finally:
         engine.stop()

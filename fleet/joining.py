@@ -4,8 +4,8 @@ import hashlib
 import os
 import shutil
 
-from nights import COUNTS, REDUCED, Wrong, encoded, is_counted, seconds_of, shown, whole
-from reducing import Counts, Failed, Faulty, join_streams, put_counts
+from nights import REDUCED, Counts, Wrong, is_counted, shown, stamp_of, whole
+from reducing import Failed, Faulty, count_traces, join_streams, put_counts
 
 MIB = 1 << 20
 # A group is held in memory as it is reduced, and a stream has at most 2 GiB.
@@ -17,23 +17,23 @@ MOST_REFUSED = 10_000
 
 
 class Member:
-    """A reduced stream that is to be joined: its path without ending, and its counts."""
+    """A reduced stream that is to be joined: its path without ending, its bytes, and its counts."""
 
     def __init__(self, path):
-        self.path, self.counts = path, Counts.of(path)
+        self.path, self.size, self.counts = path, os.path.getsize(path + REDUCED), Counts.of(path)
 
     def key(self):
         """What it is known by: with the same key it has the same bytes."""
-        return f"{os.path.basename(self.path)} {self.counts.size} {seconds_of(self.path + REDUCED)}\n"
+        return f"{os.path.basename(self.path)} {self.size} {self.counts.stamp}\n"
 
 
 def members_of(night):
     """The reduced streams of a night, in the order of their names, and before them that of the night before. Those that
     are empty, of traces that show nothing, have nothing to be joined."""
     names = [it for it, how in night.endings(night.names()).items() if how == REDUCED]
-    before = [night.file("before")] if is_counted(night.file("before") + REDUCED) else []
-    found = [Member(it) for it in before + [night.file("map", encoded(it)) for it in names]]
-    return [it for it in found if it.counts.size > 0]
+    before = [night.file("before")] if is_counted(night.file("before")) else []
+    found = [Member(it) for it in before + [night.result(it) for it in names]]
+    return [it for it in found if it.size > 0]
 
 
 def keeps_refused(members):
@@ -45,12 +45,12 @@ def groups_of(members, size):
     may have. A group has two members at least, whatever these have, but the last one."""
     groups, total, traces = [], 0, 0
     for it in members:
-        total, traces = total + it.counts.size, traces + it.counts.traces
+        total, traces = total + it.size, traces + it.counts.traces
         if groups and (len(groups[-1]) == 1 or total <= size and traces <= MOST_TRACES):
             groups[-1].append(it)
         else:
             groups.append([it])
-            total, traces = it.counts.size, it.counts.traces
+            total, traces = it.size, it.counts.traces
     return groups
 
 
@@ -79,7 +79,7 @@ class Tree:
         while len(members) > 1 or level == 0 and members and not self.keeps:
             groups = groups_of(members, self.size)
             level += 1
-            size = sum(it.counts.size for it in members)
+            size = sum(it.size for it in members)
             say(f"level {level}: {len(members)} streams of {size} bytes in {len(groups)} groups")
             members = [self.joined(reducer, it) for it in groups]
         self.put(members)
@@ -89,7 +89,7 @@ class Tree:
         if len(group) == 1 and self.keeps:
             return group[0]
         target = self.night.file("join", name_of(group, self.keeps))
-        if not is_counted(target + REDUCED):
+        if not is_counted(target):
             try:
                 join_streams(reducer, target, [it.path for it in group], self.keeps)
             except Faulty as fault:
@@ -115,9 +115,9 @@ def keep_before(reducer, night, before):
         return
     trace = os.path.join(before, "night.trace")
     try:
-        with open(trace, "rb") as source, whole(path + REDUCED, seconds_of(trace)) as out:
+        with open(trace, "rb") as source, whole(path + REDUCED) as out:
             if os.path.getsize(trace) > 0:
                 reducer.run(["-"], out, source=source)
-            put_counts(path + COUNTS, out, 0)
+            put_counts(path, Counts(count_traces(out.name), 0, stamp_of(trace)))
     except (OSError, Faulty, Failed) as error:
         raise Wrong(f"{shown(trace)}: {error}") from None

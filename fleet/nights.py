@@ -3,13 +3,13 @@
 A night is of the streams below one folder, each named by its path there. In the night's own folder stand
 
   streams        the names of the streams, each ended by a NUL
-  map/           of each stream NAME.reduced and NAME.counts, or NAME.faulty, where NAME is its path in percent-encoding
+  map/           of each stream NAME.counts with NAME.reduced or NAME.faulty; NAME is its path in percent-encoding
   join/          the same of joined streams, each named by what it was joined of
   lists/, logs/  what the tasks of a cluster read and say
   night.trace    what is left of all streams, as one stream
 
-A file gets its name only once it is whole. A result has the time of its stream, so a stream that was written anew
-since is one without result.
+A file gets its name only once it is whole. NAME.counts has the size and the time of the stream, so a stream that was
+written anew since is one without a result.
 """
 import contextlib
 import hashlib
@@ -19,6 +19,7 @@ import signal
 import stat
 import sys
 import urllib.parse
+from typing import NamedTuple
 
 STREAM = ".trace"
 REDUCED, COUNTS, FAULTY = ".reduced", ".counts", ".faulty"
@@ -63,16 +64,34 @@ def plain(name):
     return re.sub(r"\A(\./+)+", "", name)
 
 
-def streams_below(folder):
-    """The paths of the streams below a folder, in the order of their bytes."""
+class Found(NamedTuple):
+    """What is below a folder, each as a path from there: streams, folders that can't be read, and other files."""
 
-    def fail(error):
-        raise Wrong(f"{shown(error.filename)}: {error.strerror}")
+    streams: list
+    unread: list
+    others: list
 
-    found = []
-    for at, _, names in os.walk(folder, onerror=fail, followlinks=False):
-        found += [os.path.relpath(os.path.join(at, it), folder) for it in names if it.endswith(STREAM)]
-    return sorted(found, key=os.fsencode)
+
+def found_below(folder, night):
+    """Looks below a folder, but not into that of the night. A link to a folder counts as one, and a folder that two
+    paths lead to counts once."""
+    unread, files, seen = [], [], {os.path.realpath(night)}
+    for at, folders, names in os.walk(folder, onerror=unread.append, followlinks=True):
+        real = os.path.realpath(at)
+        if real in seen:
+            folders.clear()
+            continue
+        seen.add(real)
+        folders.sort(key=os.fsencode)
+        files += [os.path.relpath(os.path.join(at, it), folder) for it in names]
+    if unread and os.path.samefile(unread[0].filename, folder):
+        raise unread[0]
+    files.sort(key=os.fsencode)
+    return Found(
+        [it for it in files if it.endswith(STREAM)],
+        sorted(os.path.relpath(it.filename, folder) for it in unread),
+        [it for it in files if not it.endswith(STREAM)],
+    )
 
 
 def read(path):
@@ -80,27 +99,46 @@ def read(path):
         return file.read()
 
 
-def seconds_of(path):
-    """The time of a file in whole seconds, or None where there is none."""
+def stamp_of(path):
+    """What tells a stream from one that was written anew: its bytes and its time. None if there is no such file."""
     try:
-        return int(os.stat(path).st_mtime)
+        its = os.stat(path)
     except OSError:
         return None
+    return f"{its.st_size} {its.st_mtime_ns}"
+
+
+class Counts(NamedTuple):
+    """What stands in PATH.counts: how many traces PATH.reduced has, how many of them are refused ones, and the stamp of
+    the stream that it was made of, or `-` if it was joined."""
+
+    traces: int
+    refused: int
+    stamp: str
+
+    def text(self):
+        return f"traces {self.traces} refused {self.refused} of {self.stamp}\n".encode()
+
+    @staticmethod
+    def of(path):
+        """Those of PATH, or None. They aren't synced, so a machine that fails may lose them, or their bytes."""
+        try:
+            match = re.fullmatch(rb"traces (\d+) refused (\d+) of (-|\d+ -?\d+)\n", read(path + COUNTS))
+        except FileNotFoundError:
+            return None
+        return match and Counts(int(match[1]), int(match[2]), match[3].decode())
 
 
 def is_counted(path):
-    """Whether a reduced stream is there with its counts. These aren't synced, so a machine that fails may lose them."""
-    try:
-        return os.path.exists(path) and os.path.getsize(path.removesuffix(REDUCED) + COUNTS) > 0
-    except OSError:
-        return False
+    """Whether the reduced stream PATH.reduced is there with its counts."""
+    return os.path.exists(path + REDUCED) and Counts.of(path) is not None
 
 
 @contextlib.contextmanager
-def whole(path, time=None, is_synced=True):
-    """A file to be written, which gets this name, and this time, once it is whole, and on the disk unless it needn't
-    be. Nothing is left of it otherwise, unless the process is killed. A part that has gone was taken away since another
-    process made the file."""
+def whole(path, is_synced=True):
+    """A file to be written, which gets this name once it is whole, and on the disk unless it needn't be. Nothing is
+    left of it otherwise, unless the process is killed. If its part is gone by then, another process has made the file
+    and taken the part away."""
     part = f"{path}%%{os.uname().nodename}.{os.getpid()}.{os.urandom(4).hex()}{PART}"
     try:
         with open(part, "wb") as file:
@@ -109,8 +147,6 @@ def whole(path, time=None, is_synced=True):
             if is_synced:
                 os.fsync(file.fileno())
         try:
-            if time is not None:
-                os.utime(part, (time, time))
             os.rename(part, path)
         except FileNotFoundError:
             if not os.path.exists(path):
@@ -136,13 +172,18 @@ class Night:
     def stream(self, name):
         return os.path.join(self.folder, name)
 
-    def result(self, name, ending):
+    def result(self, name, ending=""):
         return self.file("map", encoded(name) + ending)
 
     def put_names(self, names):
         """Writes which streams the night is of."""
         with whole(self.file("streams")) as file:
             file.write(list_of(names))
+
+    def forget_summary(self):
+        """Takes away what an earlier call summed up: it says nothing of this one, if this one fails."""
+        with contextlib.suppress(FileNotFoundError):
+            os.unlink(self.file("night.summary"))
 
     def names(self):
         """The streams that the night is of."""
@@ -152,14 +193,17 @@ class Night:
             raise Wrong(f"{shown(self.path)}: there is no night in this folder") from None
 
     def ending(self, name):
-        """`.reduced` or `.faulty` where that was made of the stream as it is, or of one that has gone, else None."""
-        time = seconds_of(self.stream(name))
-        for ending in (REDUCED, FAULTY):
-            path = self.result(name, ending)
-            made = seconds_of(path)
-            if made is not None and time in (made, None) and (ending == FAULTY or is_counted(path)):
-                return ending
-        return None
+        """`.reduced` or `.faulty` if that was made of the stream as it is, or of one that is gone, else None."""
+        stamp, counts = stamp_of(self.stream(name)), Counts.of(self.result(name))
+        if counts is None or stamp not in (counts.stamp, None):
+            return None
+        return next((it for it in (REDUCED, FAULTY) if os.path.exists(self.result(name, it))), None)
+
+    def forget(self, name):
+        """Takes away what was made of a stream."""
+        for ending in (REDUCED, FAULTY, COUNTS):
+            with contextlib.suppress(FileNotFoundError):
+                os.unlink(self.result(name, ending))
 
     def endings(self, names):
         return {it: self.ending(it) for it in names}

@@ -6,7 +6,7 @@ import re
 import shutil
 import subprocess
 
-from nights import COUNTS, FAULTY, REDUCED, Wrong, is_counted, is_regular, read, seconds_of, shown, whole
+from nights import COUNTS, FAULTY, REDUCED, Counts, Wrong, is_counted, is_regular, shown, stamp_of, whole
 
 ROOT = os.path.dirname(os.path.dirname(os.path.realpath(__file__)))
 # `lockgraph reduce` ends with 2 for each fault, and only these are the stream's own: what it lacks memory or room for,
@@ -33,22 +33,6 @@ def program(name):
     if not os.access(path, os.X_OK) or not named and path != built and os.path.isdir(os.path.join(ROOT, "crates")):
         raise Wrong(f"{name} isn't built: run tools/build {name}, or let {name.upper()} name it")
     return os.path.abspath(path)
-
-
-class Counts:
-    """How large a reduced stream is: its bytes, its traces, and the refused ones among these."""
-
-    def __init__(self, size, traces, refused):
-        self.size, self.traces, self.refused = size, traces, refused
-
-    def text(self):
-        return f"traces {self.traces} refused {self.refused}\n".encode()
-
-    @staticmethod
-    def of(path):
-        """The counts of the reduced stream PATH.reduced."""
-        words = read(path + COUNTS).split()
-        return Counts(os.path.getsize(path + REDUCED), int(words[1]), int(words[3]))
 
 
 def count_traces(path):
@@ -106,32 +90,38 @@ def one_line(said):
 
 
 def reduce_stream(reducer, night, name):
-    """Makes the result of a stream. `Failed` where that may be tried again; then there is none."""
-    time = seconds_of(night.stream(name))
+    """Makes the result of a stream. `Failed` if that may be tried again; then there is none."""
+    stream = night.stream(name)
+    stamp, counts = stamp_of(stream), Counts.of(night.result(name))
+    if counts is None or counts.stamp != stamp:
+        # Else what is made now could be taken together with what was made of the stream as it was.
+        night.forget(name)
     try:
-        keep_result(reducer, night, name, time)
+        keep_result(reducer, night, name, stamp)
     except OSError as error:
         # Another process may have made the result, and taken the part of this one away.
         if night.ending(name) is None:
             raise Failed(f"{shown(error.filename or name)}: {error.strerror}") from None
-    if seconds_of(night.stream(name)) != time:
-        raise Failed(f"{shown(name)}: it was written to meanwhile")
+    if stamp_of(stream) != stamp:
+        night.forget(name)
+        raise Failed("it was written to meanwhile")
 
 
-def keep_result(reducer, night, name, time):
+def keep_result(reducer, night, name, stamp):
     """Makes what is left of a stream, or else what is wrong with it."""
     try:
-        if time is not None and not is_regular(night.stream(name)):
+        if stamp is not None and not is_regular(night.stream(name)):
             raise Faulty(f"{shown(name)}: not a regular file")
-        keep_stream(reducer, night, name, time)
+        keep_stream(reducer, night, name, stamp)
     except Faulty as fault:
-        with whole(night.result(name, FAULTY), time) as file:
+        put_counts(night.result(name), Counts(0, 0, stamp))
+        with whole(night.result(name, FAULTY)) as file:
             file.write(f"{fault}\n".encode())
 
 
-def keep_stream(reducer, night, name, time):
+def keep_stream(reducer, night, name, stamp):
     """Makes what is left of a stream, with refused traces, so that the report of the night names them."""
-    with open(night.stream(name), "rb") as stream, whole(night.result(name, REDUCED), time) as out:
+    with open(night.stream(name), "rb") as stream, whole(night.result(name, REDUCED)) as out:
         word, source = (word_of(name), subprocess.DEVNULL) if is_utf8(name) else ("-", stream)
         refused = 0
         if reducer.run([*reducer.of_stream, word], out, night.folder, source):
@@ -139,7 +129,7 @@ def keep_stream(reducer, night, name, time):
             stream.seek(0)
             reducer.run([*reducer.of_stream, "--keep-refused", word], out, night.folder, source)
             refused = count_traces(out.name) - read_only
-        put_counts(night.result(name, COUNTS), out, refused)
+        put_counts(night.result(name), Counts(count_traces(out.name), refused, stamp))
 
 
 def is_utf8(name):
@@ -156,10 +146,10 @@ def word_of(name):
     return f"./{name}" if name.startswith("-") else name
 
 
-def put_counts(path, out, refused):
-    """Writes how many traces a reduced stream has. They get their name before the stream does."""
-    with whole(path, is_synced=False) as file:
-        file.write(Counts(0, count_traces(out.name), refused).text())
+def put_counts(path, counts):
+    """Writes what PATH.reduced has. It gets its name before that does."""
+    with whole(path + COUNTS, is_synced=False) as file:
+        file.write(counts.text())
 
 
 def join_streams(reducer, target, paths, keeps_refused):
@@ -174,7 +164,7 @@ def join_streams(reducer, target, paths, keeps_refused):
         with whole(target + REDUCED) as out:
             reducer.run(["--keep-refused"] if keeps_refused else [], out, feed=feed)
             refused = sum(Counts.of(it).refused for it in paths) if keeps_refused else 0
-            put_counts(target + COUNTS, out, refused)
+            put_counts(target, Counts(count_traces(out.name), refused, "-"))
     except OSError as error:
-        if not is_counted(target + REDUCED):
+        if not is_counted(target):
             raise Failed(f"{shown(error.filename or target)}: {error.strerror}") from None

@@ -3,8 +3,8 @@ import os
 import re
 import subprocess
 
-from nights import FAULTY, REDUCED, Wrong, encoded, read, shown, whole
-from reducing import Counts, one_line, program
+from nights import FAULTY, REDUCED, Counts, Wrong, read, shown, whole
+from reducing import one_line, program
 
 
 def answered(words, out, source=subprocess.DEVNULL):
@@ -27,9 +27,9 @@ class Summary:
         self.night, self.left, self.tree = night, left, tree
         endings = night.endings(names)
         self.faulty = [it for it in names if endings[it] == FAULTY]
-        counts = {it: Counts.of(night.file("map", encoded(it))) for it in names if endings[it] == REDUCED}
+        counts = {it: Counts.of(night.result(it)) for it in names if endings[it] == REDUCED}
         self.refused = {it: its.refused for it, its in counts.items() if its.refused}
-        self.empty = sum(its.size == 0 for its in counts.values())
+        self.empty = sum(its.traces == 0 for its in counts.values())
         self.reduced = len(counts) - self.empty
         self.violations = self.report()
         self.new = self.what_is_new(known)

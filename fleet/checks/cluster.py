@@ -9,13 +9,13 @@ import threading
 import time
 
 import planted
-from machine import made
-from rooms import call, fleet, kill_marked, must, must_be_same, night, parts_in, program, read, say, until, MARK
+from machine import made, must_be_of_all
+from packages import install
+from rooms import MARK, call, fleet, kill_marked, must, must_be_same, night, parts_in, program, read, until
 
 NODES = ["n1", "n2", "n3", "n4"]
 SLURM = ("slurmctld", "slurmd", "sbatch", "munged")
 DASK = ("dask-scheduler", "dask-worker")
-PACKAGES = ["slurmctld", "slurmd", "slurm-client", "munge", "python3-distributed", "parallel"]
 # Debian's, which has Debian's packages.
 PYTHON = "/usr/bin/python3"
 # Stands for lockgraph: it takes a while. On one stream it kills its task, of Dask the worker too; on another one it
@@ -69,29 +69,6 @@ SchedulerParameters=sched_interval=2,batch_sched_delay=0
 {nodes}
 PartitionName=all Nodes=n[1-4] Default=YES MaxTime=INFINITE State=UP
 """
-
-
-def missing(commands):
-    return [it for it in commands if shutil.which(it) is None]
-
-
-def install(commands):
-    """Sees that there are these commands. Why there aren't, or None."""
-    if not missing(commands):
-        return None
-    if os.geteuid() != 0 or shutil.which("apt-get") is None:
-        return f"there is no {missing(commands)[0]}, and this isn't run as root where apt-get is"
-    say(f"installing {', '.join(PACKAGES)}")
-    more = {"DEBIAN_FRONTEND": "noninteractive"}
-    options = ["-o", "Acquire::Retries=1", "-o", "Acquire::http::Timeout=20"]
-    for words in (["update"], ["install", "-y", "--no-install-recommends", *PACKAGES]):
-        try:
-            ended = call("apt-get", "-q", *options, *words, more=more, timeout=300)
-        except subprocess.TimeoutExpired:
-            return f"apt-get {words[0]} takes more than five minutes"
-        if ended.returncode != 0:
-            return f"apt-get {words[0]}: {ended.stderr.decode().strip()}"
-    return f"the packages have no {missing(commands)[0]}" if missing(commands) else None
 
 
 def free_ports(count):
@@ -202,13 +179,14 @@ def check_cluster(room, count, name, words, variables):
         f"{name}: no task was killed, or no node lost",
     )
     must_be_same(alone, target, name)
+    must_be_of_all(streams, count, target, name)
     must(not parts_in(target), f"{name}: parts are left")
     return said
 
 
 def check_slurm(room, count):
     """A night with Slurm."""
-    why = install(SLURM)
+    why = install(room, SLURM)
     if why:
         return why
     start_slurm(room)
@@ -227,7 +205,7 @@ def check_slurm(room, count):
 
 def check_dask(room, count):
     """A night with Dask."""
-    why = install(DASK)
+    why = install(room, DASK)
     if why:
         return why
     if call(PYTHON, "-c", "import distributed").returncode != 0:

@@ -4,7 +4,7 @@ import subprocess
 
 import planted
 from machine import SMALL, made
-from rooms import call, fleet, must, must_be_same, night, parts_in, program, read, say
+from rooms import call, fleet, must, must_be_same, night, parts_in, program, read, say, without_parallel
 
 # Stands for lockgraph: what it does with the stream `x`, once.
 STAND_IN = """#!/bin/sh
@@ -97,31 +97,42 @@ def check_killed(room, _count):
         must_be_same(room.path("alone"), room.path(f"night{turn}"), "killed")
         must(not parts_in(room.path(f"night{turn}")), "killed: parts are left")
         os.rmdir(room.path("once"))
-    # One that is killed each time is told in the end, and holds up no other.
+    check_poisoned(room, streams)
+
+
+def check_poisoned(room, streams):
+    """A stream that kills its task each time is told in the end, and holds up no other, be it the first one, with one
+    job, and whatever runs the tasks."""
+    poison = planted.path(0)
     stand_in = room.write(
         "stand-in",
-        f'#!/bin/sh\ncase "$*" in *m00009.trace*) kill -9 "$PPID";; esac\nexec {program("lockgraph")} "$@"\n',
+        f'#!/bin/sh\ncase "$*" in *{poison}*) kill -9 "$PPID";; esac\nexec {program("lockgraph")} "$@"\n',
         0o755,
     )
-    said = night(streams, room.path("poisoned"), status=2, more={"LOCKGRAPH": stand_in}, line=None)
-    must(
-        read(room.path("poisoned"), "night.left").decode() == planted.path(9) + "\n",
-        f"killed: another is left:\n{said}",
-    )
-    night(streams, room.path("poisoned"), status=1, line=planted.summary(SMALL))
-    must_be_same(room.path("alone"), room.path("poisoned"), "killed")
+    for turn, more in enumerate(({}, without_parallel(room))):
+        target = room.path(f"poisoned{turn}")
+        words = [streams, target, "--jobs", "1"]
+        said = night(*words, status=2, more={"LOCKGRAPH": stand_in, **more}, line=None)
+        must(read(target, "night.left").decode() == poison + "\n", f"killed: another is left:\n{said}")
+        night(*words, status=1, line=planted.summary(SMALL))
+        must_be_same(room.path("alone"), target, "killed")
 
 
 def check_lost(room, _count):
-    """A machine that fails may lose what wasn't synced, which are the counts alone: the stream is reduced again."""
+    """A machine that fails may lose what wasn't synced, which are the counts alone, or their bytes. The stream is reduced
+    again then."""
     streams = made(room, "streams", SMALL)
     night(streams, room.path("alone"), status=1)
     night(streams, room.path("night"), status=1)
-    room.write(f"night/map/rack4%2F{os.path.basename(planted.path(9))}.counts", "")
+    for number, bytes_left in ((9, ""), (14, "\0" * 30)):
+        room.write(f"night/map/rack4%2F{os.path.basename(planted.path(number))}.counts", bytes_left)
     os.unlink(room.path("night", "map", f"rack1%2F{os.path.basename(planted.path(21))}.counts"))
     said = night(streams, room.path("night"), status=1, line=planted.summary(SMALL))
-    must(f"{SMALL} streams, 2 of them to be reduced" in said, f"lost: another number of streams is reduced:\n{said}")
+    must(f"{SMALL} streams, 3 of them to be reduced" in said, f"lost: another number of streams is reduced:\n{said}")
     must_be_same(room.path("alone"), room.path("night"), "lost")
+    # What an earlier call summed up says nothing of one that fails.
+    night(streams, room.path("night"), "--known", room.path("none"), status=2)
+    must(not os.path.exists(room.path("night", "night.summary")), "lost: a night that failed has an old summary")
 
 
 def check_full(room, _count):

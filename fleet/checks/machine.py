@@ -1,7 +1,6 @@
 """Nights on one machine."""
 import os
 import re
-import shutil
 import signal
 import subprocess
 
@@ -35,21 +34,26 @@ def kinds(report):
     return sorted(found)
 
 
-def check_night(room, count):
+def must_be_of_all(streams, count, made_of, name):
     """A night has the violations that were planted, and those of one lockcheck over all streams; its stream is that of
-    one call over all; each stream at fault is told; and done again nothing is done."""
-    streams, made_of = made(room, "streams", count), room.path("night")
-    night(streams, made_of, status=1, line=planted.summary(count))
+    one call over all."""
     good = sorted(planted.path(it) for it in range(count) if not planted.is_faulty(it))
     text = b"".join(read(streams, it) for it in good)
     left = read(made_of, "night.trace")
     must(
         kinds(read(made_of, "night.report")) == planted.violations(count),
-        "night: other violations than those that were planted",
+        f"{name}: other violations than those that were planted",
     )
-    must(violations(left) == violations(text), "night: other violations than those of one lockcheck over all streams")
+    must(violations(left) == violations(text), f"{name}: other violations than those of one lockcheck over all streams")
     whole = call(program("lockgraph"), "reduce", "--keep-refused", *good, folder=streams)
-    must(whole.stdout == left, "night: another stream than that of one call over all")
+    must(whole.stdout == left, f"{name}: another stream than that of one call over all")
+
+
+def check_night(room, count):
+    """A night is that of one call over all; each stream at fault is told; and a second call does nothing."""
+    streams, made_of = made(room, "streams", count), room.path("night")
+    night(streams, made_of, status=1, line=planted.summary(count))
+    must_be_of_all(streams, count, made_of, "night")
     told = [f"lockgraph: {planted.path(it)}:{planted.fault(it)}" for it in range(count) if planted.is_faulty(it)]
     must(sorted(read(made_of, "night.faulty").decode().splitlines()) == sorted(told), "night: other faults are told")
     refused = [f"1 {planted.path(it)}" for it in range(count) if planted.is_refused(it)]
@@ -110,70 +114,6 @@ def check_before(room, _count):
     must(read(room.path("night3"), "night.new").endswith(b"\nnothing new\n"), "before: what is known is new")
 
 
-def hostile_names():
-    """Names that a script is likely to take for something else, and one of 255 bytes."""
-    return [
-        b"a b.trace",
-        b"new\nline.trace",
-        b"-dash.trace",
-        b"--help.trace",
-        b"sub/x.trace",
-        b"sub%2Fx.trace",
-        b"other/x.trace",
-        b"\xff.trace",
-        b"'quote\".trace",
-        b"$(touch here);`touch here`.trace",
-        b"*.trace",
-        b"{}.trace",
-        b"%%.trace",
-        b".hidden.trace",
-        b"tab\t\\.trace",
-        b" .trace",
-        b"l" * 249 + b".trace",
-        b"d" * 200 + b"/" + b"l" * 248 + b".trace",
-    ]
-
-
-def check_names(room, _count):
-    """Names of files may be anything; two streams never have one result. Without GNU parallel the same comes of
-    it."""
-    streams = os.fsencode(room.new("streams of\n'one' night"))
-    names = hostile_names()
-    for number, name in enumerate(names):
-        path = os.path.join(streams, name)
-        os.makedirs(os.path.dirname(path), exist_ok=True)
-        with open(path, "w", encoding="ascii") as file:
-            file.write(f"trace m{number}\nacquire t a{number}\nacquire t b{number}\n")
-    with open(os.path.join(streams, b"-faulty\n.trace"), "wb"):
-        pass
-    os.mkfifo(os.path.join(streams, b"fifo.trace"))
-    line = f"streams {len(names) + 2} reduced {len(names)} empty 0 faulty 2 left 0 refused 0 violations 0 new 0"
-    without = room.new("path")
-    for name in ("python3", "xargs", "env"):
-        os.symlink(shutil.which(name), os.path.join(without, name))
-    for target, more in (("a\nnight's", {}), ("-another {} night", {"PATH": without})):
-        said = night(streams, room.path(target), status=3, line=line, more=more, folder=room.folder)
-        must(("xargs" in said) == (bool(more) or not has_parallel()), f"names: another engine:\n{said}")
-        left = read(room.path(target), "night.trace").decode()
-        must(
-            sorted(re.findall(r"trace (\S+)", left)) == sorted(f"m{it}" for it in range(len(names))),
-            "names: a stream is missing",
-        )
-        faulty = read(room.path(target), "night.faulty").decode()
-        must(
-            faulty == "lockgraph: ./-faulty?.trace: NoTrace\nfifo.trace: not a regular file\n",
-            f"names: the faults are told as\n{faulty}",
-        )
-    must(
-        not os.path.exists(room.path("here")) and not os.path.exists(os.path.join(streams, b"here")),
-        "names: a name was run",
-    )
-
-
-def has_parallel():
-    return shutil.which("parallel") is not None and call("parallel", "--version").stdout.startswith(b"GNU parallel")
-
-
 def check_two(room, _count):
     """Two calls at once make the same, and leave nothing else."""
     streams = made(room, "streams", SMALL)
@@ -222,6 +162,8 @@ def check_words(room, _count):
         ([room.path("none"), room.path("n")], "No such file"),
         ([streams, room.path("n"), "--group", "1024"], "between 0 and 1024"),
         ([streams, room.path("n"), "--before", room.path("none")], "No such file"),
+        ([streams, room.path("n"), "--before", room.path("n")], "this is the night itself"),
+        ([streams, room.path("n"), "--known", room.path("n", "night.report")], "this is the night itself"),
     ):
         said = night(*words, status=2)
         must(text in said, f"words: {words}: {said}")

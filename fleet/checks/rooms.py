@@ -12,6 +12,9 @@ FLEET = os.path.dirname(os.path.dirname(os.path.realpath(__file__)))
 ROOT = os.path.dirname(FLEET)
 # Each process that the check starts has its folder in this variable, and so have those that they start.
 MARK = "FLEET_CHECK"
+PREFIX = "fleet-check-"
+# What says whether Debian may start the services of a package.
+POLICY = "/usr/sbin/policy-rc.d"
 
 
 class Failed(Exception):
@@ -50,6 +53,13 @@ def kill_marked(*wanted):
         time.sleep(0.05)
 
 
+def forget_policy():
+    """Removes a policy that a check has made: a link to a file of a room."""
+    with contextlib.suppress(OSError):
+        if os.path.basename(os.path.dirname(os.readlink(POLICY))).startswith(PREFIX):
+            os.unlink(POLICY)
+
+
 def clean(folder):
     """Ends what was started in a folder, and takes it away."""
     kill_marked(f"{MARK}={folder}")
@@ -57,13 +67,15 @@ def clean(folder):
     if os.path.ismount(disk):
         subprocess.run(["umount", disk], check=False)
     shutil.rmtree(folder, ignore_errors=True)
+    if not os.path.exists(POLICY):
+        forget_policy()
 
 
 class Room:
     """The folder. A process of its own waits until this one has ended, and cleans up then."""
 
     def __init__(self):
-        self.folder = os.path.realpath(tempfile.mkdtemp(prefix="fleet-check-"))
+        self.folder = os.path.realpath(tempfile.mkdtemp(prefix=PREFIX))
         os.chmod(self.folder, 0o755)
         kept, self.pipe = os.pipe()
         self.cleaner = os.fork()
@@ -167,6 +179,18 @@ def must_be_same(one, other, text):
     must(one.keys() == other.keys(), f"{text}: other results: {sorted(one.keys() ^ other.keys())[:9]}")
     for name in one:
         must(one[name] == other[name], f"{text}: {name} has other bytes")
+
+
+def has_parallel():
+    return shutil.which("parallel") is not None and call("parallel", "--version").stdout.startswith(b"GNU parallel")
+
+
+def without_parallel(room):
+    """The variables of a machine where GNU parallel isn't installed."""
+    folder = room.new("path")
+    for name in ("python3", "xargs", "env", "sh"):
+        os.symlink(shutil.which(name), os.path.join(folder, name))
+    return {"PATH": folder}
 
 
 def say(text):
