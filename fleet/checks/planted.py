@@ -64,16 +64,16 @@ def halves(number):
     return lines
 
 
-def stream(number):
-    """The stream of a machine."""
+def stream(number, traces=4, episodes=20):
+    """The stream of a machine, of so many traces with so many episodes each."""
     chance = random.Random(number * 7919 + 13)
     name = f"m{number:05}-boot"
     if is_empty(number):
         return f"trace {name}-0\nenable t hard\n"
     lines = []
-    for trace in range(4):
+    for trace in range(traces):
         lines.append(f"trace {name}-{trace}")
-        for _ in range(20):
+        for _ in range(episodes):
             lines += episode(chance, number)
         if trace == 2:
             lines += halves(number)
