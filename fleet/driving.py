@@ -19,23 +19,29 @@ QUIET = 10
 # At most so many streams are one task's.
 EACH = 32
 ABOUT = """
-The folder of the night is made where there is none. Called again with the same words it does only what is missing, and
-a stream that was written anew counts as missing. Two calls may work on one night.
+The command makes the folder NIGHT if there is none. A second call with the same words does only what is missing. A
+stream that was written anew counts as missing. Two calls may work on one night.
 
 Standard output and NIGHT/night.summary have one line at the end:
 
   streams N reduced N empty N faulty N left N refused N violations N new N
 
-  reduced     streams of which traces are left; empty: of which none is, since their traces show nothing
+  reduced     streams of which traces are left
+  empty       streams of which no trace is left, since their traces show nothing
   faulty      streams at fault: NIGHT/night.faulty says what is wrong with each
-  left        streams of which there is no result yet: NIGHT/night.left names them
-  refused     refused traces: NIGHT/night.refused says how many which stream has
-  violations  those in NIGHT/night.report, the report of all streams; new: those of them in NIGHT/night.new
+  left        streams without a result yet, and folders that can't be read: NIGHT/night.left names them
+  refused     refused traces: NIGHT/night.refused has the number for each stream
+  violations  violations in NIGHT/night.report, the report of all streams
+  new         those of them in NIGHT/night.new
 
-The traces that the report names stand in NIGHT/night.trace.
+NIGHT/night.trace has the traces that the report names.
 
-Exit status: 0 where nothing is new, 1 where violations are, 2 where the report isn't whole, since a stream is left or
-something failed, and 3 where nothing is new, and a stream is faulty or a trace is refused.
+Exit status:
+
+  0  nothing is new
+  1  violations are new
+  2  the report isn't whole: a stream is left, or something failed
+  3  nothing is new, and a stream is faulty or a trace is refused
 
 LOCKGRAPH and LOCKCHECK name other programs than those that were built here.
 """
@@ -57,8 +63,8 @@ class Engine:
         return EACH
 
     def start(self, command, lists=None, behind=None):
-        """Starts a call of the command for each list, or one where there are none. An engine that can is to start
-        another command behind them where they all end well."""
+        """Starts a call of the command for each list, or one call if there are none. An engine that can starts another
+        command behind them, if they all end well."""
         raise NotImplementedError
 
     def is_running(self):

@@ -74,7 +74,7 @@ class Reducer:
 
 
 def said_by(process, feed):
-    """What a process says on standard error, where a function may feed its standard input."""
+    """What a process says on standard error. If there is a function, it feeds the process' standard input."""
     if feed:
         try:
             feed(process.stdin)

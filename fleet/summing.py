@@ -94,7 +94,7 @@ class Summary:
 
 
 def number_in(line, word, none):
-    """The number that a last line has behind a word, 0 where it says that there is none."""
+    """The number that a last line has behind a word, 0 if it says that there is none."""
     if line == none:
         return 0
     match = re.fullmatch(rf"{word} (\d+)", line)

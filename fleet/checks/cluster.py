@@ -9,7 +9,7 @@ import threading
 import time
 
 import planted
-from machine import made, must_be_of_all
+from machine import SMALL, made, must_be_of_all
 from packages import install
 from rooms import MARK, call, fleet, kill_marked, must, must_be_same, night, parts_in, program, read, until
 
@@ -18,6 +18,8 @@ SLURM = ("slurmctld", "slurmd", "sbatch", "munged")
 DASK = ("dask-scheduler", "dask-worker")
 # Debian's, which has Debian's packages.
 PYTHON = "/usr/bin/python3"
+# The name of a night's folder, of which each engine might take something for a pattern.
+HOSTILE = "-the night's %j {} \\x\n$HOME"
 # Stands for lockgraph: it takes a while. On one stream it kills its task, of Dask the worker too; on another one it
 # says on which node it is, and waits until that is lost; each once.
 STAND_IN = """#!/bin/sh
@@ -118,35 +120,12 @@ def start_dask(room):
     port = free_ports(1)[0]
     address = f"tcp://127.0.0.1:{port}"
     common = {"DASK_DISTRIBUTED__COMM__TIMEOUTS__CONNECT": "60s"}
-    start(
-        room,
-        "scheduler",
-        PYTHON,
-        shutil.which("dask-scheduler"),
-        "--host",
-        "127.0.0.1",
-        "--port",
-        str(port),
-        "--no-dashboard",
-        **common,
-    )
+    scheduler = [PYTHON, shutil.which("dask-scheduler"), "--host", "127.0.0.1", "--port", str(port), "--no-dashboard"]
+    start(room, "scheduler", *scheduler, **common, FLEET_NODE="scheduler")
+    worker = [PYTHON, shutil.which("dask-worker"), address, "--nthreads", "1", "--no-dashboard"]
     for name in NODES:
-        start(
-            room,
-            name,
-            PYTHON,
-            shutil.which("dask-worker"),
-            address,
-            "--nthreads",
-            "1",
-            "--no-dashboard",
-            "--name",
-            name,
-            "--local-directory",
-            room.new(f"spill-{name}"),
-            FLEET_NODE=name,
-            **common,
-        )
+        own = ["--name", name, "--local-directory", room.new(f"spill-{name}")]
+        start(room, name, *worker, *own, **common, FLEET_NODE=name)
     wait = f"from distributed import Client; Client({address!r}).wait_for_workers(4, timeout=60)"
     ended = call(PYTHON, "-c", wait)
     must(ended.returncode == 0, f"dask: four workers don't come up: {ended.stderr.decode()}")
@@ -166,7 +145,7 @@ def lose_a_node(room, variables):
 
 def check_cluster(room, count, name, words, variables):
     """A night with a task killed and a node lost has the same bytes as one of one machine."""
-    streams, alone, target = made(room, "streams", count), room.path("alone"), room.path("night")
+    streams, alone, target = made(room, "streams", count), room.path("alone"), room.path(HOSTILE)
     night(streams, alone, status=1, line=planted.summary(count))
     stand_in = room.write("stand-in", STAND_IN.format(room=room.folder, lockgraph=program("lockgraph")), 0o755)
     threading.Thread(target=lose_a_node, args=[room, variables], daemon=True).start()
@@ -198,6 +177,8 @@ def check_slurm(room, count):
         ["FLEET_NODE", "SLURMD_NODENAME"],
     )
     must("round 2:" in said, f"slurm: a killed task brought no second round:\n{said}")
+    must("that didn't end well: 1 FAILED" in said, f"slurm: a killed task isn't told:\n{said}")
+    must("begun again by Slurm" in said, f"slurm: a lost node isn't told:\n{said}")
     states = call("sinfo", "--noheader", "--Node", "--format=%N %T").stdout.decode()
     must("down" in states, f"slurm: no node was lost:\n{states}")
     return None
@@ -210,6 +191,29 @@ def check_dask(room, count):
         return why
     if call(PYTHON, "-c", "import distributed").returncode != 0:
         return f"{PYTHON} has no package distributed"
-    address = start_dask(room)
-    check_cluster(room, count, "dask", [PYTHON, fleet("dask/night"), "--scheduler", address], ["FLEET_NODE"])
+    words = [PYTHON, fleet("dask/night"), "--scheduler"]
+    said = check_cluster(room, count, "dask", [*words, start_dask(room)], ["FLEET_NODE"])
+    must("workers lost: 1" in said, f"dask: a lost worker isn't told:\n{said}")
+    check_lost_scheduler(room, words)
     return None
+
+
+def check_lost_scheduler(room, words):
+    """A scheduler that is lost ends the call, which says so. With another one the same call goes on."""
+    streams, target = made(room, "streams", SMALL), room.path("without-scheduler")
+    slow = room.write("slow", f'#!/bin/sh\nsleep 0.5\nexec {program("lockgraph")} "$@"\n', 0o755)
+    more = {"LOCKGRAPH": slow, "DASK_DISTRIBUTED__COMM__TIMEOUTS__CONNECT": "3s"}
+    # Those of the night before end with it.
+    kill_marked(f"{MARK}={room.folder}", "FLEET_NODE=scheduler")
+    address = start_dask(room)
+    threading.Thread(target=lose_the_scheduler, args=[room, target], daemon=True).start()
+    ended = call(*words, address, streams, target, more=more)
+    said = ended.stderr.decode()
+    must(ended.returncode == 2 and "the scheduler is lost" in said, f"dask: status {ended.returncode}:\n{said}")
+    ended = call(*words, start_dask(room), streams, target)
+    must(ended.stdout.decode() == planted.summary(SMALL) + "\n", f"dask: it doesn't go on:\n{ended.stderr.decode()}")
+
+
+def lose_the_scheduler(room, target):
+    until(lambda: parts_in(target), "dask: nothing begins")
+    kill_marked(f"{MARK}={room.folder}", "FLEET_NODE=scheduler")

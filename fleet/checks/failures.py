@@ -119,7 +119,7 @@ def check_poisoned(room, streams):
 
 
 def check_lost(room, _count):
-    """A machine that fails may lose what wasn't synced: the counts, or their bytes. The stream is reduced again then."""
+    """A machine that fails may lose what wasn't synced: counts, or their bytes. Their streams are reduced again."""
     streams = made(room, "streams", SMALL)
     night(streams, room.path("alone"), status=1)
     night(streams, room.path("night"), status=1)

@@ -1,6 +1,7 @@
 """Debian's packages of Slurm and Dask, installed without a service being started."""
 import contextlib
 import fcntl
+import functools
 import os
 import shutil
 import subprocess
@@ -31,8 +32,9 @@ def install(room, commands):
     return why
 
 
+@functools.lru_cache(maxsize=None)
 def run_apt():
-    """Installs the packages. Answers why it can't, or None."""
+    """Installs the packages. Answers why it can't, or None. What can't be done isn't tried again by another part."""
     say(f"installing {', '.join(PACKAGES)}")
     # A half-done installation would be worse than one that goes on behind the check, so this isn't ended with it.
     more = {"DEBIAN_FRONTEND": "noninteractive", MARK: ""}
