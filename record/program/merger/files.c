@@ -103,7 +103,7 @@ const struct unit *unit_at(const struct recording *recording, uint32_t unit)
 static void place_record(struct recording *recording, uint64_t head, struct place place)
 {
     uint64_t number = HEAD_NUMBER(head);
-    if (number >= recording->place_count || recording->places[number].unit)
+    if (place.task == 0 || number >= recording->place_count || recording->places[number].unit)
         totals.damaged++;
     else
         recording->places[number] = place;
@@ -114,6 +114,12 @@ static void add_record(struct recording *recording, struct place place)
 {
     recording->places = grown(recording->places, recording->place_count, &recording->place_room, sizeof place);
     recording->places[recording->place_count++] = place;
+}
+
+/* Gives the number of a task, or 0 if it is damaged: a recording has no more tasks than units. */
+static uint32_t task_numbered(const struct recording *recording, uint64_t number)
+{
+    return number <= recording->length / sizeof(struct unit) ? (uint32_t)number : 0;
 }
 
 static void place_chunk(struct recording *recording, size_t at, bool only_long)
@@ -127,7 +133,7 @@ static void place_chunk(struct recording *recording, size_t at, bool only_long)
         unsigned following = HEAD_FOLLOWING(head);
         struct place place = {base + (uint32_t)unit, task};
         if (HEAD_OPERATION(head) == RECORD_TASK)
-            task = (uint32_t)chunk->units[unit].value;
+            task = task_numbered(recording, chunk->units[unit].value);
         else if (only_long && following && unit + following < used)
             add_record(recording, place);
         else if (!only_long && head && unit + following < used)

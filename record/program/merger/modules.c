@@ -15,7 +15,7 @@ void add_module(struct modules *modules, const struct unit *first, unsigned foll
     module.path = must(strndup(path, (following - 1) * sizeof(struct unit)));
     module.binary = binary_of(module.path);
     module.name = module.binary->name;
-    if (modules->process && strcmp(path, modules->process->program) == 0)
+    if (modules->process && strcmp(module.path, modules->process->program) == 0)
         module.name = modules->process->name;
     modules->all = grown(modules->all, modules->count, &modules->room, sizeof module);
     modules->all[modules->count++] = module;

@@ -95,8 +95,9 @@ static struct task *task_at(uint32_t number)
 
 size_t held_by(uint32_t task, const struct hold **held)
 {
-    *held = task_at(task)->held;
-    return task_at(task)->held_count;
+    bool is_known = task < task_count;
+    *held = is_known ? tasks[task].held : NULL;
+    return is_known ? tasks[task].held_count : 0;
 }
 
 static void write_event(const char *verb, uint32_t number, struct class *class, const struct lock *lock,
@@ -194,10 +195,12 @@ static void push(struct task *task, struct hold hold)
     task->held[task->held_count++] = hold;
 }
 
-/* A child of a fork begins with the locks that the thread which forked it held. */
+/* A child of a fork begins with the locks that the thread which forked it held. Its trace takes them up once it
+   begins: what is given back before that isn't in it. */
 void hold_from_start(uint32_t task, struct locks *locks, struct hold hold)
 {
     struct lock *lock = &locks->all[hold.lock];
+    hold.is_written = false;
     if (hold.is_shared)
         lock->readers++;
     else
