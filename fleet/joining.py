@@ -1,5 +1,6 @@
 """The tree by which the reduced streams of a night come to one."""
 import contextlib
+import filecmp
 import hashlib
 import os
 import shutil
@@ -71,7 +72,11 @@ class Tree:
         self.top = night.file("join", f"all-{name_of(self.members, self.keeps)}")
 
     def is_made(self):
-        return os.path.exists(self.top + REDUCED)
+        """Whether night.trace is what all come to: another call may have left it to something else, or to nothing."""
+        try:
+            return filecmp.cmp(self.top + REDUCED, self.night.file("night.trace"), shallow=False)
+        except FileNotFoundError:
+            return False
 
     def make(self, reducer, say):
         """Joins level by level. `say` tells how far it is."""

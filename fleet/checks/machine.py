@@ -88,6 +88,21 @@ def check_groups(room, _count):
         b"inversion late_a -> late_b" in read(room.path("one"), "night.report"),
         "groups: streams that came later aren't seen",
     )
+    check_some(room, streams)
+
+
+def check_some(room, streams):
+    """A night's stream is that of its last call, whatever others made of other streams, or where they ended."""
+    some, target = room.write("some", f"{planted.path(1)}\n{planted.path(2)}\n"), room.path("one")
+    left = []
+    for words in ([], ["--list", some], []):
+        night(streams, target, *words, status=1 if not words else 0)
+        left.append(read(target, "night.trace"))
+    must(left[0] == left[2] != left[1], "groups: the night's stream is that of another call")
+    # As a disk that got full just then leaves it.
+    os.unlink(os.path.join(target, "night.trace"))
+    night(streams, target, status=1)
+    must(read(target, "night.trace") == left[0], "groups: the night's stream isn't made again")
 
 
 def check_before(room, _count):
