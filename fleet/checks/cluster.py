@@ -177,8 +177,9 @@ def check_slurm(room, count):
         ["FLEET_NODE", "SLURMD_NODENAME"],
     )
     must("round 2:" in said, f"slurm: a killed task brought no second round:\n{said}")
-    must("that didn't end well: 1 FAILED" in said, f"slurm: a killed task isn't told:\n{said}")
-    must("begun again by Slurm" in said, f"slurm: a lost node isn't told:\n{said}")
+    # The task of the lost node is begun again, or has failed too, by what Slurm sees first.
+    must(" FAILED; see " in said, f"slurm: a killed task isn't told:\n{said}")
+    must("begun again by Slurm" in said or " 2 FAILED" in said, f"slurm: a lost node isn't told:\n{said}")
     states = call("sinfo", "--noheader", "--Node", "--format=%N %T").stdout.decode()
     must("down" in states, f"slurm: no node was lost:\n{states}")
     return None
