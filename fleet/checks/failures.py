@@ -184,6 +184,10 @@ def check_full_disk(room, streams):
         "full: a stream is told to be faulty",
     )
     must(not parts_in(room.path("disk")), "full: parts are left on the disk")
+    # What is full needn't be the night's disk, if nothing of the night is there.
+    words = {"TMPDIR": room.path("disk")}
+    night(streams, room.path("elsewhere"), status=1, line=planted.summary(SMALL), more=words)
+    must_be_same(room.path("alone"), room.path("elsewhere"), "full")
     subprocess.run(["mount", "-o", "remount,size=64m", room.path("disk")], check=True)
     night(streams, room.path("disk", "night"), status=1, line=planted.summary(SMALL))
     must_be_same(room.path("alone"), room.path("disk", "night"), "full")
