@@ -5,9 +5,10 @@ import os
 import shutil
 import sys
 import time
+import traceback
 
 from joining import GROUP, LARGEST_GROUP, MIB, Tree, keep_before
-from nights import STREAM, Found, Night, Wrong, end_in_order, found_below, list_of, names_in, read, shown
+from nights import STREAM, Found, Night, Wrong, found_below, list_of, names_in, read, shown
 from reducing import ROOT, Reducer, program
 from summing import Summary
 
@@ -236,11 +237,14 @@ class Driver:
 
 def drive(words, engine):
     """The exit status of a night."""
-    end_in_order()
     try:
         return Driver(words, engine).run()
     except (Wrong, OSError) as error:
         engine.say(shown(str(error)))
+        return 2
+    except Exception:
+        # Python would end with 1, which says that violations are new.
+        engine.say(f"this is a mistake in the program:\n{traceback.format_exc()}")
         return 2
     except KeyboardInterrupt:
         engine.say("stopped: the same call goes on")

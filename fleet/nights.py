@@ -225,10 +225,16 @@ class Night:
                         os.unlink(part)
 
 
-def end_in_order():
-    """Has a signal that ends this process take away what isn't whole."""
+def begin_in_order():
+    """Has a signal that ends this process take away what isn't whole. A closed standard file becomes an empty one, else
+    a file of the night would get its number, and with it the texts of all processes."""
     for it in (signal.SIGHUP, signal.SIGTERM):
         signal.signal(it, lambda number, _: sys.exit(128 + number))
+    while (number := os.open(os.devnull, os.O_RDWR)) <= 2:
+        os.set_inheritable(number, True)
+    os.close(number)
+    sys.stdout = sys.stdout or open(1, "w", encoding="utf-8")
+    sys.stderr = sys.stderr or open(2, "w", encoding="utf-8")
 
 
 def is_regular(path):

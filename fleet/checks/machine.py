@@ -184,9 +184,25 @@ def check_words(room, _count):
         must(text in said, f"words: {words}: {said}")
     said = night(streams, room.path("n"), status=2, more={"LOCKGRAPH": room.path("none")})
     must("lockgraph isn't built" in said, f"words: {said}")
-    for name in ("night", "map", "join", "slurm/night", "check"):
+    engines = ["night", "slurm/night", "slurm/map.job", "slurm/join.job", "dask/night"]
+    for name in [*engines, "map", "join", "check", "cost"]:
         ended = call(fleet(name), "--help")
         must(ended.returncode == 0 and b"fleet/" in ended.stdout, f"words: {name} --help: {ended.stderr.decode()}")
+    check_outputs(room)
+
+
+def check_outputs(room):
+    """The status says that violations are new only if they are, whatever is wrong with the outputs or the program."""
+    streams = room.new("other")
+    room.write("other/x.trace", "trace x\nacquire t A\nacquire t B\n")
+    for closed in ("0<&-", "1>&-", "2>&-", "0<&- 1>&- 2>&-"):
+        room.new("closed")
+        ended = call("sh", "-c", f'exec "$@" {closed}', "sh", fleet("night"), streams, room.path("closed"))
+        must(ended.returncode == 0, f"words: {closed}: status {ended.returncode}: {ended.stderr.decode()}")
+        must(read(room.path("closed"), "night.report").endswith(b"\nclean\n"), f"words: {closed}: no whole report")
+    odd = room.write("odd", "#!/bin/sh\nprintf '\\377\\n'\n", 0o755)
+    said = night(streams, room.path("closed"), status=2, more={"LOCKCHECK": odd})
+    must("mistake in the program" in said, f"words: {said}")
 
 
 def check_stopped(room, _count):
