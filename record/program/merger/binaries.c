@@ -19,6 +19,12 @@ const void *part(const struct binary *binary, uint64_t start, uint64_t length)
     return fits ? binary->bytes + start : NULL;
 }
 
+/* Gives a table of the file, or NULL where it hasn't got all of it or the rows don't stand where they may be read. */
+const void *table_part(const struct binary *binary, uint64_t start, uint64_t length)
+{
+    return start % sizeof(uint64_t) == 0 ? part(binary, start, length) : NULL;
+}
+
 static void map_file(struct binary *binary)
 {
     struct stat status;
@@ -49,7 +55,7 @@ const Elf64_Shdr *sections_of(const struct binary *binary, unsigned *count)
 {
     const Elf64_Ehdr *header = header_of(binary);
     *count = header ? header->e_shnum : 0;
-    return header ? part(binary, header->e_shoff, (uint64_t)*count * sizeof(Elf64_Shdr)) : NULL;
+    return header ? table_part(binary, header->e_shoff, (uint64_t)*count * sizeof(Elf64_Shdr)) : NULL;
 }
 
 /* Gives the bytes of a section, or none where it isn't there or is compressed. */
@@ -79,7 +85,7 @@ static bool is_wanted(const Elf64_Sym *symbol)
 
 static void add_table(struct binary *binary, const Elf64_Shdr *table, const Elf64_Shdr *strings)
 {
-    const Elf64_Sym *all = part(binary, table->sh_offset, table->sh_size);
+    const Elf64_Sym *all = table_part(binary, table->sh_offset, table->sh_size);
     const char *text = part(binary, strings->sh_offset, strings->sh_size);
     if (!all || !text || strings->sh_size == 0 || text[strings->sh_size - 1] != 0)
         return;
@@ -119,6 +125,8 @@ static const char *shared_name(const struct binary *binary)
 {
     struct bytes entries = section_of(binary, ".dynamic"), names = section_of(binary, ".dynstr");
     const Elf64_Dyn *entry = (const Elf64_Dyn *)entries.at;
+    if ((uintptr_t)entries.at % sizeof(uint64_t) != 0)
+        return NULL;
     for (; entry && (const unsigned char *)(entry + 1) <= entries.end && entry->d_tag != DT_NULL; entry++)
         if (entry->d_tag == DT_SONAME)
             return text_in(names, entry->d_un.d_val);

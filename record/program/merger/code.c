@@ -12,7 +12,7 @@ static const unsigned char *code_at(const struct binary *binary, uint64_t addres
     const Elf64_Ehdr *header = header_of(binary);
     const Elf64_Phdr *segments = NULL;
     if (header)
-        segments = part(binary, header->e_phoff, (uint64_t)header->e_phnum * sizeof *segments);
+        segments = table_part(binary, header->e_phoff, (uint64_t)header->e_phnum * sizeof *segments);
     for (unsigned number = 0; segments && number < header->e_phnum; number++) {
         const Elf64_Phdr *segment = &segments[number];
         if (segment->p_type == PT_LOAD && address >= segment->p_vaddr &&
@@ -139,8 +139,8 @@ void each_import(struct binary *binary, void (*see)(struct binary *, const char 
         if (section->sh_type != SHT_RELA || section->sh_link >= count)
             continue;
         const Elf64_Shdr *table = &sections[section->sh_link];
-        const Elf64_Rela *all = part(binary, section->sh_offset, section->sh_size);
-        const Elf64_Sym *symbols = part(binary, table->sh_offset, table->sh_size);
+        const Elf64_Rela *all = table_part(binary, section->sh_offset, section->sh_size);
+        const Elf64_Sym *symbols = table_part(binary, table->sh_offset, table->sh_size);
         if (!all || !symbols || table->sh_type != SHT_DYNSYM || table->sh_link >= count)
             continue;
         const Elf64_Shdr *names = &sections[table->sh_link];

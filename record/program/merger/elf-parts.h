@@ -14,6 +14,7 @@ struct symbol {
 
 /* binaries.c */
 const void *part(const struct binary *binary, uint64_t start, uint64_t length);
+const void *table_part(const struct binary *binary, uint64_t start, uint64_t length);
 const Elf64_Ehdr *header_of(const struct binary *binary);
 const Elf64_Shdr *sections_of(const struct binary *binary, unsigned *count);
 
