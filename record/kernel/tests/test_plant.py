@@ -30,9 +30,18 @@ class Compare(unittest.TestCase):
     def path(self, name):
         return os.path.join(self.folder, name)
 
-    def compare(self, fault):
-        end = subprocess.run([PLANT, 'compare', fault, self.folder], capture_output=True, text=True)
+    def compare(self, fault, lockcheck=None):
+        environment = dict(os.environ, LOCKCHECK=lockcheck) if lockcheck else None
+        end = subprocess.run([PLANT, 'compare', fault, self.folder], capture_output=True, text=True, env=environment)
         return end.returncode, end.stdout, end.stderr
+
+    def reporter(self, *report):
+        """A program that gives this report for every stream."""
+        program = self.path('reporter')
+        with open(program, 'w') as file:
+            file.write('\n'.join(['#!/bin/sh', 'cat >/dev/null', "cat <<'END'", *report, 'END', 'exit 1', '']))
+        os.chmod(program, 0o755)
+        return program
 
     def test_lockdep_and_lockcheck_agree(self):
         self.assertEqual(self.compare('recursion')[:2], (0, 'plant: recursion: lockdep and lockcheck agree\n'))
@@ -65,6 +74,26 @@ class Compare(unittest.TestCase):
         self.assertIn('cut', errors)
         os.remove(self.path('trace'))
         self.assertEqual(self.compare('recursion')[0], 2)
+
+    def test_what_readers_wait_for_is_shown_as_their_lock(self):
+        reporter = self.reporter(
+            'traces 1 refused 0 events 9 classes 6 dependencies 5',
+            'inversion plant_a -> a!read at hard:7 via a!read -> b!read -> c!read -> plant_a',
+            'inversion a!read -> plant_a at hard:9 via plant_a -> a!read',
+            'recursion plant_a!read at hard:8',
+            'conflict soft plant_a!read {....} in hard:7 on hard:9',
+            'forbidden hard a!read {-...} in hard:5 -> plant_a!read {+...} on hard:6 via a!read -> plant_a!read',
+            'violations 5')
+        status, out, errors = self.compare('hard', reporter)
+        self.assertEqual((status, out), (1, ''))
+        self.assertEqual([line for line in errors.splitlines() if line.startswith('  more: ')], [
+            '  more: inversion plant_a -> a (read) at hard:7 via a (written) -> b (read, written) -> c (read, written)'
+            ' -> plant_a',
+            '  more: inversion a (written) -> plant_a at hard:9 via plant_a -> a (read)',
+            '  more: recursion plant_a (read, written) at hard:8',
+            '  more: conflict soft plant_a (read, written) {....} in hard:7 on hard:9',
+            '  more: forbidden hard a (read) {-...} in hard:5 -> plant_a (written) {+...} on hard:6'
+            ' via a (written) -> plant_a (read)'])
 
     def test_names_by_the_lockdep_file_of_the_same_boot(self):
         with open(self.path('trace'), 'rb') as file:
