@@ -4,7 +4,10 @@ use crate::around::near;
 use crate::violations::{Choice, Dependency, Kind, Violation, chosen, is_named};
 use crate::writing::write_sub;
 use indexmap::{IndexMap, IndexSet};
-use ld_texts::{Book, ClassName, ClassRow, DependencyRow, Overview, Places};
+use ld_texts::{
+    Book, ClassName, ClassRow, DependencyRow, Overview, Places, has_readers, lock_of_readers,
+    sort_by_locks,
+};
 use ld_trace::Source;
 use std::alloc::{AllocError, Global};
 use std::io::Write;
@@ -43,7 +46,8 @@ struct Marked<'a> {
 
 /// The classes and dependencies of a book as a graph for Graphviz: each class with its usage, each dependency
 /// with its first witness. Those of cycles are red, other ones of forbidden walks orange, and classes with a
-/// conflict have two lines around them.
+/// conflict have two lines around them. What the readers of a lock wait for stands in a box with the lock's name, and
+/// with the lock's own class, if that is drawn.
 ///
 /// `sources` are the traces of the book, each at the place of its number, and `places` says where the lines
 /// stand in files.
@@ -58,10 +62,12 @@ pub fn dot<'t, 'a>(
     places: &'t Places<'t>,
     drawn: Drawn<'_>,
 ) -> Result<Vec<u8>, AllocError> {
-    let overview = Overview::new(alloc, book)?;
+    let mut overview = Overview::new(alloc, book)?;
+    sort_by_locks(&mut overview.classes);
     let marked = Marked::of(alloc, &chosen(alloc, book, &[], &Choice::all())?)?;
     let are_drawn = classes_drawn(alloc, &overview, &marked, drawn)?;
     let mut drawing = Drawing {
+        alloc,
         sources,
         places,
         marked: &marked,
@@ -105,6 +111,21 @@ fn classes_drawn(
     }
 }
 
+/// The classes that are drawn.
+fn classes_of<'a>(
+    alloc: Global,
+    overview: &Overview<'a>,
+    are_drawn: &[bool],
+) -> Result<Vec<ClassRow<'a>>, AllocError> {
+    let mut classes = Vec::new(alloc);
+    for row in &overview.classes {
+        if is_marked(are_drawn, row.number) {
+            classes.push(*row)?;
+        }
+    }
+    Ok(classes)
+}
+
 impl<'a> Marked<'a> {
     /// What stands on these.
     fn of(alloc: Global, violations: &[Violation<'_, 'a>]) -> Result<Marked<'a>, AllocError> {
@@ -142,6 +163,7 @@ impl<'a> Marked<'a> {
 /// The text so far, and what it is about.
 #[derive(Drop)]
 struct Drawing<'t, 'a> {
+    alloc: Global,
     sources: &'t [Source<'a>],
     places: &'t Places<'t>,
     marked: &'t Marked<'a>,
@@ -161,10 +183,9 @@ impl<'t, 'a> Drawing<'t, 'a> {
             .extend_from_slice(b"  node [shape=box fontname=monospace];\n")?;
         self.text
             .extend_from_slice(b"  edge [fontname=monospace fontsize=10];\n")?;
-        for row in &overview.classes {
-            if is_marked(are_drawn, row.number) {
-                self.class(row)?;
-            }
+        let classes = classes_of(self.alloc, overview, are_drawn)?;
+        for group in classes.chunk_by(|one, other| has_readers(one.class, other.class)) {
+            self.group(group)?;
         }
         for row in &overview.dependencies {
             if is_marked(are_drawn, row.edge.from)
@@ -194,13 +215,41 @@ impl<'t, 'a> Drawing<'t, 'a> {
         self.marked.dependencies.get(&dependency).copied()
     }
 
-    /// A class with its usage.
+    /// Classes of one lock, in a box if readers wait for the last one.
+    fn group(&mut self, rows: &[ClassRow<'a>]) -> Result<(), AllocError> {
+        let Some(lock) = rows.last().and_then(|row| lock_of_readers(row.class)) else {
+            return self.classes(rows, b"  ");
+        };
+        self.text.extend_from_slice(b"  subgraph \"cluster_")?;
+        write_quoted(&mut self.text, lock)?;
+        self.text.extend_from_slice(b"\" {\n    label=\"")?;
+        write_shown(&mut self.text, lock)?;
+        self.text
+            .extend_from_slice(b"\";\n    fontname=monospace;\n")?;
+        self.classes(rows, b"    ")?;
+        self.text.extend_from_slice(b"  }\n")?;
+        Ok(())
+    }
+
+    /// Classes, each behind this margin.
+    fn classes(&mut self, rows: &[ClassRow<'a>], margin: &[u8]) -> Result<(), AllocError> {
+        for row in rows {
+            self.text.extend_from_slice(margin)?;
+            self.class(row)?;
+        }
+        Ok(())
+    }
+
+    /// A class with its usage. What readers wait for has the name of their lock around it.
     fn class(&mut self, row: &ClassRow<'a>) -> Result<(), AllocError> {
-        self.text.extend_from_slice(b"  ")?;
         self.node(row.class)?;
         self.text.extend_from_slice(b" [label=\"")?;
-        write_shown(&mut self.text, row.class.name)?;
-        write_sub(&mut self.text, row.class)?;
+        if lock_of_readers(row.class).is_some() {
+            self.text.extend_from_slice(b"!read")?;
+        } else {
+            write_shown(&mut self.text, row.class.name)?;
+            write_sub(&mut self.text, row.class)?;
+        }
         self.text.extend_from_slice(b"\\n{")?;
         self.text.extend_from_slice(&row.usage.bits.marks())?;
         self.text.extend_from_slice(b"}\"")?;

@@ -2,13 +2,14 @@
 
 use crate::groups::{Member, grouped, most_shared};
 use crate::known::{write_known_class, write_known_line};
+use crate::readers::{Held, class_of, holds_in};
 use crate::sightings::{Sightings, Texts};
 use crate::violations::{Dependency, Ends, Step, Violation};
-use crate::writing::{state_name, write_class, write_lock, write_place};
+use crate::writing::{state_name, write_lock, write_place};
 use indexmap::IndexSet;
-use ld_held::{Before, Flag, Hold, task_of};
+use ld_held::{Before, Flag, task_of};
 use ld_maps::Maps;
-use ld_texts::{ClassName, Places, Witness};
+use ld_texts::{ClassName, Places, Witness, lock_of_readers, write_held, write_waited};
 use ld_trace::{Source, State};
 use std::alloc::{AllocError, Global};
 use std::io::Write;
@@ -210,9 +211,9 @@ impl<'t, 'a> Telling<'t, 'a> {
     }
 
     fn dependency(&mut self, dependency: Dependency<'_>) -> Result<(), AllocError> {
-        write_class(&mut self.text, dependency.from)?;
+        write_held(&mut self.text, dependency.from)?;
         self.text.extend_from_slice(b" -> ")?;
-        write_class(&mut self.text, dependency.to)
+        write_waited(&mut self.text, dependency.to)
     }
 
     /// A dependency at its first witness, with the locks that its task held there in the same frame.
@@ -231,10 +232,8 @@ impl<'t, 'a> Telling<'t, 'a> {
         };
         self.seen(step.first, before)?;
         let frame = innermost(before);
-        for hold in before.task.holds() {
-            if hold.frame == frame {
-                self.hold(step.first.number, hold)?;
-            }
+        for held in &holds_in(self.alloc, before.task.holds(), frame)? {
+            self.hold(step.first.number, held)?;
         }
         Ok(())
     }
@@ -243,7 +242,7 @@ impl<'t, 'a> Telling<'t, 'a> {
     fn safe_end(&mut self, ends: &Ends<'a>) -> Result<(), AllocError> {
         let state = state_name(ends.state);
         write!(self.text, "  {state} handlers acquire ").map_err(|_| AllocError)?;
-        write_class(&mut self.text, ends.safe)?;
+        write_waited(&mut self.text, ends.safe)?;
         self.text.push(b'\n')?;
         self.class(ends.safe)?;
         let Some(before) = self.sightings.at(ends.safe_at) else {
@@ -262,7 +261,7 @@ impl<'t, 'a> Telling<'t, 'a> {
     /// its task held there already, in whatever frame, and since when such a handler could.
     fn exposed_end(&mut self, ends: &Ends<'a>) -> Result<(), AllocError> {
         self.text.extend_from_slice(b"  ")?;
-        write_class(&mut self.text, ends.exposed)?;
+        write_held(&mut self.text, ends.exposed)?;
         let state = state_name(ends.state);
         writeln!(self.text, " is held where {state} handlers can interrupt").map_err(
             |_| AllocError,
@@ -274,8 +273,8 @@ impl<'t, 'a> Telling<'t, 'a> {
         self.seen(ends.exposed_at, before)?;
         let number = ends.exposed_at.number;
         for hold in before.task.holds() {
-            if is_of(hold, ends.exposed) {
-                self.hold(number, hold)?;
+            if class_of(hold) == ends.exposed {
+                self.hold(number, &Held::of(hold))?;
             }
         }
         let flags = before.flags();
@@ -313,19 +312,20 @@ impl<'t, 'a> Telling<'t, 'a> {
     }
 
     /// A lock that is held, and the line of its acquisition.
-    fn hold(&mut self, number: u64, hold: &Hold<'_>) -> Result<(), AllocError> {
+    fn hold(&mut self, number: u64, held: &Held<'_>) -> Result<(), AllocError> {
         self.text.extend_from_slice(b"    holds ")?;
-        write_lock(&mut self.text, hold)?;
+        write_lock(&mut self.text, held)?;
         self.text.extend_from_slice(b", ")?;
-        self.line(number, hold.line)
+        self.line(number, held.line)
     }
 
-    /// What is known of a class, where it wasn't told yet.
+    /// What is known of a class, or of the lock whose readers wait for it, where it wasn't told yet.
     fn class(&mut self, class: ClassName<'a>) -> Result<(), AllocError> {
-        if self.maps.is_empty() || !self.named.insert(class.name)? {
+        let name = lock_of_readers(class).unwrap_or(class.name);
+        if self.maps.is_empty() || !self.named.insert(name)? {
             return Ok(());
         }
-        write_known_class(&mut self.text, self.maps, class.name)
+        write_known_class(&mut self.text, self.maps, name)
     }
 
     /// A line of a trace: where it stands in its file, what it says, and what is known of it.
@@ -356,9 +356,4 @@ fn innermost(before: &Before<'_>) -> Option<u64> {
         Some(handler) => Some(handler.place),
         None => None,
     }
-}
-
-/// Whether a lock was acquired as one of this class.
-fn is_of(hold: &Hold<'_>, class: ClassName<'_>) -> bool {
-    hold.lock.class == class.name && hold.sub == class.sub
 }

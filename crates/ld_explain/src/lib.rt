@@ -8,6 +8,7 @@ mod drawing;
 mod explaining;
 mod groups;
 mod known;
+mod readers;
 mod sightings;
 mod violations;
 mod writing;

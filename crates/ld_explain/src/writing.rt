@@ -1,16 +1,10 @@
 //! Writes names and places. Each call answers `AllocError` where memory for its text was refused.
 
-use ld_held::Hold;
+use crate::readers::Held;
 use ld_texts::{ClassName, Places};
 use ld_trace::State;
 use std::alloc::AllocError;
 use std::io::Write;
-
-/// The name of a class, as a report writes it.
-pub fn write_class(out: &mut Vec<u8>, class: ClassName<'_>) -> Result<(), AllocError> {
-    out.extend_from_slice(class.name)?;
-    write_sub(out, class)
-}
 
 /// The subclass of a class behind its name, `/N`, where it has one.
 pub fn write_sub(out: &mut Vec<u8>, class: ClassName<'_>) -> Result<(), AllocError> {
@@ -21,12 +15,15 @@ pub fn write_sub(out: &mut Vec<u8>, class: ClassName<'_>) -> Result<(), AllocErr
     write!(out, "/{sub}").map_err(|_| AllocError)
 }
 
-/// A lock that is held: `CLASS` or `CLASS@INSTANCE`.
-pub fn write_lock(out: &mut Vec<u8>, hold: &Hold<'_>) -> Result<(), AllocError> {
-    out.extend_from_slice(hold.lock.class)?;
-    if let Some(name) = hold.lock.instance {
+/// A lock that is held: `CLASS` or `CLASS@INSTANCE`, with ` (written)` behind it if readers wait for its task.
+pub fn write_lock(out: &mut Vec<u8>, held: &Held<'_>) -> Result<(), AllocError> {
+    out.extend_from_slice(held.lock.class)?;
+    if let Some(name) = held.lock.instance {
         out.push(b'@')?;
         out.extend_from_slice(name)?;
+    }
+    if held.is_written {
+        out.extend_from_slice(b" (written)")?;
     }
     Ok(())
 }

@@ -1,2 +1,3 @@
 pub mod Overview
 pub mod Places
+pub mod Readers

@@ -6,6 +6,7 @@ mod json;
 mod list;
 mod overview;
 mod places;
+mod readers;
 mod shape;
 mod stats;
 mod wanted;
@@ -17,4 +18,5 @@ pub use ld_book::{
 pub use ld_counts::Followers;
 pub use overview::{ClassRow, DependencyRow, Overview};
 pub use places::{Place, Places};
+pub use readers::{has_readers, lock_of_readers, sort_by_locks, write_held, write_waited};
 pub use wanted::{Listing, Wanted, text_of};

@@ -1,6 +1,7 @@
 //! The list of classes.
 
 use crate::overview::{ClassRow, DependencyRow, Overview, class_rows, dependency_rows};
+use crate::readers::{has_readers, sort_by_locks, write_held, write_waited};
 use crate::shape::components;
 use crate::writing::{Seen, is_called, write_at, write_class, write_marks};
 use ld_book::{Book, ClassName, Witness};
@@ -36,6 +37,15 @@ impl Counts {
     }
 }
 
+/// How the row of a class stands in the list.
+#[derive(Clone, Copy, Debug, PartialEq, Eq)]
+enum Level {
+    /// By its name.
+    Own,
+    /// As `!read`, under the row of the lock whose readers wait for it.
+    OfLock,
+}
+
 /// Every class by its name, and where they are wanted its dependencies under it.
 pub(crate) fn list_text(
     alloc: Global,
@@ -44,20 +54,51 @@ pub(crate) fn list_text(
     counts: &Counts,
     dependencies: bool,
 ) -> Result<Vec<u8>, AllocError> {
-    let classes = class_rows(alloc, book)?;
+    let mut classes = class_rows(alloc, book)?;
+    sort_by_locks(&mut classes);
     // To put them in their order is a good part of the work.
     let rows = if dependencies {
         dependency_rows(alloc, book)?
     } else {
         Vec::new(alloc)
     };
+    let starts = starts(alloc, classes.len(), &rows)?;
     let mut text = Vec::new(alloc);
-    let mut start = 0;
+    let mut above = None;
     for class in &classes {
-        write_row(&mut text, counts, class)?;
-        start = write_followers(&mut text, seen, &rows, start, class.number)?;
+        let level = level_of(above, class.class);
+        write_row(&mut text, counts, class, level)?;
+        let start = starts
+            .get(class.number as usize)
+            .copied()
+            .unwrap_or(rows.len());
+        write_followers(&mut text, seen, &rows, start, class.number, level)?;
+        above = Some(class.class);
     }
     Ok(text)
+}
+
+/// How the row of a class stands below that of the class above.
+fn level_of(above: Option<ClassName<'_>>, class: ClassName<'_>) -> Level {
+    match above {
+        Some(above) if has_readers(above, class) => Level::OfLock,
+        _ => Level::Own,
+    }
+}
+
+/// Where in these rows the dependencies of each class begin, by the numbers of so many classes.
+fn starts(
+    alloc: Global,
+    count: usize,
+    rows: &[DependencyRow<'_>],
+) -> Result<Vec<usize>, AllocError> {
+    let mut starts = vec![in alloc; rows.len(); count]?;
+    for (at, row) in rows.iter().enumerate() {
+        if let Some(start) = starts.get_mut(row.edge.from as usize) {
+            *start = at.min(*start);
+        }
+    }
+    Ok(starts)
 }
 
 /// The class of this name, with where its usage bits were first seen, under what it was held, and what was
@@ -75,7 +116,7 @@ pub(crate) fn class_text(
     for class in &overview.classes {
         if is_called(class.class, name) {
             is_there = true;
-            write_row(&mut text, counts, class)?;
+            write_row(&mut text, counts, class, Level::Own)?;
             write_usage(&mut text, seen, class)?;
             write_around(&mut text, seen, &overview.dependencies, class.number)?;
         }
@@ -88,8 +129,16 @@ pub(crate) fn class_text(
 }
 
 /// Writes `CLASS {USAGE} acquired N reached-from N reaches N`.
-fn write_row(text: &mut Vec<u8>, counts: &Counts, row: &ClassRow<'_>) -> Result<(), AllocError> {
-    write_class(text, row.class)?;
+fn write_row(
+    text: &mut Vec<u8>,
+    counts: &Counts,
+    row: &ClassRow<'_>,
+    level: Level,
+) -> Result<(), AllocError> {
+    match level {
+        Level::Own => write_class(text, row.class)?,
+        Level::OfLock => text.extend_from_slice(b"  !read")?,
+    }
     text.extend_from_slice(b" ")?;
     write_marks(text, &row.usage)?;
     let acquired = counts.acquired(row.number);
@@ -103,22 +152,28 @@ fn write_row(text: &mut Vec<u8>, counts: &Counts, row: &ClassRow<'_>) -> Result<
 }
 
 /// Writes what was acquired under a class, `  -> CLASS at LABEL FILE:LINE`: of the rows from this place on
-/// those that it begins. Answers where these end.
+/// those that it begins.
 fn write_followers(
     text: &mut Vec<u8>,
     seen: &Seen<'_, '_, '_, '_>,
     rows: &[DependencyRow<'_>],
     start: usize,
     class: u32,
-) -> Result<usize, AllocError> {
+    level: Level,
+) -> Result<(), AllocError> {
     for at in start..rows.len() {
         let row = rows[at];
         if row.edge.from != class {
-            return Ok(at);
+            return Ok(());
         }
-        write_named(text, b"  -> ", seen, row.to, row.first)?;
+        match level {
+            Level::Own => text.extend_from_slice(b"  -> ")?,
+            Level::OfLock => text.extend_from_slice(b"    -> ")?,
+        }
+        write_waited(text, row.to)?;
+        write_first(text, seen, row.first)?;
     }
-    Ok(rows.len())
+    Ok(())
 }
 
 /// Writes under what a class was acquired, and then what was acquired under it.
@@ -130,12 +185,16 @@ fn write_around(
 ) -> Result<(), AllocError> {
     for row in rows {
         if row.edge.to == class {
-            write_named(text, b"  under ", seen, row.from, row.first)?;
+            text.extend_from_slice(b"  under ")?;
+            write_held(text, row.from)?;
+            write_first(text, seen, row.first)?;
         }
     }
     for row in rows {
         if row.edge.from == class {
-            write_named(text, b"  over ", seen, row.to, row.first)?;
+            text.extend_from_slice(b"  over ")?;
+            write_waited(text, row.to)?;
+            write_first(text, seen, row.first)?;
         }
     }
     Ok(())
@@ -170,16 +229,12 @@ fn write_bit(
     Ok(())
 }
 
-/// Writes a class behind these words, and where its dependency was first seen.
-fn write_named(
+/// Writes where a dependency was first seen, behind one of its classes.
+fn write_first(
     text: &mut Vec<u8>,
-    words: &[u8],
     seen: &Seen<'_, '_, '_, '_>,
-    class: ClassName<'_>,
     first: Witness,
 ) -> Result<(), AllocError> {
-    text.extend_from_slice(words)?;
-    write_class(text, class)?;
     text.extend_from_slice(b" at ")?;
     write_at(text, seen, first)?;
     text.push(b'\n')?;

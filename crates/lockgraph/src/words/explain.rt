@@ -20,6 +20,9 @@ the same handler, or outside any, each with the line of its acquisition. Of a co
 both ends follow: where a handler acquires the class, and which handlers its task was in; and where the class is
 held while handlers can interrupt, and since when they could.
 
+The class L!read, for which recursive readers of L wait, is shown as L (read) if a task waits for it, and as
+L (written) if a task holds it.
+
 With --map, which may stand several times, the files have maps in turn, as the recorders write them: STREAM.places
 of a program, or what convert --map wrote of a kernel; an empty one, as /dev/null, says nothing. Below each line
 stands then the function and the source line, or the line of the recording; and below a class, where it is first

@@ -13,6 +13,8 @@ N are how often it is acquired, from how many classes walks of dependencies lead
 lead from it; a class on a cycle counts itself. Under it stand with --dependencies those that begin with it,
 each with the place where it was first seen:
   -> CLASS at LABEL FILE:LINE
+The class L!read, for which recursive readers of L wait, has the row !read under that of L.
+
 Of one class --class writes where each usage bit was first seen, under which classes it was acquired (under),
 and which ones were acquired under it (over), or `NAME not seen`.
 
