@@ -1,2 +1,3 @@
 pub mod PlaceLemmas
 pub mod OverviewLemmas
+pub mod ReaderLemmas

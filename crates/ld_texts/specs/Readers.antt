@@ -7,3 +7,7 @@ use Rattle.ld_class.specs.Names.{PlainClass}
 pub record IsForReaders (lock : List ℕ) (class : PlainClass) : Type 0 where
   pub some : lock ≢ []
   pub named : class ≡ record { name = lock ++ codes "!read"; sub = 0 }
+
+-- recursive readers of locks of the first class, which is no subclass, wait for the second one
+abbrev pub HasReaders : PlainClass → PlainClass → Type 0
+HasReaders class other = (class.sub ≡ 0) × IsForReaders class.name other

@@ -1,9 +1,9 @@
 //! Locks that recursive readers wait for. Recorders write each as two classes: `L`, and `L!read`, for which the
 //! readers wait and which writers hold.
-ghost use Rattle.std.specs.Prelude.{◌≡◌, List, MatchOption, ℕ};
+ghost use Rattle.std.specs.Prelude.{Decides, List, MatchOption, ℕ};
 ghost use Rattle.std.specs.List.Sorted.{IsPermutation};
 ghost use Rattle.ld_class.specs.Names.{plain_class};
-ghost use Rattle.ld_texts.specs.Readers.{IsForReaders};
+ghost use Rattle.ld_texts.specs.Readers.{HasReaders, IsForReaders};
 
 use crate::overview::ClassRow;
 use crate::writing::write_class;
@@ -25,7 +25,9 @@ pub fn lock_of_readers<'a>(class: ClassName<'a>) -> Option<&'a [u8]>
 }
 
 /// Whether recursive readers of locks of the first class wait for the second one. Takes no memory.
-pub fn has_readers(class: ClassName<'_>, other: ClassName<'_>) -> bool {
+pub fn has_readers(class: ClassName<'_>, other: ClassName<'_>) -> bool
+    ensures { Decides result (HasReaders (plain_class class.entry) (plain_class other.entry)) }
+{
     match lock_of_readers(other) {
         Some(lock) => class.sub == 0 && class.name == lock,
         None => false,
