@@ -126,6 +126,14 @@ fn classes_of<'a>(
     Ok(classes)
 }
 
+/// The lock whose readers wait for the last one of these classes.
+fn lock_of<'a>(rows: &[ClassRow<'a>]) -> Option<&'a [u8]> {
+    match rows.last() {
+        Some(row) => lock_of_readers(row.class),
+        None => None,
+    }
+}
+
 impl<'a> Marked<'a> {
     /// What stands on these.
     fn of(alloc: Global, violations: &[Violation<'_, 'a>]) -> Result<Marked<'a>, AllocError> {
@@ -217,7 +225,7 @@ impl<'t, 'a> Drawing<'t, 'a> {
 
     /// Classes of one lock, in a box if readers wait for the last one.
     fn group(&mut self, rows: &[ClassRow<'a>]) -> Result<(), AllocError> {
-        let Some(lock) = rows.last().and_then(|row| lock_of_readers(row.class)) else {
+        let Some(lock) = lock_of(rows) else {
             return self.classes(rows, b"  ");
         };
         self.text.extend_from_slice(b"  subgraph \"cluster_")?;

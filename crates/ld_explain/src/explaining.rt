@@ -231,8 +231,8 @@ impl<'t, 'a> Telling<'t, 'a> {
             return Ok(());
         };
         self.seen(step.first, before)?;
-        let frame = innermost(before);
-        for held in &holds_in(self.alloc, before.task.holds(), frame)? {
+        let holds = holds_in(self.alloc, before.task.holds(), innermost(before))?;
+        for held in &holds {
             self.hold(step.first.number, held)?;
         }
         Ok(())

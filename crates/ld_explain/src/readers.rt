@@ -45,14 +45,13 @@ pub fn holds_in<'a>(
     holds: &[Hold<'a>],
     frame: Option<u64>,
 ) -> Result<Vec<Held<'a>>, AllocError> {
-    let mut all = Vec::new(alloc);
+    let mut all: Vec<Held<'a>> = Vec::new(alloc);
     let mut last = None;
     for hold in holds {
         if hold.frame == frame {
             let mut held = Held::of(hold);
             if is_written(last, hold) {
                 if let Some(entered) = all.pop() {
-                    let entered: Held<'a> = entered;
                     held.line = entered.line;
                 }
             }
