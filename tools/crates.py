@@ -41,11 +41,9 @@ class Copy:
     """A copy of a crate in a folder, over the libraries below it as they were built. `rt` locks all that a crate
     stands on, so of two crates over one library one would wait for the other in the tree."""
 
-    def __init__(self, top, crate, sources, built, texts=()):
-        """`sources` and `built` give the folders of a crate's sources and of what was built of it, by its name.
-        `texts` are texts of files of the crate in place of its own."""
+    def __init__(self, top, crate, sources, built):
+        """`sources` and `built` give the folders of a crate's sources and of what was built of it, by its name."""
         self.folder = f"{top}/crates/{crate}"
-        self.proved = f"{self.folder}/out/incremental"
         shutil.rmtree(top, ignore_errors=True)
         write(f"{top}/crates.txt", "".join(f"{line}\n" for it, line in LINES.items() if it in below(crate)))
         shutil.copy(f"{ROOT}/HANDLES", top)
@@ -55,11 +53,6 @@ class Copy:
                     shutil.copytree(f"{sources(it)}/{part}", f"{top}/crates/{it}/{part}")
             if it != crate:
                 copy_kept(f"{built(it)}/rlib", f"{top}/crates/{it}/out/rlib")
-        for file in texts:
-            write(f"{self.folder}/{file}", texts[file])
-
-    def begin_with(self, proved):
-        copy_kept(proved, self.proved)
 
     def begin_with_kept(self, crate):
         """Begins with what `rt` kept of the crate in the tree, where there is something and no `rt` changes it
