@@ -3,7 +3,7 @@ what a check of some of them together says of each."""
 import os
 import re
 
-from crates import read
+from crates import files_below, read
 
 FOLDER = "must-fail-proofs"
 # Those that the gate doesn't try.
@@ -35,12 +35,26 @@ class Wrong(Exception):
 
 
 class Function:
-    """A function: its name, what the checker's names have before it, whether only its crate can name it, and
-    where it stands in its file, by numbers of lines from 0."""
+    """A function: its name, what the checker's names have before it, whether only its crate can name it, where
+    it stands in its file, by numbers of lines from 0, and its body."""
 
-    def __init__(self, file, name, owner, is_own, lines):
+    def __init__(self, file, name, owner, is_own, lines, body=""):
         self.file, self.name, self.owner, self.is_own = file, name, owner, is_own
         self.first, self.head, self.last = lines
+        self.body = body
+
+    def place(self):
+        return self.file, self.first
+
+    def path(self):
+        """The checker's name of it, below its crate: MODULE::TYPE::FUNCTION."""
+        module = self.file.removeprefix("src/").removesuffix(".rt").split("/")
+        owner = [self.owner] if self.owner not in ("", module[-1]) else []
+        return "::".join([*(module if module not in (["lib"], ["main"]) else []), *owner, self.name])
+
+    def calls(self, other):
+        """Whether it may call another one: it calls one of that name."""
+        return re.search(rf"\b{other.name}\(", self.body)
 
     def has(self, file, line):
         return file == self.file and self.first <= line <= self.last
@@ -98,7 +112,8 @@ def functions_of(file):
             first = at
             while lines[first - 1].startswith(f"{begins[1]}#["):
                 first -= 1
-            found.append(Function(file, begins[2], owner_of(file, block), is_own, (first, head, last)))
+            body = "\n".join(lines[head + 1 : last])
+            found.append(Function(file, begins[2], owner_of(file, block), is_own, (first, head, last), body))
             at = last
         at += 1
     return found
@@ -177,7 +192,7 @@ class Edit:
         return None
 
     def places(self):
-        return {(it.file, it.first) for it in self.functions}
+        return {it.place() for it in self.functions}
 
     def has(self, file, line):
         return any(it.has(file, line) for it in self.functions)
@@ -198,7 +213,8 @@ def edits_of(folder, crate, kind):
 
 
 def rounds_of(edits):
-    """Rounds of edits no two of which change one function. What changes more than bodies is alone."""
+    """Rounds of edits no two of which change one function, that one first over which the crate is proved: it changes
+    the fewest bodies, since they are proved anew. What changes more than bodies is alone."""
     places = [place for edit in edits for place in edit.places()]
     rounds, alone = [], [[it] for it in edits if not it.functions]
     # Those of a function with many edits first, each into the round that has the fewest.
@@ -209,7 +225,26 @@ def rounds_of(edits):
             min(fits, key=len).append(edit)
         elif edit.functions:
             rounds.append([edit])
-    return rounds + alone
+    return sorted(rounds + alone, key=lambda it: (not it[0].functions, len(it)))
+
+
+def paths_of(edits):
+    """The functions, as `--only` takes them, whose check tells of some edits of one crate: those that they change,
+    and if one of these calls another, also the shortest caller that no edit changes. Said judges by such a one
+    whether goals of callers count. No functions, if an edit changes more than bodies."""
+    if not all(edit.functions for edit in edits):
+        return []
+    folder = edits[0].folder
+    files = (it for it in files_below(f"{folder}/src") if it.endswith(".rt"))
+    functions = [it for file in files for it in functions_of(file)]
+    for it in functions:
+        it.file = it.file[len(folder) + 1 :]
+    places = set().union(*(edit.places() for edit in edits))
+    changed = [it for it in functions if it.place() in places]
+    if any(it.calls(other) for it in changed for other in changed if it is not other):
+        others = [it for it in functions if it not in changed and any(map(it.calls, changed))]
+        changed += sorted(others, key=lambda it: it.last - it.head)[:1]
+    return sorted(it.path() for it in changed)
 
 
 def edited(edits):
@@ -237,7 +272,7 @@ class Said:
     def __init__(self, edits, status, text):
         self.edits, self.text = edits, text
         self.goals, self.names, self.strange = {it: [] for it in edits}, {it: [] for it in edits}, []
-        self.has_ended = bool(re.search(r"(?m)^holes=\d+$", text))
+        self.has_ended = bool(re.search(r"(?m)^(only=\d+ )?holes=\d+$", text))
         self.is_proved = self.has_ended and status == 0
         uncompiled = [] if self.has_ended else UNCOMPILED.findall(text)
         self.is_uncompiled = bool(uncompiled)
@@ -279,6 +314,16 @@ class Said:
         goal = min(self.goals[edit], key=weight)
         is_anew = self.names[edit] and weight(goal) == 2
         return f"{goal} {ANEW}" if is_anew else goal
+
+    def why_not(self, edit):
+        """Why an edit that was tried alone isn't refused."""
+        if self.is_proved:
+            return "NOT REFUSED: its crate is proved with it, or all that was checked for it"
+        if self.is_uncompiled:
+            return "BAD EDIT: it does not compile:\n" + "\n".join(self.text.splitlines()[:6])
+        if self.names[edit] and self.has_ended:
+            return f"refused only by a name, so nothing is seen of what it means: {self.names[edit][0]}"
+        return f"NO VERDICT: it is neither proved nor refused by a goal:\n{self.text[-2000:]}"
 
     def add(self, owners, to, goal, is_expected):
         # What changes more than bodies may leave any goal of the crate open.
