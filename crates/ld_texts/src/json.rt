@@ -7,65 +7,40 @@ use ld_book::{
 };
 use ld_rules::{Listed, Outcome};
 use ld_trace::State;
-use serde::Serialize;
+use serde::{Described, Serialize, Serializer};
 use std::alloc::{AllocError, Global};
 
-/// A line of a report.
-#[derive(Drop, Serialize)]
-#[serde(tag = "kind", rename_all = "lowercase")]
-enum Line<'a> {
-    /// How much the traces are and show.
-    Traces {
-        traces: u64,
-        refused: u64,
-        events: u64,
-        classes: u64,
-        dependencies: u64,
-    },
-    /// A refused trace, and its first fault.
-    Refused {
-        at: At<'a>,
-        fault: &'a str,
-    },
-    /// A dependency of a class on itself.
-    Recursion {
-        class: Class<'a>,
-        at: At<'a>,
-    },
-    /// A dependency on a cycle, and a shortest walk back.
-    Inversion {
-        from: Class<'a>,
-        to: Class<'a>,
-        at: At<'a>,
-        walk: Vec<Class<'a>>,
-    },
-    /// A class with both usage bits of a state.
-    Conflict {
-        state: &'a str,
-        class: Class<'a>,
-        usage: &'a str,
-        #[serde(rename = "in")]
-        acquired: At<'a>,
-        #[serde(rename = "on")]
-        held: At<'a>,
-    },
-    /// A forbidden walk of a state.
-    Forbidden {
-        state: &'a str,
-        from: Class<'a>,
-        from_usage: &'a str,
-        #[serde(rename = "in")]
-        acquired: At<'a>,
-        to: Class<'a>,
-        to_usage: &'a str,
-        #[serde(rename = "on")]
-        held: At<'a>,
-        walk: Vec<Class<'a>>,
-    },
-    /// How many violations there are.
-    End {
-        violations: u64,
-    },
+/// A line of a report: an object whose first member is its kind. The others follow in this order.
+#[derive(Clone, Copy)]
+struct Line<'a> {
+    kind: &'a str,
+    members: &'a [(&'a str, Member<'a>)],
+}
+
+impl Described for Line<'_> {}
+
+impl Serialize for Line<'_> {
+    fn serialize<S: Serializer>(&self, out: &mut S) -> Result<(), S::Error> {
+        out.begin_map(None)?;
+        out.key("kind")?;
+        self.kind.serialize(out)?;
+        for (name, member) in self.members {
+            out.key(name)?;
+            member.serialize(out)?;
+        }
+        out.end_map()
+    }
+}
+
+/// What a member of a line is.
+#[derive(Clone, Copy, Serialize)]
+#[serde(untagged)]
+enum Member<'a> {
+    Figure(u64),
+    Text(&'a str),
+    Class(Class<'a>),
+    At(At<'a>),
+    Walk(&'a [Class<'a>]),
 }
 
 /// A class.
@@ -96,23 +71,35 @@ pub(crate) fn json_text(
 ) -> Result<Vec<u8>, AllocError> {
     let seen = Seen::new(alloc, book, places)?;
     let findings = book.findings(alloc)?;
+    lines_of(alloc, &book.totals(), &seen, &findings)
+}
+
+/// The lines that tell of a book: its totals, the refused traces, the violations, and how many these are.
+fn lines_of<'x>(
+    alloc: Global,
+    totals: &Totals,
+    seen: &Seen<'_, '_, 'x, 'x>,
+    findings: &'x Findings<'x, 'x>,
+) -> Result<Vec<u8>, AllocError> {
     let mut text = Vec::new(alloc);
-    write_totals(alloc, &mut text, &book.totals())?;
+    write_totals(alloc, &mut text, totals)?;
     for trace in seen.listed() {
-        write_refused(alloc, &mut text, &seen, trace)?;
+        write_refused(alloc, &mut text, seen, trace)?;
     }
-    write_violations(alloc, &mut text, &seen, &findings)?;
-    let violations = (findings.cycles.items().len() as u64)
-        .saturating_add(findings.conflicts.items().len() as u64)
-        .saturating_add(findings.forbidden.items().len() as u64);
-    write_line(alloc, &mut text, &Line::End { violations })?;
+    write_violations(alloc, &mut text, seen, findings)?;
+    write_end(alloc, &mut text, findings)?;
     Ok(text)
 }
 
-/// Writes a line.
-fn write_line(alloc: Global, text: &mut Vec<u8>, line: &Line<'_>) -> Result<(), AllocError> {
+/// Writes an object of these members.
+fn write_line(
+    alloc: Global,
+    text: &mut Vec<u8>,
+    kind: &str,
+    members: &[(&str, Member<'_>)],
+) -> Result<(), AllocError> {
     // Nothing else than memory can be missing: what is written are numbers and texts.
-    let object = serde_json::to_vec(alloc, line).map_err(|_| AllocError)?;
+    let object = serde_json::to_vec(alloc, &Line { kind, members }).map_err(|_| AllocError)?;
     text.extend_from_slice(&object)?;
     text.push(b'\n')?;
     Ok(())
@@ -120,14 +107,31 @@ fn write_line(alloc: Global, text: &mut Vec<u8>, line: &Line<'_>) -> Result<(), 
 
 /// Writes how much the traces are and show.
 fn write_totals(alloc: Global, text: &mut Vec<u8>, totals: &Totals) -> Result<(), AllocError> {
-    let line = Line::Traces {
-        traces: totals.traces,
-        refused: totals.refused,
-        events: totals.events,
-        classes: totals.classes,
-        dependencies: totals.dependencies,
-    };
-    write_line(alloc, text, &line)
+    let members = [
+        ("traces", Member::Figure(totals.traces)),
+        ("refused", Member::Figure(totals.refused)),
+        ("events", Member::Figure(totals.events)),
+        ("classes", Member::Figure(totals.classes)),
+        ("dependencies", Member::Figure(totals.dependencies)),
+    ];
+    write_line(alloc, text, "traces", &members)
+}
+
+/// Writes how many violations there are.
+fn write_end(
+    alloc: Global,
+    text: &mut Vec<u8>,
+    findings: &Findings<'_, '_>,
+) -> Result<(), AllocError> {
+    let violations = (findings.cycles.items().len() as u64)
+        .saturating_add(findings.conflicts.items().len() as u64)
+        .saturating_add(findings.forbidden.items().len() as u64);
+    write_line(
+        alloc,
+        text,
+        "end",
+        &[("violations", Member::Figure(violations))],
+    )
 }
 
 /// Writes why a trace is refused, if it is.
@@ -147,8 +151,11 @@ fn write_refused<'x>(
             line,
         },
     );
-    let fault = fault.name();
-    write_line(alloc, text, &Line::Refused { at, fault })
+    let members = [
+        ("at", Member::At(at)),
+        ("fault", Member::Text(fault.name())),
+    ];
+    write_line(alloc, text, "refused", &members)
 }
 
 /// Writes every violation.
@@ -170,25 +177,26 @@ fn write_violations<'x>(
     Ok(())
 }
 
-/// Writes a dependency on a cycle.
+/// Writes a dependency on a cycle: a dependency of a class on itself, or another one with a shortest walk back.
 fn write_cycle<'x>(
     alloc: Global,
     text: &mut Vec<u8>,
     seen: &Seen<'_, '_, 'x, 'x>,
     row: &'x CycleRow<'x, 'x>,
 ) -> Result<(), AllocError> {
-    let at = placed(seen, row.at);
+    let at = Member::At(placed(seen, row.at));
+    let from = Member::Class(named(row.from));
     if row.from == row.to {
-        let class = named(row.from);
-        return write_line(alloc, text, &Line::Recursion { class, at });
+        return write_line(alloc, text, "recursion", &[("class", from), ("at", at)]);
     }
-    let line = Line::Inversion {
-        from: named(row.from),
-        to: named(row.to),
-        at,
-        walk: names_of(alloc, &row.via)?,
-    };
-    write_line(alloc, text, &line)
+    let walk = names_of(alloc, &row.via)?;
+    let members = [
+        ("from", from),
+        ("to", Member::Class(named(row.to))),
+        ("at", at),
+        ("walk", Member::Walk(&walk)),
+    ];
+    write_line(alloc, text, "inversion", &members)
 }
 
 /// Writes a class with both usage bits of a state.
@@ -198,14 +206,14 @@ fn write_conflict<'x>(
     seen: &Seen<'_, '_, 'x, 'x>,
     row: &'x ConflictRow<'x>,
 ) -> Result<(), AllocError> {
-    let line = Line::Conflict {
-        state: state_name(row.state),
-        class: named(row.class),
-        usage: word(&row.marks),
-        acquired: placed(seen, row.safe_at),
-        held: placed(seen, row.unsafe_at),
-    };
-    write_line(alloc, text, &line)
+    let members = [
+        ("state", Member::Text(state_name(row.state))),
+        ("class", Member::Class(named(row.class))),
+        ("usage", Member::Text(word(&row.marks))),
+        ("in", Member::At(placed(seen, row.safe_at))),
+        ("on", Member::At(placed(seen, row.unsafe_at))),
+    ];
+    write_line(alloc, text, "conflict", &members)
 }
 
 /// Writes a forbidden walk.
@@ -215,17 +223,18 @@ fn write_forbidden<'x>(
     seen: &Seen<'_, '_, 'x, 'x>,
     row: &'x ForbiddenRow<'x, 'x>,
 ) -> Result<(), AllocError> {
-    let line = Line::Forbidden {
-        state: state_name(row.state),
-        from: named(row.from),
-        from_usage: word(&row.from_marks),
-        acquired: placed(seen, row.safe_at),
-        to: named(row.to),
-        to_usage: word(&row.to_marks),
-        held: placed(seen, row.unsafe_at),
-        walk: names_of(alloc, &row.via)?,
-    };
-    write_line(alloc, text, &line)
+    let walk = names_of(alloc, &row.via)?;
+    let members = [
+        ("state", Member::Text(state_name(row.state))),
+        ("from", Member::Class(named(row.from))),
+        ("from_usage", Member::Text(word(&row.from_marks))),
+        ("in", Member::At(placed(seen, row.safe_at))),
+        ("to", Member::Class(named(row.to))),
+        ("to_usage", Member::Text(word(&row.to_marks))),
+        ("on", Member::At(placed(seen, row.unsafe_at))),
+        ("walk", Member::Walk(&walk)),
+    ];
+    write_line(alloc, text, "forbidden", &members)
 }
 
 /// Where something was first seen.
