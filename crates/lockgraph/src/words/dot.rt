@@ -14,7 +14,7 @@ const DEFAULT_AROUND: u64 = 1;
 const AFTER_DOT: &str = "\
 Writes a graph in the language of Graphviz. A class is a node, with its usage characters. A dependency is an edge,
 with the trace and FILE:LINE at which it was first seen. Recursions and the steps of inversions are red, other
-steps of forbidden walks orange, and the ends of a conflict have a double line around them. The class L!read, for
+steps of forbidden paths orange, and the ends of a conflict have a double line around them. The class L!read, for
 which recursive readers of L wait, stands as !read in a box with the name L.
 
 Without --class and --all it shows what stands on violations. --class NAME shows the class and all that is at most

@@ -14,9 +14,9 @@ const DEFAULT_MOST: u64 = 20;
 
 /// What the help of `explain` says behind its words.
 const AFTER_EXPLAIN: &str = "\
-Under the line of each violation stand the dependencies of its circle or walk, in turn, each where it was first
+Under the line of each violation stand the dependencies of its cycle or path, in turn, each where it was first
 seen: the trace's label, the task, FILE:LINE and what the line says, and the locks that the task held there in
-the same handler, or outside any, each with the line of its acquisition. Of a conflict and of a forbidden walk
+the same handler, or outside any, each with the line of its acquisition. Of a conflict and of a forbidden path
 both ends follow: where a handler acquires the class, and which handlers its task was in; and where the class is
 held while handlers can interrupt, and since when they could.
 

@@ -9,7 +9,7 @@ use std::alloc::{AllocError, Global};
 const AFTER_LIST: &str = "\
 Writes a line for each class that the traces acquire, in the order of a report:
   CLASS {USAGE} acquired N reached-from N reaches N
-N are how often it is acquired, from how many classes walks of dependencies lead to it, and to how many they
+N are how often it is acquired, from how many classes paths of dependencies lead to it, and to how many they
 lead from it; a class on a cycle counts itself. Under it stand with --dependencies those that begin with it,
 each with the place where it was first seen:
   -> CLASS at LABEL FILE:LINE

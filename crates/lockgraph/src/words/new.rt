@@ -8,7 +8,7 @@ use std::alloc::{AllocError, Global};
 /// What the help of `new` says behind its words.
 const AFTER_NEW: &str = "\
 Writes the report of the traces without the violations that KNOWN has, a report of before: those of the same
-kind, state and classes, whatever their witnesses and walks. Then stands `nothing new`, or `new N`.
+kind, state and classes, whatever their first occurrences and paths. Then stands `nothing new`, or `new N`.
 T:L counts lines over all files as one stream. Where several are named, comments end the text:
 `# line L is FILE:LINE`, one for each line that it names.
 
