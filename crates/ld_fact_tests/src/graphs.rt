@@ -5,7 +5,7 @@ ghost use Rattle.std.specs.Prelude.{◌≡◌, ℕ, length, slice_index_or, None
 ghost use Rattle.ld_graph.specs.Edges.{IsEdge};
 ghost use Rattle.ld_graph.specs.Walks.{DistanceIs};
 
-use ld_graph::{Distance, Graph, Insert, MOST_GRAPH_CLASSES, Nexts};
+use ld_graph::{Distance, Graph, Insert, MOST_GRAPH_CLASSES, Nexts, Steps};
 use std::alloc::Global;
 use std::process::Abort;
 
@@ -31,7 +31,7 @@ fn add_classes<R: Abort>(rt: &R, graph: &mut Graph, count: u32) {
 fn insert<R: Abort>(rt: &R, graph: &mut Graph, a: u32, b: u32) -> Insert {
     assert!(rt; (a as usize) < graph.len() && (b as usize) < graph.len());
     assert!(rt; graph.spare_edges() > 0);
-    graph.insert(a, b)
+    graph.insert(a, b, &mut Steps::new())
 }
 
 fn expect_insert<R: Abort>(rt: &R, graph: &mut Graph, a: u32, b: u32, wanted: Insert) {
@@ -42,7 +42,7 @@ fn expect_insert<R: Abort>(rt: &R, graph: &mut Graph, a: u32, b: u32, wanted: In
 fn expect_known<R: Abort>(rt: &R, graph: &mut Graph, a: u32, b: u32, wanted: u64) {
     assert!(rt; (a as usize) < graph.len() && (b as usize) < graph.len());
     assert!(rt; graph.spare_edges() > 0);
-    let (number, answer) = graph.insert_full(a, b);
+    let (number, answer) = graph.insert_full(a, b, &mut Steps::new());
     assert_eq!(rt; number, wanted);
     assert_eq!(rt; answer, Insert::Known);
 }
@@ -307,18 +307,21 @@ fn a_class_added_later(rt: HostRuntime) {
     drop(graph);
 }
 
-// Each class goes directly before the one that went last, so a gap between two labels is used up again and again.
+// Class 0 stays the first one, and each other class goes directly before the one that went last. So the gap behind
+// class 0 has no label left again and again.
 #[test]
 fn a_chain_from_its_end(rt: HostRuntime) {
     let alloc = rt.alloc();
     let mut graph = Graph::new(alloc);
     make_room(&rt, &mut graph, 2_000, 2_000);
     add_classes(&rt, &mut graph, 2_000);
-    for a in 0..1_999 {
-        insert_moved(&rt, &mut graph, a + 1, a, 2);
+    for class in 1..1_999 {
+        insert_moved(&rt, &mut graph, class + 1, class, 2);
     }
-    expect_rise(&rt, &mut graph, &[1_999, 1_000, 1, 0]);
-    assert_eq!(rt; rank(&rt, &mut graph, 1_000), 999);
+    assert_eq!(rt; rank(&rt, &mut graph, 0), 0);
+    for class in 1..2_000 {
+        assert_eq!(rt; rank(&rt, &mut graph, class), 2_000 - class);
+    }
     drop(graph);
 }
 

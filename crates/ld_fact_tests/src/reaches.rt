@@ -1,7 +1,7 @@
 //! A worked reach beside its graph. The call that takes memory is made once more where it was refused,
 //! so these hold whichever allocation fails.
 
-use ld_graph::{Graph, MOST_GRAPH_CLASSES, Reach, Reader};
+use ld_graph::{Graph, MOST_GRAPH_CLASSES, Reach, Reader, Steps};
 use std::process::Abort;
 
 /// Makes room. Where memory is refused nothing else changes, and the call made again answers `Ok`.
@@ -35,7 +35,7 @@ fn insert<R: Abort>(rt: &R, graph: &mut Graph, reach: &mut Reach, a: u32, b: u32
     assert!(rt; reach.len() == graph.len());
     assert!(rt; (a as usize) < graph.len() && (b as usize) < graph.len());
     assert!(rt; graph.spare_edges() > 0);
-    graph.insert(a, b);
+    graph.insert(a, b, &mut Steps::new());
     reach.along(&mut Reader::new(graph.lists()), a, b);
 }
 

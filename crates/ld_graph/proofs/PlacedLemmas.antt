@@ -135,6 +135,8 @@ module _ (g : Inside) (h : IsKept g) (a b : ℕ) (now : Bool) (ranks : List ℕ)
           len = m.mended.len;
           against = p.1.1.0;
           outside = m.mended.outside;
+          beside = m.mended.beside;
+          alike = m.mended.alike;
           some = m.some;
           few = m.few;
         }));

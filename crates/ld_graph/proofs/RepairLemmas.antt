@@ -68,6 +68,86 @@ module _ (step near : ℕ → ℕ → Type 0) (old new : List ℕ) (a b : ℕ) (
   stands limit p q c (inr o) k m =
       let w = (f.within k m).1.1 in (λ z. omega (arith, o, q), λ z. omega (arith, o, w))
 
+  -- each class is up to a or from b on
+  abbrev IsBeside : ℕ → Type 0
+  IsBeside c = (get_or new c 0 ≤ get_or new a 0) ⊎ (get_or new b 0 ≤ get_or new c 0)
+
+  abbrev AreBeside : ℕ → ℕ → Type 0
+  AreBeside c d = ((get_or new c 0 ≤ get_or new a 0) × (get_or new d 0 ≤ get_or new a 0))
+      ⊎ ((get_or new b 0 ≤ get_or new c 0) × (get_or new b 0 ≤ get_or new d 0))
+
+  module _ (h : HaveMoved (Contains found) (get_or old b 0) old new) (has_a : Contains found a) (free : ¬ Contains found b) where
+    beside_backward : (c : ℕ) → c < length old → IsBeside c
+    beside_backward c lc = by (cases_lt (get_or new a 0) (get_or new c 0)) (cases_lt (get_or new c 0) (get_or new b 0)) (has_or_not found c)
+      where
+        by : (get_or new a 0 < get_or new c 0) ⊎ (get_or new c 0 ≤ get_or new a 0)
+            → (get_or new c 0 < get_or new b 0) ⊎ (get_or new b 0 ≤ get_or new c 0)
+            → Contains found c ⊎ (¬ Contains found c) → IsBeside c
+        by (inr p) _ _ = inl p
+        by (inl _) (inr q) _ = inr q
+        by (inl p) (inl q) (inl m) =
+            let w = (f.within c m).1.1 in let r = (h.among a c has_a m).0 p in absurd (omega (arith, w, r))
+        by (inl p) (inl q) (inr m) =
+            let r = (h.above a c has_a lc m).0 p in let s = (h.stay c b lc lb m free).0 q in absurd (omega (arith, r, s))
+
+    alike_backward : (c d : ℕ) → c < length old → d < length old → AreBeside c d
+        → get_or old c 0 < get_or old d 0 → get_or new c 0 < get_or new d 0
+    alike_backward c d lc ld beside less = by (has_or_not found c) (has_or_not found d) beside
+      where
+        before_b : (x : ℕ) → Contains found x → get_or new x 0 < get_or new b 0
+        before_b x m = (h.above x b m lb free).1 (omega arith)
+
+        low : get_or new c 0 ≤ get_or new a 0 → ¬ Contains found c → get_or old c 0 < get_or old b 0
+        low p m = by_rank (cases_lt (get_or old c 0) (get_or old b 0))
+          where
+            by_rank : (get_or old c 0 < get_or old b 0) ⊎ (get_or old b 0 ≤ get_or old c 0) → get_or old c 0 < get_or old b 0
+            by_rank (inl q) = q
+            by_rank (inr q) = let r = (h.above a c has_a lc m).1 q in absurd (omega (arith, r, p))
+
+        by : Contains found c ⊎ (¬ Contains found c) → Contains found d ⊎ (¬ Contains found d) → AreBeside c d
+            → get_or new c 0 < get_or new d 0
+        by (inl m) (inl n) _ = (h.among c d m n).1 less
+        by (inr m) (inr n) _ = (h.stay c d lc ld m n).1 less
+        by (inl m) (inr n) _ = (h.above c d m ld n).1 (let w = (f.within c m).1.0 in omega (arith, w, less))
+        by (inr m) (inl n) (inl p) = (h.below d c n lc m).1 (low p.0 m)
+        by (inr m) (inl n) (inr p) = let r = before_b d n in absurd (omega (arith, r, p.1))
+
+  module _ (h : HaveMoved (Contains found) (get_or old a 0 + 1) old new) (has_b : Contains found b) (free : ¬ Contains found a) where
+    beside_forward : (c : ℕ) → c < length old → IsBeside c
+    beside_forward c lc = by (cases_lt (get_or new a 0) (get_or new c 0)) (cases_lt (get_or new c 0) (get_or new b 0)) (has_or_not found c)
+      where
+        by : (get_or new a 0 < get_or new c 0) ⊎ (get_or new c 0 ≤ get_or new a 0)
+            → (get_or new c 0 < get_or new b 0) ⊎ (get_or new b 0 ≤ get_or new c 0)
+            → Contains found c ⊎ (¬ Contains found c) → IsBeside c
+        by (inr p) _ _ = inl p
+        by (inl _) (inr q) _ = inr q
+        by (inl p) (inl q) (inl m) =
+            let w = (f.within c m).1.0 in let r = (h.among c b m has_b).0 q in absurd (omega (arith, w, r))
+        by (inl p) (inl q) (inr m) =
+            let r = (h.below b c has_b lc m).0 q in let s = (h.stay a c la lc free m).0 p in absurd (omega (arith, r, s))
+
+    alike_forward : (c d : ℕ) → c < length old → d < length old → AreBeside c d
+        → get_or old c 0 < get_or old d 0 → get_or new c 0 < get_or new d 0
+    alike_forward c d lc ld beside less = by (has_or_not found c) (has_or_not found d) beside
+      where
+        behind_a : (x : ℕ) → Contains found x → get_or new a 0 < get_or new x 0
+        behind_a x m = (h.below x a m la free).1 (omega arith)
+
+        high : get_or new b 0 ≤ get_or new d 0 → ¬ Contains found d → get_or old a 0 + 1 ≤ get_or old d 0
+        high p m = by_rank (cases_lt (get_or old d 0) (get_or old a 0 + 1))
+          where
+            by_rank : (get_or old d 0 < get_or old a 0 + 1) ⊎ (get_or old a 0 + 1 ≤ get_or old d 0) → get_or old a 0 + 1 ≤ get_or old d 0
+            by_rank (inl q) = let r = (h.below b d has_b ld m).1 q in absurd (omega (arith, r, p))
+            by_rank (inr q) = q
+
+        by : Contains found c ⊎ (¬ Contains found c) → Contains found d ⊎ (¬ Contains found d) → AreBeside c d
+            → get_or new c 0 < get_or new d 0
+        by (inl m) (inl n) _ = (h.among c d m n).1 less
+        by (inr m) (inr n) _ = (h.stay c d lc ld m n).1 less
+        by (inr m) (inl n) _ = (h.below d c n lc m).1 (let w = (f.within d n).1.1 in omega (arith, w, less))
+        by (inl m) (inr n) (inl p) = let r = behind_a c m in absurd (omega (arith, r, p.0))
+        by (inl m) (inr n) (inr p) = (h.above c d m ld n).1 (high p.1 n)
+
   pub mended_backward : ((x y : ℕ) → step x y → near y x) → get_or found 0 0 ≡ a → ¬ Contains found b
       → HaveMoved (Contains found) (get_or old b 0) old new → IsMended step a b old new
   mended_backward turned first free h =
@@ -80,6 +160,8 @@ module _ (step near : ℕ → ℕ → Type 0) (old new : List ℕ) (a b : ℕ) (
             (closed_backward step near (λ x. get_or old x 0) rises (length old) (get_or old b 0) (get_or old a 0) found f turned);
         turned = (h.above a b has_a lb free).1 (omega arith);
         outside = λ c l o. h.keeps c l (not_found c o) (stands (get_or old b 0) (omega arith) (omega (arith, order)) c o);
+        beside = beside_backward h has_a free;
+        alike = alike_backward h has_a free;
       }
 
   pub mended_forward : ((x y : ℕ) → step x y → near x y) → get_or found 0 0 ≡ b → ¬ Contains found a
@@ -94,6 +176,8 @@ module _ (step near : ℕ → ℕ → Type 0) (old new : List ℕ) (a b : ℕ) (
             (λ x y p m u. closed_forward step near (λ x. get_or old x 0) rises (length old) (get_or old b 0) (get_or old a 0) found f same x y p m (omega (arith, u)));
         turned = (h.below b a has_b la free).1 (omega arith);
         outside = λ c l o. h.keeps c l (not_found c o) (stands (get_or old a 0 + 1) (omega (arith, order)) (omega arith) c o);
+        beside = beside_forward h has_b free;
+        alike = alike_forward h has_b free;
       }
 
   -- a class that was not found has another rank than those that were

@@ -19,7 +19,8 @@ pub record IsOrder (step : ℕ → ℕ → Type 0) (n : ℕ) (ranks : List ℕ) 
 abbrev pub HasCycle : (ℕ → ℕ → Type 0) → Type 0
 HasCycle step = (c : ℕ) × HasWalk step c c
 
--- ranks were repaired for an edge from a to b: only those in the range from b's to a's change, and some lists were
+-- ranks were repaired for an edge from a to b: only those in the range from b's to a's change, a stands directly
+-- before b, the classes up to a keep their order among themselves, and so do those from b on; and some lists were
 -- read, at most as many as there are ranks in the range
 pub record AreRepaired (a b expanded : ℕ) (old new : List ℕ) : Type 0 where
   pub len : length new ≡ length old
@@ -27,6 +28,12 @@ pub record AreRepaired (a b expanded : ℕ) (old new : List ℕ) : Type 0 where
   pub outside : (c : ℕ) → c < length old
       → (slice_index old c < slice_index old b) ⊎ (slice_index old a < slice_index old c)
       → slice_index new c ≡ slice_index old c
+  pub beside : (c : ℕ) → c < length old
+      → (slice_index new c ≤ slice_index new a) ⊎ (slice_index new b ≤ slice_index new c)
+  pub alike : (c d : ℕ) → c < length old → d < length old
+      → ((slice_index new c ≤ slice_index new a) × (slice_index new d ≤ slice_index new a))
+      ⊎ ((slice_index new b ≤ slice_index new c) × (slice_index new b ≤ slice_index new d))
+      → slice_index old c < slice_index old d → slice_index new c < slice_index new d
   pub some : 0 < expanded
   pub few : expanded + slice_index old b ≤ slice_index old a + 1
 
@@ -71,3 +78,12 @@ IsInserted old a b Kept new = IsInOrder old a b new
 IsInserted old a b (Moved expanded) new = IsMoved old a b expanded new
 IsInserted old a b Closed new = IsClosing old a b new
 IsInserted old a b AfterCycle new = IsAfterCycle old a b new
+
+-- what the answer of an insert says of how many lists were read, before and after it: none if the ranks stand without
+-- a search, and as many as it tells if they were repaired
+abbrev pub TellsSteps : Insert → (old new : ℕ) → Type 0
+TellsSteps Known old new = new ≡ old
+TellsSteps Kept old new = new ≡ old
+TellsSteps (Moved expanded) old new = new ≡ old + expanded
+TellsSteps Closed old new = old ≤ new
+TellsSteps AfterCycle old new = new ≡ old

@@ -127,6 +127,7 @@ pub fn find_affected(
     ensures ended { HasEnded result reader.old.lists (slice_index labels.now) (length labels.now)
         (slice_index labels.now b) (slice_index labels.now a) backward.new.found forward.new.found }
     ensures read { reader.new.count ≤ length backward.new.found + length forward.new.found }
+    ensures most { reader.new.count ≤ length labels.now + length labels.now }
     ensures some { 0 < reader.new.count }
 {
     let (low, high) = (labels[b as usize], labels[a as usize]);

@@ -1,6 +1,6 @@
 //! The graph itself.
 
-ghost use Rattle.std.specs.Prelude.{◌≡◌, ◌≢◌, ℕ, ◌+◌, ◌-◌, ◌<◌, ◌≤◌, ◌↔◌, length, slice_get};
+ghost use Rattle.std.specs.Prelude.{◌≡◌, ◌≢◌, ℕ, ◌+◌, ◌-◌, ◌<◌, ◌≤◌, ◌^◌, ◌↔◌, length, slice_get};
 ghost use Rattle.std.specs.Prelude.{slice_index_or, None, Some, IfOk, IsTrue};
 ghost use Rattle.std.specs.Prelude.{All, OnOk, MatchOption, true, false};
 ghost use Rattle.ld_graph.specs.Components.{AreComponents};
@@ -8,14 +8,14 @@ ghost use Rattle.ld_graph.specs.Edges.{ComesBefore, IsEdge, IsEdgeNumber};
 ghost use Rattle.ld_graph.specs.Edges.{empty_graph, with_class, with_edge, with_spares};
 ghost use Rattle.ld_graph.specs.Lists.{IsNear};
 ghost use Rattle.ld_graph.specs.Nexts.{AreNexts};
-ghost use Rattle.ld_graph.specs.Order.{HasCycle, IsInserted, IsOrder};
+ghost use Rattle.ld_graph.specs.Order.{HasCycle, IsInserted, IsOrder, TellsSteps};
 ghost use Rattle.ld_graph.specs.Walks.{AreEnough, DistanceIs, HasWalk, IsShownWalk, Reaches};
 
 use crate::Edge;
 use crate::components::components_of;
 use crate::distance::Distance;
 use crate::inside::Distances;
-use crate::lists::{Lists, Reader};
+use crate::lists::{Lists, Reader, Steps};
 use crate::nexts::Nexts;
 use crate::placed::{Insert, place};
 use crate::ranks::Ranks;
@@ -169,11 +169,13 @@ impl Graph {
     /// Inserts the edge from `a` to `b`, which takes a spare one. So long as there is no cycle, all ranks stand
     /// where `a` is ranked below `b`. Else those from the rank of `b` to that of `a` are repaired, or the edge
     /// closes a cycle, and from then on there is no order. An edge that is there already changes nothing.
-    /// Takes no memory.
-    pub fn insert(&mut self, a: u32, b: u32) -> Insert
+    /// What is read for it is added to `steps`: as many lists as `Moved` tells. Takes no memory.
+    pub fn insert(&mut self, a: u32, b: u32, steps: &mut Steps) -> Insert
         requires a { a < self.old.classes }
         requires b { b < self.old.classes }
         requires room { 0 < self.old.spare_edges }
+        requires steps { steps.old < 2 ^ 63 }
+        ensures told { TellsSteps result steps.old steps.new }
         ensures inserted { IsInserted self.old a b result self.new }
         ensures new { (¬ IsEdge self.old.edges a b)
             → self.new ≡ with_edge self.old a b self.new.order }
@@ -181,16 +183,18 @@ impl Graph {
         if self.edges.contains(&Edge { from: a, to: b }) {
             return Insert::Known;
         }
-        let (_, answer) = self.insert_full(a, b);
+        let (_, answer) = self.insert_full(a, b, steps);
         answer
     }
 
     /// Inserts the edge as `insert` does, and answers its number too: one look-up tells that and whether it was
     /// there. It takes a spare edge also where it was. Takes no memory.
-    pub fn insert_full(&mut self, a: u32, b: u32) -> (u64, Insert)
+    pub fn insert_full(&mut self, a: u32, b: u32, steps: &mut Steps) -> (u64, Insert)
         requires a { a < self.old.classes }
         requires b { b < self.old.classes }
         requires room { 0 < self.old.spare_edges }
+        requires steps { steps.old < 2 ^ 63 }
+        ensures told { TellsSteps result.1 steps.old steps.new }
         ensures number { IsEdgeNumber self.new.edges a b result.0 }
         ensures there { (result.1 ≡ Insert.Known) ↔ IsEdge self.old.edges a b }
         ensures same { result.1 ≡ Insert.Known
@@ -205,13 +209,9 @@ impl Graph {
         if !added {
             return (number as u64, Insert::Known);
         }
-        let answer = place(
-            &mut Reader::new(&self.lists),
-            &mut self.ranks,
-            &mut self.has_cycle,
-            a,
-            b,
-        );
+        let mut reader = Reader::new(&self.lists);
+        let answer = place(&mut reader, &mut self.ranks, &mut self.has_cycle, a, b);
+        reader.add_to(steps);
         self.lists.push(a, b);
         (number as u64, answer)
     }

@@ -126,7 +126,7 @@ impl Lists {
     }
 }
 
-/// How many lists were read. Nothing but reading a list raises it.
+/// How many lists were read. Nothing but reading a list raises it, or a reader that has read some.
 #[derive(Drop)]
 pub struct Steps {
     count: u64,
@@ -189,6 +189,14 @@ impl<'l> Reader<'l> {
         ensures { result ≡ self.now.count }
     {
         self.steps.count()
+    }
+
+    /// Ends the reading, and adds the lists that were read to these steps. Takes no memory.
+    pub fn add_to(self, steps: &mut Steps)
+        requires few { steps.old + self.count < 2 ^ 64 }
+        ensures step { steps.new ≡ steps.old + self.entry.count }
+    {
+        steps.count += self.steps.count;
     }
 
     /// The successors of the class `c`, each once. Adds one to the count. Takes no memory.

@@ -1,8 +1,9 @@
 //! What the insert of an edge does to the ranks.
 
-ghost use Rattle.std.specs.Prelude.{◌≡◌, ◌↔◌, ℕ, ◌<◌, false, length, slice_index};
-ghost use Rattle.ld_graph.specs.Inner.Placed.{IsPlaced, TellsSteps};
+ghost use Rattle.std.specs.Prelude.{◌≡◌, ◌↔◌, ℕ, ◌+◌, ◌<◌, ◌≤◌, false, length, slice_index};
+ghost use Rattle.ld_graph.specs.Inner.Placed.{IsPlaced};
 ghost use Rattle.ld_graph.specs.Lists.{IsNear};
+ghost use Rattle.ld_graph.specs.Order.{TellsSteps};
 
 use crate::lists::Reader;
 use crate::ranks::Ranks;
@@ -46,7 +47,8 @@ pub fn place(
         → slice_index ranks.old.ranks x < slice_index ranks.old.ranks y }
     requires steps { reader.old.count ≡ 0 }
     ensures lists { reader.new.lists ≡ reader.old.lists }
-    ensures told { TellsSteps result reader.new.count }
+    ensures told { TellsSteps result 0 reader.new.count }
+    ensures most { reader.new.count ≤ length ranks.old.ranks + length ranks.old.ranks }
     ensures room { ranks.new.room ≡ ranks.old.room }
     ensures placed { IsPlaced (IsNear reader.old.lists.after.lists) a b result has_cycle.old has_cycle.new
         ranks.old.ranks ranks.new.ranks }

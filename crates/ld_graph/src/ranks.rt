@@ -1,6 +1,6 @@
 //! The ranks of a graph's classes: the order, and the space that its repairs take.
 
-ghost use Rattle.std.specs.Prelude.{◌≡◌, ◌≢◌, ◌↔◌, ℕ, ◌<◌, ◌≤◌, [], ◌∷◌, ◌++◌, length, slice_index, IsTrue, IfSome, MatchOption, OnOk};
+ghost use Rattle.std.specs.Prelude.{◌≡◌, ◌≢◌, ◌↔◌, ℕ, ◌+◌, ◌<◌, ◌≤◌, [], ◌∷◌, ◌++◌, length, slice_index, IsTrue, IfSome, MatchOption, OnOk};
 ghost use Rattle.ld_graph.specs.declared.graph.TheConstants.{MOST_GRAPH_CLASSES};
 ghost use Rattle.ld_graph.specs.Inner.Repairs.{IsOrReaches, IsRepaired};
 ghost use Rattle.ld_graph.specs.Lists.{IsNear};
@@ -117,6 +117,7 @@ impl Ranks {
         requires steps { reader.old.count ≡ 0 }
         ensures lists { reader.new.lists ≡ reader.old.lists }
         ensures told { IfSome result (λ expanded. expanded ≡ reader.new.count) }
+        ensures most { reader.new.count ≤ length self.old.ranks + length self.old.ranks }
         ensures room { self.new.room ≡ self.old.room }
         ensures ranks { MatchOption result
             ((self.new.ranks ≡ self.old.ranks) × IsOrReaches (IsNear reader.old.lists.after.lists) b a)

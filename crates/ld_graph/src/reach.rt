@@ -1,5 +1,5 @@
 //! Which classes walks from some seeds lead to, kept while edges come.
-ghost use Rattle.std.specs.Prelude.{◌≡◌, ◌⊎◌, ◌++◌, ◌∷◌, [], ℕ, List, ◌+◌, ◌<◌, ◌≤◌, true, false};
+ghost use Rattle.std.specs.Prelude.{◌≡◌, ◌⊎◌, ◌++◌, ◌∷◌, [], ℕ, List, ◌+◌, ◌<◌, ◌≤◌, ◌^◌, true, false};
 ghost use Rattle.std.specs.Prelude.{◌↔◌, drop, take, IsSome, All, Contains, None, OnErr, OnOk, count_by, is_none, length};
 ghost use Rattle.std.specs.Prelude.{nat_eq, slice_index_or, slice_set, vec_capacity, vec_len};
 ghost use Rattle.std.specs.List.{IsDistinct};
@@ -116,7 +116,7 @@ impl Reach {
         requires classes { length reader.old.lists.after.lists ≡ length self.old.marks }
         requires ends { (x y : ℕ) → IsNear reader.old.lists.after.lists x y → y < length self.old.marks }
         requires class { c < length self.old.marks }
-        requires few { reader.old.count ≤ self.old.expanded }
+        requires steps { reader.old.count < 2 ^ 63 }
         ensures exact { (edges : List Edge) (seeds : List ℕ) → AreSuccessors reader.old.lists edges
             → IsReach (IsEdge edges) seeds self.old → IsReach (IsEdge edges) (seeds ++ c ∷ []) self.new }
         ensures lists { reader.new.lists ≡ reader.old.lists }
@@ -155,7 +155,7 @@ impl Reach {
         requires ends { (x y : ℕ) → IsNear reader.old.lists.after.lists x y → y < length self.old.marks }
         requires from { a < length self.old.marks }
         requires to { b < length self.old.marks }
-        requires few { reader.old.count ≤ self.old.expanded }
+        requires steps { reader.old.count < 2 ^ 63 }
         ensures exact { (before : List Edge) (seeds : List ℕ)
             → AreSuccessors reader.old.lists (before ++ edge a b ∷ []) → IsReach (IsEdge before) seeds self.old
             → IsReach (IsEdge (before ++ edge a b ∷ [])) seeds self.new }
@@ -243,7 +243,7 @@ fn expand(
     requires same { length sources.old ≡ length marks.old.each }
     requires class { class < length marks.old.each }
     requires fresh { slice_index_or marks.old.each class false ≡ false }
-    requires read { reader.old.count ≤ marks.old.count }
+    requires steps { reader.old.count + length marks.old.each + 1 < 2 ^ 64 + marks.old.count }
     requires counted { marks.old.count ≡ count_by (λ m. m) marks.old.each }
     requires few { length marks.old.each ≤ MOST_GRAPH_CLASSES }
     requires listed { AreReached sources.old reached.old.items }
@@ -285,7 +285,7 @@ fn spread(
     requires known { known ≤ vec_len reached.old }
     requires ends { (x y : ℕ) → IsNear reader.old.lists.after.lists x y → y < length marks.old.each }
     requires same { length sources.old ≡ length marks.old.each }
-    requires read { reader.old.count ≤ marks.old.count }
+    requires steps { reader.old.count + length marks.old.each + 1 < 2 ^ 64 + marks.old.count }
     requires counted { marks.old.count ≡ count_by (λ m. m) marks.old.each }
     requires few { length marks.old.each ≤ MOST_GRAPH_CLASSES }
     requires listed { AreReached sources.old reached.old.items }

@@ -40,6 +40,7 @@ fn find_by_rank(
     ensures ended { HasEnded result reader.old.lists (slice_index order.now.ranks) (length order.now.ranks)
         (slice_index order.now.ranks b) (slice_index order.now.ranks a) backward.new.found forward.new.found }
     ensures read { reader.new.count ≤ length backward.new.found + length forward.new.found }
+    ensures most { reader.new.count ≤ length order.now.ranks + length order.now.ranks }
     ensures some { 0 < reader.new.count }
     ensures ranks { AreRanks order.now.ranks }
 {
@@ -134,6 +135,7 @@ pub fn reorder(
     ensures size { (backward.new.size ≡ backward.old.size) × (forward.new.size ≡ forward.old.size) }
     ensures lists { reader.new.lists ≡ reader.old.lists }
     ensures room { order.new.room ≡ order.old.room }
+    ensures most { reader.new.count ≤ length order.old.ranks + length order.old.ranks }
     ensures met { OnFalse result ((order.new.ranks ≡ order.old.ranks)
         × IsOrReaches (IsNear reader.old.lists.after.lists) b a) }
     ensures repaired { OnTrue result (IsRepaired (IsNear reader.old.lists.after.lists) a b

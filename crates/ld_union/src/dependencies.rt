@@ -27,7 +27,7 @@ mod words;
 use crate::known::KnownWords;
 use crate::news::NewBit;
 use crate::states::PerState;
-use ld_graph::{Edge, Graph, Insert, Reach};
+use ld_graph::{Edge, Graph, Insert, Reach, Steps};
 use ld_rules::Witness;
 use ld_shown::{Guesses, Shown};
 use std::alloc::{AllocError, Global};
@@ -235,7 +235,8 @@ impl Dependencies {
             → WasSeen self.new.rows.items e trace }
         ensures there { WasSeen self.new.rows.items edge witness.number }
     {
-        let (place, answer) = self.graph.insert_full(edge.from, edge.to);
+        let mut steps = Steps::new();
+        let (place, answer) = self.graph.insert_full(edge.from, edge.to, &mut steps);
         guesses.keep_dependency(number, place as usize);
         if let Insert::Known = answer {
             self.see(place as usize, edge, witness);

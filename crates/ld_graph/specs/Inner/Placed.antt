@@ -1,5 +1,5 @@
 -- What an edge that is new does to the ranks. No public contract cites this file.
-use Rattle.std.specs.Prelude.{◌≡◌, ℕ, ◌<◌, Bool, true, false, List, slice_index, ⊤}
+use Rattle.std.specs.Prelude.{◌≡◌, ℕ, ◌<◌, Bool, true, false, List, slice_index}
 use Rattle.ld_graph.specs.declared.placed.Insert.{Insert}
 use Rattle.ld_graph.specs.declared.placed.Insert.TheVariants.{Known, Kept, Moved, Closed, AfterCycle}
 use Rattle.ld_graph.specs.Inner.Repairs.{IsRepaired, IsOrReaches}
@@ -17,12 +17,3 @@ IsPlaced step a b (Moved expanded) was now old new =
 IsPlaced step a b Closed was now old new =
     (was ≡ false) × ((now ≡ true) × ((new ≡ old) × IsOrReaches step b a))
 IsPlaced step a b AfterCycle was now old new = (was ≡ true) × ((now ≡ true) × (new ≡ old))
-
--- so many lists were read for the answer: none where the ranks stand without a search, and as many as
--- it tells where they were repaired
-abbrev pub TellsSteps : Insert → (steps : ℕ) → Type 0
-TellsSteps Known steps = steps ≡ 0
-TellsSteps Kept steps = steps ≡ 0
-TellsSteps (Moved expanded) steps = expanded ≡ steps
-TellsSteps Closed steps = ⊤
-TellsSteps AfterCycle steps = steps ≡ 0

@@ -29,6 +29,12 @@ pub record IsMended (step : ℕ → ℕ → Type 0) (a b : ℕ) (old new : List 
   pub outside : (c : ℕ) → c < length old
       → (slice_index old c < slice_index old b) ⊎ (slice_index old a < slice_index old c)
       → slice_index new c ≡ slice_index old c
+  pub beside : (c : ℕ) → c < length old
+      → (slice_index new c ≤ slice_index new a) ⊎ (slice_index new b ≤ slice_index new c)
+  pub alike : (c d : ℕ) → c < length old → d < length old
+      → ((slice_index new c ≤ slice_index new a) × (slice_index new d ≤ slice_index new a))
+      ⊎ ((slice_index new b ≤ slice_index new c) × (slice_index new b ≤ slice_index new d))
+      → slice_index old c < slice_index old d → slice_index new c < slice_index new d
 
 -- the order was mended, and so many lists were read for it
 pub record IsRepaired (step : ℕ → ℕ → Type 0) (a b : ℕ) (old new : List ℕ) (expanded : ℕ) : Type 0 where

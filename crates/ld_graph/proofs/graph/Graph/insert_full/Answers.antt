@@ -70,7 +70,7 @@ invariant_of-self-2 c =
     let placed : IsPlaced (IsNear c.self.inside.lists.after.lists) c.args.a c.args.b c.place-answer.result
     c.self.inside.has_cycle c.place-answer.new.has_cycle c.self.inside.ranks.ranks c.place-answer.new.ranks.ranks =
     subst (λ l. IsPlaced (IsNear l.after.lists) c.args.a c.args.b c.place-answer.result c.self.inside.has_cycle
-    c.place-answer.new.has_cycle c.self.inside.ranks.ranks c.place-answer.new.ranks.ranks) c.new.ensures.lists
+    c.place-answer.new.has_cycle c.self.inside.ranks.ranks c.place-answer.new.ranks.ranks) c.new-reader.ensures.lists
     c.place-answer.ensures.placed in
     let i = c.self.invariant in
     let keys : c.insert_full.new.self.keys ≡ c.self.inside.edges.keys ++ edge c.args.a c.args.b ∷ [] =
@@ -146,20 +146,20 @@ push-requires-clause-before_fresh c = λ n.
     IsEdge-missing c.self.inside.edges.keys c.args.a c.args.b (wasnt_there _ _ c.in-Ok.ensures.added (search rules)) ((c.self.invariant.before_edges c.args.b c.args.a).0 n)
 
 pub place-answer-requires-clause-turned : goal.place-answer-requires-clause-turned
-place-answer-requires-clause-turned c = rw (c.new.ensures.lists) (λ x y.
+place-answer-requires-clause-turned c = rw (c.new-reader.ensures.lists) (λ x y.
     let i = c.self.invariant in (
       λ n. (i.before_edges y x).1 ((i.after_edges x y).0 n),
       λ n. (i.after_edges x y).1 ((i.before_edges y x).0 n),
     ))
 
 pub place-answer-requires-clause-ends : goal.place-answer-requires-clause-ends
-place-answer-requires-clause-ends c = rw (c.new.ensures.lists) (λ x y n.
+place-answer-requires-clause-ends c = rw (c.new-reader.ensures.lists) (λ x y n.
     let i = c.self.invariant in
     let e = i.ends x y ((i.after_edges x y).0 n) in
     (omega (arith, e, i.ranked), omega (arith, e, i.ranked)))
 
 pub place-answer-requires-clause-rises : goal.place-answer-requires-clause-rises
-place-answer-requires-clause-rises c = rw (c.new.ensures.lists) (λ f x y n.
+place-answer-requires-clause-rises c = rw (c.new-reader.ensures.lists) (λ f x y n.
     let i = c.self.invariant in i.rises f x y ((i.after_edges x y).0 n))
 
 pub returns-clause-inserted : goal.returns-clause-inserted
@@ -167,7 +167,7 @@ returns-clause-inserted c _ =
     let placed : IsPlaced (IsNear c.self.inside.lists.after.lists) c.args.a c.args.b c.place-answer.result
     c.self.inside.has_cycle c.place-answer.new.has_cycle c.self.inside.ranks.ranks c.place-answer.new.ranks.ranks =
     subst (λ l. IsPlaced (IsNear l.after.lists) c.args.a c.args.b c.place-answer.result c.self.inside.has_cycle
-    c.place-answer.new.has_cycle c.self.inside.ranks.ranks c.place-answer.new.ranks.ranks) c.new.ensures.lists
+    c.place-answer.new.has_cycle c.self.inside.ranks.ranks c.place-answer.new.ranks.ranks) c.new-reader.ensures.lists
     c.place-answer.ensures.placed in
     let keys : c.insert_full.new.self.keys ≡ c.self.inside.edges.keys ++ edge c.args.a c.args.b ∷ [] =
     c.in-Ok.ensures.keys ∙ insert_key-new c.self.inside.edges.keys (edge c.args.a c.args.b) (wasnt_there _ _ c.in-Ok.ensures.added (search rules)) in
