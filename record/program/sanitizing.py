@@ -68,6 +68,21 @@ def check_sanitized(planted, directory):
         must(texts[0] == texts[1], f"{planted.name}: the streams of the mergers are not the same")
 
 
+def read_recording(path):
+    """Gives the bytes of a recording, without the hole that most of the file is."""
+    with open(path, "rb") as file:
+        chunks = int.from_bytes(file.read(64)[56:], "little")
+        file.seek(0)
+        return file.read((chunks + 1) * CHUNK)
+
+
+def write_new(path, data):
+    """Writes a file in the place of one that may be in use."""
+    os.unlink(path)
+    with open(path, "wb") as file:
+        file.write(data)
+
+
 def units_of(data):
     """Where the units of a recording stand that were written."""
     for chunk in range(CHUNK, len(data), CHUNK):
@@ -120,17 +135,14 @@ def check_damaged(name, directory):
     planted = Planted(name)
     folder = os.path.join(directory, f"{planted.name}-damaged")
     told = recorded(planted, planted.runs[0].split(), directory, folder)
-    path = os.path.join(folder, min(os.listdir(folder)))
     chance = random.Random(name)
-    with open(path, "rb") as file:
-        chunks = int.from_bytes(file.read(64)[56:], "little")
-        file.seek(0)
-        data = file.read((chunks + 1) * CHUNK)
-    for damaged in [*worst_numbers(data), *(by_chance(data, chance) for _ in range(RANDOM_DAMAGES))]:
-        os.unlink(path)
-        with open(path, "wb") as file:
-            file.write(damaged)
-        check_stream_of(name, told, folder, directory)
+    for process in sorted(os.listdir(folder)):
+        path = os.path.join(folder, process)
+        data = read_recording(path)
+        for damaged in [*worst_numbers(data), *(by_chance(data, chance) for _ in range(RANDOM_DAMAGES))]:
+            write_new(path, damaged)
+            check_stream_of(name, told, folder, directory)
+        write_new(path, data)
 
 
 def check_damaged_program(name, directory):
@@ -153,7 +165,5 @@ def check_damaged_program(name, directory):
         for _ in range(chance.choice((1, 3, 30))):
             start, end = chance.choice(((0, 64), (sections, len(data)), (0, len(data)), (0, len(data))))
             damaged[chance.randrange(start, end)] = chance.choice((0, 127, 255, chance.randrange(256)))
-        os.unlink(program)
-        with open(program, "wb") as file:
-            file.write(damaged)
+        write_new(program, damaged)
         check_stream_of(name, told, os.path.join(folder, "raw"), directory)
