@@ -9,8 +9,8 @@ from building import MERGER_FLAGS, OUT, sources_in
 from planting import COMPILERS, Planted, call, lockcheck, must
 
 SANITIZERS = ["-fsanitize=address,undefined", "-fno-sanitize-recover=all"]
-# What a merger may take for one of the planted programs is far below this.
-LIMITS = {"ASAN_OPTIONS": "detect_leaks=0:hard_rss_limit_mb=1000"}
+# A status of their own, since the merger has 1 too; and the merger takes far less memory than this.
+LIMITS = {"ASAN_OPTIONS": "exitcode=99:detect_leaks=0:hard_rss_limit_mb=1000", "UBSAN_OPTIONS": "exitcode=99"}
 CHUNK, UNIT, PROCESS_NUMBERS = 128 * 1024, 16, 10  # as library/recording.h has them
 WORST = (2**32 - 1, 2**64 - 1)
 DAMAGED = ("fields.c", "forks.c", "misuse.c", "readers-forms.c")
@@ -145,25 +145,39 @@ def check_damaged(name, directory):
         write_new(path, data)
 
 
+def worst_tables(data):
+    """Gives a program anew in which one of the tables and sections stands a byte further on, or far off."""
+    segments, sections, count = 32, 40, int.from_bytes(data[60:62], "little")  # as a file of ELF has them
+    start = int.from_bytes(data[sections:sections + 8], "little")
+    for at in [segments, sections, *(start + 64 * number + 24 for number in range(count))]:
+        for number in (int.from_bytes(data[at:at + 8], "little") + 1, max(WORST)):
+            damaged = bytearray(data)
+            put(damaged, at, number)
+            yield damaged
+
+
+def other_bytes(data, chance):
+    """Gives a program anew in which bytes are others: of its head, of its sections or anywhere."""
+    damaged, sections = bytearray(data), int.from_bytes(data[40:48], "little")
+    for _ in range(chance.choice((1, 3, 30))):
+        start, end = chance.choice(((0, 64), (sections, len(data)), (0, len(data)), (0, len(data))))
+        damaged[chance.randrange(start, end)] = chance.choice((0, 127, 255, chance.randrange(256)))
+    return damaged
+
+
 def check_damaged_program(name, directory):
     """So may the file of the program, with its sections and its debug information."""
     if not os.path.exists(sanitized(directory)):
         return
     planted = Planted(name)
     folder = os.path.join(directory, f"{planted.name}-damaged-file")
-    place = os.path.join(folder, f"{planted.name}-0")
-    os.makedirs(place)
-    program = os.path.join(place, planted.name)
+    program, raw = program_of(planted, folder), os.path.join(folder, "raw")
+    os.makedirs(os.path.dirname(program))
     planted.compile(planted.flags[0].split(), program)
-    told = recorded(planted, planted.runs[0].split(), folder, os.path.join(folder, "raw"))
+    told = recorded(planted, planted.runs[0].split(), folder, raw)
     chance = random.Random(name)
     with open(program, "rb") as file:
         data = file.read()
-    sections = int.from_bytes(data[40:48], "little")
-    for _ in range(4 * RANDOM_DAMAGES):
-        damaged = bytearray(data)
-        for _ in range(chance.choice((1, 3, 30))):
-            start, end = chance.choice(((0, 64), (sections, len(data)), (0, len(data)), (0, len(data))))
-            damaged[chance.randrange(start, end)] = chance.choice((0, 127, 255, chance.randrange(256)))
+    for damaged in [*worst_tables(data), *(other_bytes(data, chance) for _ in range(2 * RANDOM_DAMAGES))]:
         write_new(program, damaged)
-        check_stream_of(name, told, os.path.join(folder, "raw"), directory)
+        check_stream_of(name, told, raw, directory)
