@@ -64,7 +64,7 @@ def check_sanitized(planted, directory):
             answer = merge(merger, told, folder, folder + ".trace")
             must(answer.returncode == 0, f"{planted.name}: {merger}: {answer.stderr}")
             with open(folder + ".trace", encoding="ascii") as stream:
-                texts.append((stream.read(), answer.stderr))
+                texts.append(stream.read())
         must(texts[0] == texts[1], f"{planted.name}: the streams of the mergers are not the same")
 
 
