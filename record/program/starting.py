@@ -5,7 +5,7 @@ import shutil
 import signal
 
 from building import HERE, OUT
-from planting import SAYS, call, must, record, said
+from planting import RUN, SAYS, call, must, record, said
 
 NO_LOCK = SAYS + "no process took a lock that the recorder sees: no report on the stream says anything\n"
 
@@ -107,12 +107,12 @@ def copy_of_recorder(folder):
     return os.path.join(folder, "run")
 
 
-def replace(path, old, new):
+def replace(path, old, new, count=-1):
     with open(path, encoding="utf-8") as file:
         text = file.read()
     must(old in text, f"{path} has no {old}")
     with open(path, "w", encoding="utf-8") as file:
-        file.write(text.replace(old, new))
+        file.write(text.replace(old, new, count))
 
 
 def built_by(run, log, compiler):
@@ -154,6 +154,31 @@ def check_makers(directory):
         change()
         count = built_by(run, version + ".built", words)
         must(count == expected, f"makers: {count} files were built, and not {expected}")
+
+
+def check_stream_cut_off(directory):
+    """A stream that can't be written whole isn't left: half of it would be judged. A program that ended well ends with
+    125 then, and any other as it ended."""
+    run = copy_of_recorder(os.path.join(directory, "cut-off"))
+    replace(os.path.join(os.path.dirname(run), "merger", "merge.c"), "    int64_t bytes = close_stream(",
+            "    fflush(stream);\n    raise(SIGKILL);\n    int64_t bytes = close_stream(")
+    replace(os.path.join(os.path.dirname(run), "merger", "merge.c"), "#include", "#include <signal.h>\n#include", 1)
+    stream = os.path.join(directory, "cut-off.trace")
+    inversion = os.path.join(directory, "inversion-0", "inversion")
+    for words, status in (([inversion], 125), (["sh", "-c", f"{inversion}; exit 7"], 7)):
+        answer = call([run, "-o", stream, *words])
+        text = f"{SAYS}{stream}: the recording is lost, since the stream couldn't be written whole\n"
+        must((answer.returncode, answer.stderr) == (status, text), f"a stream that is cut off: {answer}")
+        must(not os.path.exists(stream) and not os.path.exists(stream + ".places"), "a part of a stream is left")
+
+
+def check_full_disk(directory):
+    """The same of a disk that is full."""
+    stream = os.path.join(directory, "full.trace")
+    os.symlink("/dev/full", stream)
+    answer = call([RUN, "-o", stream, os.path.join(directory, "inversion-0", "inversion")])
+    text = f"{SAYS}{stream}: the stream couldn't be written\n"
+    must(answer.returncode == 125 and answer.stderr.startswith(text), f"a full disk: {answer}")
 
 
 def check_valgrind_by_clang(directory):
