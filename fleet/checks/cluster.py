@@ -16,6 +16,8 @@ from rooms import MARK, call, fleet, kill_marked, must, must_be_same, night, par
 NODES = ["n1", "n2", "n3", "n4"]
 SLURM = ("slurmctld", "slurmd", "sbatch", "munged")
 DASK = ("dask-scheduler", "dask-worker")
+# For processors with other work to do.
+PATIENT = {"DASK_DISTRIBUTED__COMM__TIMEOUTS__CONNECT": "60s"}
 # Debian's, which has Debian's packages.
 PYTHON = "/usr/bin/python3"
 # The name of a night's folder, of which each engine might take something for a pattern.
@@ -115,17 +117,21 @@ def start_slurm(room):
     )
 
 
+def start_scheduler(room):
+    """A scheduler of Dask. Answers its address."""
+    port = str(free_ports(1)[0])
+    words = [PYTHON, shutil.which("dask-scheduler"), "--host", "127.0.0.1", "--port", port, "--no-dashboard"]
+    start(room, "scheduler", *words, **PATIENT, FLEET_NODE="scheduler")
+    return f"tcp://127.0.0.1:{port}"
+
+
 def start_dask(room):
     """A scheduler and four workers, each with its nurse. Answers the address."""
-    port = free_ports(1)[0]
-    address = f"tcp://127.0.0.1:{port}"
-    common = {"DASK_DISTRIBUTED__COMM__TIMEOUTS__CONNECT": "60s"}
-    scheduler = [PYTHON, shutil.which("dask-scheduler"), "--host", "127.0.0.1", "--port", str(port), "--no-dashboard"]
-    start(room, "scheduler", *scheduler, **common, FLEET_NODE="scheduler")
+    address = start_scheduler(room)
     worker = [PYTHON, shutil.which("dask-worker"), address, "--nthreads", "1", "--no-dashboard"]
     for name in NODES:
         own = ["--name", name, "--local-directory", room.new(f"spill-{name}")]
-        start(room, name, *worker, *own, **common, FLEET_NODE=name)
+        start(room, name, *worker, *own, **PATIENT, FLEET_NODE=name)
     wait = f"from distributed import Client; Client({address!r}).wait_for_workers(4, timeout=60)"
     ended = call(PYTHON, "-c", wait)
     must(ended.returncode == 0, f"dask: four workers don't come up: {ended.stderr.decode()}")
@@ -206,6 +212,7 @@ def check_lost_scheduler(room, words):
     more = {"LOCKGRAPH": slow, "DASK_DISTRIBUTED__COMM__TIMEOUTS__CONNECT": "3s"}
     # Those of the night before end with it.
     kill_marked(f"{MARK}={room.folder}", "FLEET_NODE=scheduler")
+    check_no_worker(room, words)
     address = start_dask(room)
     threading.Thread(target=lose_the_scheduler, args=[room, target], daemon=True).start()
     ended = call(*words, address, streams, target, more=more)
@@ -213,6 +220,19 @@ def check_lost_scheduler(room, words):
     must(ended.returncode == 2 and "the scheduler is lost" in said, f"dask: status {ended.returncode}:\n{said}")
     ended = call(*words, start_dask(room), streams, target)
     must(ended.stdout.decode() == planted.summary(SMALL) + "\n", f"dask: it doesn't go on:\n{ended.stderr.decode()}")
+
+
+def check_no_worker(room, words):
+    """A night that no worker does says what it waits for."""
+    address = start_scheduler(room)
+    waiting = start(room, "waiting", *words, address, room.path("streams"), room.path("waiting"))
+    until(
+        lambda: b"waiting: 0 of" in read(room.path("waiting.said")) and b"0 workers" in read(room.path("waiting.said")),
+        "dask: it isn't told that there are no workers",
+    )
+    waiting.terminate()
+    must(waiting.wait(timeout=60) != 0, "dask: a night that no worker did ended well")
+    kill_marked(f"{MARK}={room.folder}", "FLEET_NODE=scheduler")
 
 
 def lose_the_scheduler(room, target):
