@@ -154,8 +154,8 @@ class Driver:
         for it in found.unread:
             self.say(f"{shown(it)}: this folder can't be read, so its streams are left")
         if found.others:
-            count, first = len(found.others), shown(found.others[0])
-            self.say(f"{count} files aren't read, since their names don't end with {STREAM}: {first} is one")
+            more = f", and {len(found.others) - 1} more" if len(found.others) > 1 else ""
+            self.say(f"not read, since its name doesn't end with {STREAM}: {shown(found.others[0])}{more}")
         return found
 
     def missing(self):

@@ -25,6 +25,8 @@ STREAM = ".trace"
 REDUCED, COUNTS, FAULTY = ".reduced", ".counts", ".faulty"
 # How the name of a file ends that isn't whole: it is NAME%%HOST.PID.CHANCE.part.
 PART = ".part"
+# The stamp of a stream that can't be seen: no result has it.
+UNKNOWN = "?"
 # The longest name that is used as it is: what is longer is cut. Endings and the name of a part need room.
 LONGEST = 150
 
@@ -74,9 +76,9 @@ class Found(NamedTuple):
 
 def found_below(folder, night):
     """Looks below a folder, but not into that of the night. A link to a folder counts as one, and a folder that two
-    paths lead to counts once."""
-    unread, files, seen = [], [], {os.path.realpath(night)}
-    for at, folders, names in os.walk(folder, onerror=unread.append, followlinks=True):
+    paths lead to counts once. A link that leads nowhere may be one to a folder, on a disk that isn't there."""
+    errors, files, seen = [], [], {os.path.realpath(night)}
+    for at, folders, names in os.walk(folder, onerror=errors.append, followlinks=True):
         real = os.path.realpath(at)
         if real in seen:
             folders.clear()
@@ -84,13 +86,15 @@ def found_below(folder, night):
         seen.add(real)
         folders.sort(key=os.fsencode)
         files += [os.path.relpath(os.path.join(at, it), folder) for it in names]
-    if unread and os.path.samefile(unread[0].filename, folder):
-        raise unread[0]
+    if errors and errors[0].filename == folder:
+        raise errors[0]
     files.sort(key=os.fsencode)
+    others = [it for it in files if not it.endswith(STREAM)]
+    nowhere = {it for it in others if not os.path.exists(os.path.join(folder, it))}
     return Found(
         [it for it in files if it.endswith(STREAM)],
-        sorted(os.path.relpath(it.filename, folder) for it in unread),
-        [it for it in files if not it.endswith(STREAM)],
+        sorted([os.path.relpath(it.filename, folder) for it in errors] + list(nowhere)),
+        [it for it in others if it not in nowhere],
     )
 
 
@@ -100,17 +104,20 @@ def read(path):
 
 
 def stamp_of(path):
-    """What tells a stream from one that was written anew: its bytes and its time. None if there is no such file."""
+    """What tells a stream from one that was written anew: its bytes and its time. None if there is no such file, and
+    UNKNOWN if it can't be seen."""
     try:
         its = os.stat(path)
-    except OSError:
+    except (FileNotFoundError, NotADirectoryError):
         return None
+    except OSError:
+        return UNKNOWN
     return f"{its.st_size} {its.st_mtime_ns}"
 
 
 class Counts(NamedTuple):
-    """What stands in PATH.counts: how many traces PATH.reduced has, how many of them are refused ones, and the stamp of
-    the stream that it was made of, or `-` if it was joined."""
+    """What stands in PATH.counts: the number of traces in PATH.reduced, and of refused ones among them. The stamp is
+    that of the stream that it was made of, or `-` if it was joined."""
 
     traces: int
     refused: int
@@ -226,8 +233,8 @@ class Night:
 
 
 def begin_in_order():
-    """Has a signal that ends this process take away what isn't whole. A closed standard file becomes an empty one, else
-    a file of the night would get its number, and with it the texts of all processes."""
+    """Has a signal that ends this process take away what isn't whole. A closed standard file becomes an empty one.
+    Else a file of the night would get its number, and with it the texts of all processes."""
     for it in (signal.SIGHUP, signal.SIGTERM):
         signal.signal(it, lambda number, _: sys.exit(128 + number))
     while (number := os.open(os.devnull, os.O_RDWR)) <= 2:

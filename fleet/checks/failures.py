@@ -101,8 +101,8 @@ def check_killed(room, _count):
 
 
 def check_poisoned(room, streams):
-    """A stream that kills its task each time is told in the end, and holds up no other, be it the first one, with one
-    job, and whatever runs the tasks."""
+    """A stream that kills its task each time is told in the end, and holds up no other. It is the first one, with one
+    job, for each program that runs tasks."""
     poison = planted.path(0)
     stand_in = room.write(
         "stand-in",

@@ -1,15 +1,15 @@
 """A night's streams, each made by its number alone, and what has to be said of them.
 
-All locks are taken in one order, and those of handlers with interrupts disabled, so that nothing is wrong but what is
-planted: pairs of locks taken in one order on one machine and in the other order on another, and a class that handlers
-acquire on one machine, and that is held with interrupts enabled on another.
+All locks are taken in one order, and those of handlers with interrupts disabled. Nothing is wrong but what is planted.
+Some pairs of locks are taken in one order on one machine, and in the other order on another one. One class is acquired
+by handlers on one machine, and held with interrupts enabled on another one.
 """
 import os
 import random
 
 CLASSES, DRIVERS, PAIRS = 60, 40, 10
-# A stream of these numbers, of each so many, has the first or the second half of a pair or of the conflict, is at
-# fault, has a refused trace, or shows nothing.
+# Of each so many streams, those of these numbers have the first or the second half of a pair or of the conflict. Others
+# are at fault, have a refused trace, or show nothing.
 PAIR_EVERY, FIRST, SECOND = 20, 5, 7
 CONFLICT_EVERY, IN, ON = 100, 3, 64
 FAULTY_EVERY, FAULTY = 25, 13

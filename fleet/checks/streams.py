@@ -133,7 +133,8 @@ def check_unread(room, _count):
     os.symlink(room.path("elsewhere"), os.path.join(streams, "link"))
     os.symlink(".", os.path.join(room.path("elsewhere"), "loop"))
     os.symlink("../nights/night", os.path.join(streams, "own"))
-    os.symlink("none", os.path.join(streams, "f.trace"))
+    for name in ("f.trace", "rack"):
+        os.symlink("none", os.path.join(streams, name))
     os.chmod(room.new("nights/night"), 0o777)
     closed = [os.path.join(streams, "closed"), os.path.join(streams, "c.trace")]
     for it in closed:
@@ -142,14 +143,21 @@ def check_unread(room, _count):
     ended = call(*as_nobody(*words), folder="/")
     said = ended.stderr.decode()
     must(ended.returncode == 2, f"unread: status {ended.returncode}: {said}")
-    must(read(room.path("nights", "night", "night.left")) == b"c.trace\nf.trace\nclosed\n", f"unread: left are {said}")
-    must("1 files aren't read" in said and "e.trace.gz" in said, f"unread: another file isn't told: {said}")
+    must(read(room.path("nights", "night", "night.left")) == b"c.trace\nf.trace\nclosed\nrack\n", f"unread: left are {said}")
+    must("doesn't end with .trace: e.trace.gz\n" in said, f"unread: another file isn't told: {said}")
     must(b"trace a" in read(room.path("nights", "night", "night.trace")), "unread: another stream isn't done")
     os.chmod(closed[0], 0o755)
     os.chmod(closed[1], 0o644)
-    os.unlink(os.path.join(streams, "f.trace"))
+    for name in ("f.trace", "rack"):
+        os.unlink(os.path.join(streams, name))
     ended = call(*as_nobody(*words), folder="/")
     must(ended.returncode == 0, f"unread: status {ended.returncode}: {ended.stderr.decode()}")
     left = re.findall(r"trace (\S+)", read(room.path("nights", "night", "night.trace")).decode())
     must(left == ["a", "c", "b", "d"], f"unread: these are joined: {left}")
+    # An old result says nothing of a stream that can't be seen any more.
+    os.chmod(closed[0], 0o444)
+    ended = call(*as_nobody(*words), folder="/")
+    os.chmod(closed[0], 0o755)
+    left = read(room.path("nights", "night", "night.left"))
+    must(ended.returncode == 2 and left == b"closed/b.trace\n", f"unread: left are {left}: {ended.stderr.decode()}")
     return None
