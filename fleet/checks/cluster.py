@@ -2,6 +2,7 @@
 killed, and a node is lost."""
 import contextlib
 import os
+import pwd
 import shutil
 import socket
 import subprocess
@@ -44,8 +45,8 @@ exec {lockgraph} "$@"
 """
 SLURM_CONF = """ClusterName=fleet
 SlurmctldHost={host}(127.0.0.1)
-SlurmUser=root
-SlurmdUser=root
+SlurmUser={user}
+SlurmdUser={user}
 AuthType=auth/munge
 CredType=cred/munge
 AuthInfo=socket={room}/munge/socket,cred_expire=5
@@ -100,9 +101,8 @@ def start_slurm(room):
         f"NodeName={name} NodeHostname={socket.gethostname()} NodeAddr=127.0.0.1 Port={port} CPUs=1 RealMemory=500"
         for name, port in zip(NODES, ports[1:])
     )
-    conf = room.write(
-        "slurm.conf", SLURM_CONF.format(host=socket.gethostname(), room=room.folder, ports=ports, nodes=nodes)
-    )
+    named = {"host": socket.gethostname(), "user": pwd.getpwuid(os.geteuid()).pw_name, "room": room.folder}
+    conf = room.write("slurm.conf", SLURM_CONF.format(**named, ports=ports, nodes=nodes))
     key = room.write("munge/key", os.urandom(128), 0o600)
     os.environ["SLURM_CONF"] = conf
     words = [f"--{it}={room.path('munge', it)}" for it in ("socket", "pid-file", "log-file", "seed-file")]
