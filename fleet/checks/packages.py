@@ -45,7 +45,8 @@ def run_apt():
         except subprocess.TimeoutExpired:
             return f"apt-get {words[0]} takes more than {LONGEST} seconds"
         if ended.returncode != 0:
-            return f"apt-get {words[0]}: {ended.stderr.decode().strip()}"
+            first = ended.stderr.decode().strip().partition("\n")[0]
+            return f"apt-get {words[0]}: {first or f'status {ended.returncode}'}"
     if shutil.which("systemctl"):
         call("systemctl", "--quiet", "disable", *SERVICES)
     return None
