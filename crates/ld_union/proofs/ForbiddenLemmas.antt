@@ -1,13 +1,8 @@
 -- The rows of forbidden walks.
-use Rattle.std.proofs.Common.{◌≡◌, ◌≢◌, ◌<◌, ◌≤◌, ◌⊎◌, inl, inr, List, None, Option, ℕ, length, get_or, is_some, arith, refl, sym, ap, subst, ◌∙◌}
-use Rattle.std.proofs.Common.{Bool, true, false, nat_eq}
-use Rattle.std.proofs.lemmas.Bool.{cases_lt, eqb-true}
-use Rattle.std.proofs.lemmas.List.{get_or_default, get_or_past}
-use Rattle.std.proofs.lemmas.Map.Keys.{IsDistinct-from_apart}
-use Rattle.std.specs.List.{IsDistinct}
+use Rattle.std.proofs.Common.{◌≡◌, ◌<◌, List, ℕ, length, is_some, refl, sym, ap, subst, ◌∙◌}
 use Rattle.ld_class.specs.Names.{PlainClass}
 use Rattle.ld_graph.specs.Edges.{IsEdge}
-use Rattle.ld_graph.specs.Walks.{DistanceIs, HasWalk}
+use Rattle.ld_graph.specs.Walks.{HasWalk}
 use Rattle.ld_trace.specs.declared.event.State.{State}
 use Rattle.ld_trace.specs.Sources.{PlainSource}
 use Rattle.ld_rules.specs.declared.outcome.Witness.{Witness}
@@ -16,13 +11,10 @@ use Rattle.ld_rules.specs.Usage.{Bit}
 use Rattle.ld_rules.specs.Usage.Bit.{In, On}
 use Rattle.ld_union.specs.declared.dependencies.Witnessed.{Witnessed}
 use Rattle.ld_union.specs.Findings.{IsBefore, IsShown, PlainForbiddenRow, shown_marks}
-use Rattle.ld_union.specs.Inner.ByName.{AreRising, class_at, class_name, name_at}
-use Rattle.ld_union.specs.Inner.Bits.{HasBitAt}
-use Rattle.ld_union.specs.Inner.Rows.{AreEnoughForAll, IsNoted, IsTurnedRowOf}
-use Rattle.ld_union.specs.Inner.Union.{AreBetween, AreWitnessed, PlainUnion, edges_of}
-use Rattle.ld_union.specs.Usage.{bits_of}
+use Rattle.ld_union.specs.Inner.ByName.{class_name}
+use Rattle.ld_union.specs.Inner.Rows.{IsNoted, IsTurnedRowOf}
+use Rattle.ld_union.specs.Inner.Union.{AreBetween, AreWitnessed, edges_of}
 use Rattle.ld_union.specs.Violations.{Depends, HasBit, IsForbidden}
-use Rattle.ld_union.proofs.NameOrderLemmas.{not_before_itself}
 use Rattle.ld_union.proofs.CycleLemmas.{HasWalk-shown}
 use Rattle.ld_union.proofs.NumberLemmas.{walk_from_leads}
 
@@ -71,28 +63,3 @@ pub no_forbidden-walk : (classes : List PlainClass) (rows : List Witnessed) → 
     → (state : State) (a b : ℕ) → a < length classes → b < length classes → ¬ HasWalk (IsEdge (edges_of rows)) a b → ¬ IsForbidden sources state (class_name classes a) (class_name classes b)
 no_forbidden-walk classes rows is sources witnessed state a b at_a at_b none forbidden =
     none (walk_from_leads classes rows is sources witnessed a b (class_name classes a) (class_name classes b) (at_a, refl) (at_b, refl) forbidden.2)
-
--- a class with a distance is one of those that the list is of
-pub touched-within : (n : ℕ) (distances : List (Option ℕ)) (c : ℕ) → length distances ≡ n → get_or distances c None ≢ None → c < n
-touched-within n distances c len known = by (cases_lt c (length distances))
-  where
-    by : (c < length distances) ⊎ (length distances ≤ c) → c < n
-    by (inl low) = omega (arith, low, len)
-    by (inr past) = absurd (known (get_or_past distances c None past))
-
--- a class that handlers acquire and that leads there has a distance
-pub leading-known : (union : PlainUnion) (state : State) (to : ℕ) (distances : List (Option ℕ)) → AreEnoughForAll union state to distances
-    → (c : ℕ) → c < length union.classes → HasBitAt (bits_of union.usage) c (In state) → HasWalk (IsEdge (edges_of union.dependencies)) c to → get_or distances c None ≢ None
-leading-known union state to distances are c low bit walk none = subst (DistanceIs (IsEdge (edges_of union.dependencies)) c to) none (are.each c low bit).enough.own walk
-
--- classes whose names rise stand there once
-pub once-from_rising : (classes : List PlainClass) (numbers : List ℕ) → AreRising (name_at classes numbers) (length numbers) → IsDistinct nat_eq numbers
-once-from_rising classes numbers rising = IsDistinct-from_apart nat_eq numbers (λ i j d less low. by i j d less low (nat_eq (get_or numbers i d) (get_or numbers j d)) refl)
-  where
-    by : (i j d : ℕ) → i < j → j < length numbers → (r : Bool) → nat_eq (get_or numbers i d) (get_or numbers j d) ≡ r → nat_eq (get_or numbers i d) (get_or numbers j d) ≡ false
-    by i j d less low false e = e
-    by i j d less low true e =
-        let at_i = get_or_default numbers i d 0 (omega (arith, less, low)) in
-        let at_j = get_or_default numbers j d 0 low in
-        let same : class_at numbers i ≡ class_at numbers j = sym at_i ∙ eqb-true (get_or numbers i d) (get_or numbers j d) e ∙ at_j in
-        absurd (not_before_itself (class_name classes (class_at numbers j)) (subst (λ k. IsBefore (class_name classes k) (name_at classes numbers j)) same (rising i j less low)))

@@ -12,8 +12,8 @@ use Rattle.std.specs.Ordering.{eq_by_cmp, ordering_reverse, ordering_then}
 use Rattle.ld_class.specs.Names.{PlainClass}
 use Rattle.ld_trace.specs.declared.event.State.{State}
 use Rattle.ld_trace.specs.Sources.{PlainSource}
-use Rattle.ld_union.specs.Findings.{IsBefore, IsPairBefore, PlainForbiddenRow, forbidden_key}
-use Rattle.ld_union.specs.Inner.Rows.{AreForbiddenRowsOf, AreTurnedRows, IsRowIn, IsTurnedBefore, turned_key}
+use Rattle.ld_union.specs.Findings.{IsPairBefore, PlainForbiddenRow, forbidden_key}
+use Rattle.ld_union.specs.Inner.Rows.{AreForbiddenRowsOf, AreTurnedRows, IsRowIn, turned_key}
 use Rattle.ld_union.specs.Violations.{IsForbidden}
 use Rattle.ld_union.proofs.NameOrderLemmas.{before_from_less, class_cmp, class_cmp_total, not_before_itself, same_from_equal}
 
@@ -92,6 +92,10 @@ pair_before_from_less p q is = by (class_cmp p.0 q.0) refl is
     by Equal first h = inr (same_from_equal p.0 q.0 first, before_from_less p.1 q.1 h)
     by Greater first h = absurd (true≢false (sym (ap is_lt h)))
 
+not_pair_before_itself : (p : PlainClass × PlainClass) → ¬ IsPairBefore p p
+not_pair_before_itself p (inl first) = not_before_itself p.0 first
+not_pair_before_itself p (inr second) = not_before_itself p.1 second.1
+
 -- the ends of a forbidden walk
 abbrev pub ends_of : PlainForbiddenRow → PlainClass × PlainClass
 ends_of row = (row.from, row.to)
@@ -107,11 +111,9 @@ module _ {X : Type 0} (plain : X → PlainForbiddenRow) (sources : List PlainSou
 
   apart : AllPairs (λ x y. ends_of (plain x) ≢ ends_of (plain y)) xs
   apart i j d before within same =
-      by (AllPairs-from_map (λ r s. IsTurnedBefore (turned_key r) (turned_key s)) plain xs turned.ordered i j d before within)
-    where
-      by : IsTurnedBefore (turned_key (plain (get_or xs i d))) (turned_key (plain (get_or xs j d))) → ⊥
-      by (inl first) = not_before_itself (plain (get_or xs j d)).to (subst (λ (p : PlainClass × PlainClass). IsBefore p.1 (plain (get_or xs j d)).to) same first)
-      by (inr second) = second.1 (ap (λ (p : PlainClass × PlainClass). p.0) same)
+      not_pair_before_itself ((plain (get_or xs j d)).to, (plain (get_or xs j d)).from)
+      (subst (λ (p : PlainClass × PlainClass). IsPairBefore (p.1, p.0) ((plain (get_or xs j d)).to, (plain (get_or xs j d)).from)) same
+      (AllPairs-from_map (λ r s. IsPairBefore (turned_key r) (turned_key s)) plain xs turned.ordered i j d before within))
 
   pub rows-sorted : AreForbiddenRowsOf sources (λ k. k.0 ≡ state) (map plain ys)
   rows-sorted = record {

@@ -1,6 +1,5 @@
 -- The rows of violations as their makers give them. No contract of a `Book` cites this file.
-use Rattle.std.specs.Prelude.{◌≡◌, ◌≢◌, ◌↔◌, ◌<◌, ℕ, List, Contains, length, nat_eq, slice_index_or, Option, None, Some}
-use Rattle.std.specs.List.{IsDistinct}
+use Rattle.std.specs.Prelude.{◌≡◌, ◌↔◌, ◌<◌, ℕ, List, Contains, length, slice_index_or, Option, None, Some}
 use Rattle.ld_class.specs.Names.{PlainClass}
 use Rattle.ld_graph.specs.Edges.{IsEdge}
 use Rattle.ld_graph.specs.Components.{AreComponents}
@@ -70,19 +69,15 @@ IsRowIn sources state row = IsForbiddenRow sources row × (row.state ≡ state)
 abbrev pub IsTurnedRowOf : List PlainSource → State → (to from : PlainClass) → PlainForbiddenRow → Type 0
 IsTurnedRowOf sources state to from row = IsRowIn sources state row × (turned_key row ≡ (to, from))
 
--- the second end of the one comes before that of the other, or they are the same, and the first ends differ
-abbrev pub IsTurnedBefore : PlainClass × PlainClass → PlainClass × PlainClass → Type 0
-IsTurnedBefore p q = InTurn IsBefore (λ a b. a ≢ b) p q
-
--- the rows of a state's forbidden walks, each once, in the order of their second ends
+-- the rows of a state's forbidden walks, in the order of their second ends
 abbrev pub AreTurnedRows : List PlainSource → State → List PlainForbiddenRow → Type 0
 AreTurnedRows sources state rows =
-    AreRows turned_key (IsRowIn sources state) (λ p. IsForbidden sources state p.1 p.0) IsTurnedBefore rows
+    AreRows turned_key (IsRowIn sources state) (λ p. IsForbidden sources state p.1 p.0) IsPairBefore rows
 
 -- and of these alone
 abbrev pub AreTurnedRowsOf : List PlainSource → State → (PlainClass × PlainClass → Type 0) → List PlainForbiddenRow → Type 0
 AreTurnedRowsOf sources state these rows =
-    AreRowsOf turned_key (IsRowIn sources state) (λ p. IsForbidden sources state p.1 p.0) IsTurnedBefore these rows
+    AreRowsOf turned_key (IsRowIn sources state) (λ p. IsForbidden sources state p.1 p.0) IsPairBefore these rows
 
 -- the name and the usage characters of a class that has the bit, and where that was first seen
 pub record IsNoted (sources : List PlainSource) (class : PlainClass) (bit : Bit) (name : PlainClass) (marks : List ℕ) (at : Witness) : Type 0 where
@@ -99,18 +94,6 @@ pub record AreAcquired (union : PlainUnion) (state : State) (acquired : List ℕ
 pub record AreEnoughFrom (union : PlainUnion) (from to : ℕ) (distances : List (Option ℕ)) : Type 0 where
   pub len : length distances ≡ length union.classes
   pub enough : AreEnough (IsEdge (edges_of union.dependencies)) from to (λ c. slice_index_or distances c None)
-
--- and for those from all classes that handlers of the state acquire
-pub record AreEnoughForAll (union : PlainUnion) (state : State) (to : ℕ) (distances : List (Option ℕ)) : Type 0 where
-  pub len : length distances ≡ length union.classes
-  pub each : (c : ℕ) → c < length union.classes → HasBitAt (bits_of union.usage) c (In state) → AreEnoughFrom union c to distances
-
--- classes, each once, with all that handlers of the state acquire and that have a distance
-pub record AreFirsts (union : PlainUnion) (state : State) (distances : List (Option ℕ)) (firsts : List ℕ) : Type 0 where
-  pub within : (c : ℕ) → Contains firsts c → c < length union.classes
-  pub all : (c : ℕ) → c < length union.classes → HasBitAt (bits_of union.usage) c (In state) → slice_index_or distances c None ≢ None
-      → Contains firsts c
-  pub once : IsDistinct nat_eq firsts
 
 -- the next classes that are noted are those of these distances and of the order of names
 abbrev pub AreNextsOf : PlainUnion → (places : List ℕ) → (distances nexts : List (Option ℕ)) → Type 0

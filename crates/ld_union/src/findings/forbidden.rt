@@ -1,16 +1,14 @@
 //! The forbidden walks.
-ghost use Rattle.std.specs.Prelude.{◌≡◌, ◌⊎◌, ◌<◌, IfOk, List, MatchOption, length, map};
+ghost use Rattle.std.specs.Prelude.{◌≡◌, ◌<◌, IfOk, List, MatchOption, length, map};
 ghost use Rattle.ld_class.specs.Names.{plain_class};
 ghost use Rattle.ld_trace.specs.Sources.{PlainSource};
 ghost use Rattle.ld_rules.specs.Union.{dependency_witness, use_witness};
-ghost use Rattle.ld_rules.specs.Usage.Bit.{In, On};
+ghost use Rattle.ld_rules.specs.Usage.Bit.{On};
 ghost use Rattle.ld_union.specs.Findings.{AreForbiddenRows, plain_forbidden_row};
-ghost use Rattle.ld_union.specs.Inner.Bits.{HasBitAt};
 ghost use Rattle.ld_union.specs.Inner.ByName.{class_name};
-ghost use Rattle.ld_union.specs.Inner.Rows.{AreAcquired, AreEnoughForAll, AreEnoughFrom, AreFirsts, AreForbiddenRowsOf};
-ghost use Rattle.ld_union.specs.Inner.Rows.{AreNextsOf, AreTurnedRows, AreTurnedRowsOf, IsNoted, IsOfEach, IsTurnedRowOf};
+ghost use Rattle.ld_union.specs.Inner.Rows.{AreAcquired, AreEnoughFrom, AreForbiddenRowsOf, AreNextsOf, AreTurnedRows};
+ghost use Rattle.ld_union.specs.Inner.Rows.{AreTurnedRowsOf, IsNoted, IsOfEach, IsTurnedRowOf};
 ghost use Rattle.ld_union.specs.Inner.Union.{Shows};
-ghost use Rattle.ld_union.specs.Usage.{bits_of};
 ghost use Rattle.ld_union.specs.Violations.{IsForbidden};
 
 use crate::alarms::{Found, has, in_bit, on_bit};
@@ -138,8 +136,8 @@ fn acquired_by_name(
     Ok(classes)
 }
 
-/// Those that lead to this class from one of these, in any order. The list of distances and that of next classes are
-/// the same for all of them.
+/// Those that lead to this class, by the name of the other end, which is one of these. The list of distances and that
+/// of next classes are the same for all of them.
 fn forbidden_to<'u, 'a>(
     alloc: Global,
     indexed: Indexed<'u, '_, 'a>,
@@ -158,12 +156,13 @@ fn forbidden_to<'u, 'a>(
         → AreTurnedRowsOf sources state (λ p. p.0 ≡ class_name indexed.entry.union.now.classes to)
         (map plain_forbidden_row rows.items)) }
 {
+    let mut rows = Vec::new(alloc);
     let Some(held) = noted(indexed.union, to, on_bit(state)) else {
-        return Ok(Vec::new(alloc));
+        return Ok(rows);
     };
     // Where no walk leads here from a class that handlers acquire, none is searched for.
     if indexed.union.source(state, to).is_none() {
-        return Ok(Vec::new(alloc));
+        return Ok(rows);
     }
     indexed.union.graph().distances_to(to, acquired, distances);
     nexts.clear();
@@ -171,56 +170,16 @@ fn forbidden_to<'u, 'a>(
         class: to,
         distances: distances.levels(),
     };
-    let firsts = shorter(distances.touched(), acquired);
-    rows_to(alloc, indexed, state, firsts, &target, nexts, held)
-}
-
-/// The shorter one of the two.
-fn shorter<'l>(some: &'l [u32], others: &'l [u32]) -> &'l [u32]
-    ensures { (result.now ≡ some.now) ⊎ (result.now ≡ others.now) }
-{
-    if some.len() < others.len() {
-        some
-    } else {
-        others
-    }
-}
-
-/// The same, from these classes, among which are all that handlers acquire and that lead to the target. So of many
-/// classes that handlers acquire only those are gone over which the search has touched.
-fn rows_to<'u, 'a>(
-    alloc: Global,
-    indexed: Indexed<'u, '_, 'a>,
-    state: State,
-    firsts: &[u32],
-    target: &Target<'_>,
-    nexts: &mut Nexts,
-    held: UsedClass<'a>,
-) -> Result<Vec<ForbiddenRow<'u, 'a>>, AllocError>
-    requires class { target.now.class < length indexed.union.now.classes }
-    requires distances { AreEnoughForAll indexed.union.now state target.now.class target.now.distances.now }
-    requires firsts { AreFirsts indexed.union.now state target.now.distances.now firsts.now }
-    requires held { (sources : List PlainSource)
-        → Shows sources indexed.union.now
-        → IsNoted sources (class_name indexed.union.now.classes target.now.class) (On state)
-        (plain_class held.name) held.marks held.at }
-    requires nexts { AreNextsOf indexed.union.now indexed.order.now.places.items target.now.distances.now nexts.old }
-    ensures { IfOk result (λ rows. (sources : List PlainSource)
-        → Shows sources indexed.entry.union.now
-        → AreTurnedRowsOf sources state (λ p. p.0 ≡ class_name indexed.entry.union.now.classes target.now.class)
-        (map plain_forbidden_row rows.items)) }
-{
-    let mut rows = Vec::new(alloc);
-    for from in firsts {
-        if let Some(row) = forbidden_row(alloc, indexed, target, nexts, held, state, *from)? {
+    for from in acquired {
+        if let Some(row) = forbidden_row(alloc, indexed, &target, nexts, held, state, *from)? {
             rows.push(row)?;
         }
     }
     Ok(rows)
 }
 
-/// The row of the forbidden walk from the class to the target's, whose ON bit `held` notes, or `None` where there is
-/// none.
+/// The row of the forbidden walk from the class to the target's, whose ON bit `held` notes, or `None`
+/// where there is none.
 fn forbidden_row<'u, 'a>(
     alloc: Global,
     indexed: Indexed<'u, '_, 'a>,
@@ -231,8 +190,7 @@ fn forbidden_row<'u, 'a>(
     from: u32,
 ) -> Result<Option<ForbiddenRow<'u, 'a>>, AllocError>
     requires class { target.now.class < length indexed.union.now.classes }
-    requires distances { HasBitAt (bits_of indexed.union.now.usage) from (In state)
-        → AreEnoughFrom indexed.union.now from target.now.class target.now.distances.now }
+    requires distances { AreEnoughFrom indexed.union.now from target.now.class target.now.distances.now }
     requires held { (sources : List PlainSource)
         → Shows sources indexed.union.now
         → IsNoted sources (class_name indexed.union.now.classes target.now.class) (On state)
@@ -248,10 +206,6 @@ fn forbidden_row<'u, 'a>(
         (λ r. IsTurnedRowOf sources state (class_name indexed.entry.union.now.classes target.now.class)
         (class_name indexed.entry.union.now.classes from) (plain_forbidden_row r))) }
 {
-    // A search touches classes that no handler acquires, too.
-    if !has(indexed.union.usage(), from as usize, in_bit(state)) {
-        return Ok(None);
-    }
     let Some(acquired) = noted(indexed.union, from, in_bit(state)) else {
         return Ok(None);
     };

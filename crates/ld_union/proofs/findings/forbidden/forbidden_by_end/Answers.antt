@@ -1,10 +1,10 @@
-use Rattle.std.proofs.Common.{◌≡◌, ◌≢◌, ◌<◌, ◌≤◌, ◌+◌, ◌∙◌, ◌++◌, get_or, length, map, subst, sym, ap}
+use Rattle.std.proofs.Common.{◌≡◌, ◌<◌, ◌≤◌, ◌+◌, ◌∙◌, ◌++◌, get_or, length, map, subst, sym, ap}
 use Rattle.std.proofs.lemmas.List.{map-append}
 use Rattle.ld_rules.specs.Union.{use_witness}
 use Rattle.ld_rules.specs.Usage.Bit.{On}
-use Rattle.ld_union.specs.Findings.{IsBefore, plain_forbidden_row}
+use Rattle.ld_union.specs.Findings.{IsBefore, IsPairBefore, plain_forbidden_row}
 use Rattle.ld_union.specs.Inner.ByName.{class_name, name_at}
-use Rattle.ld_union.specs.Inner.Rows.{AreTurnedRowsOf, IsPassed, IsRowIn, IsTurnedBefore, turned_key}
+use Rattle.ld_union.specs.Inner.Rows.{AreTurnedRowsOf, IsPassed, IsRowIn, turned_key}
 use Rattle.ld_union.specs.Violations.{IsForbidden}
 use Rattle.ld_union.proofs.ByNameLemmas.{names-rise}
 use Rattle.ld_union.proofs.PassedLemmas.{passed_all, rows-next}
@@ -27,8 +27,8 @@ loop-to-preserved c = record {
       let items : map plain_forbidden_row c.append.new.self.items ≡ before ++ more = ap (map plain_forbidden_row) c.in_ok-append.ensures.items ∙
       map-append plain_forbidden_row c.loop-to.rows.items c.in_ok-more.more.items in
       subst (AreTurnedRowsOf sources state (λ p. IsPassed (name_at classes numbers) (i + 1) p.0)) (sym items)
-      (rows-next (name_at classes numbers) IsBefore (length numbers) (names-rise classes numbers c.args.indexed.order.now.places.items c.args.indexed.named) turned_key (IsRowIn sources state)
-      (λ p. IsForbidden sources state p.1 p.0) (λ a b. a ≢ b) i before more within (c.loop-to.invariant.rows sources shows)
+      (rows-next (name_at classes numbers) (length numbers) (names-rise classes numbers c.args.indexed.order.now.places.items c.args.indexed.named) turned_key (IsRowIn sources state)
+      (λ p. IsForbidden sources state p.1 p.0) IsBefore i before more within (c.loop-to.invariant.rows sources shows)
       (subst (λ n. AreTurnedRowsOf sources state (λ p. p.0 ≡ n) more) name (c.in_ok-more.ensures.rows sources shows)));
 }
 
@@ -39,7 +39,7 @@ returns c sources shows =
     let state = c.args.state in
     let i = c.loop-to.to-index in
     let past : length numbers ≤ i = subst (λ ns. length ns ≤ i) c.deref-to-items.ensures.value c.loop-to-test.false in
-    rows-all turned_key (IsRowIn sources state) (λ p. IsForbidden sources state p.1 p.0) IsTurnedBefore (λ p. IsPassed (name_at union.classes numbers) i p.0) (map plain_forbidden_row c.loop-to.rows.items)
+    rows-all turned_key (IsRowIn sources state) (λ p. IsForbidden sources state p.1 p.0) IsPairBefore (λ p. IsPassed (name_at union.classes numbers) i p.0) (map plain_forbidden_row c.loop-to.rows.items)
     (λ p owed.
     let at = number_of union.classes union.usage (use_witness sources) shows.used (record { class = p.0; bit = On state }) owed.1 in
     passed_all union.classes numbers c.args.indexed.order.now.places.items c.args.indexed.named at.0 i p.0 past at.1)

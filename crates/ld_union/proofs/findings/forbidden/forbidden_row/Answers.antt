@@ -1,16 +1,10 @@
-use Rattle.std.proofs.Common.{◌≡◌, ◌∙◌, get_or, subst, sym}
-use Rattle.std.proofs.lemmas.Bool.{true≢false}
+use Rattle.std.proofs.Common.{subst}
 use Rattle.std.proofs.lemmas.Option.{MatchOption-at_none, MatchOption-at_some}
 use Rattle.ld_class.specs.Names.{plain_class}
-use Rattle.ld_class.specs.Usage.{has_bit, no_bits}
-use Rattle.ld_rules.specs.Usage.{usage_of}
 use Rattle.ld_rules.specs.Usage.Bit.{In}
 use Rattle.ld_union.specs.Inner.ByName.{class_name}
 use Rattle.ld_union.specs.Inner.Rows.{IsNoted}
 use Rattle.ld_union.specs.Findings.{plain_forbidden_row}
-use Rattle.ld_union.specs.Inner.Bits.{HasBitAt}
-use Rattle.ld_union.specs.Usage.{bits_of}
-use Rattle.ld_union.proofs.BitLemmas.{bits_from_used}
 use Rattle.ld_union.proofs.ForbiddenLemmas.{forbidden-row, no_forbidden-walk}
 use Rattle.ld_union.proofs.WitnessLemmas.{bit_of-usage_of}
 use Rattle.ld_union.proofs.findings.forbidden.forbidden_row.Goals as goal
@@ -38,22 +32,6 @@ returns-clause-row c sources shows =
       unsafe_at = held.at;
       via = c.in-Some-2.via;
     }))
-    (subst (λ bit. IsNoted sources a bit (plain_class acquired.name) acquired.marks acquired.at) (bit_of-usage_of (In c.args.state) c.in_bit-2.result c.in_bit-2.ensures) (c.in-Some.ensures sources shows))
+    (subst (λ bit. IsNoted sources a bit (plain_class acquired.name) acquired.marks acquired.at) (bit_of-usage_of (In c.args.state) c.in_bit.result c.in_bit.ensures) (c.in-Some.ensures sources shows))
     (c.requires.held sources shows)
     (MatchOption-at_some _ _ c.in-Some-2.via c.in-Some-2.is c.in_ok-via.ensures.walk sources shows)
-
-pub returns-then-not-has-clause-row : goal.returns-then-not-has-clause-row
-returns-then-not-has-clause-row c sources shows forbidden =
-    let union = c.args.indexed.union.now in
-    let same : c.has.result ≡ has_bit (get_or (bits_of union.usage) c.args.from no_bits) (usage_of (In c.args.state)) =
-    c.has.ensures ∙ (λ k. has_bit (get_or (bits_of (c.usage.ensures.same k)) c.args.from no_bits) (c.in_bit.ensures k)) in
-    let bit : HasBitAt (bits_of union.usage) c.args.from (In c.args.state) =
-    ((bits_from_used union.classes union.usage sources shows.used).each c.args.from (In c.args.state) c.requires.from).1 forbidden.0 in
-    true≢false (sym (same ∙ bit) ∙ c.if-not-has.true)
-
-pub walk_names-requires-clause-distances : goal.walk_names-requires-clause-distances
-walk_names-requires-clause-distances c =
-    let union = c.args.indexed.union.now in
-    let same : c.has.result ≡ has_bit (get_or (bits_of union.usage) c.args.from no_bits) (usage_of (In c.args.state)) =
-    c.has.ensures ∙ (λ k. has_bit (get_or (bits_of (c.usage.ensures.same k)) c.args.from no_bits) (c.in_bit.ensures k)) in
-    c.requires.distances (sym same ∙ c.if-not-has.false)
