@@ -5,10 +5,8 @@ use Rattle.std.specs.Borrow.{Bor}
 use Rattle.std.proofs.lemmas.Bool.{cases_eq, cases_lt}
 use Rattle.std.proofs.lemmas.List.{get_or-set_same, get_or-set_other, length-set}
 use Rattle.std.proofs.lemmas.List.Elements.{Contains-append_left, Contains-push, Contains-push_cases}
-use Rattle.ld_graph.specs.Inner.Insides.{AreKnownOnce, AreTouched}
-use Rattle.ld_graph.specs.Inner.Levels.{HasLevel, level_at}
-use Rattle.ld_graph.proofs.OnceLemmas.{IsDistinct-none, IsDistinct-one_more}
-use Rattle.ld_graph.proofs.SpreadLemmas.{kept_marked}
+use Rattle.ld_graph.specs.Inner.Insides.{AreTouched}
+use Rattle.ld_graph.specs.Inner.Levels.{level_at}
 
 pub taken : (levels : List (Option ℕ)) (touched : List ℕ) (i : ℕ) → get_or touched i 0 < length levels
     → ((x k : ℕ) → level_at levels x ≡ Some k → (j : ℕ) × ((i ≤ j) × ((j < length touched) × (get_or touched j 0 ≡ x))))
@@ -49,37 +47,6 @@ touched_more levels touched class level within h = record {
     by : (x k : ℕ) → level_at (set levels class (Some level)) x ≡ Some k → (x ≡ class) ⊎ (x ≢ class) → Contains (touched ++ class ∷ []) x
     by x k e (inl s) = subst (Contains (touched ++ class ∷ [])) (sym s) (Contains-push touched class)
     by x k e (inr ne) = Contains-append_left touched (class ∷ []) x (h.all x k (sym (get_or-set_other levels class x (Some level) None ne) ∙ e))
-
--- no class at all
-pub known_once_none : (levels : List (Option ℕ)) → AreKnownOnce levels []
-known_once_none levels = record {
-  known = λ x m. let l = m.1 in absurd (omega (arith, l));
-  once = IsDistinct-none;
-}
-
--- and one more, which had no level
-pub known_once_more : (levels : List (Option ℕ)) (touched : List ℕ) (class level : ℕ) → class < length levels → level_at levels class ≡ None
-    → AreKnownOnce levels touched → AreKnownOnce (set levels class (Some level)) (touched ++ class ∷ [])
-known_once_more levels touched class level within free h = record {
-  known = λ x m. by x (Contains-push_cases touched class x m);
-  once = IsDistinct-one_more touched class h.once (λ m. let k = h.known class m in let e : None ≡ Some k.0 = sym free ∙ k.1 in cc);
-}
-  where
-    by : (x : ℕ) → Contains touched x ⊎ (class ≡ x) → HasLevel (set levels class (Some level)) x
-    by x (inl m) = let k = h.known x m in (k.0, kept_marked levels class level free x k.0 k.1)
-    by x (inr e) = (level, ap (λ z. level_at (set levels class (Some level)) z) (sym e) ∙ get_or-set_same levels class (Some level) None within)
-
--- what a search touched is what has a level
-pub touched_exactly : (levels : List (Option ℕ)) (touched : List ℕ) → AreTouched levels touched → AreKnownOnce levels touched
-    → (x : ℕ) → (Contains touched x → level_at levels x ≢ None) × (level_at levels x ≢ None → Contains touched x)
-touched_exactly levels touched h each x = (
-  λ m none. let k = each.known x m in let e : None ≡ Some k.0 = sym none ∙ k.1 in cc,
-  λ some. by (level_at levels x) refl some,
-)
-  where
-    by : (o : Option ℕ) → level_at levels x ≡ o → level_at levels x ≢ None → Contains touched x
-    by None e some = absurd (some e)
-    by (Some k) e some = h.all x k e
 
 -- a class that is below the number of classes has a component, where components are given
 pub within_if : (components : Option (Bor (List ℕ))) (n x : ℕ) → IfSome components (λ c. length c.now ≡ n) → x < n

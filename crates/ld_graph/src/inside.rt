@@ -1,8 +1,6 @@
 //! Distances to one class, by searches over a list that is made once and is taken back only where it was
 //! touched: over the whole graph, or within one component.
-ghost use Rattle.std.specs.Prelude.{◌≡◌, ◌≢◌, ◌↔◌, ◌<◌, ◌≤◌, ℕ, None, IfOk, IfSome, length, nat_eq, slice_index_or};
-ghost use Rattle.std.specs.Prelude.{All, Contains};
-ghost use Rattle.std.specs.List.{IsDistinct};
+ghost use Rattle.std.specs.Prelude.{◌≡◌, ◌<◌, ◌≤◌, ℕ, None, IfOk, IfSome, length, slice_index_or, All};
 ghost use Rattle.ld_graph.specs.declared.graph.TheConstants.{MOST_GRAPH_CLASSES};
 ghost use Rattle.ld_graph.specs.Inner.Insides.{AreLevelsFor, AreTouched, IsNearInside, component_at};
 ghost use Rattle.ld_graph.specs.Lists.{IsNear};
@@ -26,12 +24,11 @@ impl Model for Distances {
 
     ghost Value = { List (Option ℕ) };
 
-    ghost use Rattle.ld_graph.specs.Inner.Insides.{AreKnownOnce, AreTouched};
+    ghost use Rattle.ld_graph.specs.Inner.Insides.{AreTouched};
 
     ghost view = { λ d. d.levels.items };
 
     ghost invariant = { λ d. AreTouched d.levels.items d.touched.items
-        × AreKnownOnce d.levels.items d.touched.items
         × (length d.levels.items ≤ vec_capacity d.touched) };
 }
 
@@ -58,16 +55,6 @@ impl Distances {
     {
         let _ = &self.touched;
         &self.levels
-    }
-
-    /// The classes that have a distance, each once. Takes no memory.
-    pub fn touched(&self) -> &[u32]
-        ensures classes { (x : ℕ) → Contains result.now x ↔ (slice_index_or self.now x None ≢ None) }
-        ensures once { IsDistinct nat_eq result.now }
-    {
-        // Read so that the invariant, which speaks of both fields, is at hand.
-        let _ = &self.levels;
-        &self.touched
     }
 
     /// The distances, as the list that they are kept in. Takes no memory.

@@ -4,7 +4,7 @@
 ghost use Rattle.std.specs.Prelude.{◌≡◌, ◌↔◌, ◌+◌, ◌<◌, ◌≤◌, ℕ, [], None, IfSome, IsTrue, is_none, count_by, slice_index};
 ghost use Rattle.std.specs.Prelude.{length, slice_index_or, vec_len, vec_capacity, All, Contains};
 ghost use Rattle.ld_graph.specs.declared.graph.TheConstants.{MOST_GRAPH_CLASSES};
-ghost use Rattle.ld_graph.specs.Inner.Insides.{AreKnownOnce, AreLevelsFor, AreTouched, IsInsideOf, IsNearInside, StaysIn, component_at};
+ghost use Rattle.ld_graph.specs.Inner.Insides.{AreLevelsFor, AreTouched, IsInsideOf, IsNearInside, StaysIn, component_at};
 ghost use Rattle.ld_graph.specs.Inner.Levels.{HasLevel, Spreads, level_at};
 ghost use Rattle.ld_graph.specs.Lists.{IsNear};
 
@@ -53,7 +53,6 @@ fn expand(
     ensures spreads { Spreads (IsInsideOf components.entry component near.now) level
         levels.old queue.old.items levels.new queue.new.items }
     ensures reached { (x : ℕ) → IsInsideOf components.entry component near.now x → HasLevel levels.new x }
-    ensures each { AreKnownOnce levels.old queue.old.items → AreKnownOnce levels.new queue.new.items }
 {
     for x in near {
         // Most have a level, so that is asked first.
@@ -106,7 +105,6 @@ pub(crate) fn measure(
     requires empty { queue.old.items ≡ [] }
     ensures capacity { vec_capacity queue.old ≤ vec_capacity queue.new }
     ensures touched { AreTouched levels.new queue.new.items }
-    ensures each { AreKnownOnce levels.new queue.new.items }
     ensures levels { All (λ w. AreLevelsFor
         (λ a b. IsNearInside lists.now.before.lists components.entry (component_at components.entry end) b a) w end
         levels.new) wanted.now }

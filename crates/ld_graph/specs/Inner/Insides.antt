@@ -1,8 +1,7 @@
 -- What a search for distances says of its working space. No public contract cites this file.
-use Rattle.std.specs.Prelude.{◌≡◌, ℕ, ◌<◌, List, length, nat_eq, slice_index, Option, None, Some, IfSome, Contains}
+use Rattle.std.specs.Prelude.{◌≡◌, ℕ, ◌<◌, List, length, slice_index, Option, None, Some, IfSome, Contains}
 use Rattle.std.specs.Borrow.{Bor}
-use Rattle.std.specs.List.{IsDistinct}
-use Rattle.ld_graph.specs.Inner.Levels.{HasLevel, level_at}
+use Rattle.ld_graph.specs.Inner.Levels.{level_at}
 use Rattle.ld_graph.specs.Lists.{list_at}
 use Rattle.ld_graph.specs.Walks.{DistanceIs, IsDistance}
 
@@ -27,11 +26,6 @@ IsNearInside lists components component a b = IsInsideOf components component (l
 pub record AreTouched (levels : List (Option ℕ)) (touched : List ℕ) : Type 0 where
   pub within : (x : ℕ) → Contains touched x → x < length levels
   pub all : (x k : ℕ) → level_at levels x ≡ Some k → Contains touched x
-
--- each of these classes has a level, and stands here once
-pub record AreKnownOnce (levels : List (Option ℕ)) (touched : List ℕ) : Type 0 where
-  pub known : (x : ℕ) → Contains touched x → HasLevel levels x
-  pub once : IsDistinct nat_eq touched
 
 -- `AreEnough` of the levels that a search gave for the class w, where what is known is right of any class
 pub record AreLevelsFor (step : ℕ → ℕ → Type 0) (w end : ℕ) (levels : List (Option ℕ)) : Type 0 where

@@ -6,7 +6,7 @@ use Rattle.ld_graph.specs.Inner.Insides.{IsInsideOf, StaysIn}
 use Rattle.ld_graph.specs.Inner.Levels.{level_at, HasLevel}
 use Rattle.ld_graph.proofs.SpreadLemmas.{near_here, Spreads-more, some_is, none_is}
 use Rattle.ld_graph.proofs.SpreadLemmas.{count_marked, kept_marked}
-use Rattle.ld_graph.proofs.TouchedLemmas.{known_once_more, within_if}
+use Rattle.ld_graph.proofs.TouchedLemmas.{within_if}
 use Rattle.ld_graph.proofs.levels.expand.Goals as goal
 use Rattle.ld_graph.proofs.levels.expand.Goals.{then-is_none+then-stays_in, then-is_none+else-stays_in, else-is_none}
 
@@ -56,7 +56,6 @@ loop-x-preserved c =
       | then-is_none+then-stays_in w ↦
           let free : level_at c.loop-x.levels x ≡ None = none_is (level_at c.loop-x.levels x) (ap (λ o. is_some o) (get_or_default c.loop-x.levels x None c.index-levels-x.result within) ∙ w.if-is_none.ensures) in
           rw (w.levels-is, w.queue-is, w.of.ensures) (record {
-            each = λ h. rw w.push_reserved.ensures.items (known_once_more c.loop-x.levels c.loop-x.queue.items x c.args.level within free (i.each h));
             count = let m = count_marked c.loop-x.levels x c.args.level within free in omega (arith, m, i.count, w.push_reserved.ensures.len);
             capacity = omega (arith, i.capacity, w.push_reserved.ensures.capacity);
             spread = rw w.push_reserved.ensures.items (Spreads-more (IsInsideOf c.args.components c.args.component c.args.near.now) c.args.level c.args.levels.now c.args.queue.now.items
@@ -68,7 +67,6 @@ loop-x-preserved c =
           })
       | then-is_none+else-stays_in w ↦
           rw (w.levels-is, w.queue-is) (record {
-            each = i.each;
             count = i.count;
             capacity = i.capacity;
             spread = i.spread;
@@ -77,7 +75,6 @@ loop-x-preserved c =
           })
       | else-is_none w ↦
           rw (w.levels-is, w.queue-is) (record {
-            each = i.each;
             count = i.count;
             capacity = i.capacity;
             spread = i.spread;

@@ -1,6 +1,6 @@
 use Rattle.std.proofs.Common.{◌≡◌, ◌+◌, ◌<◌, ◌≤◌, ℕ, count_by, get_or, is_none, vec_len}
 use Rattle.std.proofs.Common.{vec_capacity}
-use Rattle.ld_graph.specs.Inner.Insides.{AreKnownOnce, IsInsideOf, StaysIn}
+use Rattle.ld_graph.specs.Inner.Insides.{IsInsideOf, StaysIn}
 use Rattle.ld_graph.specs.Inner.Levels.{HasLevel, Spreads}
 use Rattle.ld_graph.proofs.levels.expand.Given as goal
 
@@ -12,5 +12,4 @@ invariant-loop-x l = record {
   spread : Spreads (IsInsideOf l.components l.component l.near) l.level l.fn.levels l.fn.queue.items l.levels
       l.queue.items;
   reached : (k : ℕ) → k < l.x-index → StaysIn l.components l.component (get_or l.near k 0) → HasLevel l.levels (get_or l.near k 0);
-  each : AreKnownOnce l.fn.levels l.fn.queue.items → AreKnownOnce l.levels l.queue.items;
 }

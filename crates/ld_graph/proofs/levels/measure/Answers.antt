@@ -1,12 +1,12 @@
 use Rattle.std.proofs.Common.{inl, inr, ◌≡◌, ◌+◌, ◌∙◌, ℕ, [], None, Contains, ap, arith, get_or, length, subst, sym}
 use Rattle.std.proofs.lemmas.List.{get_or_default}
 use Rattle.ld_graph.specs.Lists.{list_at}
-use Rattle.ld_graph.specs.Inner.Insides.{AreKnownOnce, AreLevelsFor, IsInsideOf, IsNearInside}
+use Rattle.ld_graph.specs.Inner.Insides.{AreLevelsFor, IsInsideOf, IsNearInside}
 use Rattle.ld_graph.specs.Inner.Levels.{HasLevel, Spreads}
 use Rattle.ld_graph.proofs.SpreadLemmas.{count_none}
 use Rattle.ld_graph.proofs.SearchLemmas.{IsPartial-begun, IsPartial-next, IsPartial-levels, IsPartial-touched}
 use Rattle.ld_graph.proofs.SearchLemmas.{next_within, next_small, next_level}
-use Rattle.ld_graph.proofs.TouchedLemmas.{known_once_none, within_if}
+use Rattle.ld_graph.proofs.TouchedLemmas.{within_if}
 use Rattle.ld_graph.proofs.levels.measure.Goals as goal
 
 pub loop-done-init : goal.loop-done-init
@@ -28,13 +28,11 @@ loop-done-init c =
           (subst (λ n. (x : ℕ) → IsInsideOf c.args.components component n x → HasLevel c.expand.new.levels x)
           (c.before-2.ensures.near ∙ ap (λ l. list_at l.before.lists c.args.end) c.new.ensures.lists) c.expand.ensures.reached);
       known = λ i l. absurd (omega (arith, l));
-      each = c.expand.ensures.each (subst (AreKnownOnce c.args.levels.now) (sym c.requires.empty) (known_once_none c.args.levels.now));
     }
 
 pub loop-done-preserved : goal.loop-done-preserved
 loop-done-preserved c =
     record {
-      each = c.expand-in-loop-done.ensures.each c.loop-done.invariant.each;
       count = omega (arith, c.expand-in-loop-done.ensures.count, c.loop-done.invariant.count);
       capacity = omega (
         arith,
