@@ -12,7 +12,7 @@ use Rattle.ld_rules.specs.Usage.Bit.{In, On}
 use Rattle.ld_union.specs.declared.dependencies.Witnessed.{Witnessed}
 use Rattle.ld_union.specs.Findings.{IsBefore, IsShown, PlainForbiddenRow, shown_marks}
 use Rattle.ld_union.specs.Inner.ByName.{class_name}
-use Rattle.ld_union.specs.Inner.Rows.{IsNoted, IsTurnedRowOf}
+use Rattle.ld_union.specs.Inner.Rows.{IsNoted, IsEndRowOf}
 use Rattle.ld_union.specs.Inner.Union.{AreBetween, AreWitnessed, edges_of}
 use Rattle.ld_union.specs.Violations.{Depends, HasBit, IsForbidden}
 use Rattle.ld_union.proofs.CycleLemmas.{HasWalk-shown}
@@ -33,7 +33,7 @@ module _ (sources : List PlainSource) where
   -- a row of two classes that are noted, with a shown walk from one to the other
   pub forbidden-row : (x y : PlainClass) (row : PlainForbiddenRow) → IsNoted sources x (In row.state) row.from row.from_marks row.safe_at → IsNoted
       sources y (On row.state) row.to row.to_marks row.unsafe_at
-      → IsShown sources x y row.via → IsTurnedRowOf sources row.state y x row
+      → IsShown sources x y row.via → IsEndRowOf sources row.state x y row
   forbidden-row x y row from to shown = (
     (
       record {
@@ -51,7 +51,7 @@ module _ (sources : List PlainSource) where
       },
       refl,
     ),
-    λ i. (to.same i, from.same i),
+    λ i. (from.same i, to.same i),
   )
     where
       walk : IsShown sources row.from row.to row.via

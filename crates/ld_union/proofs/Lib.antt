@@ -25,3 +25,4 @@ pub mod StayingLemmas
 pub mod UniqueLemmas
 pub mod WitnessLemmas
 pub mod KnownLemmas
+pub mod LeadingLemmas

@@ -3,8 +3,8 @@ use Rattle.std.proofs.Common.{◌≡◌, ◌⊎◌, inl, inr, ◌+◌, ◌<◌, 
 use Rattle.std.proofs.lemmas.Bool.{cases_order}
 use Rattle.std.proofs.lemmas.List.{get_or_default}
 use Rattle.ld_class.specs.Names.{IsNameAt, PlainClass}
-use Rattle.ld_union.specs.Findings.{InTurn, IsBefore}
-use Rattle.ld_union.specs.Inner.ByName.{AreByName, AreRising, class_name, name_at, place_of_class}
+use Rattle.ld_union.specs.Findings.{InTurn}
+use Rattle.ld_union.specs.Inner.ByName.{AreByName, class_name, name_at, place_of_class}
 use Rattle.ld_union.specs.Inner.Rows.{AreRowsOf, IsPassed}
 use Rattle.ld_union.proofs.RowLemmas.{rows-append}
 
@@ -38,19 +38,19 @@ module _ (names : ℕ → PlainClass) where
       by (inr (inl low)) = inl (h.0, (low, h.1.1))
       by (inr (inr high)) = absurd (omega (arith, high, h.1.0))
 
-  module _ (count : ℕ) (rising : AreRising names count) where
-    passed_before : (i : ℕ) (name : PlainClass) → i < count → IsPassed names i name → IsBefore name (names i)
-    passed_before i name within h = subst (λ n. IsBefore n (names i)) h.1.1 (rising h.0 i h.1.0 within)
+  module _ (R : PlainClass → PlainClass → Type 0) (count : ℕ) (rising : (i j : ℕ) → i < j → j < count → R (names i) (names j)) where
+    passed_before : (i : ℕ) (name : PlainClass) → i < count → IsPassed names i name → R name (names i)
+    passed_before i name within h = subst (λ n. R n (names i)) h.1.1 (rising h.0 i h.1.0 within)
 
     module _ {Row A : Type 0} (key : Row → A × PlainClass) (IsRow : Row → Type 0) (IsOwed : A × PlainClass → Type 0) (first : A → A → Type 0) (a : A) where
       -- rows of one more name come after those of the names before it, among keys that begin alike
       pub rows-more : (i : ℕ) (xs ys : List Row) → i < count
-          → AreRowsOf key IsRow IsOwed (InTurn first IsBefore) (λ k. (k.0 ≡ a) × IsPassed names i k.1) xs
-          → AreRowsOf key IsRow IsOwed (InTurn first IsBefore) (λ k. k ≡ (a, names i)) ys
-          → AreRowsOf key IsRow IsOwed (InTurn first IsBefore) (λ k. (k.0 ≡ a) × IsPassed names (i + 1) k.1) (xs ++ ys)
+          → AreRowsOf key IsRow IsOwed (InTurn first R) (λ k. (k.0 ≡ a) × IsPassed names i k.1) xs
+          → AreRowsOf key IsRow IsOwed (InTurn first R) (λ k. k ≡ (a, names i)) ys
+          → AreRowsOf key IsRow IsOwed (InTurn first R) (λ k. (k.0 ≡ a) × IsPassed names (i + 1) k.1) (xs ++ ys)
       rows-more i xs ys within =
-          rows-append key IsRow IsOwed (InTurn first IsBefore) (λ k. (k.0 ≡ a) × IsPassed names i k.1) (λ k. k ≡ (a, names i)) (λ k. (k.0 ≡ a) × IsPassed names (i + 1) k.1) xs ys
-          (λ k l here there. inr (here.0 ∙ sym (ap (λ p. p.0) there), subst (IsBefore k.1) (sym (ap (λ p. p.1) there)) (passed_before i k.1 within here.1)))
+          rows-append key IsRow IsOwed (InTurn first R) (λ k. (k.0 ≡ a) × IsPassed names i k.1) (λ k. k ≡ (a, names i)) (λ k. (k.0 ≡ a) × IsPassed names (i + 1) k.1) xs ys
+          (λ k l here there. inr (here.0 ∙ sym (ap (λ p. p.0) there), subst (R k.1) (sym (ap (λ p. p.1) there)) (passed_before i k.1 within here.1)))
           (λ k here. (here.0, passed_more i k.1 here.1))
           (λ k there. (ap (λ p. p.0) there, passed_last i k.1 (ap (λ p. p.1) there)))
           (λ k owed both. cases k both (passed_cases i k.1 both.1))
@@ -63,12 +63,12 @@ module _ (names : ℕ → PlainClass) where
     module _ {Row B : Type 0} (key : Row → PlainClass × B) (IsRow : Row → Type 0) (IsOwed : PlainClass × B → Type 0) (second : B → B → Type 0) where
       -- the same where keys begin with the names
       pub rows-next : (i : ℕ) (xs ys : List Row) → i < count
-          → AreRowsOf key IsRow IsOwed (InTurn IsBefore second) (λ k. IsPassed names i k.0) xs
-          → AreRowsOf key IsRow IsOwed (InTurn IsBefore second) (λ k. k.0 ≡ names i) ys
-          → AreRowsOf key IsRow IsOwed (InTurn IsBefore second) (λ k. IsPassed names (i + 1) k.0) (xs ++ ys)
+          → AreRowsOf key IsRow IsOwed (InTurn R second) (λ k. IsPassed names i k.0) xs
+          → AreRowsOf key IsRow IsOwed (InTurn R second) (λ k. k.0 ≡ names i) ys
+          → AreRowsOf key IsRow IsOwed (InTurn R second) (λ k. IsPassed names (i + 1) k.0) (xs ++ ys)
       rows-next i xs ys within =
-          rows-append key IsRow IsOwed (InTurn IsBefore second) (λ k. IsPassed names i k.0) (λ k. k.0 ≡ names i) (λ k. IsPassed names (i + 1) k.0) xs ys
-          (λ k l here there. inl (subst (IsBefore k.0) (sym there) (passed_before i k.0 within here)))
+          rows-append key IsRow IsOwed (InTurn R second) (λ k. IsPassed names i k.0) (λ k. k.0 ≡ names i) (λ k. IsPassed names (i + 1) k.0) xs ys
+          (λ k l here there. inl (subst (R k.0) (sym there) (passed_before i k.0 within here)))
           (λ k here. passed_more i k.0 here)
           (λ k there. passed_last i k.0 there)
           (λ k owed both. passed_cases i k.0 both)

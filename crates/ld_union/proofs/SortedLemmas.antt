@@ -12,8 +12,8 @@ use Rattle.std.specs.Ordering.{eq_by_cmp, ordering_reverse, ordering_then}
 use Rattle.ld_class.specs.Names.{PlainClass}
 use Rattle.ld_trace.specs.declared.event.State.{State}
 use Rattle.ld_trace.specs.Sources.{PlainSource}
-use Rattle.ld_union.specs.Findings.{IsPairBefore, PlainForbiddenRow, forbidden_key}
-use Rattle.ld_union.specs.Inner.Rows.{AreForbiddenRowsOf, AreTurnedRows, IsRowIn, turned_key}
+use Rattle.ld_union.specs.Findings.{IsBefore, IsPairBefore, PlainForbiddenRow, forbidden_key}
+use Rattle.ld_union.specs.Inner.Rows.{AreEndRows, AreForbiddenRowsOf, IsFirstBefore, IsRowIn, ends_of}
 use Rattle.ld_union.specs.Violations.{IsForbidden}
 use Rattle.ld_union.proofs.NameOrderLemmas.{before_from_less, class_cmp, class_cmp_total, not_before_itself, same_from_equal}
 
@@ -92,37 +92,31 @@ pair_before_from_less p q is = by (class_cmp p.0 q.0) refl is
     by Equal first h = inr (same_from_equal p.0 q.0 first, before_from_less p.1 q.1 h)
     by Greater first h = absurd (true≢false (sym (ap is_lt h)))
 
-not_pair_before_itself : (p : PlainClass × PlainClass) → ¬ IsPairBefore p p
-not_pair_before_itself p (inl first) = not_before_itself p.0 first
-not_pair_before_itself p (inr second) = not_before_itself p.1 second.1
-
--- the ends of a forbidden walk
-abbrev pub ends_of : PlainForbiddenRow → PlainClass × PlainClass
-ends_of row = (row.from, row.to)
-
--- the rows of a state's forbidden walks, in the order of their second ends, and then sorted
+-- the rows of a state's forbidden walks, in the order of their first ends, and then sorted
 module _ {X : Type 0} (plain : X → PlainForbiddenRow) (sources : List PlainSource) (state : State) (xs ys : List X) (moved : IsPermutation xs ys)
-    (turned : AreTurnedRows sources state (map plain xs)) (sorted : IsSortedByKey (λ x. ends_of (plain x)) pair_cmp ys) where
+    (told : AreEndRows sources state (map plain xs)) (sorted : IsSortedByKey (λ x. ends_of (plain x)) pair_cmp ys) where
   moved_rows : IsPermutation (map plain xs) (map plain ys)
   moved_rows = IsPermutation-map plain xs ys moved
 
   each : All (IsRowIn sources state) (map plain ys)
-  each = All-permutation (IsRowIn sources state) (map plain xs) (map plain ys) moved_rows turned.each
+  each = All-permutation (IsRowIn sources state) (map plain xs) (map plain ys) moved_rows told.each
 
   apart : AllPairs (λ x y. ends_of (plain x) ≢ ends_of (plain y)) xs
   apart i j d before within same =
-      not_pair_before_itself ((plain (get_or xs j d)).to, (plain (get_or xs j d)).from)
-      (subst (λ (p : PlainClass × PlainClass). IsPairBefore (p.1, p.0) ((plain (get_or xs j d)).to, (plain (get_or xs j d)).from)) same
-      (AllPairs-from_map (λ r s. IsPairBefore (turned_key r) (turned_key s)) plain xs turned.ordered i j d before within))
+      by (AllPairs-from_map (λ r s. IsFirstBefore (ends_of r) (ends_of s)) plain xs told.ordered i j d before within)
+    where
+      by : IsFirstBefore (ends_of (plain (get_or xs i d))) (ends_of (plain (get_or xs j d))) → ⊥
+      by (inl first) = not_before_itself (plain (get_or xs j d)).from (subst (λ (p : PlainClass × PlainClass). IsBefore p.0 (plain (get_or xs j d)).from) same first)
+      by (inr second) = second.1 (ap (λ (p : PlainClass × PlainClass). p.1) same)
 
   pub rows-sorted : AreForbiddenRowsOf sources (λ k. k.0 ≡ state) (map plain ys)
   rows-sorted = record {
     each = each;
     all = λ k owed.
-        let there = turned.all (k.1.1, k.1.0) (subst (λ s. IsForbidden sources s k.1.0 k.1.1) owed.1 owed.0) in
-        let is_state : there.1.state ≡ state = ap (λ (r : PlainForbiddenRow). r.state) (sym there.3) ∙ (turned.each there.0 there.1 there.2).1 in
+        let there = told.all (k.1.0, k.1.1) (subst (λ s. IsForbidden sources s k.1.0 k.1.1) owed.1 owed.0) in
+        let is_state : there.1.state ≡ state = ap (λ (r : PlainForbiddenRow). r.state) (sym there.3) ∙ (told.each there.0 there.1 there.2).1 in
         Any-permutation (λ r. forbidden_key r ≡ k) (map plain xs) (map plain ys) moved_rows
-        (there.0, there.1, there.2, there.3, λ i. ((is_state ∙ sym owed.1) i, ((there.4 i).1, (there.4 i).0)));
+        (there.0, there.1, there.2, there.3, λ i. ((is_state ∙ sym owed.1) i, ((there.4 i).0, (there.4 i).1)));
     ordered = λ i j d before within.
         let at_i : i < length (map plain ys) = omega (arith, before, within) in
         inr (

@@ -1,20 +1,24 @@
 -- The rows of violations as their makers give them. No contract of a `Book` cites this file.
-use Rattle.std.specs.Prelude.{◌≡◌, ◌↔◌, ◌<◌, ℕ, List, Contains, length, slice_index_or, Option, None, Some}
+use Rattle.std.specs.Prelude.{◌≡◌, ◌≢◌, ◌↔◌, ◌<◌, ℕ, List, Contains, length, true, slice_index_or, Option, None, Some}
+use Rattle.ld_class.specs.declared.usage.Usage.{Usage}
 use Rattle.ld_class.specs.Names.{PlainClass}
+use Rattle.ld_class.specs.Usage.{has_bit, no_bits}
 use Rattle.ld_graph.specs.Edges.{IsEdge}
 use Rattle.ld_graph.specs.Components.{AreComponents}
 use Rattle.ld_graph.specs.Nexts.{AreNexts}
-use Rattle.ld_graph.specs.Walks.{AreEnough, HasWalk}
+use Rattle.ld_graph.specs.Lists.{IsNear}
+use Rattle.ld_graph.specs.Walks.{AreEnough, HasWalk, Reaches}
 use Rattle.ld_trace.specs.declared.event.State.{State}
 use Rattle.ld_trace.specs.Sources.{PlainSource}
+use Rattle.ld_tree.specs.Trees.{PlainLeading}
 use Rattle.ld_rules.specs.declared.outcome.Witness.{Witness}
 use Rattle.ld_rules.specs.Union.{use_witness}
 use Rattle.ld_rules.specs.Usage.{Bit}
-use Rattle.ld_rules.specs.Usage.Bit.{In}
+use Rattle.ld_rules.specs.Usage.Bit.{On}
 use Rattle.ld_union.specs.declared.alarms.Found.{Found}
 use Rattle.ld_union.specs.Inner.Bits.{HasBitAt}
 use Rattle.ld_union.specs.Inner.States.{of_state}
-use Rattle.ld_union.specs.Inner.Union.{PlainUnion, edges_of}
+use Rattle.ld_union.specs.Inner.Union.{AreBetween, PlainUnion, edges_of}
 use Rattle.ld_union.specs.Findings.{AreRows, InTurn, IsBefore, IsConflictRow, IsCycleRow, IsForbiddenRow, IsHarder, IsPairBefore, PlainConflictRow}
 use Rattle.ld_union.specs.Findings.{PlainCycleRow, PlainForbiddenRow, conflict_key, cycle_key, forbidden_key, shown_marks}
 use Rattle.ld_union.specs.Inner.ByName.{AreRising, class_at, name_at}
@@ -57,27 +61,31 @@ abbrev pub AreForbiddenRowsOf : List PlainSource → (State × (PlainClass × Pl
 AreForbiddenRowsOf sources these rows =
     AreRowsOf forbidden_key (IsForbiddenRow sources) (λ p. IsForbidden sources p.0 p.1.0 p.1.1) (InTurn IsHarder IsPairBefore) these rows
 
--- the ends of a forbidden walk, the second one first
-abbrev pub turned_key : PlainForbiddenRow → PlainClass × PlainClass
-turned_key row = (row.to, row.from)
+-- the ends of a forbidden walk
+abbrev pub ends_of : PlainForbiddenRow → PlainClass × PlainClass
+ends_of row = (row.from, row.to)
 
 -- a row of a forbidden walk of the state
 abbrev pub IsRowIn : List PlainSource → State → PlainForbiddenRow → Type 0
 IsRowIn sources state row = IsForbiddenRow sources row × (row.state ≡ state)
 
 -- a row of this one
-abbrev pub IsTurnedRowOf : List PlainSource → State → (to from : PlainClass) → PlainForbiddenRow → Type 0
-IsTurnedRowOf sources state to from row = IsRowIn sources state row × (turned_key row ≡ (to, from))
+abbrev pub IsEndRowOf : List PlainSource → State → (from to : PlainClass) → PlainForbiddenRow → Type 0
+IsEndRowOf sources state from to row = IsRowIn sources state row × (ends_of row ≡ (from, to))
 
--- the rows of a state's forbidden walks, in the order of their second ends
-abbrev pub AreTurnedRows : List PlainSource → State → List PlainForbiddenRow → Type 0
-AreTurnedRows sources state rows =
-    AreRows turned_key (IsRowIn sources state) (λ p. IsForbidden sources state p.1 p.0) IsPairBefore rows
+-- the first end of the one comes before that of the other, or they are the same, and the second ends differ
+abbrev pub IsFirstBefore : PlainClass × PlainClass → PlainClass × PlainClass → Type 0
+IsFirstBefore p q = InTurn IsBefore (λ a b. a ≢ b) p q
+
+-- the rows of a state's forbidden walks, each once, in the order of their first ends
+abbrev pub AreEndRows : List PlainSource → State → List PlainForbiddenRow → Type 0
+AreEndRows sources state rows =
+    AreRows ends_of (IsRowIn sources state) (λ p. IsForbidden sources state p.0 p.1) IsFirstBefore rows
 
 -- and of these alone
-abbrev pub AreTurnedRowsOf : List PlainSource → State → (PlainClass × PlainClass → Type 0) → List PlainForbiddenRow → Type 0
-AreTurnedRowsOf sources state these rows =
-    AreRowsOf turned_key (IsRowIn sources state) (λ p. IsForbidden sources state p.1 p.0) IsPairBefore these rows
+abbrev pub AreEndRowsOf : List PlainSource → State → (PlainClass × PlainClass → Type 0) → List PlainForbiddenRow → Type 0
+AreEndRowsOf sources state these rows =
+    AreRowsOf ends_of (IsRowIn sources state) (λ p. IsForbidden sources state p.0 p.1) IsFirstBefore these rows
 
 -- the name and the usage characters of a class that has the bit, and where that was first seen
 pub record IsNoted (sources : List PlainSource) (class : PlainClass) (bit : Bit) (name : PlainClass) (marks : List ℕ) (at : Witness) : Type 0 where
@@ -85,10 +93,19 @@ pub record IsNoted (sources : List PlainSource) (class : PlainClass) (bit : Bit)
   pub shown : marks ≡ shown_marks sources class
   pub first : use_witness sources (record { class = class; bit = bit }) ≡ Some at
 
--- the classes of a union that handlers of the state acquire, in the order of their names
-pub record AreAcquired (union : PlainUnion) (state : State) (acquired : List ℕ) : Type 0 where
-  pub each : (c : ℕ) → Contains acquired c ↔ ((c < length union.classes) × HasBitAt (bits_of union.usage) c (In state))
-  pub rising : AreRising (name_at union.classes acquired) (length acquired)
+-- the classes of a union that have the bit, in the order of their names
+pub record AreWithBit (union : PlainUnion) (bit : Usage) (classes : List ℕ) : Type 0 where
+  pub each : (c : ℕ) → Contains classes c ↔ ((c < length union.classes) × (has_bit (slice_index_or (bits_of union.usage) c no_bits) bit ≡ true))
+  pub rising : AreRising (name_at union.classes classes) (length classes)
+
+-- dependencies of a union, with all that lead to a class which is held where handlers of the state can interrupt
+pub record AreLeadingTo (union : PlainUnion) (state : State) (places : List ℕ) (leading : PlainLeading) : Type 0 where
+  pub numbered : AreBetween union.classes union.dependencies
+  pub in_order : leading.places ≡ places
+  pub size : length leading.lists ≡ length union.classes
+  pub real : (x y : ℕ) → IsNear leading.lists x y → IsEdge (edges_of union.dependencies) x y
+  pub leads : (e : ℕ) → e < length union.classes → HasBitAt (bits_of union.usage) e (On state) → (x y : ℕ) → IsEdge (edges_of union.dependencies) x y
+      → Reaches (IsEdge (edges_of union.dependencies)) y e → IsNear leading.lists x y
 
 -- enough of the distances to another class for the shown walk from this one
 pub record AreEnoughFrom (union : PlainUnion) (from to : ℕ) (distances : List (Option ℕ)) : Type 0 where

@@ -1,26 +1,26 @@
 //! The forbidden walks.
-ghost use Rattle.std.specs.Prelude.{◌≡◌, ◌<◌, IfOk, List, MatchOption, length, map};
+ghost use Rattle.std.specs.Prelude.{◌≡◌, ◌<◌, Contains, IfOk, List, MatchOption, length, map};
 ghost use Rattle.ld_class.specs.Names.{plain_class};
 ghost use Rattle.ld_trace.specs.Sources.{PlainSource};
+ghost use Rattle.ld_tree.specs.Trees.{IsTreeOf};
 ghost use Rattle.ld_rules.specs.Union.{dependency_witness, use_witness};
-ghost use Rattle.ld_rules.specs.Usage.Bit.{On};
+ghost use Rattle.ld_rules.specs.Usage.Bit.{In};
 ghost use Rattle.ld_union.specs.Findings.{AreForbiddenRows, plain_forbidden_row};
 ghost use Rattle.ld_union.specs.Inner.ByName.{class_name};
-ghost use Rattle.ld_union.specs.Inner.Rows.{AreAcquired, AreEnoughFrom, AreForbiddenRowsOf, AreNextsOf, AreTurnedRows};
-ghost use Rattle.ld_union.specs.Inner.Rows.{AreTurnedRowsOf, IsNoted, IsOfEach, IsTurnedRowOf};
+ghost use Rattle.ld_union.specs.Inner.Rows.{AreEndRows, AreEndRowsOf, AreForbiddenRowsOf, AreLeadingTo, AreWithBit};
+ghost use Rattle.ld_union.specs.Inner.Rows.{IsEndRowOf, IsNoted, IsOfEach};
 ghost use Rattle.ld_union.specs.Inner.Union.{Shows};
 ghost use Rattle.ld_union.specs.Violations.{IsForbidden};
 
 use crate::alarms::{Found, has, in_bit, on_bit};
 use crate::findings::indexed::Indexed;
 use crate::findings::used::{UsedClass, noted};
-use crate::findings::walks::walk_names;
 use crate::union::Union;
 use crate::walk::Walk;
-use ld_class::ClassName;
-use ld_graph::{Distance, Distances, Nexts};
+use ld_class::{ClassName, Usage};
 use ld_rules::Witness;
 use ld_trace::State;
+use ld_tree::{Leading, Tree};
 use std::alloc::{AllocError, Global};
 
 /// A walk from a class that handlers of the state acquire to one that is held where they can
@@ -45,11 +45,12 @@ pub struct ForbiddenRow<'u, 'a> {
     pub via: Walk<'u, 'a>,
 }
 
-/// A class, and as much of the *Distances* to it as the walks from the classes that handlers acquire need.
+/// A class that handlers acquire, and what a search from it has found among what leads to the second ends.
 #[derive(Clone, Copy)]
-struct Target<'d> {
+struct First<'t, 'p> {
     class: u32,
-    distances: &'d [Distance],
+    leading: &'t Leading<'p>,
+    tree: &'t Tree,
 }
 
 /// The forbidden walks, by state, then by the names of their ends.
@@ -84,134 +85,160 @@ fn forbidden_of<'u, 'a>(
     if found.forbidden.get(state).is_none() {
         return Ok(Vec::new(alloc));
     }
-    let mut rows = forbidden_by_end(alloc, indexed, state)?;
+    let mut rows = forbidden_by_first(alloc, indexed, state)?;
     rows.sort_unstable_by_key(|row| (row.from, row.to));
     Ok(rows)
 }
 
-/// The same, by the names of the second ends, so that one search serves all the walks to a class.
-fn forbidden_by_end<'u, 'a>(
+/// The same, by the names of the first ends, so that one search serves all the walks from a class.
+fn forbidden_by_first<'u, 'a>(
     alloc: Global,
     indexed: Indexed<'u, '_, 'a>,
     state: State,
 ) -> Result<Vec<ForbiddenRow<'u, 'a>>, AllocError>
     ensures { IfOk result (λ rows. (sources : List PlainSource)
         → Shows sources indexed.entry.union.now
-        → AreTurnedRows sources state (map plain_forbidden_row rows.items)) }
+        → AreEndRows sources state (map plain_forbidden_row rows.items)) }
 {
     let mut rows = Vec::new(alloc);
-    let acquired = acquired_by_name(alloc, indexed, state)?;
-    let classes = indexed.union.graph().len();
-    let mut distances = Distances::new(alloc, classes)?;
-    let mut nexts = Nexts::new(alloc, classes)?;
-    for to in &indexed.order.numbers {
-        let mut more = forbidden_to(
-            alloc,
-            indexed,
-            state,
-            &acquired,
-            &mut distances,
-            &mut nexts,
-            *to,
-        )?;
+    let firsts = with_bit(alloc, indexed, in_bit(state))?;
+    let leading = leading_to_held(alloc, indexed, state)?;
+    let mut tree = Tree::new(alloc, indexed.union.graph().len())?;
+    for from in &firsts {
+        let mut more = forbidden_from(alloc, indexed, state, &leading, &mut tree, *from)?;
         rows.append(&mut more)?;
     }
     Ok(rows)
 }
 
-/// The classes that handlers of the state acquire, by name.
-fn acquired_by_name(
-    alloc: Global,
-    indexed: Indexed<'_, '_, '_>,
-    state: State,
-) -> Result<Vec<u32>, AllocError>
-    ensures { IfOk result (λ classes. AreAcquired indexed.entry.union.now state classes.items) }
+/// The classes with this bit, by name.
+fn with_bit(alloc: Global, indexed: Indexed<'_, '_, '_>, bit: Usage) -> Result<Vec<u32>, AllocError>
+    ensures { IfOk result (λ classes. AreWithBit indexed.entry.union.now bit classes.items) }
 {
     let mut classes = Vec::new(alloc);
     for class in &indexed.order.numbers {
-        if has(indexed.union.usage(), *class as usize, in_bit(state)) {
+        if has(indexed.union.usage(), *class as usize, bit) {
             classes.push(*class)?;
         }
     }
     Ok(classes)
 }
 
-/// Those that lead to this class, by the name of the other end, which is one of these. The list of distances and that
-/// of next classes are the same for all of them.
-fn forbidden_to<'u, 'a>(
+/// What leads to the classes that are held where handlers of the state can interrupt.
+fn leading_to_held<'o>(
+    alloc: Global,
+    indexed: Indexed<'_, 'o, '_>,
+    state: State,
+) -> Result<Leading<'o>, AllocError>
+    ensures { IfOk result (λ leading. AreLeadingTo indexed.entry.union.now state indexed.entry.order.now.places.items leading) }
+{
+    let ends = with_bit(alloc, indexed, on_bit(state))?;
+    let leading = Leading::new(
+        alloc,
+        indexed.union.graph(),
+        &ends,
+        &indexed.order.numbers,
+        &indexed.order.places,
+    )?;
+    Ok(leading)
+}
+
+/// Those from this class, which handlers of the state acquire, in any order.
+fn forbidden_from<'u, 'a>(
     alloc: Global,
     indexed: Indexed<'u, '_, 'a>,
     state: State,
-    acquired: &[u32],
-    distances: &mut Distances,
-    nexts: &mut Nexts,
-    to: u32,
+    leading: &Leading<'_>,
+    tree: &mut Tree,
+    from: u32,
 ) -> Result<Vec<ForbiddenRow<'u, 'a>>, AllocError>
-    requires acquired { AreAcquired indexed.union.now state acquired.now }
-    requires distances { length distances.old ≡ length indexed.union.now.classes }
-    requires to { to < length indexed.union.now.classes }
-    ensures distances { length distances.new ≡ length indexed.entry.union.now.classes }
+    requires from { from < length indexed.union.now.classes }
+    requires leading { AreLeadingTo indexed.union.now state indexed.order.now.places.items leading.now }
+    requires size { length tree.old.numbers ≡ length indexed.union.now.classes }
+    ensures size { length tree.new.numbers ≡ length tree.old.numbers }
     ensures rows { IfOk result (λ rows. (sources : List PlainSource)
         → Shows sources indexed.entry.union.now
-        → AreTurnedRowsOf sources state (λ p. p.0 ≡ class_name indexed.entry.union.now.classes to)
+        → AreEndRowsOf sources state (λ p. p.0 ≡ class_name indexed.entry.union.now.classes from)
+        (map plain_forbidden_row rows.items)) }
+{
+    let Some(acquired) = noted(indexed.union, from, in_bit(state)) else {
+        return Ok(Vec::new(alloc));
+    };
+    tree.search(leading, from)?;
+    let first = First {
+        class: from,
+        leading,
+        tree,
+    };
+    rows_from(alloc, indexed, state, &first, acquired)
+}
+
+/// The same, by what a search from the class has found, whose IN bit `acquired` notes.
+fn rows_from<'u, 'a>(
+    alloc: Global,
+    indexed: Indexed<'u, '_, 'a>,
+    state: State,
+    first: &First<'_, '_>,
+    acquired: UsedClass<'a>,
+) -> Result<Vec<ForbiddenRow<'u, 'a>>, AllocError>
+    requires from { first.now.class < length indexed.union.now.classes }
+    requires leading { AreLeadingTo indexed.union.now state indexed.order.now.places.items first.now.leading.now }
+    requires tree { IsTreeOf first.now.leading.now first.now.class first.now.tree.now }
+    requires size { length first.now.tree.now.numbers ≡ length indexed.union.now.classes }
+    requires acquired { (sources : List PlainSource)
+        → Shows sources indexed.union.now
+        → IsNoted sources (class_name indexed.union.now.classes first.now.class) (In state)
+        (plain_class acquired.name) acquired.marks acquired.at }
+    ensures { IfOk result (λ rows. (sources : List PlainSource)
+        → Shows sources indexed.entry.union.now
+        → AreEndRowsOf sources state (λ p. p.0 ≡ class_name indexed.entry.union.now.classes first.now.class)
         (map plain_forbidden_row rows.items)) }
 {
     let mut rows = Vec::new(alloc);
-    let Some(held) = noted(indexed.union, to, on_bit(state)) else {
-        return Ok(rows);
-    };
-    // Where no walk leads here from a class that handlers acquire, none is searched for.
-    if indexed.union.source(state, to).is_none() {
-        return Ok(rows);
-    }
-    indexed.union.graph().distances_to(to, acquired, distances);
-    nexts.clear();
-    let target = Target {
-        class: to,
-        distances: distances.levels(),
-    };
-    for from in acquired {
-        if let Some(row) = forbidden_row(alloc, indexed, &target, nexts, held, state, *from)? {
+    let found = first.tree.found();
+    for to in found {
+        if let Some(row) = forbidden_row(alloc, indexed, state, first, acquired, *to)? {
             rows.push(row)?;
         }
     }
     Ok(rows)
 }
 
-/// The row of the forbidden walk from the class to the target's, whose ON bit `held` notes, or `None`
-/// where there is none.
+/// The row of the forbidden walk to a class that was found from the first one, whose IN bit `acquired` notes, or
+/// `None` where there is none.
 fn forbidden_row<'u, 'a>(
     alloc: Global,
     indexed: Indexed<'u, '_, 'a>,
-    target: &Target<'_>,
-    nexts: &mut Nexts,
-    held: UsedClass<'a>,
     state: State,
-    from: u32,
+    first: &First<'_, '_>,
+    acquired: UsedClass<'a>,
+    to: u32,
 ) -> Result<Option<ForbiddenRow<'u, 'a>>, AllocError>
-    requires class { target.now.class < length indexed.union.now.classes }
-    requires distances { AreEnoughFrom indexed.union.now from target.now.class target.now.distances.now }
-    requires held { (sources : List PlainSource)
+    requires from { first.now.class < length indexed.union.now.classes }
+    requires to { to < length indexed.union.now.classes }
+    requires leading { AreLeadingTo indexed.union.now state indexed.order.now.places.items first.now.leading.now }
+    requires tree { IsTreeOf first.now.leading.now first.now.class first.now.tree.now }
+    requires found { Contains first.now.tree.now.found to }
+    requires acquired { (sources : List PlainSource)
         → Shows sources indexed.union.now
-        → IsNoted sources (class_name indexed.union.now.classes target.now.class) (On state)
-        (plain_class held.name) held.marks held.at }
-    requires from { from < length indexed.union.now.classes }
-    requires nexts { AreNextsOf indexed.union.now indexed.order.now.places.items target.now.distances.now nexts.old }
-    ensures nexts { AreNextsOf indexed.entry.union.now indexed.entry.order.now.places.items target.now.distances.now nexts.new }
-    ensures row { IfOk result (λ row. (sources : List PlainSource)
+        → IsNoted sources (class_name indexed.union.now.classes first.now.class) (In state)
+        (plain_class acquired.name) acquired.marks acquired.at }
+    ensures { IfOk result (λ row. (sources : List PlainSource)
         → Shows sources indexed.entry.union.now
         → MatchOption row
-        (¬ IsForbidden sources state (class_name indexed.entry.union.now.classes from)
-        (class_name indexed.entry.union.now.classes target.now.class))
-        (λ r. IsTurnedRowOf sources state (class_name indexed.entry.union.now.classes target.now.class)
-        (class_name indexed.entry.union.now.classes from) (plain_forbidden_row r))) }
+        (¬ IsForbidden sources state (class_name indexed.entry.union.now.classes first.now.class)
+        (class_name indexed.entry.union.now.classes to))
+        (λ r. IsEndRowOf sources state (class_name indexed.entry.union.now.classes first.now.class)
+        (class_name indexed.entry.union.now.classes to) (plain_forbidden_row r))) }
 {
-    let Some(acquired) = noted(indexed.union, from, in_bit(state)) else {
+    // Most classes on the way to an end aren't one.
+    if !has(indexed.union.usage(), to as usize, on_bit(state)) {
+        return Ok(None);
+    }
+    let Some(held) = noted(indexed.union, to, on_bit(state)) else {
         return Ok(None);
     };
-    let Some(via) = walk_names(alloc, indexed, target.distances, nexts, from, target.class)? else {
-        return Ok(None);
-    };
+    let numbers = first.tree.walk(alloc, first.leading, first.class, to)?;
     Ok(Some(ForbiddenRow {
         state,
         from: acquired.name,
@@ -220,6 +247,6 @@ fn forbidden_row<'u, 'a>(
         to: held.name,
         to_marks: held.marks,
         unsafe_at: held.at,
-        via,
+        via: Walk::new(indexed.union.classes(), numbers),
     }))
 }

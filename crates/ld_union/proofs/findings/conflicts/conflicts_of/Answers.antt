@@ -32,14 +32,14 @@ loop-class-preserved c sources shows =
           (λ (rows : Vec _ _). map plain_conflict_row rows.items) w.rows-is ∙ ap (map plain_conflict_row) w.in_ok-push.ensures.items ∙ map-append
           plain_conflict_row c.loop-class.rows.items (w.in-Some.row ∷ []) in
           subst (AreConflictRowsOf sources (λ p. (p.0 ≡ c.args.state) × IsPassed (name_at classes numbers) (i + 1) p.1)) (sym items)
-          (rows-more (name_at classes numbers) (length numbers) (names-rise classes numbers c.args.indexed.order.now.places.items c.args.indexed.named) conflict_key (IsConflictRow sources) owed IsHarder c.args.state i
+          (rows-more (name_at classes numbers) IsBefore (length numbers) (names-rise classes numbers c.args.indexed.order.now.places.items c.args.indexed.named) conflict_key (IsConflictRow sources) owed IsHarder c.args.state i
           before (row ∷ []) within (c.loop-class.invariant sources shows)
           (rows-one conflict_key (IsConflictRow sources) owed (InTurn IsHarder IsBefore) (c.args.state, name_at classes numbers i) row is.0 is.1))
       | in_default w ↦
           let none : ¬ IsConflict sources c.args.state (name_at classes numbers i) = subst (λ n. ¬ IsConflict sources c.args.state n) name (w.in_default.ensures sources shows) in
           let items : map plain_conflict_row c.match-conflict_row.rows.items ≡ before ++ [] = ap (λ (rows : Vec _ _). map plain_conflict_row rows.items) w.rows-is ∙ sym (append-nil before) in
           subst (AreConflictRowsOf sources (λ p. (p.0 ≡ c.args.state) × IsPassed (name_at classes numbers) (i + 1) p.1)) (sym items)
-          (rows-more (name_at classes numbers) (length numbers) (names-rise classes numbers c.args.indexed.order.now.places.items c.args.indexed.named) conflict_key (IsConflictRow sources) owed IsHarder c.args.state i
+          (rows-more (name_at classes numbers) IsBefore (length numbers) (names-rise classes numbers c.args.indexed.order.now.places.items c.args.indexed.named) conflict_key (IsConflictRow sources) owed IsHarder c.args.state i
           before [] within (c.loop-class.invariant sources shows)
           (rows-not conflict_key (IsConflictRow sources) owed (InTurn IsHarder IsBefore) (c.args.state, name_at classes numbers i) none))
     ]

@@ -25,7 +25,7 @@ loop-from-preserved c = record {
       let items : map plain_cycle_row c.append.new.self.items ≡ before ++ more = ap (map plain_cycle_row) c.in_ok-append.ensures.items ∙ map-append
       plain_cycle_row c.loop-from.rows.items c.in_ok-more.more.items in
       subst (AreCycleRowsOf sources (λ p. IsPassed (name_at classes numbers) (i + 1) p.0)) (sym items)
-      (rows-next (name_at classes numbers) (length numbers) (names-rise classes numbers c.args.indexed.order.now.places.items c.args.indexed.named) cycle_key (IsCycleRow sources) (λ p. IsCycle sources p.0 p.1) IsBefore i
+      (rows-next (name_at classes numbers) IsBefore (length numbers) (names-rise classes numbers c.args.indexed.order.now.places.items c.args.indexed.named) cycle_key (IsCycleRow sources) (λ p. IsCycle sources p.0 p.1) IsBefore i
       before more within (c.loop-from.invariant.rows sources shows)
       (subst (λ n. AreCycleRowsOf sources (λ p. p.0 ≡ n) more) name (c.in_ok-more.ensures.rows sources shows)));
 }

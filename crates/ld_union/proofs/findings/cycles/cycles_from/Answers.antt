@@ -71,7 +71,7 @@ loop-to-preserved c sources shows =
           let items : map plain_cycle_row c.match-branch-3.rows.items ≡ before ++ row ∷ [] = ap (λ (rows : Vec _ _). map plain_cycle_row rows.items)
           w.rows-is ∙ ap (map plain_cycle_row) w.in_ok-push.ensures.items ∙ map-append plain_cycle_row c.loop-to.rows.items (w.in-Some.row ∷ []) in
           subst (AreCycleRowsOf sources (λ p. (p.0 ≡ from) × IsPassed names (i + 1) p.1)) (sym items)
-          (rows-more names (length ends) rising cycle_key (IsCycleRow sources) owed IsBefore from i before (row ∷ []) within (c.loop-to.invariant sources shows)
+          (rows-more names IsBefore (length ends) rising cycle_key (IsCycleRow sources) owed IsBefore from i before (row ∷ []) within (c.loop-to.invariant sources shows)
           (rows-one cycle_key (IsCycleRow sources) owed IsPairBefore (from, names i) row is.0 is.1))
       | in_default w ↦
           let told = MatchOption-at_none (¬ IsCycle sources (class_name classes class) (class_name classes to))
@@ -79,7 +79,7 @@ loop-to-preserved c sources shows =
           let none : ¬ IsCycle sources from (names i) = subst (λ n. ¬ IsCycle sources from n) name (subst (λ n. ¬ IsCycle sources n (class_name classes to)) same told) in
           let items : map plain_cycle_row c.match-branch-3.rows.items ≡ before ++ [] = ap (λ (rows : Vec _ _). map plain_cycle_row rows.items) w.rows-is ∙ sym (append-nil before) in
           subst (AreCycleRowsOf sources (λ p. (p.0 ≡ from) × IsPassed names (i + 1) p.1)) (sym items)
-          (rows-more names (length ends) rising cycle_key (IsCycleRow sources) owed IsBefore from i before [] within (c.loop-to.invariant sources shows)
+          (rows-more names IsBefore (length ends) rising cycle_key (IsCycleRow sources) owed IsBefore from i before [] within (c.loop-to.invariant sources shows)
           (rows-not cycle_key (IsCycleRow sources) owed IsPairBefore (from, names i) none))
     ]
 

@@ -1,27 +1,62 @@
-use Rattle.std.proofs.Common.{subst}
-use Rattle.std.proofs.lemmas.Option.{MatchOption-at_none, MatchOption-at_some}
+use Rattle.std.proofs.Common.{◌≡◌, ◌<◌, ◌∙◌, All, ap, get_or, length, map, subst, sym}
+use Rattle.std.proofs.lemmas.Bool.{true≢false}
 use Rattle.ld_class.specs.Names.{plain_class}
-use Rattle.ld_rules.specs.Usage.Bit.{In}
+use Rattle.ld_class.specs.Usage.{has_bit, no_bits}
+use Rattle.ld_graph.specs.Edges.{ComesBefore, IsEdge}
+use Rattle.ld_graph.specs.Lists.{IsNear}
+use Rattle.ld_graph.specs.Walks.{IsShownWalk}
+use Rattle.ld_rules.specs.Usage.{usage_of}
+use Rattle.ld_rules.specs.Usage.Bit.{On}
+use Rattle.ld_union.specs.Findings.{IsShown, plain_forbidden_row}
+use Rattle.ld_union.specs.Inner.Bits.{HasBitAt}
 use Rattle.ld_union.specs.Inner.ByName.{class_name}
 use Rattle.ld_union.specs.Inner.Rows.{IsNoted}
-use Rattle.ld_union.specs.Findings.{plain_forbidden_row}
-use Rattle.ld_union.proofs.ForbiddenLemmas.{forbidden-row, no_forbidden-walk}
+use Rattle.ld_union.specs.Inner.Union.{edges_of}
+use Rattle.ld_union.specs.Usage.{bits_of}
+use Rattle.ld_union.proofs.BitLemmas.{bits_from_used}
+use Rattle.ld_union.proofs.ForbiddenLemmas.{forbidden-row}
+use Rattle.ld_union.proofs.LeadingLemmas.{IsShownWalk-leading}
+use Rattle.ld_union.proofs.ShownLemmas.{shown_named, shown_within}
 use Rattle.ld_union.proofs.WitnessLemmas.{bit_of-usage_of}
 use Rattle.ld_union.proofs.findings.forbidden.forbidden_row.Goals as goal
 
-pub returns-in_default-2-clause-row : goal.returns-in_default-2-clause-row
-returns-in_default-2-clause-row c sources shows =
+pub returns-then-not-has : goal.returns-then-not-has
+returns-then-not-has c sources shows forbidden =
     let union = c.args.indexed.union.now in
-    no_forbidden-walk union.classes union.dependencies shows.numbered sources shows.witnesses c.args.state c.args.from c.args.target.now.class c.requires.from c.requires.class
-    (MatchOption-at_none _ _ c.in_default-2.is c.in_ok-via.ensures.walk)
+    let same : c.has.result ≡ has_bit (get_or (bits_of union.usage) c.args.to no_bits) (usage_of (On c.args.state)) =
+    c.has.ensures ∙ (λ k. has_bit (get_or (bits_of (c.usage.ensures.same k)) c.args.to no_bits) (c.on_bit.ensures k)) in
+    let bit : HasBitAt (bits_of union.usage) c.args.to (On c.args.state) =
+    ((bits_from_used union.classes union.usage sources shows.used).each c.args.to (On c.args.state) c.requires.to).1 forbidden.1 in
+    true≢false (sym (same ∙ bit) ∙ c.if-not-has.true)
 
-pub returns-clause-row : goal.returns-clause-row
-returns-clause-row c sources shows =
+pub new-requires : goal.new-requires
+new-requires c =
     let union = c.args.indexed.union.now in
-    let a = class_name union.classes c.args.from in
-    let b = class_name union.classes c.args.target.now.class in
-    let acquired = c.in-Some.acquired in
-    let held = c.args.held in
+    let leading = c.args.first.now.leading.now in
+    let same : c.has.result ≡ has_bit (get_or (bits_of union.usage) c.args.to no_bits) (usage_of (On c.args.state)) =
+    c.has.ensures ∙ (λ k. has_bit (get_or (bits_of (c.usage.ensures.same k)) c.args.to no_bits) (c.on_bit.ensures k)) in
+    let shown = IsShownWalk-leading (IsNear leading.lists) (IsEdge (edges_of union.dependencies)) (ComesBefore leading.places) c.args.to c.requires.leading.real
+    (c.requires.leading.leads c.args.to c.requires.to (sym same ∙ c.if-not-has.false)) c.args.first.now.class c.in_ok-numbers.numbers.items c.in_ok-numbers.ensures in
+    subst (λ names. All (λ k. k < length names) c.in_ok-numbers.numbers.items) (sym c.classes.ensures.same)
+    (shown_within union.classes union.dependencies c.requires.leading.numbered leading.places c.args.first.now.class c.args.to
+    c.in_ok-numbers.numbers.items c.requires.from c.requires.to shown)
+
+pub returns : goal.returns
+returns c sources shows =
+    let union = c.args.indexed.union.now in
+    let order = c.args.indexed.order.now in
+    let leading = c.args.first.now.leading.now in
+    let a = class_name union.classes c.args.first.now.class in
+    let b = class_name union.classes c.args.to in
+    let acquired = c.args.acquired in
+    let held = c.in-Some.held in
+    let same : c.has.result ≡ has_bit (get_or (bits_of union.usage) c.args.to no_bits) (usage_of (On c.args.state)) =
+    c.has.ensures ∙ (λ k. has_bit (get_or (bits_of (c.usage.ensures.same k)) c.args.to no_bits) (c.on_bit.ensures k)) in
+    let shown = IsShownWalk-leading (IsNear leading.lists) (IsEdge (edges_of union.dependencies)) (ComesBefore leading.places) c.args.to c.requires.leading.real
+    (c.requires.leading.leads c.args.to c.requires.to (sym same ∙ c.if-not-has.false)) c.args.first.now.class c.in_ok-numbers.numbers.items c.in_ok-numbers.ensures in
+    let placed = subst (λ places. IsShownWalk (IsEdge (edges_of union.dependencies)) (ComesBefore places) c.args.first.now.class c.args.to c.in_ok-numbers.numbers.items) c.requires.leading.in_order shown in
+    let names : c.new.result ≡ map (class_name union.classes) c.in_ok-numbers.numbers.items = c.new.ensures ∙
+    ap (λ classes. map (class_name classes) c.in_ok-numbers.numbers.items) c.classes.ensures.same in
     forbidden-row sources a b (plain_forbidden_row (record {
       state = c.args.state;
       from = acquired.name;
@@ -30,8 +65,10 @@ returns-clause-row c sources shows =
       to = held.name;
       to_marks = held.marks;
       unsafe_at = held.at;
-      via = c.in-Some-2.via;
+      via = c.new.result;
     }))
-    (subst (λ bit. IsNoted sources a bit (plain_class acquired.name) acquired.marks acquired.at) (bit_of-usage_of (In c.args.state) c.in_bit.result c.in_bit.ensures) (c.in-Some.ensures sources shows))
-    (c.requires.held sources shows)
-    (MatchOption-at_some _ _ c.in-Some-2.via c.in-Some-2.is c.in_ok-via.ensures.walk sources shows)
+    (c.requires.acquired sources shows)
+    (subst (λ bit. IsNoted sources b bit (plain_class held.name) held.marks held.at) (bit_of-usage_of (On c.args.state) c.on_bit-2.result c.on_bit-2.ensures) (c.in-Some.ensures sources shows))
+    (subst (IsShown sources a b) (sym names)
+    (shown_named union.classes union.dependencies shows.numbered sources shows.witnesses order.numbers.items order.places.items
+    c.args.indexed.named c.args.first.now.class c.args.to c.in_ok-numbers.numbers.items c.requires.from c.requires.to placed))
