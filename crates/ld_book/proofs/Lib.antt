@@ -5,3 +5,4 @@ pub mod ListingLemmas
 pub mod PermutedLemmas
 pub mod RisingLemmas
 pub mod TotalLemmas
+pub use Rattle.ld_union.proofs as OfUnion

@@ -6,3 +6,4 @@ pub use Rattle.ld_union.specs.Violations
 pub use Rattle.ld_union.specs.Alarms
 pub use Rattle.ld_union.specs.Findings
 pub use Rattle.ld_union.specs.Usage
+pub use Rattle.ld_union.specs as OfUnion

@@ -6,10 +6,10 @@ use Rattle.std.proofs.lemmas.List.Sorted.{All-permutation}
 use Rattle.ld_class.specs.Names.{IsNameAt, PlainClass, no_class, plain_class}
 use Rattle.ld_trace.specs.Sources.{PlainSource}
 use Rattle.ld_rules.specs.Union.{union_classes}
-use Rattle.ld_union.specs.declared.dependencies.Witnessed.{Witnessed}
-use Rattle.ld_union.proofs.ByNameLemmas.{element}
-use Rattle.ld_union.proofs.NameOrderLemmas.{before_from_less, class_cmp, class_cmp-Decides, class_cmp_total}
-use Rattle.ld_union.proofs.SortedLemmas.{Any-permutation, pair_before_from_less, pair_cmp, pair_cmp-Decides, pair_cmp_total, rising}
+use Rattle.ld_book.specs.OfUnion.declared.dependencies.Witnessed.{Witnessed}
+use Rattle.ld_book.proofs.OfUnion.ByNameLemmas.{element}
+use Rattle.ld_book.proofs.OfUnion.NameOrderLemmas.{before_from_less, class_cmp, class_cmp-Decides, class_cmp_total}
+use Rattle.ld_book.proofs.OfUnion.SortedLemmas.{Any-permutation, pair_before_from_less, pair_cmp, pair_cmp-Decides, pair_cmp_total, rising}
 use Rattle.ld_book.specs.Dependencies.{AreDependencies, class_at, dependency_at}
 use Rattle.ld_texts.specs.declared.overview.ClassRow.{ClassRow}
 use Rattle.ld_texts.specs.declared.overview.DependencyRow.{DependencyRow}

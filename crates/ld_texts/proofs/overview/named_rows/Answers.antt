@@ -4,7 +4,7 @@ use Rattle.std.proofs.lemmas.List.Elements.{All-push}
 use Rattle.ld_class.specs.Names.{IsNameAt, no_class, plain_class}
 use Rattle.ld_rules.specs.Dependency.{Dependency}
 use Rattle.ld_rules.specs.Union.{dependency_witness, union_classes}
-use Rattle.ld_union.specs.declared.dependencies.Witnessed.{Witnessed}
+use Rattle.ld_book.specs.OfUnion.declared.dependencies.Witnessed.{Witnessed}
 use Rattle.ld_texts.specs.Overview.{IsDependencyRow}
 use Rattle.ld_texts.proofs.OverviewLemmas.{named-from_edges}
 use Rattle.ld_texts.proofs.overview.named_rows.Goals as goal
