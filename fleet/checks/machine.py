@@ -199,6 +199,9 @@ def check_outputs(room):
         room.new("closed")
         ended = call("sh", "-c", f'exec "$@" {closed}', "sh", fleet("night"), streams, room.path("closed"))
         must(ended.returncode == 0, f"words: {closed}: status {ended.returncode}: {ended.stderr.decode()}")
+        # A text for a closed standard error goes nowhere else.
+        lines = 0 if "1>&-" in closed else 1
+        must(ended.stdout.count(b"\n") == lines, f"words: {closed}: standard output is {ended.stdout.decode()}")
         must(read(room.path("closed"), "night.report").endswith(b"\nclean\n"), f"words: {closed}: no whole report")
     odd = room.write("odd", "#!/bin/sh\nprintf '\\377\\n'\n", 0o755)
     said = night(streams, room.path("closed"), status=2, more={"LOCKCHECK": odd})
