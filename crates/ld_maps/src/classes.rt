@@ -27,33 +27,42 @@ fn class_of(line: &[u8]) -> Option<(&[u8], Origin<'_>)> {
     let (class, words) = cut(line.strip_prefix(b"# class ")?);
     let (how, words) = cut(words);
     let (place, words) = cut(words);
-    let (third, words) = cut(words);
-    let (fourth, others) = cut(words);
     if class.is_empty() || place.is_empty() {
         return None;
     }
-    let is_told = !fourth.is_empty() && others.is_empty();
-    let at = if is_told && !has_offset(third) && !has_offset(fourth) {
-        At::Place {
-            function: third,
-            source: fourth,
+    Some((class, origin_of(class, how, place, words)?))
+}
+
+/// What a class is by these words: how it came, FILE+OFFSET, and all that follows.
+fn origin_of<'a>(
+    class: &'a [u8],
+    how: &[u8],
+    place: &'a [u8],
+    words: &'a [u8],
+) -> Option<Origin<'a>> {
+    match how {
+        b"init" => Some(Origin::Initialised(at_of(place, words))),
+        b"first" => Some(Origin::FirstLocked(at_of(place, words))),
+        b"static" => {
+            let (variable, _) = cut(words);
+            let name = if variable.is_empty() { class } else { variable };
+            let file = before_offset(place);
+            Some(Origin::Variable { name, file })
         }
-    } else {
-        At::Place {
-            function: b"?",
-            source: place,
-        }
-    };
-    let origin = match how {
-        b"init" => Origin::Initialised(at),
-        b"first" => Origin::FirstLocked(at),
-        b"static" => Origin::Variable {
-            name: if third.is_empty() { class } else { third },
-            file: before_offset(place),
-        },
-        _ => return None,
-    };
-    Some((class, origin))
+        _ => None,
+    }
+}
+
+/// The place that a function and a source line say behind FILE+OFFSET, or else that one.
+fn at_of<'a>(place: &'a [u8], words: &'a [u8]) -> At<'a> {
+    let (function, words) = cut(words);
+    let (source, others) = cut(words);
+    let is_told = !source.is_empty() && others.is_empty();
+    if is_told && !has_offset(function) && !has_offset(source) {
+        return At::Place { function, source };
+    }
+    let (function, source) = (b"?".as_slice(), place);
+    At::Place { function, source }
 }
 
 /// Whether a word ends in an offset, `+0x` and digits.

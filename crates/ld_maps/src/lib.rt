@@ -4,6 +4,7 @@
 mod classes;
 mod map;
 mod maps;
+mod places;
 mod plain;
 mod words;
 

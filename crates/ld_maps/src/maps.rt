@@ -8,8 +8,9 @@ use std::alloc::{AllocError, Global};
 /// What recorders say of some files.
 #[derive(Drop)]
 pub struct Maps<'m> {
-    /// By the names of the files.
-    maps: IndexMap<&'m [u8], Map<'m>>,
+    maps: Vec<Map<'m>>,
+    /// Which of the maps is that of a file, by the file's name.
+    numbers: IndexMap<&'m [u8], usize>,
     /// By the names of the classes.
     origins: IndexMap<&'m [u8], Origin<'m>>,
 }
@@ -28,16 +29,17 @@ impl<'m> Maps<'m> {
         stream: &'m [u8],
     ) -> Result<Maps<'m>, AllocError> {
         let mut maps = Maps {
-            maps: IndexMap::new(alloc),
+            maps: given,
+            numbers: IndexMap::new(alloc),
             origins: IndexMap::new(alloc),
         };
-        for (file, map) in files.iter().zip(given) {
-            maps.maps.insert(file.as_bytes(), map)?;
+        match maps.read(files, stream) {
+            Ok(()) => Ok(maps),
+            Err(refusal) => {
+                drop(maps);
+                Err(refusal)
+            }
         }
-        if !maps.is_empty() {
-            maps.read_classes(stream)?;
-        }
-        Ok(maps)
     }
 
     /// Whether there is none.
@@ -45,7 +47,18 @@ impl<'m> Maps<'m> {
         self.maps.is_empty()
     }
 
-    /// Reads what the comments of a stream say of its classes. What was read first of a class stays.
+    /// Reads which map is that of each file, and what the stream's comments say of its classes.
+    fn read(&mut self, files: &[&'m str], stream: &'m [u8]) -> Result<(), AllocError> {
+        for (number, file) in files.iter().enumerate() {
+            self.numbers.insert(file.as_bytes(), number)?;
+        }
+        if self.is_empty() {
+            return Ok(());
+        }
+        self.read_classes(stream)
+    }
+
+    /// Reads what the comments of a stream say of its classes.
     fn read_classes(&mut self, stream: &'m [u8]) -> Result<(), AllocError> {
         let mut left = stream;
         // Each line has a byte.
@@ -54,18 +67,25 @@ impl<'m> Maps<'m> {
                 break;
             };
             if let Some((class, origin)) = found {
-                if self.origins.get(&class).is_none() {
-                    self.origins.insert(class, origin)?;
-                }
+                self.note(class, origin)?;
             }
             left = rest;
         }
         Ok(())
     }
 
+    /// Notes what the locks of a class are. What was noted first of a class stays.
+    fn note(&mut self, class: &'m [u8], origin: Origin<'m>) -> Result<(), AllocError> {
+        if self.origins.get(&class).is_none() {
+            self.origins.insert(class, origin)?;
+        }
+        Ok(())
+    }
+
     /// What is known of a line of the file of this name.
     pub fn line(&self, file: &str, line: u64) -> Option<At<'m>> {
-        self.maps.get(&file.as_bytes())?.line(line)
+        let number = self.numbers.get(&file.as_bytes())?;
+        self.maps.get(*number)?.line(line)
     }
 
     /// What the locks of a class are, whatever its subclass.
@@ -75,18 +95,24 @@ impl<'m> Maps<'m> {
 
     /// Where locks of a class were acquired most often in one file.
     pub fn taken(&self, class: &[u8]) -> Option<Taken<'m>> {
-        let mut most: Option<Taken<'m>> = None;
-        for (_, map) in &self.maps {
-            if let Some(taken) = map.taken(class) {
-                let is_more = match most {
-                    Some(most) => taken.count > most.count,
-                    None => true,
-                };
-                if is_more {
-                    most = Some(taken);
-                }
-            }
+        let mut most = None;
+        for number in self.numbers.values() {
+            most = more_often(most, self.taken_in(*number, class));
         }
         most
+    }
+
+    /// The same by the map of this number.
+    fn taken_in(&self, number: usize, class: &[u8]) -> Option<Taken<'m>> {
+        self.maps.get(number)?.taken(class)
+    }
+}
+
+/// The one of two places where more locks were acquired, the first where neither has more.
+fn more_often<'m>(first: Option<Taken<'m>>, second: Option<Taken<'m>>) -> Option<Taken<'m>> {
+    match (first, second) {
+        (Some(one), Some(other)) if one.count < other.count => second,
+        (None, _) => second,
+        _ => first,
     }
 }

@@ -11,25 +11,24 @@ pub fn write_plain(out: &mut Vec<u8>, written: &[u8]) -> Result<(), AllocError> 
     let mut left = written;
     // Each step takes a byte at least.
     for _ in 0..written.len() {
-        left = match left {
-            [b'%', high, low, rest @ ..] => match (digit(*high), digit(*low)) {
-                (Some(high), Some(low)) => {
-                    out.push(high.wrapping_mul(16).wrapping_add(low))?;
-                    rest
-                }
-                _ => {
-                    out.push(b'%')?;
-                    left.get(1..).unwrap_or(&[])
-                }
-            },
-            [byte, rest @ ..] => {
-                out.push(*byte)?;
-                rest
-            }
-            [] => break,
+        let Some((byte, rest)) = next_plain(left) else {
+            break;
         };
+        out.push(byte)?;
+        left = rest;
     }
     Ok(())
+}
+
+/// The first byte that a text stands for, and what follows it in the text. `None` where there is none.
+fn next_plain(text: &[u8]) -> Option<(u8, &[u8])> {
+    if let [b'%', high, low, rest @ ..] = text
+        && let (Some(high), Some(low)) = (digit(*high), digit(*low))
+    {
+        return Some((high.wrapping_mul(16).wrapping_add(low), rest));
+    }
+    let (byte, rest) = text.split_first()?;
+    Some((*byte, rest))
 }
 
 /// What a hexadecimal digit stands for.

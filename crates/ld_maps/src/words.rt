@@ -11,6 +11,29 @@ pub(crate) fn cut(text: &[u8]) -> (&[u8], &[u8]) {
     }
 }
 
+/// The words of a line: what it says, and its fields, of which the last is all that is left.
+#[derive(Clone, Copy)]
+pub(crate) struct Fields<'a> {
+    pub(crate) word: &'a [u8],
+    pub(crate) first: &'a [u8],
+    pub(crate) second: &'a [u8],
+    pub(crate) third: &'a [u8],
+}
+
+impl<'a> Fields<'a> {
+    pub(crate) fn of(line: &'a [u8]) -> Fields<'a> {
+        let (word, fields) = cut(line);
+        let (first, others) = cut(fields);
+        let (second, third) = cut(others);
+        Fields {
+            word,
+            first,
+            second,
+            third,
+        }
+    }
+}
+
 /// The number that these digits say; `None` where there is none, or one that isn't below 2^64.
 pub(crate) fn number(text: &[u8]) -> Option<u64> {
     if text.is_empty() {
