@@ -1,0 +1,69 @@
+//! Writes names.
+ghost use Rattle.std.specs.Prelude.{◌≡◌, ◌<◌, ◌++◌, List, OnOk, count_by, ℕ};
+ghost use Rattle.std.specs.List.{AllPass};
+ghost use Rattle.ld_escape.specs.Forms.{is_marked};
+ghost use Rattle.ld_escape.specs.Shown.{is_shown};
+ghost use Rattle.ld_escape.specs.Written.{digit, hex, is_lead, may_stand, piece, written};
+
+use crate::form::{Form, close, is_hidden, is_marked, mark};
+use crate::shown::is_shown;
+use std::alloc::AllocError;
+
+/// Writes a name in a form, whatever its bytes are. No other name is written so (`distinct`), each byte that is
+/// written may stand there (`safe`), and the byte that begins a mark stands there for marked bytes alone (`marks`).
+///
+/// # Errors
+///
+/// `AllocError` where a growth of memory was refused.
+pub fn write_escaped(out: &mut Vec<u8>, form: Form, name: &[u8]) -> Result<(), AllocError>
+    ensures text { OnOk result (out.new.items ≡ out.old.items ++ written form name.now) }
+    ensures safe { OnOk result (AllPass (may_stand form) (written form name.now)) }
+    ensures marks { OnOk result (count_by (is_lead form) (written form name.now)
+        ≡ count_by (is_marked form (is_shown name.now)) name.now) }
+    ensures distinct { OnOk result ((other : List ℕ) → written form other ≡ written form name.now →
+        other ≡ name.now) }
+{
+    let shown = is_shown(name);
+    for byte in name {
+        write_byte(out, form, shown, *byte)?;
+    }
+    Ok(())
+}
+
+/// Writes a byte of a name that is shown, or of one that isn't.
+fn write_byte(out: &mut Vec<u8>, form: Form, shown: bool, byte: u8) -> Result<(), AllocError>
+    ensures { OnOk result (out.new.items ≡ out.old.items ++ piece form shown byte) }
+{
+    if is_marked(form, shown, byte) {
+        out.extend_from_slice(mark(form))?;
+        write_number(out, byte)?;
+        out.extend_from_slice(close(form))
+    } else if is_hidden(form, shown, byte) {
+        out.extend_from_slice(b"\\x")?;
+        write_number(out, byte)
+    } else {
+        out.push(byte)?;
+        Ok(())
+    }
+}
+
+/// Writes the number of a byte by two digits.
+fn write_number(out: &mut Vec<u8>, byte: u8) -> Result<(), AllocError>
+    ensures { OnOk result (out.new.items ≡ out.old.items ++ hex byte) }
+{
+    out.push(digit(byte / 16))?;
+    out.push(digit(byte % 16))?;
+    Ok(())
+}
+
+/// A digit of a number to the base 16.
+fn digit(value: u8) -> u8
+    requires { value < 16 }
+    ensures { result ≡ digit value }
+{
+    if value < 10 {
+        b'0' + value
+    } else {
+        b'A' + (value - 10)
+    }
+}

@@ -1,0 +1,10 @@
+//! Names in texts of other languages: whatever a name's bytes are, none of them ends a string, begins an element or
+//! a command, or ends a line there, and no two names are written alike.
+#![tactic(auto)]
+
+mod escaping;
+mod form;
+mod shown;
+
+pub use escaping::write_escaped;
+pub use form::Form;
