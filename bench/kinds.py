@@ -2,225 +2,17 @@
 
 A stream depends on its kind, size and seed alone. Nothing is written that a trace may not have, so no
 trace is refused. Classes have numbers, and a task acquires them in rising order (in `hub` and `chain` in
-falling order): so all kinds but `cycles`, `conflicts` and the two `lone` ones have no violation. Handlers,
-except in `conflicts` and `lone-walk`, acquire the greatest numbers alone, and what leads to those is held
-where the handlers can't interrupt.
+falling order): so all kinds but `cycles`, `conflicts`, the two `lone` ones and some of shapes.py have no
+violation. Handlers, except in `conflicts`, `lone-walk` and shapes.py, acquire the greatest numbers alone, and what
+leads to those is held where the handlers can't interrupt.
 """
-import random
 from collections import namedtuple
 
-MB = 1_000_000
-BLOCK = 1 << 20
-TASK = b'\0'               # where a task's name is still to be put in
-MOST_TRACES = 60_000       # a stream may have 65,535
-MOST_DEPENDENCIES = 60_000
-BYTES_EACH = 165          # of a trace with one new dependency, at most, on average
-LAYERS, LAYER = 20, 400    # of `layers` and the two like it: how many, and how many classes in each
-HEADS = ('rq', 'inode', 'dentry', 'page', 'zone', 'lru', 'mmap', 'sb', 'tty', 'sock', 'timer', 'work', 'cgroup',
-         'futex', 'pipe', 'epoll', 'slab', 'vma', 'file', 'mnt', 'net', 'dev', 'skb', 'route', 'sem', 'shm',
-         'sighand', 'console', 'blk', 'bio', 'nvme', 'irq')
-TAILS = ('lock', 'mutex', 'rwsem', 'list', 'hash', 'wait', 'seq', 'key')
+import shapes
+from parts import (BYTES_EACH, LAYER, LAYERS, MB, MOST_DEPENDENCIES, MOST_TRACES, TASK, Draws, Locks, Program, again,
+                   dependency, dive, interrupt, mixed, paced, programs, shown, taken_alone, task_names, walk)
 
-
-class Draws:
-    """Numbers by chance: the same ones for the same seed, whichever Python it is."""
-
-    def __init__(self, seed):
-        self.draw = random.Random(seed).random
-
-    def below(self, count):
-        return int(self.draw() * count)
-
-    def chance(self, percent):
-        return self.draw() * 100 < percent
-
-    def shuffle(self, items):
-        for last in range(len(items) - 1, 0, -1):
-            other = self.below(last + 1)
-            items[last], items[other] = items[other], items[last]
-
-    def some(self, items, count):
-        """So many of them, each once."""
-        items = list(items)
-        self.shuffle(items)
-        return items[:count]
-
-
-class Locks:
-    """The names of classes, by number, and of locks."""
-
-    def __init__(self, draws, count):
-        self.draws = draws
-        self.names = []
-        for number in range(count):
-            head, rest = HEADS[number % len(HEADS)], number // len(HEADS)
-            tail, more = TAILS[rest % len(TAILS)], rest // len(TAILS)
-            self.names.append(f'{head}_{tail}#{more}'.encode() if more else f'{head}_{tail}'.encode())
-        draws.shuffle(self.names)
-        self.instances = [b'@%d' % number for number in range(7)]
-        self.instances[0] = b''
-
-    def lock(self, number):
-        return self.names[number] + self.instances[self.draws.below(7)]
-
-
-def task_names():
-    """30 tasks, as a kernel names them."""
-    forms = ('kworker/%d', 'bash-12%02d', 'swapper/%d', 'nginx-34%02d')
-    return [(forms[number % 4] % number).encode() for number in range(30)]
-
-
-class Program:
-    """What a task does. It is cut into turns, in which no other task has one."""
-
-    def __init__(self, draws, locks):
-        self.draws = draws
-        self.locks = locks
-        self.lines = []
-        self.held = []
-
-    def acquire(self, number, verb=b'acquire'):
-        lock = self.locks.lock(number)
-        self.held.append((number, lock))
-        self.lines.append(b'%b %b %b\n' % (verb, TASK, lock))
-
-    def release(self, place=-1):
-        self.lines.append(b'release %b %b\n' % (TASK, self.held.pop(place)[1]))
-
-    def say(self, verb, state):
-        self.lines.append(b'%b %b %b\n' % (verb, TASK, state))
-
-    def release_one(self, base, percent):
-        """Of the locks held since there were `base`: mostly the last one."""
-        others = len(self.held) - base
-        self.release(base + self.draws.below(others) if self.draws.chance(percent) else -1)
-
-    def least(self, base):
-        """The least class above all acquired since `base` locks were held, or none."""
-        return max((number + 1 for number, _ in self.held[base:]), default=None)
-
-    def turns(self):
-        lines, turns = self.lines, []
-        while lines:
-            length = 1 + self.draws.below(8)
-            turns.append(b''.join(lines[:length]))
-            lines = lines[length:]
-        return turns
-
-    def text(self):
-        return b''.join(self.lines)
-
-
-def walk(program, first, end, depth, step, length):
-    """Up and down a stack of at most so many classes from `first` to below `end`, each at most `step`
-    above the one before, in about so many lines."""
-    draws = program.draws
-    base, start = len(program.held), len(program.lines)
-    while True:
-        written, held = len(program.lines) - start, len(program.held) - base
-        least = program.least(base) if held else first + draws.below((end - first) // 2)
-        if written < length and held < depth and least < end and (not held or draws.chance(55)):
-            number = least + draws.below(min(step, end - least))
-            program.acquire(number, b'try' if draws.chance(4) else b'acquire')
-        elif held:
-            program.release_one(base, 8)
-            if held == 1 and written >= length // 2:
-                return
-        else:
-            return
-
-
-def dive(program, classes, depth):
-    """Four times down to so many held locks, and up again by some."""
-    draws = program.draws
-    step = classes // (depth + 1)
-    for _ in range(4):
-        while len(program.held) < depth:
-            least = program.least(0) or 0
-            if least >= classes:
-                break
-            program.acquire(least + draws.below(min(step, classes - least)))
-        for _ in range(1 + draws.below(depth // 2)):
-            program.release_one(0, 5)
-    while program.held:
-        program.release()
-
-
-def interrupt(program):
-    """A piece with handlers and flags. Of 300 classes hard handlers acquire those from 220 on, which
-    are never held with the hard flag on; soft ones those from 150 on, never held with both flags on."""
-    draws = program.draws
-
-    def handler():
-        program.say(b'enter', b'hard')
-        walk(program, 220, 300, 2, 20, 3)
-        program.say(b'exit', b'hard')
-
-    def masked():
-        program.say(b'disable', b'hard')
-        walk(program, 220, 300, 2, 20, 3)
-        program.say(b'enable', b'hard')
-
-    which = draws.below(6)
-    if which == 0:
-        handler()
-    elif which == 1:
-        masked()
-    elif which == 2:
-        program.say(b'enter', b'soft')
-        program.acquire(150 + draws.below(70))
-        handler() if draws.chance(50) else masked()
-        program.release()
-        program.say(b'exit', b'soft')
-    elif which == 3:
-        program.say(b'disable', b'soft')
-        program.acquire(150 + draws.below(70))
-        masked()
-        if draws.chance(50):
-            handler()
-        program.release()
-        program.say(b'enable', b'soft')
-    elif which == 4:
-        program.acquire(draws.below(150))
-        handler()
-        masked()
-        program.release()
-    else:
-        walk(program, 0, 150, 4, 30, 6)
-
-
-def programs(draws, count, classes, write):
-    locks = Locks(draws, classes)
-    made = []
-    for _ in range(count):
-        program = Program(draws, locks)
-        write(program)
-        made.append(program)
-    return made
-
-
-def mixed(draws, made, size, usual):
-    """Traces of about `usual` bytes, in which one to six tasks have turns: each runs one program after
-    another, some of them more often. A trace may end with locks held."""
-    made = [program.turns() for program in made]
-    names = task_names()
-    length = max(usual, size // MOST_TRACES)
-    number = 0
-    while True:
-        pieces = [b'trace cpu-%d\n' % number]
-        number += 1
-        running = [[name, iter(())] for name in draws.some(names, 1 + draws.below(6))]
-        written = 0
-        while written < length:
-            task = running[draws.below(len(running))]
-            turn = next(task[1], None)
-            if turn is None:
-                task[1] = iter(made[min(draws.below(len(made)), draws.below(len(made)))])
-                continue
-            turn = turn.replace(TASK, task[0])
-            written += len(turn)
-            pieces.append(turn)
-        yield b''.join(pieces)
+BLOCK = 1 << 20   # of a stream, at least, that is written at once
 
 
 def wide(draws, size):
@@ -235,20 +27,6 @@ def deep(draws, size):
 
 def interrupts(draws, size):
     return mixed(draws, programs(draws, 1500, 300, interrupt), size, 10_000)
-
-
-def paced(draws, size, piece):
-    """Up to 60,000 traces, each of one task's pieces, which have the size together."""
-    names = task_names()
-    count = min(MOST_TRACES, size // BYTES_EACH)
-    done = 0
-    for number in range(count):
-        task, pieces = names[draws.below(len(names))], [b'trace t%d\n' % number]
-        done += len(pieces[0])
-        while len(pieces) == 1 or done < size * (number + 1) // count:
-            pieces.append(piece(task))
-            done += len(pieces[-1])
-        yield b''.join(pieces)
 
 
 def small(draws, size):
@@ -270,30 +48,6 @@ def layered(draws, size):
     draws.shuffle(pairs)
     cut = count * 4 // 5
     return again(draws, sorted(pairs[:cut], key=lambda pair: -(pair[0] // LAYER)) + pairs[cut:])
-
-
-def again(draws, pairs):
-    yield from pairs
-    while True:
-        yield pairs[draws.below(len(pairs))]
-
-
-def dependency(task, locks, pair):
-    first, second = locks.lock(pair[0]), locks.lock(pair[1])
-    return (b'acquire %b %b\nacquire %b %b\nrelease %b %b\nrelease %b %b\n'
-            % (task, first, task, second, task, second, task, first))
-
-
-def shown(draws, size, locks, pairs, usual):
-    """Traces in which one task shows so many dependencies."""
-    names = task_names()
-    each = max(usual, size // MOST_TRACES // 100)
-    number = 0
-    while True:
-        task = names[draws.below(len(names))]
-        yield b'trace run-%d\n' % number + b''.join(
-            dependency(task, locks, next(pairs)) for _ in range(each))
-        number += 1
 
 
 def layers(draws, size):
@@ -353,11 +107,6 @@ def chain(draws, size):
     count = min(100_000, size // BYTES_EACH)
     pairs = [(number + 1, number) for number in range(count)]
     return shown(draws, size, Locks(draws, count + 1), again(draws, pairs), 100)
-
-
-def taken_alone(task, locks, number):
-    lock = locks.lock(number)
-    return b'acquire %b %b\nrelease %b %b\n' % (task, lock, task, lock)
 
 
 def hub(draws, size):
@@ -435,6 +184,22 @@ def conflicts(draws, size):
         yield b'trace more\n' + taken * 100
 
 
+def carriage_returns(draws, size):
+    return (trace.replace(b'\n', b'\r\n') for trace in wide(draws, size * 95 // 100))
+
+
+def empty_lines(draws, size):
+    return (trace.replace(b'\n', b'\n\n') for trace in wide(draws, size * 95 // 100))
+
+
+def line_ends(draws, size):
+    """Traces of line ends alone, each with two events at its begin."""
+    ends = b'\n' * max(100, size // MOST_TRACES)
+    task, lock = task_names()[0], Locks(draws, 1).lock(0)
+    for number in range(MOST_TRACES):
+        yield b'trace run-%d\nacquire %b %b\nrelease %b %b\n%b' % (number, task, lock, task, lock, ends)
+
+
 Kind = namedtuple('Kind', 'traces is_clean what')
 KINDS = {
     'wide': Kind(wide, True, '300 classes, up to 6 tasks in turn, up to 6 locks held'),
@@ -451,6 +216,20 @@ KINDS = {
     'hand-over-hand': Kind(hand_over_hand, True, 'one trace of one task, which holds 95 locks and releases the oldest one'),
     'conflicts': Kind(conflicts, False, 'up to a million classes, each of them a conflict'),
     'cycles': Kind(cycles, False, 'up to 12,000 dependencies of 2,000 classes, all of them inversions'),
+    'carriage-returns': Kind(carriage_returns, True, '`wide` with a CR before each LF'),
+    'empty-lines': Kind(empty_lines, True, '`wide` with an empty line behind each one'),
+    'line-ends': Kind(line_ends, True, 'empty lines, and two events for each trace'),
+    'joined-pairs': Kind(shapes.joined_pairs, True, 'pairs, joined to a chain from its end'),
+    'pairs-back': Kind(shapes.pairs_back, True, 'pairs, each of which is put before the one before it'),
+    'chain-moves': Kind(shapes.chain_moves, True, 'pairs behind a chain, each of which is put before it'),
+    'tail-moves': Kind(shapes.tail_moves, True, 'pairs before a chain, each of which is put behind it'),
+    'merges': Kind(shapes.merges, True, 'paths joined two by two, the later one before the other'),
+    'sparse': Kind(shapes.sparse, True, 'as many dependencies as classes, along a hidden order'),
+    'separate-walks': Kind(shapes.separate_walks, False, 'safe classes, each before one unsafe class'),
+    'dead-end': Kind(shapes.dead_end, False, 'a safe class and a chain lead to unsafe ones, another safe class nowhere'),
+    'before-joint': Kind(shapes.before_joint, False, 'classes before that by which a safe class leads to unsafe ones'),
+    'behind-joint': Kind(shapes.behind_joint, False, 'classes behind it, each before one unsafe class'),
+    'through-joint': Kind(shapes.through_joint, False, 'safe classes lead to as many unsafe ones through one class'),
 }
 LEAST, MOST = 20_000, 2_100 * MB  # bytes of a stream
 
