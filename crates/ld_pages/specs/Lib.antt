@@ -1,0 +1,6 @@
+pub mod Words
+pub mod Layouts
+pub mod Entries
+pub mod Pages
+pub mod Reads
+pub mod Events
