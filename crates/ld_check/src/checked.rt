@@ -4,7 +4,7 @@ ghost use Rattle.ld_trace.specs.declared.source.StreamFault.{StreamFault};
 ghost use Rattle.ld_trace.specs.Sources.{plain, sources, stream_fault};
 ghost use Rattle.ld_work.specs.Work.{ListsEachOnce};
 
-use ld_book::Book;
+use ld_report::Book;
 use ld_trace::{Source, StreamFault, split};
 use ld_work::{Gate, MOST_FEEDERS, WorkFault, work};
 use std::alloc::{AllocError, Global};

@@ -7,7 +7,7 @@ mod report;
 mod runs;
 
 pub use checked::{CheckFault, Checked, MOST_WORKERS, check};
-pub use ld_report::{Verdict, report as report_in, verdict_of};
+pub use ld_report::{Book, Verdict, report as report_in, verdict_of};
 pub use ld_work::NoGate;
 pub use report::{Report, report_of};
 pub use runs::{RunFault, run};

@@ -2,13 +2,12 @@
 ghost use Rattle.std.specs.Prelude.{◌≡◌, ◌≤◌, ◌↔◌, Err, IfErr, IfOk, IfSome, Some};
 ghost use Rattle.ld_trace.specs.declared.source.StreamFault.{StreamFault};
 ghost use Rattle.ld_trace.specs.Sources.{sources, stream_fault};
-ghost use Rattle.ld_book.specs.Violations.{HasViolation};
+ghost use Rattle.ld_report.specs.OfBook.Violations.{HasViolation};
 ghost use Rattle.ld_report.specs.Report.{IsReport, SaysClean};
 ghost use Rattle.ld_report.specs.Verdict.{VerdictIs};
 
 use crate::checked::{CheckFault, MOST_WORKERS, check};
-use ld_book::Book;
-use ld_report::{Verdict, report, verdict_of};
+use ld_report::{Book, Verdict, report, verdict_of};
 use ld_work::Gate;
 use std::alloc::Global;
 use std::sync::Wait;

@@ -2,7 +2,7 @@
 ghost use Rattle.std.specs.Prelude.{◌≡◌, ◌≢◌, ◌≤◌, ◌↔◌, ℕ, List, false, true, IfOk, IsErr, OnOk, ⊤};
 ghost use Rattle.std.specs.Io.KnownBytes.{Appends};
 ghost use Rattle.ld_trace.specs.declared.source.StreamFault.{StreamFault};
-ghost use Rattle.ld_book.specs.Violations.{HasViolation};
+ghost use Rattle.ld_report.specs.OfBook.Violations.{HasViolation};
 ghost use Rattle.ld_device.specs.Transfer.{AppendsPart, ConsumesAtMost};
 ghost use Rattle.ld_report.specs.Report.{IsReport, SaysClean};
 ghost use Rattle.ld_report.specs.Verdict.{VerdictIs};

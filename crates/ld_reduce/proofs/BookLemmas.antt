@@ -21,10 +21,10 @@ use Rattle.ld_rules.specs.Union.{dependency_witness, union_classes, use_witness}
 use Rattle.ld_rules.specs.Usage.{Bit, Use}
 use Rattle.ld_rules.specs.Usage.Bit.{In, On}
 use Rattle.ld_shown.specs.Batch.{AreRising}
-use Rattle.ld_union.specs.declared.dependencies.Witnessed.{Witnessed}
-use Rattle.ld_union.specs.declared.usage.UsageRow.{UsageRow}
-use Rattle.ld_union.specs.Usage.{bits}
-use Rattle.ld_union.proofs.UniqueLemmas.{ordered-same}
+use Rattle.ld_book.specs.OfUnion.declared.dependencies.Witnessed.{Witnessed}
+use Rattle.ld_book.specs.OfUnion.declared.usage.UsageRow.{UsageRow}
+use Rattle.ld_book.specs.OfUnion.Usage.{bits}
+use Rattle.ld_book.proofs.OfUnion.UniqueLemmas.{ordered-same}
 use Rattle.ld_book.proofs.PermutedLemmas.{dependency_witness-permuted, use_witness-permuted}
 use Rattle.ld_book.specs.Dependencies.{AreDependencies, dependency_at, usage_of_class}
 use Rattle.ld_book.specs.Violations.{Depends, HasBit, IsViolation, Violation}

@@ -7,3 +7,4 @@ pub mod TraceLemmas
 pub mod Unique
 pub mod Verdicts
 pub mod WalkLemmas
+pub use Rattle.ld_book.proofs as OfBook

@@ -3,7 +3,7 @@ use Rattle.std.proofs.Common.{◌≡◌, ◌<◌, ◌∙◌, List, ℕ, Contains
 use Rattle.std.proofs.lemmas.List.Sorted.{Contains-permutation, IsPermutation-sym}
 use Rattle.std.specs.List.Sorted.{IsPermutation}
 use Rattle.ld_trace.specs.Sources.{PlainSource}
-use Rattle.ld_union.proofs.UniqueLemmas.{findings-same, ordered-same}
+use Rattle.ld_book.proofs.OfUnion.UniqueLemmas.{findings-same, ordered-same}
 use Rattle.ld_report.specs.Report.{IsReport, report_text}
 
 module _ (sources : List PlainSource) where

@@ -3,7 +3,7 @@ use Rattle.std.proofs.Common.{◌≡◌, ◌||◌, true, false, Bool, List, Opti
 use Rattle.std.proofs.lemmas.Bool.{true≢false}
 use Rattle.ld_trace.specs.declared.event.State.TheVariants.{Hard, Soft}
 use Rattle.ld_trace.specs.Sources.{PlainSource}
-use Rattle.ld_union.specs.declared.alarms.Alarms.{Alarms}
+use Rattle.ld_book.specs.OfUnion.declared.alarms.Alarms.{Alarms}
 use Rattle.ld_book.specs.Alarms.{AreExact, IsExact, plain_alarms}
 use Rattle.ld_book.specs.Violations.{HasViolation, IsViolation, Violation}
 use Rattle.ld_book.specs.Violations.Violation.{Conflict, Cycle, Forbidden}

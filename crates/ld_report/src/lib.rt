@@ -6,5 +6,6 @@ mod lines;
 mod text;
 mod verdict;
 
+pub use ld_book::Book;
 pub use text::report;
 pub use verdict::{Verdict, verdict_of};

@@ -2,8 +2,8 @@
 use Rattle.std.proofs.Common.{◌∙◌, ℕ, List, ap}
 use Rattle.std.specs.List.Sorted.{IsPermutation}
 use Rattle.ld_trace.specs.Sources.{PlainSource}
-use Rattle.ld_book.specs.declared.totals.Totals.{Totals}
-use Rattle.ld_book.proofs.PermutedLemmas.{totals-permuted}
+use Rattle.ld_check.specs.OfReport.OfBook.declared.totals.Totals.{Totals}
+use Rattle.ld_check.proofs.OfReport.OfBook.PermutedLemmas.{totals-permuted}
 use Rattle.ld_check.specs.OfReport.declared.verdict.Verdict.{Verdict}
 use Rattle.ld_check.proofs.OfReport.Permuted.{report-permuted}
 use Rattle.ld_select.specs.News.{count_new}

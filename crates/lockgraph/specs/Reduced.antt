@@ -1,7 +1,7 @@
 -- What `reduce` writes of some traces.
 use Rattle.std.specs.Prelude.{◌≡◌, ◌||◌, ◌==◌, ℕ, Bool, List, if◌then◌else◌}
 use Rattle.ld_trace.specs.Sources.{PlainSource}
-use Rattle.ld_book.specs.Totals.{refused_count}
+use Rattle.ld_check.specs.OfReport.OfBook.Totals.{refused_count}
 use Rattle.ld_check.specs.OfReport.declared.verdict.Verdict.{Verdict}
 use Rattle.ld_check.specs.OfReport.declared.verdict.Verdict.TheVariants.{Clean, Refused}
 use Rattle.ld_reduce.specs.Reduction.{IsReductionOf}

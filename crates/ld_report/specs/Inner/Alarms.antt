@@ -1,6 +1,6 @@
 -- Whether alarms stand. No public contract cites this file.
 use Rattle.std.specs.Prelude.{◌||◌, Bool, List, Option, None, is_some, slice_index_or}
-use Rattle.ld_union.specs.declared.alarms.Alarms.{Alarms}
+use Rattle.ld_book.specs.OfUnion.declared.alarms.Alarms.{Alarms}
 
 -- one of two alarms stands
 abbrev pub either_stands : {A : Type 0} → List (Option A) → Bool

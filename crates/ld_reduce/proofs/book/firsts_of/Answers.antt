@@ -3,8 +3,8 @@ use Rattle.std.proofs.Common.{◌∙◌, ◌||◌, ◌==◌, map, nat_eq}
 use Rattle.std.specs.List.{list_any}
 use Rattle.ld_rules.specs.Union.{union_classes}
 use Rattle.ld_book.specs.Dependencies.{usage_of_class}
-use Rattle.ld_union.specs.declared.dependencies.Witnessed.{Witnessed}
-use Rattle.ld_union.specs.declared.usage.UsageRow.{UsageRow}
+use Rattle.ld_book.specs.OfUnion.declared.dependencies.Witnessed.{Witnessed}
+use Rattle.ld_book.specs.OfUnion.declared.usage.UsageRow.{UsageRow}
 use Rattle.ld_reduce.specs.Reduction.{is_in}
 use Rattle.ld_reduce.proofs.BookLemmas.{firsts-exact}
 use Rattle.ld_reduce.proofs.book.firsts_of.Goals as goal

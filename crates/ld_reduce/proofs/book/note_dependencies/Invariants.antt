@@ -1,7 +1,7 @@
 -- The dependencies so far are noted.
 use Rattle.std.specs.Prelude.{◌≡◌, ◌==◌, ◌||◌, ℕ, nat_eq, take}
 use Rattle.std.specs.List.{list_any}
-use Rattle.ld_union.specs.declared.dependencies.Witnessed.{Witnessed}
+use Rattle.ld_book.specs.OfUnion.declared.dependencies.Witnessed.{Witnessed}
 use Rattle.ld_reduce.proofs.book.note_dependencies.Given as goal
 
 abbrev pub invariant-loop-row : goal.invariant-loop-row

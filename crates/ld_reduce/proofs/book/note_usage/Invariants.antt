@@ -1,7 +1,7 @@
 -- The bits of the classes so far are noted.
 use Rattle.std.specs.Prelude.{◌≡◌, ◌||◌, ℕ, nat_eq, take}
 use Rattle.std.specs.List.{list_any}
-use Rattle.ld_union.specs.declared.usage.UsageRow.{UsageRow}
+use Rattle.ld_book.specs.OfUnion.declared.usage.UsageRow.{UsageRow}
 use Rattle.ld_reduce.specs.Reduction.{is_in}
 use Rattle.ld_reduce.proofs.book.note_usage.Given as goal
 

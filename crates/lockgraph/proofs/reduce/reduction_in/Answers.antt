@@ -1,7 +1,7 @@
 -- As many traces are refused, in whichever order.
 use Rattle.std.proofs.Common.{◌∙◌, ap, sym}
-use Rattle.ld_book.proofs.PermutedLemmas.{totals-permuted}
-use Rattle.ld_book.specs.declared.totals.Totals.{Totals}
+use Rattle.ld_check.proofs.OfReport.OfBook.PermutedLemmas.{totals-permuted}
+use Rattle.ld_check.specs.OfReport.OfBook.declared.totals.Totals.{Totals}
 use Rattle.lockgraph.specs.Reduced.{verdict_of_reduced}
 use Rattle.lockgraph.proofs.reduce.reduction_in.Goals as goal
 
