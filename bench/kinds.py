@@ -226,7 +226,7 @@ KINDS = {
     'merges': Kind(shapes.merges, True, 'paths joined two by two, the later one before the other'),
     'sparse': Kind(shapes.sparse, True, 'as many dependencies as classes, along a hidden order'),
     'separate-walks': Kind(shapes.separate_walks, False, 'safe classes, each before one unsafe class'),
-    'dead-end': Kind(shapes.dead_end, False, 'a safe class and a chain lead to unsafe ones, another safe class nowhere'),
+    'dead-end': Kind(shapes.dead_end, False, 'a chain and a safe class lead to unsafe ones, another one nowhere'),
     'before-joint': Kind(shapes.before_joint, False, 'classes before that by which a safe class leads to unsafe ones'),
     'behind-joint': Kind(shapes.behind_joint, False, 'classes behind it, each before one unsafe class'),
     'through-joint': Kind(shapes.through_joint, False, 'safe classes lead to as many unsafe ones through one class'),

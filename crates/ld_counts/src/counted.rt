@@ -267,10 +267,14 @@ impl<'c, 'a> Counting<'c, 'a> {
     }
 }
 
-/// The first line of these bytes, where `rest` follows it.
+/// The first line of these bytes, where `rest` follows it; empty if a CR stands before its LF, since only lines that end
+/// alike are compared by their texts.
 fn line_before<'a>(bytes: &'a [u8], rest: &[u8]) -> &'a [u8] {
     let len = bytes.len().saturating_sub(rest.len());
-    bytes.get(..len).unwrap_or(&[])
+    match bytes.get(..len) {
+        Some([.., b'\r', b'\n']) | None => &[],
+        Some(line) => line,
+    }
 }
 
 /// The bytes of a line behind so many.

@@ -1,7 +1,7 @@
 //! Plain events, which have to be read without the way round by lines and fields: a `next_event` that always
-//! answered `None`, or does at some of them, would meet every contract.
+//! answered `None`, or does at some of them, would meet every contract. So it is with empty lines.
 
-use ld_trace::{Event, Lock, next_event};
+use ld_trace::{Event, Lock, behind_empty, next_event};
 use std::alloc::Global;
 use std::test::Fail;
 
@@ -55,6 +55,27 @@ fn plain_events_before_others_are_read(rt: HostRuntime) {
         lock: lock(b"A", Some(b"7")),
     };
     assert!(rt; gives(bytes, event, rest));
+}
+
+#[test]
+fn lines_that_end_by_cr_lf_are_read(rt: HostRuntime) {
+    let task = b"t".as_slice();
+    let rest = b"acquire t B\r\n".as_slice();
+    let class = lock(b"A", None);
+    let event = Event::Acquire { task, lock: class };
+    assert!(rt; gives(b"acquire t A\r\nacquire t B\r\n", event, rest));
+    let one = lock(b"A", Some(b"7"));
+    let event = Event::Release { task, lock: one };
+    assert!(rt; gives(b"release t A@7\r\nacquire t B\r\n", event, rest));
+    assert!(rt; gives(b"try t A@7\r\n", Event::Try { task, lock: one }, b""));
+}
+
+#[test]
+fn empty_lines_are_passed(rt: HostRuntime) {
+    let rest = b"acquire t A\n".as_slice();
+    assert!(rt; behind_empty(b"\nacquire t A\n") == Some(rest));
+    assert!(rt; behind_empty(b"\r\nacquire t A\n") == Some(rest));
+    assert!(rt; behind_empty(b"\n") == Some(b"".as_slice()));
 }
 
 #[test]

@@ -15,7 +15,8 @@ use ld_class::Classes;
 use ld_rules::{Outcome, TraceFault};
 use ld_tables::Uses;
 use ld_trace::{
-    Event, LineFault, Source, next_event, next_line, next_state_event, read_event, text,
+    Event, LineFault, Source, behind_empty, next_event, next_line, next_state_event, read_event,
+    text,
 };
 use std::alloc::{AllocError, Global};
 
@@ -128,12 +129,27 @@ impl<'a> Other<'a> {
             (IsFirstSaid bytes.entry.now (answer_seen self.new.said) self.new.rest.now) }
         ensures none { OnFalse result (bytes.entry.now ≡ []) }
     {
-        if bytes.is_empty() {
-            return false;
+        match next_state_event(bytes) {
+            Some((event, rest)) => {
+                self.said = Ok(Some(event));
+                self.rest = rest;
+                true
+            }
+            None => self.read_line(bytes),
         }
-        if let Some((event, others)) = next_state_event(bytes) {
-            self.said = Ok(Some(event));
-            self.rest = others;
+    }
+
+    /// The same, whatever the line says.
+    // Apart from the events of a state, so that what is kept here isn't cleared for each of those.
+    #[inline(never)]
+    fn read_line(&mut self, bytes: &'a [u8]) -> bool
+        ensures said { OnTrue result
+            (IsFirstSaid bytes.entry.now (answer_seen self.new.said) self.new.rest.now) }
+        ensures none { OnFalse result (bytes.entry.now ≡ []) }
+    {
+        if let Some(rest) = behind_empty(bytes) {
+            self.said = Ok(None);
+            self.rest = rest;
             return true;
         }
         let Some((line, rest)) = next_line(bytes) else {

@@ -3,6 +3,7 @@ pub mod FieldLemmas
 pub mod VectorLemmas
 pub mod FrontLemmas
 pub mod VerbLemmas
+pub mod EndLemmas
 pub mod PlainLemmas
 pub mod StateLemmas
 pub mod SplitLemmas

@@ -1,4 +1,4 @@
--- A line of words with single blanks, that ends by an LF.
+-- A line of words with single blanks, that ends by an LF, or by a CR and an LF.
 use Rattle.std.proofs.Common.{ℕ, ◌≡◌, ◌+◌, ◌<◌, ◌-◌, Bool, true, false, not, ◌&&◌, ◌||◌, List, [], ◌∷◌, ◌++◌, length, take, drop, refl, sym, ◌∙◌, ap, arith}
 use Rattle.std.proofs.Common.{Some, None, Ok, append_assoc, length-append, if◌then◌else◌}
 use Rattle.std.proofs.Math.Bool.{and-false}
@@ -17,7 +17,8 @@ use Rattle.ld_trace.specs.declared.event.LockVerb.TheVariants as lock_verbs
 use Rattle.ld_trace.specs.Events.{PlainEvent, Acquire, Try, Release, PlainLock, is_sign, lock_of, said_by, said_by_fields}
 use Rattle.ld_trace.specs.First.{IsFirstSaid}
 use Rattle.ld_trace.specs.Inner.Reading.{spelling_of_lock_verb}
-use Rattle.ld_trace.specs.Inner.Plain.{IsLockLine, spelling_with}
+use Rattle.ld_trace.specs.Inner.Plain.{IsLockLine, line_end, spelling_with}
+use Rattle.ld_trace.proofs.EndLemmas.{end-some, lines-end}
 
 -- a run of bytes of words
 pub record IsRun (run : List ℕ) : Type 0 where
@@ -93,9 +94,12 @@ ends-onto front (b ∷ run) is =
     let e = ends-run b run is.graphic in
     record { front = front ++ e.front; last = e.last; is = ap (λ bytes. front ++ bytes) e.is ∙ sym (append_assoc front e.front (e.last ∷ [])); graphic = e.graphic }
 
--- a line without its end, where it ends by a run and an LF
-pub text-run : (front run : List ℕ) → IsRun run → text_of ((front ++ run) ++ 10 ∷ []) ≡ front ++ run
-text-run front run is =
+-- a line without its end, where a run stands before that
+pub text-run : (front run : List ℕ) → IsRun run → (cr : Bool) → text_of ((front ++ run) ++ line_end cr) ≡ front ++ run
+text-run front run is true =
+    ap text_of (sym (append_assoc (front ++ run) (13 ∷ []) (10 ∷ [])))
+    ∙ ap (less_end 13) (less_end-push 10 ((front ++ run) ++ 13 ∷ []) 10 true refl) ∙ less_end-push 13 (front ++ run) 13 true refl
+text-run front run is false =
     let e = ends-onto front run is in
     ap (less_end 13) (less_end-push 10 (front ++ run) 10 true refl) ∙ ap (less_end 13) e.is
     ∙ less_end-push 13 e.front e.last false (grind (arith, nat_tests)) ∙ sym e.is
@@ -190,21 +194,23 @@ said-three lock_verbs.Release task field lock word is = rw (word, is) refl
 pub spread : (first task field end : List ℕ) → first ++ 32 ∷ (task ++ 32 ∷ (field ++ end)) ≡ (first ++ 32 ∷ (task ++ 32 ∷ field)) ++ end
 spread first task field end = sym (append_assoc first (32 ∷ (task ++ 32 ∷ field)) end ∙ ap (λ o. first ++ 32 ∷ o) (append_assoc task (32 ∷ field) end))
 
--- and an LF after them are a line
-pub lines-three : (first task field rest : List ℕ) → IsRun first → IsRun task → IsRun field → lines (first ++ 32 ∷ (task ++ 32 ∷ (field ++ 10 ∷ rest)))
-    ≡ (first ++ 32 ∷ (task ++ 32 ∷ (field ++ 10 ∷ []))) ∷ lines rest
-lines-three first task field rest verb middle last =
-    let inner : lines (field ++ 10 ∷ rest) ≡ (field ++ 10 ∷ []) ∷ lines rest = lines-onto field (10 ∷ rest) (10 ∷ []) (lines rest) last.graphic refl in
-    let later : lines (task ++ 32 ∷ (field ++ 10 ∷ rest)) ≡ (task ++ 32 ∷ (field ++ 10 ∷ [])) ∷ lines rest =
-    lines-onto task (32 ∷ (field ++ 10 ∷ rest)) (32 ∷ (field ++ 10 ∷ [])) (lines rest) middle.graphic (ap (onto_first 32) inner) in
-    lines-onto first (32 ∷ (task ++ 32 ∷ (field ++ 10 ∷ rest))) (32 ∷ (task ++ 32 ∷ (field ++ 10 ∷ []))) (lines rest) verb.graphic (ap (onto_first 32) later)
+-- and the end of a line after them are a line
+pub lines-three : (first task field rest : List ℕ) (cr : Bool) → IsRun first → IsRun task → IsRun field → lines (first ++ 32 ∷ (task ++ 32 ∷ (field ++ (line_end cr ++ rest))))
+    ≡ (first ++ 32 ∷ (task ++ 32 ∷ (field ++ line_end cr))) ∷ lines rest
+lines-three first task field rest cr verb middle last =
+    let end = line_end cr in
+    let more = end ++ rest in
+    let inner : lines (field ++ more) ≡ (field ++ end) ∷ lines rest = lines-onto field more end (lines rest) last.graphic (lines-end cr rest) in
+    let later : lines (task ++ 32 ∷ (field ++ more)) ≡ (task ++ 32 ∷ (field ++ end)) ∷ lines rest =
+    lines-onto task (32 ∷ (field ++ more)) (32 ∷ (field ++ end)) (lines rest) middle.graphic (ap (onto_first 32) inner) in
+    lines-onto first (32 ∷ (task ++ 32 ∷ (field ++ more))) (32 ∷ (task ++ 32 ∷ (field ++ end))) (lines rest) verb.graphic (ap (onto_first 32) later)
 
 -- whose text and fields they are
-pub text-three : (first task field : List ℕ) → IsRun field → text_of ((first ++ 32 ∷ (task ++ 32 ∷ field)) ++ 10 ∷ []) ≡ first ++ 32 ∷ (task ++ 32 ∷ field)
-text-three first task field last =
+pub text-three : (first task field : List ℕ) (cr : Bool) → IsRun field → text_of ((first ++ 32 ∷ (task ++ 32 ∷ field)) ++ line_end cr) ≡ first ++ 32 ∷ (task ++ 32 ∷ field)
+text-three first task field cr last =
     let front = first ++ 32 ∷ (task ++ 32 ∷ []) in
     let same : front ++ field ≡ first ++ 32 ∷ (task ++ 32 ∷ field) = append_assoc first (32 ∷ (task ++ 32 ∷ [])) field ∙ ap (λ o. first ++ 32 ∷ o) (append_assoc task (32 ∷ []) field) in
-    ap (λ o. text_of (o ++ 10 ∷ [])) (sym same) ∙ text-run front field last ∙ same
+    ap (λ o. text_of (o ++ line_end cr)) (sym same) ∙ text-run front field last cr ∙ same
 
 pub fields-three : (first task field : List ℕ) → IsRun first → IsRun task → IsRun field → fields (first ++ 32 ∷ (task ++ 32 ∷ field)) ≡ first ∷ task ∷ field ∷ []
 fields-three first task field verb middle last =
@@ -219,13 +225,16 @@ said-plain verb task lock bytes after others rest begins goes spelled ends =
     let runs = run-spelled others rest lock ends in
     let middle = run-word task spelled in
     let body = first ++ 32 ∷ (task ++ 32 ∷ field) in
-    let whole : bytes ≡ first ++ 32 ∷ (task ++ 32 ∷ (field ++ 10 ∷ rest)) = begins ∙ ap (λ o. first ++ 32 ∷ o) (goes ∙ ap (λ o. task ++ 32 ∷ o) ends.whole) in
+    let cr = ends.ended.cr in
+    let end = line_end cr in
+    let whole : bytes ≡ first ++ 32 ∷ (task ++ 32 ∷ (field ++ (end ++ rest))) =
+    begins ∙ ap (λ o. first ++ 32 ∷ o) (goes ∙ ap (λ o. task ++ 32 ∷ o) (ends.whole ∙ ap (λ o. field ++ o) ends.ended.whole)) in
     record {
-      line = body ++ 10 ∷ [];
-      first = ap lines whole ∙ lines-three first task field rest (run-verb verb) middle runs ∙ ap (λ o. o ∷ lines rest) (spread first task field (10 ∷ []));
-      whole = whole ∙ spread first task field (10 ∷ rest) ∙ sym (append_assoc body (10 ∷ []) rest);
-      nonempty = omega (arith, length-append body (10 ∷ []));
+      line = body ++ end;
+      first = ap lines whole ∙ lines-three first task field rest cr (run-verb verb) middle runs ∙ ap (λ o. o ∷ lines rest) (spread first task field end);
+      whole = whole ∙ spread first task field (end ++ rest) ∙ sym (append_assoc body end rest);
+      nonempty = omega (arith, length-append body end, end-some cr);
       says =
-          ap said_by (text-three first task field runs) ∙ ap said_by_fields (fields-three first task field (run-verb verb) middle runs)
+          ap said_by (text-three first task field cr runs) ∙ ap said_by_fields (fields-three first task field (run-verb verb) middle runs)
           ∙ said-three verb task field lock spelled (lock-spelled others rest lock ends);
     }

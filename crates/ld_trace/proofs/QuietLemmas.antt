@@ -1,8 +1,8 @@
 -- One vector more of bytes after whose line ends no header begins.
 use Rattle.std.proofs.Common.{◌≡◌, ℕ, ◌+◌, ◌-◌, ◌<◌, ◌≤◌, ◌⊎◌, inl, inr, Bool, true, false, cond, min, List, map, length, take}
-use Rattle.std.proofs.Common.{◌||◌, eqb, leb, not, count_by, refl, sym, subst, ap, ap₂, ◌∙◌, arith, get_or}
+use Rattle.std.proofs.Common.{count_by, refl, sym, ap, ap₂, ◌∙◌, arith, get_or}
 use Rattle.std.proofs.Math.Seq.{take-add}
-use Rattle.std.proofs.lemmas.Bool.{cases_lt, ne_eqb, or_parts, true≢false}
+use Rattle.std.proofs.lemmas.Bool.{cases_lt}
 use Rattle.std.proofs.lemmas.List.{get_or-map}
 use Rattle.std.proofs.lemmas.List.Sums.{sum_by-append}
 use Rattle.std.proofs.lemmas.Nat.Bits.{bit_at_and, bit_at-zero}
@@ -26,21 +26,11 @@ apart a false none is = refl
 apart true true none is = absurd (omega (arith, none))
 apart false true none is = absurd (cc)
 
--- a t, and whatever isn't above a blank: each byte that a header may begin with is one of these
-abbrev pub may_open : ℕ → Bool
-may_open b = eqb b 116 || not (leb 33 b)
-
-opens : (b : ℕ) → may_open b ≡ false → may_begin b ≡ false
-opens b closed =
-    let parts = or_parts (eqb b 116) (not (leb 33 b)) closed in
-    let other : (n : ℕ) → not (leb 33 n) ≡ true → eqb b n ≡ false = λ n low. ne_eqb b n (λ e. true≢false (sym low ∙ subst (λ m. not (leb 33 m) ≡ false) e parts.1)) in
-    λ i. (parts.0 i || other 32 refl i) || other 9 refl i
-
 -- the bits of the LFs among 32 bytes, and of the bytes behind these by which a header may begin
 pub record AreMasks (bytes : List ℕ) (len ends starts : ℕ) : Type 0 where
   pub room : len + 32 < length bytes
   pub of_ends : ends ≡ mask_l (map is_lf (chunk len 32 bytes))
-  pub of_starts : starts ≡ mask_l (map may_open (chunk (len + 1) 32 bytes))
+  pub of_starts : starts ≡ mask_l (map may_begin (chunk (len + 1) 32 bytes))
 
 -- where no bit is set in both, these bytes are quiet too
 pub quiet-more : (bytes : List ℕ) (len ends starts : ℕ) → AreMasks bytes len ends starts → bit_and ends starts ≡ 0 → IsQuiet bytes len → IsQuiet bytes (len + 32)
@@ -50,12 +40,11 @@ quiet-more bytes len ends starts masks none before k below lf = by (cases_lt k l
     at j short is =
         let here : bit_at ends j ≡ cond (is_lf (get_or bytes k 0)) 1 0 =
         ap (λ n. bit_at n j) masks.of_ends ∙ bit-of is_lf bytes len j (omega (arith, masks.room)) short ∙ ap (λ i. cond {A = ℕ} (is_lf (get_or bytes i 0)) 1 0) (sym is) in
-        let next : bit_at starts j ≡ cond (may_open (get_or bytes (k + 1) 0)) 1 0 =
-        ap (λ n. bit_at n j) masks.of_starts ∙ bit-of may_open bytes (len + 1) j (omega (arith, masks.room)) short
-        ∙ ap (λ i. cond {A = ℕ} (may_open (get_or bytes i 0)) 1 0) (omega arith) in
-        opens (get_or bytes (k + 1) 0)
-        (apart (is_lf (get_or bytes k 0)) (may_open (get_or bytes (k + 1) 0))
-        (sym (ap₂ min here next) ∙ sym (bit_at_and ends starts j) ∙ ap (λ n. bit_at n j) none ∙ bit_at-zero j) lf)
+        let next : bit_at starts j ≡ cond (may_begin (get_or bytes (k + 1) 0)) 1 0 =
+        ap (λ n. bit_at n j) masks.of_starts ∙ bit-of may_begin bytes (len + 1) j (omega (arith, masks.room)) short
+        ∙ ap (λ i. cond {A = ℕ} (may_begin (get_or bytes i 0)) 1 0) (omega arith) in
+        apart (is_lf (get_or bytes k 0)) (may_begin (get_or bytes (k + 1) 0))
+        (sym (ap₂ min here next) ∙ sym (bit_at_and ends starts j) ∙ ap (λ n. bit_at n j) none ∙ bit_at-zero j) lf
 
     by : (k < len) ⊎ (len ≤ k) → may_begin (get_or bytes (k + 1) 0) ≡ false
     by (inl low) = before k low lf

@@ -1,12 +1,12 @@
 //! Cuts a stream into its traces.
-ghost use Rattle.std.specs.Prelude.{◌≡◌, ◌+◌, ◌≤◌, [], All, Err, IfErr, IfOk, IfSome, MatchOption, None, OnErr, Some, drop, length, map, slice_get};
+ghost use Rattle.std.specs.Prelude.{◌≡◌, ◌+◌, ◌++◌, ◌≤◌, [], All, Err, IfErr, IfOk, IfSome, MatchOption, None, OnErr, Some, codes, drop, length, map, slice_get};
 ghost use Rattle.std.specs.List.{concat, prefix_len, take_while};
 ghost use Rattle.std.specs.Option.{option_map};
 ghost use Rattle.ld_trace.specs.Lines.{lines, says_nothing};
 ghost use Rattle.ld_trace.specs.Sources.{AreNumbered, Fits, fields_of, headers_before, is_header, is_other, label_of, line_faults, opened_at, plain, sections, sources, stream_fault};
 ghost use Rattle.ld_trace.specs.Inner.Splitting.{AreSkipped, IsCutAt, IsHead, given_from};
 
-use crate::front::{Ends, next_word};
+use crate::front::{Ends, behind_end, next_word};
 use crate::line::{begins_comment, first_field_byte, is_word, next_field, next_line, text};
 use crate::others::{Rest, skip_others};
 use crate::source::{LONGEST_STREAM, MOST_TRACES, Source, StreamFault};
@@ -69,15 +69,23 @@ fn next_head(bytes: &[u8]) -> Option<Head<'_>>
     Some(Head { label, rest })
 }
 
-/// The same, where it is `trace LABEL` with one blank between and nothing else before its LF. `None` says nothing.
+/// What follows `trace` and one blank at the front.
+#[inline(always)]
+fn behind_trace(bytes: &[u8]) -> Option<&[u8]>
+    ensures { IfSome result (λ rest. bytes.now ≡ codes "trace " ++ rest.now) }
+{
+    bytes.strip_prefix(b"trace ")
+}
+
+/// The same, where it is `trace LABEL` with one blank between and nothing else before its end. `None` says nothing.
 #[inline(always)]
 fn plain_head(bytes: &[u8]) -> Option<Head<'_>>
     ensures head { IfSome result (λ head. IsHead bytes.now (option_map (λ name. name.now) head.label) head.rest.now) }
     ensures header { IfSome result (λ _. prefix_len is_other (lines bytes.now) ≡ 0) }
 {
-    let after = bytes.strip_prefix(b"trace ")?;
+    let after = behind_trace(bytes)?;
     let (name, after) = next_word(after, Ends::of(after))?;
-    let rest = after.strip_prefix(b"\n")?;
+    let rest = behind_end(after)?;
     Some(Head {
         label: Some(name),
         rest,

@@ -1,5 +1,5 @@
 //! Events in their plainest form, read by one pass over the line: those of a lock but `nested`, and those of a state.
-ghost use Rattle.std.specs.Prelude.{◌≡◌, ◌++◌, ◌∷◌, Ok, Some, IfSome};
+ghost use Rattle.std.specs.Prelude.{◌≡◌, ◌++◌, ◌∷◌, Ok, None, Some, IfSome};
 ghost use Rattle.std.specs.Bool.{OnTrue};
 ghost use Rattle.ld_trace.specs.Events.{plain_event, plain_lock};
 ghost use Rattle.ld_trace.specs.First.{IsFirstSaid};
@@ -8,11 +8,11 @@ ghost use Rattle.ld_trace.specs.Inner.Plain.{IsLockLine, spelling_of_state};
 ghost use Rattle.ld_trace.specs.Inner.Reading.{spelling_of_lock_verb, spelling_of_state_verb};
 
 use crate::event::{Event, Lock, LockVerb, State, StateVerb};
-use crate::front::{Ends, next_name, next_word};
+use crate::front::{Ends, behind_end, next_name, next_word};
 
 /// The event of the first line, and what follows that line, where the line is `VERB TASK LOCK` with
-/// one blank between two of them and nothing else before its LF. `None` says nothing: whoever gets it
-/// reads the line by `next_line`, `text` and `read_event`.
+/// one blank between two of them and nothing else before its end, an LF or a CR and an LF. `None` says
+/// nothing: whoever gets it reads the line by `next_line`, `text` and `read_event`.
 // A program that calls it at several places would else have it as a function of its own, 8% more for each event.
 #[inline(always)]
 pub fn next_event(bytes: &[u8]) -> Option<(Event<'_>, &[u8])>
@@ -42,7 +42,8 @@ pub fn next_state_event(bytes: &[u8]) -> Option<(Event<'_>, &[u8])>
     let (verb, after) = next_state_verb(bytes)?;
     let (task, after) = next_word(after, Ends::of(after))?;
     let after = after.strip_prefix(b" ")?;
-    let (state, rest) = next_state(after)?;
+    let (state, after) = next_state(after)?;
+    let rest = behind_end(after)?;
     let event = match verb {
         StateVerb::Enter => Event::Enter { task, state },
         StateVerb::Exit => Event::Exit { task, state },
@@ -50,6 +51,14 @@ pub fn next_state_event(bytes: &[u8]) -> Option<(Event<'_>, &[u8])>
         StateVerb::Disable => Event::Disable { task, state },
     };
     Some((event, rest))
+}
+
+/// What follows the first line, where that has its end alone.
+#[inline(always)]
+pub fn behind_empty(bytes: &[u8]) -> Option<&[u8]>
+    ensures { IfSome result (λ rest. IsFirstSaid bytes.now (Ok None) rest.now) }
+{
+    behind_end(bytes)
 }
 
 /// The verb at the front, and what follows the blank after it.
@@ -106,13 +115,13 @@ fn same_four(a: &[u8; 4], b: &[u8; 4]) -> bool
     u32::from_le_bytes(*a) == u32::from_le_bytes(*b)
 }
 
-/// The lock at the front, and what follows the LF after it, by the ends of names that were seen.
+/// The lock at the front, and what follows the end of its line, by the ends of names that were seen.
 fn next_lock(bytes: &[u8], ends: Ends) -> Option<(Lock<'_>, &[u8])>
     requires { AreEnds bytes.now ends }
     ensures { IfSome result (λ cut. IsLockLine bytes.now (plain_lock cut.0) cut.1.now) }
 {
     let (class, after) = next_name(bytes, ends)?;
-    if let Some(rest) = after.strip_prefix(b"\n") {
+    if let Some(rest) = behind_end(after) {
         let lock = Lock {
             class,
             instance: None,
@@ -121,7 +130,7 @@ fn next_lock(bytes: &[u8], ends: Ends) -> Option<(Lock<'_>, &[u8])>
     }
     let after = after.strip_prefix(b"@")?;
     let (name, after) = next_name(after, ends.behind(class.len() + 1))?;
-    let rest = after.strip_prefix(b"\n")?;
+    let rest = behind_end(after)?;
     let lock = Lock {
         class,
         instance: Some(name),
@@ -148,16 +157,15 @@ fn next_state_verb(bytes: &[u8]) -> Option<(StateVerb, &[u8])>
     }
 }
 
-/// The state at the front, and what follows the LF after it.
+/// The state at the front, and what follows it.
+#[inline(always)]
 fn next_state(bytes: &[u8]) -> Option<(State, &[u8])>
-    ensures { IfSome result (λ cut. bytes.now ≡ spelling_of_state cut.0 ++ 10 ∷ cut.1.now) }
+    ensures { IfSome result (λ cut. bytes.now ≡ spelling_of_state cut.0 ++ cut.1.now) }
 {
-    if let Some(after) = behind_four(bytes, b"hard") {
-        let rest = after.strip_prefix(b"\n")?;
+    if let Some(rest) = behind_four(bytes, b"hard") {
         Some((State::Hard, rest))
     } else {
-        let after = behind_four(bytes, b"soft")?;
-        let rest = after.strip_prefix(b"\n")?;
+        let rest = behind_four(bytes, b"soft")?;
         Some((State::Soft, rest))
     }
 }

@@ -5,6 +5,7 @@ ghost use Rattle.std.specs.List.{prefix_len};
 ghost use Rattle.std.specs.Simd.Lanes.{mask_l};
 ghost use Rattle.ld_trace.specs.Lines.{is_name, is_word};
 ghost use Rattle.ld_trace.specs.Inner.Front.{AreEnds, IsFront, in_name};
+ghost use Rattle.ld_trace.specs.Inner.Plain.{IsEnded};
 
 use crate::line::{LONGEST_WORD, is_separator};
 use std::simd::prelude::*;
@@ -201,4 +202,15 @@ fn cut(bytes: &[u8], len: usize) -> Option<(&[u8], &[u8])>
         return None;
     }
     Some(bytes.split_at(len))
+}
+
+/// What follows the end of a line that stands at the front: an LF, or a CR and an LF.
+#[inline(always)]
+pub fn behind_end(bytes: &[u8]) -> Option<&[u8]>
+    ensures { IfSome result (λ rest. IsEnded bytes.now rest.now) }
+{
+    match bytes {
+        [b'\n', rest @ ..] | [b'\r', b'\n', rest @ ..] => Some(rest),
+        _ => None,
+    }
 }

@@ -11,6 +11,6 @@ mod source;
 
 pub use cut::split;
 pub use event::{Event, LineFault, Lock, State, read_event};
-pub use fast::{next_event, next_state_event};
+pub use fast::{behind_empty, next_event, next_state_event};
 pub use line::{LONGEST_WORD, next_line, text};
 pub use source::{LONGEST_STREAM, MOST_TRACES, Source, StreamFault};

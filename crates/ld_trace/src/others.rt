@@ -1,5 +1,5 @@
 //! The lines at the front of some bytes that are no headers, told from headers 32 bytes at a time.
-ghost use Rattle.std.specs.Prelude.{◌≡◌, ◌≤◌, ◌==◌, ◌||◌, count_by, length, map, nat_lt, not, take};
+ghost use Rattle.std.specs.Prelude.{◌≡◌, ◌≤◌, count_by, length, map, take};
 ghost use Rattle.std.specs.Simd.Lanes.{mask_l};
 ghost use Rattle.ld_trace.specs.Inner.Splitting.{AreSkipped, IsQuiet, is_lf, may_begin};
 
@@ -23,12 +23,13 @@ fn line_ends(bytes: u8x32) -> u64
     bytes.simd_eq(u8x32::splat(b'\n')).to_bitmask()
 }
 
-/// Which of these bytes a header may begin with, as bits, and with them whatever isn't above a blank, which one
-/// comparison tells.
+/// Which of these bytes a header may begin with, as bits.
 fn header_starts(bytes: u8x32) -> u64
-    ensures { result ≡ mask_l (map (λ b. b == 116 || not (nat_lt 32 b)) bytes) }
+    ensures { result ≡ mask_l (map may_begin bytes) }
 {
-    (bytes.simd_eq(u8x32::splat(b't')) | bytes.simd_le(u8x32::splat(b' '))).to_bitmask()
+    (bytes.simd_eq(u8x32::splat(b't'))
+        | bytes.simd_eq(u8x32::splat(b' '))
+        | bytes.simd_eq(u8x32::splat(b'\t'))).to_bitmask()
 }
 
 /// Whether a header may begin with this byte.

@@ -1,13 +1,12 @@
--- `trace`, a label and an LF are a header.
-use Rattle.std.proofs.Common.{rules}
+-- `trace`, a label and the end of a line are a header.
 use Rattle.ld_trace.proofs.HeadLemmas.{BeginsPlain, head-opens, head-plain}
 use Rattle.ld_trace.proofs.cut.plain_head.Goals as goal
 
 begins : (c : goal.In_ok-rest) → BeginsPlain c.args.bytes.now c.in_ok-after.after.now c.in_ok-name.name.now c.in_ok-name.after.now c.in_ok-rest.rest.now
 begins c = record {
-  front = search rules;
+  front = c.in_ok-after.ensures;
   goes = c.in_ok-name.ensures.whole;
-  ends = search rules;
+  ends = c.in_ok-rest.ensures;
   word = c.in_ok-name.ensures.spelled;
 }
 

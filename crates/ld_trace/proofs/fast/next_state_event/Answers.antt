@@ -10,10 +10,10 @@ pub returns : goal.returns
 returns c =
     let task = c.in_ok-task.task.now in
     let state = c.in_ok-state.state in
-    let rest = c.in_ok-state.rest.now in
+    let rest = c.in_ok-rest.rest.now in
     let blank : c.in_ok-task.after.now ≡ 32 ∷ c.in_ok-after.after.now = search rules in
-    let told = said-state c.in_ok-verb.verb task state c.args.bytes.now c.in_ok-verb.after.now c.in_ok-after.after.now rest
-    c.in_ok-verb.ensures (c.in_ok-task.ensures.whole ∙ ap (λ o. task ++ o) blank) c.in_ok-task.ensures.spelled c.in_ok-state.ensures in
+    let told = said-state c.in_ok-verb.verb task state c.args.bytes.now c.in_ok-verb.after.now c.in_ok-after.after.now c.in_ok-state.after.now rest
+    c.in_ok-verb.ensures (c.in_ok-task.ensures.whole ∙ ap (λ o. task ++ o) blank) c.in_ok-task.ensures.spelled c.in_ok-state.ensures c.in_ok-rest.ensures in
     let P : PlainEvent → Type 0 = λ event. IsFirstSaid c.args.bytes.now (Ok (Some event)) rest in
     elim c.match-verb.branch [
       | in-Enter w ↦ subst P (ap (λ verb. event_of_state verb task state) w.in-Enter.is ∙ ap plain_event (sym w.event-is)) told
