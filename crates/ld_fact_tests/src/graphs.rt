@@ -5,7 +5,7 @@ ghost use Rattle.std.specs.Prelude.{◌≡◌, ℕ, length, slice_index_or, None
 ghost use Rattle.ld_graph.specs.Edges.{IsEdge};
 ghost use Rattle.ld_graph.specs.Walks.{DistanceIs};
 
-use ld_graph::{Distance, Graph, Insert, MOST_GRAPH_CLASSES, Nexts, Steps};
+use ld_graph::{Distance, Graph, Insert, MOST_GRAPH_CLASSES, Steps};
 use std::alloc::Global;
 use std::process::Abort;
 
@@ -171,18 +171,7 @@ fn expect_walk<R: Abort>(
     assert_eq!(rt; walk.as_slice(), wanted);
 }
 
-/// No next class of so many classes.
-fn no_nexts<R: Abort>(rt: &R, alloc: Global, classes: usize) -> Nexts
-    ensures { (c : ℕ) → slice_index_or result c None ≡ None }
-{
-    match Nexts::new(alloc, classes) {
-        Ok(nexts) => nexts,
-        Err(_) => Nexts::new(alloc, classes).expect(rt, "next classes made again"),
-    }
-}
-
-/// Asserts the walk to `to` from each class in turn, or that there is none, all by one search, and by the next
-/// classes that the walks before it have found.
+/// Asserts the walk to `to` from each class in turn, or that there is none, all by one search.
 fn expect_walks_along<R: Abort>(
     rt: &R,
     alloc: Global,
@@ -192,15 +181,14 @@ fn expect_walks_along<R: Abort>(
     wanted: &[Option<&[u32]>],
 ) {
     let distances = distances(rt, alloc, graph, to);
-    let mut nexts = no_nexts(rt, alloc, graph.len());
     assert!(rt; places.len() == graph.len());
     assert_eq!(rt; wanted.len(), graph.len());
     for a in 0..graph.len() as u32 {
         assert!(rt; (a as usize) < graph.len() && (a as usize) < wanted.len());
-        let walk = match graph.walk_along(alloc, a, to, &distances, places, &mut nexts) {
+        let walk = match graph.walk_along(alloc, a, to, &distances, places) {
             Ok(walk) => walk,
             Err(_) => graph
-                .walk_along(alloc, a, to, &distances, places, &mut nexts)
+                .walk_along(alloc, a, to, &distances, places)
                 .expect(rt, "walk made again"),
         };
         assert_eq!(rt; walk.as_deref(), wanted[a as usize], "{a} to {to}");
@@ -235,7 +223,7 @@ fn expect_circle<R: Abort>(rt: &R, alloc: Global, graph: &mut Graph) {
 fn circle(rt: HostRuntime) {
     let alloc = rt.alloc();
     let mut graph = Graph::new(alloc);
-    make_room(&rt, &mut graph, 4, 6);
+    make_room(&rt, &mut graph, 4, 5);
     add_classes(&rt, &mut graph, 4);
     expect_order(&rt, &mut graph, &[0, 1, 2, 3]);
     expect_insert(&rt, &mut graph, 0, 1, Insert::Kept);
@@ -281,6 +269,22 @@ fn repaired(rt: HostRuntime) {
     expect_no_order(&rt, &mut graph);
     expect_insert(&rt, &mut graph, 5, 0, Insert::AfterCycle);
     expect_insert(&rt, &mut graph, 0, 5, Insert::Known);
+    drop(graph);
+}
+
+// Of two shortest walks the places of the classes tell which one is shown.
+#[test]
+fn two_shortest_walks(rt: HostRuntime) {
+    let alloc = rt.alloc();
+    let mut graph = Graph::new(alloc);
+    make_room(&rt, &mut graph, 4, 4);
+    add_classes(&rt, &mut graph, 4);
+    insert_new(&rt, &mut graph, 0, 1);
+    insert_new(&rt, &mut graph, 0, 2);
+    insert_new(&rt, &mut graph, 1, 3);
+    insert_new(&rt, &mut graph, 2, 3);
+    expect_walk(&rt, alloc, &graph, (0, 3), &[0, 1, 2, 3], &[0, 1, 3]);
+    expect_walk(&rt, alloc, &graph, (0, 3), &[0, 2, 1, 3], &[0, 2, 3]);
     drop(graph);
 }
 

@@ -1,5 +1,5 @@
 -- One turn of a search through a range of labels.
-use Rattle.std.proofs.Common.{◌≡◌, ◌≢◌, ◌⊎◌, inl, inr, ℕ, ◌+◌, ◌<◌, ◌≤◌, List, [], ◌∷◌, ◌++◌, nat_eq, length, get_or, Contains, arith, refl, sym, ap, subst, ◌∙◌}
+use Rattle.std.proofs.Common.{◌≡◌, ◌≢◌, ◌⊎◌, inl, inr, ℕ, ◌+◌, ◌<◌, ◌≤◌, List, [], ◌∷◌, nat_eq, length, get_or, Contains, arith, sym, ap, subst, ◌∙◌}
 use Rattle.std.specs.List.{IsDistinct}
 use Rattle.std.proofs.lemmas.Bool.{cases_eq, eqb-true}
 use Rattle.std.proofs.lemmas.Map.Views.{Contains-from_any}
@@ -11,9 +11,6 @@ use Rattle.ld_graph.specs.Inner.Repairs.{IsAdded, IsOrReaches}
 use Rattle.ld_graph.proofs.SoughtLemmas.{IsOrReaches-next}
 
 module _ (near : ℕ → Type 0) (label : ℕ → ℕ) (low high : ℕ) where
-  pub IsReached-none : (old : List ℕ) → IsReached near label low high old old
-  IsReached-none old = record { longer = omega arith; front = λ i l. refl; fresh = λ k c. inl c }
-
   pub IsReached-added : (old mid new : List ℕ) (x : ℕ) → IsReached near label low high old mid → near x
       → IsIn low high (label x) → IsAdded mid x new → IsReached near label low high old new
   IsReached-added old mid new x h n e (inl a) = subst (IsReached near label low high old) (sym a.1) h
@@ -86,27 +83,3 @@ found-less near label n low high found done less l h = record {
   reached = h.reached;
   closed = λ i y b. h.closed i y (omega (arith, b, l));
 }
-
--- the first node
-pub found-one : (near : ℕ → ℕ → Type 0) (label : ℕ → ℕ) (n low high x : ℕ) (old new : List ℕ) → old ≡ [] → IsAdded old x new
-    → x < n → IsIn low high (label x) → IsFound near label n low high new 0
-found-one near label n low high x old new e (inl a) l i = absurd (none x old e a.0)
-  where
-    none : (x : ℕ) (old : List ℕ) → old ≡ [] → ¬ Contains old x
-    none x old e h = let b = ap length e in let c = h.1 in omega (arith, b, c)
-found-one near label n low high x old new e (inr a) l i =
-    let is : new ≡ x ∷ [] = a.1 ∙ ap (λ o. o ++ x ∷ []) e in
-    subst (λ f. IsFound near label n low high f 0) (sym is) (record {
-      some = omega arith;
-      upto = omega arith;
-      within = λ k c. let q = only k c in (subst (λ z. z < n) q l, subst (λ z. IsIn low high (label z)) q i);
-      reached = λ k c. inl (only k c);
-      closed = λ j y b. absurd (omega (arith, b));
-    })
-  where
-    only : (k : ℕ) → Contains (x ∷ []) k → x ≡ k
-    only k c = by (Contains-push_cases [] x k c)
-      where
-        by : Contains [] k ⊎ (x ≡ k) → x ≡ k
-        by (inl h) = let b = h.1 in absurd (omega (arith, b))
-        by (inr h) = h

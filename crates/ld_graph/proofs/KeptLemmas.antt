@@ -9,20 +9,21 @@ use Rattle.ld_graph.specs.Edges.{IsEdge}
 use Rattle.ld_graph.specs.Order.{HasCycle}
 use Rattle.ld_graph.specs.Inner.Kept.{IsKept}
 
--- the graph is as before, with at least the memory that it had
-pub record HasGrown (old new : Inside) : Type 0 where
-  pub keys : new.edges.keys ≡ old.edges.keys
-  pub edges : spare old.edges ≤ spare new.edges
-  pub after : ListsGrown old.lists.after new.lists.after
-  pub before : ListsGrown old.lists.before new.lists.before
-  pub classes : new.classes ≡ old.classes
-  pub ranks : new.ranks.ranks ≡ old.ranks.ranks
-  pub ranks_room : old.ranks.room ≤ new.ranks.room
-  pub has_cycle : new.has_cycle ≡ old.has_cycle
-  pub spare_classes : new.spare_classes ≡ old.spare_classes
-  pub spare_edges : new.spare_edges ≡ old.spare_edges
+module _ {C : Type 0} where
+  -- the graph is as before, with at least the memory that it had
+  pub record HasGrown (old new : Inside C) : Type 0 where
+    pub keys : new.edges.keys ≡ old.edges.keys
+    pub edges : spare old.edges ≤ spare new.edges
+    pub after : ListsGrown old.lists.after new.lists.after
+    pub before : ListsGrown old.lists.before new.lists.before
+    pub classes : new.classes ≡ old.classes
+    pub ranks : new.ranks.ranks ≡ old.ranks.ranks
+    pub ranks_room : old.ranks.room ≤ new.ranks.room
+    pub has_cycle : new.has_cycle ≡ old.has_cycle
+    pub spare_classes : new.spare_classes ≡ old.spare_classes
+    pub spare_edges : new.spare_edges ≡ old.spare_edges
 
-pub IsKept-grown : (old new : Inside) → HasGrown old new → IsKept old → IsKept new
+pub IsKept-grown : {C : Type 0} (old new : Inside C) → HasGrown old new → IsKept old → IsKept new
 IsKept-grown old new g h =
     let classes = g.classes in
     let count = ap length g.keys in
@@ -57,7 +58,7 @@ IsKept-grown old new g h =
     }
 
 -- where there is memory for more, the spares may be more
-pub IsKept-spare : (g : Inside) (classes edges more_classes more_edges : ℕ) → IsKept g
+pub IsKept-spare : {C : Type 0} (g : Inside C) (classes edges more_classes more_edges : ℕ) → IsKept g
     → more_classes ≡ max g.spare_classes classes → more_edges ≡ max g.spare_edges edges
     → edges ≤ spare g.edges
     → g.classes + classes ≤ g.lists.after.class_room → g.lists.after.items + edges ≤ g.lists.after.item_room
@@ -105,12 +106,12 @@ IsKept-spare g classes edges more_classes more_edges h m n e a b c d r f =
     }
 
 -- the neighbours in a graph's lists are classes
-pub after_ends : (g : Inside) → IsKept g → (a b : ℕ) → IsNear g.lists.after.lists a b
+pub after_ends : {C : Type 0} (g : Inside C) → IsKept g → (a b : ℕ) → IsNear g.lists.after.lists a b
     → b < length g.lists.after.lists
 after_ends g h a b n = let e = (h.ends a b ((h.after_edges a b).0 n)).1
     in omega (arith, e, h.after_classes)
 
-pub before_ends : (g : Inside) → IsKept g → (a b : ℕ) → IsNear g.lists.before.lists a b
+pub before_ends : {C : Type 0} (g : Inside C) → IsKept g → (a b : ℕ) → IsNear g.lists.before.lists a b
     → b < length g.lists.before.lists
 before_ends g h a b n = let e = (h.ends b a ((h.before_edges a b).0 n)).0
     in omega (arith, e, h.before_classes)

@@ -68,7 +68,7 @@ IsOrReaches-same s t to a b (inr w) =
     let f = IsWalk-Far s a b w.0 w.1 in
     inr (HasWalk-Far t f.0 a b (Far-same s t to f.0 a b f.1.1))
 
-module _ (g : Inside) (h : IsKept g) (a b : ℕ) (now : Bool) (ranks : List ℕ) where
+module _ {C : Type 0} (g : Inside C) (h : IsKept g) (a b : ℕ) (now : Bool) (ranks : List ℕ) where
   abbrev Placed : Insert → Type 0
   Placed answer = IsPlaced (IsNear g.lists.after.lists) a b answer g.has_cycle now g.ranks.ranks ranks
 
@@ -155,7 +155,7 @@ module _ (g : Inside) (h : IsKept g) (a b : ℕ) (now : Bool) (ranks : List ℕ)
   }
 
 -- whether there is a cycle is known
-pub cycle_kept : (g : Inside) → IsKept g → IsTrue g.has_cycle ↔ HasCycle (IsEdge g.edges.keys)
+pub cycle_kept : {C : Type 0} (g : Inside C) → IsKept g → IsTrue g.has_cycle ↔ HasCycle (IsEdge g.edges.keys)
 cycle_kept g h = (h.cycle, λ w. by (bool_cases g.has_cycle) w)
   where
     by : (g.has_cycle ≡ true) ⊎ (g.has_cycle ≡ false) → HasCycle (IsEdge g.edges.keys)
@@ -164,7 +164,7 @@ cycle_kept g h = (h.cycle, λ w. by (bool_cases g.has_cycle) w)
     by (inr f) w = absurd (acyclic (IsEdge g.edges.keys) g.ranks.ranks (h.rises f) w)
 
 -- where there is none, the ranks are an order
-pub order_some : (g : Inside) → IsKept g → g.has_cycle ≡ false → AreRanks g.ranks.ranks
+pub order_some : {C : Type 0} (g : Inside C) → IsKept g → g.has_cycle ≡ false → AreRanks g.ranks.ranks
     → IsOrder (IsEdge g.edges.keys) g.classes g.ranks.ranks
 order_some g h f r = subst (λ n. IsOrder (IsEdge g.edges.keys) n g.ranks.ranks) h.ranked (record {
   len = refl;

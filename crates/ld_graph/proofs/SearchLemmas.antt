@@ -7,7 +7,8 @@ use Rattle.ld_graph.specs.Inner.Levels.{level_at, HasLevel, Spreads}
 use Rattle.ld_graph.proofs.WalkLemmas.{Far, IsWalk-Far, IsDistance-Far}
 use Rattle.std.proofs.lemmas.List.{get_or_default, get_or_read}
 use Rattle.std.proofs.lemmas.List.Elements.{Contains-get_or}
-use Rattle.ld_graph.specs.Inner.Insides.{AreLevelsFor, AreTouched}
+use Rattle.ld_graph.specs.Inner.Insides.{AreLevelsFor}
+use Rattle.ld_graph.specs.Touched.{AreTouched}
 use Rattle.ld_graph.proofs.ShownLemmas.{distance_one}
 use Rattle.ld_graph.proofs.SpreadLemmas.{some_same, level_within}
 

@@ -1,11 +1,10 @@
 -- The least of the near classes, and the shown walk.
-use Rattle.std.proofs.Common.{inl, inr, ◌⊎◌, ◌≡◌, ◌≢◌, ℕ, suc, ◌+◌, ◌-◌, ◌<◌, ◌≤◌, List, [], ◌∷◌, ◌++◌, length}
+use Rattle.std.proofs.Common.{inl, inr, ◌≡◌, ◌≢◌, ℕ, suc, ◌+◌, ◌-◌, ◌<◌, ◌≤◌, List, [], ◌∷◌, ◌++◌, length}
 use Rattle.std.proofs.Common.{get_or, Option, Some, None, Contains, ◌↔◌, MatchOption, arith, sym}
 use Rattle.std.proofs.Common.{ap, subst, ◌∙◌}
 use Rattle.std.proofs.lemmas.List.{append_assoc, get_or_default}
 use Rattle.ld_graph.specs.Edges.{ComesBefore}
 use Rattle.ld_graph.specs.Lists.{IsNear}
-use Rattle.ld_graph.specs.Nexts.{AreNexts}
 use Rattle.ld_graph.specs.Inner.Levels.{level_at, IsLeastAtLevel}
 use Rattle.ld_graph.specs.Walks.{AreEnough, IsDistance, DistanceIs, IsNext, Reaches, ShownFrom, IsShownWalk}
 use Rattle.ld_graph.proofs.WalkLemmas.{Far, IsWalk-Far, Far-IsWalk, IsDistance-Far, DistanceIs-same, IsWalk-same}
@@ -172,40 +171,3 @@ AreEnough-all step a b distance each = record {
   right = λ c n reached e. distance_at step c b (distance c) n (each c) e;
   nearer = λ c m n reached d e l. distance_is step c b (distance c) m (each c) d;
 }
-
--- what is noted beside the next classes that were noted
-pub nexts_more : (step : ℕ → ℕ → Type 0) (levels : List (Option ℕ)) (places : List ℕ) (old new : List (Option ℕ)) (class next level : ℕ)
-    → ((c x : ℕ) → get_or new c None ≡ Some x → (get_or old c None ≡ Some x) ⊎ ((c ≡ class) × (x ≡ next)))
-    → level_at levels class ≡ Some (level + 1)
-    → IsLeastAtLevel (step class) level levels places next
-    → AreNexts step levels places old → AreNexts step levels places new
-nexts_more step levels places old new class next level noted own least h c x e = by (noted c x e)
-  where
-    by : (get_or old c None ≡ Some x) ⊎ ((c ≡ class) × (x ≡ next))
-        → (n : ℕ) × ((level_at levels c ≡ Some (n + 1)) × IsLeastAtLevel (step c) n levels places x)
-    by (inl o) = h c x o
-    by (inr s) = (
-      level,
-      (
-        ap (level_at levels) s.0 ∙ own,
-        subst (λ y. IsLeastAtLevel (step c) level levels places y) (sym s.1)
-            (subst (λ d. IsLeastAtLevel (step d) level levels places next) (sym s.0) least),
-      ),
-    )
-
--- the next classes of the same steps
-pub AreNexts-same : (s t : ℕ → ℕ → Type 0) → ((a b : ℕ) → s a b ↔ t a b) → (levels : List (Option ℕ)) (places : List ℕ) (nexts : List (Option ℕ))
-    → AreNexts s levels places nexts → AreNexts t levels places nexts
-AreNexts-same s t same levels places nexts h c x e =
-    let n = h c x e in
-    let l = n.1.1 in (
-      n.0,
-      (
-        n.1.0,
-        record {
-          is_near = (same c x).0 l.is_near;
-          has_level = l.has_level;
-          least = λ z m e. l.least z ((same c z).1 m) e;
-        },
-      ),
-    )

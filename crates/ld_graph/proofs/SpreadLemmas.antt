@@ -4,11 +4,11 @@ use Rattle.std.proofs.Common.{cond, count_by, ◌+◌, ◌<◌, ◌≤◌, ◌�
 use Rattle.std.proofs.Common.{length, get_or, set, Option, Some, None, arith, refl, sym, ap, subst}
 use Rattle.std.proofs.Common.{◌∙◌}
 use Rattle.std.proofs.lemmas.List.{get_or_append_left, get_or_push, length_push, get_or-set_same}
-use Rattle.std.proofs.lemmas.List.{get_or-set_other, get_or_past, get_or_default}
+use Rattle.std.proofs.lemmas.List.{get_or-set_other, get_or_past}
 use Rattle.std.proofs.lemmas.List.Sums.{sum_by-set, count_by-le-length}
 use Rattle.std.proofs.lemmas.Bool.{cases_lt, cases_eq}
 use Rattle.std.proofs.lemmas.List.Elements.{Contains-get_or}
-use Rattle.ld_graph.specs.Inner.Levels.{level_at, HasLevel, Spreads}
+use Rattle.ld_graph.specs.Inner.Levels.{level_at, Spreads}
 
 pub some_same : (k l : ℕ) → Some k ≡ Some l → k ≡ l
 some_same k l e = cc
@@ -121,15 +121,6 @@ module _ (near : ℕ → Type 0) (level : ℕ) where
       longer = let g = h.longer in let p = length_push queue y in omega arith;
       added = added;
     }
-
--- each element of a list is contained, and each that is contained has a level where each element
--- has one
-pub near_all : (near : List ℕ) (levels : List (Option ℕ)) (n : ℕ) → length near ≤ n → ((k : ℕ)
-    → k < n → HasLevel levels (get_or near k 0))
-    → (x : ℕ) → Contains near x → HasLevel levels x
-near_all near levels n l h x e =
-    let m = e.1 in
-    subst (λ y. HasLevel levels y) (get_or_default near e.0 0 x m ∙ e.2) (h e.0 (omega arith))
 
 pub some_is : (o : Option ℕ) → is_some o ≡ true → (k : ℕ) × (o ≡ Some k)
 some_is None e = absurd (true≢false (sym e))

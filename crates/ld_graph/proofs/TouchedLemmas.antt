@@ -5,7 +5,7 @@ use Rattle.std.specs.Borrow.{Bor}
 use Rattle.std.proofs.lemmas.Bool.{cases_eq, cases_lt}
 use Rattle.std.proofs.lemmas.List.{get_or-set_same, get_or-set_other, length-set}
 use Rattle.std.proofs.lemmas.List.Elements.{Contains-append_left, Contains-push, Contains-push_cases}
-use Rattle.ld_graph.specs.Inner.Insides.{AreTouched}
+use Rattle.ld_graph.specs.Touched.{AreTouched}
 use Rattle.ld_graph.specs.Inner.Levels.{level_at}
 
 pub taken : (levels : List (Option ℕ)) (touched : List ℕ) (i : ℕ) → get_or touched i 0 < length levels

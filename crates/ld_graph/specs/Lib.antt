@@ -1,7 +1,7 @@
 pub mod Lists
 pub mod Inner
 pub mod Walks
-pub mod Nexts
+pub mod Touched
 pub mod Edges
 pub mod Order
 pub mod Reach

@@ -80,10 +80,10 @@ IsInserted old a b Closed new = IsClosing old a b new
 IsInserted old a b AfterCycle new = IsAfterCycle old a b new
 
 -- what the answer of an insert says of how many lists were read, before and after it: none if the ranks stand without
--- a search, and as many as it tells if they were repaired
-abbrev pub TellsSteps : Insert → (old new : ℕ) → Type 0
-TellsSteps Known old new = new ≡ old
-TellsSteps Kept old new = new ≡ old
-TellsSteps (Moved expanded) old new = new ≡ old + expanded
-TellsSteps Closed old new = old ≤ new
-TellsSteps AfterCycle old new = new ≡ old
+-- a search, as many as it tells if they were repaired, and at most both lists of each class if the first cycle came
+abbrev pub TellsSteps : (classes : ℕ) → Insert → (old new : ℕ) → Type 0
+TellsSteps classes Known old new = new ≡ old
+TellsSteps classes Kept old new = new ≡ old
+TellsSteps classes (Moved expanded) old new = new ≡ old + expanded
+TellsSteps classes Closed old new = (old ≤ new) × (new ≤ old + classes + classes)
+TellsSteps classes AfterCycle old new = new ≡ old

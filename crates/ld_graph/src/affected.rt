@@ -6,7 +6,7 @@ ghost use Rattle.std.specs.Bool.{Decides};
 ghost use Rattle.ld_graph.specs.Inner.Affected.{HasEnded, IsFound, IsIn, IsReached, of_direction};
 ghost use Rattle.ld_graph.specs.Lists.{IsNear, list_at};
 
-use crate::lists::Reader;
+use crate::lists::{Counting, Lists, Steps};
 use crate::search::Search;
 
 /// Which way a search follows the edges.
@@ -43,24 +43,29 @@ fn is_in(label: u64, low: u64, high: u64) -> bool
 }
 
 /// The neighbours of a class in this direction. Adds one to the count.
-fn neighbours_of<'l>(reader: &mut Reader<'l>, direction: Direction, class: u32) -> &'l [u32]
-    requires class { class < length (of_direction direction reader.old.lists) }
-    requires few { reader.old.count + 1 < 2 ^ 64 }
-    ensures near { result.now ≡ list_at (of_direction direction reader.old.lists) class }
-    ensures lists { reader.new.lists ≡ reader.old.lists }
-    ensures step { reader.new.count ≡ reader.old.count + 1 }
+fn neighbours_of<'l, C: Counting>(
+    lists: &'l Lists<C>,
+    steps: &mut Steps<C>,
+    direction: Direction,
+    class: u32,
+) -> &'l [u32]
+    requires class { class < length (of_direction direction lists.now) }
+    requires few { steps.old + 1 < 2 ^ 64 }
+    ensures near { result.now ≡ list_at (of_direction direction lists.entry.now) class }
+    ensures step { steps.new ≡ steps.old + 1 }
 {
     match direction {
-        Direction::Forward => reader.after(class),
-        Direction::Backward => reader.before(class),
+        Direction::Forward => lists.after(class, steps),
+        Direction::Backward => lists.before(class, steps),
     }
 }
 
 /// Goes on from the class that was found as number `done`, whose neighbours these are, and answers those of the next
 /// class that was found. Answers `None` where there is no next one.
-fn expand<'l>(
+fn expand<'l, C: Counting>(
     direction: Direction,
-    reader: &mut Reader<'l>,
+    lists: &'l Lists<C>,
+    steps: &mut Steps<C>,
     labels: &[u64],
     low: u64,
     high: u64,
@@ -68,26 +73,24 @@ fn expand<'l>(
     search: &mut Search,
     done: usize,
 ) -> Option<&'l [u32]>
-    requires lists { length (of_direction direction reader.old.lists) ≡ length labels.now }
-    requires ends { (x y : ℕ) → IsNear (of_direction direction reader.old.lists) x y → y < length labels.now }
+    requires lists { length (of_direction direction lists.now) ≡ length labels.now }
+    requires ends { (x y : ℕ) → IsNear (of_direction direction lists.now) x y → y < length labels.now }
     requires size { length labels.now ≤ search.old.size }
-    requires few { reader.old.count + 1 < 2 ^ 64 }
+    requires few { steps.old + 1 < 2 ^ 64 }
     requires waits { done < length search.old.found }
     requires small { done + 1 < 2 ^ 64 }
-    requires near { near.now ≡ list_at (of_direction direction reader.old.lists) (slice_index search.old.found done) }
-    requires found { IsFound (IsNear (of_direction direction reader.old.lists)) (slice_index labels.now)
+    requires near { near.now ≡ list_at (of_direction direction lists.now) (slice_index search.old.found done) }
+    requires found { IsFound (IsNear (of_direction direction lists.now)) (slice_index labels.now)
         (length labels.now) low high search.old.found done }
     ensures size { search.new.size ≡ search.old.size }
-    ensures lists { reader.new.lists ≡ reader.old.lists }
-    ensures found { IsFound (IsNear (of_direction direction reader.old.lists)) (slice_index labels.now)
+    ensures found { IsFound (IsNear (of_direction direction lists.now)) (slice_index labels.now)
         (length labels.now) low high search.new.found (done + 1) }
     ensures most { length search.new.found ≤ length labels.now }
     ensures first { slice_index search.new.found 0 ≡ slice_index search.old.found 0 }
     ensures next { MatchOption result (length search.new.found ≤ done + 1)
         (λ near. (done + 1 < length search.new.found)
-        × (near.now ≡ list_at (of_direction direction reader.old.lists) (slice_index search.new.found (done + 1)))) }
-    ensures count { MatchOption result (reader.new.count ≡ reader.old.count)
-        (λ _. reader.new.count ≡ reader.old.count + 1) }
+        × (near.now ≡ list_at (of_direction direction lists.now) (slice_index search.new.found (done + 1)))) }
+    ensures count { MatchOption result (steps.new ≡ steps.old) (λ _. steps.new ≡ steps.old + 1) }
 {
     find_near(near, labels, low, high, search);
     // Read so that it is known that each was found once.
@@ -96,14 +99,15 @@ fn expand<'l>(
         return None;
     }
     let class = search.class(done + 1);
-    Some(neighbours_of(reader, direction, class))
+    Some(neighbours_of(lists, steps, direction, class))
 }
 
 /// Searches backward from `a` and forward from `b`, within the labels from that of `b` to that of `a`, until one of
 /// the two has ended, and answers which one. The one whose lists have fewer neighbours, with the list that waits, goes
 /// on.
-pub fn find_affected(
-    reader: &mut Reader<'_>,
+pub fn find_affected<C: Counting>(
+    lists: &Lists<C>,
+    steps: &mut Steps<C>,
     labels: &[u64],
     a: u32,
     b: u32,
@@ -114,34 +118,34 @@ pub fn find_affected(
     requires b { b < length labels.now }
     requires against { slice_index labels.now b < slice_index labels.now a }
     requires few { length labels.now ≤ 2 ^ 31 }
-    requires lists { (length reader.old.lists.after.lists ≡ length labels.now)
-        × (length reader.old.lists.before.lists ≡ length labels.now) }
-    requires after { (x y : ℕ) → IsNear reader.old.lists.after.lists x y → y < length labels.now }
-    requires before { (x y : ℕ) → IsNear reader.old.lists.before.lists x y → y < length labels.now }
+    requires lists { (length lists.now.after.lists ≡ length labels.now)
+        × (length lists.now.before.lists ≡ length labels.now) }
+    requires after { (x y : ℕ) → IsNear lists.now.after.lists x y → y < length labels.now }
+    requires before { (x y : ℕ) → IsNear lists.now.before.lists x y → y < length labels.now }
     requires backward { (backward.old.found ≡ []) × (length labels.now ≤ backward.old.size) }
     requires forward { (forward.old.found ≡ []) × (length labels.now ≤ forward.old.size) }
-    requires steps { reader.old.count ≡ 0 }
+    requires steps { steps.old < 2 ^ 63 }
     ensures size { (backward.new.size ≡ backward.old.size) × (forward.new.size ≡ forward.old.size) }
-    ensures lists { reader.new.lists ≡ reader.old.lists }
     ensures first { (slice_index backward.new.found 0 ≡ a) × (slice_index forward.new.found 0 ≡ b) }
-    ensures ended { HasEnded result reader.old.lists (slice_index labels.now) (length labels.now)
+    ensures ended { HasEnded result lists.now (slice_index labels.now) (length labels.now)
         (slice_index labels.now b) (slice_index labels.now a) backward.new.found forward.new.found }
-    ensures read { reader.new.count ≤ length backward.new.found + length forward.new.found }
-    ensures most { reader.new.count ≤ length labels.now + length labels.now }
-    ensures some { 0 < reader.new.count }
+    ensures read { steps.new ≤ steps.old + length backward.new.found + length forward.new.found }
+    ensures most { steps.new ≤ steps.old + length labels.now + length labels.now }
+    ensures some { steps.old < steps.new }
 {
     let (low, high) = (labels[b as usize], labels[a as usize]);
     backward.add(a);
     forward.add(b);
-    let mut near_backward = reader.before(a);
-    let mut near_forward = reader.after(b);
+    let mut near_backward = lists.before(a, steps);
+    let mut near_forward = lists.after(b, steps);
     let (mut read_backward, mut read_forward) = (near_backward.len(), near_forward.len());
     let (mut done_backward, mut done_forward) = (0, 0);
     loop {
         if read_backward <= read_forward {
             let Some(near) = expand(
                 Direction::Backward,
-                reader,
+                lists,
+                steps,
                 labels,
                 low,
                 high,
@@ -157,7 +161,8 @@ pub fn find_affected(
         } else {
             let Some(near) = expand(
                 Direction::Forward,
-                reader,
+                lists,
+                steps,
                 labels,
                 low,
                 high,

@@ -7,7 +7,6 @@ ghost use Rattle.ld_graph.specs.Components.{AreComponents};
 ghost use Rattle.ld_graph.specs.Edges.{ComesBefore, IsEdge, IsEdgeNumber};
 ghost use Rattle.ld_graph.specs.Edges.{empty_graph, with_class, with_edge, with_spares};
 ghost use Rattle.ld_graph.specs.Lists.{IsNear};
-ghost use Rattle.ld_graph.specs.Nexts.{AreNexts};
 ghost use Rattle.ld_graph.specs.Order.{HasCycle, IsInserted, IsOrder, TellsSteps};
 ghost use Rattle.ld_graph.specs.Walks.{AreEnough, DistanceIs, HasWalk, IsShownWalk, Reaches};
 
@@ -15,14 +14,13 @@ use crate::Edge;
 use crate::components::components_of;
 use crate::distance::Distance;
 use crate::inside::Distances;
-use crate::lists::{Lists, Reader, Steps};
-use crate::nexts::Nexts;
+use crate::lists::{Counting, Lists, Steps};
 use crate::placed::{Insert, place};
 use crate::ranks::Ranks;
 use crate::shown::show;
 use indexmap::IndexSet;
 use std::alloc::{AllocError, Global};
-use std::marker::Model;
+use std::marker::{Brand, Model};
 
 /// How many classes a graph may have, with its spare ones.
 pub const MOST_GRAPH_CLASSES: usize = 1 << 30;
@@ -32,9 +30,9 @@ const _: () = prove!(MOST_GRAPH_CLASSES == 1_073_741_824);
 
 /// A directed graph whose classes are the numbers from 0 on.
 #[derive(Drop)]
-pub struct Graph {
+pub struct Graph<C: Counting = Brand> {
     edges: IndexSet<Edge>,
-    lists: Lists,
+    lists: Lists<C>,
     /// The ranks, which are repaired so long as there is no cycle.
     ranks: Ranks,
     has_cycle: bool,
@@ -43,7 +41,7 @@ pub struct Graph {
     spare_edges: usize,
 }
 
-impl Model for Graph {
+impl<C: Counting> Model for Graph<C> {
     ghost use Rattle.ld_graph.specs.Edges.{PlainGraph};
 
     ghost Value = { PlainGraph };
@@ -56,9 +54,6 @@ impl Model for Graph {
 }
 
 impl Graph {
-    ghost use Rattle.std.specs.Borrow.{sem};
-    ghost use Rattle.ld_graph.specs.Lending.{StaysAs};
-
     /// A graph with no class and no edge. Takes no memory.
     pub fn new(alloc: Global) -> Graph
         ensures { result ≡ empty_graph }
@@ -166,75 +161,11 @@ impl Graph {
         Some(number as u64)
     }
 
-    /// Inserts the edge from `a` to `b`, which takes a spare one. So long as there is no cycle, all ranks stand
-    /// where `a` is ranked below `b`. Else those from the rank of `b` to that of `a` are repaired, or the edge
-    /// closes a cycle, and from then on there is no order. An edge that is there already changes nothing.
-    /// What is read for it is added to `steps`: as many lists as `Moved` tells. Takes no memory.
-    pub fn insert(&mut self, a: u32, b: u32, steps: &mut Steps) -> Insert
-        requires a { a < self.old.classes }
-        requires b { b < self.old.classes }
-        requires room { 0 < self.old.spare_edges }
-        requires steps { steps.old < 2 ^ 63 }
-        ensures told { TellsSteps result steps.old steps.new }
-        ensures inserted { IsInserted self.old a b result self.new }
-        ensures new { (¬ IsEdge self.old.edges a b)
-            → self.new ≡ with_edge self.old a b self.new.order }
-    {
-        if self.edges.contains(&Edge { from: a, to: b }) {
-            return Insert::Known;
-        }
-        let (_, answer) = self.insert_full(a, b, steps);
-        answer
-    }
-
-    /// Inserts the edge as `insert` does, and answers its number too: one look-up tells that and whether it was
-    /// there. It takes a spare edge also where it was. Takes no memory.
-    pub fn insert_full(&mut self, a: u32, b: u32, steps: &mut Steps) -> (u64, Insert)
-        requires a { a < self.old.classes }
-        requires b { b < self.old.classes }
-        requires room { 0 < self.old.spare_edges }
-        requires steps { steps.old < 2 ^ 63 }
-        ensures told { TellsSteps result.1 steps.old steps.new }
-        ensures number { IsEdgeNumber self.new.edges a b result.0 }
-        ensures there { (result.1 ≡ Insert.Known) ↔ IsEdge self.old.edges a b }
-        ensures same { result.1 ≡ Insert.Known
-            → self.new ≡ with_spares self.old self.old.spare_classes (self.old.spare_edges - 1) }
-        ensures inserted { result.1 ≢ Insert.Known → IsInserted self.old a b result.1 self.new }
-        ensures new { result.1 ≢ Insert.Known → self.new ≡ with_edge self.old a b self.new.order }
-    {
-        let Ok((number, added)) = self.edges.insert_full(Edge { from: a, to: b }) else {
-            unreachable!()
-        };
-        self.spare_edges -= 1;
-        if !added {
-            return (number as u64, Insert::Known);
-        }
-        let mut reader = Reader::new(&self.lists);
-        let answer = place(&mut reader, &mut self.ranks, &mut self.has_cycle, a, b);
-        reader.add_to(steps);
-        self.lists.push(a, b);
-        (number as u64, answer)
-    }
-
     /// Whether there is a cycle. Takes no memory.
     pub fn has_cycle(&self) -> bool
         ensures cycle { IsTrue result ↔ HasCycle (IsEdge self.now.edges) }
     {
         self.has_cycle
-    }
-
-    /// The rank of each class, or `None` where there is a cycle. Where there is none, the ranks are an order: the
-    /// numbers from 0 on, each once, and every edge goes from a lesser to a greater one. Takes no memory.
-    pub fn order(&mut self) -> Option<&[u32]>
-        ensures* same { sem 𝓛 (StaysAs self.entry) }
-        ensures order { MatchOption result (HasCycle (IsEdge self.old.edges))
-            (λ ranks. IsOrder (IsEdge self.old.edges) self.old.classes ranks.now) }
-        ensures value { MatchOption result (self.old.order ≡ None) (λ ranks. self.old.order ≡ Some ranks.now) }
-    {
-        if self.has_cycle {
-            return None;
-        }
-        Some(self.ranks.list())
     }
 
     /// For each class a class of its component, the same one for all of a component: two classes have the
@@ -273,22 +204,9 @@ impl Graph {
         Ok(distances.into_levels())
     }
 
-    /// Of what `distances` gives, for each of the wanted classes as much as `walk_along` needs for the walk from
-    /// it, by a search that ends where the last of them was found. The list is the same for many searches. Takes
-    /// no memory.
-    pub fn distances_to(&self, to: u32, wanted: &[u32], distances: &mut Distances)
-        requires to { to < self.now.classes }
-        requires wanted { All (λ c. c < self.now.classes) wanted.now }
-        requires classes { length distances.old ≡ self.now.classes }
-        ensures len { length distances.new ≡ self.now.classes }
-        ensures enough { All (λ c. AreEnough (IsEdge self.now.edges) c to
-            (λ x. slice_index_or distances.new x None)) wanted.now }
-    {
-        distances.search(&self.lists, None, wanted, to);
-    }
-
-    /// What `distances_to` gives, for each of the wanted classes that `to` reaches, by a search that stays in the
-    /// component of `to`. Takes no memory.
+    /// Of what `distances` gives, for each of the wanted classes that `to` reaches as much as `walk_along` needs for the
+    /// walk from it, by a search that stays in the component of `to` and ends where the last of them was found. The list
+    /// is the same for many searches. Takes no memory.
     pub fn distances_inside(
         &self,
         to: u32,
@@ -328,15 +246,12 @@ impl Graph {
             (λ w. IsShownWalk (IsEdge self.now.edges) (ComesBefore places.now) a b w.items)) }
     {
         let mut distances = Distances::new(alloc, self.len())?;
-        self.distances_to(b, &[a], &mut distances);
-        let mut nexts = Nexts::new(alloc, 0)?;
-        self.walk_along(alloc, a, b, distances.levels(), places, &mut nexts)
+        distances.search(&self.lists, None, &[a], b);
+        self.walk_along(alloc, a, b, distances.levels(), places)
     }
 
-    /// The walk from `a` to `b` that `walk` gives, by the distances to `b` that `distances` gave, or `distances_to`
-    /// where `a` was wanted, or `distances_inside` where besides `b` reaches it. So one search serves the walks
-    /// from many classes to one; and each next class is looked for once, by these that are noted, which are for the
-    /// same distances and places, or none.
+    /// The walk from `a` to `b` that `walk` gives, by the distances to `b` that `distances` gave, or `distances_inside`
+    /// where `a` was wanted and `b` reaches it. So one search serves the walks from many classes to one.
     ///
     /// # Errors
     ///
@@ -348,22 +263,93 @@ impl Graph {
         b: u32,
         distances: &[Distance],
         places: &[u32],
-        nexts: &mut Nexts,
     ) -> Result<Option<Vec<u32>>, AllocError>
         requires a { a < self.now.classes }
         requires len { length distances.now ≡ self.now.classes }
         requires enough { AreEnough (IsEdge self.now.edges) a b
             (λ c. slice_index_or distances.now c None) }
         requires places { length places.now ≡ self.now.classes }
-        requires nexts { AreNexts (IsEdge self.now.edges) distances.now places.now nexts.old }
-        ensures nexts { AreNexts (IsEdge self.now.edges) distances.now places.now nexts.new }
-        ensures walk { IfOk result (λ walk. MatchOption walk (¬ HasWalk (IsEdge self.now.edges) a b)
+        ensures { IfOk result (λ walk. MatchOption walk (¬ HasWalk (IsEdge self.now.edges) a b)
             (λ w. IsShownWalk (IsEdge self.now.edges) (ComesBefore places.now) a b w.items)) }
     {
         let Some(distance) = distances[a as usize].get() else {
             return Ok(None);
         };
-        let walk = show(alloc, &self.lists, a, b, distance, distances, places, nexts)?;
+        let walk = show(alloc, &self.lists, a, b, distance, distances, places)?;
         Ok(Some(walk))
+    }
+}
+
+impl<C: Counting> Graph<C> {
+    ghost use Rattle.std.specs.Borrow.{sem};
+    ghost use Rattle.ld_graph.specs.Lending.{StaysAs};
+
+    /// Inserts the edge from `a` to `b`, which takes a spare one. So long as there is no cycle, all ranks stand
+    /// where `a` is ranked below `b`. Else those from the rank of `b` to that of `a` are repaired, or the edge
+    /// closes a cycle, and from then on there is no order. An edge that is there already changes nothing.
+    /// What is read for it is added to `steps`: as many lists as `Moved` tells. Takes no memory.
+    pub fn insert(&mut self, a: u32, b: u32, steps: &mut Steps<C>) -> Insert
+        requires a { a < self.old.classes }
+        requires b { b < self.old.classes }
+        requires room { 0 < self.old.spare_edges }
+        requires steps { steps.old < 2 ^ 63 }
+        ensures told { TellsSteps self.old.classes result steps.old steps.new }
+        ensures inserted { IsInserted self.old a b result self.new }
+        ensures new { (¬ IsEdge self.old.edges a b)
+            → self.new ≡ with_edge self.old a b self.new.order }
+    {
+        if self.edges.contains(&Edge { from: a, to: b }) {
+            return Insert::Known;
+        }
+        let (_, answer) = self.insert_full(a, b, steps);
+        answer
+    }
+
+    /// Inserts the edge as `insert` does, and answers its number too: one look-up tells that and whether it was
+    /// there. It takes a spare edge also where it was. Takes no memory.
+    pub fn insert_full(&mut self, a: u32, b: u32, steps: &mut Steps<C>) -> (u64, Insert)
+        requires a { a < self.old.classes }
+        requires b { b < self.old.classes }
+        requires room { 0 < self.old.spare_edges }
+        requires steps { steps.old < 2 ^ 63 }
+        ensures told { TellsSteps self.old.classes result.1 steps.old steps.new }
+        ensures number { IsEdgeNumber self.new.edges a b result.0 }
+        ensures there { (result.1 ≡ Insert.Known) ↔ IsEdge self.old.edges a b }
+        ensures same { result.1 ≡ Insert.Known
+            → self.new ≡ with_spares self.old self.old.spare_classes (self.old.spare_edges - 1) }
+        ensures inserted { result.1 ≢ Insert.Known → IsInserted self.old a b result.1 self.new }
+        ensures new { result.1 ≢ Insert.Known → self.new ≡ with_edge self.old a b self.new.order }
+    {
+        let Ok((number, added)) = self.edges.insert_full(Edge { from: a, to: b }) else {
+            unreachable!()
+        };
+        self.spare_edges -= 1;
+        if !added {
+            return (number as u64, Insert::Known);
+        }
+        let answer = place(
+            &self.lists,
+            steps,
+            &mut self.ranks,
+            &mut self.has_cycle,
+            a,
+            b,
+        );
+        self.lists.push(a, b);
+        (number as u64, answer)
+    }
+
+    /// The rank of each class, or `None` where there is a cycle. Where there is none, the ranks are an order: the
+    /// numbers from 0 on, each once, and every edge goes from a lesser to a greater one. Takes no memory.
+    pub fn order(&mut self) -> Option<&[u32]>
+        ensures* same { sem 𝓛 (StaysAs C.row C.Counting self.entry) }
+        ensures order { MatchOption result (HasCycle (IsEdge self.old.edges))
+            (λ ranks. IsOrder (IsEdge self.old.edges) self.old.classes ranks.now) }
+        ensures value { MatchOption result (self.old.order ≡ None) (λ ranks. self.old.order ≡ Some ranks.now) }
+    {
+        if self.has_cycle {
+            return None;
+        }
+        Some(self.ranks.list())
     }
 }

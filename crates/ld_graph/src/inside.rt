@@ -2,8 +2,9 @@
 //! touched: over the whole graph, or within one component.
 ghost use Rattle.std.specs.Prelude.{◌≡◌, ◌<◌, ◌≤◌, ℕ, None, IfOk, IfSome, length, slice_index_or, All};
 ghost use Rattle.ld_graph.specs.declared.graph.TheConstants.{MOST_GRAPH_CLASSES};
-ghost use Rattle.ld_graph.specs.Inner.Insides.{AreLevelsFor, AreTouched, IsNearInside, component_at};
+ghost use Rattle.ld_graph.specs.Inner.Insides.{AreLevelsFor, IsNearInside, component_at};
 ghost use Rattle.ld_graph.specs.Lists.{IsNear};
+ghost use Rattle.ld_graph.specs.Touched.{AreTouched};
 
 use crate::distance::Distance;
 use crate::levels::measure;
@@ -24,7 +25,7 @@ impl Model for Distances {
 
     ghost Value = { List (Option ℕ) };
 
-    ghost use Rattle.ld_graph.specs.Inner.Insides.{AreTouched};
+    ghost use Rattle.ld_graph.specs.Touched.{AreTouched};
 
     ghost view = { λ d. d.levels.items };
 

@@ -4,9 +4,10 @@
 ghost use Rattle.std.specs.Prelude.{◌≡◌, ◌↔◌, ◌+◌, ◌<◌, ◌≤◌, ℕ, [], None, IfSome, IsTrue, is_none, count_by, slice_index};
 ghost use Rattle.std.specs.Prelude.{length, slice_index_or, vec_len, vec_capacity, All, Contains};
 ghost use Rattle.ld_graph.specs.declared.graph.TheConstants.{MOST_GRAPH_CLASSES};
-ghost use Rattle.ld_graph.specs.Inner.Insides.{AreLevelsFor, AreTouched, IsInsideOf, IsNearInside, StaysIn, component_at};
+ghost use Rattle.ld_graph.specs.Inner.Insides.{AreLevelsFor, IsInsideOf, IsNearInside, StaysIn, component_at};
 ghost use Rattle.ld_graph.specs.Inner.Levels.{HasLevel, Spreads, level_at};
 ghost use Rattle.ld_graph.specs.Lists.{IsNear};
+ghost use Rattle.ld_graph.specs.Touched.{AreTouched};
 
 use crate::distance::Distance;
 use crate::lists::{Lists, Reader};

@@ -11,7 +11,6 @@ mod levels;
 mod lists;
 mod marks;
 mod neighbours;
-mod nexts;
 mod placed;
 mod ranks;
 mod reach;
@@ -23,8 +22,7 @@ mod trail;
 pub use distance::Distance;
 pub use graph::{Graph, MOST_GRAPH_CLASSES};
 pub use inside::Distances;
-pub use lists::{Lists, Reader, Steps};
-pub use nexts::Nexts;
+pub use lists::{Counting, Lists, Reader, Steps};
 pub use placed::Insert;
 pub use reach::Reach;
 

@@ -9,16 +9,27 @@ ghost use Rattle.ld_graph.specs.Lists.{list_at};
 
 use crate::neighbours::Neighbours;
 use std::alloc::{AllocError, Global};
-use std::marker::Model;
+use std::marker::{Brand, Model, PhantomData};
+
+/// Whether a count of the lists that are read may begin at 0. Only proofs read it. With `Brand` it may. A body over any
+/// `Counting` can't show it, so it reads by the count that it is handed alone, and all that it reads is in that count.
+pub trait Counting {
+    ghost begins: { Type 0 };
+}
+
+impl Counting for Brand {
+    ghost begins = { Unit {0} };
+}
 
 /// A graph's lists: for each class its successors and its predecessors.
 #[derive(Drop)]
-pub struct Lists {
+pub struct Lists<C: Counting = Brand> {
     after: Neighbours,
     before: Neighbours,
+    counting: PhantomData<C>,
 }
 
-impl Model for Lists {
+impl<C: Counting> Model for Lists<C> {
     ghost use Rattle.ld_graph.specs.Lists.{Sides};
 
     ghost Value = { Sides };
@@ -30,20 +41,21 @@ impl Model for Lists {
     ghost invariant = { λ l. HasEachOnce l.after.lists × HasEachOnce l.before.lists };
 }
 
-impl Lists {
+impl<C: Counting> Lists<C> {
     /// The lists of no class. Takes no memory.
-    pub fn new(alloc: Global) -> Lists
+    pub fn new(alloc: Global) -> Lists<C>
         ensures after { (result.after.lists ≡ []) × (result.after.items ≡ 0) }
         ensures before { (result.before.lists ≡ []) × (result.before.items ≡ 0) }
     {
         Lists {
             after: Neighbours::new(alloc),
             before: Neighbours::new(alloc),
+            counting: PhantomData,
         }
     }
 
     /// The successors of the class `c`, each once. Adds one to the count. Takes no memory.
-    pub fn after(&self, c: u32, steps: &mut Steps) -> &[u32]
+    pub fn after(&self, c: u32, steps: &mut Steps<C>) -> &[u32]
         requires class { c < length self.now.after.lists }
         requires few { steps.old + 1 < 2 ^ 64 }
         ensures near { result.now ≡ list_at self.now.after.lists c }
@@ -55,7 +67,7 @@ impl Lists {
     }
 
     /// The predecessors of the class `c`, each once. Adds one to the count. Takes no memory.
-    pub fn before(&self, c: u32, steps: &mut Steps) -> &[u32]
+    pub fn before(&self, c: u32, steps: &mut Steps<C>) -> &[u32]
         requires class { c < length self.now.before.lists }
         requires few { steps.old + 1 < 2 ^ 64 }
         ensures near { result.now ≡ list_at self.now.before.lists c }
@@ -68,7 +80,7 @@ impl Lists {
 
     /// What `after` gives, and puts the mark of the class on, which has to be off. So by one list of marks no class's
     /// successors are read twice. Takes no memory.
-    pub fn once(&self, c: u32, marks: &mut [bool], steps: &mut Steps) -> &[u32]
+    pub fn once(&self, c: u32, marks: &mut [bool], steps: &mut Steps<C>) -> &[u32]
         requires class { c < length self.now.after.lists }
         requires marks { length marks.old ≡ length self.now.after.lists }
         requires off { slice_index_or marks.old c false ≡ false }
@@ -128,11 +140,12 @@ impl Lists {
 
 /// How many lists were read. Nothing but reading a list raises it, or a reader that has read some.
 #[derive(Drop)]
-pub struct Steps {
+pub struct Steps<C: Counting = Brand> {
     count: u64,
+    counting: PhantomData<C>,
 }
 
-impl Model for Steps {
+impl<C: Counting> Model for Steps<C> {
     ghost use Rattle.std.specs.Prelude.{ℕ};
 
     ghost Value = { ℕ };
@@ -140,12 +153,16 @@ impl Model for Steps {
     ghost view = { λ s. s.count };
 }
 
-impl Steps {
+impl<C: Counting> Steps<C> {
     /// No list was read. Takes no memory.
-    pub fn new() -> Steps
+    pub fn new() -> Steps<C>
+        requires { C.begins }
         ensures { result ≡ 0 }
     {
-        Steps { count: 0 }
+        Steps {
+            count: 0,
+            counting: PhantomData,
+        }
     }
 
     /// The number of lists that were read. Takes no memory.

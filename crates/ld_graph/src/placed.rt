@@ -1,11 +1,11 @@
 //! What the insert of an edge does to the ranks.
 
-ghost use Rattle.std.specs.Prelude.{◌≡◌, ◌↔◌, ℕ, ◌+◌, ◌<◌, ◌≤◌, false, length, slice_index};
+ghost use Rattle.std.specs.Prelude.{◌≡◌, ◌↔◌, ℕ, ◌+◌, ◌<◌, ◌≤◌, ◌^◌, false, length, slice_index};
 ghost use Rattle.ld_graph.specs.Inner.Placed.{IsPlaced};
 ghost use Rattle.ld_graph.specs.Lists.{IsNear};
 ghost use Rattle.ld_graph.specs.Order.{TellsSteps};
 
-use crate::lists::Reader;
+use crate::lists::{Counting, Lists, Steps};
 use crate::ranks::Ranks;
 
 /// What an insert has done.
@@ -27,9 +27,10 @@ pub enum Insert {
 }
 
 /// Makes the ranks fit an edge from `a` to `b` that is about to come, or notes that it closes a
-/// cycle. The lists that are read for it are counted by `reader`, from 0 on.
-pub fn place(
-    reader: &mut Reader<'_>,
+/// cycle. The lists that are read for it are counted.
+pub fn place<C: Counting>(
+    lists: &Lists<C>,
+    steps: &mut Steps<C>,
     ranks: &mut Ranks,
     has_cycle: &mut bool,
     a: u32,
@@ -37,20 +38,18 @@ pub fn place(
 ) -> Insert
     requires a { a < length ranks.old.ranks }
     requires b { b < length ranks.old.ranks }
-    requires classes { (length reader.old.lists.after.lists ≡ length ranks.old.ranks)
-        × (length reader.old.lists.before.lists ≡ length ranks.old.ranks) }
-    requires turned { (x y : ℕ) → IsNear reader.old.lists.after.lists x y
-        ↔ IsNear reader.old.lists.before.lists y x }
-    requires ends { (x y : ℕ) → IsNear reader.old.lists.after.lists x y
+    requires classes { (length lists.now.after.lists ≡ length ranks.old.ranks)
+        × (length lists.now.before.lists ≡ length ranks.old.ranks) }
+    requires turned { (x y : ℕ) → IsNear lists.now.after.lists x y
+        ↔ IsNear lists.now.before.lists y x }
+    requires ends { (x y : ℕ) → IsNear lists.now.after.lists x y
         → (x < length ranks.old.ranks) × (y < length ranks.old.ranks) }
-    requires rises { has_cycle.old ≡ false → (x y : ℕ) → IsNear reader.old.lists.after.lists x y
+    requires rises { has_cycle.old ≡ false → (x y : ℕ) → IsNear lists.now.after.lists x y
         → slice_index ranks.old.ranks x < slice_index ranks.old.ranks y }
-    requires steps { reader.old.count ≡ 0 }
-    ensures lists { reader.new.lists ≡ reader.old.lists }
-    ensures told { TellsSteps result 0 reader.new.count }
-    ensures most { reader.new.count ≤ length ranks.old.ranks + length ranks.old.ranks }
+    requires steps { steps.old < 2 ^ 63 }
+    ensures told { TellsSteps (length ranks.old.ranks) result steps.old steps.new }
     ensures room { ranks.new.room ≡ ranks.old.room }
-    ensures placed { IsPlaced (IsNear reader.old.lists.after.lists) a b result has_cycle.old has_cycle.new
+    ensures placed { IsPlaced (IsNear lists.now.after.lists) a b result has_cycle.old has_cycle.new
         ranks.old.ranks ranks.new.ranks }
 {
     if *has_cycle {
@@ -63,7 +62,7 @@ pub fn place(
     if ranks.is_before(a, b) {
         return Insert::Kept;
     }
-    let Some(expanded) = ranks.repair(reader, a, b) else {
+    let Some(expanded) = ranks.repair(lists, steps, a, b) else {
         *has_cycle = true;
         return Insert::Closed;
     };

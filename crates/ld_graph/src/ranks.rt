@@ -1,12 +1,12 @@
 //! The ranks of a graph's classes: the order, and the space that its repairs take.
 
-ghost use Rattle.std.specs.Prelude.{◌≡◌, ◌≢◌, ◌↔◌, ℕ, ◌+◌, ◌<◌, ◌≤◌, [], ◌∷◌, ◌++◌, length, slice_index, IsTrue, IfSome, MatchOption, OnOk};
+ghost use Rattle.std.specs.Prelude.{◌≡◌, ◌≢◌, ◌↔◌, ℕ, ◌+◌, ◌<◌, ◌≤◌, ◌^◌, [], ◌∷◌, ◌++◌, length, slice_index, IsTrue, IfSome, MatchOption, OnOk};
 ghost use Rattle.ld_graph.specs.declared.graph.TheConstants.{MOST_GRAPH_CLASSES};
 ghost use Rattle.ld_graph.specs.Inner.Repairs.{IsOrReaches, IsRepaired};
 ghost use Rattle.ld_graph.specs.Lists.{IsNear};
 ghost use Rattle.ld_order.specs.Orders.{AreRanks};
 
-use crate::lists::Reader;
+use crate::lists::{Counting, Lists, Steps};
 use crate::reorder::reorder;
 use crate::search::Search;
 use ld_order::Order;
@@ -99,33 +99,40 @@ impl Ranks {
         self.order.ranks()
     }
 
-    /// Repairs the ranks for an edge from `a` to `b` that goes against them, and answers how many
-    /// lists were read, which `reader` has counted from 0 on. Answers `None`, and leaves the ranks, where
-    /// a walk leads from `b` to `a`.
-    pub fn repair(&mut self, reader: &mut Reader<'_>, a: u32, b: u32) -> Option<u64>
+    /// Repairs the ranks for an edge from `a` to `b` that goes against them, and answers how many lists were read for
+    /// it, by which the count rises. Answers `None`, and leaves the ranks, where a walk leads from `b` to `a`.
+    pub fn repair<C: Counting>(
+        &mut self,
+        lists: &Lists<C>,
+        steps: &mut Steps<C>,
+        a: u32,
+        b: u32,
+    ) -> Option<u64>
         requires a { a < length self.old.ranks }
         requires b { b < length self.old.ranks }
         requires against { slice_index self.old.ranks b < slice_index self.old.ranks a }
-        requires classes { (length reader.old.lists.after.lists ≡ length self.old.ranks)
-            × (length reader.old.lists.before.lists ≡ length self.old.ranks) }
-        requires turned { (x y : ℕ) → IsNear reader.old.lists.after.lists x y
-            ↔ IsNear reader.old.lists.before.lists y x }
-        requires ends { (x y : ℕ) → IsNear reader.old.lists.after.lists x y
+        requires classes { (length lists.now.after.lists ≡ length self.old.ranks)
+            × (length lists.now.before.lists ≡ length self.old.ranks) }
+        requires turned { (x y : ℕ) → IsNear lists.now.after.lists x y
+            ↔ IsNear lists.now.before.lists y x }
+        requires ends { (x y : ℕ) → IsNear lists.now.after.lists x y
             → (x < length self.old.ranks) × (y < length self.old.ranks) }
-        requires rises { (x y : ℕ) → IsNear reader.old.lists.after.lists x y
+        requires rises { (x y : ℕ) → IsNear lists.now.after.lists x y
             → slice_index self.old.ranks x < slice_index self.old.ranks y }
-        requires steps { reader.old.count ≡ 0 }
-        ensures lists { reader.new.lists ≡ reader.old.lists }
-        ensures told { IfSome result (λ expanded. expanded ≡ reader.new.count) }
-        ensures most { reader.new.count ≤ length self.old.ranks + length self.old.ranks }
+        requires steps { steps.old < 2 ^ 63 }
+        ensures told { IfSome result (λ expanded. steps.new ≡ steps.old + expanded) }
+        ensures rises { steps.old ≤ steps.new }
+        ensures most { steps.new ≤ steps.old + length self.old.ranks + length self.old.ranks }
         ensures room { self.new.room ≡ self.old.room }
         ensures ranks { MatchOption result
-            ((self.new.ranks ≡ self.old.ranks) × IsOrReaches (IsNear reader.old.lists.after.lists) b a)
-            (IsRepaired (IsNear reader.old.lists.after.lists) a b self.old.ranks self.new.ranks) }
+            ((self.new.ranks ≡ self.old.ranks) × IsOrReaches (IsNear lists.now.after.lists) b a)
+            (IsRepaired (IsNear lists.now.after.lists) a b self.old.ranks self.new.ranks) }
     {
+        let before = steps.count();
         let repaired = reorder(
             &mut self.order,
-            reader,
+            lists,
+            steps,
             a,
             b,
             &mut self.backward,
@@ -133,6 +140,10 @@ impl Ranks {
         );
         self.backward.clear();
         self.forward.clear();
-        if repaired { Some(reader.count()) } else { None }
+        if repaired {
+            Some(steps.count() - before)
+        } else {
+            None
+        }
     }
 }

@@ -1,16 +1,14 @@
 //! The walk that is shown, among the shortest ones.
 
-ghost use Rattle.std.specs.Prelude.{◌≡◌, ℕ, ◌+◌, ◌<◌, ◌↔◌, length, Some, Contains};
+ghost use Rattle.std.specs.Prelude.{◌≡◌, ℕ, ◌<◌, ◌↔◌, length, Some, Contains};
 ghost use Rattle.std.specs.Prelude.{IsTrue, IfOk, MatchOption};
 ghost use Rattle.ld_graph.specs.Edges.{ComesBefore};
 ghost use Rattle.ld_graph.specs.Inner.Levels.{IsLeastAtLevel, level_at};
 ghost use Rattle.ld_graph.specs.Lists.{IsNear};
-ghost use Rattle.ld_graph.specs.Nexts.{AreNexts};
 ghost use Rattle.ld_graph.specs.Walks.{AreEnough, IsShownWalk};
 
 use crate::distance::Distance;
 use crate::lists::{Lists, Reader};
-use crate::nexts::Nexts;
 use std::alloc::{AllocError, Global};
 
 /// Whether `x` comes before `y`: by place, then by number.
@@ -51,38 +49,22 @@ fn nearest(near: &[u32], level: u32, levels: &[Distance], places: &[u32]) -> Opt
     least
 }
 
-/// The class that follows this one on the shown walk, of this level: the noted one, or else the one that is found,
-/// which is noted then.
-fn next_on(
-    lists: &Lists,
-    class: u32,
-    level: u32,
-    levels: &[Distance],
-    places: &[u32],
-    nexts: &mut Nexts,
-) -> Result<u32, AllocError>
+/// The class that follows this one on the shown walk, of this level.
+fn next_on(lists: &Lists, class: u32, level: u32, levels: &[Distance], places: &[u32]) -> u32
     requires class { class < length lists.now.after.lists }
     requires levels { length levels.now ≡ length lists.now.after.lists }
     requires places { length places.now ≡ length lists.now.after.lists }
     requires ends { (x y : ℕ) → IsNear lists.now.after.lists x y → y < length lists.now.after.lists }
-    requires own { level_at levels.now class ≡ Some (level + 1) }
     requires some { ¬ ((x : ℕ) → IsNear lists.now.after.lists class x → level_at levels.now x ≡ Some level → ⊥) }
-    requires nexts { AreNexts (IsNear lists.now.after.lists) levels.now places.now nexts.old }
-    ensures nexts { AreNexts (IsNear lists.now.after.lists) levels.now places.now nexts.new }
-    ensures next { IfOk result (IsLeastAtLevel (IsNear lists.now.after.lists class) level levels.now places.now) }
+    ensures { IsLeastAtLevel (IsNear lists.now.after.lists class) level levels.now places.now result }
 {
-    if let Some(next) = nexts.get(class) {
-        return Ok(next);
-    }
     let Some(next) = nearest(Reader::new(lists).after(class), level, levels, places) else {
         unreachable!()
     };
-    nexts.note(class, next)?;
-    Ok(next)
+    next
 }
 
-/// The shown walk from `a` to `b`, by levels that are enough of the distances to `b` for it, and by the next classes
-/// that are noted for them.
+/// The shown walk from `a` to `b`, by levels that are enough of the distances to `b` for it.
 pub fn show(
     alloc: Global,
     lists: &Lists,
@@ -91,7 +73,6 @@ pub fn show(
     distance: u32,
     levels: &[Distance],
     places: &[u32],
-    nexts: &mut Nexts,
 ) -> Result<Vec<u32>, AllocError>
     requires a { a < length lists.now.after.lists }
     requires levels { length levels.now ≡ length lists.now.after.lists }
@@ -99,9 +80,7 @@ pub fn show(
     requires ends { (x y : ℕ) → IsNear lists.now.after.lists x y → y < length lists.now.after.lists }
     requires distances { AreEnough (IsNear lists.now.after.lists) a b (level_at levels.now) }
     requires distance { level_at levels.now a ≡ Some distance }
-    requires nexts { AreNexts (IsNear lists.now.after.lists) levels.now places.now nexts.old }
-    ensures nexts { AreNexts (IsNear lists.now.after.lists) levels.now places.now nexts.new }
-    ensures walk { IfOk result (λ walk.
+    ensures { IfOk result (λ walk.
         IsShownWalk (IsNear lists.now.after.lists) (ComesBefore places.now) a b walk.items) }
 {
     let mut walk = Vec::with_capacity(alloc, distance as usize + 1)?;
@@ -110,8 +89,9 @@ pub fn show(
     let mut left = distance;
     while left > 1 {
         left -= 1;
-        last = next_on(lists, last, left, levels, places, nexts)?;
-        walk.push_reserved(last);
+        let next = next_on(lists, last, left, levels, places);
+        walk.push_reserved(next);
+        last = next;
     }
     walk.push_reserved(b);
     Ok(walk)

@@ -23,13 +23,6 @@ in_list xs x = by (list_any (nat_eq x) xs) refl
     by false e = inr (λ m. true≢false (sym (list_any-from_Contains nat_eq_equiv x xs m) ∙ e))
 
 module _ (edges : List Edge) (numbers places : List ℕ) (marks : List (Option ℕ)) where
-  pub built_none : (lists : List (List ℕ)) → ((x : ℕ) → list_at lists x ≡ []) → AreBuilt edges numbers places marks 0 lists
-  built_none lists none = record {
-    real = λ x y m. let l = (subst (λ ns. Contains ns y) (none x) m).1 in absurd (omega (arith, l));
-    all = λ x j l. absurd (omega (arith, l));
-    order = λ x. subst (AreInOrder places) (sym (none x)) (λ i j less l. absurd (omega (arith, l)));
-  }
-
   module _ (k : ℕ) (lists : List (List ℕ)) (built : AreBuilt edges numbers places marks k lists) where
     -- a class that isn't marked
     pub built_pass : ¬ HasLevel marks (nth numbers k) → AreBuilt edges numbers places marks (k + 1) lists

@@ -6,9 +6,9 @@ use Rattle.ld_graph.specs.Edges.{ComesBefore}
 use Rattle.ld_graph.specs.Lists.{IsNear}
 use Rattle.ld_graph.specs.Walks.{HasWalk, IsShownWalk, ShownFrom}
 use Rattle.ld_graph.proofs.SpreadLemmas.{some_same}
-use Rattle.ld_graph.proofs.WalkLemmas.{HasWalk-Far, IsWalk-Far}
+use Rattle.ld_graph.proofs.WalkLemmas.{IsWalk-Far}
 use Rattle.ld_tree.specs.Trees.{IsTreeOf, PlainLeading, PlainTree, class_at_place, nth}
-use Rattle.ld_tree.proofs.TreeLemmas.{IsUp, depth, far_down, further, shown_last, shown_up, walked}
+use Rattle.ld_tree.proofs.TreeLemmas.{IsUp, further, shown_last, shown_up, walked}
 
 -- of two classes at most one comes before the other
 pub one_way : (places : List ℕ) (x y : ℕ) → ComesBefore places x y → ¬ ComesBefore places y x
@@ -77,13 +77,6 @@ module _ (leading : PlainLeading) (start : ℕ) (tree : PlainTree) (is : IsTreeO
       → (k < length tree.found) × (nth tree.found k ≡ y)
   number_read y k m numbers same o low read some = number_is y k m (ap (λ ns. get_or ns y None) (sym same) ∙ get_or_default numbers y None o low ∙ sym read ∙ some)
 
-  -- a class that was found has a number
-  pub number_there : (y : ℕ) → Contains tree.found y → (k : ℕ) × (get_or tree.numbers y None ≡ Some k)
-  number_there y m =
-      let b = m.1 in
-      let same = get_or_default tree.found m.0 0 y b ∙ m.2 in
-      (m.0, ap (λ z. get_or tree.numbers z None) (sym same) ∙ is.numbered m.0 b)
-
   -- where a walk leads was found
   pub found_where_led : (y : ℕ) → HasWalk (IsNear leading.lists) start y → Contains tree.found y
   found_where_led y w =
@@ -91,16 +84,3 @@ module _ (leading : PlainLeading) (start : ℕ) (tree : PlainTree) (is : IsTreeO
       let r = walked (IsNear leading.lists) (ComesBefore leading.places) (one_way leading.places) start (length tree.found) (nth tree.found) (nth tree.from) is.walks f.0 0 y (omega arith) f.1.1 in
       let b = r.1.0 in
       subst (Contains tree.found) r.1.1.0 (Contains-get_or tree.found r.0 0 b)
-
-  -- and a walk leads where something was found
-  pub led_where_found : (y : ℕ) → Contains tree.found y → HasWalk (IsNear leading.lists) start y
-  led_where_found y m =
-      let b = m.1 in
-      let same = get_or_default tree.found m.0 0 y b ∙ m.2 in
-      subst (HasWalk (IsNear leading.lists) start) same (by m.0 b (depth (IsNear leading.lists) (ComesBefore leading.places) (one_way leading.places) start (length tree.found) (nth tree.found) (nth tree.from) is.walks
-      (suc m.0) (suc m.0) (omega arith) (omega (arith, b))))
-    where
-      by : (j : ℕ) → j < length tree.found → (n : ℕ) × IsUp (nth tree.from) n 0 (suc j) → HasWalk (IsNear leading.lists) start (nth tree.found j)
-      by j l (zero, e) = absurd (omega (arith, e))
-      by j l (suc n, u) = HasWalk-Far (IsNear leading.lists) n start (nth tree.found j)
-          (far_down (IsNear leading.lists) (ComesBefore leading.places) (one_way leading.places) start (length tree.found) (nth tree.found) (nth tree.from) is.walks n 0 (suc j) (omega (arith, l)) u)

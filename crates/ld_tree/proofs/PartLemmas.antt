@@ -4,9 +4,10 @@ use Rattle.std.proofs.lemmas.Bool.{cases_lt}
 use Rattle.std.proofs.lemmas.List.{get_or_append_left, get_or_default, get_or_push, length_push, get_or-set_same, get_or-set_other}
 use Rattle.std.proofs.lemmas.List.Elements.{Contains-append_left, Contains-push_cases}
 use Rattle.ld_graph.specs.Edges.{ComesBefore}
-use Rattle.ld_graph.specs.Inner.Insides.{AreTouched}
+use Rattle.ld_graph.specs.Touched.{AreTouched}
 use Rattle.ld_graph.specs.Lists.{IsNear, list_at}
-use Rattle.ld_tree.specs.Trees.{AreInOrder, IsPart, IsTreeOf, PlainLeading, class_at_place, nth}
+use Rattle.ld_tree.specs.Inner.{IsPart}
+use Rattle.ld_tree.specs.Trees.{AreInOrder, IsTreeOf, PlainLeading, class_at_place, nth}
 
 -- places that were there are kept
 pub place_kept : (start : ℕ) (found : List ℕ) (x p : ℕ) → p ≤ length found → class_at_place start (found ++ x ∷ []) p ≡ class_at_place start found p

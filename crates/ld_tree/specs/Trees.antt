@@ -47,21 +47,6 @@ pub record IsTreeOf (leading : PlainLeading) (start : ℕ) (tree : PlainTree) : 
   pub walks : IsTree (IsNear leading.lists) (ComesBefore leading.places) start (length tree.found) (nth tree.found) (nth tree.from)
   pub numbered : (j : ℕ) → j < length tree.found → slice_index_or tree.numbers (nth tree.found j) None ≡ Some j
 
--- What is known of such a tree before all places were gone on from: the places before `done` were, and of the one at
--- `done` the first `read` of its successors, which are `near`.
-pub record IsPart (leading : PlainLeading) (start done : ℕ) (near : List ℕ) (read : ℕ) (found from : List ℕ) (numbers : List (Option ℕ)) : Type 0 where
-  pub same : length from ≡ length found
-  pub up : (j : ℕ) → j < length found → nth from j ≤ j
-  pub last : (j : ℕ) → j < length found → nth from j ≤ done
-  pub edge : (j : ℕ) → j < length found → IsNear leading.lists (class_at_place start found (nth from j)) (nth found j)
-  pub rising : (i j : ℕ) → i < j → j < length found → nth from i ≤ nth from j
-  pub least : (i j : ℕ) → i < j → j < length found → nth from i ≡ nth from j → ComesBefore leading.places (nth found i) (nth found j)
-  pub closed : (p y : ℕ) → p < done → IsNear leading.lists (class_at_place start found p) y
-      → (j : ℕ) × ((j < length found) × ((nth found j ≡ y) × (nth from j ≤ p)))
-  pub here : (k : ℕ) → k < read → (j : ℕ) × ((j < length found) × (nth found j ≡ nth near k))
-  pub fresh : (j : ℕ) → j < length found → nth from j ≡ done → (k : ℕ) × ((k < read) × (nth near k ≡ nth found j))
-  pub numbered : (j : ℕ) → j < length found → slice_index_or numbers (nth found j) None ≡ Some j
-
 -- the classes in an order, and the place of each in it
 pub record ArePlaced (classes : ℕ) (numbers places : List ℕ) : Type 0 where
   pub within : (k : ℕ) → k < length numbers → nth numbers k < classes

@@ -2,7 +2,7 @@
 ghost use Rattle.std.specs.Prelude.{◌≡◌, ◌<◌, ℕ, None, [], ◌∷◌, ◌++◌, Contains, IfOk, OnOk, length, map, nat_eq, slice_index_or};
 ghost use Rattle.std.specs.List.{IsDistinct};
 ghost use Rattle.ld_graph.specs.Lists.{list_at};
-ghost use Rattle.ld_graph.specs.Inner.Insides.{AreTouched};
+ghost use Rattle.ld_graph.specs.Touched.{AreTouched};
 ghost use Rattle.ld_tree.specs.Inner.{AreClosed, AreMarked, ArePushed, items_of};
 ghost use Rattle.ld_tree.specs.Trees.{AreInOrder, AreLeading, ArePlaced};
 

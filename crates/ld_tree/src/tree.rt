@@ -1,10 +1,11 @@
 //! A search from one class to its successors, in their order, by which each found class has its shown walk.
 ghost use Rattle.std.specs.Prelude.{◌≡◌, ◌+◌, ◌<◌, ◌≤◌, ℕ, [], None, Contains, IfOk, OnOk, count_by, is_none, length, slice_index_or};
-ghost use Rattle.ld_graph.specs.Inner.Insides.{AreTouched};
+ghost use Rattle.ld_graph.specs.Touched.{AreTouched};
 ghost use Rattle.ld_graph.specs.Edges.{ComesBefore};
 ghost use Rattle.ld_graph.specs.Lists.{IsNear, list_at};
 ghost use Rattle.ld_graph.specs.Walks.{IsShownWalk};
-ghost use Rattle.ld_tree.specs.Trees.{AreInOrder, IsPart, IsTreeOf, class_at_place};
+ghost use Rattle.ld_tree.specs.Inner.{IsPart};
+ghost use Rattle.ld_tree.specs.Trees.{AreInOrder, IsTreeOf, class_at_place};
 
 use crate::leading::Leading;
 use std::alloc::{AllocError, Global};
@@ -22,7 +23,7 @@ pub struct Tree {
 
 impl Model for Tree {
     ghost use Rattle.ld_tree.specs.Trees.{PlainTree};
-    ghost use Rattle.ld_graph.specs.Inner.Insides.{AreTouched};
+    ghost use Rattle.ld_graph.specs.Touched.{AreTouched};
 
     ghost Value = { PlainTree };
 

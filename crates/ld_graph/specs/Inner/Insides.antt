@@ -1,5 +1,5 @@
 -- What a search for distances says of its working space. No public contract cites this file.
-use Rattle.std.specs.Prelude.{◌≡◌, ℕ, ◌<◌, List, length, slice_index, Option, None, Some, IfSome, Contains}
+use Rattle.std.specs.Prelude.{◌≡◌, ℕ, ◌<◌, List, slice_index, Option, None, Some, IfSome, Contains}
 use Rattle.std.specs.Borrow.{Bor}
 use Rattle.ld_graph.specs.Inner.Levels.{level_at}
 use Rattle.ld_graph.specs.Lists.{list_at}
@@ -21,11 +21,6 @@ IsInsideOf components component near x = Contains near x × StaysIn components c
 -- b is a neighbour of a, and of this component
 abbrev pub IsNearInside : (lists : List (List ℕ)) (components : Option (Bor (List ℕ))) (component a b : ℕ) → Type 0
 IsNearInside lists components component a b = IsInsideOf components component (list_at lists a) b
-
--- what has a level is one of these classes
-pub record AreTouched (levels : List (Option ℕ)) (touched : List ℕ) : Type 0 where
-  pub within : (x : ℕ) → Contains touched x → x < length levels
-  pub all : (x k : ℕ) → level_at levels x ≡ Some k → Contains touched x
 
 -- `AreEnough` of the levels that a search gave for the class w, where what is known is right of any class
 pub record AreLevelsFor (step : ℕ → ℕ → Type 0) (w end : ℕ) (levels : List (Option ℕ)) : Type 0 where

@@ -14,7 +14,7 @@ order_of true ranks = None
 order_of false ranks = Some ranks
 
 -- what callers see of the fields
-abbrev pub graph_of : Inside → PlainGraph
+abbrev pub graph_of : {C : Type 0} → Inside C → PlainGraph
 graph_of g = record {
   classes = g.classes;
   edges = g.edges.keys;
@@ -23,26 +23,27 @@ graph_of g = record {
   order = order_of g.has_cycle g.ranks.ranks;
 }
 
--- what holds of the fields of every graph
-pub record IsKept (g : Inside) : Type 0 where
-  pub after_classes : length g.lists.after.lists ≡ g.classes
-  pub before_classes : length g.lists.before.lists ≡ g.classes
-  pub after_items : g.lists.after.items ≡ length g.edges.keys
-  pub before_items : g.lists.before.items ≡ length g.edges.keys
-  -- the lists have the successors and the predecessors
-  pub after_edges : (a b : ℕ) → IsNear g.lists.after.lists a b ↔ IsEdge g.edges.keys a b
-  pub before_edges : (a b : ℕ) → IsNear g.lists.before.lists a b ↔ IsEdge g.edges.keys b a
-  pub ends : (a b : ℕ) → IsEdge g.edges.keys a b → (a < g.classes) × (b < g.classes)
-  -- there is memory for the spare classes and edges
-  pub room_edges : g.spare_edges ≤ spare g.edges
-  pub room_after : (g.classes + g.spare_classes ≤ g.lists.after.class_room)
-      × (length g.edges.keys + g.spare_edges ≤ g.lists.after.item_room)
-  pub room_before : (g.classes + g.spare_classes ≤ g.lists.before.class_room)
-      × (length g.edges.keys + g.spare_edges ≤ g.lists.before.item_room)
-  pub room_ranks : g.classes + g.spare_classes ≤ g.ranks.room
-  pub few : g.classes + g.spare_classes ≤ MOST_GRAPH_CLASSES
-  -- so long as there is no cycle, each edge goes from a lesser to a greater rank
-  pub ranked : length g.ranks.ranks ≡ g.classes
-  pub rises : g.has_cycle ≡ false → (x y : ℕ) → IsEdge g.edges.keys x y
-      → slice_index g.ranks.ranks x < slice_index g.ranks.ranks y
-  pub cycle : g.has_cycle ≡ true → HasCycle (IsEdge g.edges.keys)
+module _ {C : Type 0} where
+  -- what holds of the fields of every graph
+  pub record IsKept (g : Inside C) : Type 0 where
+    pub after_classes : length g.lists.after.lists ≡ g.classes
+    pub before_classes : length g.lists.before.lists ≡ g.classes
+    pub after_items : g.lists.after.items ≡ length g.edges.keys
+    pub before_items : g.lists.before.items ≡ length g.edges.keys
+    -- the lists have the successors and the predecessors
+    pub after_edges : (a b : ℕ) → IsNear g.lists.after.lists a b ↔ IsEdge g.edges.keys a b
+    pub before_edges : (a b : ℕ) → IsNear g.lists.before.lists a b ↔ IsEdge g.edges.keys b a
+    pub ends : (a b : ℕ) → IsEdge g.edges.keys a b → (a < g.classes) × (b < g.classes)
+    -- there is memory for the spare classes and edges
+    pub room_edges : g.spare_edges ≤ spare g.edges
+    pub room_after : (g.classes + g.spare_classes ≤ g.lists.after.class_room)
+        × (length g.edges.keys + g.spare_edges ≤ g.lists.after.item_room)
+    pub room_before : (g.classes + g.spare_classes ≤ g.lists.before.class_room)
+        × (length g.edges.keys + g.spare_edges ≤ g.lists.before.item_room)
+    pub room_ranks : g.classes + g.spare_classes ≤ g.ranks.room
+    pub few : g.classes + g.spare_classes ≤ MOST_GRAPH_CLASSES
+    -- so long as there is no cycle, each edge goes from a lesser to a greater rank
+    pub ranked : length g.ranks.ranks ≡ g.classes
+    pub rises : g.has_cycle ≡ false → (x y : ℕ) → IsEdge g.edges.keys x y
+        → slice_index g.ranks.ranks x < slice_index g.ranks.ranks y
+    pub cycle : g.has_cycle ≡ true → HasCycle (IsEdge g.edges.keys)

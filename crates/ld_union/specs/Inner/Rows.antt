@@ -5,7 +5,6 @@ use Rattle.ld_class.specs.Names.{PlainClass}
 use Rattle.ld_class.specs.Usage.{has_bit, no_bits}
 use Rattle.ld_graph.specs.Edges.{IsEdge}
 use Rattle.ld_graph.specs.Components.{AreComponents}
-use Rattle.ld_graph.specs.Nexts.{AreNexts}
 use Rattle.ld_graph.specs.Lists.{IsNear}
 use Rattle.ld_graph.specs.Walks.{AreEnough, HasWalk, Reaches}
 use Rattle.ld_trace.specs.declared.event.State.{State}
@@ -111,10 +110,6 @@ pub record AreLeadingTo (union : PlainUnion) (state : State) (places : List ℕ)
 pub record AreEnoughFrom (union : PlainUnion) (from to : ℕ) (distances : List (Option ℕ)) : Type 0 where
   pub len : length distances ≡ length union.classes
   pub enough : AreEnough (IsEdge (edges_of union.dependencies)) from to (λ c. slice_index_or distances c None)
-
--- the next classes that are noted are those of these distances and of the order of names
-abbrev pub AreNextsOf : PlainUnion → (places : List ℕ) → (distances nexts : List (Option ℕ)) → Type 0
-AreNextsOf union places distances nexts = AreNexts (IsEdge (edges_of union.dependencies)) distances places nexts
 
 -- which classes of a union are in one component
 abbrev pub AreComponentsOf : PlainUnion → List ℕ → Type 0

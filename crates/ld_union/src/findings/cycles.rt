@@ -15,7 +15,7 @@ use crate::findings::walks::walk_names;
 use crate::union::Union;
 use crate::walk::Walk;
 use ld_class::ClassName;
-use ld_graph::{Distance, Distances, Nexts, Reader};
+use ld_graph::{Distance, Distances, Reader};
 use ld_rules::Witness;
 use std::alloc::{AllocError, Global};
 
@@ -170,8 +170,7 @@ fn cycle_row<'u, 'a>(
         // A class that is acquired under itself shows no walk.
         Walk::new(indexed.union.classes(), Vec::new(alloc))
     } else {
-        let mut nexts = Nexts::new(alloc, 0)?;
-        let Some(via) = walk_names(alloc, indexed, distances, &mut nexts, to, from)? else {
+        let Some(via) = walk_names(alloc, indexed, distances, to, from)? else {
             return Ok(None);
         };
         via

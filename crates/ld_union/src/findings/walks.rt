@@ -6,32 +6,29 @@ ghost use Rattle.ld_trace.specs.Sources.{PlainSource};
 ghost use Rattle.ld_rules.specs.Union.{dependency_witness};
 ghost use Rattle.ld_union.specs.Findings.{IsShown, plain_names};
 ghost use Rattle.ld_union.specs.Inner.ByName.{class_name};
-ghost use Rattle.ld_union.specs.Inner.Rows.{AreEnoughFrom, AreNextsOf};
+ghost use Rattle.ld_union.specs.Inner.Rows.{AreEnoughFrom};
 ghost use Rattle.ld_union.specs.Inner.Union.{Shows, edges_of};
 
 use crate::findings::indexed::Indexed;
 use crate::union::Union;
 use crate::walk::Walk;
 use ld_class::Classes;
-use ld_graph::{Distance, Nexts};
+use ld_graph::Distance;
 use std::alloc::{AllocError, Global};
 
 /// The names of the shown walk between these classes, by distances to the second one that are enough for
-/// it, and by the next classes that are noted for them; or `None` where no walk leads there.
+/// it; or `None` where no walk leads there.
 pub(crate) fn walk_names<'u, 'a>(
     alloc: Global,
     indexed: Indexed<'u, '_, 'a>,
     distances: &[Distance],
-    nexts: &mut Nexts,
     from: u32,
     to: u32,
 ) -> Result<Option<Walk<'u, 'a>>, AllocError>
     requires to { to < length indexed.union.now.classes }
     requires distances { AreEnoughFrom indexed.union.now from to distances.now }
     requires from { from < length indexed.union.now.classes }
-    requires nexts { AreNextsOf indexed.union.now indexed.order.now.places.items distances.now nexts.old }
-    ensures nexts { AreNextsOf indexed.entry.union.now indexed.entry.order.now.places.items distances.now nexts.new }
-    ensures walk { IfOk result (λ via. MatchOption via
+    ensures { IfOk result (λ via. MatchOption via
         (¬ HasWalk (IsEdge (edges_of indexed.entry.union.now.dependencies)) from to)
         (λ names. (sources : List PlainSource)
         → Shows sources indexed.entry.union.now
@@ -41,7 +38,7 @@ pub(crate) fn walk_names<'u, 'a>(
     let walk = indexed
         .union
         .graph()
-        .walk_along(alloc, from, to, distances, &indexed.order.places, nexts)?;
+        .walk_along(alloc, from, to, distances, &indexed.order.places)?;
     let Some(numbers) = walk else {
         return Ok(None);
     };

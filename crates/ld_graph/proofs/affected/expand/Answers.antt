@@ -6,26 +6,26 @@ use Rattle.ld_graph.proofs.SoughtLemmas.{Contains-read, beyond}
 use Rattle.ld_graph.proofs.affected.expand.Goals as goal
 
 pub find_near-requires-clause-ends : goal.find_near-requires-clause-ends
-find_near-requires-clause-ends c = λ x n. c.requires.ends (get_or c.args.search.now.found c.args.done 0) x
+find_near-requires-clause-ends g c = λ x n. c.requires.ends (get_or c.args.search.now.found c.args.done 0) x
     (subst (λ l. Contains l x) c.requires.near n)
 
 pub returns-then-ends_at-clause-found : goal.returns-then-ends_at-clause-found
-returns-then-ends_at-clause-found c =
-    found-more (IsNear (of_direction c.args.direction c.args.reader.now.lists)) (λ x. get_or c.args.labels.now x 0) (length c.args.labels.now) c.args.low c.args.high
+returns-then-ends_at-clause-found g c =
+    found-more (IsNear (of_direction c.args.direction c.args.lists.now)) (λ x. get_or c.args.labels.now x 0) (length c.args.labels.now) c.args.low c.args.high
     c.args.near.now c.args.search.now.found c.find_near.new.search.found c.args.done
     (λ y n. subst (λ l. Contains l y) (sym c.requires.near) n) (λ y n. subst (λ l. Contains l y) c.requires.near n)
     c.requires.ends c.requires.waits c.requires.found c.find_near.ensures.reached c.find_near.ensures.taken
 
 pub returns-clause-found : goal.returns-clause-found
-returns-clause-found c =
-    found-more (IsNear (of_direction c.args.direction c.args.reader.now.lists)) (λ x. get_or c.args.labels.now x 0) (length c.args.labels.now) c.args.low c.args.high
+returns-clause-found g c =
+    found-more (IsNear (of_direction c.args.direction c.args.lists.now)) (λ x. get_or c.args.labels.now x 0) (length c.args.labels.now) c.args.low c.args.high
     c.args.near.now c.args.search.now.found c.find_near.new.search.found c.args.done
     (λ y n. subst (λ l. Contains l y) (sym c.requires.near) n) (λ y n. subst (λ l. Contains l y) c.requires.near n)
     c.requires.ends c.requires.waits c.requires.found c.find_near.ensures.reached c.find_near.ensures.taken
 
 pub neighbours_of-requires-clause-class : goal.neighbours_of-requires-clause-class
-neighbours_of-requires-clause-class c =
-    let h = found-more (IsNear (of_direction c.args.direction c.args.reader.now.lists)) (λ x. get_or c.args.labels.now x 0) (length c.args.labels.now) c.args.low c.args.high
+neighbours_of-requires-clause-class g c =
+    let h = found-more (IsNear (of_direction c.args.direction c.args.lists.now)) (λ x. get_or c.args.labels.now x 0) (length c.args.labels.now) c.args.low c.args.high
     c.args.near.now c.args.search.now.found c.find_near.new.search.found c.args.done
     (λ y n. subst (λ l. Contains l y) (sym c.requires.near) n) (λ y n. subst (λ l. Contains l y) c.requires.near n)
     c.requires.ends c.requires.waits c.requires.found c.find_near.ensures.reached c.find_near.ensures.taken in
@@ -34,15 +34,15 @@ neighbours_of-requires-clause-class c =
     omega (arith, b, c.requires.lists)
 
 pub returns-then-ends_at-clause-most : goal.returns-then-ends_at-clause-most
-returns-then-ends_at-clause-most c = found-few (IsNear (of_direction c.args.direction c.args.reader.now.lists)) (λ x. get_or c.args.labels.now x 0) (length c.args.labels.now) c.args.low c.args.high
-    c.find_near.new.search.found (c.args.done + 1) (found-more (IsNear (of_direction c.args.direction c.args.reader.now.lists)) (λ x. get_or c.args.labels.now x 0) (length c.args.labels.now) c.args.low c.args.high
+returns-then-ends_at-clause-most g c = found-few (IsNear (of_direction c.args.direction c.args.lists.now)) (λ x. get_or c.args.labels.now x 0) (length c.args.labels.now) c.args.low c.args.high
+    c.find_near.new.search.found (c.args.done + 1) (found-more (IsNear (of_direction c.args.direction c.args.lists.now)) (λ x. get_or c.args.labels.now x 0) (length c.args.labels.now) c.args.low c.args.high
     c.args.near.now c.args.search.now.found c.find_near.new.search.found c.args.done
     (λ y n. subst (λ l. Contains l y) (sym c.requires.near) n) (λ y n. subst (λ l. Contains l y) c.requires.near n)
     c.requires.ends c.requires.waits c.requires.found c.find_near.ensures.reached c.find_near.ensures.taken) c.found.ensures.once
 
 pub returns-clause-most : goal.returns-clause-most
-returns-clause-most c = found-few (IsNear (of_direction c.args.direction c.args.reader.now.lists)) (λ x. get_or c.args.labels.now x 0) (length c.args.labels.now) c.args.low c.args.high
-    c.find_near.new.search.found (c.args.done + 1) (found-more (IsNear (of_direction c.args.direction c.args.reader.now.lists)) (λ x. get_or c.args.labels.now x 0) (length c.args.labels.now) c.args.low c.args.high
+returns-clause-most g c = found-few (IsNear (of_direction c.args.direction c.args.lists.now)) (λ x. get_or c.args.labels.now x 0) (length c.args.labels.now) c.args.low c.args.high
+    c.find_near.new.search.found (c.args.done + 1) (found-more (IsNear (of_direction c.args.direction c.args.lists.now)) (λ x. get_or c.args.labels.now x 0) (length c.args.labels.now) c.args.low c.args.high
     c.args.near.now c.args.search.now.found c.find_near.new.search.found c.args.done
     (λ y n. subst (λ l. Contains l y) (sym c.requires.near) n) (λ y n. subst (λ l. Contains l y) c.requires.near n)
     c.requires.ends c.requires.waits c.requires.found c.find_near.ensures.reached c.find_near.ensures.taken) c.found.ensures.once

@@ -1,34 +1,22 @@
-use Rattle.std.proofs.Common.{◌+◌, arith, ap, get_or, length, subst, sym, ◌∙◌}
-use Rattle.ld_graph.specs.Inner.Affected.{IsFound}
-use Rattle.ld_graph.specs.Lists.{IsNear, list_at}
+use Rattle.std.proofs.Common.{◌+◌, arith, get_or, length, ◌∙◌}
+use Rattle.ld_graph.specs.Lists.{IsNear}
 use Rattle.ld_graph.proofs.AffectedLemmas.{found-less}
 use Rattle.ld_graph.proofs.affected.find_affected.Goals as goal
 
-pub expand-requires-clause-ends : goal.expand-requires-clause-ends
-expand-requires-clause-ends c = λ x y n. c.requires.before x y (subst (λ s. IsNear s.before.lists x y) c.loop-read_backward.invariant.lists n)
-
-pub expand-requires-clause-found : goal.expand-requires-clause-found
-expand-requires-clause-found c =
-    subst (λ s. IsFound (IsNear s.before.lists) (λ x. get_or c.args.labels.now x 0) (length c.args.labels.now) (get_or c.args.labels.now c.args.b 0) (get_or c.args.labels.now c.args.a 0) c.loop-read_backward.backward.found c.loop-read_backward.done_backward)
-    (sym c.loop-read_backward.invariant.lists) c.loop-read_backward.invariant.backward
-
 pub returns-in_default-clause-ended : goal.returns-in_default-clause-ended
-returns-in_default-clause-ended c = (
-  found-less (IsNear c.args.reader.now.lists.before.lists) (λ x. get_or c.args.labels.now x 0) (length c.args.labels.now) (get_or c.args.labels.now c.args.b 0) (get_or c.args.labels.now c.args.a 0) c.expand.new.search.found (c.loop-read_backward.done_backward + 1)
-      (length c.expand.new.search.found) c.in_default.ensures.next
-      (subst (λ s. IsFound (IsNear s.before.lists) (λ x. get_or c.args.labels.now x 0) (length c.args.labels.now) (get_or c.args.labels.now c.args.b 0) (get_or c.args.labels.now c.args.a 0) c.expand.new.search.found (c.loop-read_backward.done_backward + 1))
-      c.loop-read_backward.invariant.lists c.expand.ensures.found),
-  found-less (IsNear c.args.reader.now.lists.after.lists) (λ x. get_or c.args.labels.now x 0) (length c.args.labels.now) (get_or c.args.labels.now c.args.b 0) (get_or c.args.labels.now c.args.a 0) c.loop-read_backward.forward.found c.loop-read_backward.done_forward 0
+returns-in_default-clause-ended g c = (
+  found-less (IsNear c.args.lists.now.before.lists) (λ x. get_or c.args.labels.now x 0) (length c.args.labels.now) (get_or c.args.labels.now c.args.b 0) (get_or c.args.labels.now c.args.a 0) c.expand.new.search.found (c.loop-read_backward.done_backward + 1)
+      (length c.expand.new.search.found) c.in_default.ensures.next c.expand.ensures.found,
+  found-less (IsNear c.args.lists.now.after.lists) (λ x. get_or c.args.labels.now x 0) (length c.args.labels.now) (get_or c.args.labels.now c.args.b 0) (get_or c.args.labels.now c.args.a 0) c.loop-read_backward.forward.found c.loop-read_backward.done_forward 0
       (omega arith) c.loop-read_backward.invariant.forward,
 )
 
 pub loop-read_backward-preserved-then-read_backward-read_forward : goal.loop-read_backward-preserved-then-read_backward-read_forward
-loop-read_backward-preserved-then-read_backward-read_forward c =
+loop-read_backward-preserved-then-read_backward-read_forward g c =
     let i = c.loop-read_backward.invariant in
     record {
       backward_size = c.expand.ensures.size ∙ i.backward_size;
       forward_size = i.forward_size;
-      lists = c.expand.ensures.lists ∙ i.lists;
       steps = omega (arith, c.in-Some.ensures.count, i.steps);
       backward_waits = c.in-Some.ensures.next.0;
       forward_waits = i.forward_waits;
@@ -36,38 +24,26 @@ loop-read_backward-preserved-then-read_backward-read_forward c =
       forward_most = i.forward_most;
       backward_first = c.expand.ensures.first ∙ i.backward_first;
       forward_first = i.forward_first;
-      backward_near = c.in-Some.ensures.next.1 ∙ ap (λ s. list_at s.before.lists (get_or c.expand.new.search.found (c.loop-read_backward.done_backward + 1) 0)) i.lists;
+      backward_near = c.in-Some.ensures.next.1;
       forward_near = i.forward_near;
-      backward = subst (λ s. IsFound (IsNear s.before.lists) (λ x. get_or c.args.labels.now x 0) (length c.args.labels.now) (get_or c.args.labels.now c.args.b 0) (get_or c.args.labels.now c.args.a 0) c.expand.new.search.found (c.loop-read_backward.done_backward + 1))
-          i.lists c.expand.ensures.found;
+      backward = c.expand.ensures.found;
       forward = i.forward;
     }
 
-pub expand-requires-else-read_backward-read_forward-clause-ends : goal.expand-requires-else-read_backward-read_forward-clause-ends
-expand-requires-else-read_backward-read_forward-clause-ends c = λ x y n. c.requires.after x y (subst (λ s. IsNear s.after.lists x y) c.loop-read_backward.invariant.lists n)
-
-pub expand-requires-else-read_backward-read_forward-clause-found : goal.expand-requires-else-read_backward-read_forward-clause-found
-expand-requires-else-read_backward-read_forward-clause-found c =
-    subst (λ s. IsFound (IsNear s.after.lists) (λ x. get_or c.args.labels.now x 0) (length c.args.labels.now) (get_or c.args.labels.now c.args.b 0) (get_or c.args.labels.now c.args.a 0) c.loop-read_backward.forward.found c.loop-read_backward.done_forward)
-    (sym c.loop-read_backward.invariant.lists) c.loop-read_backward.invariant.forward
-
 pub returns-in_default-expand-clause-ended : goal.returns-in_default-expand-clause-ended
-returns-in_default-expand-clause-ended c = (
-  found-less (IsNear c.args.reader.now.lists.after.lists) (λ x. get_or c.args.labels.now x 0) (length c.args.labels.now) (get_or c.args.labels.now c.args.b 0) (get_or c.args.labels.now c.args.a 0) c.expand-else-read_backward-read_forward.new.search.found (c.loop-read_backward.done_forward + 1)
-      (length c.expand-else-read_backward-read_forward.new.search.found) c.in_default-expand.ensures.next
-      (subst (λ s. IsFound (IsNear s.after.lists) (λ x. get_or c.args.labels.now x 0) (length c.args.labels.now) (get_or c.args.labels.now c.args.b 0) (get_or c.args.labels.now c.args.a 0) c.expand-else-read_backward-read_forward.new.search.found (c.loop-read_backward.done_forward + 1))
-      c.loop-read_backward.invariant.lists c.expand-else-read_backward-read_forward.ensures.found),
-  found-less (IsNear c.args.reader.now.lists.before.lists) (λ x. get_or c.args.labels.now x 0) (length c.args.labels.now) (get_or c.args.labels.now c.args.b 0) (get_or c.args.labels.now c.args.a 0) c.loop-read_backward.backward.found c.loop-read_backward.done_backward 0
+returns-in_default-expand-clause-ended g c = (
+  found-less (IsNear c.args.lists.now.after.lists) (λ x. get_or c.args.labels.now x 0) (length c.args.labels.now) (get_or c.args.labels.now c.args.b 0) (get_or c.args.labels.now c.args.a 0) c.expand-else-read_backward-read_forward.new.search.found (c.loop-read_backward.done_forward + 1)
+      (length c.expand-else-read_backward-read_forward.new.search.found) c.in_default-expand.ensures.next c.expand-else-read_backward-read_forward.ensures.found,
+  found-less (IsNear c.args.lists.now.before.lists) (λ x. get_or c.args.labels.now x 0) (length c.args.labels.now) (get_or c.args.labels.now c.args.b 0) (get_or c.args.labels.now c.args.a 0) c.loop-read_backward.backward.found c.loop-read_backward.done_backward 0
       (omega arith) c.loop-read_backward.invariant.backward,
 )
 
 pub loop-read_backward-preserved : goal.loop-read_backward-preserved
-loop-read_backward-preserved c =
+loop-read_backward-preserved g c =
     let i = c.loop-read_backward.invariant in
     record {
       forward_size = c.expand-else-read_backward-read_forward.ensures.size ∙ i.forward_size;
       backward_size = i.backward_size;
-      lists = c.expand-else-read_backward-read_forward.ensures.lists ∙ i.lists;
       steps = omega (arith, c.in-Some-expand.ensures.count, i.steps);
       forward_waits = c.in-Some-expand.ensures.next.0;
       backward_waits = i.backward_waits;
@@ -75,9 +51,8 @@ loop-read_backward-preserved c =
       backward_most = i.backward_most;
       forward_first = c.expand-else-read_backward-read_forward.ensures.first ∙ i.forward_first;
       backward_first = i.backward_first;
-      forward_near = c.in-Some-expand.ensures.next.1 ∙ ap (λ s. list_at s.after.lists (get_or c.expand-else-read_backward-read_forward.new.search.found (c.loop-read_backward.done_forward + 1) 0)) i.lists;
+      forward_near = c.in-Some-expand.ensures.next.1;
       backward_near = i.backward_near;
-      forward = subst (λ s. IsFound (IsNear s.after.lists) (λ x. get_or c.args.labels.now x 0) (length c.args.labels.now) (get_or c.args.labels.now c.args.b 0) (get_or c.args.labels.now c.args.a 0) c.expand-else-read_backward-read_forward.new.search.found (c.loop-read_backward.done_forward + 1))
-          i.lists c.expand-else-read_backward-read_forward.ensures.found;
+      forward = c.expand-else-read_backward-read_forward.ensures.found;
       backward = i.backward;
     }

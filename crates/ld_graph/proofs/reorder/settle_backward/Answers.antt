@@ -7,30 +7,30 @@ use Rattle.ld_order.specs.Orders.{HaveMoved}
 use Rattle.ld_graph.proofs.reorder.settle_backward.Goals as goal
 
 pub move_before-requires-clause-classes : goal.move_before-requires-clause-classes
-move_before-requires-clause-classes c = λ x n. (c.requires.found.within x (subst (λ l. Contains l x) c.found.ensures.found n)).0
+move_before-requires-clause-classes g c = λ x n. (c.requires.found.within x (subst (λ l. Contains l x) c.found.ensures.found n)).0
 
 pub move_before-requires-clause-above : goal.move_before-requires-clause-above
-move_before-requires-clause-above c = λ x n.
+move_before-requires-clause-above g c = λ x n.
     let m = subst (λ l. Contains l x) c.found.ensures.found n in
     let w = c.requires.found.within x m in
-    let q = differs (IsNear c.args.reader.now.lists.after.lists) (IsNear c.args.reader.now.lists.before.lists)
+    let q = differs (IsNear c.args.lists.now.after.lists) (IsNear c.args.lists.now.before.lists)
     c.args.order.now.ranks c.args.order.now.ranks c.args.a c.args.b c.args.search.now.found
     c.requires.ends c.requires.rises c.requires.a c.requires.b c.requires.found c.requires.ranks c.args.b c.requires.b
     (λ h. true≢false (sym (c.has.ensures.1 h) ∙ c.if-has.false)) x m in
     omega (arith, w.1.0, q)
 
 pub returns-then-has-clause-met : goal.returns-then-has-clause-met
-returns-then-has-clause-met c = (
+returns-then-has-clause-met g c = (
   refl,
-  met_backward (IsNear c.args.reader.now.lists.after.lists) (IsNear c.args.reader.now.lists.before.lists)
+  met_backward (IsNear c.args.lists.now.after.lists) (IsNear c.args.lists.now.before.lists)
       (λ x y n. (c.requires.turned y x).1 n) c.args.a c.args.b
-      (subst (λ z. IsOrReaches (IsNear c.args.reader.now.lists.before.lists) z c.args.b) c.requires.first
+      (subst (λ z. IsOrReaches (IsNear c.args.lists.now.before.lists) z c.args.b) c.requires.first
       (c.requires.found.reached c.args.b (c.has.ensures.0 c.if-has.true))),
 )
 
 pub returns-clause-mended : goal.returns-clause-mended
-returns-clause-mended c =
-    mended_backward (IsNear c.args.reader.now.lists.after.lists) (IsNear c.args.reader.now.lists.before.lists)
+returns-clause-mended g c =
+    mended_backward (IsNear c.args.lists.now.after.lists) (IsNear c.args.lists.now.before.lists)
     c.args.order.now.ranks c.move_before.new.self.ranks c.args.a c.args.b c.args.search.now.found
     c.requires.ends c.requires.rises c.requires.a c.requires.b c.requires.found (λ x y n. (c.requires.turned x y).0 n) c.requires.first
     (λ h. true≢false (sym (c.has.ensures.1 h) ∙ c.if-has.false))
@@ -38,4 +38,4 @@ returns-clause-mended c =
     c.found.ensures.found c.move_before.ensures.moved)
 
 pub returns-clause-apart : goal.returns-clause-apart
-returns-clause-apart c = λ h. true≢false (sym (c.has.ensures.1 h) ∙ c.if-has.false)
+returns-clause-apart g c = λ h. true≢false (sym (c.has.ensures.1 h) ∙ c.if-has.false)

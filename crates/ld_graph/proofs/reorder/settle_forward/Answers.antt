@@ -6,28 +6,28 @@ use Rattle.ld_order.specs.Orders.{HaveMoved}
 use Rattle.ld_graph.proofs.reorder.settle_forward.Goals as goal
 
 pub move_behind-requires-clause-classes : goal.move_behind-requires-clause-classes
-move_behind-requires-clause-classes c = λ x n. (c.requires.found.within x (subst (λ l. Contains l x) c.found.ensures.found n)).0
+move_behind-requires-clause-classes g c = λ x n. (c.requires.found.within x (subst (λ l. Contains l x) c.found.ensures.found n)).0
 
 pub move_behind-requires-clause-below : goal.move_behind-requires-clause-below
-move_behind-requires-clause-below c = λ x n.
+move_behind-requires-clause-below g c = λ x n.
     let m = subst (λ l. Contains l x) c.found.ensures.found n in
     let w = c.requires.found.within x m in
-    let q = differs (IsNear c.args.reader.now.lists.after.lists) (IsNear c.args.reader.now.lists.after.lists)
+    let q = differs (IsNear c.args.lists.now.after.lists) (IsNear c.args.lists.now.after.lists)
     c.args.order.now.ranks c.args.order.now.ranks c.args.a c.args.b c.args.search.now.found
     c.requires.ends c.requires.rises c.requires.a c.requires.b c.requires.found c.requires.ranks c.args.a c.requires.a
     (λ h. true≢false (sym (c.has.ensures.1 h) ∙ c.if-has.false)) x m in
     omega (arith, w.1.1, q)
 
 pub returns-then-has-clause-met : goal.returns-then-has-clause-met
-returns-then-has-clause-met c = (
+returns-then-has-clause-met g c = (
   refl,
-  subst (λ z. IsOrReaches (IsNear c.args.reader.now.lists.after.lists) z c.args.a) c.requires.first
+  subst (λ z. IsOrReaches (IsNear c.args.lists.now.after.lists) z c.args.a) c.requires.first
       (c.requires.found.reached c.args.a (c.has.ensures.0 c.if-has.true)),
 )
 
 pub returns-clause-mended : goal.returns-clause-mended
-returns-clause-mended c =
-    mended_forward (IsNear c.args.reader.now.lists.after.lists) (IsNear c.args.reader.now.lists.after.lists)
+returns-clause-mended g c =
+    mended_forward (IsNear c.args.lists.now.after.lists) (IsNear c.args.lists.now.after.lists)
     c.args.order.now.ranks c.move_behind.new.self.ranks c.args.a c.args.b c.args.search.now.found
     c.requires.ends c.requires.rises c.requires.a c.requires.b c.requires.found (λ x y n. n) c.requires.first
     (λ h. true≢false (sym (c.has.ensures.1 h) ∙ c.if-has.false))
@@ -35,4 +35,4 @@ returns-clause-mended c =
     c.found.ensures.found c.move_behind.ensures.moved)
 
 pub returns-clause-apart : goal.returns-clause-apart
-returns-clause-apart c = λ h. true≢false (sym (c.has.ensures.1 h) ∙ c.if-has.false)
+returns-clause-apart g c = λ h. true≢false (sym (c.has.ensures.1 h) ∙ c.if-has.false)

@@ -1,9 +1,8 @@
 use Rattle.std.proofs.Common.{◌≡◌, ◌<◌, ◌∙◌, ℕ, Contains, ap, arith, length, subst}
 use Rattle.ld_graph.specs.Inner.Levels.{IsLeastAtLevel}
-use Rattle.ld_graph.specs.Lists.{IsNear, Sides, list_at}
-use Rattle.ld_graph.proofs.ShownLemmas.{nexts_more}
+use Rattle.ld_graph.specs.Lists.{Sides, list_at}
 use Rattle.ld_graph.proofs.shown.next_on.Goals as goal
-use Rattle.ld_graph.proofs.shown.next_on.Goals.{After-after, In-Some-nearest}
+use Rattle.ld_graph.proofs.shown.next_on.Goals.{After-after}
 
 near_is : (c : After-after) → c.after.result.now ≡ list_at c.args.lists.now.after.lists c.args.class
 near_is c = c.after.ensures.near ∙ ap (λ (l : Sides). list_at l.after.lists c.args.class) c.new.ensures.lists
@@ -19,16 +18,6 @@ pub nearest-requires-clause-places : goal.nearest-requires-clause-places
 nearest-requires-clause-places c = λ x h.
     let e = low_at (goal.at.nearest-requires-clause-places c).After-after x h in omega (arith, e, c.requires.places)
 
-least_is : (c : In-Some-nearest) → IsLeastAtLevel (IsNear c.args.lists.now.after.lists c.args.class) c.args.level c.args.levels.now c.args.places.now c.in-Some-nearest.next
-least_is c = subst (λ n. IsLeastAtLevel (Contains n) c.args.level c.args.levels.now c.args.places.now c.in-Some-nearest.next)
-    (near_is (goal.at.In-Some-nearest c).After-after) c.in-Some-nearest.ensures
-
-pub returns-in_err-note-clause-nexts : goal.returns-in_err-note-clause-nexts
-returns-in_err-note-clause-nexts c =
-    nexts_more (IsNear c.args.lists.now.after.lists) c.args.levels.now c.args.places.now c.args.nexts.now c.note.new.self
-    c.args.class c.in-Some-nearest.next c.args.level c.note.ensures c.requires.own (least_is (goal.at.returns-in_err-note-clause-nexts c).In-Some-nearest) c.requires.nexts
-
-pub returns-clause-nexts : goal.returns-clause-nexts
-returns-clause-nexts c =
-    nexts_more (IsNear c.args.lists.now.after.lists) c.args.levels.now c.args.places.now c.args.nexts.now c.note.new.self
-    c.args.class c.in-Some-nearest.next c.args.level c.note.ensures c.requires.own (least_is (goal.at.returns-clause-nexts c).In-Some-nearest) c.requires.nexts
+pub returns : goal.returns
+returns c = subst (λ n. IsLeastAtLevel (Contains n) c.args.level c.args.levels.now c.args.places.now c.in-Some.next)
+    (near_is (goal.at.returns c).After-after) c.in-Some.ensures

@@ -19,9 +19,9 @@ known_at c more x n d = c.requires.distances.nearer x (c.loop-left.left - 1) c.a
     (IsOrReaches-next (IsNear c.args.lists.now.after.lists) c.args.a c.loop-left.last x c.loop-left.invariant.reached n) d c.requires.distance
     (omega (arith, more, c.loop-left.invariant.few))
 
-pub next_on-requires-clause-some : goal.next_on-requires-clause-some
-next_on-requires-clause-some c =
-    let l = (goal.at.next_on-requires-clause-some c).At-loop-left in
+pub next_on-next-requires-clause-some : goal.next_on-next-requires-clause-some
+next_on-next-requires-clause-some c =
+    let l = (goal.at.next_on-next-requires-clause-some c).At-loop-left in
     next_there c.args.lists.now.after.lists c.args.places.now c.args.levels.now c.args.b
     c.loop-left.last c.loop-left.left c.loop-left-test.true (known_at l c.loop-left-test.true) (right_at l)
     c.loop-left.invariant.distance
@@ -29,9 +29,9 @@ next_on-requires-clause-some c =
 pub loop-left-preserved : goal.loop-left-preserved
 loop-left-preserved c =
     let l = (goal.at.loop-left-preserved c).At-loop-left in
-    let last = c.in_ok-last.last in
+    let last = c.next_on-next.result in
     let least : IsLeastAtLevel (IsNear c.args.lists.now.after.lists c.loop-left.last) (c.loop-left.left - 1)
-    c.args.levels.now c.args.places.now last = c.in_ok-last.ensures.next in
+    c.args.levels.now c.args.places.now last = c.next_on-next.ensures in
     record {
       within = c.requires.ends c.loop-left.last last least.is_near;
       some = omega arith;
@@ -41,7 +41,6 @@ loop-left-preserved c =
           c.loop-left.last c.loop-left.left c.loop-left-test.true (known_at l c.loop-left-test.true) (right_at l)
           c.loop-left.invariant.distance last least;
       level = least.has_level;
-      nexts = c.next_on.ensures.nexts;
       shown = rw c.push_reserved-in-loop-left.ensures.items
           (next_shown c.args.lists.now.after.lists c.args.places.now c.args.levels.now c.args.b
           c.loop-left.last c.loop-left.left c.loop-left-test.true (known_at l c.loop-left-test.true) (right_at l)

@@ -2,7 +2,6 @@ use Rattle.std.proofs.Common.{◌≡◌, Some, ◌+◌, ◌<◌, ◌≤◌, ℕ,
 use Rattle.ld_graph.specs.Edges.{ComesBefore}
 use Rattle.ld_graph.specs.Lists.{IsNear}
 use Rattle.ld_graph.specs.Inner.Levels.{level_at}
-use Rattle.ld_graph.specs.Nexts.{AreNexts}
 use Rattle.ld_graph.specs.Walks.{Reaches, IsDistance, ShownFrom, IsShownWalk}
 use Rattle.ld_graph.proofs.shown.show.Given as goal
 
@@ -14,7 +13,6 @@ invariant-loop-left l = record {
   reached : Reaches (IsNear l.lists.after.lists) l.a l.last;
   distance : IsDistance (IsNear l.lists.after.lists) l.last l.b l.left;
   level : level_at l.levels l.last ≡ Some l.left;
-  nexts : AreNexts (IsNear l.lists.after.lists) l.levels l.places l.nexts;
   shown : (rest : List ℕ) → ShownFrom (IsNear l.lists.after.lists) (ComesBefore l.places) l.last l.b rest
       → IsShownWalk (IsNear l.lists.after.lists) (ComesBefore l.places) l.a l.b (l.walk.items ++ rest);
   room : vec_len l.walk + l.left ≤ vec_capacity l.walk;

@@ -1,6 +1,6 @@
 use Rattle.std.proofs.Common.{◌≡◌, ◌+◌, ◌-◌, ◌<◌, ◌≤◌, ℕ, Contains, count_by, is_none, length}
 use Rattle.ld_graph.specs.Edges.{IsEdge}
-use Rattle.ld_graph.specs.Inner.Insides.{AreTouched}
+use Rattle.ld_graph.specs.Touched.{AreTouched}
 use Rattle.ld_graph.specs.Inner.Levels.{HasLevel}
 use Rattle.ld_tree.specs.Trees.{nth}
 use Rattle.ld_tree.proofs.leading.leading_to.Given as goal

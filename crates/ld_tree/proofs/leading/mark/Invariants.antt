@@ -1,5 +1,5 @@
 use Rattle.std.proofs.Common.{◌≡◌, ◌+◌, ◌<◌, ◌≤◌, ℕ, count_by, get_or, is_none, length}
-use Rattle.ld_graph.specs.Inner.Insides.{AreTouched}
+use Rattle.ld_graph.specs.Touched.{AreTouched}
 use Rattle.ld_graph.specs.Inner.Levels.{HasLevel}
 use Rattle.ld_tree.specs.Trees.{nth}
 use Rattle.ld_tree.proofs.leading.mark.Given as goal

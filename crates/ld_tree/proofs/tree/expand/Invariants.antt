@@ -1,6 +1,7 @@
 use Rattle.std.proofs.Common.{◌≡◌, ◌+◌, ◌≤◌, count_by, is_none, length}
-use Rattle.ld_graph.specs.Inner.Insides.{AreTouched}
-use Rattle.ld_tree.specs.Trees.{IsPart, class_at_place}
+use Rattle.ld_graph.specs.Touched.{AreTouched}
+use Rattle.ld_tree.specs.Inner.{IsPart}
+use Rattle.ld_tree.specs.Trees.{class_at_place}
 use Rattle.ld_tree.proofs.tree.expand.Given as goal
 
 abbrev pub invariant-loop-x : goal.invariant-loop-x

@@ -1,6 +1,6 @@
 use Rattle.std.proofs.Common.{◌≡◌, ◌+◌, ◌-◌, ◌≤◌, [], count_by, is_none, length}
-use Rattle.ld_graph.specs.Inner.Insides.{AreTouched}
-use Rattle.ld_tree.specs.Trees.{IsPart}
+use Rattle.ld_graph.specs.Touched.{AreTouched}
+use Rattle.ld_tree.specs.Inner.{IsPart}
 use Rattle.ld_tree.proofs.tree.grow.Given as goal
 
 abbrev pub invariant-loop-done : goal.invariant-loop-done

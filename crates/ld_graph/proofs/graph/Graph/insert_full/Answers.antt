@@ -9,7 +9,6 @@ use Rattle.ld_graph.proofs.EdgeLemmas.{IsEdge-found, IsEdgeNumber-stored, insert
 use Rattle.ld_graph.proofs.EdgeLemmas.{ends_push, IsEdge-missing}
 use Rattle.ld_graph.specs.Order.{HasCycle, IsInserted}
 use Rattle.ld_graph.specs.Inner.Kept.{graph_of}
-use Rattle.ld_graph.specs.Inner.Placed.{IsPlaced}
 use Rattle.ld_graph.proofs.PlacedLemmas.{inserted, made, placed_cycle, placed_length}
 use Rattle.ld_graph.proofs.PlacedLemmas.{placed_rises}
 use Rattle.ld_graph.proofs.graph.Graph.insert_full.Goals as goal
@@ -24,7 +23,7 @@ was_there true added is none = refl
 was_there false added is none = absurd (true≢false (sym is ∙ none))
 
 pub invariant_of-self : goal.invariant_of-self
-invariant_of-self c =
+invariant_of-self g c =
     let i = c.self.invariant in
     let keys : c.insert_full.new.self.keys ≡ c.self.inside.edges.keys =
     c.in-Ok.ensures.keys ∙ insert_key-known c.self.inside.edges.keys (edge c.args.a c.args.b) (was_there _ _ c.in-Ok.ensures.added (search rules)) in
@@ -49,29 +48,25 @@ invariant_of-self c =
     }
 
 pub returns-then-not-added-clause-number : goal.returns-then-not-added-clause-number
-returns-then-not-added-clause-number c =
+returns-then-not-added-clause-number g c =
     let stored = c.in-Ok.ensures.stored in
     IsEdgeNumber-stored c.insert_full.new.self.keys c.args.a c.args.b c.in-Ok.number stored.0 c.insert_full.ensures.unique c.in-Ok.ensures.within stored.1 stored.2
 
 pub returns-then-not-added-clause-there : goal.returns-then-not-added-clause-there
-returns-then-not-added-clause-there c = (
+returns-then-not-added-clause-there g c = (
   λ _. subst (λ g. IsEdge g.edges c.args.a c.args.b) c.self.view_is
       (IsEdge-found c.self.inside.edges.keys c.args.a c.args.b (was_there _ _ c.in-Ok.ensures.added (search rules))),
   λ _. refl,
 )
 
 pub returns-clause-number : goal.returns-clause-number
-returns-clause-number c =
+returns-clause-number g c =
     let stored = c.in-Ok.ensures.stored in
     IsEdgeNumber-stored c.insert_full.new.self.keys c.args.a c.args.b c.in-Ok.number stored.0 c.insert_full.ensures.unique c.in-Ok.ensures.within stored.1 stored.2
 
 pub invariant_of-self-2 : goal.invariant_of-self-2
-invariant_of-self-2 c =
-    let placed : IsPlaced (IsNear c.self.inside.lists.after.lists) c.args.a c.args.b c.place-answer.result
-    c.self.inside.has_cycle c.place-answer.new.has_cycle c.self.inside.ranks.ranks c.place-answer.new.ranks.ranks =
-    subst (λ l. IsPlaced (IsNear l.after.lists) c.args.a c.args.b c.place-answer.result c.self.inside.has_cycle
-    c.place-answer.new.has_cycle c.self.inside.ranks.ranks c.place-answer.new.ranks.ranks) c.new-reader.ensures.lists
-    c.place-answer.ensures.placed in
+invariant_of-self-2 g c =
+    let placed = c.place-answer.ensures.placed in
     let i = c.self.invariant in
     let keys : c.insert_full.new.self.keys ≡ c.self.inside.edges.keys ++ edge c.args.a c.args.b ∷ [] =
     c.in-Ok.ensures.keys ∙ insert_key-new c.self.inside.edges.keys (edge c.args.a c.args.b) (wasnt_there _ _ c.in-Ok.ensures.added (search rules)) in
@@ -138,37 +133,33 @@ invariant_of-self-2 c =
     }
 
 pub push-requires-clause-after_fresh : goal.push-requires-clause-after_fresh
-push-requires-clause-after_fresh c = λ n.
+push-requires-clause-after_fresh g c = λ n.
     IsEdge-missing c.self.inside.edges.keys c.args.a c.args.b (wasnt_there _ _ c.in-Ok.ensures.added (search rules)) ((c.self.invariant.after_edges c.args.a c.args.b).0 n)
 
 pub push-requires-clause-before_fresh : goal.push-requires-clause-before_fresh
-push-requires-clause-before_fresh c = λ n.
+push-requires-clause-before_fresh g c = λ n.
     IsEdge-missing c.self.inside.edges.keys c.args.a c.args.b (wasnt_there _ _ c.in-Ok.ensures.added (search rules)) ((c.self.invariant.before_edges c.args.b c.args.a).0 n)
 
 pub place-answer-requires-clause-turned : goal.place-answer-requires-clause-turned
-place-answer-requires-clause-turned c = rw (c.new-reader.ensures.lists) (λ x y.
+place-answer-requires-clause-turned g c = λ x y.
     let i = c.self.invariant in (
       λ n. (i.before_edges y x).1 ((i.after_edges x y).0 n),
       λ n. (i.after_edges x y).1 ((i.before_edges y x).0 n),
-    ))
+    )
 
 pub place-answer-requires-clause-ends : goal.place-answer-requires-clause-ends
-place-answer-requires-clause-ends c = rw (c.new-reader.ensures.lists) (λ x y n.
+place-answer-requires-clause-ends g c = λ x y n.
     let i = c.self.invariant in
     let e = i.ends x y ((i.after_edges x y).0 n) in
-    (omega (arith, e, i.ranked), omega (arith, e, i.ranked)))
+    (omega (arith, e, i.ranked), omega (arith, e, i.ranked))
 
 pub place-answer-requires-clause-rises : goal.place-answer-requires-clause-rises
-place-answer-requires-clause-rises c = rw (c.new-reader.ensures.lists) (λ f x y n.
-    let i = c.self.invariant in i.rises f x y ((i.after_edges x y).0 n))
+place-answer-requires-clause-rises g c = λ f x y n.
+    let i = c.self.invariant in i.rises f x y ((i.after_edges x y).0 n)
 
 pub returns-clause-inserted : goal.returns-clause-inserted
-returns-clause-inserted c _ =
-    let placed : IsPlaced (IsNear c.self.inside.lists.after.lists) c.args.a c.args.b c.place-answer.result
-    c.self.inside.has_cycle c.place-answer.new.has_cycle c.self.inside.ranks.ranks c.place-answer.new.ranks.ranks =
-    subst (λ l. IsPlaced (IsNear l.after.lists) c.args.a c.args.b c.place-answer.result c.self.inside.has_cycle
-    c.place-answer.new.has_cycle c.self.inside.ranks.ranks c.place-answer.new.ranks.ranks) c.new-reader.ensures.lists
-    c.place-answer.ensures.placed in
+returns-clause-inserted g c _ =
+    let placed = c.place-answer.ensures.placed in
     let keys : c.insert_full.new.self.keys ≡ c.self.inside.edges.keys ++ edge c.args.a c.args.b ∷ [] =
     c.in-Ok.ensures.keys ∙ insert_key-new c.self.inside.edges.keys (edge c.args.a c.args.b) (wasnt_there _ _ c.in-Ok.ensures.added (search rules)) in
     subst (λ g. IsInserted g c.args.a c.args.b c.place-answer.result (record (made c.self.inside

@@ -6,7 +6,7 @@ use Rattle.ld_graph.proofs.PlacedLemmas.{order_some}
 use Rattle.ld_graph.proofs.graph.Graph.order.Goals as goal
 
 pub returns : goal.returns
-returns c = (
+returns g c = (
   (refl, (λ _. tt), ap (λ r. graph_of (record c.self.inside { ranks = r })) c.list.follows.holds-at-none ∙ c.self.view_is),
   record {
     same = tt;

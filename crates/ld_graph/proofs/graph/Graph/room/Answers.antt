@@ -51,7 +51,7 @@ pub invariant_of-self-2 : goal.invariant_of-self-2
 invariant_of-self-2 c =
     let i = c.self.invariant in
     let now = ap (λ g. g.classes) c.self.view_is in
-    let grown : Inside = record {
+    let grown : Inside _ = record {
       edges = c.reserve.new.self;
       lists = c.room.new.self;
       classes = c.self.inside.classes;

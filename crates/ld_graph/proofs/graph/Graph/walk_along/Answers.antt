@@ -3,10 +3,8 @@ use Rattle.ld_graph.specs.Edges.{ComesBefore, IsEdge}
 use Rattle.ld_graph.specs.Lists.{IsNear}
 use Rattle.ld_graph.specs.Walks.{AreEnough, IsShownWalk}
 use Rattle.ld_graph.proofs.KeptLemmas.{after_ends}
-use Rattle.ld_graph.specs.Nexts.{AreNexts}
-use Rattle.ld_graph.proofs.ShownLemmas.{AreEnough-same, AreNexts-same, IsShownWalk-same}
+use Rattle.ld_graph.proofs.ShownLemmas.{AreEnough-same, IsShownWalk-same}
 use Rattle.ld_graph.proofs.graph.Graph.walk_along.Goals as goal
-use Rattle.ld_graph.proofs.graph.Graph.walk_along.Goals.{After-show}
 
 pub show-requires-clause-ends : goal.show-requires-clause-ends
 show-requires-clause-ends c = after_ends c.self.inside c.self.invariant
@@ -17,28 +15,10 @@ show-requires-clause-distances c =
     (λ a b. ((c.self.invariant.after_edges a b).1, (c.self.invariant.after_edges a b).0)) c.args.a c.args.b (λ x. get_or c.args.distances.now x None)
     (subst (λ g. AreEnough (IsEdge g.edges) c.args.a c.args.b (λ x. get_or c.args.distances.now x None)) (sym c.self.view_is) c.requires.enough)
 
-pub returns-clause-walk : goal.returns-clause-walk
-returns-clause-walk c =
+pub returns : goal.returns
+returns c =
     subst (λ g. IsShownWalk (IsEdge g.edges) (ComesBefore c.args.places.now) c.args.a c.args.b
     c.in_ok-walk.walk.items) c.self.view_is
     (IsShownWalk-same (IsNear c.self.inside.lists.after.lists) (IsEdge c.self.inside.edges.keys)
     (ComesBefore c.args.places.now) c.self.invariant.after_edges
-    c.args.a c.args.b c.in_ok-walk.walk.items c.in_ok-walk.ensures.walk)
-
-pub show-requires-clause-nexts : goal.show-requires-clause-nexts
-show-requires-clause-nexts c =
-    AreNexts-same (IsEdge c.self.inside.edges.keys) (IsNear c.self.inside.lists.after.lists)
-    (λ a b. ((c.self.invariant.after_edges a b).1, (c.self.invariant.after_edges a b).0)) c.args.distances.now c.args.places.now c.args.nexts.now
-    (subst (λ g. AreNexts (IsEdge g.edges) c.args.distances.now c.args.places.now c.args.nexts.now) (sym c.self.view_is) c.requires.nexts)
-
-nexts_kept : (c : After-show) → AreNexts (IsEdge c.args.self.now.edges) c.args.distances.now c.args.places.now c.show.new.nexts
-nexts_kept c =
-    subst (λ g. AreNexts (IsEdge g.edges) c.args.distances.now c.args.places.now c.show.new.nexts) c.self.view_is
-    (AreNexts-same (IsNear c.self.inside.lists.after.lists) (IsEdge c.self.inside.edges.keys) c.self.invariant.after_edges
-    c.args.distances.now c.args.places.now c.show.new.nexts c.show.ensures.nexts)
-
-pub returns-in_err-walk-clause-nexts : goal.returns-in_err-walk-clause-nexts
-returns-in_err-walk-clause-nexts c = nexts_kept (goal.at.returns-in_err-walk-clause-nexts c).After-show
-
-pub returns-clause-nexts : goal.returns-clause-nexts
-returns-clause-nexts c = nexts_kept (goal.at.returns-clause-nexts c).After-show
+    c.args.a c.args.b c.in_ok-walk.walk.items c.in_ok-walk.ensures)

@@ -5,7 +5,7 @@ use Rattle.ld_graph.proofs.OnceLemmas.{HasEachOnce-push}
 use Rattle.ld_graph.proofs.lists.Lists.push.Goals as goal
 
 pub invariant_of-self : goal.invariant_of-self
-invariant_of-self c =
+invariant_of-self g c =
     let after = ap (λ l. length l.after.lists) c.self.view_is in
     let before = ap (λ l. length l.before.lists) c.self.view_is in (
       subst HasEachOnce (sym c.push.ensures.lists)

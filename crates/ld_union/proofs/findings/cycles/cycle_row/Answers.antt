@@ -12,7 +12,7 @@ use Rattle.ld_union.specs.Inner.Union.{edges_of}
 use Rattle.ld_union.proofs.CycleLemmas.{cycle-row, no_cycle-back, no_cycle-edge, no_cycle-walk, no_walk}
 use Rattle.ld_union.proofs.UnionLemmas.{edge_of_row, first_at, found_row}
 use Rattle.ld_union.proofs.findings.cycles.cycle_row.Goals as goal
-use Rattle.ld_union.proofs.findings.cycles.cycle_row.Goals.{then-to-from, else-to-from+in_ok-nexts+in_ok-via+in-Some-2}
+use Rattle.ld_union.proofs.findings.cycles.cycle_row.Goals.{then-to-from, else-to-from+in_ok-via+in-Some-2}
 
 abbrev no_row : Witnessed
 no_row = record { edge = edge 0 0; first = record { number = 0; line = 0 } }
@@ -36,7 +36,7 @@ pub returns-in_default-2 : goal.returns-in_default-2
 returns-in_default-2 c sources shows =
     let union = c.args.indexed.union.now in
     no_cycle-walk union.classes union.dependencies shows.numbered sources shows.witnesses c.args.from c.args.to c.requires.from c.requires.to
-    (MatchOption-at_none _ _ c.in_default-2.is c.in_ok-via.ensures.walk)
+    (MatchOption-at_none _ _ c.in_default-2.is c.in_ok-via.ensures)
 
 pub returns : goal.returns
 returns c sources shows =
@@ -52,13 +52,13 @@ returns c sources shows =
     let there : IsEdge (edges_of union.dependencies) a b = edge_of_row union.dependencies a b n no_row at_row.0 (at_row.1 no_row) in
     let none : b ≡ a → c.if-to-from.via ≡ [] = λ same. elim c.if-to-from.branch [
       | then-to-from w ↦ w.via-is ∙ w.new-via.ensures ∙ ap (map (class_name w.classes.result.now)) w.new.ensures.items
-      | else-to-from+in_ok-nexts+in_ok-via+in-Some-2 w ↦ absurd (w.if-to-from.false same)
+      | else-to-from+in_ok-via+in-Some-2 w ↦ absurd (w.if-to-from.false same)
     ] in
     let shown : b ≢ a → IsShown sources (class_name union.classes b) (class_name union.classes a) c.if-to-from.via = λ differs. elim c.if-to-from.branch [
       | then-to-from w ↦ absurd (differs w.if-to-from.true)
-      | else-to-from+in_ok-nexts+in_ok-via+in-Some-2 w ↦
+      | else-to-from+in_ok-via+in-Some-2 w ↦
           subst (λ via. IsShown sources (class_name union.classes b) (class_name union.classes a) via) (sym w.via-is)
-          (MatchOption-at_some _ _ w.in-Some-2.via w.in-Some-2.is w.in_ok-via.ensures.walk sources shows)
+          (MatchOption-at_some _ _ w.in-Some-2.via w.in-Some-2.is w.in_ok-via.ensures sources shows)
     ] in
     cycle-row union.classes union.dependencies shows.numbered sources shows.witnesses a b
     (plain_cycle_row (record { from = c.name.result; to = c.name-2.result; at = (get_or c.dependencies.result.now n no_row).first; via = c.if-to-from.via }))

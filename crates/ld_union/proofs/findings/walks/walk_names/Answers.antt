@@ -11,19 +11,19 @@ pub new-requires : goal.new-requires
 new-requires c =
     let union = c.args.indexed.union.now in
     let told = subst (λ edges. MatchOption c.in_ok-walk.walk (¬ HasWalk (IsEdge edges) c.args.from c.args.to)
-    (λ w. IsShownWalk (IsEdge edges) (ComesBefore c.deref.result.now) c.args.from c.args.to w.items)) c.graph.ensures.edges c.in_ok-walk.ensures.walk in
+    (λ w. IsShownWalk (IsEdge edges) (ComesBefore c.deref.result.now) c.args.from c.args.to w.items)) c.graph.ensures.edges c.in_ok-walk.ensures in
     let shown = subst (λ walk. MatchOption walk (¬ HasWalk (IsEdge (edges_of union.dependencies)) c.args.from c.args.to)
     (λ w. IsShownWalk (IsEdge (edges_of union.dependencies)) (ComesBefore c.deref.result.now) c.args.from c.args.to w.items)) c.in-Some.is told in
     subst (λ names. All (λ k. k < length names) c.in-Some.numbers.items) (sym c.classes.ensures.same)
     (shown_within union.classes union.dependencies c.graph.ensures.numbered c.deref.result.now c.args.from c.args.to
     c.in-Some.numbers.items c.requires.from c.requires.to shown)
 
-pub returns-clause-walk : goal.returns-clause-walk
-returns-clause-walk c sources shows =
+pub returns : goal.returns
+returns c sources shows =
     let union = c.args.indexed.union.now in
     let order = c.args.indexed.order.now in
     let told = subst (λ edges. MatchOption c.in_ok-walk.walk (¬ HasWalk (IsEdge edges) c.args.from c.args.to)
-    (λ w. IsShownWalk (IsEdge edges) (ComesBefore c.deref.result.now) c.args.from c.args.to w.items)) c.graph.ensures.edges c.in_ok-walk.ensures.walk in
+    (λ w. IsShownWalk (IsEdge edges) (ComesBefore c.deref.result.now) c.args.from c.args.to w.items)) c.graph.ensures.edges c.in_ok-walk.ensures in
     let shown = subst (λ walk. MatchOption walk (¬ HasWalk (IsEdge (edges_of union.dependencies)) c.args.from c.args.to)
     (λ w. IsShownWalk (IsEdge (edges_of union.dependencies)) (ComesBefore c.deref.result.now) c.args.from c.args.to w.items)) c.in-Some.is told in
     let placed = subst (λ places. IsShownWalk (IsEdge (edges_of union.dependencies)) (ComesBefore places) c.args.from c.args.to c.in-Some.numbers.items) c.deref.ensures.value shown in
