@@ -4,9 +4,7 @@ use Rattle.std.specs.Prelude.{ℕ, ◌+◌, ◌-◌, ◌/◌, ◌%◌, ◌^◌, 
 use Rattle.ld_pages.specs.declared.layout.Layout.{Layout}
 use Rattle.ld_pages.specs.declared.entry.Entry.{Entry}
 use Rattle.ld_pages.specs.declared.cursor.Cursor.{Cursor}
-use Rattle.ld_pages.specs.declared.cursor.Event.{Event}
 use Rattle.ld_pages.specs.declared.cursor.Item.{Item}
-use Rattle.ld_pages.specs.declared.cursor.Lost.{Lost}
 use Rattle.ld_pages.specs.declared.cursor.Step.{Step}
 use Rattle.ld_pages.specs.declared.cursor.Wrong.{Wrong}
 use Rattle.ld_pages.specs.declared.cursor.Item.TheVariants as items

@@ -1,0 +1,3 @@
+pub mod HeadLemmas
+pub mod LeastLemmas
+pub mod MergeLemmas

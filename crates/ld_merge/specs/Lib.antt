@@ -1,0 +1,3 @@
+pub mod Order
+pub mod Heads
+pub mod Merge
