@@ -15,9 +15,13 @@ def answered(words, out, source=subprocess.DEVNULL):
 
 
 def last_line(path):
+    """The last line of a report, before the comments that say where lines come from."""
+    last = b""
     with open(path, "rb") as file:
-        file.seek(max(0, os.path.getsize(path) - 100))
-        return file.read().rstrip(b"\n").rpartition(b"\n")[2].decode()
+        for line in file:
+            if not line.startswith(b"#"):
+                last = line
+    return last.rstrip(b"\n").decode()
 
 
 class Summary:

@@ -42,7 +42,7 @@ _lockgraph() {
         explain) options='--class --map --most --only' ;;
         list) options='--class --dependencies' ;;
         new) options='--known' ;;
-        reduce) options='--keep-refused' ;;
+        reduce) options='--from --keep-refused' ;;
     esac
     case $word in
         -*) COMPREPLY=($(compgen -W "$options --workers --help -h" -- "$word")) ;;

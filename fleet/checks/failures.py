@@ -4,7 +4,7 @@ import subprocess
 
 import planted
 from machine import SMALL, made
-from rooms import call, fleet, must, must_be_same, night, parts_in, program, read, say, without_parallel
+from rooms import call, fleet, must, must_be_same, night, parts_in, program, read, say, unnoted, without_parallel
 
 # Stands for lockgraph: what it does with the stream `x`, once.
 STAND_IN = """#!/bin/sh
@@ -48,7 +48,7 @@ def check_statuses(room, _count):
         )
         second = call(*words, folder=streams, more={"LOCKGRAPH": stand_in})
         must(
-            second.returncode == 0 and read(target, "map/x.trace.reduced").decode() == text,
+            second.returncode == 0 and unnoted(read(target, "map/x.trace.reduced")).decode() == text,
             f"statuses: {does}: {second.stderr.decode()}",
         )
 

@@ -5,7 +5,7 @@ import signal
 import subprocess
 
 import planted
-from rooms import MARK, call, fleet, marked, must, must_be_same, night, parts_in, program, read, until
+from rooms import MARK, call, fleet, marked, must, must_be_same, night, parts_in, program, read, unnoted, until
 
 # So many streams have one at least of each kind.
 SMALL = 31
@@ -19,6 +19,7 @@ def made(room, name, count):
 
 def violations(text):
     """The lines of the violations of a stream, with lines counted from the header of each trace."""
+    text = unnoted(text)
     headers = {line.split()[1]: at for at, line in enumerate(text.split(b"\n"), 1) if line.startswith(b"trace ")}
     report = call(program("lockcheck"), data=text).stdout.split(b"\n")
     lines = [it for it in report[1:] if not it.startswith(b"refused ")]
@@ -45,7 +46,7 @@ def must_be_of_all(streams, count, made_of, name):
         f"{name}: other violations than those that were planted",
     )
     must(violations(left) == violations(text), f"{name}: other violations than those of one lockcheck over all streams")
-    whole = call(program("lockgraph"), "reduce", "--keep-refused", *good, folder=streams)
+    whole = call(program("lockgraph"), "reduce", "--from", "--keep-refused", *good, folder=streams)
     must(whole.stdout == left, f"{name}: another stream than that of one call over all")
 
 
@@ -126,7 +127,7 @@ def check_before(room, _count):
     )
     must("night.new" in said, "before: it isn't told where to look")
     night(room.path("first"), room.path("night3"), "--before", room.path("night2"), status=3)
-    must(read(room.path("night3"), "night.new").endswith(b"\nnothing new\n"), "before: what is known is new")
+    must(b"\nnothing new\n" in read(room.path("night3"), "night.new"), "before: what is known is new")
 
 
 def check_two(room, _count):
@@ -161,7 +162,7 @@ def check_refused(room, _count):
     )
     must("too many" in said, f"refused: it isn't told:\n{said}")
     must(
-        read(room.path("night"), "night.trace") == b"trace good\nacquire t A\nacquire t B\n",
+        read(room.path("night"), "night.trace") == b"trace good\n# from good.trace 1\nacquire t A\nacquire t B\n",
         "refused: another stream is left",
     )
     must(read(room.path("night"), "night.refused") == b"10001 broken.trace\n", "refused: another list")

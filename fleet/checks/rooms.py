@@ -1,6 +1,7 @@
 """A folder in which a check works, and the processes that it started there: both go however the check ends."""
 import contextlib
 import os
+import re
 import shutil
 import signal
 import subprocess
@@ -129,6 +130,11 @@ def call(*words, more=None, folder=None, timeout=600, data=None):
         timeout=timeout,
         check=False,
     )
+
+
+def unnoted(text):
+    """A stream without the lines that say where its traces come from."""
+    return re.sub(rb"(?m)^# from \S+ \d+\n", b"", text)
 
 
 def read(*names):

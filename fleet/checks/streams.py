@@ -4,7 +4,7 @@ import re
 import sys
 
 from failures import STAND_IN
-from rooms import call, fleet, has_parallel, must, night, program, read, without_parallel
+from rooms import call, fleet, has_parallel, must, night, program, read, unnoted, without_parallel
 
 TEXT = "trace {0}\nacquire t {0}_a\nacquire t {0}_b\n"
 # Nobody's number, whom files of mode 0 may be kept from.
@@ -55,7 +55,7 @@ def check_names(room, _count):
         must(("xargs" in said) == (bool(more) or not has_parallel()), f"names: another engine:\n{said}")
         left = read(room.path(target), "night.trace").decode()
         must(
-            sorted(re.findall(r"trace (\S+)", left)) == sorted(f"m{it}" for it in range(len(names))),
+            sorted(re.findall(r"(?m)^trace (\S+)", left)) == sorted(f"m{it}" for it in range(len(names))),
             "names: a stream is missing",
         )
         faulty = read(room.path(target), "night.faulty").decode()
@@ -77,7 +77,7 @@ def check_grows(room, _count):
         stream = room.write("streams/x.trace", f"trace x\n{text}")
         os.utime(stream, ns=(10**18 + number, 10**18 + number))
         night(room.path("streams"), room.path("night"), status=0)
-        left = read(room.path("night"), "night.trace").decode()
+        left = unnoted(read(room.path("night"), "night.trace")).decode()
         must(left == f"trace x\n{text}", f"grows: stream {number} isn't read")
     room.write("streams/x.trace", f"trace x\n{text}release t A\n")
     os.utime(stream, ns=(10**18 + 1, 10**18 + 1))
@@ -101,7 +101,7 @@ def check_grows_meanwhile(room):
     must(os.listdir(target) == [], "grows: something is left of a stream that is still written")
     ended = call(*words)
     must(ended.returncode == 0, f"grows: {ended.stderr.decode()}")
-    must(read(target, "x.trace.reduced") == read(stream), "grows: what was written meanwhile is lost")
+    must(unnoted(read(target, "x.trace.reduced")) == read(stream), "grows: what was written meanwhile is lost")
     # Nothing stays of a stream as it was if its task is killed.
     room.write("streams/x.trace", TEXT.format("z"))
     killed = room.write("killed", '#!/bin/sh\ncase "$*" in *--help) ;; *) kill -9 "$PPID" ;; esac\n', 0o755)
@@ -152,7 +152,7 @@ def check_unread(room, _count):
         os.unlink(os.path.join(streams, name))
     ended = call(*as_nobody(*words), folder="/")
     must(ended.returncode == 0, f"unread: status {ended.returncode}: {ended.stderr.decode()}")
-    left = re.findall(r"trace (\S+)", read(room.path("nights", "night", "night.trace")).decode())
+    left = re.findall(r"(?m)^trace (\S+)", read(room.path("nights", "night", "night.trace")).decode())
     must(left == ["a", "c", "b", "d"], f"unread: these are joined: {left}")
     # An old result says nothing of a stream that can't be seen any more.
     os.chmod(closed[0], 0o444)

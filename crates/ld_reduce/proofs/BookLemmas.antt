@@ -1,5 +1,5 @@
 -- The traces in which something was first seen, by the rows of a book; and what is so of their stream.
-use Rattle.std.proofs.Common.{◌≡◌, ◌∙◌, ◌<◌, ◌≤◌, ◌==◌, ◌||◌, inl, inr, ◌++◌, ℕ, Bool, true, false, List, [], ◌∷◌, map, length, Option, Some, None, IsSome, Result, Ok, Err, IfOk, All, refl, ap, sym, subst, arith}
+use Rattle.std.proofs.Common.{◌≡◌, ◌∙◌, ◌<◌, ◌≤◌, ◌==◌, ◌||◌, inl, inr, ◌++◌, ℕ, Bool, true, false, List, [], ◌∷◌, map, length, Option, Some, None, is_some, IsSome, Result, Ok, Err, IfOk, All, refl, ap, sym, subst, arith}
 use Rattle.std.proofs.lemmas.Bool.{eqb-true, or_left, or_right}
 use Rattle.std.proofs.lemmas.Bool.Decides.{Decides-eqb}
 use Rattle.std.proofs.lemmas.List.Elements.{All-head, All-tail}
@@ -12,7 +12,7 @@ use Rattle.ld_class.specs.Names.{PlainClass, no_class, place_of}
 use Rattle.ld_class.proofs.Mapped.{list_any-map}
 use Rattle.ld_class.proofs.NameLemmas.{place_of-Some}
 use Rattle.ld_graph.specs.Walks.{HasWalk}
-use Rattle.ld_trace.specs.Sources.{PlainSource, sources, stream_fault}
+use Rattle.ld_trace.specs.Sources.{Fits, PlainSource, sources, stream_fault}
 use Rattle.ld_trace.specs.declared.event.State.TheVariants.{Hard, Soft}
 use Rattle.ld_trace.specs.declared.source.TheConstants.{LONGEST_STREAM, MOST_TRACES}
 use Rattle.ld_rules.specs.declared.outcome.Witness.{Witness}
@@ -30,11 +30,14 @@ use Rattle.ld_book.specs.Dependencies.{AreDependencies, dependency_at, usage_of_
 use Rattle.ld_book.specs.Violations.{Depends, HasBit, IsViolation, Violation}
 use Rattle.ld_book.specs.Violations.Violation.{Conflict, Cycle, Forbidden}
 use Rattle.ld_reduce.specs.Kept.{IsAt, IsFirst}
+use Rattle.ld_reduce.specs.Origin.{PlainHome, marked}
 use Rattle.ld_reduce.specs.Reduced.{AreNeeded, IsReduced}
-use Rattle.ld_reduce.specs.Same.{HaveSameUnion, ShowSame}
+use Rattle.ld_reduce.specs.Same.{HaveSameUnion, HaveSameWitnesses, ShowSame}
 use Rattle.ld_reduce.specs.Written.{IsTrace}
 use Rattle.ld_reduce.proofs.JoinLemmas.{joined-kept, show_same-from_union}
-use Rattle.ld_reduce.proofs.StreamLemmas.{sources-rising, sources-traces}
+use Rattle.ld_reduce.proofs.MarkedLemmas.{HasHead, both-marked, rising-marked, same-marked, traces-marked}
+use Rattle.ld_reduce.proofs.SettledLemmas.{reduced-settled, says-homes}
+use Rattle.ld_reduce.proofs.StreamLemmas.{sources-heads, sources-rising, sources-traces}
 use Rattle.ld_reduce.specs.Reduction.{HaveSameViolations, IsReductionOf, is_in}
 
 -- What is seen first, by rows.
@@ -162,20 +165,41 @@ violations-from_shown these others same v = (
   violation-from_shown others these (record { dependencies = λ what. sym (same.dependencies what); uses = λ what. sym (same.uses what) }) v,
 )
 
--- what is so of a reduced stream
-pub reduction-is : (keep_refused : Bool) (all : List PlainSource) (text : List ℕ) → All IsTrace all → AreRising all → IsReduced keep_refused all text
-    → (length all ≤ MOST_TRACES → length text ≤ LONGEST_STREAM → stream_fault text ≡ None) → HaveSameUnion all (sources text) → AreNeeded keep_refused (sources text)
-    → IsReductionOf keep_refused all text
-reduction-is keep_refused all text traces rise reduced sound union needed = record {
-  reduced = reduced;
-  sound = sound;
-  union = union;
-  violations = violations-from_shown all (sources text) (show_same-from_union all (sources text) union);
-  joined = λ more other rest fine is.
-      subst (λ joined. HaveSameViolations (all ++ sources other) (sources joined)) (λ i. sym reduced.text_is i ++ sym is.text_is i)
-      (violations-from_shown _ _ (joined-kept keep_refused more all reduced.kept (sources other) is.kept traces rise reduced.are (sources-traces other fine) (sources-rising other) is.are));
-  needed = needed;
+-- a trace that fits has its header before its lines
+pub fits-heads : (all : List PlainSource) → All Fits all → All HasHead all
+fits-heads all fit k d within = let low = (fit k d within).from_line in omega (arith, low)
+
+-- what traces show first shows what they show
+shown-from_witnesses : (these others more : List PlainSource) → HaveSameWitnesses these others → ShowSame others more → ShowSame these more
+shown-from_witnesses these others more same shown = record {
+  dependencies = λ what. ap is_some (same.dependencies what) ∙ shown.dependencies what;
+  uses = λ what. ap is_some (same.uses what) ∙ shown.uses what;
 }
+
+-- what is so of a reduced stream
+pub reduction-is : (keep_refused : Bool) (homes : List PlainHome) (all : List PlainSource) (text : List ℕ) → All IsTrace all → AreRising all → All HasHead all
+    → IsReduced keep_refused (map (marked homes) all) text
+    → (length all ≤ MOST_TRACES → length text ≤ LONGEST_STREAM → stream_fault text ≡ None) → HaveSameUnion (map (marked homes) all) (sources text) → AreNeeded keep_refused (sources text)
+    → IsReductionOf keep_refused homes all text
+reduction-is keep_refused homes all text traces rise heads reduced sound union needed =
+    let same = same-marked homes all heads in
+    record {
+      reduced = reduced;
+      same = same;
+      sound = sound;
+      union = union;
+      violations = violations-from_shown all (sources text) (shown-from_witnesses all (map (marked homes) all) (sources text) same (show_same-from_union (map (marked homes) all) (sources text) union));
+      joined = λ more others other rest fine is.
+          let own = sources other in
+          let head = sources-heads other in
+          let shown = joined-kept keep_refused more (map (marked homes) all) reduced.kept (map (marked others) own) is.kept (traces-marked homes all traces) (rising-marked homes all rise) reduced.are
+          (traces-marked others own (sources-traces other fine)) (rising-marked others own (sources-rising other)) is.are in
+          subst (λ joined. HaveSameViolations (all ++ own) (sources joined)) (λ i. sym reduced.text_is i ++ sym is.text_is i)
+          (violations-from_shown _ _ (shown-from_witnesses (all ++ own) (map (marked homes) all ++ map (marked others) own) _ (both-marked homes others all own heads head) shown));
+      needed = needed;
+      said = says-homes homes all;
+      settled = reduced-settled keep_refused homes all text reduced needed;
+    }
 
 -- the sources of a stream have one order
 pub in_order-sources : (bytes : List ℕ) (in_order : List PlainSource) → IsPermutation (sources bytes) in_order → AreRising in_order → in_order ≡ sources bytes

@@ -1,3 +1,4 @@
+pub mod OriginLemmas
 pub mod LineLemmas
 pub mod TextLemmas
 pub mod WrittenLemmas
@@ -5,6 +6,8 @@ pub mod MovedLemmas
 pub mod WitnessLemmas
 pub mod UnionLemmas
 pub mod NeededLemmas
+pub mod MarkedLemmas
+pub mod SettledLemmas
 pub mod ReducedLemmas
 pub mod JoinLemmas
 pub mod StreamLemmas

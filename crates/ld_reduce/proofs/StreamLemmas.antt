@@ -1,5 +1,5 @@
 -- The sources of a stream without fault are traces, and their numbers rise.
-use Rattle.std.proofs.Common.{◌≡◌, ◌+◌, ℕ, Bool, true, false, List, [], ◌∷◌, length, drop, filter_map, Option, Some, None, All, slice_get, refl, ap, subst, arith}
+use Rattle.std.proofs.Common.{◌≡◌, ◌+◌, ◌≤◌, ℕ, Bool, true, false, IfSome, List, [], ◌∷◌, length, drop, filter_map, Option, Some, None, All, slice_get, refl, ap, subst, arith}
 use Rattle.std.specs.Prelude.{IsTrue, nat_lt, if◌then◌else◌}
 use Rattle.std.proofs.lemmas.List.Elements.{All-cons, All-nil}
 use Rattle.std.specs.List.{concat, cons_option, enumerate_from, prefix_len, take_while}
@@ -13,7 +13,7 @@ use Rattle.ld_trace.proofs.SectionLemmas.{Opens, header-says, label-word, sectio
 use Rattle.ld_trace.proofs.SplitLemmas.{drop-next}
 use Rattle.ld_shown.specs.Batch.{AreRising}
 use Rattle.ld_reduce.specs.Written.{IsTrace}
-use Rattle.ld_reduce.proofs.WrittenLemmas.{sources-none}
+use Rattle.ld_reduce.proofs.WrittenLemmas.{all_given, sources-none}
 
 no_line_fault : (bytes : List ℕ) → stream_fault bytes ≡ None → line_faults (lines bytes) ≡ []
 no_line_fault bytes sound = by (nat_lt LONGEST_STREAM (length bytes)) (line_faults (lines bytes)) sound
@@ -66,3 +66,11 @@ sources-rising bytes i j d before within =
     let low = numbered bytes i d (omega (arith, before, within)) in
     let high = numbered bytes j d within in
     omega (arith, low, high, before)
+
+-- a header stands before the lines of each
+pub sources-heads : (bytes : List ℕ) → All (λ (source : PlainSource). 1 ≤ source.first_line) (sources bytes)
+sources-heads bytes = all_given (λ (source : PlainSource). 1 ≤ source.first_line) (opened_at (lines bytes)) 0 (lines bytes) (λ i x. by i (is_header x))
+  where
+    by : (i : ℕ) (test : Bool) → IfSome (if test then Some (section_at (lines bytes) i) else None) (λ source. 1 ≤ source.first_line)
+    by i true = omega arith
+    by i false = tt

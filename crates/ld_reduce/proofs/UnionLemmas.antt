@@ -15,6 +15,7 @@ use Rattle.ld_shown.specs.Batch.{AreRising}
 use Rattle.ld_reduce.specs.Written.{counted_anew, counted_from, ended}
 use Rattle.ld_book.specs.Totals.{is_refused}
 use Rattle.ld_reduce.specs.Kept.{AreKept, IsFirst}
+use Rattle.ld_reduce.specs.Origin.{origin_by, origin_of}
 use Rattle.ld_reduce.specs.Same.{HaveSameUnion, Place, place_of}
 use Rattle.ld_reduce.proofs.MovedLemmas.{line_within, shown_by, within-same}
 use Rattle.ld_reduce.proofs.TextLemmas.{texts-ended}
@@ -43,17 +44,18 @@ module _ {A : Type 0} (same : A → A → Bool) (at : List PlainEvent → PlainE
   abbrev place_in : PlainSource → Option Place
   place_in s = said_in same (shown_by same at) what (as_place same (shown_by same at) what) s
 
-  by_line : (s : PlainSource) → place_in s ≡ option_map (λ line. record { label = s.label; line = line }) (line_within same at what s)
+  by_line : (s : PlainSource) → place_in s ≡ option_map (λ line. record { label = s.label; origin = origin_of s.bytes; line = line }) (line_within same at what s)
   by_line s = by (least_line same (shown_by same at s) what)
     where
-      by : (line : Option ℕ) → option_map (as_place same (shown_by same at) what s) line ≡ option_map (λ line. record { label = s.label; line = line }) (option_map (λ line. line - s.first_line) line)
+      by : (line : Option ℕ) → option_map (as_place same (shown_by same at) what s) line ≡ option_map (λ line. record { label = s.label; origin = origin_of s.bytes; line = line }) (option_map (λ line. line - s.first_line) line)
       by None = refl
       by (Some line) = refl
 
   place-counted : (number first_line : ℕ) (s : PlainSource) → place_in (counted number first_line s) ≡ place_in s
   place-counted number first_line s =
       by_line (counted number first_line s)
-      ∙ ap (option_map (λ line. record { label = s.label; line = line })) (within-same same at what (counted number first_line s) s (texts-ended s.bytes))
+      ∙ ap (λ texts. option_map (λ line. record { label = s.label; origin = origin_by texts; line = line }) (line_within same at what (counted number first_line s))) (texts-ended s.bytes)
+      ∙ ap (option_map (λ line. record { label = s.label; origin = origin_of s.bytes; line = line })) (within-same same at what (counted number first_line s) s (texts-ended s.bytes))
       ∙ sym (by_line s)
 
   abbrev places : List PlainSource → Option Place

@@ -10,6 +10,7 @@ use Rattle.ld_rules.specs.declared.outcome.Witness.{Witness}
 use Rattle.ld_rules.specs.Dependency.{Seen, least_line}
 use Rattle.ld_rules.specs.Union.{earlier, first_of, first_witness, is_before}
 use Rattle.ld_shown.specs.Batch.{AreRising}
+use Rattle.ld_reduce.specs.Origin.{origin_of}
 use Rattle.ld_reduce.specs.Same.{Place, place_of}
 
 pub rising-later : (s : PlainSource) (others : List PlainSource) → AreRising (s ∷ others) → All (λ t. s.number < t.number) others
@@ -121,7 +122,7 @@ module _ {A : Type 0} (same : A → A → Bool) (shown : PlainSource → List (S
 
   -- by its place
   abbrev pub as_place : PlainSource → ℕ → Place
-  as_place s line = record { label = s.label; line = line - s.first_line }
+  as_place s line = record { label = s.label; origin = origin_of s.bytes; line = line - s.first_line }
 
   pub place-is : (sources : List PlainSource) → AreRising sources → option_map (place_of sources) (first_witness same shown sources what) ≡ first_said as_place sources
   place-is [] rise = refl

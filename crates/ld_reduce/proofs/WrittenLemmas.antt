@@ -66,7 +66,7 @@ section-none bytes i =
     let own : lines (concat (take n left)) ≡ take n left = subst (λ o. lines (concat (take n o)) ≡ take n o) same (lines-take n (concat left)) in
     ap (list_any is_header) own ∙ no_header-front left
 
-all_given : {X Y : Type 0} (P : Y → Type 0) (f : ℕ → X → Option Y) (n : ℕ) (xs : List X) → ((i : ℕ) (x : X) → IfSome (f i x) P) → All P (filter_map (λ p. f p.0 p.1) (enumerate_from n xs))
+pub all_given : {X Y : Type 0} (P : Y → Type 0) (f : ℕ → X → Option Y) (n : ℕ) (xs : List X) → ((i : ℕ) (x : X) → IfSome (f i x) P) → All P (filter_map (λ p. f p.0 p.1) (enumerate_from n xs))
 all_given P f n [] each = All-nil P
 all_given {X} {Y} P f n (x ∷ xs) each = by (f n x) (each n x) (all_given P f (n + 1) xs each)
   where

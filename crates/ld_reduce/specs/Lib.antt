@@ -1,3 +1,4 @@
+pub mod Origin
 pub mod Written
 pub mod Kept
 pub mod Same

@@ -1,15 +1,17 @@
 //! The reduced stream of the traces that a book lists.
-ghost use Rattle.std.specs.Prelude.{◌≡◌, ◌||◌, ◌==◌, ℕ, List, All, IfOk, OnOk, nat_eq};
+ghost use Rattle.std.specs.Prelude.{◌≡◌, ◌||◌, ◌==◌, ℕ, List, All, IfOk, OnOk, map, nat_eq};
 ghost use Rattle.std.specs.Bool.{Decides};
 ghost use Rattle.std.specs.List.{list_any};
 ghost use Rattle.std.specs.List.Sorted.{IsPermutation};
 ghost use Rattle.ld_trace.specs.Sources.{PlainSource};
 ghost use Rattle.ld_shown.specs.Batch.{AreRising};
 ghost use Rattle.ld_reduce.specs.Kept.{IsFirst};
+ghost use Rattle.ld_reduce.specs.Origin.{plain_home};
 ghost use Rattle.ld_reduce.specs.Reduction.{IsReductionOf, is_in};
 ghost use Rattle.ld_reduce.specs.Written.{IsTrace};
 
 use crate::firsts::Firsts;
+use crate::origin::Home;
 use crate::reduce::reduced;
 use ld_book::{Book, Traces, UsageRow, Witness, Witnessed};
 use std::alloc::{AllocError, Global};
@@ -64,17 +66,25 @@ fn firsts_of(alloc: Global, book: &Book<'_>) -> Result<Firsts, AllocError>
 
 /// The stream of those traces that a book lists in which a dependency, or a usage bit of a class, was first
 /// seen, whole and in the order of their numbers; and of the refused ones too, where these are to be kept.
-/// The last line has its LF.
+/// The last line has its LF. A trace that doesn't say where it comes from gets a line that does, if there is a home for
+/// its number.
 ///
 /// # Errors
 ///
 /// `AllocError` where a growth of memory was refused.
-pub fn reduction(alloc: Global, book: &Book<'_>, keep_refused: bool) -> Result<Vec<u8>, AllocError>
+pub fn reduction(
+    alloc: Global,
+    book: &Book<'_>,
+    keep_refused: bool,
+    homes: &[Home<'_>],
+) -> Result<Vec<u8>, AllocError>
     requires { All IsTrace book.now }
     ensures { IfOk result (λ text. (in_order : List PlainSource) × IsPermutation book.now in_order
-        × AreRising in_order × IsReductionOf keep_refused in_order text.items) }
+        × AreRising in_order × IsReductionOf keep_refused (map plain_home homes.now) in_order text.items) }
 {
     let firsts = firsts_of(alloc, book)?;
+    // Each of them has its header's line before its own.
+    let _ = book.listed();
     let traces = Traces::new(alloc, book)?;
-    reduced(alloc, traces.listed(), &firsts, keep_refused)
+    reduced(alloc, traces.listed(), &firsts, keep_refused, homes)
 }

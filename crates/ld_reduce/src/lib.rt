@@ -3,8 +3,10 @@
 
 mod book;
 mod firsts;
+mod origin;
 mod reduce;
 mod written;
 
 pub use book::reduction;
+pub use origin::{Home, Origin, origin_of};
 pub use written::{append_ended, is_ended};

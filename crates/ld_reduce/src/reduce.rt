@@ -8,11 +8,13 @@ ghost use Rattle.ld_rules.specs.Outcome.{outcome};
 ghost use Rattle.ld_shown.specs.Batch.{AreOutcomes, AreRising, sources_of};
 ghost use Rattle.ld_book.specs.Totals.{is_refused};
 ghost use Rattle.ld_reduce.specs.Kept.{IsFirst, keeps, kept_by};
+ghost use Rattle.ld_reduce.specs.Origin.{marked, plain_home};
 ghost use Rattle.ld_reduce.specs.Reduced.{AreNeeded, IsReduced};
 ghost use Rattle.ld_reduce.specs.Same.{HaveSameUnion};
 ghost use Rattle.ld_reduce.specs.Written.{IsTrace};
 
 use crate::firsts::Firsts;
+use crate::origin::Home;
 use crate::written::write_traces;
 use ld_rules::{Listed, Outcome};
 use ld_trace::Source;
@@ -57,7 +59,8 @@ fn kept<'a>(
 
 /// The stream of those traces in which a dependency, or a usage bit of a class, was first seen, whole and
 /// in their order, of traces of a stream in the order of their numbers, where those numbers are known; and
-/// of the refused ones too, where these are to be kept. The last line has its LF.
+/// of the refused ones too, where these are to be kept. Each says where it comes from, if it did or its home is known.
+/// The last line has its LF.
 ///
 /// # Errors
 ///
@@ -67,20 +70,22 @@ pub fn reduced(
     traces: &[Listed<'_>],
     firsts: &Firsts,
     keep_refused: bool,
+    homes: &[Home<'_>],
 ) -> Result<Vec<u8>, AllocError>
     requires outcomes { AreOutcomes traces.now }
     requires rising { AreRising (sources_of traces.now) }
     requires traces { All IsTrace (sources_of traces.now) }
+    requires heads { All (λ source. 1 ≤ source.first_line) (sources_of traces.now) }
     requires firsts { (number : ℕ) → Decides (list_any (nat_eq number) firsts.now)
         (IsFirst (sources_of traces.now) number) }
-    ensures reduced { IfOk result (λ text.
-        IsReduced keep_refused (sources_of traces.now) text.items) }
+    ensures reduced { IfOk result (λ text. IsReduced keep_refused
+        (map (marked (map plain_home homes.now)) (sources_of traces.now)) text.items) }
     ensures sound { IfOk result (λ text. length traces.now ≤ MOST_TRACES
         → length text.items ≤ LONGEST_STREAM → stream_fault text.items ≡ None) }
-    ensures union { IfOk result (λ text.
-        HaveSameUnion (sources_of traces.now) (sources text.items)) }
+    ensures union { IfOk result (λ text. HaveSameUnion
+        (map (marked (map plain_home homes.now)) (sources_of traces.now)) (sources text.items)) }
     ensures needed { IfOk result (λ text. AreNeeded keep_refused (sources text.items)) }
 {
     let kept = kept(alloc, traces, firsts, keep_refused)?;
-    write_traces(alloc, &kept)
+    write_traces(alloc, &kept, homes)
 }

@@ -1,3 +1,4 @@
 pub mod HeaderLemmas
+pub mod HomeLemmas
 pub mod LineLemmas
 pub mod NewsLemmas

@@ -1,5 +1,6 @@
 pub mod Comments
 pub mod Streams
+pub mod Homes
 pub mod Reduced
 pub mod Shown
 pub mod Faults

@@ -10,6 +10,7 @@ mod comments;
 mod dot;
 mod explain;
 mod fault;
+mod homes;
 mod json;
 mod lines;
 mod list;

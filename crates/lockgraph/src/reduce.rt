@@ -1,26 +1,39 @@
 //! `reduce`: the stream of those traces in which something was first seen.
-ghost use Rattle.std.specs.Prelude.{◌≡◌, ◌≢◌, ◌≤◌, ◌<◌, ◌↔◌, ℕ, All, AllPairs, List, Err, IfOk, IfSome, IsErr, OnErr, OnOk, Some, true, false};
+ghost use Rattle.std.specs.Prelude.{◌≡◌, ◌≢◌, ◌≤◌, ◌<◌, ◌↔◌, ℕ, All, AllPairs, List, Err, IfOk, IfSome, IsErr, OnErr, OnOk, Some, map, true, false};
 ghost use Rattle.std.specs.Io.KnownBytes.{Appends};
 ghost use Rattle.ld_trace.specs.declared.source.StreamFault.{StreamFault};
 ghost use Rattle.ld_trace.specs.Sources.{sources, stream_fault};
 ghost use Rattle.ld_device.specs.Transfer.{AppendsPart};
-ghost use Rattle.ld_trace.specs.Sources.{PlainSource};
+ghost use Rattle.ld_trace.specs.Sources.{PlainSource, plain};
+ghost use Rattle.ld_reduce.specs.Origin.{PlainHome};
 ghost use Rattle.ld_reduce.specs.Written.{IsTrace};
 ghost use Rattle.std.specs.List.Sorted.{IsPermutation};
-ghost use Rattle.lockgraph.specs.Reduced.{IsReducedOf, verdict_of_reduced};
+ghost use Rattle.lockgraph.specs.Homes.{AreWanted};
+ghost use Rattle.lockgraph.specs.Reduced.{IsReducedOf, IsReducedWith, verdict_of_reduced};
 
 use crate::fault::Fault;
+use crate::homes::homes_wanted;
 use crate::streams::read_streams;
 use crate::words::ReduceWords;
-use ld_check::{Book, CheckFault, MOST_WORKERS, NoGate, Verdict, check};
+use ld_check::{CheckFault, Checked, MOST_WORKERS, NoGate, Verdict, check};
 use ld_device::{Output, Std, send};
 use ld_reduce::reduction;
+use ld_texts::Places;
 use ld_trace::StreamFault;
 use std::alloc::{AllocError, Global};
 use std::io;
 use std::rt::Files;
 use std::sync::Wait;
 use std::thread::Threads;
+
+/// What a reduced stream is to have beside the traces that show something.
+#[derive(Clone, Copy, Debug, PartialEq, Eq)]
+pub struct Keeping {
+    /// The refused traces.
+    pub refused: bool,
+    /// Where the header of each trace stands, if the trace doesn't say where it comes from.
+    pub from: bool,
+}
 
 /// A reduced stream.
 #[derive(Debug, Drop)]
@@ -57,12 +70,12 @@ pub fn answer_reduce<'a, R: Files + io::Input + Print + AllocGlobal + Threads + 
     let streams = read_streams(rt, &words.given.files)?;
     let mut output = Std::new(io::writer(rt));
     let workers = words.given.workers;
-    let keep_refused = words.keep_refused;
     match write_reduced(
         rt,
         rt.alloc(),
         &streams.bytes,
-        keep_refused,
+        &streams.places,
+        words.keeping,
         &mut output,
         workers,
     ) {
@@ -82,15 +95,24 @@ fn verdict_of_reduced(keep_refused: bool, refused: u64) -> Verdict
     }
 }
 
-/// The reduced stream of the traces that a book lists.
-fn reduction_in(alloc: Global, book: &Book<'_>, keep_refused: bool) -> Result<Reduced, ReduceFault>
-    requires { All IsTrace book.now }
+/// The reduced stream of the traces that a book lists, whose lines stand at these places.
+fn reduction_in(
+    alloc: Global,
+    checked: &Checked<'_>,
+    places: &Places<'_>,
+    keeping: Keeping,
+) -> Result<Reduced, ReduceFault>
+    requires { All IsTrace checked.now.book }
     ensures memory { OnErr result (result ≡ Err ReduceFault.Memory) }
-    ensures reduced { IfOk result (λ reduced. (in_order : List PlainSource) × IsPermutation book.now in_order
-        × AllPairs (λ a b. a.number < b.number) in_order × IsReducedOf keep_refused in_order reduced.text.items reduced.verdict) }
+    ensures reduced { IfOk result (λ reduced. (homes : List PlainHome)
+        × AreWanted keeping.from places.now (map plain checked.now.sources.items) homes
+        × (in_order : List PlainSource) × IsPermutation checked.now.book in_order
+        × AllPairs (λ a b. a.number < b.number) in_order
+        × IsReducedWith keeping.refused homes in_order reduced.text.items reduced.verdict) }
 {
-    let text = reduction(alloc, book, keep_refused)?;
-    let verdict = verdict_of_reduced(keep_refused, book.totals().refused);
+    let homes = homes_wanted(alloc, places, &checked.sources, keeping.from)?;
+    let text = reduction(alloc, &checked.book, keeping.refused, &homes)?;
+    let verdict = verdict_of_reduced(keeping.refused, checked.book.totals().refused);
     Ok(Reduced { text, verdict })
 }
 
@@ -104,12 +126,13 @@ fn reduction_of<R: Threads + Wait + Sync>(
     rt: &R,
     alloc: Global,
     bytes: &[u8],
-    keep_refused: bool,
+    places: &Places<'_>,
+    keeping: Keeping,
     workers: usize,
 ) -> Result<Reduced, ReduceFault>
     requires { (1 ≤ workers) × (workers ≤ MOST_WORKERS) }
-    ensures reduced { IfOk result (λ reduced.
-        IsReducedOf keep_refused (sources bytes.now) reduced.text.items reduced.verdict) }
+    ensures reduced { IfOk result (λ reduced. IsReducedOf keeping places.now
+        (sources bytes.now) reduced.text.items reduced.verdict) }
     ensures stream { IfSome (stream_fault bytes.now) (λ fault.
         result ≡ Err (ReduceFault.Stream fault)) }
     ensures sound { (fault : StreamFault) → result ≡ Err (ReduceFault.Stream fault) →
@@ -117,7 +140,7 @@ fn reduction_of<R: Threads + Wait + Sync>(
     ensures unwritten { result ≢ Err ReduceFault.Write }
 {
     let checked = check(rt, alloc, bytes, workers, &NoGate)?;
-    let reduced = reduction_in(alloc, &checked.book, keep_refused);
+    let reduced = reduction_in(alloc, &checked, places, keeping);
     drop(checked);
     reduced
 }
@@ -126,7 +149,7 @@ fn reduction_of<R: Threads + Wait + Sync>(
 /// write or flush that fails is tried again. May wait.
 ///
 /// It has the violations that the stream has, and joined with the reduced stream of another those that both
-/// streams have together.
+/// streams have together. Reduced again it is the same, byte for byte.
 ///
 /// # Errors
 ///
@@ -136,7 +159,8 @@ fn write_reduced<O: Output, R: Threads + Wait + Sync>(
     rt: &R,
     alloc: Global,
     bytes: &[u8],
-    keep_refused: bool,
+    places: &Places<'_>,
+    keeping: Keeping,
     output: &mut O,
     workers: usize,
 ) -> Result<Verdict, ReduceFault>
@@ -144,12 +168,12 @@ fn write_reduced<O: Output, R: Threads + Wait + Sync>(
     requires workers { (1 ≤ workers) × (workers ≤ MOST_WORKERS) }
 
     ensures ok { IfOk result (λ verdict. (text : List ℕ)
-        × IsReducedOf keep_refused (sources bytes.now) text verdict
+        × IsReducedOf keeping places.now (sources bytes.now) text verdict
         × Appends (O.held output.old) (O.held output.new) text) }
     ensures flushed { OnOk result (O.is_flushed output.new ≡ true) }
     ensures write { (result ≡ Err ReduceFault.Write) ↔ (O.write_failed output.new ≡ true) }
     ensures part { result ≡ Err ReduceFault.Write → (text : List ℕ) × (verdict : Verdict)
-        × IsReducedOf keep_refused (sources bytes.now) text verdict
+        × IsReducedOf keeping places.now (sources bytes.now) text verdict
         × AppendsPart (O.held output.old) (O.held output.new) text }
     ensures nothing { IsErr result → result ≢ Err ReduceFault.Write → output.new ≡ output.old }
 
@@ -158,7 +182,7 @@ fn write_reduced<O: Output, R: Threads + Wait + Sync>(
     ensures stream_sound { (fault : StreamFault) → result ≡ Err (ReduceFault.Stream fault) →
         stream_fault bytes.now ≡ Some fault }
 {
-    let reduced = reduction_of(rt, alloc, bytes, keep_refused, workers)?;
+    let reduced = reduction_of(rt, alloc, bytes, places, keeping, workers)?;
     match send(output, &reduced.text) {
         Ok(()) => Ok(reduced.verdict),
         Err(_) => Err(ReduceFault::Write),

@@ -1,6 +1,7 @@
 //! The words of `reduce`.
 
 use super::{Given, count_of_workers, named_files, read_given};
+use crate::reduce::Keeping;
 use clap::{Arg, ArgAction, ArgMatches, Command, Error};
 use std::alloc::{AllocError, Global};
 
@@ -10,6 +11,8 @@ Writes those traces in which a dependency, or a usage bit of a class, was first 
 as a stream: lockcheck gives of it the same violations, with the same labels, and lines counted anew. What is
 joined of reduced streams by cat has the violations of all their traces together, and can be reduced again.
 Classes without dependencies and usage bits may be missing in it, and so may lines before the first header.
+--from notes where each trace comes from, unless its first line says so already. The notes stay, however often
+streams are joined and reduced again.
 
 Exit status: 3 where a refused trace is left out, 0 else, 2 where there is no whole answer.
 
@@ -20,14 +23,18 @@ Example:
 /// What `reduce` is asked.
 #[derive(Debug, Drop)]
 pub struct ReduceWords<'a> {
-    /// Whether refused traces are written too.
-    pub keep_refused: bool,
+    /// What is written beside the traces that show something.
+    pub keeping: Keeping,
     /// The files with the streams, and how they are read.
     pub given: Given<'a>,
 }
 
-/// `reduce [--keep-refused] [--workers N] [FILE]..`.
+/// `reduce [--from] [--keep-refused] [--workers N] [FILE]..`.
 pub fn reduce_command<'a>(alloc: Global) -> Result<Command<'a>, AllocError> {
+    let from = Arg::new(alloc, "from")
+        .long("from")
+        .help("A line behind each header says where it stands: # from FILE LINE")
+        .action(ArgAction::SetTrue);
     let keep_refused = Arg::new(alloc, "keep-refused")
         .long("keep-refused")
         .help("Refused traces are written too")
@@ -35,6 +42,7 @@ pub fn reduce_command<'a>(alloc: Global) -> Result<Command<'a>, AllocError> {
     Command::new(alloc, "reduce")
         .about("Writes the traces that are the first to show something, as a stream")
         .after_help(AFTER_REDUCE)
+        .arg(from)?
         .arg(keep_refused)?
         .arg(count_of_workers(alloc))?
         .arg(named_files(alloc))
@@ -50,10 +58,10 @@ pub fn read_reduce<'a>(
     command: &mut Command<'a>,
     matches: &ArgMatches<'a>,
 ) -> Result<ReduceWords<'a>, Error> {
-    let keep_refused = matches.get_flag("keep-refused");
+    let keeping = Keeping {
+        refused: matches.get_flag("keep-refused"),
+        from: matches.get_flag("from"),
+    };
     let given = read_given(alloc, command, matches, &[])?;
-    Ok(ReduceWords {
-        keep_refused,
-        given,
-    })
+    Ok(ReduceWords { keeping, given })
 }
