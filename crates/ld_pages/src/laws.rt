@@ -9,4 +9,6 @@ ghost use Rattle.ld_pages.specs.Reads.{PagesGive};
 pub fn one_reading()
     ensures { (l : Layout) (bytes : List ℕ) (is js : List Item) (f g : Option Fault) →
         PagesGive l bytes is f → PagesGive l bytes js g → (is ≡ js) × (f ≡ g) }
-{}
+{
+    let _law = ();
+}
