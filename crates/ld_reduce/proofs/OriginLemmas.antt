@@ -117,7 +117,7 @@ module _ (origin : PlainOrigin) (is : IsSaid origin) where
       let same : (origin.file ++ 32 ∷ []) ++ origin.line ≡ origin.file ++ 32 ∷ origin.line = append_assoc origin.file (32 ∷ []) origin.line in
       let end : (origin.file ++ 32 ∷ origin.line) ++ 10 ∷ [] ≡ origin.file ++ 32 ∷ (origin.line ++ 10 ∷ []) = append_assoc origin.file (32 ∷ origin.line) (10 ∷ []) in
       ap (λ o. text_of (codes "# from " ++ o)) (sym (ap (λ o. o ++ 10 ∷ []) same ∙ end))
-      ∙ text-run front origin.line run
+      ∙ text-run front origin.line run false
       ∙ ap (λ o. codes "# from " ++ o) same
 
   -- it is a line
