@@ -1,0 +1,8 @@
+use Rattle.std.proofs.Common.{rules}
+use Rattle.ld_json.specs.Json.{end_line}
+use Rattle.ld_json.proofs.Numbered.{numbered_step}
+use Rattle.ld_json.proofs.tables.write_ends.Goals as goal
+
+pub loop-place-preserved : goal.loop-place-preserved
+loop-place-preserved c =
+    numbered_step end_line c.args.all.now c.loop-place.place _ _ _ _ c.in_ok-write_end.ensures c.loop-place.invariant (search rules) (search rules)

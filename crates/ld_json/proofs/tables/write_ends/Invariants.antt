@@ -1,0 +1,6 @@
+use Rattle.std.proofs.Common.{◌≡◌, ◌++◌, take}
+use Rattle.ld_json.specs.Json.{end_line, numbered}
+use Rattle.ld_json.proofs.tables.write_ends.Given as goal
+
+abbrev pub invariant-loop-place : goal.invariant-loop-place
+invariant-loop-place l = l.out.items ≡ l.fn.out.items ++ numbered end_line 0 (take l.place l.all)

@@ -1,0 +1,6 @@
+use Rattle.std.proofs.Common.{◌≡◌, ◌++◌, take}
+use Rattle.ld_json.specs.Json.{group_line, numbered}
+use Rattle.ld_json.proofs.tables.write_groups.Given as goal
+
+abbrev pub invariant-loop-place : goal.invariant-loop-place
+invariant-loop-place l = l.out.items ≡ l.fn.out.items ++ numbered group_line 0 (take l.place l.all)
