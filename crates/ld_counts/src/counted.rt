@@ -123,28 +123,45 @@ fn counted_of<'a>(
     classes: &Classes<'a>,
     listed: &[Listed<'a>],
 ) -> Result<Counted, AllocError> {
+    let mut counted = Counted::new(alloc)?;
+    count(alloc, &mut counted, classes, listed)?;
+    Ok(counted)
+}
+
+/// Counts the events of these traces.
+fn count<'a>(
+    alloc: Global,
+    counted: &mut Counted,
+    classes: &Classes<'a>,
+    listed: &[Listed<'a>],
+) -> Result<(), AllocError> {
     let mut counting = Counting {
-        counted: Counted::new(alloc)?,
+        counted,
         locks: KnownLocks::new(alloc, classes)?,
         tasks: Tasks::new(alloc),
     };
-    for trace in listed {
-        if let Outcome::Read { .. } = trace.outcome {
-            counting.trace(trace.source)?;
-        }
-    }
-    Ok(counting.counted)
+    counting.traces(listed)
 }
 
 /// Counts events, one after another.
 #[derive(Drop)]
-struct Counting<'c, 'a> {
-    counted: Counted,
+struct Counting<'k, 'c, 'a> {
+    counted: &'k mut Counted,
     locks: KnownLocks<'c, 'a>,
     tasks: Tasks<'a>,
 }
 
-impl<'c, 'a> Counting<'c, 'a> {
+impl<'k, 'c, 'a> Counting<'k, 'c, 'a> {
+    /// Counts the events of these traces.
+    fn traces(&mut self, listed: &[Listed<'a>]) -> Result<(), AllocError> {
+        for trace in listed {
+            if let Outcome::Read { .. } = trace.outcome {
+                self.trace(trace.source)?;
+            }
+        }
+        Ok(())
+    }
+
     /// Counts the events of a trace.
     fn trace(&mut self, source: Source<'a>) -> Result<(), AllocError> {
         self.tasks.clear();
