@@ -1,4 +1,5 @@
 pub mod FieldLemmas
 pub mod KnownLemmas
+pub mod MatchLemmas
 pub mod NewsLemmas
 pub mod LineLaws

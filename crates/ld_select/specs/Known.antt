@@ -4,6 +4,7 @@ use Rattle.std.specs.List.{list_any, prefix_len}
 use Rattle.std.specs.Option.{option_map}
 use Rattle.ld_trace.specs.Lines.{is_blank, lines, text_of}
 use Rattle.ld_select.specs.Said.{PlainSaid, is_field, said_by, same_said}
+use Rattle.ld_select.specs.Match.{matches}
 
 -- the first field of a report's first line, and of one for a refused trace
 abbrev pub is_summary_or_refused : List ℕ → Bool
@@ -37,15 +38,20 @@ may_stand line =
 abbrev pub unknown_line : List ℕ → Option ℕ
 unknown_line known = option_map (λ n. n + 1) (position (λ line. not (may_stand line)) (lines known))
 
--- what a line says is this
+-- this known line says something, and it matches
 abbrev pub is_that : PlainSaid → Option PlainSaid → Bool
 is_that said None = false
-is_that said (Some other) = same_said other said
+is_that said (Some known) = matches known said
 
--- some line of the text says this
+-- some line of the known text matches what is said
 abbrev pub has_said : List ℕ → PlainSaid → Bool
 has_said text said = list_any (λ line. is_that said (said_by (text_of line))) (lines text)
 
--- this is one of what is said
-abbrev pub is_among : List PlainSaid → PlainSaid → Bool
-is_among all said = list_any (same_said said) all
+-- What the lines of a known text say: `plain` without a `*` in their classes, and `patterns` with one.
+pub record PlainKnown : Type 0 where
+  pub plain : List PlainSaid
+  pub patterns : List PlainSaid
+
+-- one of them matches what is said
+abbrev pub is_among : PlainKnown → PlainSaid → Bool
+is_among known said = list_any (same_said said) known.plain || list_any (λ pattern. matches pattern said) known.patterns

@@ -5,7 +5,7 @@ ghost use Rattle.ld_trace.specs.Lines.{is_blank};
 ghost use Rattle.ld_select.specs.Said.{PlainSaid, plain_said};
 ghost use Rattle.ld_select.specs.Known.{has_said, is_among, is_comment, is_last, is_last_of_new, is_summary_or_refused, may_stand, unknown_line};
 
-use crate::said::{Said, is_field, said_by};
+use crate::said::{Said, has_star, is_field, is_matched, said_by};
 use indexmap::IndexSet;
 use ld_trace::{next_line, text};
 use std::alloc::{AllocError, Global};
@@ -86,16 +86,23 @@ pub fn unknown_line(known: &[u8]) -> Option<u64>
 /// What the lines of a known text say.
 #[derive(Drop)]
 pub struct Known<'a> {
-    said: IndexSet<Said<'a>>,
+    /// What those without a `*` in their classes say.
+    plain: IndexSet<Said<'a>>,
+    /// What the others say.
+    patterns: Vec<Said<'a>>,
 }
 
 impl<'a> Model for Known<'a> {
-    ghost use Rattle.std.specs.Prelude.{List, map};
-    ghost use Rattle.ld_select.specs.Said.{PlainSaid, plain_said};
+    ghost use Rattle.std.specs.Prelude.{map};
+    ghost use Rattle.ld_select.specs.Known.{PlainKnown};
+    ghost use Rattle.ld_select.specs.Said.{plain_said};
 
-    ghost Value = { List PlainSaid };
+    ghost Value = { PlainKnown };
 
-    ghost view = { λ known. map plain_said known.said.keys };
+    ghost view = { λ known. record {
+      plain = map plain_said known.plain.keys;
+      patterns = map plain_said known.patterns.items;
+    } };
 }
 
 impl<'a> Known<'a> {
@@ -108,21 +115,26 @@ impl<'a> Known<'a> {
         ensures { IfOk result (λ all. (said : PlainSaid) →
             is_among all said ≡ has_said known.entry.now said) }
     {
-        let mut said = IndexSet::new(alloc);
+        let mut plain = IndexSet::new(alloc);
+        let mut patterns = Vec::new(alloc);
         let mut rest = known;
         while let Some((line, after)) = next_line(rest) {
             if let Some(one) = said_by(text(line)) {
-                said.insert(one)?;
+                if has_star(one) {
+                    patterns.push(one)?;
+                } else {
+                    plain.insert(one)?;
+                }
             }
             rest = after;
         }
-        Ok(Known { said })
+        Ok(Known { plain, patterns })
     }
 
-    /// Whether one of them says this.
+    /// Whether one of them matches what is said.
     pub fn has(&self, said: Said<'_>) -> bool
         ensures { result ≡ is_among self.now (plain_said said.entry) }
     {
-        self.said.contains(&said)
+        self.plain.contains(&said) || is_matched(&self.patterns, said)
     }
 }

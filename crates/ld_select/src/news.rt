@@ -74,7 +74,8 @@ fn write_line(out: &mut Vec<u8>, line: &[u8], known: &Known<'_>) -> Result<(), A
     Ok(())
 }
 
-fn one_if(holds: bool) -> u64
+/// 1 for what holds, else 0.
+pub(crate) fn one_if(holds: bool) -> u64
     ensures { result ≡ (if holds then 1 else 0) }
 {
     u64::from(holds)

@@ -1,10 +1,12 @@
 //! What a line of a report says, whatever its witnesses and the walk that it shows.
 ghost use Rattle.std.specs.Prelude.{◌≡◌, ◌≤◌, length};
-ghost use Rattle.std.specs.List.{after_first, before_first, position_or_len};
+ghost use Rattle.std.specs.List.{after_first, before_first, list_any, position_or_len};
 ghost use Rattle.std.specs.Option.{option_map};
 ghost use Rattle.ld_select.specs.Said.{field, is_conflict, is_field, is_forbidden, is_inversion, is_recursion};
 ghost use Rattle.ld_select.specs.Said.{is_space, is_state, plain_said, said_by};
+ghost use Rattle.ld_select.specs.Match.{has_star, is_star, matches};
 
+use crate::pattern::{is_match, is_star};
 use std::hash::{Hash, Hasher};
 
 /// What a line of a report says of a violation.
@@ -161,4 +163,41 @@ pub fn said_by(text: &[u8]) -> Option<Said<'_>>
     } else {
         None
     }
+}
+
+fn contains_star(name: &[u8]) -> bool
+    ensures { result ≡ list_any is_star name.now }
+{
+    name.iter().any(|byte| is_star(*byte))
+}
+
+/// Whether a `*` stands in a class.
+pub(crate) fn has_star(said: Said<'_>) -> bool
+    ensures { result ≡ has_star (plain_said said.entry) }
+{
+    contains_star(said.from) || contains_star(said.to)
+}
+
+/// Whether a known line matches what is said: its kind and state are the same, and its classes match.
+pub(crate) fn matches(known: Said<'_>, said: Said<'_>) -> bool
+    ensures { result ≡ matches (plain_said known.entry) (plain_said said.entry) }
+{
+    known.kind == said.kind
+        && known.state == said.state
+        && is_match(known.from, said.from)
+        && is_match(known.to, said.to)
+}
+
+/// Whether one of several known lines matches what is said.
+pub(crate) fn is_matched(patterns: &[Said<'_>], said: Said<'_>) -> bool
+    ensures { result ≡ list_any (λ pattern. matches (plain_said pattern) (plain_said said.entry)) patterns.now }
+{
+    patterns.iter().any(|pattern| matches(*pattern, said))
+}
+
+/// Whether a known line matches one of what is said.
+pub(crate) fn matches_any(known: Said<'_>, all: &[Said<'_>]) -> bool
+    ensures { result ≡ list_any (λ said. matches (plain_said known.entry) (plain_said said)) all.now }
+{
+    all.iter().any(|said| matches(known, *said))
 }

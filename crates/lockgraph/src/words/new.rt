@@ -17,7 +17,8 @@ A line of KNOWN makes known what it says, in one of these forms, where .. may be
   inversion A -> B at ..
   conflict STATE A MARKS in ..
   forbidden STATE A MARKS in T:L -> B MARKS on ..
-Its other lines are those of reports, empty ones, and comments, which begin with #.
+In A and B each * stands for any bytes, also for none. Its other lines are those of reports, empty ones, and
+comments, which begin with #.
 
 Exit status: 1 where a violation is new, 3 where none is and a trace is refused, 0 else, 2 where there is no
 answer.
