@@ -1,6 +1,6 @@
 -- One byte of the pattern more.
-use Rattle.std.proofs.Common.{◌≡◌, ◌∙◌, ap, arith, length, sym}
-use Rattle.ld_select.proofs.MatchLemmas.{byte-later, byte-same, star-ends, star-same, unstarred}
+use Rattle.std.proofs.Common.{◌∙◌, ap, arith, length, sym}
+use Rattle.ld_select.proofs.MatchLemmas.{byte-later, byte-same, star-ends, star-same}
 use Rattle.ld_select.proofs.pattern.at_front.Goals as goal
 
 pub returns-then-is_star : goal.returns-then-is_star

@@ -2,7 +2,7 @@
 use Rattle.std.proofs.Common.{◌≡◌, ◌∙◌, true, false, if◌then◌else◌, sym, ap, map}
 use Rattle.std.specs.List.{list_any}
 use Rattle.ld_select.specs.declared.said.Said.{Said}
-use Rattle.ld_select.specs.Said.{PlainSaid, plain_said, same_said}
+use Rattle.ld_select.specs.Said.{plain_said, same_said}
 use Rattle.ld_select.specs.Match.{has_star, matches}
 use Rattle.ld_select.specs.Gone.{PlainViolations, is_in}
 use Rattle.ld_select.proofs.KnownLemmas.{list_any-map}
