@@ -1,9 +1,10 @@
 //! Graphs of classes and dependencies, in the language of Graphviz.
 
 use crate::around::near;
-use crate::violations::{Choice, Dependency, Kind, Violation, chosen, is_named};
+use crate::violations::{Choice, Dependency, Violation, chosen, is_named};
 use crate::writing::write_sub;
 use indexmap::{IndexMap, IndexSet};
+use ld_rows::Kind;
 use ld_texts::{
     Book, ClassName, ClassRow, DependencyRow, Overview, Places, has_readers, lock_of_readers,
     sort_by_locks,

@@ -2,7 +2,7 @@
 
 use crate::groups::{Member, grouped, most_shared};
 use crate::known::{write_known_class, write_known_line};
-use crate::readers::{Held, class_of, holds_in};
+use crate::readers::{Held, class_of, holds_in, innermost};
 use crate::sightings::{Sightings, Texts};
 use crate::violations::{Dependency, Ends, Step, Violation};
 use crate::writing::{state_name, write_lock, write_place};
@@ -39,7 +39,7 @@ pub fn explain<'t, 'a>(
     let explained = members.get(..told).unwrap_or(&[]);
     let wanted = witnesses(alloc, violations, explained)?;
     let sightings = Sightings::of(alloc, sources, wanted)?;
-    let texts = Texts::of(alloc, sources, lines_of(alloc, &sightings)?)?;
+    let texts = Texts::of(alloc, sources, sightings.lines(alloc)?)?;
     let mut telling = Telling {
         alloc,
         sources,
@@ -84,41 +84,6 @@ fn witnesses(
         }
     }
     Ok(wanted)
-}
-
-/// The lines that may be told of these: their own, and those at which something was opened or put on.
-fn lines_of(alloc: Global, sightings: &Sightings<'_>) -> Result<Vec<Witness>, AllocError> {
-    let mut wanted = Vec::new(alloc);
-    for (at, before) in sightings.all() {
-        wanted.push(*at)?;
-        if let Some(before) = before {
-            add_lines(&mut wanted, at.number, before)?;
-        }
-    }
-    Ok(wanted)
-}
-
-/// Adds the lines at which what is open there was opened, and its flags were put on.
-fn add_lines(
-    wanted: &mut Vec<Witness>,
-    number: u64,
-    before: &Before<'_>,
-) -> Result<(), AllocError> {
-    for hold in before.task.holds() {
-        let line = hold.line;
-        wanted.push(Witness { number, line })?;
-    }
-    for handler in before.task.handlers() {
-        let line = handler.line;
-        wanted.push(Witness { number, line })?;
-    }
-    let flags = before.flags();
-    for flag in [flags.hard, flags.soft] {
-        if let Flag::Since(line) = flag {
-            wanted.push(Witness { number, line })?;
-        }
-    }
-    Ok(())
 }
 
 /// The text so far, and what it is about.
@@ -347,13 +312,5 @@ impl<'t, 'a> Telling<'t, 'a> {
             Some(source) => source.name,
             None => &[],
         }
-    }
-}
-
-/// The frame that the task of a line is in there.
-fn innermost(before: &Before<'_>) -> Option<u64> {
-    match before.task.handlers().last() {
-        Some(handler) => Some(handler.place),
-        None => None,
     }
 }

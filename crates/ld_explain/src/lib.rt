@@ -9,10 +9,13 @@ mod explaining;
 mod groups;
 mod known;
 mod readers;
+mod rows;
 mod sightings;
 mod violations;
 mod writing;
 
 pub use drawing::{Drawn, dot};
 pub use explaining::explain;
-pub use violations::{Choice, Dependency, Ends, Kind, Step, Violation, chosen};
+pub use ld_rows::Kind;
+pub use rows::rows_of;
+pub use violations::{Choice, Dependency, Ends, Step, Violation, chosen};

@@ -1,6 +1,6 @@
 //! What a task holds as it is told of: a lock that readers wait for is one lock, whose writer holds two classes.
 
-use ld_held::Hold;
+use ld_held::{Before, Hold};
 use ld_texts::{ClassName, has_readers, lock_of_readers};
 use ld_trace::Lock;
 use std::alloc::{AllocError, Global};
@@ -10,6 +10,8 @@ use std::alloc::{AllocError, Global};
 pub struct Held<'a> {
     /// The lock: `L` for `L!read`.
     pub lock: Lock<'a>,
+    /// The subclass that it was acquired as, from 1 to 7; 0 where none was named.
+    pub sub: u8,
     /// Whether its readers wait for the task.
     pub is_written: bool,
     /// The number, in the stream, of the line of its acquisition.
@@ -26,11 +28,13 @@ impl<'a> Held<'a> {
                     class,
                     instance: hold.lock.instance,
                 },
+                sub: 0,
                 is_written: true,
                 line,
             },
             None => Held {
                 lock: hold.lock,
+                sub: hold.sub,
                 is_written: false,
                 line,
             },
@@ -60,6 +64,14 @@ pub fn holds_in<'a>(
         }
     }
     Ok(all)
+}
+
+/// The frame that the task of a line is in there.
+pub fn innermost(before: &Before<'_>) -> Option<u64> {
+    match before.task.handlers().last() {
+        Some(handler) => Some(handler.place),
+        None => None,
+    }
 }
 
 /// Whether these are what a writer of one lock holds.

@@ -1,6 +1,6 @@
 //! What stands at some lines of some traces, looked up in one pass over each trace.
 
-use ld_held::{Before, before_lines, lines_at};
+use ld_held::{Before, Flag, before_lines, lines_at};
 use ld_texts::Witness;
 use ld_trace::{Source, text};
 use std::alloc::{AllocError, Global};
@@ -57,9 +57,16 @@ impl<'a> Sightings<'a> {
         }
     }
 
-    /// All of them, with their lines.
-    pub fn all(&self) -> &[(Witness, Option<Before<'a>>)] {
-        &self.found
+    /// The lines that may be told of these: their own, and those at which something was opened or put on.
+    pub fn lines(&self, alloc: Global) -> Result<Vec<Witness>, AllocError> {
+        let mut wanted = Vec::new(alloc);
+        for (at, before) in &self.found {
+            wanted.push(*at)?;
+            if let Some(before) = before {
+                add_lines(&mut wanted, at.number, before)?;
+            }
+        }
+        Ok(wanted)
     }
 }
 
@@ -90,6 +97,29 @@ impl<'a> Texts<'a> {
             Err(_) => &[],
         }
     }
+}
+
+/// Adds the lines at which what is open there was opened, and its flags were put on.
+fn add_lines(
+    wanted: &mut Vec<Witness>,
+    number: u64,
+    before: &Before<'_>,
+) -> Result<(), AllocError> {
+    for hold in before.task.holds() {
+        let line = hold.line;
+        wanted.push(Witness { number, line })?;
+    }
+    for handler in before.task.handlers() {
+        let line = handler.line;
+        wanted.push(Witness { number, line })?;
+    }
+    let flags = before.flags();
+    for flag in [flags.hard, flags.soft] {
+        if let Flag::Since(line) = flag {
+            wanted.push(Witness { number, line })?;
+        }
+    }
+    Ok(())
 }
 
 /// These lines, each once, by their traces.

@@ -3,22 +3,10 @@ ghost use Rattle.std.specs.Prelude.{◌≡◌, [], All, IfOk, List, OnOk};
 ghost use Rattle.ld_trace.specs.Sources.{PlainSource};
 ghost use Rattle.ld_explain.specs.Steps.{AreFirst, IsAtFirst};
 
+use ld_rows::Kind;
 use ld_texts::{Book, ClassName, ConflictRow, CycleRow, Findings, ForbiddenRow, Walk, Witness};
 use ld_trace::{State, next_line, text};
 use std::alloc::{AllocError, Global};
-
-/// What a violation is.
-#[derive(Clone, Copy, Debug, PartialEq, Eq)]
-pub enum Kind {
-    /// A class that was acquired while a lock of it was held.
-    Recursion,
-    /// A dependency between two classes that is on a circle.
-    Inversion,
-    /// A class that handlers acquire, and that is held where they can interrupt.
-    Conflict,
-    /// A walk from a class that handlers acquire to one that is held where they can interrupt.
-    Forbidden,
-}
 
 /// Which violations are explained, and how many.
 #[derive(Clone, Copy, Debug)]

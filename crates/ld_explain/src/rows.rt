@@ -1,0 +1,131 @@
+//! All that a report says, and what stands behind it, as rows.
+
+mod classes;
+mod groups;
+mod lines;
+mod needed;
+mod origins;
+mod refused;
+mod seen;
+mod violations;
+
+use crate::groups::grouped;
+use crate::rows::classes::{class_rows, edge_rows};
+use crate::rows::groups::{group_numbers, group_rows};
+use crate::rows::lines::{Lines, Placing};
+use crate::rows::needed::Needed;
+use crate::rows::refused::{Fault, faults, refused_rows};
+use crate::rows::seen::{Telling, dependency_rows, end_rows};
+use crate::rows::violations::violation_rows;
+use crate::sightings::{Sightings, Texts};
+use crate::violations::{Choice, chosen};
+use ld_book::{Book, Totals as BookTotals};
+use ld_maps::Maps;
+use ld_rows::{ClassRow, EdgeRow, Rows, Totals};
+use ld_texts::{Overview, Places};
+use ld_trace::Source;
+use std::alloc::{AllocError, Global};
+
+/// All that this report of a book says, and what stands behind it. `sources` are the traces of the book, each at the
+/// place of its number, `places` says where their lines stand in files, and `maps` what is known of these lines.
+/// Every class and every dependency is told if `all` is set.
+///
+/// # Errors
+///
+/// `AllocError` where a growth of memory was refused.
+pub fn rows_of<'a>(
+    alloc: Global,
+    book: &Book<'a>,
+    report: &'a [u8],
+    sources: &[Source<'a>],
+    places: &Places<'a>,
+    maps: &Maps<'_>,
+    all: bool,
+) -> Result<Rows<'a>, AllocError> {
+    let chosen = chosen(alloc, book, report, &Choice::all())?;
+    let members = grouped(alloc, &chosen)?;
+    let numbers = group_numbers(alloc, &members)?;
+    let placing = Placing { sources, places };
+    let mut needed = Needed::new(alloc);
+    let violations = violation_rows(alloc, placing, &chosen, &numbers, &mut needed)?;
+    let groups = group_rows(alloc, &chosen, &members, &needed)?;
+    let faults = faults(alloc, book)?;
+    let sightings = Sightings::of(alloc, sources, needed.witnesses(alloc)?)?;
+    let texts = texts_of(alloc, sources, &sightings, &faults)?;
+    let lines = Lines {
+        alloc,
+        placing,
+        maps,
+        texts: &texts,
+    };
+    let refused = refused_rows(&lines, &faults)?;
+    let telling = Telling {
+        lines: &lines,
+        sightings: &sightings,
+    };
+    let dependencies = dependency_rows(&telling, &needed.steps)?;
+    let ends = end_rows(&telling, book, &needed.ends)?;
+    let tables = tables_of(alloc, book, placing, maps, all)?;
+    Ok(Rows {
+        totals: totals_of(book.totals()),
+        refused,
+        violations,
+        groups,
+        dependencies,
+        ends,
+        classes: tables.classes,
+        edges: tables.edges,
+    })
+}
+
+/// The first line of a report.
+fn totals_of(totals: BookTotals) -> Totals {
+    Totals {
+        traces: totals.traces,
+        refused: totals.refused,
+        events: totals.events,
+        classes: totals.classes,
+        dependencies: totals.dependencies,
+    }
+}
+
+/// What the lines say that the rows name.
+fn texts_of<'a>(
+    alloc: Global,
+    sources: &[Source<'a>],
+    sightings: &Sightings<'a>,
+    faults: &[Fault],
+) -> Result<Texts<'a>, AllocError> {
+    let mut wanted = sightings.lines(alloc)?;
+    for fault in faults {
+        wanted.push(fault.at)?;
+    }
+    Texts::of(alloc, sources, wanted)
+}
+
+/// All classes, and all dependencies between them.
+#[derive(Drop)]
+struct Tables<'a> {
+    classes: Vec<ClassRow<'a>>,
+    edges: Vec<EdgeRow<'a>>,
+}
+
+/// Those of a book, if they are asked for.
+fn tables_of<'a>(
+    alloc: Global,
+    book: &Book<'a>,
+    placing: Placing<'_, 'a>,
+    maps: &Maps<'_>,
+    all: bool,
+) -> Result<Tables<'a>, AllocError> {
+    if !all {
+        return Ok(Tables {
+            classes: Vec::new(alloc),
+            edges: Vec::new(alloc),
+        });
+    }
+    let overview = Overview::new(alloc, book)?;
+    let classes = class_rows(alloc, placing, maps, &overview)?;
+    let edges = edge_rows(alloc, placing, &overview)?;
+    Ok(Tables { classes, edges })
+}

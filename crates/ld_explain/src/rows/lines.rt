@@ -1,0 +1,70 @@
+//! Lines of traces, and where they come from.
+
+use crate::rows::origins::place_of;
+use crate::sightings::Texts;
+use ld_maps::Maps;
+use ld_rows::{At, Line};
+use ld_texts::{Places, Witness};
+use ld_trace::Source;
+use std::alloc::{AllocError, Global};
+
+/// Where the lines of traces stand.
+#[derive(Clone, Copy)]
+pub struct Placing<'t, 'a> {
+    /// The traces, each at the place of its number.
+    pub sources: &'t [Source<'a>],
+    /// The files of their lines.
+    pub places: &'t Places<'a>,
+}
+
+impl<'t, 'a> Placing<'t, 'a> {
+    /// Where this line stands. The line of no file stands in a file without a name.
+    pub fn at(&self, at: Witness) -> At<'a> {
+        let label = self.label(at.number);
+        let line = at.line;
+        match self.places.place(line) {
+            Some(place) => At {
+                label,
+                line,
+                file: place.file,
+                file_line: place.line,
+            },
+            None => At {
+                label,
+                line,
+                file: "",
+                file_line: line,
+            },
+        }
+    }
+
+    /// The label of a trace.
+    fn label(&self, number: u64) -> &'a [u8] {
+        match self.sources.get(number as usize) {
+            Some(source) => source.name,
+            None => &[],
+        }
+    }
+}
+
+/// What lines of traces say, and where they come from.
+#[derive(Clone, Copy)]
+pub struct Lines<'t, 'a> {
+    pub alloc: Global,
+    pub placing: Placing<'t, 'a>,
+    pub maps: &'t Maps<'t>,
+    pub texts: &'t Texts<'a>,
+}
+
+impl<'t, 'a> Lines<'t, 'a> {
+    /// This line.
+    pub fn line(&self, at: Witness) -> Result<Line<'a>, AllocError> {
+        let text = self.texts.at(at);
+        let at = self.placing.at(at);
+        let place = match self.maps.line(at.file, at.file_line) {
+            Some(known) => Some(place_of(self.alloc, known)?),
+            None => None,
+        };
+        Ok(Line { at, text, place })
+    }
+}
