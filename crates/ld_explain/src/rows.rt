@@ -1,4 +1,8 @@
 //! All that a report says, and what stands behind it, as rows.
+ghost use Rattle.std.specs.Prelude.{◌≡◌, All, IfOk, map};
+ghost use Rattle.ld_book.specs.Totals.{totals};
+ghost use Rattle.ld_explain.specs.Rows.{AreRefusals, AreViolations, IsFirstRow, refusal_said, row_said};
+ghost use Rattle.ld_explain.specs.Rows.{totals_row};
 
 mod classes;
 mod groups;
@@ -41,7 +45,14 @@ pub fn rows_of<'a>(
     places: &Places<'a>,
     maps: &Maps<'_>,
     all: bool,
-) -> Result<Rows<'a>, AllocError> {
+) -> Result<Rows<'a>, AllocError>
+    ensures totals { IfOk result (λ rows. rows.totals ≡ totals_row (totals book.now)) }
+    ensures refused { IfOk result (λ rows.
+        AreRefusals book.now (map refusal_said rows.refused.items)) }
+    ensures violations { IfOk result (λ rows.
+        AreViolations book.now (map row_said rows.violations.items)) }
+    ensures first { IfOk result (λ rows. All (IsFirstRow book.now) rows.dependencies.items) }
+{
     let chosen = chosen(alloc, book, report, &Choice::all())?;
     let members = grouped(alloc, &chosen)?;
     let numbers = group_numbers(alloc, &members)?;
@@ -79,7 +90,9 @@ pub fn rows_of<'a>(
 }
 
 /// The first line of a report.
-fn totals_of(totals: BookTotals) -> Totals {
+fn totals_of(totals: BookTotals) -> Totals
+    ensures { result ≡ totals_row totals }
+{
     Totals {
         traces: totals.traces,
         refused: totals.refused,

@@ -1,7 +1,10 @@
 //! The violations of a report, with the dependencies that they stand on.
-ghost use Rattle.std.specs.Prelude.{◌≡◌, [], All, IfOk, List, OnOk};
+ghost use Rattle.std.specs.Prelude.{◌≡◌, ◌++◌, ◌∷◌, [], All, IfOk, List, None, OnOk, Some, map, true};
 ghost use Rattle.ld_trace.specs.Sources.{PlainSource};
-ghost use Rattle.ld_explain.specs.Steps.{AreFirst, IsAtFirst};
+ghost use Rattle.ld_book.specs.Findings.{plain_cycle_row, plain_findings};
+ghost use Rattle.ld_rows.specs.declared.violations.Kind.TheVariants.{Conflict, Forbidden};
+ghost use Rattle.ld_explain.specs.Rows.{AreViolations, cycle_kind, cycle_said, findings_said};
+ghost use Rattle.ld_explain.specs.Steps.{AreFirst, IsAtFirst, IsEvery, violation_said};
 
 use ld_rows::Kind;
 use ld_texts::{Book, ClassName, ConflictRow, CycleRow, Findings, ForbiddenRow, Walk, Witness};
@@ -21,7 +24,9 @@ pub struct Choice<'w> {
 
 impl Choice<'_> {
     /// Every violation.
-    pub(crate) fn all() -> Choice<'static> {
+    pub(crate) fn all() -> Choice<'static>
+        ensures { IsEvery result }
+    {
         Choice {
             kind: None,
             class: None,
@@ -77,18 +82,15 @@ impl<'r, 'a> Violation<'r, 'a> {
         line: &'r [u8],
         row: &CycleRow<'_, 'a>,
     ) -> Result<Violation<'r, 'a>, AllocError>
-        ensures { IfOk result (λ violation. AreFirst book.now violation) }
+        ensures first { IfOk result (λ violation. AreFirst book.now violation) }
+        ensures said { IfOk result (λ violation.
+            violation_said violation ≡ cycle_said (plain_cycle_row row.now)) }
     {
         let mut steps = Vec::new(alloc);
         add_step(book, &mut steps, row.from, row.to)?;
         add_steps(book, &mut steps, &row.via)?;
-        let kind = if row.from == row.to {
-            Kind::Recursion
-        } else {
-            Kind::Inversion
-        };
         Ok(Violation {
-            kind,
+            kind: cycle_kind(row),
             line,
             steps,
             ends: None,
@@ -96,7 +98,8 @@ impl<'r, 'a> Violation<'r, 'a> {
     }
 
     fn of_conflict(alloc: Global, line: &'r [u8], row: &ConflictRow<'a>) -> Violation<'r, 'a>
-        ensures { result.steps.items ≡ [] }
+        ensures first { result.steps.items ≡ [] }
+        ensures said { violation_said result ≡ (Conflict, Some row.now.state) }
     {
         Violation {
             kind: Kind::Conflict,
@@ -118,7 +121,9 @@ impl<'r, 'a> Violation<'r, 'a> {
         line: &'r [u8],
         row: &ForbiddenRow<'_, 'a>,
     ) -> Result<Violation<'r, 'a>, AllocError>
-        ensures { IfOk result (λ violation. AreFirst book.now violation) }
+        ensures first { IfOk result (λ violation. AreFirst book.now violation) }
+        ensures said { IfOk result (λ violation.
+            violation_said violation ≡ (Forbidden, Some row.now.state)) }
     {
         let mut steps = Vec::new(alloc);
         add_steps(book, &mut steps, &row.via)?;
@@ -137,16 +142,33 @@ impl<'r, 'a> Violation<'r, 'a> {
     }
 
     /// Whether it is one of those that are explained.
-    fn is_chosen(&self, choice: &Choice<'_>) -> bool {
-        let is_kind = match choice.kind {
+    fn is_chosen(&self, choice: &Choice<'_>) -> bool
+        ensures { IsEvery choice.now → result ≡ true }
+    {
+        if !self.is_of(choice.kind) {
+            return false;
+        }
+        self.is_on(choice.class)
+    }
+
+    /// Whether it is of this kind, if one is named.
+    fn is_of(&self, kind: Option<Kind>) -> bool
+        ensures { kind ≡ None → result ≡ true }
+    {
+        match kind {
             Some(kind) => kind == self.kind,
             None => true,
-        };
-        is_kind
-            && match choice.class {
-                Some(word) => self.has_class(word),
-                None => true,
-            }
+        }
+    }
+
+    /// Whether it has the class of this name, if one is named.
+    fn is_on(&self, class: Option<&[u8]>) -> bool
+        ensures { class ≡ None → result ≡ true }
+    {
+        match class {
+            Some(word) => self.has_class(word),
+            None => true,
+        }
     }
 
     /// Whether a class of this name is on its circle or walk, or is one of its ends.
@@ -158,6 +180,17 @@ impl<'r, 'a> Violation<'r, 'a> {
                 Some(ends) => is_named(ends.safe, word) || is_named(ends.exposed, word),
                 None => false,
             }
+    }
+}
+
+/// The kind of a dependency on a cycle.
+fn cycle_kind(row: &CycleRow<'_, '_>) -> Kind
+    ensures { result ≡ cycle_kind (plain_cycle_row row.now) }
+{
+    if row.from == row.to {
+        Kind::Recursion
+    } else {
+        Kind::Inversion
     }
 }
 
@@ -235,6 +268,8 @@ pub fn chosen<'r, 'a>(
     choice: &Choice<'_>,
 ) -> Result<Vec<Violation<'r, 'a>>, AllocError>
     ensures first { IfOk result (λ all. All (AreFirst book.now) all.items) }
+    ensures every { IsEvery choice.now → IfOk result (λ all.
+        AreViolations book.now (map violation_said all.items)) }
 {
     let findings = book.findings(alloc)?;
     let mut lines = Lines { rest: report };
@@ -255,7 +290,9 @@ fn chosen_of<'r, 'a>(
     lines: &mut Lines<'r>,
     choice: &Choice<'_>,
 ) -> Result<Vec<Violation<'r, 'a>>, AllocError>
-    ensures { IfOk result (λ all. All (AreFirst book.now) all.items) }
+    ensures first { IfOk result (λ all. All (AreFirst book.now) all.items) }
+    ensures every { IsEvery choice.now → IfOk result (λ all.
+        map violation_said all.items ≡ findings_said (plain_findings findings.now)) }
 {
     let mut all = Vec::new(alloc);
     for row in findings.cycles.items() {
@@ -279,8 +316,10 @@ fn add<'r, 'a>(
     violation: Violation<'r, 'a>,
     choice: &Choice<'_>,
 ) -> Result<(), AllocError>
-    ensures { (sources : List PlainSource) → All (AreFirst sources) all.old.items
+    ensures first { (sources : List PlainSource) → All (AreFirst sources) all.old.items
         → AreFirst sources violation.entry → OnOk result (All (AreFirst sources) all.new.items) }
+    ensures every { IsEvery choice.now
+        → OnOk result (all.new.items ≡ all.old.items ++ violation.entry ∷ []) }
 {
     if violation.is_chosen(choice) {
         all.push(violation)?;

@@ -1,4 +1,5 @@
 //! Lines of traces, and where they come from.
+ghost use Rattle.std.specs.Prelude.{◌≡◌, IfOk};
 
 use crate::rows::origins::place_of;
 use crate::sightings::Texts;
@@ -19,7 +20,9 @@ pub struct Placing<'t, 'a> {
 
 impl<'t, 'a> Placing<'t, 'a> {
     /// Where this line stands. The line of no file stands in a file without a name.
-    pub fn at(&self, at: Witness) -> At<'a> {
+    pub fn at(&self, at: Witness) -> At<'a>
+        ensures { result.line ≡ at.line }
+    {
         let label = self.label(at.number);
         let line = at.line;
         match self.places.place(line) {
@@ -58,7 +61,9 @@ pub struct Lines<'t, 'a> {
 
 impl<'t, 'a> Lines<'t, 'a> {
     /// This line.
-    pub fn line(&self, at: Witness) -> Result<Line<'a>, AllocError> {
+    pub fn line(&self, at: Witness) -> Result<Line<'a>, AllocError>
+        ensures { IfOk result (λ line. line.at.line ≡ at.line) }
+    {
         let text = self.texts.at(at);
         let at = self.placing.at(at);
         let place = match self.maps.line(at.file, at.file_line) {

@@ -1,4 +1,7 @@
 //! The dependencies and the ends of violations, each once.
+ghost use Rattle.std.specs.Prelude.{◌≡◌, [], All, List, OnOk};
+ghost use Rattle.ld_trace.specs.Sources.{PlainSource};
+ghost use Rattle.ld_explain.specs.Steps.{IsAtFirst};
 
 use crate::violations::{Dependency, Step};
 use indexmap::IndexMap;
@@ -45,7 +48,9 @@ pub struct Needed<'a> {
 
 impl<'a> Needed<'a> {
     /// None.
-    pub fn new(alloc: Global) -> Needed<'a> {
+    pub fn new(alloc: Global) -> Needed<'a>
+        ensures { result.steps.items ≡ [] }
+    {
         Needed {
             steps: Vec::new(alloc),
             ends: Vec::new(alloc),
@@ -55,7 +60,11 @@ impl<'a> Needed<'a> {
     }
 
     /// The place of a dependency, which is put behind the others if it is new.
-    pub fn step(&mut self, step: Step<'a>) -> Result<usize, AllocError> {
+    pub fn step(&mut self, step: Step<'a>) -> Result<usize, AllocError>
+        ensures { (sources : List PlainSource) → All (IsAtFirst sources) self.old.steps.items
+            → IsAtFirst sources step.entry
+            → OnOk result (All (IsAtFirst sources) self.new.steps.items) }
+    {
         if let Some(place) = self.step_places.get(&step.dependency) {
             return Ok(*place);
         }
@@ -66,7 +75,9 @@ impl<'a> Needed<'a> {
     }
 
     /// The place of an end, which is put behind the others if it is new.
-    pub fn end(&mut self, end: NeededEnd<'a>) -> Result<usize, AllocError> {
+    pub fn end(&mut self, end: NeededEnd<'a>) -> Result<usize, AllocError>
+        ensures { self.new.steps.items ≡ self.old.steps.items }
+    {
         let key = EndKey {
             class: end.class,
             bit: bit_of(end.state, end.used),

@@ -1,9 +1,13 @@
 //! Rows of refused traces.
+ghost use Rattle.std.specs.Prelude.{◌≡◌, IfOk, map};
+ghost use Rattle.ld_shown.specs.Batch.{AreOutcomes, sources_of};
+ghost use Rattle.ld_explain.specs.Faults.{fault_said};
+ghost use Rattle.ld_explain.specs.Rows.{AreRefusals, refusal_said, refusals};
 
 use crate::rows::lines::Lines;
 use ld_book::{Book, Traces};
 use ld_rows::Refused;
-use ld_rules::{Outcome, TraceFault};
+use ld_rules::{Listed, Outcome, TraceFault};
 use ld_texts::Witness;
 use std::alloc::{AllocError, Global};
 
@@ -15,10 +19,20 @@ pub struct Fault {
 }
 
 /// The faults of the refused traces of a book, in the order of a report.
-pub fn faults(alloc: Global, book: &Book<'_>) -> Result<Vec<Fault>, AllocError> {
+pub fn faults(alloc: Global, book: &Book<'_>) -> Result<Vec<Fault>, AllocError>
+    ensures { IfOk result (λ all. AreRefusals book.now (map fault_said all.items)) }
+{
     let traces = Traces::new(alloc, book)?;
+    faults_of(alloc, traces.listed())
+}
+
+/// The faults of those of these traces that are refused.
+fn faults_of(alloc: Global, listed: &[Listed<'_>]) -> Result<Vec<Fault>, AllocError>
+    requires { AreOutcomes listed.now }
+    ensures { IfOk result (λ all. map fault_said all.items ≡ refusals (sources_of listed.now)) }
+{
     let mut faults = Vec::new(alloc);
-    for trace in traces.listed() {
+    for trace in listed {
         if let Outcome::Refused { line, fault } = trace.outcome {
             let number = trace.source.number;
             faults.push(Fault {
@@ -34,7 +48,9 @@ pub fn faults(alloc: Global, book: &Book<'_>) -> Result<Vec<Fault>, AllocError> 
 pub fn refused_rows<'a>(
     lines: &Lines<'_, 'a>,
     faults: &[Fault],
-) -> Result<Vec<Refused<'a>>, AllocError> {
+) -> Result<Vec<Refused<'a>>, AllocError>
+    ensures { IfOk result (λ rows. map refusal_said rows.items ≡ map fault_said faults.now) }
+{
     let mut rows = Vec::with_capacity(lines.alloc, faults.len())?;
     for fault in faults {
         let line = lines.line(fault.at)?;

@@ -1,4 +1,8 @@
 //! Rows of dependencies and of ends, each where it was first seen.
+ghost use Rattle.std.specs.Prelude.{◌≡◌, All, IfOk, List};
+ghost use Rattle.ld_trace.specs.Sources.{PlainSource};
+ghost use Rattle.ld_explain.specs.Rows.{IsFirstRow};
+ghost use Rattle.ld_explain.specs.Steps.{IsAtFirst};
 
 use crate::readers::{Held as HeldLock, class_of as class_of_hold, holds_in, innermost};
 use crate::rows::lines::Lines;
@@ -23,15 +27,13 @@ pub struct Telling<'t, 'a> {
 pub fn dependency_rows<'a>(
     telling: &Telling<'_, 'a>,
     steps: &[Step<'a>],
-) -> Result<Vec<Dependency<'a>>, AllocError> {
+) -> Result<Vec<Dependency<'a>>, AllocError>
+    ensures { (sources : List PlainSource) → All (IsAtFirst sources) steps.now
+        → IfOk result (λ rows. All (IsFirstRow sources) rows.items) }
+{
     let mut rows = Vec::with_capacity(telling.lines.alloc, steps.len())?;
     for step in steps {
-        let seen = telling.step(step)?;
-        rows.push(Dependency {
-            from: class_of(step.dependency.from),
-            to: class_of(step.dependency.to),
-            seen,
-        })?;
+        rows.push(telling.dependency(step)?)?;
     }
     Ok(rows)
 }
@@ -58,8 +60,23 @@ fn marks_of(book: &Book<'_>, class: ClassName<'_>) -> [u8; 4] {
 }
 
 impl<'t, 'a> Telling<'t, 'a> {
+    /// A dependency where it was first seen.
+    fn dependency(&self, step: &Step<'a>) -> Result<Dependency<'a>, AllocError>
+        ensures { IfOk result (λ row. (sources : List PlainSource)
+            → IsAtFirst sources step.now → IsFirstRow sources row) }
+    {
+        let seen = self.step(step)?;
+        Ok(Dependency {
+            from: class_of(step.dependency.from),
+            to: class_of(step.dependency.to),
+            seen,
+        })
+    }
+
     /// Where a dependency was first seen, with the locks that its task held there in the same frame.
-    fn step(&self, step: &Step<'a>) -> Result<Seen<'a>, AllocError> {
+    fn step(&self, step: &Step<'a>) -> Result<Seen<'a>, AllocError>
+        ensures { IfOk result (λ seen. seen.line.at.line ≡ step.now.first.line) }
+    {
         let before = self.sightings.at(step.first);
         let held = match before {
             Some(before) => holds_in(self.lines.alloc, before.task.holds(), innermost(before))?,
@@ -120,7 +137,9 @@ impl<'t, 'a> Telling<'t, 'a> {
         at: Witness,
         before: Option<&Before<'a>>,
         held: &[HeldLock<'a>],
-    ) -> Result<Seen<'a>, AllocError> {
+    ) -> Result<Seen<'a>, AllocError>
+        ensures { IfOk result (λ seen. seen.line.at.line ≡ at.line) }
+    {
         let line = self.lines.line(at)?;
         let held = self.held_rows(at.number, held)?;
         let handlers = self.handler_rows(at.number, before)?;

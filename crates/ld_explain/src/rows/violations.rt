@@ -1,15 +1,22 @@
 //! Rows of violations.
+ghost use Rattle.std.specs.Prelude.{◌≡◌, All, IfOk, List, OnOk, map, option_map};
+ghost use Rattle.ld_trace.specs.Sources.{PlainSource};
+ghost use Rattle.ld_class.specs.Names.{plain_class};
+ghost use Rattle.ld_explain.specs.Rows.{class_of_row, row_said};
+ghost use Rattle.ld_explain.specs.Steps.{AreFirst, IsAtFirst, violation_said};
 
 use crate::rows::lines::Placing;
 use crate::rows::needed::{Needed, NeededEnd};
-use crate::violations::{Ends, Violation};
+use crate::violations::{Ends, Step, Violation};
 use ld_rows::{Class, Use, Violation as Row};
 use ld_texts::{ClassName, Witness};
 use ld_trace::State;
 use std::alloc::{AllocError, Global};
 
 /// A class of a row.
-pub fn class_of(class: ClassName<'_>) -> Class<'_> {
+pub fn class_of(class: ClassName<'_>) -> Class<'_>
+    ensures { class_of_row result ≡ plain_class class.entry }
+{
     Class {
         name: class.name,
         sub: class.sub,
@@ -24,10 +31,15 @@ pub fn violation_rows<'a>(
     violations: &[Violation<'a, 'a>],
     numbers: &[usize],
     needed: &mut Needed<'a>,
-) -> Result<Vec<Row<'a>>, AllocError> {
+) -> Result<Vec<Row<'a>>, AllocError>
+    ensures said { IfOk result (λ rows. map row_said rows.items ≡ map violation_said violations.now) }
+    ensures first { (sources : List PlainSource) → All (IsAtFirst sources) needed.old.steps.items
+        → All (AreFirst sources) violations.now
+        → OnOk result (All (IsAtFirst sources) needed.new.steps.items) }
+{
     let mut rows = Vec::with_capacity(alloc, violations.len())?;
-    for (place, violation) in violations.iter().enumerate() {
-        let group = numbers.get(place).copied().unwrap_or(0);
+    for violation in violations {
+        let group = numbers.get(rows.len()).copied().unwrap_or(0);
         rows.push(violation_row(alloc, placing, violation, group, needed)?)?;
     }
     Ok(rows)
@@ -40,11 +52,13 @@ fn violation_row<'a>(
     violation: &Violation<'a, 'a>,
     group: usize,
     needed: &mut Needed<'a>,
-) -> Result<Row<'a>, AllocError> {
-    let mut dependencies = Vec::with_capacity(alloc, violation.steps.len())?;
-    for step in &violation.steps {
-        dependencies.push(needed.step(*step)?)?;
-    }
+) -> Result<Row<'a>, AllocError>
+    ensures said { IfOk result (λ row. row_said row ≡ violation_said violation.now) }
+    ensures first { (sources : List PlainSource) → All (IsAtFirst sources) needed.old.steps.items
+        → AreFirst sources violation.now
+        → OnOk result (All (IsAtFirst sources) needed.new.steps.items) }
+{
+    let dependencies = places_of(alloc, &violation.steps, needed)?;
     let ends = ends_of(violation.ends, needed)?;
     let classes = classes_of(alloc, violation)?;
     Ok(Row {
@@ -58,6 +72,23 @@ fn violation_row<'a>(
         exposed: ends.exposed,
         group,
     })
+}
+
+/// The places of these steps, which are put behind those that are needed already.
+fn places_of<'a>(
+    alloc: Global,
+    steps: &[Step<'a>],
+    needed: &mut Needed<'a>,
+) -> Result<Vec<usize>, AllocError>
+    ensures { (sources : List PlainSource) → All (IsAtFirst sources) needed.old.steps.items
+        → All (IsAtFirst sources) steps.now
+        → OnOk result (All (IsAtFirst sources) needed.new.steps.items) }
+{
+    let mut places = Vec::with_capacity(alloc, steps.len())?;
+    for step in steps {
+        places.push(needed.step(*step)?)?;
+    }
+    Ok(places)
 }
 
 /// The line to point at.
@@ -96,7 +127,10 @@ struct Places {
 }
 
 /// Both ends of a violation, if it has a state.
-fn ends_of<'a>(ends: Option<Ends<'a>>, needed: &mut Needed<'a>) -> Result<Places, AllocError> {
+fn ends_of<'a>(ends: Option<Ends<'a>>, needed: &mut Needed<'a>) -> Result<Places, AllocError>
+    ensures state { IfOk result (λ places. places.state ≡ option_map (λ ends. ends.state) ends.entry) }
+    ensures steps { needed.new.steps.items ≡ needed.old.steps.items }
+{
     let Some(ends) = ends else {
         return Ok(Places {
             state: None,
