@@ -1,5 +1,5 @@
 -- The faults of refused traces, as rows are made of them.
-use Rattle.std.specs.Prelude.{◌×◌, ℕ, List}
+use Rattle.std.specs.Prelude.{ℕ, List}
 use Rattle.ld_rules.specs.Outcome.{name_of}
 use Rattle.ld_explain.specs.declared.rows.refused.Fault.{Fault}
 

@@ -1,5 +1,5 @@
 -- What the rows of a report say, and what they stand on.
-use Rattle.std.specs.Prelude.{◌≡◌, ◌×◌, ◌++◌, ℕ, List, [], ◌∷◌, All, Option, None, Some, flat_map, if◌then◌else◌, map}
+use Rattle.std.specs.Prelude.{◌≡◌, ◌++◌, ℕ, List, [], ◌∷◌, All, Option, None, Some, flat_map, if◌then◌else◌, map}
 use Rattle.std.specs.List.Sorted.{IsPermutation}
 use Rattle.ld_trace.specs.Sources.{PlainSource}
 use Rattle.ld_class.specs.Names.{PlainClass, same_class}

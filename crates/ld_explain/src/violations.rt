@@ -163,7 +163,7 @@ impl<'r, 'a> Violation<'r, 'a> {
 
     /// Whether it has the class of this name, if one is named.
     fn is_on(&self, class: Option<&[u8]>) -> bool
-        ensures { class ≡ None → result ≡ true }
+        ensures { class.entry ≡ None → result ≡ true }
     {
         match class {
             Some(word) => self.has_class(word),
