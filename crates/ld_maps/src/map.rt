@@ -96,6 +96,14 @@ impl<'m> Map<'m> {
         }
     }
 
+    /// How many lines its stream has, if it says so: each map of places does.
+    pub fn line_count(&self) -> Option<u64> {
+        match &self.lines {
+            Lines::Places(numbers) => Some(numbers.count()),
+            Lines::Recorded(_) => None,
+        }
+    }
+
     /// What it says of a line of its stream, counted from 1.
     pub fn line(&self, line: u64) -> Option<At<'m>> {
         let before = line.checked_sub(1)? as usize;

@@ -21,6 +21,8 @@ pub(crate) struct Numbers<'m> {
     bytes: &'m [u8],
     /// How many of the bytes each number has.
     width: usize,
+    /// How many there are.
+    count: u64,
 }
 
 /// How many lines a map of places speaks of, and how many bytes the number of each has.
@@ -120,6 +122,11 @@ impl<'m> Places<'m> {
 }
 
 impl Numbers<'_> {
+    /// How many lines have a number.
+    pub(crate) fn count(self) -> u64 {
+        self.count
+    }
+
     /// The number of a line, which so many lines stand before.
     pub(crate) fn number(self, before: usize) -> Option<u64> {
         let start = before.checked_mul(self.width)?;
@@ -144,5 +151,10 @@ fn numbers_of(size: Option<Size>, bytes: &[u8]) -> Option<Numbers<'_>> {
         return None;
     }
     let width = size.bytes as usize;
-    Some(Numbers { bytes, width })
+    let count = size.lines;
+    Some(Numbers {
+        bytes,
+        width,
+        count,
+    })
 }
