@@ -6,6 +6,7 @@ use Rattle.ld_class.specs.Names.{PlainClass, same_class}
 use Rattle.ld_trace.specs.declared.event.State.{State}
 use Rattle.ld_rules.specs.declared.outcome.Outcome.{Outcome}
 use Rattle.ld_rules.specs.declared.outcome.Outcome.TheVariants.{Read, Refused}
+use Rattle.ld_rules.specs.declared.outcome.Witness.{Witness}
 use Rattle.ld_rules.specs.Outcome.{name_of, outcome}
 use Rattle.ld_rules.specs.Union.{dependency_witness}
 use Rattle.ld_shown.specs.Batch.{AreRising}
@@ -50,11 +51,11 @@ AreRefusals sources said = (traces : List PlainSource) × (IsPermutation sources
 abbrev pub class_of_row : Class → PlainClass
 class_of_row class = record { name = class.name.now; sub = class.sub }
 
--- a row of a dependency has the line, in some trace, at which the traces first show it
+-- a row of a dependency has the line at which the traces first show it
 abbrev pub IsFirstRow : List PlainSource → Dependency → Type 0
-IsFirstRow sources row = (number : ℕ) × (
-    dependency_witness sources (record { from = class_of_row row.from; to = class_of_row row.to })
-    ≡ Some (record { number = number; line = row.seen.line.at.line }))
+IsFirstRow sources row = (at : Witness) × (
+    (dependency_witness sources (record { from = class_of_row row.from; to = class_of_row row.to }) ≡ Some at)
+    × (at.line ≡ row.seen.line.at.line))
 
 -- a dependency on a cycle is a recursion if it is of a class on itself
 abbrev pub cycle_kind : PlainCycleRow → Kind
