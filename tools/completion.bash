@@ -28,18 +28,20 @@ _lockcheck() {
 _lockgraph() {
     local word=${COMP_WORDS[COMP_CWORD]} before=${COMP_WORDS[COMP_CWORD - 1]} command=${COMP_WORDS[1]} options=
     if [ "$COMP_CWORD" -eq 1 ]; then
-        COMPREPLY=($(compgen -W 'dot explain help json list new reduce stats --help -h --version -V' -- "$word"))
+        COMPREPLY=($(compgen -W 'dot explain github help html json junit ktap list new reduce sarif stats --help -h --version -V' -- "$word"))
         return
     fi
     case $before in
         --workers) COMPREPLY=($(compgen -W '1 2 4 8 16' -- "$word")) && return ;;
         --only) COMPREPLY=($(compgen -W 'recursion inversion conflict forbidden' -- "$word")) && return ;;
-        --class | --most | --around) return ;;
+        --class | --most | --around | --strip) return ;;
         --map | --known) __lockcheck_files "$word" && return ;;
     esac
     case $command in
         dot) options='--all --around --class' ;;
         explain) options='--class --map --most --only' ;;
+        github | junit | sarif) options='--map --strip' ;;
+        html | json | ktap) options='--map' ;;
         list) options='--class --dependencies' ;;
         new) options='--known' ;;
         reduce) options='--from --keep-refused' ;;

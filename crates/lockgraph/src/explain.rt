@@ -5,7 +5,7 @@ ghost use Rattle.ld_check.specs.OfReport.Verdict.{VerdictIs};
 ghost use Rattle.lockgraph.specs.declared.fault.Fault.TheVariants.{Together};
 
 use crate::fault::Fault;
-use crate::maps::{maps_in, read_maps};
+use crate::maps::{maps_in, maps_of, read_maps};
 use crate::streams::read_streams;
 use crate::told::{Told, write_told};
 use crate::words::ExplainWords;
@@ -29,11 +29,12 @@ pub fn answer_explain<'a, R: Files + io::Input + Print + AllocGlobal + Threads +
     rt: &R,
     words: &ExplainWords<'a>,
 ) -> Result<Verdict, Fault<'a>> {
-    let texts = read_maps(rt, &words.maps)?;
+    let files = &words.mapped.given.files;
+    let texts = read_maps(rt, &words.mapped)?;
     // A mistake in them is told before the traces are read.
-    let given = maps_in(rt.alloc(), &words.maps, &texts)?;
-    let streams = read_streams(rt, &words.given.files)?;
-    let maps = Maps::of(rt.alloc(), &words.given.files, given, &streams.bytes)?;
+    let maps = maps_in(rt.alloc(), &texts)?;
+    let streams = read_streams(rt, files)?;
+    let maps = maps_of(rt.alloc(), &texts, maps, files, &streams)?;
     let told = explained_of(
         rt,
         rt.alloc(),
@@ -41,7 +42,7 @@ pub fn answer_explain<'a, R: Files + io::Input + Print + AllocGlobal + Threads +
         &streams.places,
         &maps,
         &words.choice,
-        words.given.workers,
+        words.mapped.given.workers,
     )?;
     let mut output = Std::new(io::writer(rt));
     write_told(&mut output, &told)

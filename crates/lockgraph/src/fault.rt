@@ -1,5 +1,6 @@
 //! Why there is no answer.
 
+use crate::maps::WrongMap;
 use crate::news::NewsFault;
 use crate::reduce::ReduceFault;
 use ld_check::CheckFault;
@@ -35,9 +36,12 @@ pub enum Fault<'a> {
     /// This line of this known text says something, and is no line of a report.
     #[error("{0}:{1}: UnknownLine: neither a line of a report, as \"inversion A -> B at ..\", nor a comment")]
     UnknownLine(&'a str, u64),
-    /// This line of this file isn't one that a recorder writes in a map, or is the last one of a map that is cut off.
-    #[error("{0}:{1}: BadMap: no whole map, as a recorder writes it beside a stream")]
-    BadMap(&'a str, u64),
+    /// This is wrong with the map of this name.
+    #[error("{0}{1}")]
+    Map(&'a str, WrongMap),
+    /// This is wrong with the map beside this file.
+    #[error("{0}.places{1}")]
+    MapBeside(&'a str, WrongMap),
     /// A write or the flush failed.
     #[error("write failed")]
     Write,

@@ -11,12 +11,12 @@ mod dot;
 mod explain;
 mod fault;
 mod homes;
-mod json;
 mod lines;
 mod list;
 mod maps;
 mod news;
 mod reduce;
+mod rows;
 mod shown;
 mod stats;
 mod streams;
@@ -26,11 +26,11 @@ mod words;
 use dot::answer_dot;
 use explain::answer_explain;
 use fault::Fault;
-use json::answer_json;
 use ld_check::Verdict;
 use list::answer_list;
 use news::answer_new;
 use reduce::answer_reduce;
+use rows::{answer_format, answer_json};
 use stats::answer_stats;
 use std::fmt::Display;
 use std::process::ExitCode;
@@ -70,6 +70,7 @@ fn answer<'a, R: Files + io::Input + Print + AllocGlobal + Threads + Wait + Sync
     let outcome = match asked {
         Asked::Dot(words) => answer_dot(rt, words),
         Asked::Explain(words) => answer_explain(rt, words),
+        Asked::Format(words) => answer_format(rt, words),
         Asked::Json(words) => answer_json(rt, words),
         Asked::List(words) => answer_list(rt, words),
         Asked::New(words) => answer_new(rt, words),

@@ -28,6 +28,8 @@ pub struct Streams<'a> {
     pub bytes: Vec<u8>,
     /// Where its lines stand in the files.
     pub places: Places<'a>,
+    /// How many lines each file has.
+    pub lines: Vec<u64>,
 }
 
 /// The known text of this name. May wait.
@@ -108,6 +110,7 @@ pub fn read_streams<'a, R: Files + io::Input + AllocGlobal>(
     let mut streams = Streams {
         bytes: Vec::new(rt.alloc()),
         places: Places::new(rt.alloc()),
+        lines: Vec::new(rt.alloc()),
     };
     match names {
         [name] => {
@@ -189,10 +192,14 @@ fn add_alone<'a>(
 fn put<'a>(streams: &mut Streams<'a>, name: &'a str, bytes: Vec<u8>) -> Result<(), AllocError>
     ensures added { OnOk result (streams.new.bytes.items
         ≡ streams.old.bytes.items ++ ended bytes.items) }
+    ensures counted { OnOk result (streams.new.lines.items
+        ≡ streams.old.lines.items ++ line_count bytes.items ∷ []) }
     ensures placed { OnOk result (streams.new.places ≡ streams.old.places
         ++ record { name = name.entry.now; lines = line_count bytes.items } ∷ []) }
 {
-    streams.places.push(name, line_count(&bytes))?;
+    let lines = line_count(&bytes);
+    streams.lines.push(lines)?;
+    streams.places.push(name, lines)?;
     append(&mut streams.bytes, bytes)
 }
 

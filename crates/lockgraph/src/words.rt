@@ -4,8 +4,10 @@ ghost use Rattle.ld_check.specs.declared.checked.TheConstants.{MOST_WORKERS};
 
 mod dot;
 mod explain;
+mod formats;
 mod json;
 mod list;
+mod mapped;
 mod new;
 mod reduce;
 mod stats;
@@ -17,11 +19,16 @@ pub use dot::DotWords;
 use dot::{dot_command, read_dot};
 pub use explain::ExplainWords;
 use explain::{explain_command, read_explain};
+pub use formats::FormatWords;
+use formats::{
+    github_command, html_command, junit_command, ktap_command, read_format, sarif_command,
+};
 pub use json::JsonWords;
 use json::{json_command, read_json};
 use ld_check::MOST_WORKERS;
 pub use list::ListWords;
 use list::{list_command, read_list};
+pub use mapped::Mapped;
 pub use new::NewWords;
 use new::{new_command, read_new};
 pub use reduce::ReduceWords;
@@ -54,6 +61,11 @@ Example:
   lockgraph list --class rx_lock run.trace
   lockgraph stats run.trace other.trace
   lockgraph json run.trace > report.jsonl
+  lockgraph html --map run.trace.places run.trace > run.html
+  lockgraph sarif --map run.trace.places run.trace > run.sarif
+  lockgraph github --map run.trace.places run.trace
+  lockgraph junit run.trace > run.xml
+  lockgraph ktap run.trace
   lockgraph new --known known.report run.trace
   lockgraph reduce run.trace other.trace > reduced.trace";
 
@@ -64,6 +76,8 @@ pub enum Asked<'a> {
     Dot(DotWords<'a>),
     /// `explain`.
     Explain(ExplainWords<'a>),
+    /// `sarif`, `github`, `junit`, `ktap` or `html`.
+    Format(FormatWords<'a>),
     /// `json`.
     Json(JsonWords<'a>),
     /// `list`.
@@ -81,8 +95,9 @@ impl<'a> Asked<'a> {
     pub fn given(&self) -> &Given<'a> {
         match self {
             Asked::Dot(words) => &words.given,
-            Asked::Explain(words) => &words.given,
-            Asked::Json(words) => &words.given,
+            Asked::Explain(words) => &words.mapped.given,
+            Asked::Format(words) => &words.mapped.given,
+            Asked::Json(words) => &words.mapped.given,
             Asked::List(words) => &words.given,
             Asked::New(words) => &words.given,
             Asked::Reduce(words) => &words.given,
@@ -110,17 +125,19 @@ pub struct Given<'a> {
 pub fn read_words<'a, S: AsStr>(alloc: Global, words: &'a [S]) -> Result<Asked<'a>, Error> {
     let mut command = command_line(alloc)?;
     let matches = command.try_get_matches_from_mut(words)?;
-    match matches.subcommand() {
-        Some(("dot", matches)) => Ok(Asked::Dot(read_dot(alloc, &mut command, matches)?)),
-        Some(("explain", matches)) => {
-            Ok(Asked::Explain(read_explain(alloc, &mut command, matches)?))
-        }
-        Some(("json", matches)) => Ok(Asked::Json(read_json(alloc, &mut command, matches)?)),
-        Some(("list", matches)) => Ok(Asked::List(read_list(alloc, &mut command, matches)?)),
-        Some(("new", matches)) => Ok(Asked::New(read_new(alloc, &mut command, matches)?)),
-        Some(("reduce", matches)) => Ok(Asked::Reduce(read_reduce(alloc, &mut command, matches)?)),
-        Some(("stats", matches)) => Ok(Asked::Stats(read_stats(alloc, &mut command, matches)?)),
-        _ => Err(command.error(ErrorKind::MissingSubcommand, "a command is missing")?),
+    let Some((name, matches)) = matches.subcommand() else {
+        return Err(command.error(ErrorKind::MissingSubcommand, "a command is missing")?);
+    };
+    let command = &mut command;
+    match name {
+        "dot" => Ok(Asked::Dot(read_dot(alloc, command, matches)?)),
+        "explain" => Ok(Asked::Explain(read_explain(alloc, command, matches)?)),
+        "json" => Ok(Asked::Json(read_json(alloc, command, matches)?)),
+        "list" => Ok(Asked::List(read_list(alloc, command, matches)?)),
+        "new" => Ok(Asked::New(read_new(alloc, command, matches)?)),
+        "reduce" => Ok(Asked::Reduce(read_reduce(alloc, command, matches)?)),
+        "stats" => Ok(Asked::Stats(read_stats(alloc, command, matches)?)),
+        _ => Ok(Asked::Format(read_format(alloc, command, name, matches)?)),
     }
 }
 
@@ -180,10 +197,15 @@ fn command_line<'a>(alloc: Global) -> Result<Command<'a>, AllocError> {
         .subcommand_required(true)
         .subcommand(dot_command(alloc)?)?
         .subcommand(explain_command(alloc)?)?
+        .subcommand(github_command(alloc)?)?
+        .subcommand(html_command(alloc)?)?
         .subcommand(json_command(alloc)?)?
+        .subcommand(junit_command(alloc)?)?
+        .subcommand(ktap_command(alloc)?)?
         .subcommand(list_command(alloc)?)?
         .subcommand(new_command(alloc)?)?
         .subcommand(reduce_command(alloc)?)?
+        .subcommand(sarif_command(alloc)?)?
         .subcommand(stats_command(alloc)?)
 }
 

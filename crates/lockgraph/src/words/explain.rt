@@ -1,7 +1,7 @@
 //! The words of `explain`.
 
-use super::{Given, count_of_workers, named_files, read_given};
-use clap::error::ErrorKind;
+use super::mapped::{Mapped, named_map, read_mapped};
+use super::{count_of_workers, named_files};
 use clap::{Arg, ArgAction, ArgMatches, Command, Error, value_parser};
 use ld_explain::{Choice, Kind};
 use std::alloc::{AllocError, Global};
@@ -43,10 +43,8 @@ Example:
 pub struct ExplainWords<'a> {
     /// Which violations are explained.
     pub choice: Choice<'a>,
-    /// The names of the maps, of the files in turn: no more than there are files.
-    pub maps: Vec<&'a str>,
-    /// The files with the streams, and how they are read.
-    pub given: Given<'a>,
+    /// The files with the streams, and their maps.
+    pub mapped: Mapped<'a>,
 }
 
 /// `explain [--only KIND] [--class NAME] [--most N] [--map FILE].. [--workers N] [FILE]..`.
@@ -69,18 +67,13 @@ pub fn explain_command<'a>(alloc: Global) -> Result<Command<'a>, AllocError> {
         .action(ArgAction::Set)
         .default_value("20")
         .value_parser(value_parser!(u64));
-    let map = Arg::new(alloc, "map")
-        .long("map")
-        .value_name("MAP")
-        .help("The map that a recorder wrote beside a file, of the files in turn")
-        .action(ArgAction::Append);
     Command::new(alloc, "explain")
         .about("Says what stands behind each violation: who held what where")
         .after_help(AFTER_EXPLAIN)
         .arg(only)?
         .arg(class)?
         .arg(most)?
-        .arg(map)?
+        .arg(named_map(alloc))?
         .arg(count_of_workers(alloc))?
         .arg(named_files(alloc))
 }
@@ -100,22 +93,8 @@ pub fn read_explain<'a>(
         class: class_named(matches),
         most: matches.get_one::<u64>("most").unwrap_or(DEFAULT_MOST),
     };
-    let maps = match matches.get_strs("map") {
-        Some(names) => names.to_vec(alloc)?,
-        None => Vec::new(alloc),
-    };
-    let given = read_given(alloc, command, matches, &maps)?;
-    if maps.len() > given.files.len() {
-        return Err(command.error(
-            ErrorKind::ArgumentConflict,
-            "there are more maps than files",
-        )?);
-    }
-    Ok(ExplainWords {
-        choice,
-        maps,
-        given,
-    })
+    let mapped = read_mapped(alloc, command, matches)?;
+    Ok(ExplainWords { choice, mapped })
 }
 
 /// The bytes of the class that `--class` names, if it is there.

@@ -1,0 +1,168 @@
+//! What `json` and the formats of other programs have in common: rows of some traces, and a text of them.
+ghost use Rattle.std.specs.Prelude.{◌≡◌, ◌≤◌, Err, IfOk, IfSome};
+ghost use Rattle.ld_trace.specs.Sources.{sources, stream_fault};
+ghost use Rattle.ld_check.specs.OfReport.Verdict.{VerdictIs};
+ghost use Rattle.ld_json.specs.Json.{json_text};
+ghost use Rattle.lockgraph.specs.declared.fault.Fault.TheVariants.{Together};
+ghost use Rattle.lockgraph.specs.declared.rows.Form.TheVariants.{Json};
+
+use crate::fault::Fault;
+use crate::maps::{maps_in, maps_of, read_maps};
+use crate::streams::read_streams;
+use crate::told::{Told, write_told};
+use crate::words::{FormatWords, JsonWords, Mapped};
+use ld_check::{Checked, MOST_WORKERS, NoGate, Verdict, check, report_in, verdict_of};
+use ld_device::Std;
+use ld_explain::rows_of;
+use ld_formats::{Format, format_text};
+use ld_json::json_text;
+use ld_maps::Maps;
+use ld_rows::Rows;
+use ld_texts::Places;
+use std::alloc::{AllocError, Global};
+use std::io;
+use std::rt::Files;
+use std::sync::Wait;
+use std::thread::Threads;
+
+/// In which form rows are written.
+#[derive(Clone, Copy, Debug)]
+enum Form<'f> {
+    /// As one JSON object a line.
+    Json,
+    /// As other programs read them.
+    Format(&'f Format<'f>),
+}
+
+impl Form<'_> {
+    /// Whether all classes and dependencies are written, those of no violation too.
+    fn has_all(self) -> bool {
+        matches!(self, Form::Format(Format::Html { .. }))
+    }
+}
+
+/// Writes the report of the named files as one JSON object a line. May wait.
+///
+/// # Errors
+///
+/// Those of `answer_rows`.
+pub fn answer_json<'a, R: Files + io::Input + Print + AllocGlobal + Threads + Wait + Sync>(
+    rt: &R,
+    words: &JsonWords<'a>,
+) -> Result<Verdict, Fault<'a>> {
+    answer_rows(rt, &words.mapped, Form::Json)
+}
+
+/// Writes the report of the named files for other programs. May wait.
+///
+/// # Errors
+///
+/// Those of `answer_rows`.
+pub fn answer_format<'a, R: Files + io::Input + Print + AllocGlobal + Threads + Wait + Sync>(
+    rt: &R,
+    words: &FormatWords<'a>,
+) -> Result<Verdict, Fault<'a>> {
+    answer_rows(rt, &words.mapped, Form::Format(&words.format))
+}
+
+/// Writes the report of the named files in a form. May wait.
+///
+/// # Errors
+///
+/// Those of `read_maps`, `maps_in`, `read_streams`, `rows_told` and `write_told`.
+fn answer_rows<'a, R: Files + io::Input + Print + AllocGlobal + Threads + Wait + Sync>(
+    rt: &R,
+    mapped: &Mapped<'a>,
+    form: Form<'_>,
+) -> Result<Verdict, Fault<'a>> {
+    let files = &mapped.given.files;
+    let texts = read_maps(rt, mapped)?;
+    // A mistake in them is told before the traces are read.
+    let maps = maps_in(rt.alloc(), &texts)?;
+    let streams = read_streams(rt, files)?;
+    let maps = maps_of(rt.alloc(), &texts, maps, files, &streams)?;
+    let told = rows_told(
+        rt,
+        rt.alloc(),
+        &streams.bytes,
+        &streams.places,
+        &maps,
+        form,
+        mapped.given.workers,
+    )?;
+    let mut output = Std::new(io::writer(rt));
+    write_told(&mut output, &told)
+}
+
+/// The report of these streams in a form, whose traces that many workers read at once. May wait.
+///
+/// # Errors
+///
+/// `Together` exactly where they are no stream together, whatever memory there is; `Memory` where a growth was
+/// refused; and `Uneven` where the workers' book isn't that of the stream.
+fn rows_told<'a, R: Threads + Wait + Sync>(
+    rt: &R,
+    alloc: Global,
+    bytes: &[u8],
+    places: &Places<'_>,
+    maps: &Maps<'_>,
+    form: Form<'_>,
+    workers: usize,
+) -> Result<Told, Fault<'a>>
+    requires { (1 ≤ workers) × (workers ≤ MOST_WORKERS) }
+    ensures verdict { IfOk result (λ told. VerdictIs (sources bytes.now) told.verdict) }
+    ensures stream { IfSome (stream_fault bytes.now) (λ fault. result ≡ Err (Together fault)) }
+{
+    let checked = check(rt, alloc, bytes, workers, &NoGate)?;
+    let told = rows_told_in(alloc, &checked, places, maps, form);
+    drop(checked);
+    told
+}
+
+/// The report of the traces that a book lists, in a form.
+fn rows_told_in<'a>(
+    alloc: Global,
+    checked: &Checked<'_>,
+    places: &Places<'_>,
+    maps: &Maps<'_>,
+    form: Form<'_>,
+) -> Result<Told, Fault<'a>>
+    ensures verdict { IfOk result (λ told. VerdictIs checked.now.book told.verdict) }
+{
+    let report = report_in(alloc, &checked.book)?;
+    // Lent again, since the report lives for a shorter time.
+    let text = text_in(alloc, &*checked, &report, &*places, maps, form)?;
+    let verdict = verdict_of(&checked.book);
+    Ok(Told { text, verdict })
+}
+
+/// The text on these traces, of which this is the report.
+fn text_in<'s>(
+    alloc: Global,
+    checked: &'s Checked<'s>,
+    report: &'s [u8],
+    places: &'s Places<'s>,
+    maps: &Maps<'_>,
+    form: Form<'_>,
+) -> Result<Vec<u8>, AllocError> {
+    let rows = rows_of(
+        alloc,
+        &checked.book,
+        report,
+        &checked.sources,
+        places,
+        maps,
+        form.has_all(),
+    )?;
+    text_of_rows(alloc, &rows, form)
+}
+
+/// The text of rows in a form.
+fn text_of_rows(alloc: Global, rows: &Rows<'_>, form: Form<'_>) -> Result<Vec<u8>, AllocError>
+    ensures { form.entry ≡ Json → IfOk result (λ text. text.items ≡ json_text rows.now) }
+{
+    match form {
+        Form::Json => json_text(alloc, rows),
+        Form::Format(format) => format_text(alloc, rows, format),
+    }
+}

@@ -1,0 +1,49 @@
+//! The words of commands that maps tell more to.
+
+use super::{Given, read_given};
+use clap::error::ErrorKind;
+use clap::{Arg, ArgAction, ArgMatches, Command, Error};
+use std::alloc::Global;
+
+/// Files with streams, and their maps.
+#[derive(Debug, Drop)]
+pub struct Mapped<'a> {
+    /// The names of the maps, of the files in turn: no more than there are files. Each other file has the map that
+    /// stands beside it, if there is one.
+    pub maps: Vec<&'a str>,
+    /// The files with the streams, and how they are read.
+    pub given: Given<'a>,
+}
+
+/// `--map MAP`, which may stand several times.
+pub fn named_map<'a>(alloc: Global) -> Arg<'a> {
+    Arg::new(alloc, "map")
+        .long("map")
+        .value_name("MAP")
+        .help("The map that a recorder wrote beside a file, of the files in turn")
+        .action(ArgAction::Append)
+}
+
+/// Which files and maps the words name.
+///
+/// # Errors
+///
+/// Those of `read_given`, and where there are more maps than files.
+pub fn read_mapped<'a>(
+    alloc: Global,
+    command: &mut Command<'a>,
+    matches: &ArgMatches<'a>,
+) -> Result<Mapped<'a>, Error> {
+    let maps = match matches.get_strs("map") {
+        Some(names) => names.to_vec(alloc)?,
+        None => Vec::new(alloc),
+    };
+    let given = read_given(alloc, command, matches, &maps)?;
+    if maps.len() > given.files.len() {
+        return Err(command.error(
+            ErrorKind::ArgumentConflict,
+            "there are more maps than files",
+        )?);
+    }
+    Ok(Mapped { maps, given })
+}
