@@ -1,0 +1,2 @@
+pub mod LatestLemmas
+pub mod TrackLemmas
