@@ -3,7 +3,7 @@ use Rattle.std.proofs.Common.{◌≡◌, ◌∙◌, ◌≢◌, ℕ, ◌/◌, ◌
 use Rattle.std.proofs.lemmas.List.{append_cancel_left}
 use Rattle.std.proofs.lemmas.Bool.Decides.{nat_tests}
 use Rattle.ld_escape.specs.declared.form.Form.{Form}
-use Rattle.ld_escape.specs.declared.form.Form.TheVariants.{Markup, Json, Message, Property, Tap, Uri}
+use Rattle.ld_escape.specs.declared.form.Form.TheVariants.{Markup, Json, Message, Property, Tap, Uri, Class, Task}
 use Rattle.ld_escape.specs.Forms.{is_hidden, is_marked}
 use Rattle.ld_escape.specs.Shown.{is_shown}
 use Rattle.ld_escape.specs.Written.{digit, hex, piece, written}
@@ -92,6 +92,8 @@ same_piece Message s t a b xs ys e = same_mark 37 [] (is_marked Message) s t a b
 same_piece Property s t a b xs ys e = same_mark 37 [] (is_marked Property) s t a b xs ys refl refl e
 same_piece Tap s t a b xs ys e = same_mark 37 [] (is_marked Tap) s t a b xs ys refl refl e
 same_piece Uri s t a b xs ys e = same_mark 37 [] (is_marked Uri) s t a b xs ys refl refl e
+same_piece Class s t a b xs ys e = same_mark 37 [] (is_marked Class) s t a b xs ys refl refl e
+same_piece Task s t a b xs ys e = same_mark 37 [] (is_marked Task) s t a b xs ys refl refl e
 
 begun : (form : Form) (s : Bool) (b : ℕ) (xs : List ℕ) → piece form s b ++ xs ≢ []
 begun Markup s b xs = nonempty 38 (35 ∷ 120 ∷ []) (59 ∷ []) (is_marked Markup s b) (is_hidden Markup s b) b xs
@@ -100,6 +102,8 @@ begun Message s b xs = nonempty 37 [] [] (is_marked Message s b) false b xs
 begun Property s b xs = nonempty 37 [] [] (is_marked Property s b) false b xs
 begun Tap s b xs = nonempty 37 [] [] (is_marked Tap s b) false b xs
 begun Uri s b xs = nonempty 37 [] [] (is_marked Uri s b) false b xs
+begun Class s b xs = nonempty 37 [] [] (is_marked Class s b) false b xs
+begun Task s b xs = nonempty 37 [] [] (is_marked Task s b) false b xs
 
 same_names : (form : Form) (s t : Bool) (xs ys : List ℕ) → flat_map (piece form s) xs ≡ flat_map (piece form t) ys → xs ≡ ys
 same_names form s t [] [] e = refl

@@ -5,7 +5,7 @@ use Rattle.std.proofs.lemmas.List.Elements.{All-append, All-head, All-nil, All-t
 use Rattle.std.proofs.lemmas.List.Sums.{AllPass-from_list_all, sum_by-append, sum_by-cons}
 use Rattle.std.proofs.lemmas.Bool.Decides.{nat_tests}
 use Rattle.ld_escape.specs.declared.form.Form.{Form}
-use Rattle.ld_escape.specs.declared.form.Form.TheVariants.{Markup, Json, Message, Property, Tap, Uri}
+use Rattle.ld_escape.specs.declared.form.Form.TheVariants.{Markup, Json, Message, Property, Tap, Uri, Class, Task}
 use Rattle.ld_escape.specs.Forms.{is_marked}
 use Rattle.ld_escape.specs.Written.{is_lead, may_stand, piece}
 
@@ -45,6 +45,10 @@ all_safe Tap true = refl
 all_safe Tap false = refl
 all_safe Uri true = refl
 all_safe Uri false = refl
+all_safe Class true = refl
+all_safe Class false = refl
+all_safe Task true = refl
+all_safe Task false = refl
 
 all_counted : (form : Form) (shown : Bool) → every (is_counted form shown) 256 ≡ true
 all_counted Markup true = refl
@@ -59,6 +63,10 @@ all_counted Tap true = refl
 all_counted Tap false = refl
 all_counted Uri true = refl
 all_counted Uri false = refl
+all_counted Class true = refl
+all_counted Class false = refl
+all_counted Task true = refl
+all_counted Task false = refl
 
 pub safe : (form : Form) (shown : Bool) (name : List ℕ) → All (λ b. b < 256) name → AllPass (may_stand form) (flat_map (piece form shown) name)
 safe form shown [] h = All-nil (λ x. may_stand form x ≡ true)

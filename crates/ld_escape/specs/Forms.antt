@@ -2,7 +2,7 @@
 use Rattle.std.specs.Prelude.{ℕ, Bool, false, not, ◌&&◌, ◌||◌, ◌==◌, List, [], codes, nat_le, nat_lt}
 use Rattle.std.specs.Char.{is_ascii_alphanumeric}
 use Rattle.ld_escape.specs.declared.form.Form.{Form}
-use Rattle.ld_escape.specs.declared.form.Form.TheVariants.{Markup, Json, Message, Property, Tap, Uri}
+use Rattle.ld_escape.specs.declared.form.Form.TheVariants.{Markup, Json, Message, Property, Tap, Uri, Class, Task}
 
 -- what begins or ends something in HTML and XML: `&`, `<`, `>` and both quotes
 abbrev pub is_markup : ℕ → Bool
@@ -20,6 +20,14 @@ is_foreign shown b = not shown && nat_le 128 b
 abbrev pub is_unreserved : ℕ → Bool
 is_unreserved b = is_ascii_alphanumeric b || b == 45 || b == 46 || b == 95 || b == 126 || b == 47
 
+-- a byte that shows something in ASCII, and is no blank
+abbrev pub is_graphic : ℕ → Bool
+is_graphic b = nat_lt 32 b && nat_lt b 127
+
+-- what means something in the name of a class: `%`, `@`, `/`, `!` and `#`
+abbrev pub is_class_sign : ℕ → Bool
+is_class_sign b = b == 37 || b == 64 || b == 47 || b == 33 || b == 35
+
 -- a byte that is written by its number behind the form's mark: a URI has unreserved bytes alone; in the others those
 -- that mean something there, and what can't be shown
 abbrev pub is_marked : Form → (shown : Bool) → ℕ → Bool
@@ -29,6 +37,8 @@ is_marked Message shown b = b == 37 || is_control b || is_foreign shown b
 is_marked Property shown b = b == 37 || b == 58 || b == 44 || is_control b || is_foreign shown b
 is_marked Tap shown b = b == 37 || b == 35 || b == 92 || is_control b || is_foreign shown b
 is_marked Uri shown b = not (is_unreserved b)
+is_marked Class shown b = not (is_graphic b) || is_class_sign b
+is_marked Task shown b = not (is_graphic b) || b == 37
 
 -- a byte that HTML or XML can't have, even by a reference, and the backslash, behind which it is written
 abbrev pub is_hidden : Form → (shown : Bool) → ℕ → Bool
@@ -38,6 +48,8 @@ is_hidden Message shown b = false
 is_hidden Property shown b = false
 is_hidden Tap shown b = false
 is_hidden Uri shown b = false
+is_hidden Class shown b = false
+is_hidden Task shown b = false
 
 -- what stands before the number of a marked byte
 abbrev pub mark : Form → List ℕ
@@ -47,6 +59,8 @@ mark Message = codes "%"
 mark Property = codes "%"
 mark Tap = codes "%"
 mark Uri = codes "%"
+mark Class = codes "%"
+mark Task = codes "%"
 
 -- what stands behind it
 abbrev pub close : Form → List ℕ
@@ -56,3 +70,5 @@ close Message = []
 close Property = []
 close Tap = []
 close Uri = []
+close Class = []
+close Task = []

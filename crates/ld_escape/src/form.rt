@@ -2,8 +2,10 @@
 ghost use Rattle.std.specs.Prelude.{◌≡◌};
 ghost use Rattle.ld_escape.specs.Forms.{
   close,
+  is_class_sign,
   is_control,
   is_foreign,
+  is_graphic,
   is_hidden,
   is_marked,
   is_markup,
@@ -27,6 +29,10 @@ pub enum Form {
     Tap,
     /// The path of a URI.
     Uri,
+    /// The class of a lock, in a stream of traces.
+    Class,
+    /// A task, in a stream of traces.
+    Task,
 }
 
 /// Whether a byte is written by its number behind the mark of a form, of a name that is shown, or of one that isn't.
@@ -54,6 +60,8 @@ pub(crate) fn is_marked(form: Form, shown: bool, byte: u8) -> bool
                 || is_foreign(shown, byte)
         }
         Form::Uri => !is_unreserved(byte),
+        Form::Class => !is_graphic(byte) || is_class_sign(byte),
+        Form::Task => !is_graphic(byte) || byte == b'%',
     }
 }
 
@@ -107,6 +115,20 @@ fn is_foreign(shown: bool, byte: u8) -> bool
     ensures { result ≡ is_foreign shown byte }
 {
     !shown && byte >= 128
+}
+
+/// A byte that shows something in ASCII, and is no blank.
+fn is_graphic(byte: u8) -> bool
+    ensures { result ≡ is_graphic byte }
+{
+    byte > 32 && byte < 127
+}
+
+/// What means something in the name of a class.
+fn is_class_sign(byte: u8) -> bool
+    ensures { result ≡ is_class_sign byte }
+{
+    byte == b'%' || byte == b'@' || byte == b'/' || byte == b'!' || byte == b'#'
 }
 
 /// A byte that may stand in the path of a URI whatever stands beside it: a letter, a digit, or one of `-._~/`.
