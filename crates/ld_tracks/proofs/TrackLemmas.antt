@@ -1,5 +1,5 @@
 -- Lines one after another, and the end of a handler.
-use Rattle.std.proofs.Common.{◌≡◌, ◌≤◌, ◌<◌, ◌+◌, ◌==◌, ◌||◌, ◌&&◌, ◌++◌, ◌∷◌, [], List, ℕ, Bool, true, false, not, cond, length, filter, get_or, Option, Some, None, refl, ap, sym, ◌∙◌, arith, eq-eqb}
+use Rattle.std.proofs.Common.{◌≡◌, ◌<◌, ◌+◌, ◌||◌, ◌++◌, ◌∷◌, [], List, ℕ, Bool, true, false, not, cond, length, filter, get_or, Option, Some, None, refl, ap, sym, ◌∙◌, arith, eq-eqb}
 use Rattle.std.proofs.lemmas.Bool.{and_from, and_parts, not_from_true, true≢false}
 use Rattle.std.proofs.lemmas.List.{append_assoc, append-nil}
 use Rattle.std.proofs.lemmas.List.Folds.{list_any_at}
@@ -12,7 +12,7 @@ use Rattle.ld_tracks.specs.declared.line.Lock.{Lock}
 use Rattle.ld_tracks.specs.declared.place.Place.{Place}
 use Rattle.ld_tracks.specs.declared.place.Handlers.{Handlers}
 use Rattle.ld_tracks.specs.declared.place.Handlers.TheVariants as running
-use Rattle.ld_tracks.specs.Format.{Frame, PlainTrack, Writes, after_line, after_lines, depth, exited, is_at, is_of, released, same_lock}
+use Rattle.ld_tracks.specs.Format.{Frame, PlainTrack, Writes, after_line, after_lines, depth, exited, is_at, is_of, released}
 use Rattle.ld_tracks.specs.Place.{inner_by, outer_by}
 use Rattle.ld_tracks.specs.Track.{IsBehind, elsewhere, holds_here, without}
 

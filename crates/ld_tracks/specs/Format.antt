@@ -4,7 +4,7 @@ use Rattle.std.specs.List.{list_any}
 use Rattle.ld_trace.specs.declared.event.State.{State}
 use Rattle.ld_trace.specs.declared.event.State.TheVariants.{Hard, Soft}
 use Rattle.ld_rules.specs.declared.outcome.TheConstants.{MOST_HELD}
-use Rattle.ld_rules.specs.Flags.{flag_for, same_state}
+use Rattle.ld_rules.specs.Flags.{same_state}
 use Rattle.ld_rules.specs.Open.{is_some_and}
 use Rattle.ld_rules.specs.Inner.Scanned.{remove_last}
 use Rattle.ld_tracks.specs.declared.line.Flags.{Flags}

@@ -1,5 +1,5 @@
 -- Which lines a call writes of a task, and what it makes of it.
-use Rattle.std.specs.Prelude.{◌≡◌, ℕ, nat_lt, Bool, true, false, ◌&&◌, not, List, [], ◌∷◌, ◌++◌, filter, length, Option, Some, None, if◌then◌else◌}
+use Rattle.std.specs.Prelude.{◌≡◌, nat_lt, Bool, true, false, ◌&&◌, not, List, [], ◌∷◌, ◌++◌, filter, length, None, if◌then◌else◌}
 use Rattle.std.specs.List.{list_any}
 use Rattle.ld_trace.specs.declared.event.State.{State}
 use Rattle.ld_trace.specs.declared.event.State.TheVariants.{Hard, Soft}
@@ -10,7 +10,7 @@ use Rattle.ld_tracks.specs.declared.line.Held.{Held}
 use Rattle.ld_tracks.specs.declared.line.How.{How}
 use Rattle.ld_tracks.specs.declared.line.Lock.{Lock}
 use Rattle.ld_tracks.specs.declared.line.Line.{Line}
-use Rattle.ld_tracks.specs.declared.line.Line.TheVariants.{Begin, Acquire, Release, Enter, Exit, Enable, Disable}
+use Rattle.ld_tracks.specs.declared.line.Line.TheVariants.{Begin, Acquire, Release, Enter, Enable, Disable}
 use Rattle.ld_tracks.specs.declared.place.Place.{Place}
 use Rattle.ld_tracks.specs.Format.{Frame, PlainTrack, acquired, depth, entered, is_at, is_handler, is_of, released, set_flag}
 use Rattle.ld_tracks.specs.Place.{has_effect, inner_of, outer_of}

@@ -1,5 +1,5 @@
-use Rattle.std.proofs.Common.{◌≡◌, length, filter, not}
-use Rattle.ld_tracks.specs.Format.{Writes, depth, is_at}
+use Rattle.std.proofs.Common.{◌≡◌, length}
+use Rattle.ld_tracks.specs.Format.{Writes}
 use Rattle.ld_tracks.specs.Track.{elsewhere}
 use Rattle.ld_tracks.proofs.track.Track.leave.Given as goal
 
