@@ -3,6 +3,8 @@ ghost use Rattle.std.specs.Prelude.{◌≡◌, All, IfOk, map};
 ghost use Rattle.ld_book.specs.Totals.{totals};
 ghost use Rattle.ld_explain.specs.Rows.{AreRefusals, AreViolations, IsFirstRow, refusal_said, row_said};
 ghost use Rattle.ld_explain.specs.Rows.{totals_row};
+ghost use Rattle.ld_explain.specs.Faults.{fault_said};
+ghost use Rattle.ld_explain.specs.Steps.{IsAtFirst};
 
 mod classes;
 mod groups;
@@ -25,7 +27,7 @@ use crate::sightings::{Sightings, Texts};
 use crate::violations::{Choice, chosen};
 use ld_book::{Book, Totals as BookTotals};
 use ld_maps::Maps;
-use ld_rows::{ClassRow, EdgeRow, Rows, Totals};
+use ld_rows::{ClassRow, Dependency, EdgeRow, End, Group, Refused, Rows, Totals, Violation};
 use ld_texts::{Overview, Places};
 use ld_trace::Source;
 use std::alloc::{AllocError, Global};
@@ -53,39 +55,112 @@ pub fn rows_of<'a>(
         AreViolations book.now (map row_said rows.violations.items)) }
     ensures first { IfOk result (λ rows. All (IsFirstRow book.now) rows.dependencies.items) }
 {
+    let placing = Placing { sources, places };
+    let stated = stated_of(alloc, book, report, placing)?;
+    let shown = shown_of(alloc, book, placing, maps, &stated.needed)?;
+    let tables = tables_of(alloc, book, placing, maps, all)?;
+    Ok(Rows {
+        totals: totals_of(book.totals()),
+        refused: shown.refused,
+        violations: stated.violations,
+        groups: stated.groups,
+        dependencies: shown.dependencies,
+        ends: shown.ends,
+        classes: tables.classes,
+        edges: tables.edges,
+    })
+}
+
+/// The violations of a report, by what they are and by groups.
+#[derive(Drop)]
+struct Stated<'a> {
+    violations: Vec<Violation<'a>>,
+    groups: Vec<Group>,
+    /// What stands behind them.
+    needed: Needed<'a>,
+}
+
+/// Those of this report of a book.
+fn stated_of<'a>(
+    alloc: Global,
+    book: &Book<'a>,
+    report: &'a [u8],
+    placing: Placing<'_, 'a>,
+) -> Result<Stated<'a>, AllocError>
+    ensures violations { IfOk result (λ stated.
+        AreViolations book.now (map row_said stated.violations.items)) }
+    ensures first { IfOk result (λ stated. All (IsAtFirst book.now) stated.needed.steps.items) }
+{
     let chosen = chosen(alloc, book, report, &Choice::all())?;
     let members = grouped(alloc, &chosen)?;
     let numbers = group_numbers(alloc, &members)?;
-    let placing = Placing { sources, places };
     let mut needed = Needed::new(alloc);
     let violations = violation_rows(alloc, placing, &chosen, &numbers, &mut needed)?;
     let groups = group_rows(alloc, &chosen, &members, &needed)?;
+    Ok(Stated {
+        violations,
+        groups,
+        needed,
+    })
+}
+
+/// What lines of traces show.
+#[derive(Drop)]
+struct Shown<'a> {
+    refused: Vec<Refused<'a>>,
+    dependencies: Vec<Dependency<'a>>,
+    ends: Vec<End<'a>>,
+}
+
+/// The rejected traces of a book, and what is needed of its violations.
+fn shown_of<'a>(
+    alloc: Global,
+    book: &Book<'a>,
+    placing: Placing<'_, 'a>,
+    maps: &Maps<'_>,
+    needed: &Needed<'a>,
+) -> Result<Shown<'a>, AllocError>
+    requires { All (IsAtFirst book.now) needed.now.steps.items }
+    ensures refused { IfOk result (λ shown.
+        AreRefusals book.now (map refusal_said shown.refused.items)) }
+    ensures first { IfOk result (λ shown. All (IsFirstRow book.now) shown.dependencies.items) }
+{
     let faults = faults(alloc, book)?;
-    let sightings = Sightings::of(alloc, sources, needed.witnesses(alloc)?)?;
-    let texts = texts_of(alloc, sources, &sightings, &faults)?;
+    let sightings = Sightings::of(alloc, placing.sources, needed.witnesses(alloc)?)?;
+    let texts = texts_of(alloc, placing.sources, &sightings, &faults)?;
     let lines = Lines {
         alloc,
         placing,
         maps,
         texts: &texts,
     };
-    let refused = refused_rows(&lines, &faults)?;
     let telling = Telling {
         lines: &lines,
         sightings: &sightings,
     };
-    let dependencies = dependency_rows(&telling, &needed.steps)?;
-    let ends = end_rows(&telling, book, &needed.ends)?;
-    let tables = tables_of(alloc, book, placing, maps, all)?;
-    Ok(Rows {
-        totals: totals_of(book.totals()),
+    shown_by(&telling, book, &faults, needed)
+}
+
+/// The same, with what is told of lines.
+fn shown_by<'a>(
+    telling: &Telling<'_, 'a>,
+    book: &Book<'a>,
+    faults: &[Fault],
+    needed: &Needed<'a>,
+) -> Result<Shown<'a>, AllocError>
+    requires faults { AreRefusals book.now (map fault_said faults.now) }
+    requires first { All (IsAtFirst book.now) needed.now.steps.items }
+    ensures refused { IfOk result (λ shown.
+        AreRefusals book.now (map refusal_said shown.refused.items)) }
+    ensures first { IfOk result (λ shown. All (IsFirstRow book.now) shown.dependencies.items) }
+{
+    let refused = refused_rows(telling.lines, faults)?;
+    let dependencies = dependency_rows(telling, &needed.steps)?;
+    let ends = end_rows(telling, book, &needed.ends)?;
+    Ok(Shown {
         refused,
-        violations,
-        groups,
         dependencies,
         ends,
-        classes: tables.classes,
-        edges: tables.edges,
     })
 }
 

@@ -11,4 +11,4 @@ loop-step-preserved c = λ sources first.
     let pushed : c.push.new.self.items ≡ old ++ row ∷ [] = search rules in
     subst (All (IsFirstRow sources)) (sym pushed)
     (All-push (IsFirstRow sources) old row (c.loop-step.invariant sources first)
-        (c.in_ok-dependency.ensures sources (first c.loop-step.step-index _ c.loop-step-test.true)))
+    (c.in_ok-dependency.ensures sources (first c.loop-step.step-index _ c.loop-step-test.true)))

@@ -14,6 +14,7 @@ same-witness sources a b from to at same-a same-b first =
     ∙ (ap (λ x. dependency_witness sources (record { from = from; to = x })) same-b ∙ first)
 
 pub returns : goal.returns
-returns c = λ sources first.
-    (c.args.step.now.first,
-    (same-witness sources _ _ _ _ c.args.step.now.first c.class_of.ensures c.class_of-2.ensures first, sym c.in_ok-seen.ensures))
+returns c = λ sources first. (
+  c.args.step.now.first,
+  (same-witness sources _ _ _ _ c.args.step.now.first c.class_of.ensures c.class_of-2.ensures first, sym c.in_ok-seen.ensures),
+)
