@@ -1,15 +1,12 @@
 -- The order of names, and the places of the classes in it.
 use Rattle.std.proofs.Common.{◌≡◌, ◌≢◌, ◌<◌, ◌+◌, ◌∙◌, ◌⊎◌, inl, inr, List, ℕ, [], ◌∷◌, ◌++◌, length, map, get_or, All, AllPairs, Contains, IsPermutation, IsSortedByKey}
 use Rattle.std.proofs.Common.{arith, sym, ap, subst}
-use Rattle.std.proofs.Common.{nat_eq, true≢false}
-use Rattle.std.proofs.lemmas.Bool.{cases_order, eq-eqb}
+use Rattle.std.proofs.lemmas.Bool.{cases_order}
 use Rattle.std.proofs.lemmas.List.{get_or_default, get_or-map, length-map, map-id}
 use Rattle.std.proofs.lemmas.List.Elements.{All-map}
 use Rattle.std.proofs.lemmas.List.FromFn.{get_or-range_with_len, length-range_with_len, map-range_with_len_more}
 use Rattle.std.proofs.lemmas.List.Sorted.{All-permutation, Contains-permutation, IsPermutation-map, length_permutation}
-use Rattle.std.proofs.lemmas.List.Elements.{Contains-get_or}
-use Rattle.std.proofs.lemmas.Map.Keys.{apart_from_distinct}
-use Rattle.std.specs.List.{IsDistinct, range_with_len}
+use Rattle.std.specs.List.{range_with_len}
 use Rattle.ld_class.specs.declared.class_name.ClassName.{ClassName}
 use Rattle.ld_class.specs.Names.{AreDistinct, IsNameAt, PlainClass, plain_class}
 use Rattle.ld_graph.specs.Edges.{ComesBefore}
@@ -39,28 +36,6 @@ module _ (classes : List PlainClass) (numbers places : List ℕ) (is : AreByName
       let q = is.every d at_d in
       subst (λ k. IsBefore (class_name classes k) (class_name classes d)) p.1
       (subst (λ k. IsBefore (class_name classes (get_or numbers (place_in_order c) 0)) (class_name classes k)) q.1 (names-rise (place_in_order c) (place_in_order d) lower q.0))
-
-  -- classes that differ have names that differ
-  pub names-apart : (some : List ℕ) → IsDistinct nat_eq some → ((c : ℕ) → Contains some c → c < length classes)
-      → (i j : ℕ) → i < j → j < length some → name_at classes some i ≢ name_at classes some j
-  names-apart some once within i j less low same = by (cases_order (place_in_order c) (place_in_order d))
-    where
-      c : ℕ
-      c = get_or some i 0
-
-      d : ℕ
-      d = get_or some j 0
-
-      at_c : c < length classes
-      at_c = within c (Contains-get_or some i 0 (omega (arith, less, low)))
-
-      at_d : d < length classes
-      at_d = within d (Contains-get_or some j 0 low)
-
-      by : (place_in_order c ≡ place_in_order d) ⊎ ((place_in_order c < place_in_order d) ⊎ (place_in_order d < place_in_order c)) → ⊥
-      by (inl place) = true≢false (sym (eq-eqb c d (place-once c d at_c at_d place)) ∙ apart_from_distinct nat_eq some i j 0 once less low)
-      by (inr (inl lower)) = not_before_itself (class_name classes d) (subst (λ n. IsBefore n (class_name classes d)) same (before_from_place c d at_c at_d lower))
-      by (inr (inr lower)) = not_before_itself (class_name classes d) (subst (λ n. IsBefore (class_name classes d) n) same (before_from_place d c at_d at_c lower))
 
   -- and the other way round
   pub place_from_before : (c d : ℕ) → c < length classes → d < length classes → IsBefore (class_name classes c) (class_name classes d) → place_in_order c < place_in_order d

@@ -1,22 +1,16 @@
 -- The rows of forbidden walks.
-use Rattle.std.proofs.Common.{◌≡◌, ◌<◌, List, ℕ, length, is_some, refl, sym, ap, subst, ◌∙◌}
+use Rattle.std.proofs.Common.{◌≡◌, ℕ, inr, List, arith, is_some, refl, sym, ap, subst, ◌∙◌}
 use Rattle.ld_class.specs.Names.{PlainClass}
-use Rattle.ld_graph.specs.Edges.{IsEdge}
-use Rattle.ld_graph.specs.Walks.{HasWalk}
 use Rattle.ld_trace.specs.declared.event.State.{State}
 use Rattle.ld_trace.specs.Sources.{PlainSource}
 use Rattle.ld_rules.specs.declared.outcome.Witness.{Witness}
-use Rattle.ld_rules.specs.Union.{dependency_witness, use_witness}
+use Rattle.ld_rules.specs.Union.{use_witness}
 use Rattle.ld_rules.specs.Usage.{Bit}
 use Rattle.ld_rules.specs.Usage.Bit.{In, On}
-use Rattle.ld_union.specs.declared.dependencies.Witnessed.{Witnessed}
 use Rattle.ld_union.specs.Findings.{IsBefore, IsShown, PlainForbiddenRow, shown_marks}
-use Rattle.ld_union.specs.Inner.ByName.{class_name}
-use Rattle.ld_union.specs.Inner.Rows.{IsNoted, IsEndRowOf}
-use Rattle.ld_union.specs.Inner.Union.{AreBetween, AreWitnessed, edges_of}
+use Rattle.ld_union.specs.Inner.Rows.{AreEndRows, AreForbiddenRowsOf, IsNoted, IsEndRowOf}
 use Rattle.ld_union.specs.Violations.{Depends, HasBit, IsForbidden}
 use Rattle.ld_union.proofs.CycleLemmas.{HasWalk-shown}
-use Rattle.ld_union.proofs.NumberLemmas.{walk_from_leads}
 
 module _ (sources : List PlainSource) where
   -- what is noted of a class is so of the name that is noted
@@ -57,9 +51,14 @@ module _ (sources : List PlainSource) where
       walk : IsShown sources row.from row.to row.via
       walk = subst (λ n. IsShown sources n row.to row.via) (sym from.same) (subst (λ n. IsShown sources x n row.via) (sym to.same) shown)
 
--- no forbidden walk, where there is no walk
-pub no_forbidden-walk : (classes : List PlainClass) (rows : List Witnessed) → AreBetween classes rows →
-    (sources : List PlainSource) → AreWitnessed classes rows (dependency_witness sources)
-    → (state : State) (a b : ℕ) → a < length classes → b < length classes → ¬ HasWalk (IsEdge (edges_of rows)) a b → ¬ IsForbidden sources state (class_name classes a) (class_name classes b)
-no_forbidden-walk classes rows is sources witnessed state a b at_a at_b none forbidden =
-    none (walk_from_leads classes rows is sources witnessed a b (class_name classes a) (class_name classes b) (at_a, refl) (at_b, refl) forbidden.2)
+-- the rows of a state's forbidden walks by their ends are the rows of these walks
+pub rows-of_state : (sources : List PlainSource) (state : State) (rows : List PlainForbiddenRow) → AreEndRows sources state rows → AreForbiddenRowsOf sources (λ k. k.0 ≡ state) rows
+rows-of_state sources state rows told = record {
+  each = told.each;
+  all = λ k owed.
+      let there = told.all (k.1.0, k.1.1) (subst (λ s. IsForbidden sources s k.1.0 k.1.1) owed.1 owed.0) in
+      let is_state : there.1.state ≡ state = ap (λ (r : PlainForbiddenRow). r.state) (sym there.3) ∙ (told.each there.0 there.1 there.2).1 in
+      (there.0, there.1, there.2, there.3, λ i. ((is_state ∙ sym owed.1) i, ((there.4 i).0, (there.4 i).1)));
+  ordered = λ i j d before within.
+      inr ((told.each i d (omega (arith, before, within))).1 ∙ sym (told.each j d within).1, told.ordered i j d before within);
+}

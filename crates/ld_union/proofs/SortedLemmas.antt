@@ -1,21 +1,17 @@
 -- Rows that are put in order by their keys.
-use Rattle.std.proofs.Common.{◌≡◌, ◌≢◌, inl, inr, ◌<◌, List, true, false, [], ◌∷◌, All, AllPairs, Any, Decides, IsPermutation, IsSortedByKey, Less}
+use Rattle.std.proofs.Common.{◌≡◌, ◌≢◌, inl, inr, ◌<◌, List, true, false, [], ◌∷◌, AllPairs, Any, Decides, IsPermutation, IsSortedByKey, Less}
 use Rattle.std.proofs.Common.{Equal, Greater, Ordering, is_eq, is_lt, length, map, get_or, refl, sym, ap, subst, ◌∙◌, arith}
 use Rattle.std.proofs.lemmas.Bool.{true≢false}
 use Rattle.std.proofs.lemmas.Cmp.{on_total, then_total, tied_itself}
 use Rattle.std.proofs.lemmas.List.{get_or-map, length-map}
-use Rattle.std.proofs.lemmas.List.Sorted.{All-permutation, Contains-permutation, IsPermutation-map, ranks_by, sorted_far}
+use Rattle.std.proofs.lemmas.List.Sorted.{Contains-permutation, IsPermutation-map, ranks_by, sorted_far}
 use Rattle.std.proofs.lemmas.Map.Keys.{IsDistinct-IsPermutation}
 use Rattle.std.proofs.lemmas.Map.Made.{AllPairs-from_IsDistinct, IsDistinct-from_AllPairs}
 use Rattle.std.specs.Cmp.{IsTotalOrder}
 use Rattle.std.specs.Ordering.{eq_by_cmp, ordering_reverse, ordering_then}
 use Rattle.ld_class.specs.Names.{PlainClass}
-use Rattle.ld_trace.specs.declared.event.State.{State}
-use Rattle.ld_trace.specs.Sources.{PlainSource}
-use Rattle.ld_union.specs.Findings.{IsBefore, IsPairBefore, PlainForbiddenRow, forbidden_key}
-use Rattle.ld_union.specs.Inner.Rows.{AreEndRows, AreForbiddenRowsOf, IsFirstBefore, IsRowIn, ends_of}
-use Rattle.ld_union.specs.Violations.{IsForbidden}
-use Rattle.ld_union.proofs.NameOrderLemmas.{before_from_less, class_cmp, class_cmp_total, not_before_itself, same_from_equal}
+use Rattle.ld_union.specs.Findings.{IsPairBefore}
+use Rattle.ld_union.proofs.NameOrderLemmas.{before_from_less, class_cmp, class_cmp_total, same_from_equal}
 
 AllPairs-map : {X Y : Type 0} (R : Y → Y → Type 0) (f : X → Y) (xs : List X) → AllPairs (λ x y. R (f x) (f y)) xs → AllPairs R (map f xs)
 AllPairs-map R f [] all i j d before within = absurd (omega (arith, within))
@@ -91,37 +87,3 @@ pair_before_from_less p q is = by (class_cmp p.0 q.0) refl is
     by Less first h = inl (before_from_less p.0 q.0 first)
     by Equal first h = inr (same_from_equal p.0 q.0 first, before_from_less p.1 q.1 h)
     by Greater first h = absurd (true≢false (sym (ap is_lt h)))
-
--- the rows of a state's forbidden walks, in the order of their first ends, and then sorted
-module _ {X : Type 0} (plain : X → PlainForbiddenRow) (sources : List PlainSource) (state : State) (xs ys : List X) (moved : IsPermutation xs ys)
-    (told : AreEndRows sources state (map plain xs)) (sorted : IsSortedByKey (λ x. ends_of (plain x)) pair_cmp ys) where
-  moved_rows : IsPermutation (map plain xs) (map plain ys)
-  moved_rows = IsPermutation-map plain xs ys moved
-
-  each : All (IsRowIn sources state) (map plain ys)
-  each = All-permutation (IsRowIn sources state) (map plain xs) (map plain ys) moved_rows told.each
-
-  apart : AllPairs (λ x y. ends_of (plain x) ≢ ends_of (plain y)) xs
-  apart i j d before within same =
-      by (AllPairs-from_map (λ r s. IsFirstBefore (ends_of r) (ends_of s)) plain xs told.ordered i j d before within)
-    where
-      by : IsFirstBefore (ends_of (plain (get_or xs i d))) (ends_of (plain (get_or xs j d))) → ⊥
-      by (inl first) = not_before_itself (plain (get_or xs j d)).from (subst (λ (p : PlainClass × PlainClass). IsBefore p.0 (plain (get_or xs j d)).from) same first)
-      by (inr second) = second.1 (ap (λ (p : PlainClass × PlainClass). p.1) same)
-
-  pub rows-sorted : AreForbiddenRowsOf sources (λ k. k.0 ≡ state) (map plain ys)
-  rows-sorted = record {
-    each = each;
-    all = λ k owed.
-        let there = told.all (k.1.0, k.1.1) (subst (λ s. IsForbidden sources s k.1.0 k.1.1) owed.1 owed.0) in
-        let is_state : there.1.state ≡ state = ap (λ (r : PlainForbiddenRow). r.state) (sym there.3) ∙ (told.each there.0 there.1 there.2).1 in
-        Any-permutation (λ r. forbidden_key r ≡ k) (map plain xs) (map plain ys) moved_rows
-        (there.0, there.1, there.2, there.3, λ i. ((is_state ∙ sym owed.1) i, ((there.4 i).0, (there.4 i).1)));
-    ordered = λ i j d before within.
-        let at_i : i < length (map plain ys) = omega (arith, before, within) in
-        inr (
-          (each i d at_i).1 ∙ sym (each j d within).1,
-          AllPairs-map (λ r s. IsPairBefore (ends_of r) (ends_of s)) plain ys (λ m n e lower below. pair_before_from_less (ends_of (plain (get_or ys m e)))
-              (ends_of (plain (get_or ys n e))) (rising pair_cmp pair_cmp_total pair_cmp-Decides (λ x. ends_of (plain x)) xs ys moved apart sorted m n e lower below)) i j d before within,
-        );
-  }

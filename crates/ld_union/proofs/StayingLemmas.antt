@@ -1,4 +1,4 @@
--- The successors of a class that stay in its component, by their places in an order.
+-- Those of some classes that are of some kind, by their places in an order.
 use Rattle.std.proofs.Common.{◌≡◌, ◌≢◌, ◌⊎◌, inl, inr, ◌+◌, ◌<◌, ◌≤◌, ◌∙◌, ◌++◌, ◌∷◌, [], List, ℕ, Contains, IsPermutation, IsSortedByKey, false}
 use Rattle.std.proofs.Common.{map, arith, ap, length, nat_cmp, nat_eq, subst, sym}
 use Rattle.std.specs.List.{IsDistinct}
@@ -12,55 +12,53 @@ use Rattle.ld_graph.proofs.OnceLemmas.{IsDistinct-none, IsDistinct-one_more}
 use Rattle.ld_union.specs.Findings.{IsBefore}
 use Rattle.ld_union.specs.Inner.ByName.{AreRising, class_at, class_name, name_at, place_of_class}
 
--- the places of those of the first so many successors whose component is this one
-pub record AreStaying (near components places : List ℕ) (component count : ℕ) (found : List ℕ) : Type 0 where
+-- the places of those of the first so many classes that are of this kind
+pub record AreStaying (near places : List ℕ) (kind : ℕ → Type 0) (count : ℕ) (found : List ℕ) : Type 0 where
   pub once : IsDistinct nat_eq found
-  pub each : (p : ℕ) → Contains found p
-      → (k : ℕ) × ((k < count) × ((class_at components (class_at near k) ≡ component) × (place_of_class places (class_at near k) ≡ p)))
-  pub all : (k : ℕ) → k < count → class_at components (class_at near k) ≡ component → Contains found (place_of_class places (class_at near k))
+  pub each : (p : ℕ) → Contains found p → (k : ℕ) × ((k < count) × (kind (class_at near k) × (place_of_class places (class_at near k) ≡ p)))
+  pub all : (k : ℕ) → k < count → kind (class_at near k) → Contains found (place_of_class places (class_at near k))
 
-module _ (near components places : List ℕ) (component : ℕ) where
-  pub AreStaying-none : AreStaying near components places component 0 []
+module _ (near places : List ℕ) (kind : ℕ → Type 0) where
+  pub AreStaying-none : AreStaying near places kind 0 []
   AreStaying-none = record {
     once = IsDistinct-none;
     each = λ p h. let l = h.1 in absurd (omega (arith, l));
     all = λ k l. absurd (omega (arith, l));
   }
 
-  module _ (count : ℕ) (found : List ℕ) (are : AreStaying near components places component count found) where
-    pub AreStaying-other : class_at components (class_at near count) ≢ component → AreStaying near components places component (count + 1) found
+  module _ (count : ℕ) (found : List ℕ) (are : AreStaying near places kind count found) where
+    pub AreStaying-other : ¬ kind (class_at near count) → AreStaying near places kind (count + 1) found
     AreStaying-other other = record {
       once = are.once;
       each = λ p h. let e = are.each p h in let l = e.1.0 in (e.0, (omega (arith, l), e.1.1));
       all = λ k l is. by k (cases_lt k count) l is;
     }
       where
-        by : (k : ℕ) → (k < count) ⊎ (count ≤ k) → k < count + 1 → class_at components (class_at near k) ≡ component → Contains found (place_of_class places (class_at near k))
+        by : (k : ℕ) → (k < count) ⊎ (count ≤ k) → k < count + 1 → kind (class_at near k) → Contains found (place_of_class places (class_at near k))
         by k (inl less) l is = are.all k less is
-        by k (inr past) l is = let same : k ≡ count = omega (arith, past, l) in absurd (other (ap (λ z. class_at components (class_at near z)) (sym same) ∙ is))
+        by k (inr past) l is = let same : k ≡ count = omega (arith, past, l) in absurd (other (subst (λ z. kind (class_at near z)) same is))
 
     pub AreStaying-one_more : IsDistinct nat_eq near → count < length near
         → ((j k : ℕ) → j < length near → k < length near → place_of_class places (class_at near j) ≡ place_of_class places (class_at near k) → class_at near j ≡ class_at near k)
-        → class_at components (class_at near count) ≡ component
-        → AreStaying near components places component (count + 1) (found ++ place_of_class places (class_at near count) ∷ [])
+        → kind (class_at near count) → AreStaying near places kind (count + 1) (found ++ place_of_class places (class_at near count) ∷ [])
     AreStaying-one_more once within apart is = record {
       once = IsDistinct-one_more found (place_of_class places (class_at near count)) are.once (λ h. fresh (are.each (place_of_class places (class_at near count)) h));
       each = λ p h. one p (Contains-push_cases found (place_of_class places (class_at near count)) p h);
       all = λ k l of. by k (cases_lt k count) l of;
     }
       where
-        fresh : ((k : ℕ) × ((k < count) × ((class_at components (class_at near k) ≡ component) × (place_of_class places (class_at near k) ≡ place_of_class places (class_at near count))))) → ⊥
+        fresh : ((k : ℕ) × ((k < count) × (kind (class_at near k) × (place_of_class places (class_at near k) ≡ place_of_class places (class_at near count))))) → ⊥
         fresh e =
             let l = e.1.0 in
             let same = apart e.0 count (omega (arith, l, within)) within e.1.1.1 in
             true≢false (sym (eq-eqb (class_at near e.0) (class_at near count) same) ∙ apart_from_distinct nat_eq near e.0 count 0 once l within)
 
         one : (p : ℕ) → Contains found p ⊎ (place_of_class places (class_at near count) ≡ p)
-            → (k : ℕ) × ((k < count + 1) × ((class_at components (class_at near k) ≡ component) × (place_of_class places (class_at near k) ≡ p)))
+            → (k : ℕ) × ((k < count + 1) × (kind (class_at near k) × (place_of_class places (class_at near k) ≡ p)))
         one p (inl h) = let e = are.each p h in let l = e.1.0 in (e.0, (omega (arith, l), e.1.1))
         one p (inr e) = (count, (omega arith, (is, e)))
 
-        by : (k : ℕ) → (k < count) ⊎ (count ≤ k) → k < count + 1 → class_at components (class_at near k) ≡ component
+        by : (k : ℕ) → (k < count) ⊎ (count ≤ k) → k < count + 1 → kind (class_at near k)
             → Contains (found ++ place_of_class places (class_at near count) ∷ []) (place_of_class places (class_at near k))
         by k (inl less) l of = Contains-append_left found (place_of_class places (class_at near count) ∷ []) (place_of_class places (class_at near k)) (are.all k less of)
         by k (inr past) l of =

@@ -1,5 +1,5 @@
 -- The rows of violations as their makers give them. No contract of a `Book` cites this file.
-use Rattle.std.specs.Prelude.{◌≡◌, ◌≢◌, ◌↔◌, ◌<◌, ℕ, List, Contains, length, true, slice_index_or, Option, None, Some}
+use Rattle.std.specs.Prelude.{◌≡◌, ◌↔◌, ◌<◌, ℕ, List, Contains, length, true, slice_index_or, Option, None, Some}
 use Rattle.ld_class.specs.declared.usage.Usage.{Usage}
 use Rattle.ld_class.specs.Names.{PlainClass}
 use Rattle.ld_class.specs.Usage.{has_bit, no_bits}
@@ -72,19 +72,15 @@ IsRowIn sources state row = IsForbiddenRow sources row × (row.state ≡ state)
 abbrev pub IsEndRowOf : List PlainSource → State → (from to : PlainClass) → PlainForbiddenRow → Type 0
 IsEndRowOf sources state from to row = IsRowIn sources state row × (ends_of row ≡ (from, to))
 
--- the first end of the one comes before that of the other, or they are the same, and the second ends differ
-abbrev pub IsFirstBefore : PlainClass × PlainClass → PlainClass × PlainClass → Type 0
-IsFirstBefore p q = InTurn IsBefore (λ a b. a ≢ b) p q
-
--- the rows of a state's forbidden walks, each once, in the order of their first ends
+-- the rows of a state's forbidden walks, each once, in the order of their ends
 abbrev pub AreEndRows : List PlainSource → State → List PlainForbiddenRow → Type 0
 AreEndRows sources state rows =
-    AreRows ends_of (IsRowIn sources state) (λ p. IsForbidden sources state p.0 p.1) IsFirstBefore rows
+    AreRows ends_of (IsRowIn sources state) (λ p. IsForbidden sources state p.0 p.1) IsPairBefore rows
 
 -- and of these alone
 abbrev pub AreEndRowsOf : List PlainSource → State → (PlainClass × PlainClass → Type 0) → List PlainForbiddenRow → Type 0
 AreEndRowsOf sources state these rows =
-    AreRowsOf ends_of (IsRowIn sources state) (λ p. IsForbidden sources state p.0 p.1) IsFirstBefore these rows
+    AreRowsOf ends_of (IsRowIn sources state) (λ p. IsForbidden sources state p.0 p.1) IsPairBefore these rows
 
 -- the name and the usage characters of a class that has the bit, and where that was first seen
 pub record IsNoted (sources : List PlainSource) (class : PlainClass) (bit : Bit) (name : PlainClass) (marks : List ℕ) (at : Witness) : Type 0 where
@@ -105,6 +101,12 @@ pub record AreLeadingTo (union : PlainUnion) (state : State) (places : List ℕ)
   pub real : (x y : ℕ) → IsNear leading.lists x y → IsEdge (edges_of union.dependencies) x y
   pub leads : (e : ℕ) → e < length union.classes → HasBitAt (bits_of union.usage) e (On state) → (x y : ℕ) → IsEdge (edges_of union.dependencies) x y
       → Reaches (IsEdge (edges_of union.dependencies)) y e → IsNear leading.lists x y
+
+-- these are the places, in an order, of those of some classes that are held where handlers of the state can interrupt
+pub record AreHeldPlaces (union : PlainUnion) (state : State) (numbers found places : List ℕ) : Type 0 where
+  pub each : (p : ℕ) → Contains places p → (p < length numbers)
+      × (Contains found (class_at numbers p) × HasBitAt (bits_of union.usage) (class_at numbers p) (On state))
+  pub all : (c : ℕ) → Contains found c → HasBitAt (bits_of union.usage) c (On state) → (p : ℕ) × (Contains places p × (class_at numbers p ≡ c))
 
 -- enough of the distances to another class for the shown walk from this one
 pub record AreEnoughFrom (union : PlainUnion) (from to : ℕ) (distances : List (Option ℕ)) : Type 0 where

@@ -1,15 +1,18 @@
 //! The forbidden walks.
-ghost use Rattle.std.specs.Prelude.{◌≡◌, ◌<◌, Contains, IfOk, List, MatchOption, length, map};
+ghost use Rattle.std.specs.Prelude.{◌≡◌, ◌<◌, ℕ, Contains, IfOk, List, MatchOption, length, map, nat_eq, slice_index_or};
+ghost use Rattle.std.specs.List.{IsDistinct};
 ghost use Rattle.ld_class.specs.Names.{plain_class};
 ghost use Rattle.ld_trace.specs.Sources.{PlainSource};
 ghost use Rattle.ld_tree.specs.Trees.{IsTreeOf};
 ghost use Rattle.ld_rules.specs.Union.{dependency_witness, use_witness};
-ghost use Rattle.ld_rules.specs.Usage.Bit.{In};
+ghost use Rattle.ld_rules.specs.Usage.Bit.{In, On};
 ghost use Rattle.ld_union.specs.Findings.{AreForbiddenRows, plain_forbidden_row};
 ghost use Rattle.ld_union.specs.Inner.ByName.{class_name};
-ghost use Rattle.ld_union.specs.Inner.Rows.{AreEndRows, AreEndRowsOf, AreForbiddenRowsOf, AreLeadingTo, AreWithBit};
-ghost use Rattle.ld_union.specs.Inner.Rows.{IsEndRowOf, IsNoted, IsOfEach};
+ghost use Rattle.ld_union.specs.Inner.Bits.{HasBitAt};
+ghost use Rattle.ld_union.specs.Inner.Rows.{AreEndRows, AreEndRowsOf, AreForbiddenRowsOf, AreHeldPlaces, AreLeadingTo};
+ghost use Rattle.ld_union.specs.Inner.Rows.{AreWithBit, IsEndRowOf, IsNoted, IsOfEach};
 ghost use Rattle.ld_union.specs.Inner.Union.{Shows};
+ghost use Rattle.ld_union.specs.Usage.{bits_of};
 ghost use Rattle.ld_union.specs.Violations.{IsForbidden};
 
 use crate::alarms::{Found, has, in_bit, on_bit};
@@ -85,13 +88,11 @@ fn forbidden_of<'u, 'a>(
     if found.forbidden.get(state).is_none() {
         return Ok(Vec::new(alloc));
     }
-    let mut rows = forbidden_by_first(alloc, indexed, state)?;
-    rows.sort_unstable_by_key(|row| (row.from, row.to));
-    Ok(rows)
+    forbidden_by_ends(alloc, indexed, state)
 }
 
-/// The same, by the names of the first ends, so that one search serves all the walks from a class.
-fn forbidden_by_first<'u, 'a>(
+/// The same, class by class, so that one search serves all the walks from a class.
+fn forbidden_by_ends<'u, 'a>(
     alloc: Global,
     indexed: Indexed<'u, '_, 'a>,
     state: State,
@@ -143,7 +144,7 @@ fn leading_to_held<'o>(
     Ok(leading)
 }
 
-/// Those from this class, which handlers of the state acquire, in any order.
+/// Those from this class, which handlers of the state acquire, by the names of their second ends.
 fn forbidden_from<'u, 'a>(
     alloc: Global,
     indexed: Indexed<'u, '_, 'a>,
@@ -194,14 +195,43 @@ fn rows_from<'u, 'a>(
         → AreEndRowsOf sources state (λ p. p.0 ≡ class_name indexed.entry.union.now.classes first.now.class)
         (map plain_forbidden_row rows.items)) }
 {
-    let mut rows = Vec::new(alloc);
-    let found = first.tree.found();
-    for to in found {
-        if let Some(row) = forbidden_row(alloc, indexed, state, first, acquired, *to)? {
+    let places = places_held(alloc, indexed, state, first.tree.found())?;
+    let mut rows = Vec::with_capacity(alloc, places.len())?;
+    for place in &places {
+        let to = indexed.order.numbers[*place as usize];
+        if let Some(row) = forbidden_row(alloc, indexed, state, first, acquired, to)? {
             rows.push(row)?;
         }
     }
     Ok(rows)
+}
+
+/// The places, in the order of names, of those of these classes that are held where handlers of the state can
+/// interrupt, from the least on.
+// Numbers are sorted here, so that no row has to be moved.
+fn places_held(
+    alloc: Global,
+    indexed: Indexed<'_, '_, '_>,
+    state: State,
+    found: &[u32],
+) -> Result<Vec<u32>, AllocError>
+    requires within { (c : ℕ) → Contains found.now c → c < length indexed.union.now.classes }
+    requires once { IsDistinct nat_eq found.now }
+    ensures exact { IfOk result (λ places. AreHeldPlaces indexed.entry.union.now state
+        indexed.entry.order.now.numbers.items found.now places.items) }
+    ensures rising { IfOk result (λ places. (i j : ℕ) → i < j → j < length places.items
+        → slice_index_or places.items i 0 < slice_index_or places.items j 0) }
+{
+    let held = on_bit(state);
+    let mut places = Vec::new(alloc);
+    for class in found {
+        // Most classes on the way to an end aren't one.
+        if has(indexed.union.usage(), *class as usize, held) {
+            places.push(indexed.order.places[*class as usize])?;
+        }
+    }
+    places.sort_unstable();
+    Ok(places)
 }
 
 /// The row of the forbidden walk to a class that was found from the first one, whose IN bit `acquired` notes, or
@@ -219,6 +249,7 @@ fn forbidden_row<'u, 'a>(
     requires leading { AreLeadingTo indexed.union.now state indexed.order.now.places.items first.now.leading.now }
     requires tree { IsTreeOf first.now.leading.now first.now.class first.now.tree.now }
     requires found { Contains first.now.tree.now.found to }
+    requires held { HasBitAt (bits_of indexed.union.now.usage) to (On state) }
     requires acquired { (sources : List PlainSource)
         → Shows sources indexed.union.now
         → IsNoted sources (class_name indexed.union.now.classes first.now.class) (In state)
@@ -231,10 +262,6 @@ fn forbidden_row<'u, 'a>(
         (λ r. IsEndRowOf sources state (class_name indexed.entry.union.now.classes first.now.class)
         (class_name indexed.entry.union.now.classes to) (plain_forbidden_row r))) }
 {
-    // Most classes on the way to an end aren't one.
-    if !has(indexed.union.usage(), to as usize, on_bit(state)) {
-        return Ok(None);
-    }
     let Some(held) = noted(indexed.union, to, on_bit(state)) else {
         return Ok(None);
     };

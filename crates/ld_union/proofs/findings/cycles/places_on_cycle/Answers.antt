@@ -39,9 +39,10 @@ back_at c k within =
     c.args.indexed.named.every to (end_at c to (edge_at c k within))
 
 pub loop-to-init : goal.loop-to-init
-loop-to-init c = subst (AreStaying c.after-to-items.result.now c.args.components.now c.args.indexed.order.now.places.items (get_or c.args.components.now c.args.from 0) 0)
-    (sym c.new-places.ensures.items)
-    (AreStaying-none c.after-to-items.result.now c.args.components.now c.args.indexed.order.now.places.items (get_or c.args.components.now c.args.from 0))
+loop-to-init c =
+    let kind = λ (k : ℕ). get_or c.args.components.now k 0 ≡ get_or c.args.components.now c.args.from 0 in
+    subst (AreStaying c.after-to-items.result.now c.args.indexed.order.now.places.items kind 0) (sym c.new-places.ensures.items)
+    (AreStaying-none c.after-to-items.result.now c.args.indexed.order.now.places.items kind)
 
 pub bounds-components-to : goal.bounds-components-to
 bounds-components-to c =
@@ -61,22 +62,21 @@ pub loop-to-preserved : goal.loop-to-preserved
 loop-to-preserved c =
     let a = (goal.at.loop-to-preserved c).After-after-to-items in
     let near = c.after-to-items.result.now in
-    let components = c.args.components.now in
     let places = c.args.indexed.order.now.places.items in
-    let own = get_or components c.args.from 0 in
+    let kind = λ (k : ℕ). get_or c.args.components.now k 0 ≡ get_or c.args.components.now c.args.from 0 in
     let i = c.loop-to.to-index in
     elim c.if-components-to.branch [
       | then-components-to+in_ok-push w ↦
           let value : c.if-components-to.places.items ≡ c.loop-to.places.items ++ place_of_class places (get_or near i 0) ∷ [] =
           ap (λ (v : Vec _ _). v.items) w.places-is ∙ w.in_ok-push.ensures.items ∙ ap (λ p. c.loop-to.places.items ++ p ∷ [])
           (w.index.ensures ∙ get_or_default places (get_or near i 0) w.index.result.now 0 (let e = end_at a (get_or near i 0) (edge_at a i c.loop-to-test.true) in omega (arith, e, c.args.indexed.named.placed))) in
-          subst (AreStaying near components places own (i + 1)) (sym value)
-          (AreStaying-one_more near components places own i c.loop-to.places.items c.loop-to.invariant c.after-to-items.ensures.once c.loop-to-test.true
+          subst (AreStaying near places kind (i + 1)) (sym value)
+          (AreStaying-one_more near places kind i c.loop-to.places.items c.loop-to.invariant c.after-to-items.ensures.once c.loop-to-test.true
           (λ j k at_j at_k same. sym (back_at a j at_j).1 ∙ ap (class_at c.args.indexed.order.now.numbers.items) same ∙ (back_at a k at_k).1)
           w.if-components-to.true)
       | else-components-to w ↦
-          subst (AreStaying near components places own (i + 1)) (sym (ap (λ (v : Vec _ _). v.items) w.places-is))
-          (AreStaying-other near components places own i c.loop-to.places.items c.loop-to.invariant w.if-components-to.false)
+          subst (AreStaying near places kind (i + 1)) (sym (ap (λ (v : Vec _ _). v.items) w.places-is))
+          (AreStaying-other near places kind i c.loop-to.places.items c.loop-to.invariant w.if-components-to.false)
     ]
 
 pub returns-clause-exact : goal.returns-clause-exact

@@ -1,19 +1,17 @@
-use Rattle.std.proofs.Common.{rules, ◌≡◌, ◌∙◌, map, subst, sym, ap}
-use Rattle.std.proofs.lemmas.Fn.{always_returns_same}
-use Rattle.ld_union.specs.declared.findings.forbidden.ForbiddenRow.{ForbiddenRow}
+use Rattle.std.proofs.Common.{◌≡◌, ◌∙◌, map, subst, sym, ap}
+use Rattle.std.proofs.lemmas.Result.{IfOk-weaker}
 use Rattle.ld_trace.specs.declared.event.State.{State}
 use Rattle.ld_union.specs.Findings.{InTurn, IsForbiddenRow, IsHarder, IsPairBefore, forbidden_key, plain_forbidden_row}
 use Rattle.ld_union.specs.Inner.Rows.{AreForbiddenRowsOf}
 use Rattle.ld_union.specs.Violations.{IsForbidden}
+use Rattle.ld_union.proofs.ForbiddenLemmas.{rows-of_state}
 use Rattle.ld_union.proofs.RowLemmas.{None_from_is_some, rows-none}
-use Rattle.ld_union.proofs.SortedLemmas.{rows-sorted}
 use Rattle.ld_union.proofs.findings.forbidden.forbidden_of.Goals as goal
 
 pub returns : goal.returns
-returns c sources shows found =
-    rows-sorted plain_forbidden_row sources c.args.state c.in_ok-rows.rows.items c.sort_unstable_by_key.new.self.items c.sort_unstable_by_key.ensures.permutation
-    (c.in_ok-rows.ensures sources shows)
-    (c.sort_unstable_by_key.ensures.sorted (λ (row : ForbiddenRow). (row.from, row.to)) (always_returns_same _ (λ a r. r ≡ (a.0.now.from, a.0.now.to)) _ (λ a r f' k. search rules)))
+returns c =
+    IfOk-weaker c.forbidden_by_ends.result _ _
+    (λ rows are sources shows found. rows-of_state sources c.args.state (map plain_forbidden_row rows.items) (are sources shows)) c.forbidden_by_ends.ensures
 
 pub returns-then-is_none : goal.returns-then-is_none
 returns-then-is_none c sources shows found =

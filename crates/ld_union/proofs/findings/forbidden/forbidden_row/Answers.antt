@@ -1,42 +1,25 @@
-use Rattle.std.proofs.Common.{◌≡◌, ◌<◌, ◌∙◌, All, ap, get_or, length, map, subst, sym}
-use Rattle.std.proofs.lemmas.Bool.{true≢false}
+use Rattle.std.proofs.Common.{◌≡◌, ◌<◌, ◌∙◌, All, ap, length, map, subst, sym}
 use Rattle.ld_class.specs.Names.{plain_class}
-use Rattle.ld_class.specs.Usage.{has_bit, no_bits}
 use Rattle.ld_graph.specs.Edges.{ComesBefore, IsEdge}
 use Rattle.ld_graph.specs.Lists.{IsNear}
 use Rattle.ld_graph.specs.Walks.{IsShownWalk}
-use Rattle.ld_rules.specs.Usage.{usage_of}
 use Rattle.ld_rules.specs.Usage.Bit.{On}
 use Rattle.ld_union.specs.Findings.{IsShown, plain_forbidden_row}
-use Rattle.ld_union.specs.Inner.Bits.{HasBitAt}
 use Rattle.ld_union.specs.Inner.ByName.{class_name}
 use Rattle.ld_union.specs.Inner.Rows.{IsNoted}
 use Rattle.ld_union.specs.Inner.Union.{edges_of}
-use Rattle.ld_union.specs.Usage.{bits_of}
-use Rattle.ld_union.proofs.BitLemmas.{bits_from_used}
 use Rattle.ld_union.proofs.ForbiddenLemmas.{forbidden-row}
 use Rattle.ld_union.proofs.LeadingLemmas.{IsShownWalk-leading}
 use Rattle.ld_union.proofs.ShownLemmas.{shown_named, shown_within}
 use Rattle.ld_union.proofs.WitnessLemmas.{bit_of-usage_of}
 use Rattle.ld_union.proofs.findings.forbidden.forbidden_row.Goals as goal
 
-pub returns-then-not-has : goal.returns-then-not-has
-returns-then-not-has c sources shows forbidden =
-    let union = c.args.indexed.union.now in
-    let same : c.has.result ≡ has_bit (get_or (bits_of union.usage) c.args.to no_bits) (usage_of (On c.args.state)) =
-    c.has.ensures ∙ (λ k. has_bit (get_or (bits_of (c.usage.ensures.same k)) c.args.to no_bits) (c.on_bit.ensures k)) in
-    let bit : HasBitAt (bits_of union.usage) c.args.to (On c.args.state) =
-    ((bits_from_used union.classes union.usage sources shows.used).each c.args.to (On c.args.state) c.requires.to).1 forbidden.1 in
-    true≢false (sym (same ∙ bit) ∙ c.if-not-has.true)
-
 pub new-requires : goal.new-requires
 new-requires c =
     let union = c.args.indexed.union.now in
     let leading = c.args.first.now.leading.now in
-    let same : c.has.result ≡ has_bit (get_or (bits_of union.usage) c.args.to no_bits) (usage_of (On c.args.state)) =
-    c.has.ensures ∙ (λ k. has_bit (get_or (bits_of (c.usage.ensures.same k)) c.args.to no_bits) (c.on_bit.ensures k)) in
     let shown = IsShownWalk-leading (IsNear leading.lists) (IsEdge (edges_of union.dependencies)) (ComesBefore leading.places) c.args.to c.requires.leading.real
-    (c.requires.leading.leads c.args.to c.requires.to (sym same ∙ c.if-not-has.false)) c.args.first.now.class c.in_ok-numbers.numbers.items c.in_ok-numbers.ensures in
+    (c.requires.leading.leads c.args.to c.requires.to c.requires.held) c.args.first.now.class c.in_ok-numbers.numbers.items c.in_ok-numbers.ensures in
     subst (λ names. All (λ k. k < length names) c.in_ok-numbers.numbers.items) (sym c.classes.ensures.same)
     (shown_within union.classes union.dependencies c.requires.leading.numbered leading.places c.args.first.now.class c.args.to
     c.in_ok-numbers.numbers.items c.requires.from c.requires.to shown)
@@ -50,10 +33,8 @@ returns c sources shows =
     let b = class_name union.classes c.args.to in
     let acquired = c.args.acquired in
     let held = c.in-Some.held in
-    let same : c.has.result ≡ has_bit (get_or (bits_of union.usage) c.args.to no_bits) (usage_of (On c.args.state)) =
-    c.has.ensures ∙ (λ k. has_bit (get_or (bits_of (c.usage.ensures.same k)) c.args.to no_bits) (c.on_bit.ensures k)) in
     let shown = IsShownWalk-leading (IsNear leading.lists) (IsEdge (edges_of union.dependencies)) (ComesBefore leading.places) c.args.to c.requires.leading.real
-    (c.requires.leading.leads c.args.to c.requires.to (sym same ∙ c.if-not-has.false)) c.args.first.now.class c.in_ok-numbers.numbers.items c.in_ok-numbers.ensures in
+    (c.requires.leading.leads c.args.to c.requires.to c.requires.held) c.args.first.now.class c.in_ok-numbers.numbers.items c.in_ok-numbers.ensures in
     let placed = subst (λ places. IsShownWalk (IsEdge (edges_of union.dependencies)) (ComesBefore places) c.args.first.now.class c.args.to c.in_ok-numbers.numbers.items) c.requires.leading.in_order shown in
     let names : c.new.result ≡ map (class_name union.classes) c.in_ok-numbers.numbers.items = c.new.ensures ∙
     ap (λ classes. map (class_name classes) c.in_ok-numbers.numbers.items) c.classes.ensures.same in
@@ -68,7 +49,7 @@ returns c sources shows =
       via = c.new.result;
     }))
     (c.requires.acquired sources shows)
-    (subst (λ bit. IsNoted sources b bit (plain_class held.name) held.marks held.at) (bit_of-usage_of (On c.args.state) c.on_bit-2.result c.on_bit-2.ensures) (c.in-Some.ensures sources shows))
+    (subst (λ bit. IsNoted sources b bit (plain_class held.name) held.marks held.at) (bit_of-usage_of (On c.args.state) c.on_bit.result c.on_bit.ensures) (c.in-Some.ensures sources shows))
     (subst (IsShown sources a b) (sym names)
     (shown_named union.classes union.dependencies shows.numbered sources shows.witnesses order.numbers.items order.places.items
     c.args.indexed.named c.args.first.now.class c.args.to c.in_ok-numbers.numbers.items c.requires.from c.requires.to placed))

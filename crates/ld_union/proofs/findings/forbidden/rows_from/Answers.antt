@@ -1,89 +1,136 @@
-use Rattle.std.proofs.Common.{◌≡◌, ◌≢◌, ◌<◌, ◌≤◌, ◌+◌, Contains, ◌∙◌, ◌∷◌, ◌++◌, [], Vec, length, nat_eq, map, subst, sym, ap}
-use Rattle.std.proofs.lemmas.List.{append-nil, map-append}
+use Rattle.std.proofs.Common.{◌≡◌, ◌<◌, ◌≤◌, ◌+◌, Contains, ◌∙◌, ◌∷◌, ◌++◌, [], ℕ, Vec, arith, length, map, subst, sym, ap}
+use Rattle.std.proofs.lemmas.List.{append-nil, get_or_default, map-append}
 use Rattle.std.proofs.lemmas.List.Elements.{Contains-get_or}
 use Rattle.std.proofs.lemmas.Option.{MatchOption-at_none, MatchOption-at_some}
-use Rattle.std.specs.List.{IsDistinct}
 use Rattle.ld_class.specs.Names.{PlainClass}
 use Rattle.ld_graph.specs.Edges.{ComesBefore, IsEdge}
 use Rattle.ld_graph.specs.Lists.{IsNear}
 use Rattle.ld_rules.specs.Union.{use_witness}
 use Rattle.ld_rules.specs.Usage.Bit.{On}
 use Rattle.ld_tree.proofs.ClimbLemmas.{found_where_led}
-use Rattle.ld_union.specs.Findings.{IsBefore, plain_forbidden_row}
+use Rattle.ld_union.specs.Findings.{IsBefore, IsPairBefore, plain_forbidden_row}
 use Rattle.ld_union.specs.Inner.ByName.{class_at, class_name, name_at}
-use Rattle.ld_union.specs.Inner.Rows.{AreEndRowsOf, IsEndRowOf, IsFirstBefore, IsPassed, IsRowIn, ends_of}
+use Rattle.ld_union.specs.Inner.Rows.{AreEndRowsOf, IsEndRowOf, IsPassed, IsRowIn, ends_of}
 use Rattle.ld_union.specs.Inner.Bits.{HasBitAt}
 use Rattle.ld_union.specs.Inner.Union.{edges_of}
 use Rattle.ld_union.specs.Usage.{bits_of}
 use Rattle.ld_union.specs.Violations.{HasBit, IsForbidden}
-use Rattle.ld_union.proofs.ByNameLemmas.{names-apart}
+use Rattle.ld_union.proofs.ByNameLemmas.{names-rise}
 use Rattle.ld_union.proofs.LeadingLemmas.{HasWalk-leading, found-once, found-within}
-use Rattle.ld_union.proofs.PassedLemmas.{passed_in, rows-more}
+use Rattle.ld_union.proofs.PassedLemmas.{rows-more}
 use Rattle.ld_union.proofs.BitLemmas.{bits_from_used}
 use Rattle.ld_union.proofs.NumberLemmas.{walk_from_leads}
 use Rattle.ld_union.proofs.RowLemmas.{rows-not, rows-one, rows-same}
 use Rattle.ld_union.proofs.UsageLemmas.{number_of}
 use Rattle.ld_union.proofs.findings.forbidden.rows_from.Goals as goal
-use Rattle.ld_union.proofs.findings.forbidden.rows_from.Goals.{in-Some+in_ok-push, in_default}
+use Rattle.ld_union.proofs.findings.forbidden.rows_from.Goals.{After-deref-place-items, in-Some+in_ok-push, in_default}
+
+-- each place that is gone over is that of a class which was found and is held
+place_is : (c : After-deref-place-items) → (k : ℕ) → k < length c.deref-place-items.result.now
+    → (class_at c.deref-place-items.result.now k < length c.args.indexed.order.now.numbers.items)
+    × (Contains c.found.result.now (class_at c.args.indexed.order.now.numbers.items (class_at c.deref-place-items.result.now k))
+    × HasBitAt (bits_of c.args.indexed.union.now.usage) (class_at c.args.indexed.order.now.numbers.items (class_at c.deref-place-items.result.now k)) (On c.args.state))
+place_is c k within =
+    let places = c.deref-place-items.result.now in
+    c.in_ok-places.ensures.exact.each (class_at places k)
+    (subst (λ ps. Contains ps (class_at places k)) c.deref-place-items.ensures.value (Contains-get_or places k 0 within))
+
+pub places_held-requires-clause-within : goal.places_held-requires-clause-within
+places_held-requires-clause-within c = λ x m.
+    found-within c.args.first.now.leading.now c.args.first.now.class c.args.first.now.tree.now c.requires.tree (length c.args.indexed.union.now.classes) c.requires.size x
+    (subst (λ ns. Contains ns x) c.found.ensures m)
+
+pub places_held-requires-clause-once : goal.places_held-requires-clause-once
+places_held-requires-clause-once c =
+    rw (c.found.ensures) (found-once c.args.first.now.leading.now c.args.first.now.class c.args.first.now.tree.now c.requires.tree)
+
+pub index-to-requires : goal.index-to-requires
+index-to-requires c =
+    let place = (place_is (goal.at.index-to-requires c).After-deref-place-items c.loop-place.place-index c.loop-place-test.true).0 in
+    omega (arith, place)
 
 pub forbidden_row-requires-clause-found : goal.forbidden_row-requires-clause-found
 forbidden_row-requires-clause-found c =
-    subst (λ ns. Contains ns (class_at c.found-found.result.now c.loop-to.to-index)) c.found-found.ensures (Contains-get_or c.found-found.result.now c.loop-to.to-index 0 c.loop-to-test.true)
+    let numbers = c.args.indexed.order.now.numbers.items in
+    let p = class_at c.deref-place-items.result.now c.loop-place.place-index in
+    let place = place_is (goal.at.forbidden_row-requires-clause-found c).After-deref-place-items c.loop-place.place-index c.loop-place-test.true in
+    let to : class_at numbers p ≡ c.index-to.result.now = sym (c.index-to.ensures ∙ get_or_default numbers p c.index-to.result.now 0 place.0) in
+    subst (Contains c.args.first.now.tree.now.found) to (subst (λ ns. Contains ns (class_at numbers p)) c.found.ensures place.1.0)
 
 pub forbidden_row-requires-clause-to : goal.forbidden_row-requires-clause-to
 forbidden_row-requires-clause-to c =
-    found-within c.args.first.now.leading.now c.args.first.now.class c.args.first.now.tree.now c.requires.tree (length c.args.indexed.union.now.classes) c.requires.size
-    (class_at c.found-found.result.now c.loop-to.to-index)
-    (subst (λ ns. Contains ns (class_at c.found-found.result.now c.loop-to.to-index)) c.found-found.ensures (Contains-get_or c.found-found.result.now c.loop-to.to-index 0 c.loop-to-test.true))
+    let numbers = c.args.indexed.order.now.numbers.items in
+    let p = class_at c.deref-place-items.result.now c.loop-place.place-index in
+    let place = (place_is (goal.at.forbidden_row-requires-clause-to c).After-deref-place-items c.loop-place.place-index c.loop-place-test.true).0 in
+    let to : class_at numbers p ≡ c.index-to.result.now = sym (c.index-to.ensures ∙ get_or_default numbers p c.index-to.result.now 0 place) in
+    let low = c.args.indexed.named.within p 0 place in
+    omega (arith, low, to)
 
-pub loop-to-preserved : goal.loop-to-preserved
-loop-to-preserved c sources shows =
+pub forbidden_row-requires-clause-held : goal.forbidden_row-requires-clause-held
+forbidden_row-requires-clause-held c =
+    let numbers = c.args.indexed.order.now.numbers.items in
+    let p = class_at c.deref-place-items.result.now c.loop-place.place-index in
+    let place = place_is (goal.at.forbidden_row-requires-clause-held c).After-deref-place-items c.loop-place.place-index c.loop-place-test.true in
+    let to : class_at numbers p ≡ c.index-to.result.now = sym (c.index-to.ensures ∙ get_or_default numbers p c.index-to.result.now 0 place.0) in
+    subst (λ k. HasBitAt (bits_of c.args.indexed.union.now.usage) k (On c.args.state)) to place.1.1
+
+pub loop-place-preserved : goal.loop-place-preserved
+loop-place-preserved c sources shows =
     let classes = c.args.indexed.union.now.classes in
-    let numbers = c.found-found.result.now in
-    let tree = c.args.first.now.tree.now in
+    let numbers = c.args.indexed.order.now.numbers.items in
+    let places = c.deref-place-items.result.now in
     let state = c.args.state in
     let from = class_name classes c.args.first.now.class in
-    let i = c.loop-to.to-index in
-    let to = class_at numbers i in
-    let within : i < length numbers = c.loop-to-test.true in
-    let before = map plain_forbidden_row c.loop-to.rows.items in
+    let i = c.loop-place.place-index in
+    let within : i < length places = c.loop-place-test.true in
+    let at = (goal.at.loop-place-preserved c).After-deref-place-items in
+    let names = λ (k : ℕ). name_at classes numbers (class_at places k) in
+    let to : c.index-to.result.now ≡ class_at numbers (class_at places i) = c.index-to.ensures
+    ∙ get_or_default numbers (class_at places i) c.index-to.result.now 0 (place_is at i within).0 in
+    let name : class_name classes c.index-to.result.now ≡ names i = ap (class_name classes) to in
+    let rising : (a b : ℕ) → a < b → b < length places → IsBefore (names a) (names b) = λ a b less low.
+    names-rise classes numbers c.args.indexed.order.now.places.items c.args.indexed.named (class_at places a) (class_at places b)
+    (subst (λ ps. (m n : ℕ) → m < n → n < length ps → class_at ps m < class_at ps n) (sym c.deref-place-items.ensures.value) c.in_ok-places.ensures.rising a b less low)
+    (place_is at b low).0 in
+    let before = map plain_forbidden_row c.loop-place.rows.items in
     let owed = λ (p : PlainClass × PlainClass). IsForbidden sources state p.0 p.1 in
-    let apart = names-apart classes c.args.indexed.order.now.numbers.items c.args.indexed.order.now.places.items c.args.indexed.named numbers
-    (subst (IsDistinct nat_eq) (sym c.found-found.ensures) (found-once c.args.first.now.leading.now c.args.first.now.class tree c.requires.tree))
-    (λ x m. found-within c.args.first.now.leading.now c.args.first.now.class tree c.requires.tree (length classes) c.requires.size x (subst (λ ns. Contains ns x) c.found-found.ensures m)) in
-    elim c.match-branch-2.branch [
+    elim c.match-branch-4.branch [
       | in-Some+in_ok-push w ↦
           let row = plain_forbidden_row w.in-Some.row in
-          let is = MatchOption-at_some (¬ IsForbidden sources state from (class_name classes to))
-          (λ r. IsEndRowOf sources state from (class_name classes to) (plain_forbidden_row r)) w.in-Some.row w.in-Some.is (c.in_ok-row.ensures sources shows) in
-          let items : map plain_forbidden_row c.match-branch-2.rows.items ≡ before ++ row ∷ [] = ap
+          let told = MatchOption-at_some (¬ IsForbidden sources state from (class_name classes c.index-to.result.now))
+          (λ r. IsEndRowOf sources state from (class_name classes c.index-to.result.now) (plain_forbidden_row r)) w.in-Some.row w.in-Some.is (c.in_ok-row.ensures sources shows) in
+          let is : IsEndRowOf sources state from (names i) row = subst (λ n. IsEndRowOf sources state from n row) name told in
+          let items : map plain_forbidden_row c.match-branch-4.rows.items ≡ before ++ row ∷ [] = ap
           (λ (rows : Vec _ _). map plain_forbidden_row rows.items) w.rows-is ∙ ap (map plain_forbidden_row) w.in_ok-push.ensures.items ∙
-          map-append plain_forbidden_row c.loop-to.rows.items (w.in-Some.row ∷ []) in
-          subst (AreEndRowsOf sources state (λ p. (p.0 ≡ from) × IsPassed (name_at classes numbers) (i + 1) p.1)) (sym items)
-          (rows-more (name_at classes numbers) (λ a b. a ≢ b) (length numbers) apart ends_of (IsRowIn sources state) owed IsBefore from i before
-          (row ∷ []) within (c.loop-to.invariant sources shows)
-          (rows-one ends_of (IsRowIn sources state) owed IsFirstBefore (from, name_at classes numbers i) row is.0 is.1))
+          map-append plain_forbidden_row c.loop-place.rows.items (w.in-Some.row ∷ []) in
+          subst (AreEndRowsOf sources state (λ p. (p.0 ≡ from) × IsPassed names (i + 1) p.1)) (sym items)
+          (rows-more names IsBefore (length places) rising ends_of (IsRowIn sources state) owed IsBefore from i before
+          (row ∷ []) within (c.loop-place.invariant sources shows)
+          (rows-one ends_of (IsRowIn sources state) owed IsPairBefore (from, names i) row is.0 is.1))
       | in_default w ↦
-          let none = MatchOption-at_none (¬ IsForbidden sources state from (class_name classes to))
-          (λ r. IsEndRowOf sources state from (class_name classes to) (plain_forbidden_row r)) w.in_default.is (c.in_ok-row.ensures sources shows) in
-          let items : map plain_forbidden_row c.match-branch-2.rows.items ≡ before ++ [] = ap (λ (rows : Vec _ _). map plain_forbidden_row rows.items) w.rows-is ∙ sym (append-nil before) in
-          subst (AreEndRowsOf sources state (λ p. (p.0 ≡ from) × IsPassed (name_at classes numbers) (i + 1) p.1)) (sym items)
-          (rows-more (name_at classes numbers) (λ a b. a ≢ b) (length numbers) apart ends_of (IsRowIn sources state) owed IsBefore from i before []
-          within (c.loop-to.invariant sources shows)
-          (rows-not ends_of (IsRowIn sources state) owed IsFirstBefore (from, name_at classes numbers i) none))
+          let told = MatchOption-at_none (¬ IsForbidden sources state from (class_name classes c.index-to.result.now))
+          (λ r. IsEndRowOf sources state from (class_name classes c.index-to.result.now) (plain_forbidden_row r)) w.in_default.is (c.in_ok-row.ensures sources shows) in
+          let none : ¬ IsForbidden sources state from (names i) = subst (λ n. ¬ IsForbidden sources state from n) name told in
+          let items : map plain_forbidden_row c.match-branch-4.rows.items ≡ before ++ [] = ap (λ (rows : Vec _ _). map plain_forbidden_row rows.items) w.rows-is ∙ sym (append-nil before) in
+          subst (AreEndRowsOf sources state (λ p. (p.0 ≡ from) × IsPassed names (i + 1) p.1)) (sym items)
+          (rows-more names IsBefore (length places) rising ends_of (IsRowIn sources state) owed IsBefore from i before []
+          within (c.loop-place.invariant sources shows)
+          (rows-not ends_of (IsRowIn sources state) owed IsPairBefore (from, names i) none))
     ]
 
 pub returns : goal.returns
 returns c sources shows =
     let union = c.args.indexed.union.now in
     let leading = c.args.first.now.leading.now in
-    let numbers = c.found-found.result.now in
+    let numbers = c.args.indexed.order.now.numbers.items in
+    let places = c.deref-place-items.result.now in
     let state = c.args.state in
     let from = class_name union.classes c.args.first.now.class in
-    let i = c.loop-to.to-index in
-    let past : length numbers ≤ i = c.loop-to-test.false in
-    rows-same ends_of (IsRowIn sources state) (λ p. IsForbidden sources state p.0 p.1) IsFirstBefore
-    (λ p. (p.0 ≡ from) × IsPassed (name_at union.classes numbers) i p.1) (λ p. p.0 ≡ from) (map plain_forbidden_row c.loop-to.rows.items)
+    let i = c.loop-place.place-index in
+    let past : length places ≤ i = c.loop-place-test.false in
+    let names = λ (k : ℕ). name_at union.classes numbers (class_at places k) in
+    rows-same ends_of (IsRowIn sources state) (λ p. IsForbidden sources state p.0 p.1) IsPairBefore
+    (λ p. (p.0 ≡ from) × IsPassed names i p.1) (λ p. p.0 ≡ from) (map plain_forbidden_row c.loop-place.rows.items)
     (λ p here. here.0)
     (λ p owed here.
     let at = number_of union.classes union.usage (use_witness sources) shows.used (record { class = p.1; bit = On state }) owed.1 in
@@ -91,9 +138,11 @@ returns c sources shows =
     ((bits_from_used union.classes union.usage sources shows.used).each at.0 (On state) at.1.0).1
     (subst (λ n. HasBit sources n (On state)) (sym at.1.1) owed.1) in
     let walk = walk_from_leads union.classes union.dependencies shows.numbered sources shows.witnesses c.args.first.now.class at.0 p.0 p.1 (c.requires.from, sym here) at.1 owed.2 in
-    let led = HasWalk-leading (IsNear leading.lists) (IsEdge (edges_of union.dependencies)) (ComesBefore leading.places) at.0 c.requires.leading.real (c.requires.leading.leads at.0 at.1.0 bit) c.args.first.now.class walk in (
-      here,
-      passed_in union.classes numbers at.0 i p.1 past
-          (subst (λ ns. Contains ns at.0) (sym c.found-found.ensures) (found_where_led leading c.args.first.now.class c.args.first.now.tree.now c.requires.tree at.0 led)) at.1.1,
-    ))
-    (c.loop-to.invariant sources shows)
+    let led = HasWalk-leading (IsNear leading.lists) (IsEdge (edges_of union.dependencies)) (ComesBefore leading.places) at.0 c.requires.leading.real (c.requires.leading.leads at.0 at.1.0 bit) c.args.first.now.class walk in
+    let there = c.in_ok-places.ensures.exact.all at.0
+    (subst (λ ns. Contains ns at.0) (sym c.found.ensures) (found_where_led leading c.args.first.now.class c.args.first.now.tree.now c.requires.tree at.0 led)) bit in
+    let m = subst (λ ps. Contains ps there.0) (sym c.deref-place-items.ensures.value) there.1.0 in
+    let b = m.1 in
+    let place : class_at places m.0 ≡ there.0 = get_or_default places m.0 0 there.0 b ∙ m.2 in
+    (here, (m.0, (omega (arith, past, b), ap (λ q. name_at union.classes numbers q) place ∙ ap (class_name union.classes) there.1.1 ∙ at.1.1))))
+    (c.loop-place.invariant sources shows)

@@ -1,17 +1,17 @@
-use Rattle.std.proofs.Common.{◌≡◌, ◌≢◌, ◌+◌, ◌∙◌, ◌++◌, get_or, length, map, subst, sym, ap}
+use Rattle.std.proofs.Common.{◌≡◌, ◌+◌, ◌∙◌, ◌++◌, get_or, length, map, subst, sym, ap}
 use Rattle.std.proofs.lemmas.List.{map-append}
 use Rattle.std.proofs.lemmas.List.Elements.{Contains-get_or}
 use Rattle.ld_rules.specs.Union.{use_witness}
 use Rattle.ld_rules.specs.Usage.Bit.{In}
-use Rattle.ld_union.specs.Findings.{IsBefore, plain_forbidden_row}
+use Rattle.ld_union.specs.Findings.{IsBefore, IsPairBefore, plain_forbidden_row}
 use Rattle.ld_union.specs.Inner.ByName.{name_at}
-use Rattle.ld_union.specs.Inner.Rows.{AreEndRowsOf, AreWithBit, IsFirstBefore, IsPassed, IsRowIn, ends_of}
+use Rattle.ld_union.specs.Inner.Rows.{AreEndRowsOf, AreWithBit, IsPassed, IsRowIn, ends_of}
 use Rattle.ld_union.specs.Violations.{HasBit, IsForbidden}
 use Rattle.ld_union.proofs.BitLemmas.{bits_from_used}
 use Rattle.ld_union.proofs.PassedLemmas.{passed_in, rows-next}
 use Rattle.ld_union.proofs.RowLemmas.{rows-all}
 use Rattle.ld_union.proofs.UsageLemmas.{number_of}
-use Rattle.ld_union.proofs.findings.forbidden.forbidden_by_first.Goals as goal
+use Rattle.ld_union.proofs.findings.forbidden.forbidden_by_ends.Goals as goal
 
 pub forbidden_from-requires-clause-from : goal.forbidden_from-requires-clause-from
 forbidden_from-requires-clause-from c =
@@ -34,7 +34,7 @@ loop-from-preserved c = record {
       map-append plain_forbidden_row c.loop-from.rows.items c.in_ok-more.more.items in
       subst (AreEndRowsOf sources state (λ p. IsPassed (name_at classes numbers) (i + 1) p.0)) (sym items)
       (rows-next (name_at classes numbers) IsBefore (length numbers) with.rising ends_of (IsRowIn sources state)
-      (λ p. IsForbidden sources state p.0 p.1) (λ a b. a ≢ b) i before more c.loop-from-test.true (c.loop-from.invariant.rows sources shows)
+      (λ p. IsForbidden sources state p.0 p.1) IsBefore i before more c.loop-from-test.true (c.loop-from.invariant.rows sources shows)
       (c.in_ok-more.ensures.rows sources shows));
 }
 
@@ -45,7 +45,7 @@ returns c sources shows =
     let with = subst (λ b. AreWithBit union b numbers) c.in_bit.ensures (subst (AreWithBit union c.in_bit.result) (sym c.deref-from-items.ensures.value) c.in_ok-firsts.ensures) in
     let state = c.args.state in
     let i = c.loop-from.from-index in
-    rows-all ends_of (IsRowIn sources state) (λ p. IsForbidden sources state p.0 p.1) IsFirstBefore (λ p. IsPassed (name_at union.classes numbers) i p.0) (map plain_forbidden_row c.loop-from.rows.items)
+    rows-all ends_of (IsRowIn sources state) (λ p. IsForbidden sources state p.0 p.1) IsPairBefore (λ p. IsPassed (name_at union.classes numbers) i p.0) (map plain_forbidden_row c.loop-from.rows.items)
     (λ p owed.
     let at = number_of union.classes union.usage (use_witness sources) shows.used (record { class = p.0; bit = In state }) owed.0 in
     let bit = ((bits_from_used union.classes union.usage sources shows.used).each at.0 (In state) at.1.0).1

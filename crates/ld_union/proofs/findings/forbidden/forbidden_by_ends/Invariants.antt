@@ -4,7 +4,7 @@ use Rattle.ld_union.specs.Inner.ByName.{name_at}
 use Rattle.ld_union.specs.Inner.Rows.{AreEndRowsOf, IsPassed}
 use Rattle.ld_union.specs.Findings.{plain_forbidden_row}
 use Rattle.ld_union.specs.Inner.Union.{Shows}
-use Rattle.ld_union.proofs.findings.forbidden.forbidden_by_first.Given as goal
+use Rattle.ld_union.proofs.findings.forbidden.forbidden_by_ends.Given as goal
 
 abbrev pub invariant-loop-from : goal.invariant-loop-from
 invariant-loop-from l = record {
