@@ -1,5 +1,5 @@
 -- The rows of violations as their makers give them. No contract of a `Book` cites this file.
-use Rattle.std.specs.Prelude.{◌≡◌, ◌↔◌, ◌<◌, ℕ, List, Contains, length, true, slice_index_or, Option, None, Some}
+use Rattle.std.specs.Prelude.{◌≡◌, ◌++◌, ◌↔◌, ◌<◌, ℕ, List, Contains, length, true, slice_index_or, Option, None, Some}
 use Rattle.ld_class.specs.declared.usage.Usage.{Usage}
 use Rattle.ld_class.specs.Names.{PlainClass}
 use Rattle.ld_class.specs.Usage.{has_bit, no_bits}
@@ -81,6 +81,12 @@ AreEndRows sources state rows =
 abbrev pub AreEndRowsOf : List PlainSource → State → (PlainClass × PlainClass → Type 0) → List PlainForbiddenRow → Type 0
 AreEndRowsOf sources state these rows =
     AreRowsOf ends_of (IsRowIn sources state) (λ p. IsForbidden sources state p.0 p.1) IsPairBefore these rows
+
+-- these rows stand behind the others
+pub record AreBehind {Row : Type 0} (AreThese : List Row → Type 0) (old new : List Row) : Type 0 where
+  pub more : List Row
+  pub grown : new ≡ old ++ more
+  pub are : AreThese more
 
 -- the name and the usage characters of a class that has the bit, and where that was first seen
 pub record IsNoted (sources : List PlainSource) (class : PlainClass) (bit : Bit) (name : PlainClass) (marks : List ℕ) (at : Witness) : Type 0 where

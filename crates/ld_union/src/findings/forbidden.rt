@@ -1,5 +1,5 @@
 //! The forbidden walks.
-ghost use Rattle.std.specs.Prelude.{◌≡◌, ◌<◌, ℕ, Contains, IfOk, List, MatchOption, length, map, nat_eq, slice_index_or};
+ghost use Rattle.std.specs.Prelude.{◌≡◌, ◌<◌, ℕ, Contains, IfOk, List, MatchOption, OnOk, length, map, nat_eq, slice_index_or};
 ghost use Rattle.std.specs.List.{IsDistinct};
 ghost use Rattle.ld_class.specs.Names.{plain_class};
 ghost use Rattle.ld_trace.specs.Sources.{PlainSource};
@@ -9,7 +9,7 @@ ghost use Rattle.ld_rules.specs.Usage.Bit.{In, On};
 ghost use Rattle.ld_union.specs.Findings.{AreForbiddenRows, plain_forbidden_row};
 ghost use Rattle.ld_union.specs.Inner.ByName.{class_name};
 ghost use Rattle.ld_union.specs.Inner.Bits.{HasBitAt};
-ghost use Rattle.ld_union.specs.Inner.Rows.{AreEndRows, AreEndRowsOf, AreForbiddenRowsOf, AreHeldPlaces, AreLeadingTo};
+ghost use Rattle.ld_union.specs.Inner.Rows.{AreBehind, AreEndRows, AreEndRowsOf, AreForbiddenRowsOf, AreHeldPlaces, AreLeadingTo};
 ghost use Rattle.ld_union.specs.Inner.Rows.{AreWithBit, IsEndRowOf, IsNoted, IsOfEach};
 ghost use Rattle.ld_union.specs.Inner.Union.{Shows};
 ghost use Rattle.ld_union.specs.Usage.{bits_of};
@@ -106,8 +106,7 @@ fn forbidden_by_ends<'u, 'a>(
     let leading = leading_to_held(alloc, indexed, state)?;
     let mut tree = Tree::new(alloc, indexed.union.graph().len())?;
     for from in &firsts {
-        let mut more = forbidden_from(alloc, indexed, state, &leading, &mut tree, *from)?;
-        rows.append(&mut more)?;
+        forbidden_from(alloc, indexed, state, &leading, &mut tree, *from, &mut rows)?;
     }
     Ok(rows)
 }
@@ -144,7 +143,8 @@ fn leading_to_held<'o>(
     Ok(leading)
 }
 
-/// Those from this class, which handlers of the state acquire, by the names of their second ends.
+/// Puts those from this class, which handlers of the state acquire, behind the others, by the names of their second
+/// ends.
 fn forbidden_from<'u, 'a>(
     alloc: Global,
     indexed: Indexed<'u, '_, 'a>,
@@ -152,18 +152,19 @@ fn forbidden_from<'u, 'a>(
     leading: &Leading<'_>,
     tree: &mut Tree,
     from: u32,
-) -> Result<Vec<ForbiddenRow<'u, 'a>>, AllocError>
+    rows: &mut Vec<ForbiddenRow<'u, 'a>>,
+) -> Result<(), AllocError>
     requires from { from < length indexed.union.now.classes }
     requires leading { AreLeadingTo indexed.union.now state indexed.order.now.places.items leading.now }
     requires size { length tree.old.numbers ≡ length indexed.union.now.classes }
     ensures size { length tree.new.numbers ≡ length tree.old.numbers }
-    ensures rows { IfOk result (λ rows. (sources : List PlainSource)
+    ensures rows { OnOk result ((sources : List PlainSource)
         → Shows sources indexed.entry.union.now
-        → AreEndRowsOf sources state (λ p. p.0 ≡ class_name indexed.entry.union.now.classes from)
-        (map plain_forbidden_row rows.items)) }
+        → AreBehind (AreEndRowsOf sources state (λ p. p.0 ≡ class_name indexed.entry.union.now.classes from))
+        (map plain_forbidden_row rows.old.items) (map plain_forbidden_row rows.new.items)) }
 {
     let Some(acquired) = noted(indexed.union, from, in_bit(state)) else {
-        return Ok(Vec::new(alloc));
+        return Ok(());
     };
     tree.search(leading, from)?;
     let first = First {
@@ -171,7 +172,7 @@ fn forbidden_from<'u, 'a>(
         leading,
         tree,
     };
-    rows_from(alloc, indexed, state, &first, acquired)
+    rows_from(alloc, indexed, state, &first, acquired, rows)
 }
 
 /// The same, by what a search from the class has found, whose IN bit `acquired` notes.
@@ -181,7 +182,8 @@ fn rows_from<'u, 'a>(
     state: State,
     first: &First<'_, '_>,
     acquired: UsedClass<'a>,
-) -> Result<Vec<ForbiddenRow<'u, 'a>>, AllocError>
+    rows: &mut Vec<ForbiddenRow<'u, 'a>>,
+) -> Result<(), AllocError>
     requires from { first.now.class < length indexed.union.now.classes }
     requires leading { AreLeadingTo indexed.union.now state indexed.order.now.places.items first.now.leading.now }
     requires tree { IsTreeOf first.now.leading.now first.now.class first.now.tree.now }
@@ -190,20 +192,19 @@ fn rows_from<'u, 'a>(
         → Shows sources indexed.union.now
         → IsNoted sources (class_name indexed.union.now.classes first.now.class) (In state)
         (plain_class acquired.name) acquired.marks acquired.at }
-    ensures { IfOk result (λ rows. (sources : List PlainSource)
+    ensures { OnOk result ((sources : List PlainSource)
         → Shows sources indexed.entry.union.now
-        → AreEndRowsOf sources state (λ p. p.0 ≡ class_name indexed.entry.union.now.classes first.now.class)
-        (map plain_forbidden_row rows.items)) }
+        → AreBehind (AreEndRowsOf sources state (λ p. p.0 ≡ class_name indexed.entry.union.now.classes first.now.class))
+        (map plain_forbidden_row rows.old.items) (map plain_forbidden_row rows.new.items)) }
 {
     let places = places_held(alloc, indexed, state, first.tree.found())?;
-    let mut rows = Vec::with_capacity(alloc, places.len())?;
     for place in &places {
         let to = indexed.order.numbers[*place as usize];
         if let Some(row) = forbidden_row(alloc, indexed, state, first, acquired, to)? {
             rows.push(row)?;
         }
     }
-    Ok(rows)
+    Ok(())
 }
 
 /// The places, in the order of names, of those of these classes that are held where handlers of the state can

@@ -1,5 +1,4 @@
-use Rattle.std.proofs.Common.{◌≡◌, ◌+◌, ◌∙◌, ◌++◌, get_or, length, map, subst, sym, ap}
-use Rattle.std.proofs.lemmas.List.{map-append}
+use Rattle.std.proofs.Common.{◌+◌, ◌∙◌, get_or, length, map, subst, sym}
 use Rattle.std.proofs.lemmas.List.Elements.{Contains-get_or}
 use Rattle.ld_rules.specs.Union.{use_witness}
 use Rattle.ld_rules.specs.Usage.Bit.{In}
@@ -21,21 +20,18 @@ forbidden_from-requires-clause-from c =
 
 pub loop-from-preserved : goal.loop-from-preserved
 loop-from-preserved c = record {
-  size = c.in_ok-more.ensures.size ∙ c.loop-from.invariant.size;
+  size = c.in_ok-forbidden_from.ensures.size ∙ c.loop-from.invariant.size;
   rows = λ sources shows.
       let classes = c.args.indexed.union.now.classes in
       let numbers = c.deref-from-items.result.now in
       let with = subst (AreWithBit c.args.indexed.union.now c.in_bit.result) (sym c.deref-from-items.ensures.value) c.in_ok-firsts.ensures in
       let state = c.args.state in
       let i = c.loop-from.from-index in
-      let before = map plain_forbidden_row c.loop-from.rows.items in
-      let more = map plain_forbidden_row c.in_ok-more.more.items in
-      let items : map plain_forbidden_row c.append.new.self.items ≡ before ++ more = ap (map plain_forbidden_row) c.in_ok-append.ensures.items ∙
-      map-append plain_forbidden_row c.loop-from.rows.items c.in_ok-more.more.items in
-      subst (AreEndRowsOf sources state (λ p. IsPassed (name_at classes numbers) (i + 1) p.0)) (sym items)
+      let behind = c.in_ok-forbidden_from.ensures.rows sources shows in
+      subst (AreEndRowsOf sources state (λ p. IsPassed (name_at classes numbers) (i + 1) p.0)) (sym behind.grown)
       (rows-next (name_at classes numbers) IsBefore (length numbers) with.rising ends_of (IsRowIn sources state)
-      (λ p. IsForbidden sources state p.0 p.1) IsBefore i before more c.loop-from-test.true (c.loop-from.invariant.rows sources shows)
-      (c.in_ok-more.ensures.rows sources shows));
+      (λ p. IsForbidden sources state p.0 p.1) IsBefore i (map plain_forbidden_row c.loop-from.rows.items) behind.more c.loop-from-test.true
+      (c.loop-from.invariant.rows sources shows) behind.are);
 }
 
 pub returns : goal.returns

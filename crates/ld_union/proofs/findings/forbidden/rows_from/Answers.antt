@@ -1,5 +1,5 @@
-use Rattle.std.proofs.Common.{◌≡◌, ◌<◌, ◌≤◌, ◌+◌, Contains, ◌∙◌, ◌∷◌, ◌++◌, [], ℕ, Vec, arith, length, map, subst, sym, ap}
-use Rattle.std.proofs.lemmas.List.{append-nil, get_or_default, map-append}
+use Rattle.std.proofs.Common.{◌≡◌, ◌<◌, ◌≤◌, Contains, ◌∙◌, ◌∷◌, ◌++◌, [], ℕ, Vec, arith, length, map, subst, sym, ap}
+use Rattle.std.proofs.lemmas.List.{append-nil, append_assoc, get_or_default, map-append}
 use Rattle.std.proofs.lemmas.List.Elements.{Contains-get_or}
 use Rattle.std.proofs.lemmas.Option.{MatchOption-at_none, MatchOption-at_some}
 use Rattle.ld_class.specs.Names.{PlainClass}
@@ -10,7 +10,7 @@ use Rattle.ld_rules.specs.Usage.Bit.{On}
 use Rattle.ld_tree.proofs.ClimbLemmas.{found_where_led}
 use Rattle.ld_union.specs.Findings.{IsBefore, IsPairBefore, plain_forbidden_row}
 use Rattle.ld_union.specs.Inner.ByName.{class_at, class_name, name_at}
-use Rattle.ld_union.specs.Inner.Rows.{AreEndRowsOf, IsEndRowOf, IsPassed, IsRowIn, ends_of}
+use Rattle.ld_union.specs.Inner.Rows.{IsEndRowOf, IsPassed, IsRowIn, ends_of}
 use Rattle.ld_union.specs.Inner.Bits.{HasBitAt}
 use Rattle.ld_union.specs.Inner.Union.{edges_of}
 use Rattle.ld_union.specs.Usage.{bits_of}
@@ -20,7 +20,7 @@ use Rattle.ld_union.proofs.LeadingLemmas.{HasWalk-leading, found-once, found-wit
 use Rattle.ld_union.proofs.PassedLemmas.{rows-more}
 use Rattle.ld_union.proofs.BitLemmas.{bits_from_used}
 use Rattle.ld_union.proofs.NumberLemmas.{walk_from_leads}
-use Rattle.ld_union.proofs.RowLemmas.{rows-not, rows-one, rows-same}
+use Rattle.ld_union.proofs.RowLemmas.{rows-none, rows-not, rows-one, rows-same}
 use Rattle.ld_union.proofs.UsageLemmas.{number_of}
 use Rattle.ld_union.proofs.findings.forbidden.rows_from.Goals as goal
 use Rattle.ld_union.proofs.findings.forbidden.rows_from.Goals.{After-deref-place-items, in-Some+in_ok-push, in_default}
@@ -74,6 +74,18 @@ forbidden_row-requires-clause-held c =
     let to : class_at numbers p ≡ c.index-to.result.now = sym (c.index-to.ensures ∙ get_or_default numbers p c.index-to.result.now 0 place.0) in
     subst (λ k. HasBitAt (bits_of c.args.indexed.union.now.usage) k (On c.args.state)) to place.1.1
 
+pub loop-place-init : goal.loop-place-init
+loop-place-init c sources shows =
+    let classes = c.args.indexed.union.now.classes in
+    let from = class_name classes c.args.first.now.class in
+    let names = λ (k : ℕ). name_at classes c.args.indexed.order.now.numbers.items (class_at c.deref-place-items.result.now k) in
+    record {
+      more = [];
+      grown = sym (append-nil (map plain_forbidden_row c.args.rows.now.items));
+      are = rows-none ends_of (IsRowIn sources c.args.state) (λ p. IsForbidden sources c.args.state p.0 p.1) IsPairBefore (λ p. (p.0 ≡ from) × IsPassed names 0 p.1)
+          (λ p owed here. let low = here.1.1.0 in omega (arith, low));
+    }
+
 pub loop-place-preserved : goal.loop-place-preserved
 loop-place-preserved c sources shows =
     let classes = c.args.indexed.union.now.classes in
@@ -92,30 +104,38 @@ loop-place-preserved c sources shows =
     names-rise classes numbers c.args.indexed.order.now.places.items c.args.indexed.named (class_at places a) (class_at places b)
     (subst (λ ps. (m n : ℕ) → m < n → n < length ps → class_at ps m < class_at ps n) (sym c.deref-place-items.ensures.value) c.in_ok-places.ensures.rising a b less low)
     (place_is at b low).0 in
-    let before = map plain_forbidden_row c.loop-place.rows.items in
+    let old = map plain_forbidden_row c.args.rows.now.items in
+    let now = map plain_forbidden_row c.loop-place.rows.items in
+    let behind = c.loop-place.invariant sources shows in
     let owed = λ (p : PlainClass × PlainClass). IsForbidden sources state p.0 p.1 in
-    elim c.match-branch-4.branch [
+    elim c.match-branch-3.branch [
       | in-Some+in_ok-push w ↦
           let row = plain_forbidden_row w.in-Some.row in
           let told = MatchOption-at_some (¬ IsForbidden sources state from (class_name classes c.index-to.result.now))
           (λ r. IsEndRowOf sources state from (class_name classes c.index-to.result.now) (plain_forbidden_row r)) w.in-Some.row w.in-Some.is (c.in_ok-row.ensures sources shows) in
           let is : IsEndRowOf sources state from (names i) row = subst (λ n. IsEndRowOf sources state from n row) name told in
-          let items : map plain_forbidden_row c.match-branch-4.rows.items ≡ before ++ row ∷ [] = ap
+          let items : map plain_forbidden_row c.match-branch-3.rows.items ≡ now ++ row ∷ [] = ap
           (λ (rows : Vec _ _). map plain_forbidden_row rows.items) w.rows-is ∙ ap (map plain_forbidden_row) w.in_ok-push.ensures.items ∙
           map-append plain_forbidden_row c.loop-place.rows.items (w.in-Some.row ∷ []) in
-          subst (AreEndRowsOf sources state (λ p. (p.0 ≡ from) × IsPassed names (i + 1) p.1)) (sym items)
-          (rows-more names IsBefore (length places) rising ends_of (IsRowIn sources state) owed IsBefore from i before
-          (row ∷ []) within (c.loop-place.invariant sources shows)
-          (rows-one ends_of (IsRowIn sources state) owed IsPairBefore (from, names i) row is.0 is.1))
+          record {
+            more = behind.more ++ row ∷ [];
+            grown = items ∙ ap (λ rows. rows ++ row ∷ []) behind.grown ∙ append_assoc old behind.more (row ∷ []);
+            are = rows-more names IsBefore (length places) rising ends_of (IsRowIn sources state) owed IsBefore from i behind.more
+                (row ∷ []) within behind.are
+                (rows-one ends_of (IsRowIn sources state) owed IsPairBefore (from, names i) row is.0 is.1);
+          }
       | in_default w ↦
           let told = MatchOption-at_none (¬ IsForbidden sources state from (class_name classes c.index-to.result.now))
           (λ r. IsEndRowOf sources state from (class_name classes c.index-to.result.now) (plain_forbidden_row r)) w.in_default.is (c.in_ok-row.ensures sources shows) in
           let none : ¬ IsForbidden sources state from (names i) = subst (λ n. ¬ IsForbidden sources state from n) name told in
-          let items : map plain_forbidden_row c.match-branch-4.rows.items ≡ before ++ [] = ap (λ (rows : Vec _ _). map plain_forbidden_row rows.items) w.rows-is ∙ sym (append-nil before) in
-          subst (AreEndRowsOf sources state (λ p. (p.0 ≡ from) × IsPassed names (i + 1) p.1)) (sym items)
-          (rows-more names IsBefore (length places) rising ends_of (IsRowIn sources state) owed IsBefore from i before []
-          within (c.loop-place.invariant sources shows)
-          (rows-not ends_of (IsRowIn sources state) owed IsPairBefore (from, names i) none))
+          let items : map plain_forbidden_row c.match-branch-3.rows.items ≡ now = ap (λ (rows : Vec _ _). map plain_forbidden_row rows.items) w.rows-is in
+          record {
+            more = behind.more ++ [];
+            grown = items ∙ behind.grown ∙ ap (λ rows. old ++ rows) (sym (append-nil behind.more));
+            are = rows-more names IsBefore (length places) rising ends_of (IsRowIn sources state) owed IsBefore from i behind.more []
+                within behind.are
+                (rows-not ends_of (IsRowIn sources state) owed IsPairBefore (from, names i) none);
+          }
     ]
 
 pub returns : goal.returns
@@ -129,20 +149,25 @@ returns c sources shows =
     let i = c.loop-place.place-index in
     let past : length places ≤ i = c.loop-place-test.false in
     let names = λ (k : ℕ). name_at union.classes numbers (class_at places k) in
-    rows-same ends_of (IsRowIn sources state) (λ p. IsForbidden sources state p.0 p.1) IsPairBefore
-    (λ p. (p.0 ≡ from) × IsPassed names i p.1) (λ p. p.0 ≡ from) (map plain_forbidden_row c.loop-place.rows.items)
-    (λ p here. here.0)
-    (λ p owed here.
-    let at = number_of union.classes union.usage (use_witness sources) shows.used (record { class = p.1; bit = On state }) owed.1 in
-    let bit : HasBitAt (bits_of union.usage) at.0 (On state) =
-    ((bits_from_used union.classes union.usage sources shows.used).each at.0 (On state) at.1.0).1
-    (subst (λ n. HasBit sources n (On state)) (sym at.1.1) owed.1) in
-    let walk = walk_from_leads union.classes union.dependencies shows.numbered sources shows.witnesses c.args.first.now.class at.0 p.0 p.1 (c.requires.from, sym here) at.1 owed.2 in
-    let led = HasWalk-leading (IsNear leading.lists) (IsEdge (edges_of union.dependencies)) (ComesBefore leading.places) at.0 c.requires.leading.real (c.requires.leading.leads at.0 at.1.0 bit) c.args.first.now.class walk in
-    let there = c.in_ok-places.ensures.exact.all at.0
-    (subst (λ ns. Contains ns at.0) (sym c.found.ensures) (found_where_led leading c.args.first.now.class c.args.first.now.tree.now c.requires.tree at.0 led)) bit in
-    let m = subst (λ ps. Contains ps there.0) (sym c.deref-place-items.ensures.value) there.1.0 in
-    let b = m.1 in
-    let place : class_at places m.0 ≡ there.0 = get_or_default places m.0 0 there.0 b ∙ m.2 in
-    (here, (m.0, (omega (arith, past, b), ap (λ q. name_at union.classes numbers q) place ∙ ap (class_name union.classes) there.1.1 ∙ at.1.1))))
-    (c.loop-place.invariant sources shows)
+    let behind = c.loop-place.invariant sources shows in
+    record {
+      more = behind.more;
+      grown = behind.grown;
+      are = rows-same ends_of (IsRowIn sources state) (λ p. IsForbidden sources state p.0 p.1) IsPairBefore
+          (λ p. (p.0 ≡ from) × IsPassed names i p.1) (λ p. p.0 ≡ from) behind.more
+          (λ p here. here.0)
+          (λ p owed here.
+          let at = number_of union.classes union.usage (use_witness sources) shows.used (record { class = p.1; bit = On state }) owed.1 in
+          let bit : HasBitAt (bits_of union.usage) at.0 (On state) =
+          ((bits_from_used union.classes union.usage sources shows.used).each at.0 (On state) at.1.0).1
+          (subst (λ n. HasBit sources n (On state)) (sym at.1.1) owed.1) in
+          let walk = walk_from_leads union.classes union.dependencies shows.numbered sources shows.witnesses c.args.first.now.class at.0 p.0 p.1 (c.requires.from, sym here) at.1 owed.2 in
+          let led = HasWalk-leading (IsNear leading.lists) (IsEdge (edges_of union.dependencies)) (ComesBefore leading.places) at.0 c.requires.leading.real (c.requires.leading.leads at.0 at.1.0 bit) c.args.first.now.class walk in
+          let there = c.in_ok-places.ensures.exact.all at.0
+          (subst (λ ns. Contains ns at.0) (sym c.found.ensures) (found_where_led leading c.args.first.now.class c.args.first.now.tree.now c.requires.tree at.0 led)) bit in
+          let m = subst (λ ps. Contains ps there.0) (sym c.deref-place-items.ensures.value) there.1.0 in
+          let b = m.1 in
+          let place : class_at places m.0 ≡ there.0 = get_or_default places m.0 0 there.0 b ∙ m.2 in
+          (here, (m.0, (omega (arith, past, b), ap (λ q. name_at union.classes numbers q) place ∙ ap (class_name union.classes) there.1.1 ∙ at.1.1))))
+          behind.are;
+    }

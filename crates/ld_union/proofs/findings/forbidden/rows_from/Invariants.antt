@@ -1,12 +1,13 @@
 use Rattle.std.proofs.Common.{◌≡◌, List, map}
 use Rattle.ld_trace.specs.Sources.{PlainSource}
 use Rattle.ld_union.specs.Inner.ByName.{class_at, class_name, name_at}
-use Rattle.ld_union.specs.Inner.Rows.{AreEndRowsOf, IsPassed}
+use Rattle.ld_union.specs.Inner.Rows.{AreBehind, AreEndRowsOf, IsPassed}
 use Rattle.ld_union.specs.Findings.{plain_forbidden_row}
 use Rattle.ld_union.specs.Inner.Union.{Shows}
 use Rattle.ld_union.proofs.findings.forbidden.rows_from.Given as goal
 
 abbrev pub invariant-loop-place : goal.invariant-loop-place
 invariant-loop-place l = (sources : List PlainSource) → Shows sources l.fn.indexed.union.now
-    → AreEndRowsOf sources l.state (λ p. (p.0 ≡ class_name l.fn.indexed.union.now.classes l.first.class)
-    × IsPassed (λ k. name_at l.fn.indexed.union.now.classes l.fn.indexed.order.now.numbers.items (class_at l.place-items k)) l.place-index p.1) (map plain_forbidden_row l.rows.items)
+    → AreBehind (AreEndRowsOf sources l.state (λ p. (p.0 ≡ class_name l.fn.indexed.union.now.classes l.first.class)
+    × IsPassed (λ k. name_at l.fn.indexed.union.now.classes l.fn.indexed.order.now.numbers.items (class_at l.place-items k)) l.place-index p.1))
+    (map plain_forbidden_row l.fn.rows.items) (map plain_forbidden_row l.rows.items)
