@@ -1,18 +1,21 @@
 -- A reach that is spread over classes that wait is exact at the end.
-use Rattle.std.proofs.Common.{◌≡◌, ◌≢◌, ◌↔◌, ℕ, zero, suc, ◌+◌, ◌<◌, ◌≤◌, ◌⊎◌, inl, inr, Bool, true, false, true≢false, List, [], ◌∷◌}
-use Rattle.std.proofs.Common.{◌++◌, length, get_or, set, Option, Some, None, is_some, Contains, MatchOption, drop, take, unwrap_or}
+use Rattle.std.proofs.Common.{◌≡◌, ◌≢◌, ℕ, zero, suc, ◌+◌, ◌<◌, ◌≤◌, ◌⊎◌, inl, inr, Bool, true, false, true≢false, List, [], ◌∷◌}
+use Rattle.std.proofs.Common.{◌++◌, length, get_or, set, Option, Some, None, is_some, Contains, MatchOption, below_more, take, unwrap_or}
 use Rattle.std.proofs.Common.{arith, refl, sym, ap, subst, ◌∙◌}
 use Rattle.std.proofs.lemmas.Bool.{cases_eq, cases_lt, cases_order}
-use Rattle.std.proofs.lemmas.List.{get_or-set_same, get_or-set_other, get_or_past, get_or_append_left, get_or_push, get_or_default, length_push, drop_more, drop-append-le, take-append-le}
-use Rattle.std.proofs.lemmas.List.Elements.{Contains-get_or, Contains-append_cases, Contains-append_left, Contains-push, Contains-push_cases}
-use Rattle.ld_graph.specs.Inner.KeptReach.{reach_of, AreReached, IsGiven, IsSpread, all_ahead, none_ahead, ahead_from}
+use Rattle.std.proofs.lemmas.List.{get_or-set_same, get_or-set_other, get_or_past, get_or_append_left, get_or_push, get_or_default, length_push, take-append-le}
+use Rattle.std.proofs.lemmas.List.Elements.{Contains-get_or, Contains-append_left, Contains-push, Contains-push_cases}
+use Rattle.ld_graph.specs.Inner.KeptReach.{reach_of, AreExpanded, IsSpread, all_ahead, none_ahead, ahead_from}
+use Rattle.ld_graph.specs.Inner.Marks.{Marked}
+use Rattle.ld_graph.specs.Inner.Sources.{AreReached, IsGiven, Sourced}
+use Rattle.ld_graph.specs.Lists.{Reading}
 use Rattle.ld_graph.specs.declared.Edge.{Edge}
 use Rattle.ld_graph.specs.declared.reach.Reach.TheInside.{Inside}
 use Rattle.ld_graph.specs.Edges.{IsEdge, edge}
 use Rattle.ld_graph.specs.Reach.{IsReach, IsSource, PlainReach}
 use Rattle.ld_graph.specs.Walks.{HasWalk}
 use Rattle.ld_graph.proofs.OnceLemmas.{IsDistinct-none, IsDistinct-one_more}
-use Rattle.ld_graph.proofs.SpreadLemmas.{some_same}
+use Rattle.ld_graph.proofs.SpreadLemmas.{kept_marked, some_same}
 use Rattle.ld_graph.proofs.WalkLemmas.{Far, Far-snoc, IsWalk-Far, HasWalk-Far, IsWalk-same}
 
 abbrev pub is_marked : List Bool → ℕ → Type 0
@@ -20,18 +23,6 @@ is_marked marks x = get_or marks x false ≡ true
 
 abbrev pub has_source : List (Option ℕ) → ℕ → Type 0
 has_source sources x = is_some (get_or sources x None) ≡ true
-
--- an element is the first one or behind it
-Contains-first : (y : ℕ) (xs : List ℕ) (x : ℕ) → Contains (y ∷ xs) x → Contains xs x ⊎ (y ≡ x)
-Contains-first y xs x c = by (Contains-append_cases (y ∷ []) xs x c)
-  where
-    by : Contains (y ∷ []) x ⊎ Contains xs x → Contains xs x ⊎ (y ≡ x)
-    by (inr h) = inl h
-    by (inl h) = to (Contains-push_cases [] y x h)
-      where
-        to : Contains [] x ⊎ (y ≡ x) → Contains xs x ⊎ (y ≡ x)
-        to (inl n) = absurd (omega (arith, n.1))
-        to (inr same) = inr same
 
 -- a source that is some
 some_source : (o : Option ℕ) → is_some o ≡ true → (s : ℕ) × (o ≡ Some s)
@@ -64,22 +55,22 @@ module _ (step : ℕ → ℕ → Type 0) (seeds : List ℕ) where
       by (Some s) is why = ap is_some is
 
   -- an exact reach is one at which no class waits
-  pub reach-spread : (reach : PlainReach) → IsReach step seeds reach → IsSpread step seeds none_ahead reach.sources reach.marks []
-  reach-spread reach exact = record {
+  pub reach-spread : (reach : PlainReach) → AreReached reach.sources reach.reached → IsReach step seeds reach
+      → IsSpread step seeds none_ahead reach.sources reach.marks reach.reached (length reach.reached)
+  reach-spread reach are exact = record {
     sound = λ x s is. subst (λ o. MatchOption o ((s : ℕ) → ¬ IsSource step seeds x s) (IsSource step seeds x)) is (exact.sources x);
-    covered = λ x s is. inl ((exact.marked x).1 (inr (ap is_some is)));
+    covered = λ i within. (exact.marked (get_or reach.reached i 0)).1 (inr ((are.each (get_or reach.reached i 0)).0 (Contains-get_or reach.reached i 0 within)));
     seeded = λ x seed. (exact.marked x).1 (inl seed);
     known = λ x marked. (exact.marked x).0 marked;
     closed = λ x y marked h. inr (reach-closed reach exact x y marked h);
   }
 
-  module _ (sources : List (Option ℕ)) (marks : List Bool) (spread : IsSpread step seeds none_ahead sources marks []) where
+  module _ (sources : List (Option ℕ)) (marks : List Bool) (reached : List ℕ) (are : AreReached sources reached)
+      (spread : IsSpread step seeds none_ahead sources marks reached (length reached)) where
     ended : (x : ℕ) → has_source sources x → is_marked marks x
-    ended x has = let s = some_source (get_or sources x None) has in by (spread.covered x s.0 s.1)
-      where
-        by : is_marked marks x ⊎ Contains [] x → is_marked marks x
-        by (inl m) = m
-        by (inr c) = absurd (omega (arith, c.1))
+    ended x has = let at = (are.each x).1 has in
+        let within = at.1 in
+        subst (is_marked marks) (get_or_default reached at.0 0 x within ∙ at.2) (spread.covered at.0 within)
 
     next : (x y : ℕ) → is_marked marks x → step x y → has_source sources y
     next x y marked h = by (spread.closed x y marked h)
@@ -93,8 +84,8 @@ module _ (step : ℕ → ℕ → Type 0) (seeds : List ℕ) where
     goes (suc n) x y marked h = goes n h.0 y (ended h.0 (next x h.0 marked h.1.0)) h.1.1
 
     -- when no class waits any more, the reach is exact
-    pub spread-reach : (reached : List ℕ) (spare expanded : ℕ) → IsReach step seeds (record { sources = sources; marks = marks; reached = reached; spare = spare; expanded = expanded })
-    spread-reach reached spare expanded = record {
+    pub spread-reach : (spare expanded : ℕ) → IsReach step seeds (record { sources = sources; marks = marks; reached = reached; spare = spare; expanded = expanded })
+    spread-reach spare expanded = record {
       sources = λ c. by c (get_or sources c None) refl;
       marked = λ c. (spread.known c, λ why. back c why);
     }
@@ -128,26 +119,17 @@ mark_was marks c x on = by (cases_eq x c)
 pub mark_on : (marks : List Bool) (c : ℕ) → c < length marks → is_marked (set marks c true) c
 mark_on marks c within = get_or-set_same marks c true false within
 
--- a class that has a source keeps it where one that has none gets one
-source_stays : (sources : List (Option ℕ)) (c from x s : ℕ) → get_or sources c None ≡ None → get_or sources x None ≡ Some s → get_or (set sources c (Some from)) x None ≡ Some s
-source_stays sources c from x s free is = by (cases_eq x c)
-  where
-    by : (x ≡ c) ⊎ (x ≢ c) → get_or (set sources c (Some from)) x None ≡ Some s
-    by (inl same) = let none : get_or sources x None ≡ None = ap (λ k. get_or sources k None) same ∙ free in
-        absurd (true≢false (ap is_some (sym is ∙ none)))
-    by (inr other) = get_or-set_other sources c x (Some from) None other ∙ is
-
 module _ (step : ℕ → ℕ → Type 0) (seeds : List ℕ) where
   -- one class was given a source: the steps to it are gone
-  module _ (ahead left : ℕ → ℕ → Type 0) (class from : ℕ) (sources : List (Option ℕ)) (marks : List Bool) (waiting : List ℕ)
-      (new : List (Option ℕ)) (more : List ℕ) (spread : IsSpread step seeds ahead sources marks waiting)
+  module _ (ahead left : ℕ → ℕ → Type 0) (class from : ℕ) (sources : List (Option ℕ)) (marks : List Bool) (reached : List ℕ)
+      (done : ℕ) (new : List (Option ℕ)) (more : List ℕ) (upto : done ≤ length reached) (spread : IsSpread step seeds ahead sources marks reached done)
       (source : IsSource step seeds class from) (within : class < length sources)
-      (gone : (x y : ℕ) → ahead x y → left x y ⊎ (y ≡ class)) (given : IsGiven class from sources waiting new more) where
-    pub spread-given : IsSpread step seeds left new marks more
+      (gone : (x y : ℕ) → ahead x y → left x y ⊎ (y ≡ class)) (given : IsGiven class from sources reached new more) where
+    pub spread-given : IsSpread step seeds left new marks more done
     spread-given = by (get_or sources class None) refl
       where
         -- it had one
-        had : has_source sources class → IsSpread step seeds left new marks more
+        had : has_source sources class → IsSpread step seeds left new marks more done
         had has =
             let same = given.had has in
             rw (same.0, same.1) (record {
@@ -167,17 +149,17 @@ module _ (step : ℕ → ℕ → Type 0) (seeds : List ℕ) where
             closed x y (inr s) = inr s
 
         -- it gets one
-        gets : get_or sources class None ≡ None → IsSpread step seeds left new marks more
+        gets : get_or sources class None ≡ None → IsSpread step seeds left new marks more done
         gets free = rw (given.gets free, given.waits free) (record {
           sound = λ x s is. sound x s is (cases_eq x class);
-          covered = λ x s is. covered x s is (cases_eq x class);
+          covered = λ i low. subst (is_marked marks) (sym (get_or_append_left reached (class ∷ []) 0 i (omega (arith, low, upto)))) (spread.covered i low);
           seeded = spread.seeded;
           known = λ x marked. known x (spread.known x marked);
           closed = λ x y marked h. closed x y (spread.closed x y marked h);
         })
           where
             kept : (x : ℕ) → has_source sources x → has_source (set sources class (Some from)) x
-            kept x has = let s = some_source (get_or sources x None) has in ap is_some (source_stays sources class from x s.0 free s.1)
+            kept x has = let s = some_source (get_or sources x None) has in ap is_some (kept_marked sources class from free x s.0 s.1)
 
             here : has_source (set sources class (Some from)) class
             here = ap is_some (get_or-set_same sources class (Some from) None within)
@@ -187,14 +169,6 @@ module _ (step : ℕ → ℕ → Type 0) (seeds : List ℕ) where
                 let equal : from ≡ s = some_same from s (sym (get_or-set_same sources class (Some from) None within) ∙ ap (λ k. get_or (set sources class (Some from)) k None) (sym same) ∙ is) in
                 rw (same, sym equal) source
             sound x s is (inr other) = spread.sound x s (sym (get_or-set_other sources class x (Some from) None other) ∙ is)
-
-            covered : (x s : ℕ) → get_or (set sources class (Some from)) x None ≡ Some s → (x ≡ class) ⊎ (x ≢ class) → is_marked marks x ⊎ Contains (waiting ++ class ∷ []) x
-            covered x s is (inl same) = inr (subst (Contains (waiting ++ class ∷ [])) (sym same) (Contains-push waiting class))
-            covered x s is (inr other) = wait (spread.covered x s (sym (get_or-set_other sources class x (Some from) None other) ∙ is))
-              where
-                wait : is_marked marks x ⊎ Contains waiting x → is_marked marks x ⊎ Contains (waiting ++ class ∷ []) x
-                wait (inl m) = inl m
-                wait (inr c) = inr (Contains-append_left waiting (class ∷ []) x c)
 
             known : (x : ℕ) → Contains seeds x ⊎ has_source sources x → Contains seeds x ⊎ has_source (set sources class (Some from)) x
             known x (inl seed) = inl seed
@@ -208,45 +182,23 @@ module _ (step : ℕ → ℕ → Type 0) (seeds : List ℕ) where
                 to (inr same) = inr (ap (λ k. is_some (get_or (set sources class (Some from)) k None)) same ∙ here)
             closed x y (inr has) = inr (kept y has)
 
-        by : (o : Option ℕ) → get_or sources class None ≡ o → IsSpread step seeds left new marks more
+        by : (o : Option ℕ) → get_or sources class None ≡ o → IsSpread step seeds left new marks more done
         by None is = gets is
         by (Some s) is = had (ap is_some is)
 
-  -- fewer steps count as ahead
-  pub spread-ahead : (ahead left : ℕ → ℕ → Type 0) (sources : List (Option ℕ)) (marks : List Bool) (waiting : List ℕ)
-      → ((x y : ℕ) → ahead x y → left x y) → IsSpread step seeds ahead sources marks waiting → IsSpread step seeds left sources marks waiting
-  spread-ahead ahead left sources marks waiting to spread = record {
+  -- the next class of those that wait comes to be expanded
+  pub spread-popped : (class : ℕ) (sources : List (Option ℕ)) (marks : List Bool) (reached : List ℕ) (done : ℕ) → class ≡ get_or reached done 0
+      → class < length marks → has_source sources class → IsSpread step seeds none_ahead sources marks reached done
+      → IsSpread step seeds (all_ahead step class) sources (set marks class true) reached (done + 1)
+  spread-popped class sources marks reached done is within has spread = record {
     sound = spread.sound;
-    covered = spread.covered;
-    seeded = spread.seeded;
-    known = spread.known;
-    closed = λ x y on h. by x y (spread.closed x y on h);
-  }
-    where
-      by : (x y : ℕ) → ahead x y ⊎ has_source sources y → left x y ⊎ has_source sources y
-      by x y (inl a) = inl (to x y a)
-      by x y (inr s) = inr s
-
-  -- a class that waited comes to be expanded
-  pub spread-popped : (class : ℕ) (sources : List (Option ℕ)) (marks : List Bool) (waiting : List ℕ)
-      → class < length marks → has_source sources class → IsSpread step seeds none_ahead sources marks (class ∷ waiting)
-      → IsSpread step seeds (all_ahead step class) sources (set marks class true) waiting
-  spread-popped class sources marks waiting within has spread = record {
-    sound = spread.sound;
-    covered = λ x s is. covered x (spread.covered x s is);
+    covered = below_more (λ i. is_marked (set marks class true) (get_or reached i 0)) done
+        (λ i low. mark_stays marks class (get_or reached i 0) (spread.covered i low)) (subst (is_marked (set marks class true)) is (mark_on marks class within));
     seeded = λ x seed. mark_stays marks class x (spread.seeded x seed);
     known = λ x on. known x (mark_was marks class x on);
     closed = λ x y on h. closed x y (mark_was marks class x on) h;
   }
     where
-      covered : (x : ℕ) → is_marked marks x ⊎ Contains (class ∷ waiting) x → is_marked (set marks class true) x ⊎ Contains waiting x
-      covered x (inl m) = inl (mark_stays marks class x m)
-      covered x (inr c) = by (Contains-first class waiting x c)
-        where
-          by : Contains waiting x ⊎ (class ≡ x) → is_marked (set marks class true) x ⊎ Contains waiting x
-          by (inl w) = inr w
-          by (inr same) = inl (subst (is_marked (set marks class true)) same (mark_on marks class within))
-
       known : (x : ℕ) → (x ≡ class) ⊎ is_marked marks x → Contains seeds x ⊎ has_source sources x
       known x (inl same) = inr (ap (λ k. is_some (get_or sources k None)) same ∙ has)
       known x (inr m) = spread.known x m
@@ -260,39 +212,27 @@ module _ (step : ℕ → ℕ → Type 0) (seeds : List ℕ) where
           by (inr s) = inr s
 
   -- one that was expanded before waits no more
-  pub spread-passed : (class : ℕ) (sources : List (Option ℕ)) (marks : List Bool) (waiting : List ℕ) → is_marked marks class
-      → IsSpread step seeds none_ahead sources marks (class ∷ waiting) → IsSpread step seeds none_ahead sources marks waiting
-  spread-passed class sources marks waiting on spread = record {
+  pub spread-passed : (class : ℕ) (sources : List (Option ℕ)) (marks : List Bool) (reached : List ℕ) (done : ℕ) → class ≡ get_or reached done 0 → is_marked marks class
+      → IsSpread step seeds none_ahead sources marks reached done → IsSpread step seeds none_ahead sources marks reached (done + 1)
+  spread-passed class sources marks reached done is on spread = record {
     sound = spread.sound;
-    covered = λ x s is. covered x (spread.covered x s is);
+    covered = below_more (λ i. is_marked marks (get_or reached i 0)) done spread.covered (subst (is_marked marks) is on);
     seeded = spread.seeded;
     known = spread.known;
     closed = spread.closed;
   }
-    where
-      covered : (x : ℕ) → is_marked marks x ⊎ Contains (class ∷ waiting) x → is_marked marks x ⊎ Contains waiting x
-      covered x (inl m) = inl m
-      covered x (inr c) = by (Contains-first class waiting x c)
-        where
-          by : Contains waiting x ⊎ (class ≡ x) → is_marked marks x ⊎ Contains waiting x
-          by (inl w) = inr w
-          by (inr same) = inl (subst (is_marked marks) same on)
 
   -- a class that was not expanded becomes a seed
-  pub spread-seeded : (class : ℕ) (sources : List (Option ℕ)) (marks : List Bool) → class < length marks
-      → IsSpread step seeds none_ahead sources marks [] → IsSpread step (seeds ++ class ∷ []) (all_ahead step class) sources (set marks class true) []
-  spread-seeded class sources marks within spread = record {
+  pub spread-seeded : (class : ℕ) (sources : List (Option ℕ)) (marks : List Bool) (reached : List ℕ) (done : ℕ) → class < length marks
+      → IsSpread step seeds none_ahead sources marks reached done → IsSpread step (seeds ++ class ∷ []) (all_ahead step class) sources (set marks class true) reached done
+  spread-seeded class sources marks reached done within spread = record {
     sound = λ x s is. let source = spread.sound x s is in (Contains-append_left seeds (class ∷ []) s source.0, source.1);
-    covered = λ x s is. covered x (spread.covered x s is);
+    covered = λ i low. mark_stays marks class (get_or reached i 0) (spread.covered i low);
     seeded = λ x seed. seeded x (Contains-push_cases seeds class x seed);
     known = λ x on. known x (mark_was marks class x on);
     closed = λ x y on h. closed x y (mark_was marks class x on) h;
   }
     where
-      covered : (x : ℕ) → is_marked marks x ⊎ Contains [] x → is_marked (set marks class true) x ⊎ Contains [] x
-      covered x (inl m) = inl (mark_stays marks class x m)
-      covered x (inr c) = inr c
-
       seeded : (x : ℕ) → Contains seeds x ⊎ (class ≡ x) → is_marked (set marks class true) x
       seeded x (inl seed) = mark_stays marks class x (spread.seeded x seed)
       seeded x (inr same) = subst (is_marked (set marks class true)) same (mark_on marks class within)
@@ -314,9 +254,9 @@ module _ (step : ℕ → ℕ → Type 0) (seeds : List ℕ) where
           by (inr s) = inr s
 
   -- so does one that was
-  pub spread-seeded_again : (class : ℕ) (sources : List (Option ℕ)) (marks : List Bool) → is_marked marks class
-      → IsSpread step seeds none_ahead sources marks [] → IsSpread step (seeds ++ class ∷ []) none_ahead sources marks []
-  spread-seeded_again class sources marks on spread = record {
+  pub spread-seeded_again : (class : ℕ) (sources : List (Option ℕ)) (marks : List Bool) (reached : List ℕ) (done : ℕ) → is_marked marks class
+      → IsSpread step seeds none_ahead sources marks reached done → IsSpread step (seeds ++ class ∷ []) none_ahead sources marks reached done
+  spread-seeded_again class sources marks reached done on spread = record {
     sound = λ x s is. let source = spread.sound x s is in (Contains-append_left seeds (class ∷ []) s source.0, source.1);
     covered = spread.covered;
     seeded = λ x seed. seeded x (Contains-push_cases seeds class x seed);
@@ -332,11 +272,11 @@ module _ (step : ℕ → ℕ → Type 0) (seeds : List ℕ) where
       known x (inl seed) = inl (Contains-append_left seeds (class ∷ []) x seed)
       known x (inr has) = inr has
 
--- with further steps, some of which are ahead
-pub spread-longer : (step longer : ℕ → ℕ → Type 0) (seeds : List ℕ) (ahead : ℕ → ℕ → Type 0) (sources : List (Option ℕ)) (marks : List Bool)
-    → ((x y : ℕ) → step x y → longer x y) → ((x y : ℕ) → is_marked marks x → longer x y → step x y ⊎ ahead x y)
-    → IsSpread step seeds none_ahead sources marks [] → IsSpread longer seeds ahead sources marks []
-spread-longer step longer seeds ahead sources marks to back spread = record {
+-- with other steps, some of which are ahead
+pub spread-longer : (step longer : ℕ → ℕ → Type 0) (seeds : List ℕ) (ahead left : ℕ → ℕ → Type 0) (sources : List (Option ℕ)) (marks : List Bool) (reached : List ℕ) (done : ℕ)
+    → ((x y : ℕ) → step x y → longer x y) → ((x y : ℕ) → is_marked marks x → longer x y → step x y ⊎ left x y) → ((x y : ℕ) → ahead x y → left x y)
+    → IsSpread step seeds ahead sources marks reached done → IsSpread longer seeds left sources marks reached done
+spread-longer step longer seeds ahead left sources marks reached done to back still spread = record {
   sound = λ x s is. let source = spread.sound x s is in (source.0, (source.1.0, IsWalk-same step longer to s x source.1.0 source.1.1));
   covered = spread.covered;
   seeded = spread.seeded;
@@ -344,12 +284,12 @@ spread-longer step longer seeds ahead sources marks to back spread = record {
   closed = λ x y on h. closed x y on (back x y on h);
 }
   where
-    closed : (x y : ℕ) → is_marked marks x → step x y ⊎ ahead x y → ahead x y ⊎ has_source sources y
-    closed x y on (inr a) = inl a
+    closed : (x y : ℕ) → is_marked marks x → step x y ⊎ left x y → left x y ⊎ has_source sources y
+    closed x y on (inr l) = inl l
     closed x y on (inl h) = by (spread.closed x y on h)
       where
-        by : none_ahead x y ⊎ has_source sources y → ahead x y ⊎ has_source sources y
-        by (inl n) = absurd n
+        by : ahead x y ⊎ has_source sources y → left x y ⊎ has_source sources y
+        by (inl a) = inl (still x y a)
         by (inr s) = inr s
 
 -- all steps of a class are ahead at first, and none when its neighbours are gone
@@ -376,9 +316,9 @@ IsSource-next step seeds class from next why h = (why.0, by why.1)
     by (inr walk) = HasWalk-more step from class next walk h
 
 -- the source that a marked class hands on along a step
-pub IsSource-along : (step : ℕ → ℕ → Type 0) (seeds : List ℕ) (ahead : ℕ → ℕ → Type 0) (sources : List (Option ℕ)) (marks : List Bool) (waiting : List ℕ) (a b : ℕ)
-    → IsSpread step seeds ahead sources marks waiting → is_marked marks a → step a b → IsSource step seeds b (unwrap_or (get_or sources a None) a)
-IsSource-along step seeds ahead sources marks waiting a b spread on h = by (get_or sources a None) refl
+pub IsSource-along : (step : ℕ → ℕ → Type 0) (seeds : List ℕ) (ahead : ℕ → ℕ → Type 0) (sources : List (Option ℕ)) (marks : List Bool) (reached : List ℕ) (done a b : ℕ)
+    → IsSpread step seeds ahead sources marks reached done → is_marked marks a → step a b → IsSource step seeds b (unwrap_or (get_or sources a None) a)
+IsSource-along step seeds ahead sources marks reached done a b spread on h = by (get_or sources a None) refl
   where
     by : (o : Option ℕ) → get_or sources a None ≡ o → IsSource step seeds b (unwrap_or o a)
     by None is = seed (spread.known a on)
@@ -401,33 +341,22 @@ pub marks_len : (r : Inside) (reach : PlainReach) → reach_of r ≡ reach → l
 marks_len r reach is = ap (λ (s : PlainReach). length s.marks) is
 
 -- with one edge more, from a class that was not expanded, nothing is ahead
-pub spread-unmarked : (before : List Edge) (seeds : List ℕ) (reach : PlainReach) (a b : ℕ) → get_or reach.marks a false ≡ false
-    → IsReach (IsEdge before) seeds reach → IsSpread (IsEdge (before ++ edge a b ∷ [])) seeds none_ahead reach.sources reach.marks []
-spread-unmarked before seeds reach a b off exact =
-    spread-longer (IsEdge before) (IsEdge (before ++ edge a b ∷ [])) seeds none_ahead reach.sources reach.marks
-    (λ x y h. Contains-append_left before (edge a b ∷ []) (edge x y) h) (λ x y on h. by x y on (IsEdge-cases before a b x y h)) (reach-spread (IsEdge before) seeds reach exact)
+pub spread-unmarked : (before : List Edge) (seeds : List ℕ) (reach : PlainReach) (a b : ℕ) → get_or reach.marks a false ≡ false → AreReached reach.sources reach.reached
+    → IsReach (IsEdge before) seeds reach → IsSpread (IsEdge (before ++ edge a b ∷ [])) seeds none_ahead reach.sources reach.marks reach.reached (length reach.reached)
+spread-unmarked before seeds reach a b off are exact =
+    spread-longer (IsEdge before) (IsEdge (before ++ edge a b ∷ [])) seeds none_ahead none_ahead reach.sources reach.marks reach.reached (length reach.reached)
+    (λ x y h. Contains-append_left before (edge a b ∷ []) (edge x y) h) (λ x y on h. by x y on (IsEdge-cases before a b x y h)) (λ x y h. h) (reach-spread (IsEdge before) seeds reach are exact)
   where
     by : (x y : ℕ) → is_marked reach.marks x → IsEdge before x y ⊎ ((x ≡ a) × (y ≡ b)) → IsEdge before x y ⊎ none_ahead x y
     by x y on (inl old) = inl old
     by x y on (inr new) = absurd (true≢false (sym on ∙ ap (λ k. get_or reach.marks k false) new.0 ∙ off))
 
 -- with one edge more that step is ahead
-pub spread-edge : (before : List Edge) (seeds : List ℕ) (reach : PlainReach) (a b : ℕ) → IsReach (IsEdge before) seeds reach
-    → IsSpread (IsEdge (before ++ edge a b ∷ [])) seeds (λ x y. (x ≡ a) × (y ≡ b)) reach.sources reach.marks []
-spread-edge before seeds reach a b exact =
-    spread-longer (IsEdge before) (IsEdge (before ++ edge a b ∷ [])) seeds (λ x y. (x ≡ a) × (y ≡ b)) reach.sources reach.marks
-    (λ x y h. Contains-append_left before (edge a b ∷ []) (edge x y) h) (λ x y on h. IsEdge-cases before a b x y h) (reach-spread (IsEdge before) seeds reach exact)
-
--- the same steps by another relation
-pub spread-same : (step other : ℕ → ℕ → Type 0) (seeds : List ℕ) (ahead : ℕ → ℕ → Type 0) (sources : List (Option ℕ)) (marks : List Bool) (waiting : List ℕ)
-    → ((x y : ℕ) → other x y ↔ step x y) → IsSpread step seeds ahead sources marks waiting → IsSpread other seeds ahead sources marks waiting
-spread-same step other seeds ahead sources marks waiting same spread = record {
-  sound = λ x s is. let source = spread.sound x s is in (source.0, (source.1.0, IsWalk-same step other (λ p q h. (same p q).1 h) s x source.1.0 source.1.1));
-  covered = spread.covered;
-  seeded = spread.seeded;
-  known = spread.known;
-  closed = λ x y on h. spread.closed x y on ((same x y).0 h);
-}
+pub spread-edge : (before : List Edge) (seeds : List ℕ) (reach : PlainReach) (a b : ℕ) → AreReached reach.sources reach.reached → IsReach (IsEdge before) seeds reach
+    → IsSpread (IsEdge (before ++ edge a b ∷ [])) seeds (λ x y. (x ≡ a) × (y ≡ b)) reach.sources reach.marks reach.reached (length reach.reached)
+spread-edge before seeds reach a b are exact =
+    spread-longer (IsEdge before) (IsEdge (before ++ edge a b ∷ [])) seeds none_ahead (λ x y. (x ≡ a) × (y ≡ b)) reach.sources reach.marks reach.reached (length reach.reached)
+    (λ x y h. Contains-append_left before (edge a b ∷ []) (edge x y) h) (λ x y on h. IsEdge-cases before a b x y h) (λ x y h. absurd h) (reach-spread (IsEdge before) seeds reach are exact)
 
 -- a default at the end changes no answer
 get_or-push_default : {X : Type 0} → (xs : List X) (d : X) (k : ℕ) → get_or (xs ++ d ∷ []) k d ≡ get_or xs k d
@@ -446,16 +375,7 @@ IsReach-added step seeds reach spare exact = record {
   marked = λ c. rw (get_or-push_default reach.marks false c, get_or-push_default reach.sources None c) (exact.marked c);
 }
 
--- what is given is given to the part of the list from a place on
-pub IsGiven-drop : (class from : ℕ) (sources : List (Option ℕ)) (reached : List ℕ) (new : List (Option ℕ)) (more : List ℕ) (done : ℕ) → done ≤ length reached
-    → IsGiven class from sources reached new more → IsGiven class from sources (drop done reached) new (drop done more)
-IsGiven-drop class from sources reached new more done within given = record {
-  had = λ has. let same = given.had has in (same.0, ap (drop done) same.1);
-  gets = given.gets;
-  waits = λ none. ap (drop done) (given.waits none) ∙ drop-append-le done reached (class ∷ []) within;
-}
-
--- and the front of the list stays
+-- the front of the list stays
 pub IsGiven-front : (class from : ℕ) (sources : List (Option ℕ)) (reached : List ℕ) (new : List (Option ℕ)) (more : List ℕ) (n : ℕ) → n ≤ length reached
     → IsGiven class from sources reached new more → (take n more ≡ take n reached) × (length reached ≤ length more)
 IsGiven-front class from sources reached new more n within given = by (get_or sources class None) refl
@@ -481,9 +401,21 @@ AreReached-has sources reached are k d within = (has, by (cases_lt (get_or reach
 pub AreReached-added : (sources : List (Option ℕ)) (reached : List ℕ) → AreReached sources reached → AreReached (sources ++ None ∷ []) reached
 AreReached-added sources reached are = record { once = are.once; each = λ c. rw (get_or-push_default sources None c) (are.each c) }
 
--- what waits is the class at the place, and what waits behind it
-pub drop-next : (reached : List ℕ) (done class : ℕ) → done < length reached → class ≡ get_or reached done class → drop done reached ≡ class ∷ drop (done + 1) reached
-drop-next reached done class within is = drop_more reached done class within ∙ ap (λ x. x ∷ drop (done + 1) reached) (sym is)
+-- classes that were expanded, and then some more
+pub expanded-then : (r : Reading) (m : Marked) (s : Sourced) (r' : Reading) (m' : Marked) (s' : Sourced) (r'' : Reading) (m'' : Marked) (s'' : Sourced)
+    → AreExpanded r m s r' m' s' → AreExpanded r' m' s' r'' m'' s'' → AreExpanded r m s r'' m'' s''
+expanded-then r m s r' m' s' r'' m'' s'' a b = record {
+  lists = b.lists ∙ a.lists;
+  read = omega (arith, a.read, b.read);
+  counted = b.counted;
+  len_marks = b.len_marks ∙ a.len_marks;
+  room_marks = b.room_marks ∙ a.room_marks;
+  stays = λ x on. b.stays x (a.stays x on);
+  len = b.len ∙ a.len;
+  room = b.room ∙ a.room;
+  longer = omega (arith, a.longer, b.longer);
+  front = λ n within. b.front n (omega (arith, within, a.longer)) ∙ a.front n within;
+}
 
 -- one more class in the list, which had no source and gets one
 pub AreReached-given : (sources : List (Option ℕ)) (reached : List ℕ) (class from : ℕ) → AreReached sources reached → class < length sources

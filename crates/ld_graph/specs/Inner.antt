@@ -9,6 +9,7 @@ pub mod Affected
 pub mod Ranks
 pub mod Placed
 pub mod Kept
+pub mod Sources
 pub mod KeptReach
 pub mod Trails
 pub mod Insides

@@ -40,7 +40,8 @@ impl Distances {
     ///
     /// `AllocError` where memory was refused.
     pub fn new(alloc: Global, classes: usize) -> Result<Distances, AllocError>
-        ensures { IfOk result (λ distances. length distances ≡ classes) }
+        ensures len { IfOk result (λ distances. length distances ≡ classes) }
+        ensures none { IfOk result (λ distances. (c : ℕ) → slice_index_or distances c None ≡ None) }
     {
         let mut levels = Vec::new(alloc);
         levels.resize(classes, Distance::none())?;

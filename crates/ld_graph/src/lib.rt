@@ -17,6 +17,7 @@ mod reach;
 mod reorder;
 mod search;
 mod shown;
+mod sources;
 mod trail;
 
 pub use distance::Distance;

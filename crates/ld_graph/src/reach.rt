@@ -1,10 +1,11 @@
 //! Which classes walks from some seeds lead to, kept while edges come.
 ghost use Rattle.std.specs.Prelude.{◌≡◌, ◌⊎◌, ◌++◌, ◌∷◌, [], ℕ, List, ◌+◌, ◌<◌, ◌≤◌, ◌^◌, true, false};
-ghost use Rattle.std.specs.Prelude.{◌↔◌, drop, take, IsSome, All, Contains, None, OnErr, OnOk, count_by, is_none, length};
-ghost use Rattle.std.specs.Prelude.{nat_eq, slice_index_or, slice_set, vec_capacity, vec_len};
+ghost use Rattle.std.specs.Prelude.{◌↔◌, take, IsSome, All, Contains, OnOk, count_by, length};
+ghost use Rattle.std.specs.Prelude.{nat_eq, slice_index_or, slice_set};
 ghost use Rattle.std.specs.List.{IsDistinct};
 ghost use Rattle.ld_graph.specs.Edges.{IsEdge, edge};
-ghost use Rattle.ld_graph.specs.Inner.KeptReach.{AreReached, IsGiven, IsSpread, all_ahead, none_ahead};
+ghost use Rattle.ld_graph.specs.Inner.KeptReach.{AreExpanded, IsSpread, all_ahead, none_ahead};
+ghost use Rattle.ld_graph.specs.Inner.Sources.{AreReached};
 ghost use Rattle.ld_graph.specs.Lists.{IsNear};
 ghost use Rattle.ld_graph.specs.Reach.{AreSuccessors, IsReach, mark_of, no_reach, source_of, with_unreached};
 ghost use Rattle.ld_graph.specs.Walks.{HasWalk};
@@ -13,6 +14,7 @@ use crate::Edge;
 use crate::graph::MOST_GRAPH_CLASSES;
 use crate::lists::Reader;
 use crate::marks::Marks;
+use crate::sources::Sources;
 use std::alloc::{AllocError, Global};
 use std::marker::Model;
 
@@ -22,12 +24,9 @@ use std::marker::Model;
 #[derive(Drop)]
 pub struct Reach {
     /// For each class a seed with a walk to it.
-    sources: Vec<Option<u32>>,
+    sources: Sources,
     /// For each class whether it was expanded, and how many were.
     marks: Marks,
-    /// The classes that have a source, in the order in which they got it. The last of them may wait to
-    /// be expanded.
-    reached: Vec<u32>,
     spare: usize,
 }
 
@@ -50,9 +49,8 @@ impl Reach {
         ensures exact { (edges : List Edge) → IsReach (IsEdge edges) [] result }
     {
         Reach {
-            sources: Vec::new(alloc),
+            sources: Sources::new(alloc),
             marks: Marks::new(alloc),
-            reached: Vec::new(alloc),
             spare: 0,
         }
     }
@@ -88,10 +86,8 @@ impl Reach {
         ensures exact { (edges : List Edge) (seeds : List ℕ) → IsReach (IsEdge edges) seeds self.old
             → IsReach (IsEdge edges) seeds self.new }
     {
-        let unreached = self.marks.len() - self.reached.len();
-        self.sources.reserve(classes)?;
+        self.sources.room(classes)?;
         self.marks.room(classes)?;
-        self.reached.reserve(unreached + classes)?;
         self.spare = self.spare.max(classes);
         Ok(())
     }
@@ -105,7 +101,7 @@ impl Reach {
         ensures exact { (edges : List Edge) (seeds : List ℕ) → IsReach (IsEdge edges) seeds self.old
             → IsReach (IsEdge edges) seeds self.new }
     {
-        self.sources.push_reserved(None);
+        self.sources.add_class();
         self.marks.add_class();
         self.spare -= 1;
     }
@@ -127,25 +123,12 @@ impl Reach {
         ensures stays { (x : ℕ) → mark_of self.old x ≡ true → mark_of self.new x ≡ true }
         ensures each_once { self.new.expanded ≡ count_by (λ mark. mark) self.new.marks }
     {
+        let known = self.sources.count();
         if self.marks.is_on(c) {
             return;
         }
-        let known = self.reached.len();
-        expand(
-            reader,
-            c,
-            c,
-            &mut self.sources,
-            &mut self.marks,
-            &mut self.reached,
-        );
-        spread(
-            reader,
-            known,
-            &mut self.sources,
-            &mut self.marks,
-            &mut self.reached,
-        );
+        expand(reader, c, c, &mut self.marks, &mut self.sources);
+        spread(reader, known, &mut self.marks, &mut self.sources);
     }
 
     /// Follows the edge from `a` to `b`, which came last to the graph whose lists the reader gives. Each list that is
@@ -167,19 +150,13 @@ impl Reach {
         ensures stays { (x : ℕ) → mark_of self.old x ≡ true → mark_of self.new x ≡ true }
         ensures each_once { self.new.expanded ≡ count_by (λ mark. mark) self.new.marks }
     {
+        let known = self.sources.count();
         if !self.marks.is_on(a) {
             return;
         }
-        let from = self.sources[a as usize].unwrap_or(a);
-        let known = self.reached.len();
-        give(b, from, &mut self.sources, &mut self.reached);
-        spread(
-            reader,
-            known,
-            &mut self.sources,
-            &mut self.marks,
-            &mut self.reached,
-        );
+        let from = self.sources.source(a).unwrap_or(a);
+        self.sources.give(b, from);
+        spread(reader, known, &mut self.marks, &mut self.sources);
     }
 
     /// A seed with a walk of at least one edge to the class `c`, or `None` where there is none. Takes no
@@ -188,7 +165,7 @@ impl Reach {
         requires { c < length self.now.marks }
         ensures { result ≡ source_of self.now c }
     {
-        self.sources[c as usize]
+        self.sources.source(c)
     }
 
     /// The classes that have a source, each once, in the order in which they got it. Takes no memory.
@@ -198,7 +175,7 @@ impl Reach {
         ensures each { (c : ℕ) → Contains self.now.reached c ↔ IsSome (source_of self.now c) }
         ensures once { IsDistinct nat_eq self.now.reached }
     {
-        &self.reached
+        self.sources.reached()
     }
 
     /// How often a class was expanded so far: no class twice. Takes no memory.
@@ -211,112 +188,54 @@ impl Reach {
     }
 }
 
-/// Gives the class this source, unless it has one, and lets it wait.
-fn give(class: u32, from: u32, sources: &mut [Option<u32>], reached: &mut Vec<u32>)
-    requires class { class < length sources.old }
-    requires listed { AreReached sources.old reached.old.items }
-    requires room { vec_len reached.old + count_by is_none sources.old ≤ vec_capacity reached.old }
-    ensures listed { AreReached sources.new reached.new.items }
-    ensures room { vec_len reached.new + count_by is_none sources.new
-        ≡ vec_len reached.old + count_by is_none sources.old }
-    ensures capacity { vec_capacity reached.old ≤ vec_capacity reached.new }
-    ensures given { IsGiven class from sources.old reached.old.items sources.new reached.new.items }
-{
-    if sources[class as usize].is_some() {
-        return;
-    }
-    sources[class as usize] = Some(from);
-    reached.push_reserved(class);
-}
-
 /// Expands a class: gives this source to its successors.
-fn expand(
-    reader: &mut Reader<'_>,
-    class: u32,
-    from: u32,
-    sources: &mut [Option<u32>],
-    marks: &mut Marks,
-    reached: &mut Vec<u32>,
-)
+fn expand(reader: &mut Reader<'_>, class: u32, from: u32, marks: &mut Marks, sources: &mut Sources)
     requires lists { length reader.old.lists.after.lists ≡ length marks.old.each }
     requires ends { (x y : ℕ) → IsNear reader.old.lists.after.lists x y → y < length marks.old.each }
-    requires same { length sources.old ≡ length marks.old.each }
+    requires same { length sources.old.each ≡ length marks.old.each }
     requires class { class < length marks.old.each }
     requires fresh { slice_index_or marks.old.each class false ≡ false }
-    requires steps { reader.old.count + length marks.old.each + 1 < 2 ^ 64 + marks.old.count }
-    requires counted { marks.old.count ≡ count_by (λ m. m) marks.old.each }
-    requires few { length marks.old.each ≤ MOST_GRAPH_CLASSES }
-    requires listed { AreReached sources.old reached.old.items }
-    requires room { vec_len reached.old + count_by is_none sources.old ≤ vec_capacity reached.old }
-    ensures lists { reader.new.lists ≡ reader.old.lists }
-    ensures read { reader.new.count + marks.old.count ≡ reader.old.count + marks.new.count }
-    ensures mark_room { marks.new.room ≡ marks.old.room }
-    ensures counted { marks.new.count ≡ count_by (λ m. m) marks.new.each }
+    requires few { reader.old.count + 1 < 2 ^ 64 }
+    ensures expanded { AreExpanded reader.old marks.old sources.old reader.new marks.new sources.new }
     ensures marks { marks.new.each ≡ slice_set marks.old.each class true }
-    ensures listed { AreReached sources.new reached.new.items }
-    ensures room { vec_len reached.new + count_by is_none sources.new
-        ≡ vec_len reached.old + count_by is_none sources.old }
-    ensures capacity { vec_capacity reached.old ≤ vec_capacity reached.new }
-    ensures front { (n : ℕ) → n ≤ vec_len reached.old
-        → take n reached.new.items ≡ take n reached.old.items }
-    ensures longer { vec_len reached.old ≤ vec_len reached.new }
-    ensures spread { (done : ℕ) (seeds : List ℕ) → done ≤ vec_len reached.old
+    ensures spread { (done : ℕ) (seeds : List ℕ) → done ≤ length sources.old.reached
         → IsSpread (IsNear reader.old.lists.after.lists) seeds
-        (all_ahead (IsNear reader.old.lists.after.lists) class) sources.old
-        (slice_set marks.old.each class true) (drop done reached.old.items)
+        (all_ahead (IsNear reader.old.lists.after.lists) class) sources.old.each
+        (slice_set marks.old.each class true) sources.old.reached done
         → Contains seeds from × ((from ≡ class) ⊎ HasWalk (IsNear reader.old.lists.after.lists) from class)
-        → IsSpread (IsNear reader.old.lists.after.lists) seeds none_ahead sources.new marks.new.each
-        (drop done reached.new.items) }
+        → IsSpread (IsNear reader.old.lists.after.lists) seeds none_ahead sources.new.each marks.new.each
+        sources.new.reached done }
 {
     for &next in marks.once(class, reader) {
-        give(next, from, sources, reached);
+        sources.give(next, from);
     }
 }
 
 /// Expands the classes that were reached, from number `known` on, and those that are reached by this.
-fn spread(
-    reader: &mut Reader<'_>,
-    known: usize,
-    sources: &mut [Option<u32>],
-    marks: &mut Marks,
-    reached: &mut Vec<u32>,
-)
+fn spread(reader: &mut Reader<'_>, known: usize, marks: &mut Marks, sources: &mut Sources)
     requires lists { length reader.old.lists.after.lists ≡ length marks.old.each }
-    requires known { known ≤ vec_len reached.old }
+    requires known { known ≤ length sources.old.reached }
     requires ends { (x y : ℕ) → IsNear reader.old.lists.after.lists x y → y < length marks.old.each }
-    requires same { length sources.old ≡ length marks.old.each }
+    requires same { length sources.old.each ≡ length marks.old.each }
     requires steps { reader.old.count + length marks.old.each + 1 < 2 ^ 64 + marks.old.count }
     requires counted { marks.old.count ≡ count_by (λ m. m) marks.old.each }
-    requires few { length marks.old.each ≤ MOST_GRAPH_CLASSES }
-    requires listed { AreReached sources.old reached.old.items }
-    requires room { vec_len reached.old + count_by is_none sources.old ≤ vec_capacity reached.old }
-    ensures lists { reader.new.lists ≡ reader.old.lists }
-    ensures read { reader.new.count + marks.old.count ≡ reader.old.count + marks.new.count }
-    ensures mark_room { marks.new.room ≡ marks.old.room }
-    ensures counted { marks.new.count ≡ count_by (λ m. m) marks.new.each }
-    ensures len { length marks.new.each ≡ length marks.old.each }
-    ensures stays { (x : ℕ) → slice_index_or marks.old.each x false ≡ true
-        → slice_index_or marks.new.each x false ≡ true }
-    ensures listed { AreReached sources.new reached.new.items }
-    ensures room { vec_len reached.new + count_by is_none sources.new
-        ≡ vec_len reached.old + count_by is_none sources.old }
-    ensures capacity { vec_capacity reached.old ≤ vec_capacity reached.new }
-    ensures front { (n : ℕ) → n ≤ vec_len reached.old
-        → take n reached.new.items ≡ take n reached.old.items }
+    ensures expanded { AreExpanded reader.old marks.old sources.old reader.new marks.new sources.new }
+    ensures listed { AreReached sources.new.each sources.new.reached }
     ensures spread { (seeds : List ℕ)
-        → IsSpread (IsNear reader.old.lists.after.lists) seeds none_ahead sources.old marks.old.each
-        (drop known reached.old.items)
-        → IsSpread (IsNear reader.old.lists.after.lists) seeds none_ahead sources.new marks.new.each [] }
+        → IsSpread (IsNear reader.old.lists.after.lists) seeds none_ahead sources.old.each marks.old.each
+        sources.old.reached known
+        → IsSpread (IsNear reader.old.lists.after.lists) seeds none_ahead sources.new.each marks.new.each
+        sources.new.reached (length sources.new.reached) }
 {
     let mut done = known;
-    while done < reached.len() {
-        let class = reached[done];
+    while done < sources.count() {
+        let class = sources.reached_at(done);
         done += 1;
         if !marks.is_on(class) {
-            let Some(from) = sources[class as usize] else {
+            let Some(from) = sources.source(class) else {
                 unreachable!()
             };
-            expand(reader, class, from, sources, marks, reached);
+            expand(reader, class, from, marks, sources);
         }
     }
 }

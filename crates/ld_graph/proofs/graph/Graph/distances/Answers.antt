@@ -18,7 +18,7 @@ returns-clause-each c = λ x.
     subst (λ ds. DistanceIs (IsEdge c.args.self.now.edges) x c.args.to (get_or ds x None)) (sym c.into_levels.ensures)
     (subst (λ g. DistanceIs (IsEdge g.edges) x c.args.to (get_or c.search.new.self x None)) c.self.view_is
     (DistanceIs-all c.self.inside.lists.before.lists (IsEdge c.self.inside.edges.keys) c.self.invariant.before_edges c.self.inside.classes c.args.to
-    c.search.new.self (omega (arith, classes, c.search.ensures.len, c.in_ok-distances.ensures, c.len-2.ensures.count)) (λ a b e. (c.self.invariant.ends a b e).0)
+    c.search.new.self (omega (arith, classes, c.search.ensures.len, c.in_ok-distances.ensures.len, c.len-2.ensures.count)) (λ a b e. (c.self.invariant.ends a b e).0)
     (λ w within.
     let low : w < c.loop-class.class = omega (arith, within, classes, c.loop-class-test.false, c.len-class-end.ensures.count) in
     let is : get_or c.deref.result.now w 0 ≡ w = ap (λ ns. get_or ns w 0) wanted ∙ i.each w low in
