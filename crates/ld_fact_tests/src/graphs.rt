@@ -10,7 +10,7 @@ use std::alloc::Global;
 use std::process::Abort;
 
 /// Makes room. Where memory is refused nothing else changes, and the call made again answers `Ok`.
-fn make_room<R: Abort>(rt: &R, graph: &mut Graph, classes: usize, edges: usize) {
+pub(crate) fn make_room<R: Abort>(rt: &R, graph: &mut Graph, classes: usize, edges: usize) {
     assert!(rt; classes <= MOST_GRAPH_CLASSES - graph.len());
     let (len, count) = (graph.len(), graph.edges());
     if graph.room(classes, edges).is_err() {
@@ -21,7 +21,7 @@ fn make_room<R: Abort>(rt: &R, graph: &mut Graph, classes: usize, edges: usize) 
     assert!(rt; graph.spare_classes() >= classes && graph.spare_edges() >= edges);
 }
 
-fn add_classes<R: Abort>(rt: &R, graph: &mut Graph, count: u32) {
+pub(crate) fn add_classes<R: Abort>(rt: &R, graph: &mut Graph, count: u32) {
     for number in 0..count {
         assert!(rt; graph.spare_classes() > 0);
         assert_eq!(rt; graph.add_class(), number);
@@ -48,7 +48,7 @@ fn expect_known<R: Abort>(rt: &R, graph: &mut Graph, a: u32, b: u32, wanted: u64
 }
 
 /// Inserts an edge that is not there yet.
-fn insert_new<R: Abort>(rt: &R, graph: &mut Graph, a: u32, b: u32) {
+pub(crate) fn insert_new<R: Abort>(rt: &R, graph: &mut Graph, a: u32, b: u32) {
     let count = graph.edges();
     assert!(rt; insert(rt, graph, a, b) != Insert::Known);
     assert!(rt; graph.edges() > count);

@@ -19,4 +19,6 @@ mod reaches;
 #[cfg(test)]
 mod streams;
 #[cfg(test)]
+mod trees;
+#[cfg(test)]
 mod words;
