@@ -59,7 +59,7 @@ def words_of_tree():
     """The words of all files but pages, pictures and packed recordings."""
     found = set(FOREIGN)
     for name in files_below(TOP):
-        if not name.endswith((".md", ".svg", ".xz")):
+        if not name.endswith((".md", ".png", ".svg", ".xz")):
             with open(f"{TOP}/{name}", encoding="utf-8", errors="replace") as file:
                 found.update(re.findall(r"\w+", file.read()))
     return found
