@@ -1,10 +1,10 @@
 -- What a book keeps when the traces of a batch are added.
-use Rattle.std.proofs.Common.{◌≡◌, ◌≢◌, ◌*◌, ◌<◌, ◌≤◌, ◌++◌, All, AllPairs, Any, List, Some, IsSome, get_or, length, sym, ap, subst, arith, length-append}
+use Rattle.std.proofs.Common.{◌≡◌, ◌≢◌, ◌+◌, ◌*◌, ◌<◌, ◌≤◌, ◌++◌, All, AllPairs, Any, Contains, List, Some, IsSome, get_or, length, sym, ap, subst, arith, length-append}
 use Rattle.ld_trace.specs.Sources.{PlainSource}
 use Rattle.ld_rules.specs.Dependency.{Dependency}
-use Rattle.ld_rules.specs.Union.{dependency_witness}
+use Rattle.ld_rules.specs.Union.{dependency_witness, union_classes}
 use Rattle.ld_rules.specs.declared.outcome.TheConstants.{MOST_CLASSES}
-use Rattle.ld_shown.specs.Batch.{AreRising, IsBatch, PlainBatch}
+use Rattle.ld_shown.specs.Batch.{AreFewClasses, AreRising, IsShown, PlainShown}
 use Rattle.ld_book.specs.Dependencies.{AreDependencies}
 use Rattle.ld_book.specs.Inner.Kept.{Fields, IsKept}
 use Rattle.ld_union.specs.Inner.Numbers.{AreFound}
@@ -16,16 +16,18 @@ use Rattle.ld_union.proofs.UnionLemmas.{apart_rows, ends_of_row}
 pub apart_from_rise : (sources : List PlainSource) → AreRising sources → AllPairs (λ a b. a.number ≢ b.number) sources
 apart_from_rise sources rise i j d low within same = let rises = rise i j d low within in omega (arith, rises, same)
 
--- what is kept of some traces and those of a batch
-pub kept-added : (old new : Fields) (batch : PlainBatch) → IsKept old → IsBatch batch → length batch.classes ≤ length batch.sources * MOST_CLASSES
-    → Adds batch.sources old.union new.union → new.sources ≡ old.sources ++ batch.sources
+-- what is kept of some traces and those of a batch, behind which all are among them
+pub kept-added : (old new : Fields) (batch : PlainShown) → IsKept old → IsShown batch → AreFewClasses batch → All (Contains old.sources) batch.behind
+    → Adds batch.behind batch.sources old.union new.union → new.sources ≡ old.sources ++ batch.sources
     → AreFound (edges_of new.union.dependencies) (bits_of new.union.usage) new.found → IsKept new
-kept-added old new batch is exact few adds sources found = record {
-  shows = subst (λ all. Shows all new.union) (sym sources) (adds.shows old.sources is.shows);
+kept-added old new batch is exact few there adds sources found = record {
+  shows = subst (λ all. Shows all new.union) (sym sources) (adds.shows old.sources is.shows there);
   few =
       let were : length old.union.classes ≤ length old.sources * MOST_CLASSES = is.few in
-      let more : length batch.classes ≤ length batch.sources * MOST_CLASSES = few in
-      omega (arith, were, more, adds.longer.most, ap length exact.classes, ap length sources, length-append old.sources batch.sources);
+      let since : length batch.classes ≤ length (union_classes batch.behind) + length batch.sources * MOST_CLASSES = few.since in
+      let more : length new.union.classes + length (union_classes batch.behind) ≤ length old.union.classes + length (union_classes (batch.behind ++ batch.sources)) =
+      adds.few old.sources is.shows there in
+      omega (arith, were, since, more, ap length exact.classes, ap length sources, length-append old.sources batch.sources);
   exact = found;
 }
 

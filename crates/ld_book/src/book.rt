@@ -1,5 +1,5 @@
 //! `Book`, which keeps what many traces show together.
-ghost use Rattle.std.specs.Prelude.{◌≡◌, ◌≢◌, ◌≤◌, ◌++◌, ◌∷◌, [], All, AllPairs, Err, IfOk, IsSome, List, OnErr, OnOk};
+ghost use Rattle.std.specs.Prelude.{◌≡◌, ◌≢◌, ◌≤◌, ◌++◌, ◌∷◌, [], All, AllPairs, Contains, Err, IfOk, IsSome, List, OnErr, OnOk};
 ghost use Rattle.std.specs.Prelude.{false, length, map, true};
 ghost use Rattle.ld_class.specs.declared.names.TheConstants.{MOST_NAMES};
 ghost use Rattle.ld_class.specs.Names.{AreDistinct, place_of, plain_class};
@@ -20,6 +20,7 @@ use crate::totals::Totals;
 use ld_class::{ClassName, Classes};
 use ld_facts::{Batch, Facts, Guesses, Listed, Witness};
 use ld_graph::Graph;
+use ld_shown::Shown;
 use ld_union::{Alarms, Findings, Found, News, Union, UsageRow, Witnessed, findings_of};
 use std::alloc::{AllocError, Global};
 use std::marker::Model;
@@ -137,16 +138,39 @@ impl<'a> Book<'a> {
         ensures memory { is_any_listed self.old batch.old.sources ≡ false
             → OnErr result (result ≡ Err AddRefusal.Memory) }
     {
-        if self.listing.has_any(batch.listed()) {
+        let mut guesses = batch.swap_guesses(Guesses::new(self.alloc));
+        let added = self.add_shown(&batch.shown(), &mut guesses);
+        batch.swap_guesses(guesses);
+        added
+    }
+
+    /// Lists the traces of what a batch shows, and adds that. It says nothing anew of what the traces behind it
+    /// show, so all of these have to be listed already.
+    ///
+    /// # Errors
+    ///
+    /// The book is as before, but for spare memory: `Twice` where a trace of one of the numbers of what is to
+    /// be added is listed, which is tested first, and `Memory` where a growth of memory was refused.
+    pub fn add_shown(
+        &mut self,
+        batch: &Shown<'_, 'a>,
+        guesses: &mut Guesses,
+    ) -> Result<(), AddRefusal>
+        requires { All (Contains self.old) batch.now.behind }
+        ensures ok { OnOk result (self.new ≡ self.old ++ batch.now.sources) }
+        ensures err { OnErr result (self.new ≡ self.old) }
+        ensures twice { is_any_listed self.old batch.now.sources ≡ true
+            → result ≡ Err AddRefusal.Twice }
+        ensures memory { is_any_listed self.old batch.now.sources ≡ false
+            → OnErr result (result ≡ Err AddRefusal.Memory) }
+    {
+        if self.listing.has_any(batch.traces()) {
             return Err(AddRefusal::Twice);
         }
-        let mut guesses = batch.swap_guesses(Guesses::new(self.alloc));
-        let entered = self.enter(batch, &mut guesses);
-        batch.swap_guesses(guesses);
-        if entered.is_err() {
-            return Err(AddRefusal::Memory);
+        match self.enter(batch, guesses) {
+            Ok(()) => Ok(()),
+            Err(AllocError) => Err(AddRefusal::Memory),
         }
-        Ok(())
     }
 
     /// Lists the traces of a batch, and adds what they show, as `add_from` does.
@@ -182,22 +206,24 @@ impl<'a> Book<'a> {
         ensures err { OnErr result (self.new ≡ self.old) }
     {
         let batch = Batch::of(self.alloc, facts)?;
-        let entered = self.enter(&batch, &mut Guesses::new(self.alloc));
+        let entered = self.enter(&batch.shown(), &mut Guesses::new(self.alloc));
         drop(batch);
         entered
     }
 
-    /// Lists the traces of a batch, no number of which is listed, and adds what they show.
+    /// Lists the traces of what a batch shows, no number of which is listed, and adds that. All traces behind
+    /// it are listed.
     ///
     /// `AllocError` where a growth of memory was refused. Nothing has changed then but spare memory.
-    fn enter(&mut self, batch: &Batch<'a>, guesses: &mut Guesses) -> Result<(), AllocError>
-        requires { is_any_listed self.old batch.now.sources ≡ false }
+    fn enter(&mut self, batch: &Shown<'_, 'a>, guesses: &mut Guesses) -> Result<(), AllocError>
+        requires fresh { is_any_listed self.old batch.now.sources ≡ false }
+        requires behind { All (Contains self.old) batch.now.behind }
         ensures ok { OnOk result (self.new ≡ self.old ++ batch.now.sources) }
         ensures err { OnErr result (self.new ≡ self.old) }
     {
-        let traces = batch.listed();
+        let traces = batch.traces();
         self.listing.room(traces.len())?;
-        self.union.add(&batch.shown(), guesses, &mut self.news)?;
+        self.union.add(batch, guesses, &mut self.news)?;
         // From here on nothing is refused.
         self.found.note(&self.union, &self.news);
         self.listing.add_all(traces);

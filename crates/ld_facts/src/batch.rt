@@ -6,7 +6,7 @@ ghost use Rattle.ld_rules.specs.declared.outcome.Listed.{Listed};
 ghost use Rattle.std.specs.List.{last_or};
 ghost use Rattle.ld_trace.specs.Sources.{Fits, plain};
 ghost use Rattle.ld_rules.specs.declared.outcome.TheConstants.{MOST_CLASSES};
-ghost use Rattle.ld_shown.specs.Batch.{AreOutcomes, IsBatch, empty_batch, sources_of};
+ghost use Rattle.ld_shown.specs.Batch.{AreOutcomes, IsBatch, empty_batch, shown_alone, sources_of};
 ghost use Rattle.ld_shown.specs.Inner.Rows.{edges_of};
 
 use crate::batch_reading::read;
@@ -172,14 +172,17 @@ impl<'a> Batch<'a> {
         &self.rows.usage
     }
 
-    /// What the traces show, with the numbers that the scan has for their classes, by which guesses are
-    /// kept. Takes no memory.
+    /// What the traces show, behind which there are none, with the numbers that the scan has for their
+    /// classes, by which guesses are kept. Takes no memory.
     pub fn shown(&self) -> Shown<'_, 'a>
-        ensures { result ≡ self.now }
+        ensures { result ≡ shown_alone self.now }
     {
+        let listed = self.listed();
         Shown::new(
-            self.listed(),
+            &listed[..0],
+            listed,
             self.classes(),
+            0,
             self.words(),
             self.usage(),
             self.rows.numbers.as_slice(),

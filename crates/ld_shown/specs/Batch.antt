@@ -1,11 +1,13 @@
--- What a batch is, without where it lies in memory.
-use Rattle.std.specs.Prelude.{◌≡◌, ◌<◌, ℕ, Bool, List, [], map, length, slice_index_or, All, AllPairs}
-use Rattle.std.specs.Prelude.{Option, option_map}
+-- What a batch is, without where it lies in memory, and what came to it since a part of it was handed on.
+use Rattle.std.specs.Prelude.{◌≡◌, ◌<◌, ◌≤◌, ◌+◌, ◌*◌, ◌++◌, ℕ, Bool, List, [], map, length, slice_index_or, All, AllPairs}
+use Rattle.std.specs.Prelude.{Option, None, option_map, if◌then◌else◌}
 use Rattle.std.specs.List.{find}
+use Rattle.std.specs.Option.{is_some}
 use Rattle.ld_class.specs.declared.usage.Usage.{Usage}
 use Rattle.ld_class.specs.Names.{PlainClass, no_class}
 use Rattle.ld_trace.specs.Sources.{Fits, PlainSource, plain}
 use Rattle.ld_rules.specs.declared.outcome.Listed.{Listed}
+use Rattle.ld_rules.specs.declared.outcome.TheConstants.{MOST_CLASSES}
 use Rattle.ld_rules.specs.declared.outcome.Witness.{Witness}
 use Rattle.ld_rules.specs.Dependency.{Dependency, same_dependency}
 use Rattle.ld_rules.specs.Outcome.{outcome}
@@ -99,3 +101,53 @@ pub record IsBatch (batch : PlainBatch) : Type 0 where
   pub usage : (what : Use)
       → witness_of same_use (map (named_use batch.classes) batch.usage) what
       ≡ use_witness batch.sources what
+
+-- What some sources show that come after others: the classes of all of them, and the dependencies and usage bits
+-- that those behind don't show.
+pub record PlainShown : Type 0 where
+  pub behind : List PlainSource
+  pub sources : List PlainSource
+  pub classes : List PlainClass
+  pub edges : List WitnessedEdge
+  pub usage : List WitnessedUse
+
+-- where this was first seen by these sources, and nothing where one of those behind them shows it
+abbrev pub first_since : {A : Type 0} → (List PlainSource → A → Option Witness) → (behind sources : List PlainSource) → A → Option Witness
+first_since first behind sources what = if is_some (first behind what) then None else first sources what
+
+-- The sources fit, and their numbers rise, from those behind on. The classes are those of the union of all, each once,
+-- in the order in which they come: those of the sources behind stand in front. Each dependency and each usage bit that
+-- a source shows, and none behind does, stands there once, with its first witness, and no other.
+pub record IsShown (shown : PlainShown) : Type 0 where
+  pub fit : All Fits (shown.behind ++ shown.sources)
+  pub rise : AreRising (shown.behind ++ shown.sources)
+  pub classes : shown.classes ≡ union_classes (shown.behind ++ shown.sources)
+  pub within : All (IsBetween shown.classes) shown.edges
+  pub once : AllPairs (λ d e. (d.from ≡ e.from) × (d.to ≡ e.to) → ⊥) shown.edges
+  pub edges : (what : Dependency)
+      → witness_of same_dependency (map (named_dependency shown.classes) shown.edges) what
+      ≡ first_since dependency_witness shown.behind shown.sources what
+  pub used_within : All (IsUse shown.classes) shown.usage
+  pub used_once : AllPairs (λ u v. (u.class ≡ v.class) × (u.bit ≡ v.bit) → ⊥) shown.usage
+  pub usage : (what : Use)
+      → witness_of same_use (map (named_use shown.classes) shown.usage) what
+      ≡ first_since use_witness shown.behind shown.sources what
+
+-- A source has at most so many classes: no more are there, and no more came after those of the sources behind.
+pub record AreFewClasses (shown : PlainShown) : Type 0 where
+  pub all : length shown.classes ≤ length (shown.behind ++ shown.sources) * MOST_CLASSES
+  pub since : length shown.classes ≤ length (union_classes shown.behind) + length shown.sources * MOST_CLASSES
+
+-- what a batch shows, behind which there is none
+abbrev pub shown_alone : PlainBatch → PlainShown
+shown_alone batch = record {
+  behind = [];
+  sources = batch.sources;
+  classes = batch.classes;
+  edges = batch.edges;
+  usage = batch.usage;
+}
+
+-- what is shown of no traces
+abbrev pub nothing_shown : PlainShown
+nothing_shown = shown_alone empty_batch

@@ -2,3 +2,4 @@
 -- promises needs none of it.
 pub mod Names
 pub mod Rows
+pub mod Lent

@@ -1,6 +1,5 @@
 pub mod ClosingLemmas
 pub mod EachOnceLemmas
-pub mod EarlierLemmas
 pub mod WasSeenLemmas
 pub mod NewsLemmas
 pub mod NotedLemmas

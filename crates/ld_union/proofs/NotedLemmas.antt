@@ -19,7 +19,7 @@ use Rattle.ld_union.specs.declared.dependencies.Dependencies.{Dependencies}
 use Rattle.ld_union.specs.declared.dependencies.Witnessed.{Witnessed}
 use Rattle.ld_union.specs.Inner.Noted.{AreNoted, IsNoting, IsSeenBefore, placed_dependency, placed_edge, with_all}
 use Rattle.ld_union.specs.Inner.Union.{AreWitnessed, WasSeen, earlier_of, edges_of, named_edge, with_seen}
-use Rattle.ld_union.proofs.EarlierLemmas.{earlier-lower}
+use Rattle.ld_shown.proofs.EarlierLemmas.{earlier-lower}
 use Rattle.ld_union.proofs.WasSeenLemmas.{seen-later}
 use Rattle.ld_union.proofs.ReachedLemmas.{front-then, further-same, further-then}
 use Rattle.ld_union.proofs.SeenLemmas.{none_found}

@@ -1,5 +1,5 @@
 -- What a batch shows, as it is noted row after row.
-use Rattle.std.proofs.Common.{◌≡◌, ◌≢◌, ◌+◌, ◌<◌, ◌≤◌, ◌∷◌, [], AllPairs, List, ℕ, zero, suc, Bool, true, false, cond, Option, Some, None, length}
+use Rattle.std.proofs.Common.{◌≡◌, ◌≢◌, ◌+◌, ◌<◌, ◌≤◌, ◌++◌, ◌∷◌, [], AllPairs, List, ℕ, zero, suc, Bool, true, false, cond, Option, Some, None, length}
 use Rattle.std.proofs.Common.{flat_map, map, option_map, take, get_or, refl, sym, ap, subst, ◌∙◌, if◌then◌else◌, arith}
 use Rattle.std.proofs.lemmas.Bool.{false_from_ne_true}
 use Rattle.std.proofs.lemmas.List.{map-append, take_all, take_more}
@@ -13,7 +13,7 @@ use Rattle.ld_rules.specs.declared.outcome.Witness.{Witness}
 use Rattle.ld_rules.specs.Union.{classes_of, union_classes}
 use Rattle.ld_rules.specs.Usage.{Use, same_use, usage_of}
 use Rattle.ld_rules.proofs.UsageLemmas.{Decides-same_use}
-use Rattle.ld_shown.specs.Batch.{IsBatch, Met, PlainBatch, named_dependency, named_use, witness_of}
+use Rattle.ld_shown.specs.Batch.{IsShown, Met, PlainShown, named_dependency, named_use, witness_of}
 use Rattle.ld_union.specs.Inner.Union.{earlier_of}
 use Rattle.ld_union.proofs.EachOnceLemmas.{IsDistinct-each_once}
 use Rattle.ld_shown.proofs.SourceLemmas.{earlier_of-none}
@@ -36,10 +36,10 @@ joined before (Some m) last true new = let none : Some m ≡ None = new refl in 
 joined before (Some m) last false new = sym (earlier_of-none (earlier_of before (Some m.witness)))
 
 -- the classes of a batch are distinct
-batch_distinct : (batch : PlainBatch) → IsBatch batch → AreDistinct batch.classes
+batch_distinct : (batch : PlainShown) → IsShown batch → AreDistinct batch.classes
 batch_distinct batch is =
     subst AreDistinct (sym is.classes) (apart-from_IsDistinct same_class no_class same_class-Decides
-    (union_classes batch.sources) (IsDistinct-each_once same_class same_class-Decides (flat_map classes_of batch.sources)))
+    (union_classes (batch.behind ++ batch.sources)) (IsDistinct-each_once same_class same_class-Decides (flat_map classes_of (batch.behind ++ batch.sources))))
 
 -- Rows, no two of which are of the same thing.
 module _ {R A : Type 0} (same : A → A → Bool) (equal : (a b : A) → same a b ≡ true → a ≡ b) (name : R → Met A) (rows : List R) where
@@ -80,7 +80,7 @@ module _ {R A : Type 0} (same : A → A → Bool) (equal : (a b : A) → same a 
 pub same_use-true : (a b : Use) → same_use a b ≡ true → a ≡ b
 same_use-true a b same = (Decides-same_use a b).0 same
 
-module _ (batch : PlainBatch) (is : IsBatch batch) where
+module _ (batch : PlainShown) (is : IsShown batch) where
   -- no two dependencies of a batch are the same
   pub dependencies_once : AllPairs (λ e f. (named_dependency batch.classes e).what ≢ (named_dependency batch.classes f).what) batch.edges
   dependencies_once i j d before within same =

@@ -15,7 +15,7 @@ ghost use Rattle.ld_graph.specs.Edges.{empty_graph, with_spares};
 ghost use Rattle.ld_rules.specs.Dependency.{Dependency};
 ghost use Rattle.ld_rules.specs.Usage.{IsBit};
 ghost use Rattle.ld_rules.specs.Union.{dependency_witness};
-ghost use Rattle.ld_shown.specs.Batch.{IsBatch};
+ghost use Rattle.ld_shown.specs.Batch.{IsShown, first_since};
 ghost use Rattle.ld_shown.specs.Inner.Names.{ArePlaces};
 ghost use Rattle.ld_graph.specs.Edges.{PlainGraph};
 ghost use Rattle.ld_graph.specs.Order.{IsInserted};
@@ -122,7 +122,7 @@ impl Dependencies {
     }
 
     /// Notes the dependencies of a batch whose classes have these numbers, each where it was seen
-    /// first.
+    /// first: those that no source behind it shows.
     pub(crate) fn add(
         &mut self,
         batch: &Shown<'_, '_>,
@@ -137,7 +137,7 @@ impl Dependencies {
         requires spare_edges { length batch.now.edges ≤ self.old.graph.spare_edges }
         requires spare_rows { vec_len self.old.rows + length batch.now.edges
             ≤ vec_capacity self.old.rows }
-        ensures batch { IsBatch batch.now }
+        ensures batch { IsShown batch.now }
         ensures known { AreKnownWords self.new.rows.items known.new.classes.items
             known.new.words.items }
         ensures classes { self.new.graph.classes ≡ self.old.graph.classes }
@@ -156,7 +156,8 @@ impl Dependencies {
             → (first : Dependency → Option Witness)
             → AreWitnessed classes self.old.rows.items first
             → AreWitnessed classes self.new.rows.items
-            (with_first first (dependency_witness batch.now.sources)) }
+            (with_first first
+            (first_since dependency_witness batch.now.behind batch.now.sources)) }
     {
         let words = batch.words();
         known.find(batch.class_numbers(), &words, places, guesses);

@@ -80,7 +80,8 @@ impl<'a> Union<'a> {
         }
     }
 
-    /// Adds what the traces of a batch show, and writes over `news` what of it is new. Classes and
+    /// Adds what the traces of a batch show, where those behind it were added already, and writes over
+    /// `news` what of it is new. Classes and
     /// dependencies are looked for where the guesses say first; the guesses then have their places, as far as
     /// there is memory for them.
     ///
@@ -95,7 +96,7 @@ impl<'a> Union<'a> {
         news: &mut News,
     ) -> Result<(), AllocError>
         requires { length self.old.classes + length batch.now.classes ≤ MOST_NAMES }
-        ensures added { OnOk result (Adds batch.now.sources self.old self.new) }
+        ensures added { OnOk result (Adds batch.now.behind batch.now.sources self.old self.new) }
         ensures told { OnOk result (Tells self.old self.new news.new) }
         ensures refused { OnErr result (self.new ≡ self.old) }
     {

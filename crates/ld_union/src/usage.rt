@@ -7,6 +7,7 @@ ghost use Rattle.ld_class.specs.Names.{AreDistinct, PlainClass, no_class};
 ghost use Rattle.ld_class.specs.Usage.{either, has_bit};
 ghost use Rattle.ld_rules.specs.Union.{earlier, use_witness};
 ghost use Rattle.ld_rules.specs.Usage.{Bit, IsBit, Use, bit_of, same_bit};
+ghost use Rattle.ld_shown.specs.Batch.{first_since};
 ghost use Rattle.ld_shown.specs.Inner.Names.{ArePlaces};
 ghost use Rattle.ld_union.specs.Inner.News.{TellsBits};
 ghost use Rattle.ld_union.specs.Inner.Union.{AreUsed, with_bit, with_first, with_first_use};
@@ -87,7 +88,7 @@ fn place_of(bit: Usage) -> usize
 }
 
 /// Notes the usage of a batch whose classes have these numbers, each bit of a class where it was seen
-/// first, and tells the bits that are new.
+/// first, those that no source behind it shows, and tells the bits that are new.
 pub(crate) fn add_usage(
     rows: &mut [UsageRow],
     batch: &Shown<'_, '_>,
@@ -102,7 +103,8 @@ pub(crate) fn add_usage(
     ensures used { (classes : List PlainClass) → AreDistinct classes
         → ArePlaces classes batch.now.classes places.now
         → (first : Use → Option Witness) → AreUsed classes rows.old first
-        → AreUsed classes rows.new (with_first first (use_witness batch.now.sources)) }
+        → AreUsed classes rows.new (with_first first
+        (first_since use_witness batch.now.behind batch.now.sources)) }
     ensures told { TellsBits (bits_of rows.old) (bits_of rows.new) bits.new.items }
 {
     for seen in batch.usage() {

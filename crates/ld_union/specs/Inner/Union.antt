@@ -1,10 +1,9 @@
 -- What is kept of some traces, with numbers for their classes. No contract of a `Book` cites this file.
-use Rattle.std.specs.Prelude.{◌≡◌, ◌≢◌, ℕ, ◌<◌, ◌≤◌, ◌++◌, Bool, List, length, map, slice_index_or, All, AllPairs}
+use Rattle.std.specs.Prelude.{◌≡◌, ◌≢◌, ℕ, ◌+◌, ◌<◌, ◌≤◌, ◌++◌, Bool, List, length, map, slice_index_or, All, AllPairs, Contains}
 use Rattle.std.specs.Prelude.{Any, Option, Some, None, IsSome, MatchOption, if◌then◌else◌}
 use Rattle.std.specs.Option.{is_some}
 use Rattle.ld_class.specs.declared.names.TheConstants.{MOST_NAMES}
 use Rattle.ld_class.specs.Names.{AreDistinct, PlainClass, no_class, place_of}
-use Rattle.ld_shown.specs.Inner.Names.{IsLonger}
 pub use Rattle.ld_shown.specs.Inner.Rows.{earlier_of, seen_in}
 use Rattle.ld_trace.specs.declared.event.State.{State}
 use Rattle.ld_trace.specs.Sources.{PlainSource}
@@ -127,8 +126,9 @@ pub record Shows (sources : List PlainSource) (union : PlainUnion) : Type 0 wher
   pub witnesses : AreWitnessed union.classes union.dependencies (dependency_witness sources)
   pub used : AreUsed union.classes union.usage (use_witness sources)
 
--- Of whatever sources the union showed what they show, it now shows what those and these show. Classes keep
--- their numbers, and no more came than these show.
-pub record Adds (more : List PlainSource) (old new : PlainUnion) : Type 0 where
-  pub shows : (sources : List PlainSource) → Shows sources old → Shows (sources ++ more) new
-  pub longer : IsLonger old.classes new.classes (length (union_classes more))
+-- Of whatever sources the union showed what they show, all of those behind among them, it now shows what they and these
+-- show. No more classes came than come where these follow those behind.
+pub record Adds (behind more : List PlainSource) (old new : PlainUnion) : Type 0 where
+  pub shows : (sources : List PlainSource) → Shows sources old → All (Contains sources) behind → Shows (sources ++ more) new
+  pub few : (sources : List PlainSource) → Shows sources old → All (Contains sources) behind
+      → length new.classes + length (union_classes behind) ≤ length old.classes + length (union_classes (behind ++ more))

@@ -1,17 +1,24 @@
-use Rattle.std.proofs.Common.{◌∙◌, ap, sym}
-use Rattle.std.proofs.lemmas.Bool.{true≢false}
-use Rattle.ld_shown.specs.Batch.{PlainBatch}
+use Rattle.std.proofs.Common.{◌≡◌, ◌++◌, ◌∙◌, Contains, Err, OnErr, OnOk, ap, false, subst, true}
+use Rattle.std.proofs.lemmas.List.Elements.{All-nil}
+use Rattle.ld_shown.specs.Batch.{PlainShown, shown_alone}
 use Rattle.ld_book.specs.Book.{is_any_listed}
+use Rattle.ld_book.specs.declared.book.AddRefusal.TheVariants.{Memory, Twice}
 use Rattle.ld_book.proofs.book.Book.add_from.Goals as goal
 
-pub returns-then-has_any-clause-memory : goal.returns-then-has_any-clause-memory
-returns-then-has_any-clause-memory c absent = absurd (true≢false (c.if-has_any.ensures ∙ (λ i. is_any_listed (c.self.view_is i) (c.listed.ensures.sources i)) ∙ absent))
+pub add_shown-added-requires : goal.add_shown-added-requires
+add_shown-added-requires c = rw c.shown.ensures (All-nil (Contains c.args.self.now))
 
-pub enter-entered-requires : goal.enter-entered-requires
-enter-entered-requires c =
-    ap (λ (batch : PlainBatch). is_any_listed c.args.self.now batch.sources) c.swap_guesses-guesses.ensures
-    ∙ sym (c.if-has_any.ensures ∙ (λ i. is_any_listed (c.self.view_is i) (c.listed.ensures.sources i)))
+pub returns-clause-ok : goal.returns-clause-ok
+returns-clause-ok c =
+    subst (λ (shown : PlainShown). OnOk c.add_shown-added.result (c.add_shown-added.new.self ≡ c.args.self.now ++ shown.sources))
+    (c.shown.ensures ∙ ap shown_alone c.swap_guesses-guesses.ensures) c.add_shown-added.ensures.ok
 
 pub returns-clause-twice : goal.returns-clause-twice
-returns-clause-twice c there =
-    absurd (true≢false (sym there ∙ sym (λ i. is_any_listed (c.self.view_is i) (c.listed.ensures.sources i)) ∙ sym c.if-has_any.ensures))
+returns-clause-twice c =
+    subst (λ (shown : PlainShown). is_any_listed c.args.self.now shown.sources ≡ true → c.add_shown-added.result ≡ Err Twice)
+    (c.shown.ensures ∙ ap shown_alone c.swap_guesses-guesses.ensures) c.add_shown-added.ensures.twice
+
+pub returns-clause-memory : goal.returns-clause-memory
+returns-clause-memory c =
+    subst (λ (shown : PlainShown). is_any_listed c.args.self.now shown.sources ≡ false → OnErr c.add_shown-added.result (c.add_shown-added.result ≡ Err Memory))
+    (c.shown.ensures ∙ ap shown_alone c.swap_guesses-guesses.ensures) c.add_shown-added.ensures.memory

@@ -1,10 +1,9 @@
-use Rattle.std.proofs.Common.{◌≢◌, ◌*◌, ◌≤◌, ◌++◌, ◌∙◌, All, AllPairs, arith, length, subst, sym}
+use Rattle.std.proofs.Common.{◌≢◌, ◌*◌, ◌≤◌, ◌++◌, ◌∙◌, All, AllPairs, Contains, arith, length, subst, sym}
 use Rattle.ld_trace.specs.declared.source.TheConstants.{MOST_TRACES}
 use Rattle.ld_trace.specs.Sources.{Fits}
 use Rattle.ld_rules.specs.declared.outcome.TheConstants.{MOST_CLASSES}
-use Rattle.ld_shown.specs.Batch.{PlainBatch}
 use Rattle.ld_facts.proofs.BatchLemmas.{few_sources}
-use Rattle.ld_union.specs.Inner.Union.{Adds}
+use Rattle.ld_shown.proofs.SinceLemmas.{fit-since, rise-since}
 use Rattle.ld_book.specs.Book.{is_any_listed}
 use Rattle.ld_book.specs.Inner.Kept.{IsKept}
 use Rattle.ld_book.proofs.BookLemmas.{apart_from_rise, kept-added}
@@ -13,26 +12,29 @@ use Rattle.ld_book.proofs.book.Book.enter.Goals as goal
 pub add-requires : goal.add-requires
 add-requires c =
     let batch = c.args.batch.now in
-    let told = c.listed-traces.ensures in
+    let told = c.traces-traces.ensures in
     let traces : length c.self.inside.listing.sources ≤ MOST_TRACES = c.room.ensures.few in
     let classes : length c.self.inside.union.classes ≤ length c.self.inside.listing.sources * MOST_CLASSES = c.self.invariant.few in
-    let more : length c.shown.result.classes ≤ length batch.sources * MOST_CLASSES =
-    subst (λ (shown : PlainBatch). length shown.classes ≤ length batch.sources * MOST_CLASSES) (sym c.shown.ensures) told.few in
-    let sources : length batch.sources ≤ MOST_TRACES = few_sources batch.sources told.exact.fit told.exact.rise in
+    let more : length batch.classes ≤ length (batch.behind ++ batch.sources) * MOST_CLASSES = told.few.all in
+    let sources : length (batch.behind ++ batch.sources) ≤ MOST_TRACES = few_sources (batch.behind ++ batch.sources) told.exact.fit told.exact.rise in
     omega arith
 
 pub note-requires : goal.note-requires
 note-requires c = (c.self.inside.union, c.in_ok-add.ensures.told)
 
 pub add_all-requires-clause-fresh : goal.add_all-requires-clause-fresh
-add_all-requires-clause-fresh c = (λ i. is_any_listed ((c.room.ensures.sources ∙ c.self.view_is) i) (c.listed-traces.ensures.sources i)) ∙ c.requires
+add_all-requires-clause-fresh c = (λ i. is_any_listed ((c.room.ensures.sources ∙ c.self.view_is) i) (c.traces-traces.ensures.sources i)) ∙ c.requires.fresh
 
 pub add_all-requires-clause-apart : goal.add_all-requires-clause-apart
 add_all-requires-clause-apart c =
-    subst (AllPairs (λ a b. a.number ≢ b.number)) (sym c.listed-traces.ensures.sources) (apart_from_rise c.args.batch.now.sources c.listed-traces.ensures.exact.rise)
+    let batch = c.args.batch.now in
+    subst (AllPairs (λ a b. a.number ≢ b.number)) (sym c.traces-traces.ensures.sources)
+    (apart_from_rise batch.sources (rise-since batch.behind batch.sources c.traces-traces.ensures.exact.rise))
 
 pub add_all-requires-clause-fit : goal.add_all-requires-clause-fit
-add_all-requires-clause-fit c = subst (All Fits) (sym c.listed-traces.ensures.sources) c.listed-traces.ensures.exact.fit
+add_all-requires-clause-fit c =
+    let batch = c.args.batch.now in
+    subst (All Fits) (sym c.traces-traces.ensures.sources) (fit-since batch.behind batch.sources c.traces-traces.ensures.exact.fit)
 
 pub invariant_of-self : goal.invariant_of-self
 invariant_of-self c =
@@ -47,12 +49,11 @@ invariant_of-self-in_err-add c =
 
 pub invariant_of-self-2 : goal.invariant_of-self-2
 invariant_of-self-2 c =
-    let told = c.listed-traces.ensures in
-    let added : Adds c.args.batch.now.sources c.self.inside.union c.add.new.self =
-    subst (λ (shown : PlainBatch). Adds shown.sources c.self.inside.union c.add.new.self) c.shown.ensures c.in_ok-add.ensures.added in
-    kept-added _ _ c.args.batch.now c.self.invariant told.exact told.few added
+    let told = c.traces-traces.ensures in
+    let batch = c.args.batch.now in
+    kept-added _ _ batch c.self.invariant told.exact told.few (subst (λ sources. All (Contains sources) batch.behind) (sym c.self.view_is) c.requires.behind) c.in_ok-add.ensures.added
     (c.add_all.ensures ∙ (λ i. c.room.ensures.sources i ++ told.sources i))
     (c.note.ensures c.self.inside.union c.in_ok-add.ensures.told c.self.invariant.exact)
 
 pub returns-clause-ok : goal.returns-clause-ok
-returns-clause-ok c = c.add_all.ensures ∙ (λ i. (c.room.ensures.sources ∙ c.self.view_is) i ++ c.listed-traces.ensures.sources i)
+returns-clause-ok c = c.add_all.ensures ∙ (λ i. (c.room.ensures.sources ∙ c.self.view_is) i ++ c.traces-traces.ensures.sources i)

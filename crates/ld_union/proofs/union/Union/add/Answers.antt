@@ -10,6 +10,7 @@ use Rattle.ld_rules.specs.Union.{use_witness}
 use Rattle.ld_union.specs.declared.dependencies.Witnessed.{Witnessed}
 use Rattle.ld_union.specs.declared.news.NewBit.{NewBit}
 use Rattle.ld_union.specs.declared.usage.UsageRow.{UsageRow}
+use Rattle.ld_shown.specs.Batch.{first_since}
 use Rattle.ld_shown.specs.Inner.Names.{ArePlaces, IsLonger, with_names}
 use Rattle.ld_union.specs.Inner.News.{Tells, TellsBits}
 use Rattle.ld_union.specs.Inner.Reached.{AreFurther, ExpandsOnce, IsReachOf, IsSeeded, expanded_by, marks_by, reached_by}
@@ -18,7 +19,7 @@ use Rattle.ld_union.specs.Inner.Union.{Adds, AreBetween, AreUsed, AreWitnessed, 
 use Rattle.ld_union.specs.Usage.{bits_of, row_of}
 use Rattle.ld_union.proofs.NewsLemmas.{tells-longer, tells-then, told_within}
 use Rattle.ld_union.proofs.ReachedLemmas.{expanded_at, further-spares, further-then, marks_at, reach-seeded, reached_at, source_some, union-kept}
-use Rattle.ld_union.proofs.SourceLemmas.{adds-batch}
+use Rattle.ld_union.proofs.SourceLemmas.{adds-shown}
 use Rattle.ld_union.proofs.UnionLemmas.{numbered-longer, witnessed-longer}
 use Rattle.ld_union.proofs.UsageLemmas.{used-longer}
 use Rattle.ld_union.proofs.union.Union.add.Goals as goal
@@ -134,15 +135,15 @@ pub returns-clause-added : goal.returns-clause-added
 returns-clause-added c =
     let these = classes c in
     let named = c.args.batch.now.classes in
-    subst (λ union. Adds c.args.batch.now.sources union (after c)) c.self.view_is
-    (subst (λ all. Adds c.args.batch.now.sources (before c) (with_rows c all)) (same_rows c)
-    (adds-batch (before c) (with_rows c c.add.new.self.rows.items) c.args.batch.now c.add.ensures.batch (c.add.ensures.numbered these (entered c) (numbered c)) (names c) (longer c)
+    subst (λ union. Adds c.args.batch.now.behind c.args.batch.now.sources union (after c)) c.self.view_is
+    (subst (λ all. Adds c.args.batch.now.behind c.args.batch.now.sources (before c) (with_rows c all)) (same_rows c)
+    (adds-shown (before c) (with_rows c c.add.new.self.rows.items) c.args.batch.now c.add.ensures.batch (c.add.ensures.numbered these (entered c) (numbered c)) (names c)
     (λ first witnessed.
     c.add.ensures.witnesses these (entered c) (numbered c) (subst (ArePlaces these named) (sym c.deref.ensures.value) (places c)) first
     (subst (λ all. AreWitnessed these all first) (sym (rows c))
     (witnessed-longer c.self.inside.classes these (old_rows c) (count c) c.self.invariant.0.numbered (longer c) first witnessed)))
     (λ first used.
-    subst (λ all. AreUsed these all (with_first first (use_witness c.args.batch.now.sources))) (sym (written c))
+    subst (λ all. AreUsed these all (with_first first (first_since use_witness c.args.batch.now.behind c.args.batch.now.sources))) (sym (written c))
     (c.add_usage.ensures.used these c.len.ensures.distinct (subst (ArePlaces these named) (sym c.deref-2.ensures.value) (places c)) first
     (subst (λ all. AreUsed these all first) (sym (usage c)) (used-longer c.self.inside.classes (old_usage c) first used these (count c) c.len.ensures.distinct (longer c)))))))
 

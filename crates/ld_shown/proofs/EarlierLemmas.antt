@@ -4,7 +4,7 @@ use Rattle.std.proofs.Math.Bool.{or_assoc}
 use Rattle.std.proofs.lemmas.Bool.Decides.{nat_tests}
 use Rattle.ld_rules.specs.declared.outcome.Witness.{Witness}
 use Rattle.ld_rules.specs.Union.{earlier, is_before}
-use Rattle.ld_union.specs.Inner.Union.{earlier_of}
+use Rattle.ld_shown.specs.Inner.Rows.{earlier_of}
 
 -- there is a witness, and it isn't later than this bound
 abbrev pub is_by : Witness → Option Witness → Bool
