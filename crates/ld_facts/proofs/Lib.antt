@@ -17,3 +17,5 @@ pub mod ShownLemmas
 pub mod RowLemmas
 pub mod ListedLemmas
 pub mod WordRowLemmas
+pub mod SinceLemmas
+pub mod SeriesLemmas

@@ -1,5 +1,5 @@
 -- The rows of a batch by words.
-use Rattle.std.proofs.Common.{◌≡◌, ◌+◌, ◌++◌, ◌∷◌, [], ◌||◌, All, Bool, true, false, List, ℕ, ap, arith, cond, drop, flat_map, get_or, length, map, nat_eq, not, refl, subst, sym, take, ◌∙◌}
+use Rattle.std.proofs.Common.{◌≡◌, ◌+◌, ◌++◌, ◌∷◌, [], ◌||◌, All, Bool, true, false, List, ℕ, ap, arith, cond, drop, get_or, length, map, nat_eq, not, refl, subst, sym, take, ◌∙◌}
 use Rattle.std.proofs.lemmas.Bool.{true≢false}
 use Rattle.std.proofs.lemmas.List.{get_or_append_left, map-append, take-append-drop}
 use Rattle.std.proofs.lemmas.List.Concat.{flat_map-append}
@@ -9,10 +9,8 @@ use Rattle.std.proofs.Math.Seq.{drop-append_seam}
 use Rattle.std.proofs.lemmas.Simd.{map-map}
 use Rattle.std.specs.List.{list_any}
 use Rattle.ld_class.specs.Blocks.{IsBlock, classes_in}
-use Rattle.ld_shown.specs.declared.rows.WitnessedEdge.{WitnessedEdge}
 use Rattle.ld_shown.specs.declared.rows.WitnessedWord.{WitnessedWord}
 use Rattle.ld_shown.specs.Inner.Rows as lent
-use Rattle.ld_tables.specs.declared.edges.EdgeFact.{EdgeFact}
 use Rattle.ld_tables.specs.declared.words.Telling.{Telling}
 use Rattle.ld_tables.specs.Inner.Edges as told
 use Rattle.ld_facts.specs.Inner.Rows.{IsOwnEdge, IsOwnWord, edge_of, edges_at, edges_in, place_in, word_of}
@@ -20,10 +18,10 @@ use Rattle.ld_facts.proofs.RowLemmas.{first_there}
 use Rattle.ld_facts.proofs.TraceLemmas.{same_maps}
 
 -- what is of all is of the first of them, and of those behind
-All-first : {X : Type 0} (P : X → Type 0) (xs ys : List X) → All P (xs ++ ys) → All P xs
+pub All-first : {X : Type 0} (P : X → Type 0) (xs ys : List X) → All P (xs ++ ys) → All P xs
 All-first P xs ys all k d within = subst P (get_or_append_left xs ys d k within) (all k d (omega (arith, within, length-append xs ys)))
 
-All-behind : {X : Type 0} (P : X → Type 0) (xs ys : List X) → All P (xs ++ ys) → All P ys
+pub All-behind : {X : Type 0} (P : X → Type 0) (xs ys : List X) → All P (xs ++ ys) → All P ys
 All-behind P xs ys all = subst (All P) (drop-append_seam xs ys) (All-drop P (length xs) (xs ++ ys) all)
 
 all-unmapped : {X Y : Type 0} (P : Y → Type 0) (f : X → Y) (xs : List X) → All P (map f xs) → All (λ x. P (f x)) xs

@@ -4,3 +4,4 @@ pub mod Scan
 pub mod Reading
 pub mod Kept
 pub mod Rows
+pub mod Series

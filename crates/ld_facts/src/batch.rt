@@ -1,25 +1,20 @@
 //! `Batch`, which keeps what a few traces show together.
 ghost use Rattle.std.specs.Prelude.{◌≡◌, ◌<◌, ◌≤◌, ◌-◌, ◌*◌, ◌++◌, ◌∷◌, [], None, Some, IfOk, IfSome, OnErr};
-ghost use Rattle.std.specs.Prelude.{All, OnOk, length, slice_index_or};
-ghost use Rattle.ld_class.specs.Blocks.{IsBlock};
+ghost use Rattle.std.specs.Prelude.{OnOk, length, slice_index_or};
 ghost use Rattle.ld_rules.specs.declared.outcome.Listed.{Listed};
 ghost use Rattle.std.specs.List.{last_or};
 ghost use Rattle.ld_trace.specs.Sources.{Fits, plain};
 ghost use Rattle.ld_rules.specs.declared.outcome.TheConstants.{MOST_CLASSES};
 ghost use Rattle.ld_shown.specs.Batch.{AreOutcomes, IsBatch, empty_batch, shown_alone, sources_of};
-ghost use Rattle.ld_shown.specs.Inner.Rows.{edges_of};
 
-use crate::batch_reading::read;
-use crate::batch_rows::BatchRows;
 use crate::known::Facts;
-use crate::scan::Scan;
+use crate::series::Series;
 use ld_class::ClassList;
 use ld_rules::Listed;
-use ld_shown::{Edges, Guesses, Shown, WitnessedUse, Words};
+use ld_shown::{Edges, Guesses, Shown, WitnessedUse};
 use ld_trace::Source;
 use std::alloc::{AllocError, Global};
 use std::marker::Model;
-use std::mem;
 
 /// What a few traces show together: their union, with the first witnesses. It is exact by itself, and
 /// says nothing of what other batches have.
@@ -27,40 +22,24 @@ use std::mem;
 /// A refused trace is listed, and shows nothing.
 #[derive(Drop)]
 pub struct Batch<'a> {
-    listed: Vec<Listed<'a>>,
-    /// It scans each trace on top of what the ones before it show, and is ready for the next one. It may
-    /// know more names, chains and words than those of the batch, which were met before the batch was
-    /// emptied.
-    scan: Scan<'a>,
-    rows: BatchRows<'a>,
-    guesses: Guesses,
+    /// No trace of it was handed on.
+    series: Series<'a>,
 }
 
 impl<'a> Model for Batch<'a> {
     ghost use Rattle.ld_shown.specs.Batch.{PlainBatch};
-    ghost use Rattle.std.specs.Prelude.{All};
-    ghost use Rattle.ld_facts.specs.Inner.Kept.{IsKept, batch_of};
-    ghost use Rattle.ld_facts.specs.Inner.Rows.{IsOwnWord, edges_at};
+    ghost use Rattle.std.specs.Prelude.{◌≡◌, []};
 
     ghost Value = { PlainBatch };
 
-    ghost view = { λ b. batch_of (record {
-      listed = b.listed.items;
-      scan = b.scan;
-      classes = b.rows.classes;
-      numbers = b.rows.numbers;
-      edges = edges_at b.rows.numbers b.rows.words.items;
-      usage = b.rows.usage.items;
-    }) };
+    ghost view = { λ b. record {
+      sources = b.series.sources;
+      classes = b.series.classes;
+      edges = b.series.edges;
+      usage = b.series.usage;
+    } };
 
-    ghost invariant = { λ b. IsKept (record {
-      listed = b.listed.items;
-      scan = b.scan;
-      classes = b.rows.classes;
-      numbers = b.rows.numbers;
-      edges = edges_at b.rows.numbers b.rows.words.items;
-      usage = b.rows.usage.items;
-    }) × All (IsOwnWord b.rows.numbers) b.rows.words.items };
+    ghost invariant = { λ b. b.series.behind ≡ [] };
 }
 
 impl<'a> Batch<'a> {
@@ -69,10 +48,7 @@ impl<'a> Batch<'a> {
         ensures { result ≡ empty_batch }
     {
         Batch {
-            listed: Vec::new(alloc),
-            scan: Scan::new(alloc),
-            rows: BatchRows::new(alloc),
-            guesses: Guesses::new(alloc),
+            series: Series::new(alloc),
         }
     }
 
@@ -81,9 +57,7 @@ impl<'a> Batch<'a> {
     pub fn clear(&mut self)
         ensures { self.new ≡ empty_batch }
     {
-        self.listed.clear();
-        self.scan.clear();
-        self.rows.clear();
+        self.series.clear();
     }
 
     /// A batch of the one trace that these facts are of.
@@ -117,11 +91,7 @@ impl<'a> Batch<'a> {
         ensures ok { OnOk result (self.new.sources ≡ self.old.sources ++ plain source.entry ∷ []) }
         ensures refused { OnErr result (self.new ≡ self.old) }
     {
-        self.listed.reserve(1)?;
-        let outcome = read(&mut self.scan, &mut self.rows, source)?;
-        // From here on nothing is refused.
-        self.listed.push_reserved(Listed { source, outcome });
-        Ok(())
+        self.series.push(source)
     }
 
     /// The traces with their outcomes, in order of their numbers. Takes no memory.
@@ -133,14 +103,14 @@ impl<'a> Batch<'a> {
         ensures exact { IsBatch self.now }
         ensures few { length self.now.classes ≤ length self.now.sources * MOST_CLASSES }
     {
-        &self.listed
+        self.series.listed()
     }
 
     /// The classes of the traces that are read, in order of first acquisition. Takes no memory.
     pub fn classes(&self) -> &ClassList<'a>
         ensures { result.now ≡ self.now.classes }
     {
-        &self.rows.classes
+        self.series.classes()
     }
 
     /// The dependencies, each once with its first witness, in no promised order. Takes no memory.
@@ -148,19 +118,7 @@ impl<'a> Batch<'a> {
         ensures same { result ≡ self.now.edges }
         ensures exact { IsBatch self.now }
     {
-        Edges::new(self.words())
-    }
-
-    /// The same by words.
-    fn words(&self) -> Words<'_>
-        ensures same { edges_of result.places.now result.words.now ≡ self.now.edges }
-        ensures low { All (λ w. IsBlock w.block) result.words.now }
-        ensures exact { IsBatch self.now }
-    {
-        Words {
-            words: &self.rows.words,
-            places: self.rows.numbers.places(),
-        }
+        Edges::new(self.series.words())
     }
 
     /// The usage bits, each of each class once with its first witness, in no promised order. Takes no
@@ -169,30 +127,21 @@ impl<'a> Batch<'a> {
         ensures same { result.now ≡ self.now.usage }
         ensures exact { IsBatch self.now }
     {
-        &self.rows.usage
+        self.series.usage()
     }
 
-    /// What the traces show, behind which there are none, with the numbers that the scan has for their
-    /// classes, by which guesses are kept. Takes no memory.
+    /// What the traces show, with the numbers that the scan has for their classes, by which guesses are
+    /// kept. Takes no memory.
     pub fn shown(&self) -> Shown<'_, 'a>
         ensures { result ≡ shown_alone self.now }
     {
-        let listed = self.listed();
-        Shown::new(
-            &listed[..0],
-            listed,
-            self.classes(),
-            0,
-            self.words(),
-            self.usage(),
-            self.rows.numbers.as_slice(),
-        )
+        self.series.shown()
     }
 
     /// Puts these guesses in the place of those that were kept, and answers those. Takes no memory.
     pub fn swap_guesses(&mut self, guesses: Guesses) -> Guesses
         ensures { self.new ≡ self.old }
     {
-        mem::replace(&mut self.guesses, guesses)
+        self.series.swap_guesses(guesses)
     }
 }

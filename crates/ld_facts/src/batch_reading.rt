@@ -1,5 +1,5 @@
 //! Reads a trace into what a batch keeps.
-ghost use Rattle.std.specs.Prelude.{◌≡◌, ◌++◌, ◌+◌, ◌*◌, ◌≤◌, [], IfOk, OnErr, OnOk, All, drop, length, map};
+ghost use Rattle.std.specs.Prelude.{◌≡◌, ◌++◌, ◌+◌, ◌*◌, ◌≤◌, [], IfOk, OnErr, OnOk, All, drop, length, map, take};
 ghost use Rattle.ld_trace.specs.Sources.{Fits, plain};
 ghost use Rattle.ld_class.specs.declared.names.TheConstants.{MOST_NAMES};
 ghost use Rattle.ld_rules.specs.declared.outcome.TheConstants.{MOST_CLASSES};
@@ -47,6 +47,8 @@ pub(crate) fn read<'a>(
         ++ map (edge_of rows.new.numbers source.entry.number)
         (drop (length (edges_at rows.old.numbers rows.old.words.items)) scan.new.locks.edges)) }
     ensures own_words { OnOk result (All (IsOwnWord rows.new.numbers) rows.new.words.items) }
+    ensures words { OnOk result (take (length rows.old.words.items) rows.new.words.items ≡ rows.old.words.items) }
+    ensures front { OnOk result (take (length rows.old.numbers) rows.new.numbers ≡ rows.old.numbers) }
     ensures usage { OnOk result (rows.new.usage.items ≡ rows.old.usage.items
         ++ map (use_of rows.new.numbers source.entry.number)
         (drop (length rows.old.usage.items) scan.new.uses)) }

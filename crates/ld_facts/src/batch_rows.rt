@@ -1,6 +1,6 @@
 //! What a batch keeps of what its traces show: usage bits by the places of its classes, words by the numbers that its
 //! scan has for these.
-ghost use Rattle.std.specs.Prelude.{◌≡◌, ◌+◌, ◌<◌, ◌≤◌, ◌++◌, [], All, List, OnErr, OnOk, drop, length, map};
+ghost use Rattle.std.specs.Prelude.{◌≡◌, ◌+◌, ◌<◌, ◌≤◌, ◌++◌, [], All, List, OnErr, OnOk, drop, length, map, take};
 ghost use Rattle.ld_class.specs.Names.{AreDistinct, PlainClass};
 ghost use Rattle.ld_class.specs.declared.names.TheConstants.{MOST_NAMES};
 ghost use Rattle.ld_facts.specs.Inner.Kept.{AreNames};
@@ -83,6 +83,8 @@ impl<'a> BatchRows<'a> {
             ++ map (edge_of self.new.numbers number)
             (drop (length (edges_at self.old.numbers self.old.words.items)) scan.now.locks.edges)) }
         ensures own_words { OnOk result (All (IsOwnWord self.new.numbers) self.new.words.items) }
+        ensures words { OnOk result (take (length self.old.words.items) self.new.words.items ≡ self.old.words.items) }
+        ensures front { OnOk result (take (length self.old.numbers) self.new.numbers ≡ self.old.numbers) }
         ensures usage { OnOk result (self.new.usage.items ≡ self.old.usage.items
             ++ map (use_of self.new.numbers number)
             (drop (length self.old.usage.items) scan.now.uses)) }

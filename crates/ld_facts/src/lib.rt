@@ -11,6 +11,7 @@ mod known;
 mod names;
 mod reading;
 mod scan;
+mod series;
 mod stop;
 mod taking;
 mod tasks;
@@ -23,3 +24,4 @@ pub use ld_rules::{Listed, MOST_CLASSES, MOST_HELD, MOST_TASKS, Outcome, TraceFa
 pub use ld_shown::{Edges, Guesses, WitnessedEdge, WitnessedUse};
 pub use ld_tables::{EdgeFact, UsageFact};
 pub use reading::facts;
+pub use series::Series;

@@ -140,6 +140,11 @@ impl<'a> Locks<'a> {
         make_room_if_untold(&mut self.chains, &self.told, &mut self.edges);
     }
 
+    /// Whether there is room for further chains and words. No clause says so: it is a hint.
+    pub fn has_room(&self) -> bool {
+        self.chains.has_room() && self.edges.has_room()
+    }
+
     /// Takes all away. The memory stays; and so do the chains that were met and the numbers of
     /// words, while there is room for further ones of both ([`Chains::has_room`], [`Edges::has_room`]).
     /// Answers how many of them there still are.
