@@ -18,7 +18,7 @@ ghost use Rattle.ld_union.specs.Usage.{usage_row};
 use crate::listing::Listing;
 use crate::totals::Totals;
 use ld_class::{ClassName, Classes};
-use ld_facts::{Batch, Facts, Guesses, Listed, Witness};
+use ld_facts::{Batch, Facts, Guesses, Listed, Series, Witness};
 use ld_graph::Graph;
 use ld_shown::Shown;
 use ld_union::{Alarms, Findings, Found, News, Union, UsageRow, Witnessed, findings_of};
@@ -171,6 +171,28 @@ impl<'a> Book<'a> {
             Ok(()) => Ok(()),
             Err(AllocError) => Err(AddRefusal::Memory),
         }
+    }
+
+    /// Lists the traces of a series that weren't handed on, and adds what they show, as `add_shown` does. The series
+    /// stays as it is, but for its guesses.
+    ///
+    /// # Errors
+    ///
+    /// Those of `add_shown`: the book is as before.
+    pub fn add_next(&mut self, series: &mut Series<'a>) -> Result<(), AddRefusal>
+        requires { All (Contains self.old) series.old.behind }
+        ensures ok { OnOk result (self.new ≡ self.old ++ series.old.sources) }
+        ensures err { OnErr result (self.new ≡ self.old) }
+        ensures series { series.new ≡ series.old }
+        ensures twice { is_any_listed self.old series.old.sources ≡ true
+            → result ≡ Err AddRefusal.Twice }
+        ensures memory { is_any_listed self.old series.old.sources ≡ false
+            → OnErr result (result ≡ Err AddRefusal.Memory) }
+    {
+        let mut guesses = series.swap_guesses(Guesses::new(self.alloc));
+        let added = self.add_shown(&series.shown(), &mut guesses);
+        series.swap_guesses(guesses);
+        added
     }
 
     /// Lists the traces of a batch, and adds what they show, as `add_from` does.

@@ -8,7 +8,7 @@ mod traces;
 
 pub use book::{AddRefusal, BatchRefusal, Book, Refusal};
 pub use ld_class::{ClassName, Classes};
-pub use ld_facts::{Batch, Witness};
+pub use ld_facts::{Batch, Series, Witness};
 pub use ld_graph::{Edge, Graph};
 pub use ld_union::{
     Alarms, ConflictRow, CycleRow, Findings, ForbiddenRow, Rows, UsageRow, Walk, Witnessed,

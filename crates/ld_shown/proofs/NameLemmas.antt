@@ -1,17 +1,18 @@
 -- What adding names to others keeps, and what it gives.
 use Rattle.std.proofs.Common.{◌≡◌, ◌||◌, ◌+◌, ◌<◌, ◌≤◌, ◌⊎◌, inl, inr, ◌++◌, ◌∷◌, [], List, ℕ, Bool, true, false, Option, Some, None, is_some, length, take}
 use Rattle.std.proofs.Common.{get_or, refl, sym, ap, subst, ◌∙◌, if◌then◌else◌, arith, append_assoc, length-append}
-use Rattle.std.proofs.lemmas.Bool.{cases_order}
-use Rattle.std.proofs.lemmas.List.{append-nil, get_or_append_left, get_or_push, length_push, take-append-le, take_all}
+use Rattle.std.proofs.lemmas.Bool.{or_left, or_right}
+use Rattle.std.proofs.lemmas.List.{append-nil, length_push, take-append-le, take_all}
+use Rattle.std.proofs.lemmas.List.Elements.{All-push}
 use Rattle.std.proofs.lemmas.List.Folds.{list_any-append}
 use Rattle.std.proofs.lemmas.List.Sums.{fold-append}
 use Rattle.std.proofs.Math.Bool.{or-true}
 use Rattle.std.specs.List.{list_any}
-use Rattle.ld_class.specs.Names.{IsNameAt, PlainClass, no_class, place_of, same_class, with_name}
+use Rattle.ld_class.specs.Names.{PlainClass, place_of, same_class, with_name}
 use Rattle.ld_class.proofs.NameLemmas.{list_any-known, list_any-new, same_class-Decides}
 use Rattle.ld_rules.specs.Outcome.{each_once}
 use Rattle.ld_rules.proofs.PlaceLemmas.{alike_from_decides, any_each_once, by_pushes, each_once-more}
-use Rattle.ld_shown.specs.Inner.Names.{ArePlaces, IsLonger, with_names}
+use Rattle.ld_shown.specs.Inner.Names.{AreThere, IsLonger, with_names}
 
 -- one more name makes the list longer by at most one
 pub length-with_name : (names : List PlainClass) (name : PlainClass) → (length names ≤ length (with_name names name)) × (length (with_name names name) ≤ length names + 1)
@@ -37,23 +38,28 @@ place_of-any names name = by (place_of names name) refl
     by None is = ap is_some is ∙ sym (list_any-new names name is)
     by (Some id) is = ap is_some is ∙ sym (list_any-known names name id is)
 
--- the places of names and of one more, where no place lost its name
-pub places_more : (names more these : List PlainClass) (name : PlainClass) (places : List ℕ) (place : ℕ) → ArePlaces names these places
-    → ((id : ℕ) → id < length names → IsNameAt more id (get_or names id no_class)) → IsNameAt more place name
-    → ArePlaces more (these ++ name ∷ []) (places ++ place ∷ [])
-places_more names more these name places place are kept at = record {
-  count = length_push places place ∙ ap (λ n. n + 1) are.count ∙ sym (length_push these name);
-  each = λ i within. by i (cases_order i (length these)) within;
-}
+-- what is among the names stays there when one more is added, and that one is there too
+any-with_name : (test : PlainClass → Bool) (names : List PlainClass) (name : PlainClass) → list_any test names ≡ true → list_any test (with_name names name) ≡ true
+any-with_name test names name there = by (is_some (place_of names name))
   where
-    by : (i : ℕ) → (i ≡ length these) ⊎ ((i < length these) ⊎ (length these < i)) → i < length (these ++ name ∷ [])
-        → IsNameAt more (get_or (places ++ place ∷ []) i 0) (get_or (these ++ name ∷ []) i no_class)
-    by i (inl same) within = rw (get_or_push places place 0 i (are.count ∙ sym same), get_or_push these name no_class i (sym same)) at
-    by i (inr (inl before)) within =
-        let was = are.each i before in
-        rw (get_or_append_left places (place ∷ []) 0 i (omega (arith, before, are.count)), get_or_append_left these (name ∷ []) no_class i before)
-        (subst (IsNameAt more (get_or places i 0)) was.1 (kept (get_or places i 0) was.0))
-    by i (inr (inr after)) within = absurd (omega (arith, after, within, length_push these name))
+    by : (b : Bool) → list_any test (if b then names else names ++ name ∷ []) ≡ true
+    by true = there
+    by false = list_any-append test names (name ∷ []) ∙ or_left (list_any test names) (list_any test (name ∷ [])) there
+
+own-with_name : (names : List PlainClass) (name : PlainClass) → list_any (same_class name) (with_name names name) ≡ true
+own-with_name names name = by (is_some (place_of names name)) refl
+  where
+    by : (b : Bool) → is_some (place_of names name) ≡ b → list_any (same_class name) (if b then names else names ++ name ∷ []) ≡ true
+    by true is = sym (place_of-any names name) ∙ is
+    by false is =
+        list_any-append (same_class name) names (name ∷ [])
+        ∙ or_right (list_any (same_class name) names) (list_any (same_class name) (name ∷ [])) (or_left (same_class name name) false ((same_class-Decides name name).1 refl))
+
+pub there-more : (names these : List PlainClass) (name : PlainClass) → AreThere names these → AreThere (with_name names name) (these ++ name ∷ [])
+there-more names these name there =
+    All-push (λ n. is_some (place_of (with_name names name) n) ≡ true) these name
+    (λ k d within. place_of-any (with_name names name) (get_or these k d) ∙ any-with_name (same_class (get_or these k d)) names name (sym (place_of-any names (get_or these k d)) ∙ there k d within))
+    (place_of-any (with_name names name) name ∙ own-with_name names name)
 
 -- the names that were there keep their places when one more is added
 pub longer_more : (old names : List PlainClass) (name : PlainClass) (more : ℕ) → IsLonger old names more → IsLonger old (with_name names name) (more + 1)

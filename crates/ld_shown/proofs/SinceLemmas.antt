@@ -1,7 +1,7 @@
 -- What some sources show together, and what is left of it where others are behind them.
 use Rattle.std.proofs.Common.{◌≡◌, ◌+◌, ◌-◌, ◌<◌, ◌≤◌, ◌||◌, ◌⊎◌, inl, inr, ◌++◌, ◌∷◌, [], All, Bool, true, false, List, ℕ, Option, Some, None, IfSome, Contains}
 use Rattle.std.proofs.Common.{drop, flat_map, get_or, is_some, length, take, refl, ap, sym, subst, ◌∙◌, append_assoc, arith, if◌then◌else◌, length-append}
-use Rattle.std.proofs.lemmas.Bool.{or_left, or_right}
+use Rattle.std.proofs.lemmas.Bool.{or_left, or_right, true≢false}
 use Rattle.std.proofs.lemmas.Bool.Decides.{nat_tests}
 use Rattle.std.proofs.lemmas.List.{append-nil, get_or-append_right, get_or_append_left, get_or_default, get_or_push, length-drop, take-append-drop}
 use Rattle.std.proofs.lemmas.List.Elements.{All-head, All-nil, All-tail, Contains-push_cases}
@@ -17,7 +17,7 @@ use Rattle.ld_rules.specs.Outcome.{each_once}
 use Rattle.ld_rules.specs.Union.{classes_of, earlier, first_witness, is_before, union_classes}
 use Rattle.ld_rules.proofs.PlaceLemmas.{alike_from_decides, any_each_once, by_pushes, flat_map-append}
 use Rattle.ld_shown.specs.Batch.{AreRising, IsBatch, IsShown, PlainBatch, PlainShown, first_since, shown_alone}
-use Rattle.ld_shown.specs.Inner.Names.{with_names}
+use Rattle.ld_shown.specs.Inner.Names.{AreThere, with_names}
 use Rattle.ld_shown.specs.Inner.Rows.{earlier_of, seen_in}
 use Rattle.ld_shown.proofs.EarlierLemmas.{earlier-lower, earlier_of-assoc}
 use Rattle.ld_shown.proofs.NameLemmas.{longer_all, place_of-any, with_names-both_once, with_names-each_once}
@@ -240,22 +240,8 @@ known-sources sources (b ∷ behind) there =
     ∙ ap (λ names. with_names names (flat_map classes_of behind)) (known-source sources b (All-head (Contains sources) b behind there))
     ∙ known-sources sources behind (All-tail (Contains sources) b behind there)
 
--- Some sources that come after others add to a union that has those what classes they have.
-module _ (sources behind more : List PlainSource) (there : All (Contains sources) behind) where
-  both : each_once same_class (flat_map classes_of sources ++ flat_map classes_of behind) ≡ union_classes sources
-  both = sym (with_names-each_once (flat_map classes_of sources) (flat_map classes_of behind)) ∙ known-sources sources behind there
-
-  pub classes-since : with_names (union_classes sources) (union_classes (behind ++ more)) ≡ union_classes (sources ++ more)
-  classes-since =
-      with_names-both_once (flat_map classes_of sources) (flat_map classes_of (behind ++ more))
-      ∙ ap (λ last. each_once same_class (flat_map classes_of sources ++ last)) (flat_map-append classes_of behind more)
-      ∙ ap (each_once same_class) (sym (append_assoc (flat_map classes_of sources) (flat_map classes_of behind) (flat_map classes_of more)))
-      ∙ sym (with_names-each_once (flat_map classes_of sources ++ flat_map classes_of behind) (flat_map classes_of more))
-      ∙ ap (λ names. with_names names (flat_map classes_of more)) both
-      ∙ with_names-each_once (flat_map classes_of sources) (flat_map classes_of more)
-      ∙ ap (each_once same_class) (sym (flat_map-append classes_of sources more))
-
-  -- the classes of those behind, and behind them the others
+-- the classes of those behind, and behind them the others
+module _ (behind more : List PlainSource) where
   abbrev here : List PlainClass
   here = union_classes (behind ++ more)
 
@@ -268,17 +254,54 @@ module _ (sources behind more : List PlainSource) (there : All (Contains sources
   pub front-since : take count here ≡ union_classes behind
   front-since = ap (take count) (sym grown) ∙ (longer_all (union_classes behind) (flat_map classes_of more)).front
 
-  least-since : count ≤ length here
+  pub least-since : count ≤ length here
   least-since = let longer = longer_all (union_classes behind) (flat_map classes_of more) in omega (arith, longer.least, ap length grown)
 
-  pub new-since : with_names (union_classes sources) (drop count here) ≡ union_classes (sources ++ more)
+-- Some sources that come after others add to a union that has those what classes they have.
+module _ (sources behind more : List PlainSource) (there : All (Contains sources) behind) where
+  both : each_once same_class (flat_map classes_of sources ++ flat_map classes_of behind) ≡ union_classes sources
+  both = sym (with_names-each_once (flat_map classes_of sources) (flat_map classes_of behind)) ∙ known-sources sources behind there
+
+  classes-since : with_names (union_classes sources) (union_classes (behind ++ more)) ≡ union_classes (sources ++ more)
+  classes-since =
+      with_names-both_once (flat_map classes_of sources) (flat_map classes_of (behind ++ more))
+      ∙ ap (λ last. each_once same_class (flat_map classes_of sources ++ last)) (flat_map-append classes_of behind more)
+      ∙ ap (each_once same_class) (sym (append_assoc (flat_map classes_of sources) (flat_map classes_of behind) (flat_map classes_of more)))
+      ∙ sym (with_names-each_once (flat_map classes_of sources ++ flat_map classes_of behind) (flat_map classes_of more))
+      ∙ ap (λ names. with_names names (flat_map classes_of more)) both
+      ∙ with_names-each_once (flat_map classes_of sources) (flat_map classes_of more)
+      ∙ ap (each_once same_class) (sym (flat_map-append classes_of sources more))
+
+  abbrev new : List PlainClass
+  new = drop (length (union_classes behind)) (union_classes (behind ++ more))
+
+  pub new-since : with_names (union_classes sources) new ≡ union_classes (sources ++ more)
   new-since =
-      ap (λ names. with_names names (drop count here)) (sym (with_names-both_once (flat_map classes_of sources) (flat_map classes_of behind) ∙ both))
-      ∙ sym (fold-append with_name (union_classes sources) (union_classes behind) (drop count here))
-      ∙ ap (with_names (union_classes sources)) (ap (λ front. front ++ drop count here) (sym front-since) ∙ take-append-drop count here)
+      ap (λ names. with_names names new) (sym (with_names-both_once (flat_map classes_of sources) (flat_map classes_of behind) ∙ both))
+      ∙ sym (fold-append with_name (union_classes sources) (union_classes behind) new)
+      ∙ ap (with_names (union_classes sources)) (ap (λ front. front ++ new) (sym (front-since behind more)) ∙ take-append-drop (length (union_classes behind)) (union_classes (behind ++ more)))
       ∙ classes-since
 
   pub few-since : length (union_classes (sources ++ more)) + length (union_classes behind) ≤ length (union_classes sources) + length (union_classes (behind ++ more))
   few-since =
-      let longer = longer_all (union_classes sources) (drop count here) in
-      omega (arith, longer.most, ap length new-since, length-drop count here, least-since)
+      let longer = longer_all (union_classes sources) new in
+      omega (arith, longer.most, ap length new-since, length-drop (length (union_classes behind)) (union_classes (behind ++ more)), least-since behind more)
+
+-- the classes of some of the sources are among those of all
+any-behind : (test : PlainClass → Bool) (sources behind : List PlainSource) → All (Contains sources) behind → list_any test (flat_map classes_of behind) ≡ true → list_any test (flat_map classes_of sources) ≡ true
+any-behind test sources [] there some = absurd (true≢false (sym some))
+any-behind test sources (b ∷ behind) there some = by (list_any test (classes_of b)) refl (any-behind test sources behind (All-tail (Contains sources) b behind there))
+  where
+    by : (t : Bool) → list_any test (classes_of b) ≡ t → (list_any test (flat_map classes_of behind) ≡ true → list_any test (flat_map classes_of sources) ≡ true)
+        → list_any test (flat_map classes_of sources) ≡ true
+    by true is rest = any-of test b is sources (All-head (Contains sources) b behind there)
+    by false is rest = rest (ap (λ t. t || list_any test (flat_map classes_of behind)) (sym is) ∙ sym (list_any-append test (classes_of b) (flat_map classes_of behind)) ∙ some)
+
+pub there-behind : (sources behind : List PlainSource) → All (Contains sources) behind → AreThere (union_classes sources) (union_classes behind)
+there-behind sources behind there k d within =
+    let name = get_or (union_classes behind) k d in
+    let alike = alike_from_decides same_class same_class-Decides in
+    place_of-any (union_classes sources) name
+    ∙ any_each_once same_class alike name (flat_map classes_of sources)
+    ∙ any-behind (same_class name) sources behind there
+    (sym (any_each_once same_class alike name (flat_map classes_of behind)) ∙ list_any_at (same_class name) (union_classes behind) k d within ((same_class-Decides name name).1 refl))

@@ -1,5 +1,5 @@
 //! What a batch of a few traces shows, as it is handed to what puts it together with others: its classes, its
-//! dependencies and usage, each with its first witness, and guesses of where these were had before.
+//! dependencies and usage, each with its first witness, and guesses of where its classes were had before.
 #![tactic(auto)]
 
 mod edges;
@@ -10,6 +10,6 @@ mod shown;
 
 pub use edges::Edges;
 pub use guesses::Guesses;
-pub use names::intern_all;
+pub use names::{intern_all, place_in};
 pub use rows::{WitnessedEdge, WitnessedUse, WitnessedWord, Words};
 pub use shown::Shown;

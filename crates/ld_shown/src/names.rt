@@ -1,17 +1,16 @@
-//! Adds the names of one list to another, with guesses of where they are.
-ghost use Rattle.std.specs.Prelude.{◌≡◌, ◌+◌, ◌<◌, ◌≤◌, OnErr, OnOk, length};
-ghost use Rattle.std.specs.Prelude.{slice_index_or, ℕ, IfOk};
+//! Adds the names of one list to another, and finds them there, with guesses of where they are.
+ghost use Rattle.std.specs.Prelude.{◌≡◌, ◌+◌, ◌-◌, ◌<◌, ◌≤◌, OnErr, OnOk, drop, length, slice_index_or, take};
 ghost use Rattle.ld_class.specs.Names.{IsNameAt, no_class, plain_class, with_name};
 ghost use Rattle.ld_class.specs.declared.names.TheConstants.{MOST_NAMES};
-ghost use Rattle.ld_shown.specs.Inner.Names.{ArePlaces, IsLonger, with_names};
+ghost use Rattle.ld_shown.specs.Inner.Names.{AreThere, IsLonger, with_names};
 
 use crate::guesses::Guesses;
 use ld_class::{ClassList, ClassName, Classes};
 use std::alloc::AllocError;
 
-/// Interns all of `more`, and writes their places among the names over `places`. Each is looked
-/// for where the guesses say first, which know the names by `numbers`; the guesses then have their places,
-/// as far as there is memory for them.
+/// Interns those of `more` from the place `first` on; the ones in front are names already. Each is looked for where the
+/// guesses say first, which know the names by `numbers`; the guesses then have their places, as far as there is memory
+/// for them.
 ///
 /// # Errors
 ///
@@ -19,34 +18,60 @@ use std::alloc::AllocError;
 pub fn intern_all<'a>(
     names: &mut Classes<'a>,
     more: &ClassList<'a>,
+    first: usize,
     numbers: &[u32],
     guesses: &mut Guesses,
-    places: &mut Vec<u32>,
 ) -> Result<(), AllocError>
-    requires { length names.old + length more.now ≤ MOST_NAMES }
-    ensures names { OnOk result (names.new ≡ with_names names.old more.now) }
-    ensures longer { OnOk result (IsLonger names.old names.new (length more.now)) }
-    ensures places { OnOk result (ArePlaces names.new more.now places.new.items) }
+    requires room { length names.old + length more.now ≤ MOST_NAMES }
+    requires within { first ≤ length more.now }
+    requires there { AreThere names.old (take first more.now) }
+    ensures names { OnOk result (names.new ≡ with_names names.old (drop first more.now)) }
+    ensures longer { OnOk result (IsLonger names.old names.new (length more.now - first)) }
+    ensures there { OnOk result (AreThere names.new more.now) }
     ensures refused { OnErr result (names.new ≡ names.old) }
 {
-    places.clear();
-    places.reserve(more.len())?;
     let count = names.len();
-    for id in 0..more.len() {
-        let number = number_at(numbers, id);
-        let name = more.name(id as u32);
-        let Ok(place) = intern_guessed(names, name, guesses.class(number)) else {
+    let new = more.len() - first;
+    for id in 0..new {
+        let place = first + id;
+        let number = number_at(numbers, place);
+        let name = more.name(place as u32);
+        let Ok(here) = intern_guessed(names, name, guesses.class(number)) else {
             names.cut(count);
             return Err(AllocError);
         };
-        guesses.keep_class(number, place);
-        places.push_reserved(place);
+        guesses.keep_class(number, here);
     }
     Ok(())
 }
 
+/// The place among the names of the class at this place of the list, which is one of them. It is looked for where the
+/// guesses say first, by its number. Takes no memory but for a guess.
+pub fn place_in(
+    names: &Classes<'_>,
+    list: &ClassList<'_>,
+    place: u32,
+    number: u32,
+    guesses: &mut Guesses,
+) -> u32
+    requires within { place < length list.now }
+    requires there { AreThere names.now list.now }
+    ensures { IsNameAt names.now result (slice_index_or list.now place no_class) }
+{
+    let name = list.name(place);
+    let guess = guesses.class(number);
+    if names.is_at(guess, name) {
+        return guess;
+    }
+    let Some(here) = names.find(name) else {
+        unreachable!()
+    };
+    guesses.keep_class(number, here);
+    here
+}
+
 /// The number at a place, or 0: no clause says that there are as many as names, and for a guess any will do.
-fn number_at(numbers: &[u32], place: usize) -> u32 {
+pub(crate) fn number_at(numbers: &[u32], place: usize) -> u32 {
     match numbers.get(place) {
         Some(number) => *number,
         None => 0,
@@ -58,18 +83,15 @@ fn number_at(numbers: &[u32], place: usize) -> u32 {
 /// `AllocError` where it is new and the memory for it was refused.
 fn intern_guessed<'a>(
     names: &mut Classes<'a>,
-    name: ClassName<'a>,
+    class: ClassName<'a>,
     guess: u32,
 ) -> Result<u32, AllocError>
     requires { length names.old < MOST_NAMES }
-    ensures names { OnOk result (names.new ≡ with_name names.old (plain_class name.entry)) }
+    ensures names { OnOk result (names.new ≡ with_name names.old (plain_class class.entry)) }
     ensures refused { OnErr result (names.new ≡ names.old) }
-    ensures place { IfOk result (λ id. IsNameAt names.new id (plain_class name.entry)) }
-    ensures kept { (id : ℕ) → id < length names.old
-        → IsNameAt names.new id (slice_index_or names.old id no_class) }
 {
-    if names.is_at(guess, name) {
+    if names.is_at(guess, class) {
         return Ok(guess);
     }
-    names.intern(name)
+    names.intern(class)
 }

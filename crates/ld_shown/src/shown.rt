@@ -5,6 +5,7 @@ ghost use Rattle.ld_rules.specs.Union.{union_classes};
 ghost use Rattle.ld_shown.specs.Batch.{AreFewClasses, AreOutcomes, IsShown, sources_of};
 ghost use Rattle.ld_shown.specs.Inner.Rows.{edges_of};
 
+use crate::names::number_at;
 use crate::rows::{WitnessedUse, Words};
 use ld_class::ClassList;
 use ld_rules::Listed;
@@ -121,7 +122,8 @@ impl<'b, 'a> Shown<'b, 'a> {
 
     /// How many of the classes are of the traces behind. Takes no memory.
     pub fn classes_behind(&self) -> usize
-        ensures { result ≡ length (union_classes self.now.behind) }
+        ensures same { result ≡ length (union_classes self.now.behind) }
+        ensures exact { IsShown self.now }
     {
         self.classes_behind
     }
@@ -154,5 +156,10 @@ impl<'b, 'a> Shown<'b, 'a> {
     /// The numbers by which guesses of the classes are kept, in the order of the classes. Takes no memory.
     pub fn class_numbers(&self) -> &'b [u32] {
         self.class_numbers
+    }
+
+    /// The number by which guesses of the class at this place are kept. Takes no memory.
+    pub fn class_number(&self, place: u32) -> u32 {
+        number_at(self.class_numbers, place as usize)
     }
 }

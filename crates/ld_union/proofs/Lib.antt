@@ -1,6 +1,5 @@
 pub mod ClosingLemmas
 pub mod EachOnceLemmas
-pub mod WasSeenLemmas
 pub mod NewsLemmas
 pub mod NotedLemmas
 pub mod AcquiredLemmas
@@ -23,5 +22,4 @@ pub mod SortedLemmas
 pub mod StayingLemmas
 pub mod UniqueLemmas
 pub mod WitnessLemmas
-pub mod KnownLemmas
 pub mod LeadingLemmas

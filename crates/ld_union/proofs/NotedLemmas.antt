@@ -1,9 +1,9 @@
 -- Dependencies that are noted one after the other.
-use Rattle.std.proofs.Common.{◌≡◌, ◌≢◌, ◌+◌, ◌<◌, ◌≤◌, ◌++◌, ◌∷◌, [], All, AllPairs, List, ℕ, suc, Bool, true, false, cond, Option, Some, None, length}
+use Rattle.std.proofs.Common.{◌≡◌, ◌≢◌, ◌+◌, ◌≤◌, ◌++◌, ◌∷◌, [], All, AllPairs, List, suc, Bool, true, false, cond, Option, Some, None, length}
 use Rattle.std.proofs.Common.{append_assoc, arith, get_or, map, option_map, take, vec_capacity, vec_len, refl, sym, ap, subst, ◌∙◌, if◌then◌else◌}
 use Rattle.std.proofs.lemmas.Bool.{false_from_ne_true}
 use Rattle.std.proofs.lemmas.List.{append-nil, get_or_append_left, map-append, take_all}
-use Rattle.std.proofs.lemmas.List.Elements.{All-append, All-drop, All-head, All-tail, All-weaker}
+use Rattle.std.proofs.lemmas.List.Elements.{All-drop}
 use Rattle.std.proofs.lemmas.List.Sums.{fold-append}
 use Rattle.std.proofs.Math.ListN.{length-append}
 use Rattle.std.proofs.Math.Seq.{drop-append_seam, take-length}
@@ -12,15 +12,12 @@ use Rattle.ld_class.specs.Names.{PlainClass}
 use Rattle.ld_rules.specs.declared.outcome.Witness.{Witness}
 use Rattle.ld_rules.specs.Dependency.{Dependency, same_dependency}
 use Rattle.ld_shown.specs.declared.rows.WitnessedEdge.{WitnessedEdge}
-use Rattle.ld_shown.specs.Batch.{IsBetween, Met, named_dependency, witness_of}
-use Rattle.ld_shown.specs.Inner.Names.{ArePlaces}
+use Rattle.ld_shown.specs.Batch.{Met, named_dependency, witness_of}
 use Rattle.ld_shown.proofs.SourceLemmas.{earlier_of-none}
 use Rattle.ld_union.specs.declared.dependencies.Dependencies.{Dependencies}
 use Rattle.ld_union.specs.declared.dependencies.Witnessed.{Witnessed}
-use Rattle.ld_union.specs.Inner.Noted.{AreNoted, IsNoting, IsSeenBefore, placed_dependency, placed_edge, with_all}
-use Rattle.ld_union.specs.Inner.Union.{AreWitnessed, WasSeen, earlier_of, edges_of, named_edge, with_seen}
-use Rattle.ld_shown.proofs.EarlierLemmas.{earlier-lower}
-use Rattle.ld_union.proofs.WasSeenLemmas.{seen-later}
+use Rattle.ld_union.specs.Inner.Noted.{AreNoted, IsNoting, with_all}
+use Rattle.ld_union.specs.Inner.Union.{AreWitnessed, earlier_of, edges_of, with_seen}
 use Rattle.ld_union.proofs.ReachedLemmas.{front-then, further-same, further-then}
 use Rattle.ld_union.proofs.SeenLemmas.{none_found}
 use Rattle.ld_union.proofs.UnionLemmas.{length_rows, same_dependency-true}
@@ -29,28 +26,6 @@ use Rattle.ld_union.proofs.UnionLemmas.{length_rows, same_dependency-true}
 pub all_edges : (rows : List Witnessed) → take (length rows) (edges_of rows) ≡ edges_of rows
 all_edges rows = ap (λ n. take n (edges_of rows)) (length_rows rows) ∙ take-length (edges_of rows)
 
--- none was noted
-noted_none : (places : List ℕ) (now : Dependencies) → AreNoted places [] now now
-noted_none places now = record {
-  classes = refl;
-  spare_edges = omega arith;
-  spare_rows = λ n room. omega (arith, room);
-  front = all_edges now.rows.items;
-  further = further-same now.reach;
-  exact = λ state seeds is. is;
-  closing = λ was. was;
-  numbered = λ classes same between. between;
-  kept = λ edge trace seen. seen;
-  there = λ k d within. absurd (omega (arith, within));
-  witnesses = λ classes same between first witnessed. witnessed;
-}
-
--- some were noted, and then others
-seen_then : (first : Dependency → Option Witness) (name : WitnessedEdge → Met Dependency) (xs ys : List WitnessedEdge) → with_all (with_all first (map name xs)) (map name ys) ≡ with_all first (map name (xs ++ ys))
-seen_then first name xs ys =
-    sym (fold-append (λ (before : Dependency → Option Witness) (m : Met Dependency). with_seen before m.what m.witness) first (map name xs) (map name ys))
-    ∙ ap (with_all first) (sym (map-append name xs ys))
-
 edges_stay : (old mid new : List Witnessed) → take (length old) (edges_of mid) ≡ edges_of old → take (length mid) (edges_of new) ≡ edges_of mid → take (length old) (edges_of new) ≡ edges_of old
 edges_stay old mid new first next =
     ap (λ n. take n (edges_of new)) (length_rows old)
@@ -58,121 +33,76 @@ edges_stay old mid new first next =
     (ap (λ n. take n (edges_of mid)) (sym (length_rows old)) ∙ first)
     (ap (λ n. take n (edges_of new)) (sym (length_rows mid)) ∙ next)
 
-noted_then : (places : List ℕ) (xs ys : List WitnessedEdge) (old mid new : Dependencies) → AreNoted places xs old mid → AreNoted places ys mid new → AreNoted places (xs ++ ys) old new
-noted_then places xs ys old mid new first next = record {
-  classes = next.classes ∙ first.classes;
-  spare_edges = omega (arith, first.spare_edges, next.spare_edges, length-append xs ys);
-  spare_rows = λ n room. next.spare_rows n (first.spare_rows (n + length ys) (omega (arith, room, length-append xs ys)));
-  front = edges_stay old.rows.items mid.rows.items new.rows.items first.front next.front;
-  further = further-then old.reach mid.reach new.reach first.further next.further;
-  exact = λ state seeds is. next.exact state seeds (first.exact state seeds is);
-  closing = λ was. next.closing (first.closing was);
-  numbered = λ classes same between. next.numbered classes (same ∙ sym first.classes) (first.numbered classes same between);
-  kept = λ edge trace seen. next.kept edge trace (first.kept edge trace seen);
-  there = All-append (λ edge. WasSeen new.rows.items (placed_edge places edge) edge.witness.number) xs ys
-      (All-weaker (λ edge. WasSeen mid.rows.items (placed_edge places edge) edge.witness.number) (λ edge. WasSeen new.rows.items (placed_edge places edge) edge.witness.number)
-      (λ edge seen. next.kept (placed_edge places edge) edge.witness.number seen) xs first.there)
-      next.there;
-  witnesses = λ classes same between known witnessed.
-      subst (AreWitnessed classes new.rows.items) (seen_then known (placed_dependency classes places) xs ys)
-      (next.witnesses classes (same ∙ sym first.classes) (first.numbered classes same between) (with_all known (map (placed_dependency classes places) xs))
-      (first.witnesses classes same between known witnessed));
-}
-
--- one that was seen in an earlier trace has its first witness
-known-first : (classes : List PlainClass) (rows : List Witnessed) (places : List ℕ) (edge : WitnessedEdge) → IsSeenBefore rows places edge
-    → (first : Dependency → Option Witness) → AreWitnessed classes rows first → (what : Dependency)
-    → with_seen first (named_edge classes (placed_edge places edge)) edge.witness what ≡ first what
-known-first classes rows places edge known first witnessed what = by (same_dependency what named) refl
-  where
-    named : Dependency
-    named = named_edge classes (placed_edge places edge)
-
-    row : Witnessed
-    row = get_or rows known.1.1.at (record { edge = placed_edge places edge; first = edge.witness })
-
-    here : first named ≡ Some row.first
-    here = ap (λ e. first (named_edge classes e)) (sym (known.1.1.same _)) ∙ witnessed.each known.1.1.at _ known.1.1.within
-
-    lower : row.first.number < edge.witness.number
-    lower = let early = known.1.1.early (record { edge = placed_edge places edge; first = edge.witness }) in let low = known.1.0 in omega (arith, early, low)
-
-    by : (b : Bool) → same_dependency what named ≡ b → earlier_of (first what) (if b then Some edge.witness else None) ≡ first what
-    by true alike =
-        let is : first what ≡ Some row.first = ap first (same_dependency-true what named alike) ∙ here in
-        ap (λ o. earlier_of o (Some edge.witness)) is ∙ ap Some (earlier-lower row.first edge.witness lower) ∙ sym is
-    by false alike = sym (earlier_of-none (first what))
-
--- where all are known, nothing is to be noted
-known-all : (classes : List PlainClass) (rows : List Witnessed) (places : List ℕ) (told : List WitnessedEdge) → All (IsSeenBefore rows places) told
-    → (first : Dependency → Option Witness) → AreWitnessed classes rows first → with_all first (map (placed_dependency classes places) told) ≡ first
-known-all classes rows places [] known first witnessed = refl
-known-all classes rows places (edge ∷ told) known first witnessed =
-    ap (λ f. with_all f (map (placed_dependency classes places) told)) (λ i what. known-first classes rows places edge (All-head (IsSeenBefore rows places) edge told known) first witnessed what i)
-    ∙ known-all classes rows places told (All-tail (IsSeenBefore rows places) edge told known) first witnessed
-
-pub noted-known : (places : List ℕ) (told : List WitnessedEdge) (now : Dependencies) → All (IsSeenBefore now.rows.items places) told → AreNoted places told now now
-noted-known places told now known = record {
-  classes = refl;
-  spare_edges = omega arith;
-  spare_rows = λ n room. omega (arith, room);
-  front = all_edges now.rows.items;
-  further = further-same now.reach;
-  exact = λ state seeds is. is;
-  closing = λ was. was;
-  numbered = λ classes same between. between;
-  kept = λ edge trace seen. seen;
-  there = All-weaker (IsSeenBefore now.rows.items places) (λ edge. WasSeen now.rows.items (placed_edge places edge) edge.witness.number)
-      (λ edge is. seen-later now.rows.items (placed_edge places edge) is.0 edge.witness.number (let low = is.1.0 in omega (arith, low)) is.1.1) told known;
-  witnesses = λ classes same between first witnessed.
-      subst (AreWitnessed classes now.rows.items) (sym (known-all classes now.rows.items places told known first witnessed)) witnessed;
-}
-
--- while they are noted
-pub noting_none : (places : List ℕ) (told : List WitnessedEdge) (now : Dependencies) → IsNoting places told told now now
-noting_none places told now = record { before = []; parts = refl; noted = noted_none places now }
-
-module _ (places : List ℕ) (told : List WitnessedEdge) (old : Dependencies) where
-  pub noting_then : (part left : List WitnessedEdge) (mid new : Dependencies) → IsNoting places told (part ++ left) old mid → AreNoted places part mid new → IsNoting places told left old new
-  noting_then part left mid new so_far next = record {
-    before = so_far.before ++ part;
-    parts = append_assoc so_far.before part left ∙ so_far.parts;
-    noted = noted_then places so_far.before part old mid new so_far.noted next;
+module _ (names batch : List PlainClass) where
+  -- none was noted
+  pub noted_none : (now : Dependencies) → AreNoted names batch [] now now
+  noted_none now = record {
+    classes = refl;
+    spare_edges = omega arith;
+    spare_rows = λ n room. omega (arith, room);
+    front = all_edges now.rows.items;
+    further = further-same now.reach;
+    exact = λ state seeds is. is;
+    closing = λ was. was;
+    numbered = λ between. between;
+    witnesses = λ between first witnessed. witnessed;
   }
 
-  pub noting_all : (new : Dependencies) → IsNoting places told [] old new → AreNoted places told old new
-  noting_all new so_far = subst (λ these. AreNoted places these old new) (sym (append-nil so_far.before) ∙ so_far.parts) so_far.noted
+  -- some were noted, and then others
+  seen_then : (first : Dependency → Option Witness) (xs ys : List WitnessedEdge)
+      → with_all (with_all first (map (named_dependency batch) xs)) (map (named_dependency batch) ys) ≡ with_all first (map (named_dependency batch) (xs ++ ys))
+  seen_then first xs ys =
+      sym (fold-append (λ (before : Dependency → Option Witness) (m : Met Dependency). with_seen before m.what m.witness) first (map (named_dependency batch) xs) (map (named_dependency batch) ys))
+      ∙ ap (with_all first) (sym (map-append (named_dependency batch) xs ys))
 
-  module _ (left : List WitnessedEdge) (new : Dependencies) (so_far : IsNoting places told left old new) where
-    many : length told ≡ length so_far.before + length left
-    many = sym (ap length so_far.parts) ∙ length-append so_far.before left
+  noted_then : (xs ys : List WitnessedEdge) (old mid new : Dependencies) → AreNoted names batch xs old mid → AreNoted names batch ys mid new → AreNoted names batch (xs ++ ys) old new
+  noted_then xs ys old mid new first next = record {
+    classes = next.classes ∙ first.classes;
+    spare_edges = omega (arith, first.spare_edges, next.spare_edges, length-append xs ys);
+    spare_rows = λ n room. next.spare_rows n (first.spare_rows (n + length ys) (omega (arith, room, length-append xs ys)));
+    front = edges_stay old.rows.items mid.rows.items new.rows.items first.front next.front;
+    further = further-then old.reach mid.reach new.reach first.further next.further;
+    exact = λ state seeds is. next.exact state seeds (first.exact state seeds is);
+    closing = λ was. next.closing (first.closing was);
+    numbered = λ between. next.numbered (first.numbered between);
+    witnesses = λ between known witnessed.
+        subst (AreWitnessed names new.rows.items) (seen_then known xs ys)
+        (next.witnesses (first.numbered between) (with_all known (map (named_dependency batch) xs)) (first.witnesses between known witnessed));
+  }
 
-    -- there is room for those that are left
-    pub room_edges : length told ≤ old.graph.spare_edges → length left ≤ new.graph.spare_edges
-    room_edges room = let more = so_far.noted.spare_edges in omega (arith, room, many, more)
+  -- while they are noted
+  pub noting_none : (told : List WitnessedEdge) (now : Dependencies) → IsNoting names batch told told now now
+  noting_none told now = record { before = []; parts = refl; noted = noted_none now }
 
-    pub room_rows : vec_len old.rows + length told ≤ vec_capacity old.rows → vec_len new.rows + length left ≤ vec_capacity new.rows
-    room_rows room = so_far.noted.spare_rows (length left) (omega (arith, room, many))
+  module _ (told : List WitnessedEdge) (old : Dependencies) where
+    pub noting_then : (part left : List WitnessedEdge) (mid new : Dependencies) → IsNoting names batch told (part ++ left) old mid → AreNoted names batch part mid new → IsNoting names batch told left old new
+    noting_then part left mid new so_far next = record {
+      before = so_far.before ++ part;
+      parts = append_assoc so_far.before part left ∙ so_far.parts;
+      noted = noted_then so_far.before part old mid new so_far.noted next;
+    }
 
-    -- what is of all is of those that are left
-    pub All_left : (P : WitnessedEdge → Type 0) → All P told → All P left
-    All_left P all = subst (All P) (drop-append_seam so_far.before left) (All-drop P (length so_far.before) (so_far.before ++ left) (subst (All P) (sym so_far.parts) all))
+    pub noting_all : (new : Dependencies) → IsNoting names batch told [] old new → AreNoted names batch told old new
+    noting_all new so_far = subst (λ these. AreNoted names batch these old new) (sym (append-nil so_far.before) ∙ so_far.parts) so_far.noted
+
+    module _ (left : List WitnessedEdge) (new : Dependencies) (so_far : IsNoting names batch told left old new) where
+      many : length told ≡ length so_far.before + length left
+      many = sym (ap length so_far.parts) ∙ length-append so_far.before left
+
+      -- there is room for those that are left
+      pub room_edges : length told ≤ old.graph.spare_edges → length left ≤ new.graph.spare_edges
+      room_edges room = let more = so_far.noted.spare_edges in omega (arith, room, many, more)
+
+      pub room_rows : vec_len old.rows + length told ≤ vec_capacity old.rows → vec_len new.rows + length left ≤ vec_capacity new.rows
+      room_rows room = so_far.noted.spare_rows (length left) (omega (arith, room, many))
+
+      -- what is of all is of those that are left
+      pub All_left : (P : WitnessedEdge → Type 0) → All P told → All P left
+      All_left P all = subst (All P) (drop-append_seam so_far.before left) (All-drop P (length so_far.before) (so_far.before ++ left) (subst (All P) (sym so_far.parts) all))
 
 -- what is of all is of the first of them
 pub All-first : {X : Type 0} (P : X → Type 0) (xs ys : List X) → All P (xs ++ ys) → All P xs
 All-first P xs ys all k d within = subst P (get_or_append_left xs ys d k within) (all k d (omega (arith, within, length-append xs ys)))
-
--- the names of a batch's dependencies, by its classes and by the places of these
-pub same_names : (classes these : List PlainClass) (places : List ℕ) → ArePlaces classes these places → (edges : List WitnessedEdge) → All (IsBetween these) edges
-    → map (placed_dependency classes places) edges ≡ map (named_dependency these) edges
-same_names classes these places are [] within = refl
-same_names classes these places are (edge ∷ edges) within =
-    let here = All-head (IsBetween these) edge edges within in
-    let rest = same_names classes these places are edges (All-tail (IsBetween these) edge edges within) in
-    λ i. record {
-      what = record { from = (are.each edge.from here.0).1 i; to = (are.each edge.to here.1).1 i };
-      witness = edge.witness;
-    } ∷ rest i
 
 -- Where no two are of the same dependency, each witness is the first one.
 joined_first : (before : Option Witness) (m : Met Dependency) (b : Bool) (found : Option (Met Dependency)) → (b ≡ true → found ≡ None)

@@ -1,5 +1,5 @@
 -- What a union shows when what a batch shows is added.
-use Rattle.std.proofs.Common.{◌≡◌, ◌++◌, ◌∙◌, All, Contains, List, Option, length, ap, subst, arith}
+use Rattle.std.proofs.Common.{◌≡◌, ◌++◌, ◌∙◌, All, Contains, List, Option, drop, length, ap, subst, arith}
 use Rattle.ld_trace.specs.Sources.{PlainSource}
 use Rattle.ld_rules.specs.declared.outcome.Witness.{Witness}
 use Rattle.ld_rules.specs.Dependency.{Dependency, same_dependency}
@@ -7,12 +7,12 @@ use Rattle.ld_rules.specs.Union.{dependencies_of, dependency_witness, union_clas
 use Rattle.ld_rules.specs.Usage.{Use, same_use}
 use Rattle.ld_shown.specs.Batch.{IsShown, PlainShown, first_since}
 use Rattle.ld_shown.specs.Inner.Names.{with_names}
-use Rattle.ld_shown.proofs.SinceLemmas.{classes-since, few-since, witness-since}
+use Rattle.ld_shown.proofs.SinceLemmas.{few-since, new-since, witness-since}
 use Rattle.ld_union.specs.Inner.Union.{Adds, AreBetween, AreUsed, AreWitnessed, PlainUnion, with_first}
 
 -- a union to which what a batch shows was added
 pub adds-shown : (old new : PlainUnion) (batch : PlainShown) → IsShown batch → AreBetween new.classes new.dependencies
-    → new.classes ≡ with_names old.classes batch.classes
+    → new.classes ≡ with_names old.classes (drop (length (union_classes batch.behind)) batch.classes)
     → ((first : Dependency → Option Witness) → AreWitnessed old.classes old.dependencies first
     → AreWitnessed new.classes new.dependencies (with_first first (first_since dependency_witness batch.behind batch.sources)))
     → ((first : Use → Option Witness) → AreUsed old.classes old.usage first
@@ -32,4 +32,4 @@ adds-shown old new batch exact numbered names witnessed used = record {
 }
   where
     classes : (sources : List PlainSource) → old.classes ≡ union_classes sources → All (Contains sources) batch.behind → new.classes ≡ union_classes (sources ++ batch.sources)
-    classes sources is there = names ∙ (λ i. with_names (is i) (exact.classes i)) ∙ classes-since sources batch.behind batch.sources there
+    classes sources is there = names ∙ (λ i. with_names (is i) (drop (length (union_classes batch.behind)) (exact.classes i))) ∙ new-since sources batch.behind batch.sources there

@@ -5,7 +5,6 @@ pub mod Bits
 pub mod Reached
 pub mod Union
 pub mod News
-pub mod Known
 pub mod Noted
 pub mod ByName
 pub mod Numbers

@@ -1,35 +1,28 @@
 //! The dependencies between numbered classes, each with the place where it was first seen, and where
 //! they lead.
 ghost use Rattle.std.specs.Prelude.{◌≡◌, ℕ, ◌+◌, ◌<◌, ◌≤◌, List, Option, OnErr, OnOk, [], All};
-ghost use Rattle.std.specs.Prelude.{length, take, vec_len, vec_capacity, MatchOption};
-ghost use Rattle.std.specs.Bool.{OnTrue};
+ghost use Rattle.std.specs.Prelude.{length, take, vec_len, vec_capacity};
 ghost use Rattle.ld_class.specs.Names.{PlainClass};
 ghost use Rattle.ld_graph.specs.declared.graph.TheConstants.{MOST_GRAPH_CLASSES};
 ghost use Rattle.ld_trace.specs.declared.event.State.{State};
 ghost use Rattle.ld_graph.specs.Edges.{IsEdge, IsEdgeNumber};
 ghost use Rattle.ld_graph.specs.Reach.{IsReach, no_reach};
-ghost use Rattle.ld_union.specs.Inner.Known.{AreKnownWords};
 ghost use Rattle.ld_union.specs.Inner.Reached.{AreFurther, HaveClasses, IsSeeded, StayExact};
 ghost use Rattle.ld_union.specs.Inner.States.{of_state};
 ghost use Rattle.ld_graph.specs.Edges.{empty_graph, with_spares};
 ghost use Rattle.ld_rules.specs.Dependency.{Dependency};
 ghost use Rattle.ld_rules.specs.Usage.{IsBit};
-ghost use Rattle.ld_rules.specs.Union.{dependency_witness};
-ghost use Rattle.ld_shown.specs.Batch.{IsShown, first_since};
-ghost use Rattle.ld_shown.specs.Inner.Names.{ArePlaces};
 ghost use Rattle.ld_graph.specs.Edges.{PlainGraph};
 ghost use Rattle.ld_graph.specs.Order.{IsInserted};
 ghost use Rattle.ld_union.specs.Inner.Union.{AreBetween, AreWitnessed, IsCycleEdge, edges_of, named_edge};
-ghost use Rattle.ld_union.specs.Inner.Union.{WasSeen, with_first, with_seen};
+ghost use Rattle.ld_union.specs.Inner.Union.{with_seen};
 
 mod words;
 
-use crate::known::KnownWords;
 use crate::news::NewBit;
 use crate::states::PerState;
 use ld_graph::{Edge, Graph, Insert, Reach, Steps};
 use ld_rules::Witness;
-use ld_shown::{Guesses, Shown};
 use std::alloc::{AllocError, Global};
 
 /// An edge of the graph, and where its dependency was first seen.
@@ -121,56 +114,8 @@ impl Dependencies {
         }
     }
 
-    /// Notes the dependencies of a batch whose classes have these numbers, each where it was seen
-    /// first: those that no source behind it shows.
-    pub(crate) fn add(
-        &mut self,
-        batch: &Shown<'_, '_>,
-        places: &[u32],
-        known: &mut KnownWords,
-        guesses: &mut Guesses,
-    )
-        requires known { AreKnownWords self.old.rows.items known.old.classes.items
-            known.old.words.items }
-        requires count { length places.now ≡ length batch.now.classes }
-        requires within { All (λ place. place < self.old.graph.classes) places.now }
-        requires spare_edges { length batch.now.edges ≤ self.old.graph.spare_edges }
-        requires spare_rows { vec_len self.old.rows + length batch.now.edges
-            ≤ vec_capacity self.old.rows }
-        ensures batch { IsShown batch.now }
-        ensures known { AreKnownWords self.new.rows.items known.new.classes.items
-            known.new.words.items }
-        ensures classes { self.new.graph.classes ≡ self.old.graph.classes }
-        ensures front { take (length self.old.rows.items) (edges_of self.new.rows.items)
-            ≡ edges_of self.old.rows.items }
-        ensures further { AreFurther self.old.reach self.new.reach }
-        ensures exact { StayExact (edges_of self.old.rows.items) (edges_of self.new.rows.items)
-            self.old.reach self.new.reach }
-        ensures closing { IsCycleEdge (edges_of self.old.rows.items) self.old.closing
-            → IsCycleEdge (edges_of self.new.rows.items) self.new.closing }
-        ensures numbered { (classes : List PlainClass) → length classes ≡ self.old.graph.classes
-            → AreBetween classes self.old.rows.items → AreBetween classes self.new.rows.items }
-        ensures witnesses { (classes : List PlainClass) → length classes ≡ self.old.graph.classes
-            → AreBetween classes self.old.rows.items
-            → ArePlaces classes batch.now.classes places.now
-            → (first : Dependency → Option Witness)
-            → AreWitnessed classes self.old.rows.items first
-            → AreWitnessed classes self.new.rows.items
-            (with_first first
-            (first_since dependency_witness batch.now.behind batch.now.sources)) }
-    {
-        let words = batch.words();
-        known.find(batch.class_numbers(), &words, places, guesses);
-        for word in words.words {
-            self.add_word(*word, &words, places, known, guesses);
-        }
-    }
-
-    /// Notes that the dependency was seen there, unless it was seen earlier. It is looked for where the guesses
-    /// say first; these then have its place for its number.
-    // Most dependencies are guessed, and were seen in an earlier trace.
-    #[inline(always)]
-    fn note(&mut self, edge: Edge, witness: Witness, number: u32, guesses: &mut Guesses)
+    /// Notes that the dependency was seen there, unless it was seen earlier.
+    fn note(&mut self, edge: Edge, witness: Witness)
         requires from { edge.from < self.old.graph.classes }
         requires to { edge.to < self.old.graph.classes }
         requires spare_edges { 0 < self.old.graph.spare_edges }
@@ -194,51 +139,9 @@ impl Dependencies {
             → AreWitnessed classes self.old.rows.items first
             → AreWitnessed classes self.new.rows.items
             (with_seen first (named_edge classes edge) witness) }
-        ensures kept { (e : Edge) (trace : ℕ) → WasSeen self.old.rows.items e trace
-            → WasSeen self.new.rows.items e trace }
-        ensures there { WasSeen self.new.rows.items edge witness.number }
-    {
-        let guess = guesses.dependency(number);
-        if self.is_at(guess, edge) {
-            self.see(guess, edge, witness);
-        } else {
-            self.note_unguessed(edge, witness, number, guesses);
-        }
-    }
-
-    /// The same, of a dependency that isn't guessed.
-    #[inline(never)]
-    fn note_unguessed(&mut self, edge: Edge, witness: Witness, number: u32, guesses: &mut Guesses)
-        requires from { edge.from < self.old.graph.classes }
-        requires to { edge.to < self.old.graph.classes }
-        requires spare_edges { 0 < self.old.graph.spare_edges }
-        requires spare_rows { vec_len self.old.rows < vec_capacity self.old.rows }
-        ensures classes { self.new.graph.classes ≡ self.old.graph.classes }
-        ensures spare_edges { self.old.graph.spare_edges ≤ self.new.graph.spare_edges + 1 }
-        ensures spare_rows { (n : ℕ) → vec_len self.old.rows + (n + 1) ≤ vec_capacity self.old.rows
-            → vec_len self.new.rows + n ≤ vec_capacity self.new.rows }
-        ensures front { (n : ℕ) → n ≤ length self.old.rows.items
-            → take n (edges_of self.new.rows.items) ≡ take n (edges_of self.old.rows.items) }
-        ensures further { AreFurther self.old.reach self.new.reach }
-        ensures exact { StayExact (edges_of self.old.rows.items) (edges_of self.new.rows.items)
-            self.old.reach self.new.reach }
-        ensures closing { IsCycleEdge (edges_of self.old.rows.items) self.old.closing
-            → IsCycleEdge (edges_of self.new.rows.items) self.new.closing }
-        ensures numbered { (classes : List PlainClass) → length classes ≡ self.old.graph.classes
-            → AreBetween classes self.old.rows.items → AreBetween classes self.new.rows.items }
-        ensures noted { (classes : List PlainClass) → length classes ≡ self.old.graph.classes
-            → AreBetween classes self.old.rows.items
-            → (first : Dependency → Option Witness)
-            → AreWitnessed classes self.old.rows.items first
-            → AreWitnessed classes self.new.rows.items
-            (with_seen first (named_edge classes edge) witness) }
-        ensures kept { (e : Edge) (trace : ℕ) → WasSeen self.old.rows.items e trace
-            → WasSeen self.new.rows.items e trace }
-        ensures there { WasSeen self.new.rows.items edge witness.number }
     {
         let mut steps = Steps::new();
         let (place, answer) = self.graph.insert_full(edge.from, edge.to, &mut steps);
-        guesses.keep_dependency(number, place as usize);
         if let Insert::Known = answer {
             self.see(place as usize, edge, witness);
             return;
@@ -249,13 +152,6 @@ impl Dependencies {
             edge,
             first: witness,
         });
-    }
-
-    /// Whether the edge has this number, which may be past the last one.
-    fn is_at(&self, number: usize, edge: Edge) -> bool
-        ensures { OnTrue result (IsEdgeNumber self.now.graph.edges edge.from edge.to number) }
-    {
-        (number as u64) < self.graph.edges() && self.rows[number].edge == edge
     }
 
     /// Notes that the dependency of this number was seen there, unless it was seen earlier.
@@ -273,9 +169,6 @@ impl Dependencies {
             → AreWitnessed classes self.old.rows.items first
             → AreWitnessed classes self.new.rows.items
             (with_seen first (named_edge classes edge) witness) }
-        ensures kept { (e : Edge) (trace : ℕ) → WasSeen self.old.rows.items e trace
-            → WasSeen self.new.rows.items e trace }
-        ensures there { WasSeen self.new.rows.items edge witness.number }
     {
         let known = &mut self.rows[number];
         // Mostly the numbers of the traces tell it.

@@ -6,7 +6,6 @@ mod alarms;
 mod by_name;
 mod dependencies;
 mod findings;
-mod known;
 mod news;
 mod reaches;
 mod rows;

@@ -23,8 +23,6 @@ pub struct NewBit {
 pub struct News {
     pub(crate) bits: Vec<NewBit>,
     pub(crate) first_reached: PerState<usize>,
-    /// The numbers of the batch's classes, by their places in the batch.
-    pub(crate) places: Vec<u32>,
 }
 
 impl Model for News {
@@ -49,7 +47,6 @@ impl News {
         News {
             bits: Vec::new(alloc),
             first_reached: PerState { hard: 0, soft: 0 },
-            places: Vec::new(alloc),
         }
     }
 

@@ -4,7 +4,9 @@ ghost use Rattle.std.specs.Prelude.{length, All, Contains, MatchOption, OnErr, O
 ghost use Rattle.ld_class.specs.declared.names.TheConstants.{MOST_NAMES};
 ghost use Rattle.ld_class.specs.Names.{plain_class};
 ghost use Rattle.ld_rules.specs.Dependency.{Dependency};
+ghost use Rattle.ld_rules.specs.Union.{union_classes};
 ghost use Rattle.ld_rules.specs.Usage.{Use};
+ghost use Rattle.ld_shown.specs.Inner.Names.{AreThere};
 ghost use Rattle.ld_union.specs.Inner.News.{Tells};
 ghost use Rattle.ld_union.specs.Inner.Reached.{IsSourceAt};
 ghost use Rattle.ld_union.specs.Inner.States.{of_state};
@@ -13,7 +15,6 @@ ghost use Rattle.ld_union.specs.Inner.Union.{IsCycleEdge, known_row};
 ghost use Rattle.ld_union.specs.Usage.{bits_of};
 
 use crate::dependencies::{Dependencies, Witnessed};
-use crate::known::KnownWords;
 use crate::news::News;
 use crate::usage::{UsageRow, add_usage};
 use ld_class::{ClassName, Classes};
@@ -34,12 +35,9 @@ pub struct Union<'a> {
     dependencies: Dependencies,
     /// The usage of the classes, by their numbers.
     usage: Vec<UsageRow>,
-    /// What of the dependencies is known by words.
-    known: KnownWords,
 }
 
 impl<'a> Model for Union<'a> {
-    ghost use Rattle.ld_union.specs.Inner.Known.{AreKnownWords};
     ghost use Rattle.ld_union.specs.Inner.Reached.{expanded_by, marks_by, reached_by};
     ghost use Rattle.ld_union.specs.Inner.Union.{IsUnion, PlainUnion};
 
@@ -55,8 +53,7 @@ impl<'a> Model for Union<'a> {
     } };
 
     ghost invariant = { λ u. IsUnion u.classes u.dependencies.graph u.dependencies.rows.items
-        u.usage.items u.dependencies.closing u.dependencies.reach
-        × AreKnownWords u.dependencies.rows.items u.known.classes.items u.known.words.items };
+        u.usage.items u.dependencies.closing u.dependencies.reach };
 }
 
 impl<'a> Union<'a> {
@@ -76,14 +73,12 @@ impl<'a> Union<'a> {
             classes: Classes::new(alloc),
             dependencies: Dependencies::new(alloc),
             usage: Vec::new(alloc),
-            known: KnownWords::new(alloc),
         }
     }
 
     /// Adds what the traces of a batch show, where those behind it were added already, and writes over
-    /// `news` what of it is new. Classes and
-    /// dependencies are looked for where the guesses say first; the guesses then have their places, as far as
-    /// there is memory for them.
+    /// `news` what of it is new. Classes are looked for where the guesses say first; the guesses then have their
+    /// places, as far as there is memory for them.
     ///
     /// # Errors
     ///
@@ -95,33 +90,35 @@ impl<'a> Union<'a> {
         guesses: &mut Guesses,
         news: &mut News,
     ) -> Result<(), AllocError>
-        requires { length self.old.classes + length batch.now.classes ≤ MOST_NAMES }
+        requires few { length self.old.classes + length batch.now.classes ≤ MOST_NAMES }
+        requires there { AreThere self.old.classes (union_classes batch.now.behind) }
         ensures added { OnOk result (Adds batch.now.behind batch.now.sources self.old self.new) }
         ensures told { OnOk result (Tells self.old self.new news.new) }
         ensures refused { OnErr result (self.new ≡ self.old) }
     {
         news.first_reached = self.dependencies.reach.counts();
+        let behind = batch.classes_behind();
         let classes = batch.classes().len();
-        self.dependencies.room(classes, batch.count())?;
-        self.usage.reserve(classes)?;
+        let new = classes - behind;
+        self.dependencies.room(new, batch.count())?;
+        self.usage.reserve(new)?;
         news.bits.clear();
         news.bits.reserve(batch.usage().len())?;
         let numbers = batch.class_numbers();
-        intern_all(
-            &mut self.classes,
-            batch.classes(),
-            numbers,
-            guesses,
-            &mut news.places,
-        )?;
-        // From here on no refusal is answered: a guess or a known word without memory is left out.
+        intern_all(&mut self.classes, batch.classes(), behind, numbers, guesses)?;
+        // From here on no refusal is answered: a guess without memory is left out.
         self.dependencies.enter_classes(self.classes.len());
         let Ok(()) = self.usage.resize(self.classes.len(), UsageRow::unused()) else {
             unreachable!()
         };
-        self.dependencies
-            .add(batch, &news.places, &mut self.known, guesses);
-        add_usage(&mut self.usage, batch, &news.places, &mut news.bits);
+        self.dependencies.add(batch, &self.classes, guesses);
+        add_usage(
+            &mut self.usage,
+            batch,
+            &self.classes,
+            guesses,
+            &mut news.bits,
+        );
         self.dependencies.seed_all(&news.bits);
         Ok(())
     }

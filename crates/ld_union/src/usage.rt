@@ -8,16 +8,16 @@ ghost use Rattle.ld_class.specs.Usage.{either, has_bit};
 ghost use Rattle.ld_rules.specs.Union.{earlier, use_witness};
 ghost use Rattle.ld_rules.specs.Usage.{Bit, IsBit, Use, bit_of, same_bit};
 ghost use Rattle.ld_shown.specs.Batch.{first_since};
-ghost use Rattle.ld_shown.specs.Inner.Names.{ArePlaces};
+ghost use Rattle.ld_shown.specs.Inner.Names.{AreThere};
 ghost use Rattle.ld_union.specs.Inner.News.{TellsBits};
 ghost use Rattle.ld_union.specs.Inner.Union.{AreUsed, with_bit, with_first, with_first_use};
 ghost use Rattle.ld_union.specs.Usage.{bits, bits_of, row_of};
 
 use crate::news::NewBit;
 use bitflags::Flags;
-use ld_class::Usage;
+use ld_class::{Classes, Usage};
 use ld_rules::Witness;
-use ld_shown::Shown;
+use ld_shown::{Guesses, Shown, place_in};
 
 /// The usage of a class, over all traces.
 #[derive(Clone, Copy, Debug, PartialEq, Eq)]
@@ -87,29 +87,31 @@ fn place_of(bit: Usage) -> usize
     bit.bits().trailing_zeros() as usize
 }
 
-/// Notes the usage of a batch whose classes have these numbers, each bit of a class where it was seen
+/// Notes the usage of a batch whose classes are among these names, each bit of a class where it was seen
 /// first, those that no source behind it shows, and tells the bits that are new.
 pub(crate) fn add_usage(
     rows: &mut [UsageRow],
     batch: &Shown<'_, '_>,
-    places: &[u32],
+    names: &Classes<'_>,
+    guesses: &mut Guesses,
     bits: &mut Vec<NewBit>,
 )
-    requires count { length places.now ≡ length batch.now.classes }
-    requires within { All (λ place. place < length rows.old) places.now }
+    requires count { length names.now ≡ length rows.old }
+    requires there { AreThere names.now batch.now.classes }
     requires none { bits.old.items ≡ [] }
     requires room { vec_len bits.old + length batch.now.usage ≤ vec_capacity bits.old }
     ensures len { length rows.new ≡ length rows.old }
-    ensures used { (classes : List PlainClass) → AreDistinct classes
-        → ArePlaces classes batch.now.classes places.now
-        → (first : Use → Option Witness) → AreUsed classes rows.old first
-        → AreUsed classes rows.new (with_first first
+    ensures used { AreDistinct names.now
+        → (first : Use → Option Witness) → AreUsed names.now rows.old first
+        → AreUsed names.now rows.new (with_first first
         (first_since use_witness batch.now.behind batch.now.sources)) }
     ensures told { TellsBits (bits_of rows.old) (bits_of rows.new) bits.new.items }
 {
     for seen in batch.usage() {
+        let number = batch.class_number(seen.class);
+        let class = place_in(names, batch.classes(), seen.class, number, guesses);
         let shown = NewBit {
-            class: places[seen.class as usize],
+            class,
             bit: seen.bit,
         };
         note_use(rows, shown, seen.witness, bits);

@@ -1,6 +1,6 @@
 -- Names of one list that are added to another. No contract of a `Batch` cites this file.
-use Rattle.std.specs.Prelude.{◌≡◌, ℕ, ◌+◌, ◌<◌, ◌≤◌, List, length, take, fold, slice_index_or}
-use Rattle.ld_class.specs.Names.{IsNameAt, PlainClass, no_class, with_name}
+use Rattle.std.specs.Prelude.{◌≡◌, ℕ, ◌+◌, ◌≤◌, All, IsSome, List, length, take, fold}
+use Rattle.ld_class.specs.Names.{PlainClass, place_of, with_name}
 
 -- the names with all of these among them
 abbrev pub with_names : List PlainClass → List PlainClass → List PlainClass
@@ -12,7 +12,6 @@ pub record IsLonger (old new : List PlainClass) (more : ℕ) : Type 0 where
   pub least : length old ≤ length new
   pub most : length new ≤ length old + more
 
--- these are, in turn, the names at the places
-pub record ArePlaces (names these : List PlainClass) (places : List ℕ) : Type 0 where
-  pub count : length places ≡ length these
-  pub each : (i : ℕ) → i < length these → IsNameAt names (slice_index_or places i 0) (slice_index_or these i no_class)
+-- all of these are among the names
+abbrev pub AreThere : List PlainClass → List PlainClass → Type 0
+AreThere names these = All (λ name. IsSome (place_of names name)) these

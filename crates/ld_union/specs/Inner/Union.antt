@@ -39,17 +39,6 @@ pub record AreWitnessed (classes : List PlainClass) (rows : List Witnessed)
 abbrev pub edges_of : List Witnessed → List Edge
 edges_of rows = map (λ r. r.edge) rows
 
--- There is a row of this edge, which was first seen in a trace of this number or of a lower one.
-pub record WasSeen (rows : List Witnessed) (edge : Edge) (trace : ℕ) : Type 0 where
-  pub at : ℕ
-  pub within : at < length rows
-  pub same : (d : Witnessed) → (slice_index_or rows at d).edge ≡ edge
-  pub early : (d : Witnessed) → (slice_index_or rows at d).first.number ≤ trace
-
--- There is one, which was first seen in a trace of a lower number.
-abbrev pub WasSeenBefore : List Witnessed → Edge → ℕ → Type 0
-WasSeenBefore rows edge number = (trace : ℕ) × ((trace < number) × WasSeen rows edge trace)
-
 -- Numbers stand for the classes, and each row is an edge between two of them, of which there is no other.
 pub record AreBetween (classes : List PlainClass) (rows : List Witnessed) : Type 0 where
   pub distinct : AreDistinct classes

@@ -1,74 +1,72 @@
-//! The dependencies of a word, passed over where they are known and else noted one by one.
-ghost use Rattle.std.specs.Prelude.{◌≡◌, ◌+◌, ◌<◌, ◌≤◌, All, length, vec_len, vec_capacity};
+//! The dependencies of a batch, word after word, noted one by one.
+ghost use Rattle.std.specs.Prelude.{◌≡◌, ◌+◌, ◌≤◌, All, Option, length, vec_len, vec_capacity};
 ghost use Rattle.ld_class.specs.Blocks.{IsBlock};
+ghost use Rattle.ld_rules.specs.declared.outcome.Witness.{Witness};
+ghost use Rattle.ld_rules.specs.Dependency.{Dependency};
+ghost use Rattle.ld_rules.specs.Union.{dependency_witness};
+ghost use Rattle.ld_shown.specs.Batch.{IsBetween, IsShown, first_since};
+ghost use Rattle.ld_shown.specs.Inner.Names.{AreThere};
 ghost use Rattle.ld_shown.specs.Inner.Rows.{edges_in};
-ghost use Rattle.ld_union.specs.Inner.Known.{AreFound, AreKnownWords, number_by};
-ghost use Rattle.ld_union.specs.Inner.Noted.{AreNoted, IsPlaced};
+ghost use Rattle.ld_union.specs.Inner.Noted.{AreNoted};
+ghost use Rattle.ld_union.specs.Inner.Union.{AreBetween, AreWitnessed, with_first};
 
 use super::Dependencies;
-use crate::known::{KnownWords, number_at};
+use ld_class::{ClassList, Classes};
 use ld_graph::Edge;
-use ld_shown::{Guesses, WitnessedWord, Words};
+use ld_shown::{Guesses, Shown, WitnessedWord, Words, place_in};
 
 impl Dependencies {
-    /// Notes the dependencies of a word, where they aren't known. Its classes have places in the batch, and `places` has
-    /// at each place the number of the class here.
-    pub(super) fn add_word(
-        &mut self,
-        word: WitnessedWord,
-        words: &Words<'_>,
-        places: &[u32],
-        known: &mut KnownWords,
-        guesses: &mut Guesses,
-    )
-        requires within { All (λ place. place < self.old.graph.classes) places.now }
-        requires low { IsBlock word.block }
-        requires placed { All (IsPlaced places.now) (edges_in words.now.places.now word) }
-        requires spare_edges { length (edges_in words.now.places.now word) ≤ self.old.graph.spare_edges }
-        requires spare_rows { vec_len self.old.rows + length (edges_in words.now.places.now word)
+    /// Notes the dependencies of a batch whose classes are among these names, each where it was seen first: those that
+    /// no source behind it shows.
+    pub(crate) fn add(&mut self, batch: &Shown<'_, '_>, names: &Classes<'_>, guesses: &mut Guesses)
+        requires count { length names.now ≡ self.old.graph.classes }
+        requires there { AreThere names.now batch.now.classes }
+        requires spare_edges { length batch.now.edges ≤ self.old.graph.spare_edges }
+        requires spare_rows { vec_len self.old.rows + length batch.now.edges
             ≤ vec_capacity self.old.rows }
-        requires found { AreFound (number_by words.now.places.now places.now)
-            known.old.classes.items known.old.found.items }
-        requires known { AreKnownWords self.old.rows.items known.old.classes.items known.old.words.items }
-        ensures noted { AreNoted places.now (edges_in words.now.places.now word) self.old self.new }
-        ensures found { AreFound (number_by words.now.places.now places.now)
-            known.new.classes.items known.new.found.items }
-        ensures known { AreKnownWords self.new.rows.items known.new.classes.items known.new.words.items }
+        ensures batch { IsShown batch.now }
+        ensures noted { AreNoted names.now batch.now.classes batch.now.edges self.old self.new }
+        ensures witnesses { AreBetween names.now self.old.rows.items
+            → (first : Dependency → Option Witness)
+            → AreWitnessed names.now self.old.rows.items first
+            → AreWitnessed names.now self.new.rows.items
+            (with_first first
+            (first_since dependency_witness batch.now.behind batch.now.sources)) }
     {
-        let to = number_at(places, words.place(word.to));
-        if known.has(&word, to, guesses) {
-            return;
+        let words = batch.words();
+        for word in words.words {
+            self.note_word(*word, &words, batch.classes(), names, guesses);
         }
-        self.note_word(word, words, places, guesses);
-        known.keep(&word, to, guesses);
     }
 
-    /// Notes the dependencies of a word. Its classes have places in the batch, and `places` has at each place the
-    /// number of the class here.
-    pub(super) fn note_word(
+    /// Notes the dependencies of a word between classes of a batch, which are among these names.
+    fn note_word(
         &mut self,
         word: WitnessedWord,
         words: &Words<'_>,
-        places: &[u32],
+        classes: &ClassList<'_>,
+        names: &Classes<'_>,
         guesses: &mut Guesses,
     )
-        requires within { All (λ place. place < self.old.graph.classes) places.now }
+        requires count { length names.now ≡ self.old.graph.classes }
+        requires there { AreThere names.now classes.now }
         requires low { IsBlock word.block }
-        requires placed { All (IsPlaced places.now) (edges_in words.now.places.now word) }
+        requires between { All (IsBetween classes.now) (edges_in words.now.places.now word) }
         requires spare_edges { length (edges_in words.now.places.now word) ≤ self.old.graph.spare_edges }
         requires spare_rows { vec_len self.old.rows + length (edges_in words.now.places.now word)
             ≤ vec_capacity self.old.rows }
-        ensures { AreNoted places.now (edges_in words.now.places.now word) self.old self.new }
+        ensures { AreNoted names.now classes.now (edges_in words.now.places.now word) self.old self.new }
     {
-        let to = number_at(places, words.place(word.to));
+        if word.bits == 0 {
+            return;
+        }
+        let to = place_in(names, classes, words.place(word.to), word.to, guesses);
         let mut left = word.bits;
         while left != 0 {
             let bit = left.trailing_zeros();
-            let held_place = words.place(64 * word.block + bit);
-            let from = places[held_place as usize];
-            // For a guess any number will do.
-            let number = word.number.wrapping_mul(64).wrapping_add(bit);
-            self.note(Edge { from, to }, word.witness, number, guesses);
+            let number = 64 * word.block + bit;
+            let from = place_in(names, classes, words.place(number), number, guesses);
+            self.note(Edge { from, to }, word.witness);
             left &= !(1 << bit);
         }
     }

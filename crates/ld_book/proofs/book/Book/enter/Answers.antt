@@ -2,15 +2,24 @@ use Rattle.std.proofs.Common.{◌≢◌, ◌*◌, ◌≤◌, ◌++◌, ◌∙◌
 use Rattle.ld_trace.specs.declared.source.TheConstants.{MOST_TRACES}
 use Rattle.ld_trace.specs.Sources.{Fits}
 use Rattle.ld_rules.specs.declared.outcome.TheConstants.{MOST_CLASSES}
+use Rattle.ld_rules.specs.Union.{union_classes}
 use Rattle.ld_facts.proofs.BatchLemmas.{few_sources}
-use Rattle.ld_shown.proofs.SinceLemmas.{fit-since, rise-since}
+use Rattle.ld_shown.specs.Inner.Names.{AreThere}
+use Rattle.ld_shown.proofs.SinceLemmas.{fit-since, rise-since, there-behind}
 use Rattle.ld_book.specs.Book.{is_any_listed}
 use Rattle.ld_book.specs.Inner.Kept.{IsKept}
 use Rattle.ld_book.proofs.BookLemmas.{apart_from_rise, kept-added}
 use Rattle.ld_book.proofs.book.Book.enter.Goals as goal
 
-pub add-requires : goal.add-requires
-add-requires c =
+pub add-requires-clause-there : goal.add-requires-clause-there
+add-requires-clause-there c =
+    let batch = c.args.batch.now in
+    let sources = c.self.inside.listing.sources in
+    subst (λ names. AreThere names (union_classes batch.behind)) (sym c.self.invariant.shows.classes)
+    (there-behind sources batch.behind (subst (λ sources. All (Contains sources) batch.behind) (sym c.self.view_is) c.requires.behind))
+
+pub add-requires-clause-few : goal.add-requires-clause-few
+add-requires-clause-few c =
     let batch = c.args.batch.now in
     let told = c.traces-traces.ensures in
     let traces : length c.self.inside.listing.sources ≤ MOST_TRACES = c.room.ensures.few in

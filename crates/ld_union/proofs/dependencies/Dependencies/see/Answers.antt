@@ -4,7 +4,6 @@ use Rattle.ld_graph.specs.Edges.{IsEdgeNumber}
 use Rattle.ld_rules.specs.Union.{earlier}
 use Rattle.ld_union.specs.declared.dependencies.Witnessed.{Witnessed}
 use Rattle.ld_shown.proofs.EarlierLemmas.{earlier-lower}
-use Rattle.ld_union.proofs.WasSeenLemmas.{kept-seen, there-seen}
 use Rattle.ld_union.proofs.UnionLemmas.{edges-set, found_row, witnessed-set}
 use Rattle.ld_union.proofs.dependencies.Dependencies.see.Goals as goal
 
@@ -40,43 +39,3 @@ returns-else-witness-known-clause-noted c classes numbered first witnessed =
     (sym (earlier-lower known.first c.args.witness c.if-witness-known.false) ∙ ap (λ (row : Witnessed). earlier row.first c.args.witness)
     (get_or_read rows c.args.number known at.0 c.index_mut-known.ensures.value _))
     first witnessed
-
-pub returns-then-witness-known-clause-there : goal.returns-then-witness-known-clause-there
-returns-then-witness-known-clause-there c =
-    let rows = c.args.self.now.rows.items in
-    let e = c.args.edge in
-    let known = c.index_mut-known.result.now in
-    let at = found_row rows e.from e.to c.args.number (subst (λ edges. IsEdgeNumber edges e.from e.to c.args.number) c.args.self.now.same_edges c.requires) in
-    there-seen rows c.args.number e at.0 at.1 _ (ap (λ (row : Witnessed). row.edge) c.index_mut-known.ensures.value ∙ at.1 known) c.args.witness
-    (c.earlier-known.ensures ∙ ap (λ (row : Witnessed). earlier row.first c.args.witness)
-    (get_or_read rows c.args.number known at.0 c.index_mut-known.ensures.value _))
-
-pub returns-then-witness-known-clause-kept : goal.returns-then-witness-known-clause-kept
-returns-then-witness-known-clause-kept c =
-    let rows = c.args.self.now.rows.items in
-    let e = c.args.edge in
-    let known = c.index_mut-known.result.now in
-    let at = found_row rows e.from e.to c.args.number (subst (λ edges. IsEdgeNumber edges e.from e.to c.args.number) c.args.self.now.same_edges c.requires) in
-    kept-seen rows c.args.number e at.0 at.1 _ (ap (λ (row : Witnessed). row.edge) c.index_mut-known.ensures.value ∙ at.1 known) c.args.witness
-    (c.earlier-known.ensures ∙ ap (λ (row : Witnessed). earlier row.first c.args.witness)
-    (get_or_read rows c.args.number known at.0 c.index_mut-known.ensures.value _))
-
-pub returns-else-witness-known-clause-there : goal.returns-else-witness-known-clause-there
-returns-else-witness-known-clause-there c =
-    let rows = c.args.self.now.rows.items in
-    let e = c.args.edge in
-    let known = c.index_mut-known.result.now in
-    let at = found_row rows e.from e.to c.args.number (subst (λ edges. IsEdgeNumber edges e.from e.to c.args.number) c.args.self.now.same_edges c.requires) in
-    there-seen rows c.args.number e at.0 at.1 _ (ap (λ (row : Witnessed). row.edge) c.index_mut-known.ensures.value ∙ at.1 known) c.args.witness
-    (sym (earlier-lower known.first c.args.witness c.if-witness-known.false) ∙ ap (λ (row : Witnessed). earlier row.first c.args.witness)
-    (get_or_read rows c.args.number known at.0 c.index_mut-known.ensures.value _))
-
-pub returns-else-witness-known-clause-kept : goal.returns-else-witness-known-clause-kept
-returns-else-witness-known-clause-kept c =
-    let rows = c.args.self.now.rows.items in
-    let e = c.args.edge in
-    let known = c.index_mut-known.result.now in
-    let at = found_row rows e.from e.to c.args.number (subst (λ edges. IsEdgeNumber edges e.from e.to c.args.number) c.args.self.now.same_edges c.requires) in
-    kept-seen rows c.args.number e at.0 at.1 _ (ap (λ (row : Witnessed). row.edge) c.index_mut-known.ensures.value ∙ at.1 known) c.args.witness
-    (sym (earlier-lower known.first c.args.witness c.if-witness-known.false) ∙ ap (λ (row : Witnessed). earlier row.first c.args.witness)
-    (get_or_read rows c.args.number known at.0 c.index_mut-known.ensures.value _))

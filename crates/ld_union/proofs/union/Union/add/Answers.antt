@@ -1,4 +1,4 @@
-use Rattle.std.proofs.Common.{rules, All, Contains, ◌<◌, ◌≡◌, ◌-◌, ◌++◌, ◌∙◌, [], None, List, ℕ, ap, arith, count_by, false, get_or, length, replicate, subst, sym, take}
+use Rattle.std.proofs.Common.{rules, All, Contains, ◌<◌, ◌≡◌, ◌-◌, ◌++◌, ◌∙◌, [], None, List, ℕ, ap, arith, count_by, drop, false, get_or, length, replicate, subst, sym, take}
 use Rattle.std.proofs.lemmas.List.{take_all, with_items_is}
 use Rattle.std.specs.Vec.{with_items}
 use Rattle.ld_class.specs.Names.{PlainClass}
@@ -6,12 +6,13 @@ use Rattle.ld_graph.specs.Edges.{IsEdge, PlainGraph}
 use Rattle.ld_graph.specs.Reach.{IsReach}
 use Rattle.ld_trace.specs.declared.event.State.{State}
 use Rattle.ld_trace.specs.declared.event.State.TheVariants.{Hard, Soft}
-use Rattle.ld_rules.specs.Union.{use_witness}
+use Rattle.ld_rules.specs.Union.{union_classes, use_witness}
 use Rattle.ld_union.specs.declared.dependencies.Witnessed.{Witnessed}
 use Rattle.ld_union.specs.declared.news.NewBit.{NewBit}
 use Rattle.ld_union.specs.declared.usage.UsageRow.{UsageRow}
 use Rattle.ld_shown.specs.Batch.{first_since}
-use Rattle.ld_shown.specs.Inner.Names.{ArePlaces, IsLonger, with_names}
+use Rattle.ld_shown.specs.Inner.Names.{AreThere, IsLonger, with_names}
+use Rattle.ld_shown.proofs.SinceLemmas.{front-since, least-since}
 use Rattle.ld_union.specs.Inner.News.{Tells, TellsBits}
 use Rattle.ld_union.specs.Inner.Reached.{AreFurther, ExpandsOnce, IsReachOf, IsSeeded, expanded_by, marks_by, reached_by}
 use Rattle.ld_union.specs.Inner.States.{of_state}
@@ -36,16 +37,16 @@ module _ (c : goal.After-seed_all) where
   classes = c.intern_all.new.names
 
   abbrev count : ℕ
-  count = length c.args.batch.now.classes
+  count = length c.args.batch.now.classes - length (union_classes c.args.batch.now.behind)
 
   longer : IsLonger c.self.inside.classes classes count
-  longer = subst (λ names. IsLonger c.self.inside.classes classes (length names)) c.classes-2.ensures c.in_ok-intern_all.ensures.longer
+  longer = subst (IsLonger c.self.inside.classes classes) (λ i. length (c.classes-2.ensures i) - c.classes_behind-behind.ensures.same i) c.in_ok-intern_all.ensures.longer
 
-  names : classes ≡ with_names c.self.inside.classes c.args.batch.now.classes
-  names = c.in_ok-intern_all.ensures.names ∙ ap (with_names c.self.inside.classes) c.classes-2.ensures
+  names : classes ≡ with_names c.self.inside.classes (drop (length (union_classes c.args.batch.now.behind)) c.args.batch.now.classes)
+  names = c.in_ok-intern_all.ensures.names ∙ (λ i. with_names c.self.inside.classes (drop (c.classes_behind-behind.ensures.same i) (c.classes-2.ensures i)))
 
-  places : ArePlaces classes c.args.batch.now.classes c.intern_all.new.places.items
-  places = subst (λ these. ArePlaces classes these c.intern_all.new.places.items) c.classes-2.ensures c.in_ok-intern_all.ensures.places
+  there : AreThere classes c.args.batch.now.classes
+  there = subst (AreThere classes) c.classes-2.ensures c.in_ok-intern_all.ensures.there
 
   -- before the dependencies were noted
   rows : c.enter_classes.new.self.rows.items ≡ old_rows
@@ -55,7 +56,7 @@ module _ (c : goal.After-seed_all) where
   entered = sym (c.enter_classes.ensures.count ∙ c.len.ensures.len)
 
   numbered : AreBetween classes c.enter_classes.new.self.rows.items
-  numbered = subst (AreBetween classes) (sym rows) (numbered-longer c.self.inside.classes classes old_rows count c.len.ensures.distinct c.self.invariant.0.numbered longer)
+  numbered = subst (AreBetween classes) (sym rows) (numbered-longer c.self.inside.classes classes old_rows count c.len.ensures.distinct c.self.invariant.numbered longer)
 
   -- before the usage was noted
   usage : c.deref_mut.result.now ≡ take (length classes) old_usage ++ replicate (length classes - length old_usage) (row_of (λ bit. None))
@@ -93,7 +94,7 @@ module _ (c : goal.After-seed_all) where
       tells-then (bits_of old_usage) (bits_of c.deref_mut.result.now) (bits_of c.add_usage.new.rows) c.add_usage.new.bits.items
       (subst (λ all. TellsBits (bits_of old_usage) (bits_of all) [])
       (ap (λ front. front ++ replicate (length classes - length old_usage) (row_of (λ bit. None)))
-      (sym (take_all (length classes) old_usage (omega (arith, c.self.invariant.0.rows, longer.least)))) ∙ sym usage)
+      (sym (take_all (length classes) old_usage (omega (arith, c.self.invariant.rows, longer.least)))) ∙ sym usage)
       (tells-longer old_usage (length classes - length old_usage)))
       c.add_usage.ensures.told
 
@@ -106,11 +107,11 @@ module _ (c : goal.After-seed_all) where
       further-then c.self.inside.dependencies.reach c.room.new.self.reach c.seed_all.new.self.reach
       (further-spares c.self.inside.dependencies.reach c.room.new.self.reach c.in_ok-room.ensures.hard c.in_ok-room.ensures.soft)
       (further-then c.room.new.self.reach c.enter_classes.new.self.reach c.seed_all.new.self.reach c.enter_classes.ensures.further
-      (further-then c.enter_classes.new.self.reach c.add.new.self.reach c.seed_all.new.self.reach c.add.ensures.further c.seed_all.ensures.further))
+      (further-then c.enter_classes.new.self.reach c.add.new.self.reach c.seed_all.new.self.reach c.add.ensures.noted.further c.seed_all.ensures.further))
 
   -- no class was expanded twice
   once : (state : State) → ExpandsOnce (length classes) (of_state c.seed_all.new.self.reach state)
-  once state = subst (λ n. ExpandsOnce n (of_state c.seed_all.new.self.reach state)) (ap (λ (g : PlainGraph). g.classes) c.seed_all.ensures.graph ∙ c.add.ensures.classes ∙ sym entered) (c.seed_all.new.self.counted state)
+  once state = subst (λ n. ExpandsOnce n (of_state c.seed_all.new.self.reach state)) (ap (λ (g : PlainGraph). g.classes) c.seed_all.ensures.graph ∙ c.add.ensures.noted.classes ∙ sym entered) (c.seed_all.new.self.counted state)
 
   counted : (state : State) → of_state c.counts-news-inside.result state ≡ length (of_state (reached_by c.self.inside.dependencies.reach) state)
   counted Hard = c.counts-news-inside.ensures.hard
@@ -120,31 +121,30 @@ module _ (c : goal.After-seed_all) where
   seeded : (state : State) → IsReachOf (length classes) (edges_of c.add.new.self.rows.items) (bits_of (with_items c.resize.new.self c.add_usage.new.rows).items) state
       (of_state c.seed_all.new.self.reach state)
   seeded state =
-      let was = c.self.invariant.0.reached state in
+      let was = c.self.invariant.reached state in
       let entered_exact = c.enter_classes.ensures.exact (edges_of old_rows) state was.seeds (c.in_ok-room.ensures.exact (edges_of old_rows) state was.seeds was.exact) in
-      let added = c.add.ensures.exact state was.seeds
+      let added = c.add.ensures.noted.exact state was.seeds
       (subst {A = List Witnessed} (λ all. IsReach (IsEdge (edges_of all)) was.seeds (of_state c.enter_classes.new.self.reach state)) (sym rows) entered_exact) in
       reach-seeded (edges_of c.add.new.self.rows.items) (bits_of old_usage) (bits_of (with_items c.resize.new.self c.add_usage.new.rows).items)
       c.add_usage.new.bits.items told state (length classes) was.seeds was.seeded (of_state c.seed_all.new.self.reach state)
       (once state)
       (subst (λ edges. IsSeeded edges was.seeds state c.add_usage.new.bits.items (of_state c.seed_all.new.self.reach state)) c.add.new.self.same_edges
-      (rw (← c.deref-3.ensures.value) (c.seed_all.ensures.exact state was.seeds
+      (rw (← c.deref.ensures.value) (c.seed_all.ensures.exact state was.seeds
       (subst (λ edges. IsReach (IsEdge edges) was.seeds (of_state c.add.new.self.reach state)) (sym c.add.new.self.same_edges) added))))
 
 pub returns-clause-added : goal.returns-clause-added
 returns-clause-added c =
     let these = classes c in
-    let named = c.args.batch.now.classes in
     subst (λ union. Adds c.args.batch.now.behind c.args.batch.now.sources union (after c)) c.self.view_is
     (subst (λ all. Adds c.args.batch.now.behind c.args.batch.now.sources (before c) (with_rows c all)) (same_rows c)
-    (adds-shown (before c) (with_rows c c.add.new.self.rows.items) c.args.batch.now c.add.ensures.batch (c.add.ensures.numbered these (entered c) (numbered c)) (names c)
+    (adds-shown (before c) (with_rows c c.add.new.self.rows.items) c.args.batch.now c.add.ensures.batch (c.add.ensures.noted.numbered (numbered c)) (names c)
     (λ first witnessed.
-    c.add.ensures.witnesses these (entered c) (numbered c) (subst (ArePlaces these named) (sym c.deref.ensures.value) (places c)) first
+    c.add.ensures.witnesses (numbered c) first
     (subst (λ all. AreWitnessed these all first) (sym (rows c))
-    (witnessed-longer c.self.inside.classes these (old_rows c) (count c) c.self.invariant.0.numbered (longer c) first witnessed)))
+    (witnessed-longer c.self.inside.classes these (old_rows c) (count c) c.self.invariant.numbered (longer c) first witnessed)))
     (λ first used.
     subst (λ all. AreUsed these all (with_first first (first_since use_witness c.args.batch.now.behind c.args.batch.now.sources))) (sym (written c))
-    (c.add_usage.ensures.used these c.len.ensures.distinct (subst (ArePlaces these named) (sym c.deref-2.ensures.value) (places c)) first
+    (c.add_usage.ensures.used c.len.ensures.distinct first
     (subst (λ all. AreUsed these all first) (sym (usage c)) (used-longer c.self.inside.classes (old_usage c) first used these (count c) c.len.ensures.distinct (longer c)))))))
 
 pub returns-clause-told : goal.returns-clause-told
@@ -155,7 +155,7 @@ returns-clause-told c =
     subst (λ union. Tells union (after c) (record { bits = c.add_usage.new.bits.items; first_reached = c.counts-news-inside.result })) c.self.view_is (record {
       front =
           (λ i. take (ap length (sym (rows c)) i) (edges_of (sym (same_rows c) i)))
-          ∙ c.add.ensures.front
+          ∙ c.add.ensures.noted.front
           ∙ ap edges_of (rows c);
       bits = told c;
       reached = counted c;
@@ -164,7 +164,7 @@ returns-clause-told c =
           ∙ (further c state).front
           ∙ sym (reached_at reach state);
       from = λ state class there.
-          source_some (length union.classes) (edges_of (old_rows c)) (bits_of (old_usage c)) state (of_state reach state) (c.self.invariant.0.reached state) class
+          source_some (length union.classes) (edges_of (old_rows c)) (bits_of (old_usage c)) state (of_state reach state) (c.self.invariant.reached state) class
           (c.counts-news-inside.ensures.sources state class (subst (λ all. Contains all class) (reached_at reach state) there));
       stays = λ state class on.
           ap (λ marks. get_or marks class false) (marks_at more state)
@@ -183,44 +183,74 @@ seed_all-requires-clause-within c =
       c.resize.new.self.ok.0,
       c.in-Ok.ensures.len,
       c.len-2.ensures.len,
-      c.add.ensures.classes,
+      c.add.ensures.noted.classes,
       c.enter_classes.ensures.count,
       c.len.ensures.len,
     ) in
-    rw c.deref-3.ensures.value
+    rw c.deref.ensures.value
     (subst (λ n. All (λ (bit : NewBit). bit.class < n) told) count (told_within (bits_of c.deref_mut.result.now) rows told c.add_usage.ensures.told))
 
 pub invariant_of-self : goal.invariant_of-self
 invariant_of-self c =
     rw (c.room.ensures.graph, c.room.ensures.rows, c.room.ensures.closing)
-    (union-kept c.room.new.self.reach c.self.invariant.0 c.room.new.self.graph.classes (ap (λ (g : PlainGraph). g.classes) c.room.ensures.graph) c.room.new.self.counted (c.room.ensures.exact (edges_of c.self.inside.dependencies.rows.items)), c.self.invariant.1)
+    (union-kept c.room.new.self.reach c.self.invariant c.room.new.self.graph.classes (ap (λ (g : PlainGraph). g.classes) c.room.ensures.graph) c.room.new.self.counted (c.room.ensures.exact (edges_of c.self.inside.dependencies.rows.items)))
 
 pub invariant_of-self-in_err-reserve : goal.invariant_of-self-in_err-reserve
 invariant_of-self-in_err-reserve c =
     rw (c.room.ensures.graph, c.room.ensures.rows, c.room.ensures.closing, c.in_err-reserve.ensures.items)
-    (union-kept c.room.new.self.reach c.self.invariant.0 c.room.new.self.graph.classes (ap (λ (g : PlainGraph). g.classes) c.room.ensures.graph) c.room.new.self.counted (c.room.ensures.exact (edges_of c.self.inside.dependencies.rows.items)), c.self.invariant.1)
+    (union-kept c.room.new.self.reach c.self.invariant c.room.new.self.graph.classes (ap (λ (g : PlainGraph). g.classes) c.room.ensures.graph) c.room.new.self.counted (c.room.ensures.exact (edges_of c.self.inside.dependencies.rows.items)))
 
 pub invariant_of-self-in_err-reserve-2 : goal.invariant_of-self-in_err-reserve-2
 invariant_of-self-in_err-reserve-2 c =
     rw (c.room.ensures.graph, c.room.ensures.rows, c.room.ensures.closing, c.in_ok-reserve.ensures.items)
-    (union-kept c.room.new.self.reach c.self.invariant.0 c.room.new.self.graph.classes (ap (λ (g : PlainGraph). g.classes) c.room.ensures.graph) c.room.new.self.counted (c.room.ensures.exact (edges_of c.self.inside.dependencies.rows.items)), c.self.invariant.1)
+    (union-kept c.room.new.self.reach c.self.invariant c.room.new.self.graph.classes (ap (λ (g : PlainGraph). g.classes) c.room.ensures.graph) c.room.new.self.counted (c.room.ensures.exact (edges_of c.self.inside.dependencies.rows.items)))
 
 pub invariant_of-self-in_err-intern_all : goal.invariant_of-self-in_err-intern_all
 invariant_of-self-in_err-intern_all c =
     rw (c.room.ensures.graph, c.room.ensures.rows, c.room.ensures.closing, c.in_ok-reserve.ensures.items, c.in_err-intern_all.ensures.refused)
-    (union-kept c.room.new.self.reach c.self.invariant.0 c.room.new.self.graph.classes (ap (λ (g : PlainGraph). g.classes) c.room.ensures.graph) c.room.new.self.counted (c.room.ensures.exact (edges_of c.self.inside.dependencies.rows.items)), c.self.invariant.1)
+    (union-kept c.room.new.self.reach c.self.invariant c.room.new.self.graph.classes (ap (λ (g : PlainGraph). g.classes) c.room.ensures.graph) c.room.new.self.counted (c.room.ensures.exact (edges_of c.self.inside.dependencies.rows.items)))
+
+pub intern_all-requires-clause-within : goal.intern_all-requires-clause-within
+intern_all-requires-clause-within c =
+    let batch = c.args.batch.now in
+    let least = least-since batch.behind batch.sources in
+    omega (arith, least, c.classes_behind-behind.ensures.same, ap length c.classes-2.ensures, ap length c.classes_behind-behind.ensures.exact.classes)
+
+pub intern_all-requires-clause-there : goal.intern_all-requires-clause-there
+intern_all-requires-clause-there c =
+    let batch = c.args.batch.now in
+    subst (AreThere c.self.inside.classes)
+    (sym ((λ i. take (c.classes_behind-behind.ensures.same i) ((c.classes-2.ensures ∙ c.classes_behind-behind.ensures.exact.classes) i))
+    ∙ front-since batch.behind batch.sources))
+    (subst (λ union. AreThere union.classes (union_classes batch.behind)) (sym c.self.view_is) c.requires.there)
+
+pub add-requires-clause-count : goal.add-requires-clause-count
+add-requires-clause-count c = sym (c.enter_classes.ensures.count ∙ c.len.ensures.len)
+
+pub add-requires-clause-there : goal.add-requires-clause-there
+add-requires-clause-there c = subst (AreThere c.intern_all.new.names) c.classes-2.ensures c.in_ok-intern_all.ensures.there
+
+pub add_usage-requires-clause-count : goal.add_usage-requires-clause-count
+add_usage-requires-clause-count c =
+    omega (arith, ap length c.deref_mut.ensures.value, c.resize.new.self.ok.0, c.in-Ok.ensures.len, c.len-2.ensures.len)
+
+pub add_usage-requires-clause-there : goal.add_usage-requires-clause-there
+add_usage-requires-clause-there c = subst (AreThere c.intern_all.new.names) c.classes-2.ensures c.in_ok-intern_all.ensures.there
+
+pub overflow_sub-new : goal.overflow_sub-new
+overflow_sub-new c =
+    let batch = c.args.batch.now in
+    let least = least-since batch.behind batch.sources in
+    omega (arith, least, c.classes_behind-behind.ensures.same, c.len-classes.ensures.len, ap length c.classes.ensures, ap length c.classes_behind-behind.ensures.exact.classes)
 
 pub invariant_of-self-2 : goal.invariant_of-self-2
-invariant_of-self-2 c = rw (c.seed_all.ensures.graph, c.seed_all.ensures.rows, c.seed_all.ensures.closing) (
-  record {
-    numbered = c.add.ensures.numbered (classes c) (entered c) (numbered c);
-    few = search rules;
-    count = c.add.ensures.classes ∙ sym (entered c);
-    rows = omega (arith, ap length (written c), c.add_usage.ensures.len, ap length c.deref_mut.ensures.value, c.resize.new.self.ok.0, c.in-Ok.ensures.len, c.len-2.ensures.len);
-    closing = c.add.ensures.closing
-        (subst {A = List Witnessed} (λ all. IsCycleEdge (edges_of all) c.enter_classes.new.self.closing) (sym (rows c))
-        (subst (IsCycleEdge (edges_of (old_rows c))) (sym (c.enter_classes.ensures.closing ∙ c.in_ok-room.ensures.closing)) c.self.invariant.0.closing));
-    reached = seeded c;
-  },
-  c.add.ensures.known,
-)
+invariant_of-self-2 c = rw (c.seed_all.ensures.graph, c.seed_all.ensures.rows, c.seed_all.ensures.closing) (record {
+  numbered = c.add.ensures.noted.numbered (numbered c);
+  few = search rules;
+  count = c.add.ensures.noted.classes ∙ sym (entered c);
+  rows = omega (arith, ap length (written c), c.add_usage.ensures.len, ap length c.deref_mut.ensures.value, c.resize.new.self.ok.0, c.in-Ok.ensures.len, c.len-2.ensures.len);
+  closing = c.add.ensures.noted.closing
+      (subst {A = List Witnessed} (λ all. IsCycleEdge (edges_of all) c.enter_classes.new.self.closing) (sym (rows c))
+      (subst (IsCycleEdge (edges_of (old_rows c))) (sym (c.enter_classes.ensures.closing ∙ c.in_ok-room.ensures.closing)) c.self.invariant.closing));
+  reached = seeded c;
+})

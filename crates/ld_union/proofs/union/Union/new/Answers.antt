@@ -2,4 +2,4 @@ use Rattle.std.proofs.Common.{rules}
 use Rattle.ld_union.proofs.union.Union.new.Goals as goal
 
 pub invariant_of-result : goal.invariant_of-result
-invariant_of-result c = (search rules, c.new-4.ensures c.new-2.result.rows.items)
+invariant_of-result c = search rules
