@@ -1,0 +1,10 @@
+pub mod ShowsLemmas
+pub mod ReadLemmas
+pub mod SameLemmas
+pub mod CutLemmas
+pub mod KeptLemmas
+pub mod StepLemmas
+pub mod LinesLemmas
+pub mod TasksLemmas
+pub mod FrontLemmas
+pub mod PiecesLemmas

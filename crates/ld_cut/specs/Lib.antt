@@ -1,0 +1,5 @@
+pub mod State
+pub mod Pieces
+pub mod Alike
+pub mod Cut
+pub mod Inner
