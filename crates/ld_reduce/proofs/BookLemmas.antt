@@ -35,6 +35,7 @@ use Rattle.ld_reduce.specs.Reduced.{AreNeeded, IsReduced}
 use Rattle.ld_reduce.specs.Same.{HaveSameUnion, HaveSameWitnesses, ShowSame}
 use Rattle.ld_reduce.specs.Written.{IsTrace}
 use Rattle.ld_reduce.proofs.JoinLemmas.{joined-kept, show_same-from_union}
+use Rattle.ld_reduce.proofs.LawLemmas.{reduced-left}
 use Rattle.ld_reduce.proofs.MarkedLemmas.{HasHead, both-marked, rising-marked, same-marked, traces-marked}
 use Rattle.ld_reduce.proofs.SettledLemmas.{reduced-settled, says-homes}
 use Rattle.ld_reduce.proofs.StreamLemmas.{sources-heads, sources-rising, sources-traces}
@@ -196,6 +197,7 @@ reduction-is keep_refused homes all text traces rise heads reduced sound union n
           (traces-marked others own (sources-traces other fine)) (rising-marked others own (sources-rising other)) is.are in
           subst (λ joined. HaveSameViolations (all ++ own) (sources joined)) (λ i. sym reduced.text_is i ++ sym is.text_is i)
           (violations-from_shown _ _ (shown-from_witnesses (all ++ own) (map (marked homes) all ++ map (marked others) own) _ (both-marked homes others all own heads head) shown));
+      left = reduced-left keep_refused homes all text reduced traces rise;
       needed = needed;
       said = says-homes homes all;
       settled = reduced-settled keep_refused homes all text reduced needed;

@@ -20,7 +20,7 @@ use Rattle.ld_reduce.proofs.TextLemmas.{texts-ended}
 use Rattle.ld_reduce.proofs.UnionLemmas.{counted, union-kept}
 use Rattle.ld_reduce.proofs.WrittenLemmas.{sources-written}
 
-some-map : {X Y : Type 0} (f : X → Y) (o : Option X) → is_some (option_map f o) ≡ is_some o
+pub some-map : {X Y : Type 0} (f : X → Y) (o : Option X) → is_some (option_map f o) ≡ is_some o
 some-map f None = refl
 some-map f (Some x) = refl
 

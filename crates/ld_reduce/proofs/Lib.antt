@@ -11,5 +11,8 @@ pub mod SettledLemmas
 pub mod ReducedLemmas
 pub mod JoinLemmas
 pub mod StreamLemmas
+pub mod SeamLemmas
+pub mod LeftLemmas
+pub mod LawLemmas
 pub mod NotedLemmas
 pub mod BookLemmas

@@ -15,7 +15,7 @@ use Rattle.ld_reduce.proofs.OriginLemmas.{home-said, origin-line, origin-said}
 use Rattle.ld_reduce.proofs.TextLemmas.{ended-twice, texts-ended}
 
 -- the trace says where it comes from
-abbrev HasOrigin : PlainSource → Type 0
+abbrev pub HasOrigin : PlainSource → Type 0
 HasOrigin s = is_some (origin_of s.bytes) ≡ true
 
 some_there : {X : Type 0} (xs : List X) (k : ℕ) → k < length xs → slice_get xs k ≡ None → zero ≡ suc zero
@@ -42,7 +42,7 @@ module _ (homes : List PlainHome) where
       by None is (Some home) has = ap is_some (says-home s home has is)
       by None is None has = absurd (let wrong = some_there homes s.number within has in cc)
 
-  have-marked : (all : List PlainSource) → HaveHomes homes all → All HasOrigin (map (marked homes) all)
+  pub have-marked : (all : List PlainSource) → HaveHomes homes all → All HasOrigin (map (marked homes) all)
   have-marked [] have = All-nil HasOrigin
   have-marked (s ∷ others) have =
       All-cons HasOrigin (marked homes s) (map (marked homes) others)
@@ -57,7 +57,7 @@ module _ (homes : List PlainHome) where
       by (Some origin) is has = λ i. marked_with (lacking (slice_get homes s.number) (is i)) s
       by None is has = absurd (cc)
 
-  all-unchanged : (all : List PlainSource) → All HasOrigin all → map (marked homes) all ≡ all
+  pub all-unchanged : (all : List PlainSource) → All HasOrigin all → map (marked homes) all ≡ all
   all-unchanged [] have = refl
   all-unchanged (s ∷ others) have = λ i. unchanged s (All-head HasOrigin s others have) i ∷ all-unchanged others (All-tail HasOrigin s others have) i
 
@@ -75,20 +75,20 @@ all-unmarked (s ∷ others) = λ i. unmarked s i ∷ all-unmarked others i
 
 -- Traces counted anew.
 
-have-counted : (n line : ℕ) (all : List PlainSource) → All HasOrigin all → All HasOrigin (counted_from n line all)
+pub have-counted : (n line : ℕ) (all : List PlainSource) → All HasOrigin all → All HasOrigin (counted_from n line all)
 have-counted n line [] have = All-nil HasOrigin
 have-counted n line (s ∷ others) have =
     All-cons HasOrigin _ _ (ap (λ texts. is_some (origin_by texts)) (texts-ended s.bytes) ∙ All-head HasOrigin s others have)
     (have-counted (n + 1) (line + 1 + length (lines (ended s.bytes))) others (All-tail HasOrigin s others have))
 
-written-counted : (n line : ℕ) (all : List PlainSource) → written (counted_from n line all) ≡ written all
+pub written-counted : (n line : ℕ) (all : List PlainSource) → written (counted_from n line all) ≡ written all
 written-counted n line [] = refl
 written-counted n line (s ∷ others) =
     λ i. (header s.label ++ ended-twice s.bytes i) ++ written-counted (n + 1) (line + 1 + length (lines (ended s.bytes))) others i
 
 -- Each of the traces that are needed is kept.
 
-all-kept : (pass : PlainSource → Bool) (all : List PlainSource) → All (λ s. pass s ≡ true) all → filter pass all ≡ all
+pub all-kept : (pass : PlainSource → Bool) (all : List PlainSource) → All (λ s. pass s ≡ true) all → filter pass all ≡ all
 all-kept pass [] each = refl
 all-kept pass (s ∷ others) each =
     (λ i. cond (All-head (λ s. pass s ≡ true) s others each i) (s ∷ filter pass others) (filter pass others))

@@ -3,4 +3,5 @@ pub mod Written
 pub mod Kept
 pub mod Same
 pub mod Reduced
+pub mod Left
 pub mod Reduction

@@ -4,6 +4,7 @@ use Rattle.ld_trace.specs.declared.source.TheConstants.{LONGEST_STREAM, MOST_TRA
 use Rattle.ld_trace.specs.Sources.{PlainSource, sources, stream_fault}
 use Rattle.ld_rules.specs.declared.outcome.Witness.{Witness}
 use Rattle.ld_book.specs.Violations.{IsViolation, Violation}
+use Rattle.ld_reduce.specs.Left.{IsLeft}
 use Rattle.ld_reduce.specs.Origin.{PlainHome, marked}
 use Rattle.ld_reduce.specs.Reduced.{AreNeeded, AreSaid, IsReduced, IsSettled}
 use Rattle.ld_reduce.specs.Same.{HaveSameUnion, HaveSameWitnesses}
@@ -29,7 +30,8 @@ IsJoinable all text =
 -- if it has one. That changes none of the lines at which something is first seen. Where the text isn't too long it has
 -- no fault; it has the same union, in which each witness is at the same line of a trace of the same label that comes
 -- from the same place, and the same violations, also joined with others; none of its traces could be left out; it reads
--- back where traces come from; and it stays as it is.
+-- back where traces come from; and it stays as it is. With another stream behind it, it is reduced to the same bytes as the
+-- traces with those of that stream behind them.
 pub record IsReductionOf (keep_refused : Bool) (homes : List PlainHome) (all : List PlainSource) (text : List ℕ) : Type 0 where
   pub reduced : IsReduced keep_refused (map (marked homes) all) text
   pub same : HaveSameWitnesses all (map (marked homes) all)
@@ -37,6 +39,7 @@ pub record IsReductionOf (keep_refused : Bool) (homes : List PlainHome) (all : L
   pub union : HaveSameUnion (map (marked homes) all) (sources text)
   pub violations : HaveSameViolations all (sources text)
   pub joined : IsJoinable all text
+  pub left : IsLeft keep_refused homes all text
   pub needed : AreNeeded keep_refused (sources text)
   pub said : AreSaid homes all
   pub settled : IsSettled keep_refused homes all text
