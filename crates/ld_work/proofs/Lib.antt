@@ -1,2 +1,3 @@
 pub mod EvenLemmas
 pub mod JobLemmas
+pub mod SeenLemmas

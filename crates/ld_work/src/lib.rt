@@ -5,11 +5,17 @@ mod desk;
 mod even;
 mod feeder;
 mod gate;
+mod kept;
+mod locked;
+mod scope;
 mod sums;
+mod told;
 mod workers;
 
-pub use desk::{Back, Desk, Gathered, Look, Scope};
+pub use desk::{Back, Desk, Gathered, Look};
 pub use feeder::{Feeder, MOST_FEEDERS, Tally};
 pub use gate::{Gate, NoGate};
+pub use ld_history::Room;
 pub use ld_tickets::{DrawSeat, Drawn, Tickets};
+pub use scope::Scope;
 pub use workers::{WorkFault, work};

@@ -1,16 +1,20 @@
 //! Reads traces by several workers at once.
-ghost use Rattle.std.specs.Prelude.{◌≡◌, ◌≤◌, ◌<◌, ℕ, [], None, All, Err, IfOk, IfSome, OnOk, false, length, map};
+ghost use Rattle.std.specs.Prelude.{◌≡◌, ◌≤◌, ◌<◌, ◌++◌, ℕ, None, Some, All, Err, IfOk, IfSome, IsSome, OnOk, false, length, map};
 ghost use Rattle.std.specs.List.{Contains, last_or};
 ghost use Rattle.ld_trace.specs.Sources.{AreNumbered, Fits, PlainSource, plain};
 ghost use Rattle.ld_tickets.specs.Draw.{IsSeatOf};
+ghost use Rattle.ld_work.specs.Inner.Seen.{AreOne};
 ghost use Rattle.ld_work.specs.Inner.Uneven.{IsUneven};
 ghost use Rattle.ld_work.specs.Work.{ListsEachOnce};
 
-use crate::desk::{Desk, Scope};
+use crate::desk::Desk;
 use crate::even::uneven;
 use crate::feeder::{Feeder, MOST_FEEDERS};
 use crate::gate::Gate;
-use ld_book::{AddRefusal, Batch, Book};
+use crate::scope::Scope;
+use crate::told::Told;
+use ld_book::Book;
+use ld_history::{Opened, Room};
 use ld_tickets::{DrawSeat, Tickets};
 use ld_trace::{MOST_TRACES, Source};
 use std::alloc::{AllocError, Global};
@@ -87,17 +91,21 @@ pub fn work<'a, G: Gate + Sync, R: Threads + Wait + Sync>(
     requires fit { All (λ source. Fits (plain source)) sources.now }
     ensures { IfOk result (λ book. ListsEachOnce (map plain sources.now) book) }
 {
+    let opened = Opened::new(alloc)?;
     let traces = Blank::new(workers as u64);
     let events = Blank::new(workers as u64);
-    work_at::<Brand, Brand, Brand, G, R>(rt, alloc, traces, events, sources, workers, gate)
+    work_at::<Brand, Brand, Brand, Brand, G, R>(
+        rt, alloc, traces, events, opened, sources, workers, gate,
+    )
 }
 
-/// As `work`, with the ledgers of the desk, and by a desk that may list just the sources.
+/// As `work`, with the ledgers and the history of the desk, and by a desk that may list just the sources.
 fn work_at<
     'a,
     T: Ledger + Send + Sync,
     E: Ledger + Send + Sync,
     S: Scope + Send + Sync,
+    H: Room + Send + Sync,
     G: Gate + Sync,
     R: Threads + Wait + Sync,
 >(
@@ -105,6 +113,7 @@ fn work_at<
     alloc: Global,
     traces: Blank,
     events: Blank,
+    opened: Opened,
     sources: &[Source<'a>],
     workers: usize,
     gate: &G,
@@ -117,11 +126,12 @@ fn work_at<
     requires few { length sources.now ≤ MOST_TRACES }
     requires numbered { AreNumbered (map plain sources.now) }
     requires fit { All (λ source. Fits (plain source)) sources.now }
+    requires history { H.history ≡ Some opened }
     requires scope { All (λ source. S.may_list (plain source)) sources.now }
     requires only { (s : PlainSource) → S.may_list s → Contains (map plain sources.now) s }
     ensures { IfOk result (λ book. ListsEachOnce (map plain sources.now) book) }
 {
-    let (desk, feeders) = Desk::<T, E, S>::new(alloc, traces, events, workers)?;
+    let (desk, feeders) = Desk::<T, E, S, H>::with_history(alloc, traces, events, workers, opened)?;
     let fed = feed(rt, alloc, &desk, sources, gate, feeders);
     let book = gathered(desk, fed)?;
     match settled(alloc, sources, &book) {
@@ -143,12 +153,13 @@ fn feed<
     T: Ledger + Send + Sync,
     E: Ledger + Send + Sync,
     S: Scope + Send + Sync,
+    H: Room + Send + Sync,
     G: Gate + Sync,
     R: Threads + Wait + Sync,
 >(
     rt: &R,
     alloc: Global,
-    desk: &Desk<'a, T, E, S>,
+    desk: &Desk<'a, T, E, S, H>,
     sources: &[Source<'a>],
     gate: &G,
     feeders: Vec<Feeder<T, E>>,
@@ -158,6 +169,8 @@ fn feed<
     requires numbered { AreNumbered (map plain sources.now) }
     requires fit { All (λ source. Fits (plain source)) sources.now }
     requires scope { All (λ source. S.may_list (plain source)) sources.now }
+    requires one { AreOne S.may_list }
+    requires history { IsSome H.history }
     ensures { IfOk result (λ fed. length fed.items ≡ length feeders.items) }
 {
     let (tickets, seats) = Tickets::new(alloc, sources.len() as u64, feeders.len())?;
@@ -167,8 +180,8 @@ fn feed<
 }
 
 /// The book of a desk, all of whose feeders were given back, unless memory was refused.
-fn gathered<'a, T: Ledger, E: Ledger, S: Scope>(
-    desk: Desk<'a, T, E, S>,
+fn gathered<'a, T: Ledger, E: Ledger, S: Scope, H: Room>(
+    desk: Desk<'a, T, E, S, H>,
     fed: Result<Vec<Feeder<T, E>>, AllocError>,
 ) -> Result<Book<'a>, AllocError>
     requires { IfOk fed (λ feeders. length feeders.items ≡ desk) }
@@ -215,12 +228,13 @@ fn run<
     T: Ledger + Send + Sync,
     E: Ledger + Send + Sync,
     S: Scope + Send + Sync,
+    H: Room + Send + Sync,
     G: Gate + Sync,
     R: Threads + Wait + Sync,
 >(
     rt: &R,
     alloc: Global,
-    desk: &Desk<'a, T, E, S>,
+    desk: &Desk<'a, T, E, S, H>,
     tickets: &Tickets,
     sources: &[Source<'a>],
     gate: &G,
@@ -231,6 +245,8 @@ fn run<
     requires numbered { AreNumbered (map plain sources.now) }
     requires fit { All (λ source. Fits (plain source)) sources.now }
     requires scope { All (λ source. S.may_list (plain source)) sources.now }
+    requires one { AreOne S.may_list }
+    requires history { IsSome H.history }
     ensures { IfOk result (λ done. length done.items ≡ length jobs.items) }
 {
     thread::map_vec(
@@ -242,10 +258,10 @@ fn run<
 
 /// Does one job: draws the numbers of traces, reads these and hands them on, until none is left or
 /// memory is refused.
-fn run_one<'a, T: Ledger, E: Ledger, S: Scope, G: Gate, R: Wait>(
+fn run_one<'a, T: Ledger, E: Ledger, S: Scope, H: Room, G: Gate, R: Wait>(
     rt: &R,
     alloc: Global,
-    desk: &Desk<'a, T, E, S>,
+    desk: &Desk<'a, T, E, S, H>,
     tickets: &Tickets,
     sources: &[Source<'a>],
     gate: &G,
@@ -256,71 +272,52 @@ fn run_one<'a, T: Ledger, E: Ledger, S: Scope, G: Gate, R: Wait>(
     requires numbered { AreNumbered (map plain sources.now) }
     requires fit { All (λ source. Fits (plain source)) sources.now }
     requires scope { All (λ source. S.may_list (plain source)) sources.now }
+    requires one { AreOne S.may_list }
+    requires history { IsSome H.history }
 {
     let Job {
         worker,
         mut feeder,
         mut seat,
     } = job;
-    let mut batch = Batch::new(alloc);
+    let mut told = Told::<S, H>::new(alloc, desk.look(rt).front());
     let mut refused = false;
     while let Some(number) = tickets.draw(&mut seat) {
         gate.pass(worker as u64, number);
         let source = sources[number as usize];
-        refused = read(rt, desk, source, &mut batch, &mut feeder).is_err();
+        refused = read(rt, desk, source, &mut told, &mut feeder).is_err();
         if refused {
             break;
         }
     }
-    if !refused && !batch.listed().is_empty() {
-        refused = submit(rt, desk, &mut batch, &mut feeder).is_err();
+    if !refused && told.count() > 0 {
+        refused = told.hand_on(rt, desk, &mut feeder).is_err();
     }
-    drop(batch);
+    drop(told);
     Done { feeder, refused }
 }
 
-/// Reads a trace into the batch, and hands on a batch of `MOST_IN_BATCH` traces.
-fn read<'a, T: Ledger, E: Ledger, S: Scope, R: Wait>(
+/// Reads a trace, and hands on a batch of `MOST_IN_BATCH` traces.
+fn read<'a, T: Ledger, E: Ledger, S: Scope, H: Room, R: Wait>(
     rt: &R,
-    desk: &Desk<'a, T, E, S>,
+    desk: &Desk<'a, T, E, S, H>,
     source: Source<'a>,
-    batch: &mut Batch<'a>,
+    told: &mut Told<'a, S, H>,
     feeder: &mut Feeder<T, E>,
 ) -> Result<(), AllocError>
     requires fits { Fits (plain source) }
     requires scope { S.may_list (plain source) }
-    requires above { IfSome (last_or None batch.old.sources) (λ last. last.number < source.number) }
-    requires batch { All S.may_list batch.old.sources }
-    ensures last { OnOk result
-        (IfSome (last_or None batch.new.sources) (λ last. last.number ≡ source.entry.number)) }
-    ensures batch { OnOk result (All S.may_list batch.new.sources) }
+    requires above { IfSome (last_or None (told.old.behind ++ told.old.sources))
+        (λ last. last.number < source.number) }
+    ensures { OnOk result (IfSome (last_or None (told.new.behind ++ told.new.sources))
+        (λ last. last.number ≡ source.entry.number)) }
 {
     // Read before the lock is taken, so that the workers read at the same time.
-    batch.push(source)?;
-    if batch.listed().len() < MOST_IN_BATCH {
+    told.push(source)?;
+    if told.count() < MOST_IN_BATCH {
         return Ok(());
     }
-    submit(rt, desk, batch, feeder)
-}
-
-/// Adds the traces of the batch to the desk's book, unless one of their numbers is listed, and leaves
-/// a batch without traces.
-fn submit<'a, T: Ledger, E: Ledger, S: Scope, R: Wait>(
-    rt: &R,
-    desk: &Desk<'a, T, E, S>,
-    batch: &mut Batch<'a>,
-    feeder: &mut Feeder<T, E>,
-) -> Result<(), AllocError>
-    requires { All S.may_list batch.old.sources }
-    ensures { batch.new.sources ≡ [] }
-{
-    let answer = desk.look(rt).submit_from(feeder, batch);
-    // The lock is free again. What wasn't added is given up: a worker goes on with its next draw, or ends.
-    batch.clear();
-    match answer {
-        Err(AddRefusal::Memory) => Err(AllocError),
-        Ok(()) | Err(AddRefusal::Twice) => Ok(()),
-    }
+    told.hand_on(rt, desk, feeder)
 }
 
 /// The feeders of all workers.

@@ -162,3 +162,37 @@ fn a_refused_batch_changes_nothing(rt: HostRuntime) -> Result<(), Fail> {
     one_feeder::<Brand, Brand, _>(&rt, rt.alloc(), traces, events, sources[0], sources[1]);
     Ok(())
 }
+
+/// The one feeder of a desk submits a batch, which stays as it is.
+fn kept_batch<'a, T: Ledger, E: Ledger, R: Wait + Abort>(
+    rt: &R,
+    alloc: Global,
+    traces: Blank,
+    events: Blank,
+    source: Source<'a>,
+)
+    requires traces { (traces.name ≡ T.name) × (traces.parts ≡ T.parts) × (traces.parts ≡ 1) }
+    requires events { (events.name ≡ E.name) × (events.parts ≡ E.parts) × (events.parts ≡ 1) }
+{
+    if let Ok((desk, mut feeders)) = Desk::<T, E>::new(alloc, traces, events, 1) {
+        let mut feeder = feeders.pop().expect(rt, "a feeder");
+        assert!(rt; feeders.is_empty());
+        let mut batch = batch_of_one(rt, alloc, source);
+        let answer = desk.look(rt).submit_from(&mut feeder, &mut batch);
+        assert_eq!(rt; answer, Ok(()));
+        assert_eq!(rt; batch.listed().len(), 1);
+        assert_eq!(rt; feeder.tally(), tally(1, 2));
+        drop(batch);
+        drop(desk);
+    }
+}
+
+// Only want of memory may keep the batch out of the book, and here there is memory.
+#[test]
+fn a_submitted_batch_stays(rt: HostRuntime) -> Result<(), Fail> {
+    let sources = sources_of(rt.alloc(), SAME_LABEL)?;
+    assert_eq!(rt; sources.len(), 2);
+    let (traces, events) = (Blank::new(1), Blank::new(1));
+    kept_batch::<Brand, Brand, _>(&rt, rt.alloc(), traces, events, sources[0]);
+    Ok(())
+}

@@ -31,7 +31,7 @@ read-requires-clause-above g c =
     let number = c.in-Some.number in
     let draw = c.in-Some.ensures.number in
     let within : number < length c.args.sources.now = subst (λ n. number < n) c.requires.numbers draw.0 in
-    subst (λ n. IfSome (last_or None c.loop-number.batch.sources) (λ last. last.number < n)) (sym (number_at c.args.sources.now number _ c.requires.numbered within))
+    subst (λ n. IfSome (last_or None (c.loop-number.told.behind ++ c.loop-number.told.sources)) (λ last. last.number < n)) (sym (number_at c.args.sources.now number _ c.requires.numbered within))
     (c.loop-number.invariant.last number draw.1)
 
 pub loop-number-smaller : goal.loop-number-smaller
@@ -57,8 +57,7 @@ loop-number-preserved g c =
           omega (arith, rises, longer, above);
       last = λ k all.
           let above = last_below c.loop-number.seat.drawn number k (subst (All (λ n. n < k)) drawn all) in
-          let told = if_not_err c.read.result c.read.ensures.last (sym c.is_err-refused.ensures.value ∙ c.if-refused.false) in
-          IfSome_then (last_or None c.read.new.batch.sources) told (λ last is.
+          let told = if_not_err c.read.result c.read.ensures (sym c.is_err-refused.ensures.value ∙ c.if-refused.false) in
+          IfSome_then (last_or None (c.read.new.told.behind ++ c.read.new.told.sources)) told (λ last is.
           subst (λ n. n < k) (sym (is ∙ number_at c.args.sources.now number _ c.requires.numbered within)) above);
-      batch = if_not_err c.read.result c.read.ensures.batch (sym c.is_err-refused.ensures.value ∙ c.if-refused.false);
     }

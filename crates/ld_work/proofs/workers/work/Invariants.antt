@@ -1,4 +1,4 @@
-use Rattle.std.specs.Prelude.{map}
+use Rattle.std.specs.Prelude.{Some, map}
 use Rattle.std.specs.List.{Contains}
 use Rattle.ld_trace.specs.Sources.{plain}
 use Rattle.ld_work.proofs.workers.work.Given as goal
@@ -12,3 +12,6 @@ ghosts-work_at-E-Ledger g a = record { name = a.events.name; parts = a.events.pa
 -- the desk lists nothing but the sources
 abbrev pub ghosts-work_at-S-Scope : goal.ghosts-work_at-S-Scope
 ghosts-work_at-S-Scope g a = record { may_list = λ source. Contains (map plain a.sources.now) source }
+
+abbrev pub ghosts-work_at-H-Room : goal.ghosts-work_at-H-Room
+ghosts-work_at-H-Room g a = record { history = Some a.opened }

@@ -1,6 +1,6 @@
 use Rattle.std.specs.Prelude.{◌≡◌, ◌+◌, All, [], vec_len}
 use Rattle.ld_work.specs.Desk.{tally_of}
-use Rattle.ld_work.proofs.desk.Desk.new.Given as goal
+use Rattle.ld_work.proofs.desk.begun.Given as goal
 
 abbrev pub invariant-loop : goal.invariant-loop
 invariant-loop g l =

@@ -1,0 +1,114 @@
+//! A book, beside what all feeders added to it.
+ghost use Rattle.std.specs.Prelude.{◌≡◌, ◌≤◌, ◌∷◌, [], length, All};
+ghost use Rattle.std.specs.List.{Contains};
+ghost use Rattle.ld_book.specs.Totals.{event_count};
+ghost use Rattle.ld_work.specs.Desk.{IsAddition};
+ghost use Rattle.ld_work.specs.Inner.Seen.{AreOne, numbers_of};
+
+use crate::feeder::Feeder;
+use crate::scope::Scope;
+use crate::sums::{added_since, count};
+use ld_book::{AddRefusal, Batch, Book, Refusal, Series};
+use ld_facts::Facts;
+use std::marker::{Brand, Model, PhantomData};
+use std::sync::ledger;
+use std::sync::ledger::{Ledger, Share};
+
+/// What the lock of a desk keeps: the book, beside the sum of what all feeders added to it.
+#[derive(Drop)]
+pub(crate) struct Locked<'a, T: Ledger, E: Ledger, S: Scope> {
+    pub(crate) book: Book<'a>,
+    pub(crate) trace_sum: ledger::Book<T>,
+    pub(crate) event_sum: ledger::Book<E>,
+    /// Of no feeder, to begin a sum with.
+    pub(crate) no_traces: Share<T>,
+    pub(crate) no_events: Share<E>,
+    pub(crate) scope: PhantomData<S>,
+}
+
+impl<'a, T: Ledger, E: Ledger, S: Scope> Model for Locked<'a, T, E, S> {
+    ghost use Rattle.std.specs.Prelude.{◌≡◌, List, length, All};
+    ghost use Rattle.ld_trace.specs.Sources.{PlainSource};
+    ghost use Rattle.ld_book.specs.Totals.{event_count};
+
+    ghost Value = { List PlainSource };
+
+    ghost view = { λ l. l.book };
+
+    ghost invariant = { λ l. (l.trace_sum.total ≡ length l.book)
+        × (l.event_sum.total ≡ event_count l.book)
+        × (l.no_traces.parts ≡ 0) × (l.no_traces.amount ≡ 0)
+        × (l.no_events.parts ≡ 0) × (l.no_events.amount ≡ 0)
+        × All S.may_list l.book };
+}
+
+impl<'a, T: Ledger, E: Ledger, S: Scope> Locked<'a, T, E, S> {
+    /// Adds the traces of a batch to the book, and to the tally of the feeder.
+    pub(crate) fn submit_from(
+        &mut self,
+        feeder: &mut Feeder<T, E>,
+        batch: &mut Batch<'a>,
+    ) -> Result<(), AddRefusal>
+        requires { All S.may_list batch.old.sources }
+        ensures added { IsAddition batch.old.sources AddRefusal.Twice AddRefusal.Memory result
+            self.old self.new feeder.old feeder.new }
+        ensures batch { batch.new ≡ batch.old }
+    {
+        let before = self.book.totals();
+        self.book.add_from(batch)?;
+        let more = added_since(before, self.book.totals());
+        count(&mut self.trace_sum, &mut self.event_sum, feeder, more);
+        Ok(())
+    }
+
+    /// The same of the traces that a series lists. The numbers of those behind them have to be listed.
+    pub(crate) fn submit_next(
+        &mut self,
+        feeder: &mut Feeder<T, E>,
+        series: &mut Series<'a>,
+    ) -> Result<(), AddRefusal>
+        requires one { AreOne S.may_list }
+        requires list { All S.may_list series.old.sources }
+        requires behind { All S.may_list series.old.behind }
+        requires seen { All (Contains (numbers_of self.old)) (numbers_of series.old.behind) }
+        ensures added { IsAddition series.old.sources AddRefusal.Twice AddRefusal.Memory result
+            self.old self.new feeder.old feeder.new }
+        ensures series { series.new ≡ series.old }
+    {
+        let before = self.book.totals();
+        self.book.add_next(series)?;
+        let more = added_since(before, self.book.totals());
+        count(&mut self.trace_sum, &mut self.event_sum, feeder, more);
+        Ok(())
+    }
+
+    /// Changes nothing, and tells how the feeder's tally stands to the book.
+    pub(crate) fn covers(&mut self, feeder: &mut Feeder<T, E>)
+        ensures book { self.new ≡ self.old }
+        ensures feeder { feeder.new ≡ feeder.old }
+        ensures traces { feeder.old.traces ≤ length self.old }
+        ensures events { feeder.old.events ≤ event_count self.old }
+    {
+        self.trace_sum.audit(&mut feeder.traces);
+        self.event_sum.audit(&mut feeder.events);
+    }
+}
+
+impl<'a, T: Ledger, E: Ledger> Locked<'a, T, E, Brand> {
+    /// Adds a trace to the book, and to the tally of the feeder.
+    pub(crate) fn submit(
+        &mut self,
+        feeder: &mut Feeder<T, E>,
+        facts: Facts<'a>,
+    ) -> Result<(), Refusal<'a>>
+        ensures added { IsAddition (facts.entry.source ∷ [])
+            (Refusal.Twice facts.entry) (Refusal.Memory facts.entry) result
+            self.old self.new feeder.old feeder.new }
+    {
+        let before = self.book.totals();
+        self.book.add(facts)?;
+        let more = added_since(before, self.book.totals());
+        count(&mut self.trace_sum, &mut self.event_sum, feeder, more);
+        Ok(())
+    }
+}
