@@ -21,7 +21,7 @@ pub struct WitnessedEdge {
 /// Whoever read the traces has a number for each class; it is no place among the batch's classes.
 #[derive(Clone, Copy, Debug)]
 pub struct WitnessedWord {
-    /// The number by which guesses of these dependencies are kept.
+    /// The number that it has for this block and this class: no union reads it.
     pub number: u32,
     /// The number of the block of the classes that were held: its first class has 64 times this number.
     pub block: u32,
