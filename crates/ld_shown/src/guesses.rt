@@ -2,8 +2,8 @@
 
 use std::alloc::Global;
 
-/// Where a union may have the classes of a batch, by the numbers that the batch's scan has for them: where it had each
-/// when an earlier batch of this worker was added. One comparison confirms a guess; a class is looked up where it isn't so.
+/// Where a union may have the classes of a batch, by the numbers that the batch's scan has for them. It had each there
+/// when an earlier batch of this worker was added. One comparison confirms a guess; else the class is looked up.
 ///
 /// It has no meaning: no clause says what is in it. Where memory for a guess is refused there is none.
 #[derive(Drop)]

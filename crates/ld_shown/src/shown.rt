@@ -11,9 +11,8 @@ use ld_class::ClassList;
 use ld_rules::Listed;
 use std::marker::Model;
 
-/// What a few traces show together that come after others, if there are any: the classes of all of them, and
-/// the dependencies and usage bits that none of those behind shows, with the first witnesses. It is lent by
-/// what read them.
+/// What a few traces show together, which may come after others: the dependencies and usage bits that none of
+/// those behind shows, with the first witnesses. It has the classes of all of them. It is lent by what read them.
 #[derive(Drop)]
 pub struct Shown<'b, 'a> {
     /// The traces behind: read by the view alone.

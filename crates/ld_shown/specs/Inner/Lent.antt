@@ -6,8 +6,8 @@ use Rattle.ld_rules.specs.Union.{union_classes}
 use Rattle.ld_shown.specs.Batch.{AreFewClasses, AreOutcomes, IsShown, PlainShown}
 use Rattle.ld_shown.specs.declared.rows.WitnessedWord.{WitnessedWord}
 
--- These traces show that, with their outcomes; so many of the classes are of those behind, and the words' blocks are
--- of classes with numbers of 32 bits.
+-- These traces show that, and are listed with their outcomes. So many of the classes are of those behind. The words'
+-- blocks are of classes with numbers of 32 bits.
 pub record IsLent (shown : PlainShown) (traces : List Listed) (classes_behind : ℕ) (words : List WitnessedWord) : Type 0 where
   pub exact : IsShown shown
   pub outcomes : AreOutcomes traces

@@ -13,8 +13,8 @@ use Rattle.ld_union.specs.Inner.Union.{AreBetween, AreWitnessed, IsCycleEdge, ed
 abbrev pub with_all : (Dependency → Option Witness) → List (Met Dependency) → Dependency → Option Witness
 with_all first met = fold (λ before m. with_seen before m.what m.witness) first met
 
--- These dependencies between classes of a batch were noted, of a union with these names: no class came, no more edges
--- than these took the room that there was, and each of these was seen.
+-- These dependencies between classes of a batch were noted in a union with these names. No class came, and no more
+-- edges than these took the room that there was. Each of these was seen.
 pub record AreNoted (names batch : List PlainClass) (told : List WitnessedEdge) (old new : Dependencies) : Type 0 where
   pub classes : new.graph.classes ≡ old.graph.classes
   pub spare_edges : old.graph.spare_edges ≤ new.graph.spare_edges + length told
