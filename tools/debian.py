@@ -6,7 +6,7 @@ import subprocess
 import tempfile
 
 SHARE = "usr/share/lockcheck"
-PROGRAMS = ("lockcheck", "lockgraph")
+PROGRAMS = ("lockcheck", "lockgraph", "lockconvert")
 # Commands beside the programs: what they are of the release.
 SCRIPTS = {
     "lockcheck-record": "record/program/run",

@@ -16,7 +16,8 @@ STEP = re.compile(r' *cpu: (\d+) +(?:target|state): +-?\d+ step: +(\d+) (?:\((\S
 class Events:
     """Takes the lines of a recording, and gives what they say to a stream."""
 
-    def __init__(self, stream, classes, split=False, unchecked=frozenset(), recursive=frozenset(), no_readers=False):
+    def __init__(self, stream, classes, split=False, unchecked=frozenset(), recursive=frozenset(), no_readers=False,
+                 symbols=None):
         self.stream = stream
         self.classes = classes
         self.split = split      # recursions of a class into classes of their own
@@ -26,7 +27,7 @@ class Events:
         self.width = 0          # of what stands before the time in a line
         self.places = {}        # text before the time to task, context and processor
         self.tasks = {}         # by pid, or for the idle tasks by processor
-        self.sites = Sites(classes, recursive, no_readers, unchecked)
+        self.sites = Sites(classes, recursive, no_readers, unchecked, symbols)
         self.kinds = self.sites.kinds
         self.instances = {}     # address to its shortest form
         self.digits = None      # of each address, by the first one
@@ -298,7 +299,7 @@ class Events:
         if match is None:
             raise Damaged(f'not what cpuhp_enter and cpuhp_exit write: {quote(rest)}')
         processor, number, function, status = match.groups()
-        if function == 'takedown_cpu':
+        if function and self.sites.symbols.name(function) == 'takedown_cpu':
             self.leaving[processor] = number
         elif function is None and self.leaving.get(processor) == number:
             del self.leaving[processor]

@@ -2,6 +2,7 @@
 import re
 
 from classes import LockClass, apart, escape, fitted, readers_of
+from symbols import NoSymbols
 from tasks import READ
 from text import COLUMNS_INSIDE, Damaged, quote
 
@@ -59,8 +60,9 @@ class Site:
 class Sites:
     """The sites of a recording, by the text of an event after the lock's address."""
 
-    def __init__(self, classes, recursive, no_readers, unchecked):
+    def __init__(self, classes, recursive, no_readers, unchecked, symbols=None):
         self.classes = classes
+        self.symbols = symbols or NoSymbols()
         self.recursive = recursive  # keys of the classes that a recursive reader waits for
         self.no_readers = no_readers
         self.unchecked = unchecked  # names of locks that the kernel's own events don't tell to be so
@@ -76,7 +78,8 @@ class Sites:
         site = Site(text, trylock == '1', read, left_out)
         site.key, site.subclass = int(key, 16), int(subclass)
         site.nest = nest if int(nest, 16) else None
-        site.caller, site.symbol = caller, symbol_of(symbol)
+        site.caller = self.symbols.place(caller)
+        site.symbol = symbol_of(symbol and self.symbols.name(symbol))
         site.before = None if before in (None, STOPPED) else int(before)
         if not left_out and site.key:
             site.lock_class, site.reader_class = self.classes_of(site, site.key)

@@ -4,6 +4,7 @@ import shutil
 import subprocess
 import tempfile
 import unittest
+from unittest import mock
 
 from texts import FOLDER
 
@@ -125,6 +126,65 @@ class Record(unittest.TestCase):
         self.assertEqual(self.read('out/lockdep'), 'all lock classes:\n')
         self.assertEqual(self.read('out/lockdep_chains'), 'all lock chains:\n')
         self.assertNotIn('dropped', said)
+
+    def stop_pages(self, **sizes):
+        """`stop --pages` in a folder whose processors have these pages, with the files that tracefs has of them."""
+        for number, pages in enumerate((b'a' * 4096, b'b' * 8192)):
+            path = '%s/tracefs/per_cpu/cpu%d/trace_pipe_raw' % (self.folder, number)
+            os.makedirs(os.path.dirname(path), exist_ok=True)
+            with open(path, 'wb') as file:
+                file.write(pages)
+            self.write('tracefs/per_cpu/cpu%d/stats' % number,
+                       'entries: 1\nbytes: %d\ndropped events: 0\n' % sizes.get('size', len(pages)))
+        for name in ('events/header_page', 'saved_cmdlines', 'events/lockcheck/acquire/format',
+                     'events/sched/sched_switch/format'):
+            self.write('tracefs/' + name, name + '\n')
+        self.write('proc/kallsyms', 'symbols\n')
+        return self.record('stop', '--pages', self.folder + '/out')
+
+    def test_stop_writes_raw_pages(self):
+        status, said = self.stop_pages()
+        self.assertEqual(status, 0, said)
+        self.assertEqual(self.read('out/per_cpu/cpu0/trace_pipe_raw'), 'a' * 4096)
+        self.assertEqual(self.read('out/per_cpu/cpu1/trace_pipe_raw'), 'b' * 8192)
+        for name in ('events/header_page', 'saved_cmdlines', 'events/lockcheck/acquire/format', 'trace_clock'):
+            self.assertEqual(self.read('out/' + name), self.read('tracefs/' + name))
+        self.assertEqual(self.read('out/kallsyms'), 'symbols\n')
+        for name in ('trace', 'per_cpu.part', 'events/sched'):
+            self.assertFalse(os.path.exists(self.folder + '/out/' + name), name)
+        # Nothing of it is written over.
+        status, said = self.record('stop', '--pages', self.folder + '/out')
+        self.assertEqual(status, 2)
+        self.assertIn('/out/per_cpu is there already', said)
+
+    def test_stop_goes_on_behind_pages_that_were_read_before(self):
+        self.write('out/per_cpu.part/cpu0/trace_pipe_raw', 'c' * 4096)
+        self.write('out/stats', 'of the first stop\n')
+        self.assertEqual(self.stop_pages()[0], 0)
+        self.assertEqual(self.read('out/per_cpu/cpu0/trace_pipe_raw'), 'c' * 4096 + 'a' * 4096)
+        self.assertEqual(self.read('out/stats'), 'of the first stop\n')
+
+    def test_stop_reads_no_page_without_room_for_all(self):
+        status, said = self.stop_pages(size=1 << 60)
+        self.assertEqual(status, 2)
+        self.assertRegex(said, '/out has [0-9]+ KB free, .*; the ring still has the recording')
+        self.assertFalse(os.path.exists(self.folder + '/out/per_cpu.part'))
+
+    def test_stop_tells_pages_that_could_not_be_copied(self):
+        self.write('bin/dd', '#!/bin/sh\necho "dd: error writing: No space left on device" >&2\nexit 1\n')
+        os.chmod(self.folder + '/bin/dd', 0o755)
+        with mock.patch.dict(os.environ, PATH='%s/bin:%s' % (self.folder, os.environ['PATH'])):
+            status, said = self.stop_pages()
+        self.assertEqual(status, 2)
+        self.assertIn('No space left on device. What was read is in', said)
+        self.assertFalse(os.path.exists(self.folder + '/out/per_cpu'))
+
+    def test_stop_ends_where_the_ring_has_no_page_left(self):
+        self.write('bin/dd', '#!/bin/sh\necho "dd: error reading: Resource temporarily unavailable" >&2\nexit 1\n')
+        os.chmod(self.folder + '/bin/dd', 0o755)
+        with mock.patch.dict(os.environ, PATH='%s/bin:%s' % (self.folder, os.environ['PATH'])):
+            status, said = self.stop_pages()
+        self.assertEqual(status, 0, said)
 
     def test_stop_says_how_much_it_is_going_to_read(self):
         # 40,000,000 events of 135 bytes each.
