@@ -6,7 +6,7 @@ use crate::writing::write_sub;
 use indexmap::{IndexMap, IndexSet};
 use ld_rows::Kind;
 use ld_texts::{
-    Book, ClassName, ClassRow, DependencyRow, Overview, Places, has_readers, lock_of_readers,
+    Book, ClassName, ClassRow, DependencyRow, Overview, ShownPlaces, has_readers, lock_of_readers,
     sort_by_locks,
 };
 use ld_trace::Source;
@@ -60,7 +60,7 @@ pub fn dot<'t, 'a>(
     alloc: Global,
     book: &Book<'a>,
     sources: &'t [Source<'a>],
-    places: &'t Places<'t>,
+    places: &'t ShownPlaces<'t>,
     drawn: Drawn<'_>,
 ) -> Result<Vec<u8>, AllocError> {
     let mut overview = Overview::new(alloc, book)?;
@@ -174,7 +174,7 @@ impl<'a> Marked<'a> {
 struct Drawing<'t, 'a> {
     alloc: Global,
     sources: &'t [Source<'a>],
-    places: &'t Places<'t>,
+    places: &'t ShownPlaces<'t>,
     marked: &'t Marked<'a>,
     text: Vec<u8>,
 }
@@ -300,7 +300,7 @@ impl<'t, 'a> Drawing<'t, 'a> {
         Ok(())
     }
 
-    /// Where a line stands in its file.
+    /// Where a line is shown.
     fn place(&mut self, line: u64) -> Result<(), AllocError> {
         match self.places.place(line) {
             Some(place) => {

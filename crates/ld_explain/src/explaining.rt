@@ -9,7 +9,7 @@ use crate::writing::{state_name, write_lock, write_place};
 use indexmap::IndexSet;
 use ld_held::{Before, Flag, task_of};
 use ld_maps::Maps;
-use ld_texts::{ClassName, Places, Witness, lock_of_readers, write_held, write_waited};
+use ld_texts::{ClassName, ShownPlaces, Witness, lock_of_readers, write_held, write_waited};
 use ld_trace::{Source, State};
 use std::alloc::{AllocError, Global};
 use std::io::Write;
@@ -19,8 +19,8 @@ use std::io::Write;
 /// state, both ends. Violations that share dependencies stand together, and what was told before isn't told
 /// again. The last line says how many are explained, and how many are not: `most` are at most, and all where it is 0.
 ///
-/// `sources` are the traces of their book, each at the place of its number, `places` says where the lines stand in
-/// files, and `maps` what is known of these files' lines and of classes, which stands below each line and below the
+/// `sources` are the traces of their book, each at the place of its number, `places` says where the lines are
+/// shown, and `maps` what is known of these files' lines and of classes, which stands below each line and below the
 /// line that first names the class.
 ///
 /// # Errors
@@ -31,7 +31,7 @@ pub fn explain<'t, 'a>(
     violations: &[Violation<'_, 'a>],
     most: u64,
     sources: &'t [Source<'a>],
-    places: &'t Places<'t>,
+    places: &'t ShownPlaces<'t>,
     maps: &'t Maps<'t>,
 ) -> Result<Vec<u8>, AllocError> {
     let members = grouped(alloc, violations)?;
@@ -91,7 +91,7 @@ fn witnesses(
 struct Telling<'t, 'a> {
     alloc: Global,
     sources: &'t [Source<'a>],
-    places: &'t Places<'t>,
+    places: &'t ShownPlaces<'t>,
     maps: &'t Maps<'t>,
     sightings: &'t Sightings<'a>,
     texts: &'t Texts<'a>,
@@ -293,14 +293,15 @@ impl<'t, 'a> Telling<'t, 'a> {
         write_known_class(&mut self.text, self.maps, name)
     }
 
-    /// A line of a trace: where it stands in its file, what it says, and what is known of it.
+    /// A line of a trace: where it is shown, what it says, and what is known of it.
     fn line(&mut self, number: u64, line: u64) -> Result<(), AllocError> {
         write_place(&mut self.text, self.places, line)?;
         self.text.extend_from_slice(b": ")?;
         self.text
             .extend_from_slice(self.texts.at(Witness { number, line }))?;
         self.text.push(b'\n')?;
-        match self.places.place(line) {
+        // The maps are those of the files that were read.
+        match self.places.files.place(line) {
             Some(place) => write_known_line(&mut self.text, self.maps, place.file, place.line),
             None => Ok(()),
         }

@@ -28,12 +28,12 @@ use crate::violations::{Choice, chosen};
 use ld_book::{Book, Totals as BookTotals};
 use ld_maps::Maps;
 use ld_rows::{ClassRow, Dependency, EdgeRow, End, Group, Refused, Rows, Totals, Violation};
-use ld_texts::{Overview, Places};
+use ld_texts::{Overview, ShownPlaces};
 use ld_trace::Source;
 use std::alloc::{AllocError, Global};
 
 /// All that this report of a book says, and what stands behind it. `sources` are the traces of the book, each at the
-/// place of its number, `places` says where their lines stand in files, and `maps` what is known of these lines.
+/// place of its number, `places` says where their lines are shown, and `maps` what is known of these lines.
 /// Every class and every dependency is told if `all` is set.
 ///
 /// # Errors
@@ -44,7 +44,7 @@ pub fn rows_of<'a>(
     book: &Book<'a>,
     report: &'a [u8],
     sources: &[Source<'a>],
-    places: &Places<'a>,
+    places: &ShownPlaces<'a>,
     maps: &Maps<'_>,
     all: bool,
 ) -> Result<Rows<'a>, AllocError>

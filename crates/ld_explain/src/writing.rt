@@ -1,7 +1,7 @@
 //! Writes names and places. Each call answers `AllocError` where memory for its text was refused.
 
 use crate::readers::Held;
-use ld_texts::{ClassName, Places};
+use ld_texts::{ClassName, ShownPlaces};
 use ld_trace::State;
 use std::alloc::AllocError;
 use std::io::Write;
@@ -35,8 +35,12 @@ pub fn state_name(state: State) -> &'static str {
     }
 }
 
-/// Where a line stands: `FILE:LINE`, the line within its own file.
-pub fn write_place(out: &mut Vec<u8>, places: &Places<'_>, line: u64) -> Result<(), AllocError> {
+/// Where a line is shown: `FILE:LINE`.
+pub fn write_place(
+    out: &mut Vec<u8>,
+    places: &ShownPlaces<'_>,
+    line: u64,
+) -> Result<(), AllocError> {
     match places.place(line) {
         Some(place) => {
             out.extend_from_slice(place.file.as_bytes())?;

@@ -1,3 +1,4 @@
 pub mod PlaceLemmas
 pub mod OverviewLemmas
 pub mod ReaderLemmas
+pub mod ShownLemmas

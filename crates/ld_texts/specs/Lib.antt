@@ -1,3 +1,4 @@
 pub mod Overview
 pub mod Places
 pub mod Readers
+pub mod ShownPlaces

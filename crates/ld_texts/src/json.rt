@@ -1,6 +1,6 @@
 //! The report as one JSON object a line.
 
-use crate::places::Places;
+use crate::shown_places::ShownPlaces;
 use crate::writing::Seen;
 use ld_book::{
     Book, ClassName, ConflictRow, CycleRow, Findings, ForbiddenRow, Totals, Walk, Witness,
@@ -67,7 +67,7 @@ struct At<'a> {
 pub(crate) fn json_text(
     alloc: Global,
     book: &Book<'_>,
-    places: &Places<'_>,
+    places: &ShownPlaces<'_>,
 ) -> Result<Vec<u8>, AllocError> {
     let seen = Seen::new(alloc, book, places)?;
     let findings = book.findings(alloc)?;

@@ -2,7 +2,7 @@
 
 use crate::json::json_text;
 use crate::list::{Counts, class_text, list_text};
-use crate::places::Places;
+use crate::shown_places::ShownPlaces;
 use crate::stats::stats_text;
 use crate::writing::Seen;
 use ld_book::Book;
@@ -31,7 +31,7 @@ pub enum Listing<'w> {
     Class(&'w str),
 }
 
-/// The answer on a book of a stream whose lines stand at these places. That many threads read its traces at once.
+/// The answer on a book of a stream whose lines are shown at these places. That many threads read its traces at once.
 ///
 /// # Errors
 ///
@@ -40,13 +40,13 @@ pub fn text_of<R: Threads + Sync>(
     rt: &R,
     alloc: Global,
     book: &Book<'_>,
-    places: &Places<'_>,
+    places: &ShownPlaces<'_>,
     wanted: Wanted<'_>,
     threads: usize,
 ) -> Result<Vec<u8>, AllocError> {
     match wanted {
         Wanted::List(listing) => list_of(rt, alloc, book, places, listing, threads),
-        Wanted::Stats => stats_text(rt, alloc, book, places, threads),
+        Wanted::Stats => stats_text(rt, alloc, book, places.files, threads),
         Wanted::Json => json_text(alloc, book, places),
     }
 }
@@ -56,7 +56,7 @@ fn list_of<R: Threads + Sync>(
     rt: &R,
     alloc: Global,
     book: &Book<'_>,
-    places: &Places<'_>,
+    places: &ShownPlaces<'_>,
     listing: Listing<'_>,
     threads: usize,
 ) -> Result<Vec<u8>, AllocError> {

@@ -1,6 +1,6 @@
 //! Writes names and places. Each call answers `AllocError` where memory was refused.
 
-use crate::places::Places;
+use crate::shown_places::ShownPlaces;
 use ld_book::{Book, ClassName, Traces, UsageRow, Witness};
 use ld_rules::Listed;
 use std::alloc::{AllocError, Global};
@@ -10,15 +10,15 @@ use std::io::Write;
 #[derive(Drop)]
 pub(crate) struct Seen<'b, 'p, 'f, 'a> {
     traces: Traces<'b, 'a>,
-    places: &'p Places<'f>,
+    places: &'p ShownPlaces<'f>,
 }
 
 impl<'b, 'p, 'f, 'a> Seen<'b, 'p, 'f, 'a> {
-    /// What the traces of a book are, and the files are, whose lines they have.
+    /// What the traces of a book are, and where their lines are shown.
     pub(crate) fn new(
         alloc: Global,
         book: &'b Book<'a>,
-        places: &'p Places<'f>,
+        places: &'p ShownPlaces<'f>,
     ) -> Result<Seen<'b, 'p, 'f, 'a>, AllocError> {
         let traces = Traces::new(alloc, book)?;
         Ok(Seen { traces, places })
@@ -38,7 +38,7 @@ impl<'b, 'p, 'f, 'a> Seen<'b, 'p, 'f, 'a> {
         }
     }
 
-    /// The file of a line, and the line's number there. Of a line of no file it is no name and that line.
+    /// The file in which a line is shown, and the line's number there. Of a line of no file it is no name and that line.
     pub(crate) fn place(&self, line: u64) -> (&'f str, u64) {
         match self.places.place(line) {
             Some(place) => (place.file, place.line),

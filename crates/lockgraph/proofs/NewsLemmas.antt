@@ -1,5 +1,6 @@
 -- What is new doesn't depend on the order of the traces.
-use Rattle.std.proofs.Common.{◌∙◌, ℕ, List, ap}
+use Rattle.std.proofs.Common.{◌≡◌, ◌∙◌, ℕ, List, ap}
+use Rattle.std.specs.List.{list_any}
 use Rattle.std.specs.List.Sorted.{IsPermutation}
 use Rattle.ld_trace.specs.Sources.{PlainSource}
 use Rattle.ld_check.specs.OfReport.OfBook.declared.totals.Totals.{Totals}
@@ -8,15 +9,16 @@ use Rattle.ld_check.specs.OfReport.declared.verdict.Verdict.{Verdict}
 use Rattle.ld_check.proofs.OfReport.Permuted.{report-permuted}
 use Rattle.ld_select.specs.News.{count_new}
 use Rattle.ld_texts.specs.Places.{PlainFile}
-use Rattle.lockgraph.specs.News.{IsNewsOf, verdict_of_new}
+use Rattle.ld_texts.specs.ShownPlaces.{has_origin}
+use Rattle.lockgraph.specs.News.{IsNewsOf, IsNewsWith, verdict_of_new}
 
-pub news-permuted : (sources listed : List PlainSource) → IsPermutation sources listed
-    → (files : List PlainFile) (known text : List ℕ) (verdict : Verdict) → IsNewsOf files listed known text verdict → IsNewsOf files sources known text verdict
-news-permuted sources listed moved files known text verdict news = record {
+pub news-permuted : (sources listed in_order : List PlainSource) → IsPermutation sources listed → in_order ≡ sources
+    → (files : List PlainFile) (known text : List ℕ) (verdict : Verdict) → IsNewsWith files in_order listed known text verdict → IsNewsOf files sources known text verdict
+news-permuted sources listed in_order moved ordered files known text verdict news = record {
   report = news.report;
   remarks = news.remarks;
   is = report-permuted sources listed moved news.report news.is;
   text_is = news.text_is;
-  few = news.few;
+  few = λ one none. news.few one (ap (list_any has_origin) ordered ∙ none);
   verdict_is = news.verdict_is ∙ ap (λ (t : Totals). verdict_of_new (count_new news.report known) t.refused) (totals-permuted sources listed moved);
 }

@@ -1,5 +1,6 @@
 -- What `new` says of some traces and a known text.
-use Rattle.std.specs.Prelude.{◌≡◌, ◌≤◌, ℕ, ◌==◌, List, [], ◌++◌, flat_map, length, if◌then◌else◌}
+use Rattle.std.specs.Prelude.{◌≡◌, ◌≤◌, ℕ, ◌==◌, false, List, [], ◌++◌, flat_map, length, if◌then◌else◌}
+use Rattle.std.specs.List.{list_any}
 use Rattle.ld_trace.specs.Sources.{PlainSource}
 use Rattle.ld_check.specs.OfReport.OfBook.Totals.{refused_count}
 use Rattle.ld_check.specs.OfReport.Report.{IsReport}
@@ -7,6 +8,7 @@ use Rattle.ld_check.specs.OfReport.declared.verdict.Verdict.{Verdict}
 use Rattle.ld_check.specs.OfReport.declared.verdict.Verdict.TheVariants.{Clean, Refused, Violations}
 use Rattle.ld_select.specs.News.{count_new, new_report}
 use Rattle.ld_texts.specs.Places.{PlainFile}
+use Rattle.ld_texts.specs.ShownPlaces.{has_origin}
 use Rattle.lockgraph.specs.Comments.{comment_line}
 
 -- `Violations` where some are new, else `Refused` where a trace is refused, else `Clean`
@@ -14,11 +16,15 @@ abbrev pub verdict_of_new : (count refused : ℕ) → Verdict
 verdict_of_new count refused = if count == 0 then (if refused == 0 then Clean else Refused) else Violations
 
 -- The text is the report of what is new in the report of these sources, and the verdict what it comes to. Comments
--- follow it where the sources are of several files.
-pub record IsNewsOf (files : List PlainFile) (sources : List PlainSource) (known text : List ℕ) (verdict : Verdict) : Type 0 where
+-- follow it where the sources are of several files, or one of those in order says where it comes from.
+pub record IsNewsWith (files : List PlainFile) (in_order sources : List PlainSource) (known text : List ℕ) (verdict : Verdict) : Type 0 where
   pub report : List ℕ
   pub remarks : List (List ℕ)
   pub is : IsReport sources report
   pub text_is : text ≡ new_report report known ++ flat_map comment_line remarks
-  pub few : length files ≤ 1 → remarks ≡ []
+  pub few : length files ≤ 1 → list_any has_origin in_order ≡ false → remarks ≡ []
   pub verdict_is : verdict ≡ verdict_of_new (count_new report known) (refused_count sources)
+
+-- the same of the sources in order
+abbrev pub IsNewsOf : List PlainFile → List PlainSource → (known text : List ℕ) → Verdict → Type 0
+IsNewsOf files sources known text verdict = IsNewsWith files sources sources known text verdict

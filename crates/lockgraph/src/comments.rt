@@ -1,33 +1,38 @@
 //! Where the lines that a report names stand in their files, as comments.
-ghost use Rattle.std.specs.Prelude.{◌≡◌, ◌++◌, ◌≤◌, [], IfOk, OnOk, flat_map, length, map};
+ghost use Rattle.std.specs.Prelude.{◌≡◌, ◌++◌, ◌≤◌, [], IfOk, OnOk, false, flat_map, length, map};
+ghost use Rattle.std.specs.List.{list_any};
+ghost use Rattle.ld_trace.specs.Sources.{plain};
+ghost use Rattle.ld_texts.specs.ShownPlaces.{has_origin};
 ghost use Rattle.lockgraph.specs.Comments.{comment_line, tame};
 
 use indexmap::IndexSet;
 use ld_select::lines_named;
-use ld_texts::Places;
+use ld_texts::ShownPlaces;
 use ld_trace::{next_line, text};
 use std::alloc::{AllocError, Global};
 use std::io::Write;
 
-/// What is to be said of the lines of all files that a report names, each once: `line L is FILE:LINE`. Where there is
-/// one file alone, nothing is, since a line has the same number there.
+/// What is to be said of the lines of all files that a report names, each once: `line L is FILE:LINE`. If there is one
+/// file alone, nothing is said of a line that has the same number there.
 pub fn remarks(
     alloc: Global,
-    places: &Places<'_>,
+    places: &ShownPlaces<'_>,
     report: &[u8],
 ) -> Result<Vec<Vec<u8>>, AllocError>
-    ensures few { length places.now ≤ 1 → IfOk result (λ all. all.items ≡ []) }
+    ensures few { length places.now.files.now ≤ 1
+        → list_any (λ source. has_origin (plain source)) places.now.sources.now ≡ false
+        → IfOk result (λ all. all.items ≡ []) }
 {
-    if places.count() <= 1 {
+    if places.files.count() <= 1 && !places.has_origins() {
         return Ok(Vec::new(alloc));
     }
     remarks_on(alloc, places, report)
 }
 
-/// The same of several files.
+/// The same where one may be said.
 fn remarks_on(
     alloc: Global,
-    places: &Places<'_>,
+    places: &ShownPlaces<'_>,
     report: &[u8],
 ) -> Result<Vec<Vec<u8>>, AllocError> {
     let mut all = Vec::new(alloc);
@@ -40,7 +45,7 @@ fn remarks_on(
         };
         for line in lines_named(text(first)) {
             if let Some(line) = line {
-                if seen.insert(line)? {
+                if is_elsewhere(places, line) && seen.insert(line)? {
                     all.push(remark(alloc, places, line)?)?;
                 }
             }
@@ -50,8 +55,13 @@ fn remarks_on(
     Ok(all)
 }
 
+/// Whether a line may have another number where it is shown.
+fn is_elsewhere(places: &ShownPlaces<'_>, line: u64) -> bool {
+    places.files.count() > 1 || places.origin(line).is_some()
+}
+
 /// What is to be said of a line.
-fn remark(alloc: Global, places: &Places<'_>, line: u64) -> Result<Vec<u8>, AllocError> {
+fn remark(alloc: Global, places: &ShownPlaces<'_>, line: u64) -> Result<Vec<u8>, AllocError> {
     let mut remark = Vec::new(alloc);
     match places.place(line) {
         Some(place) => {

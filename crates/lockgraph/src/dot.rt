@@ -11,7 +11,7 @@ use crate::words::DotWords;
 use ld_check::{Checked, MOST_WORKERS, NoGate, Verdict, check, verdict_of};
 use ld_device::Std;
 use ld_explain::{Drawn, dot};
-use ld_texts::Places;
+use ld_texts::{Places, ShownPlaces};
 use std::alloc::Global;
 use std::io;
 use std::rt::Files;
@@ -73,7 +73,12 @@ fn drawn_in<'a>(
 ) -> Result<Told, Fault<'a>>
     ensures { IfOk result (λ told. VerdictIs checked.now.book told.verdict) }
 {
-    let text = dot(alloc, &checked.book, &checked.sources, places, drawn)?;
+    let sources = checked.sources.as_slice();
+    let shown = ShownPlaces {
+        files: places,
+        sources,
+    };
+    let text = dot(alloc, &checked.book, sources, &shown, drawn)?;
     let verdict = verdict_of(&checked.book);
     Ok(Told { text, verdict })
 }

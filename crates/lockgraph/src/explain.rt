@@ -13,7 +13,7 @@ use ld_check::{Checked, MOST_WORKERS, NoGate, Verdict, check, report_in, verdict
 use ld_device::Std;
 use ld_explain::{Choice, chosen, explain};
 use ld_maps::Maps;
-use ld_texts::Places;
+use ld_texts::{Places, ShownPlaces};
 use std::alloc::{AllocError, Global};
 use std::io;
 use std::rt::Files;
@@ -99,12 +99,10 @@ fn text_in(
     choice: &Choice<'_>,
 ) -> Result<Vec<u8>, AllocError> {
     let violations = chosen(alloc, &checked.book, report, choice)?;
-    explain(
-        alloc,
-        &violations,
-        choice.most,
-        &checked.sources,
-        places,
-        maps,
-    )
+    let sources = checked.sources.as_slice();
+    let shown = ShownPlaces {
+        files: places,
+        sources,
+    };
+    explain(alloc, &violations, choice.most, sources, &shown, maps)
 }

@@ -1,20 +1,20 @@
 //! `new`: the violations of some traces that no known text says.
-ghost use Rattle.std.specs.Prelude.{◌≡◌, ◌≢◌, ◌≤◌, ◌↔◌, ℕ, List, Err, IfOk, IfSome, IsErr, None, OnOk, Some, true, false};
+ghost use Rattle.std.specs.Prelude.{◌≡◌, ◌≢◌, ◌≤◌, ◌↔◌, ℕ, List, Err, IfOk, IfSome, IsErr, None, OnOk, Some, map, true, false};
 ghost use Rattle.std.specs.Io.KnownBytes.{Appends};
 ghost use Rattle.ld_trace.specs.declared.source.StreamFault.{StreamFault};
-ghost use Rattle.ld_trace.specs.Sources.{sources, stream_fault};
+ghost use Rattle.ld_trace.specs.Sources.{plain, sources, stream_fault};
 ghost use Rattle.ld_device.specs.Transfer.{AppendsPart};
 ghost use Rattle.ld_select.specs.Known.{unknown_line};
-ghost use Rattle.lockgraph.specs.News.{IsNewsOf, verdict_of_new};
+ghost use Rattle.lockgraph.specs.News.{IsNewsOf, IsNewsWith, verdict_of_new};
 
 use crate::comments::{remarks, write_comments};
 use crate::fault::Fault;
 use crate::streams::{read_known, read_streams};
 use crate::words::NewWords;
-use ld_check::{Book, CheckFault, MOST_WORKERS, NoGate, Verdict, check, report_in};
+use ld_check::{CheckFault, Checked, MOST_WORKERS, NoGate, Verdict, check, report_in};
 use ld_device::{Output, Std, send};
 use ld_select::{SelectFault, new_report};
-use ld_texts::Places;
+use ld_texts::{Places, ShownPlaces};
 use ld_trace::StreamFault;
 use std::alloc::{AllocError, Global};
 use std::io;
@@ -121,7 +121,7 @@ fn write_news<O: Output, R: Threads + Wait + Sync>(
 
 /// What is new in a stream, whose traces that many workers read at once and whose lines stand at these places: its
 /// report without the lines of violations that a line of the known text says too; and where the stream is of several
-/// files, comments that say where the lines stand that it names. May wait.
+/// files, or a trace says where it comes from, comments that say where the lines are shown that it names. May wait.
 ///
 /// # Errors
 ///
@@ -149,7 +149,7 @@ fn news_of<R: Threads + Wait + Sync>(
     ensures unwritten { result ≢ Err NewsFault.Write }
 {
     let checked = check(rt, alloc, bytes, workers, &NoGate)?;
-    let news = news_in(alloc, &checked.book, places, known);
+    let news = news_in(alloc, &checked, places, known);
     drop(checked);
     news
 }
@@ -157,22 +157,27 @@ fn news_of<R: Threads + Wait + Sync>(
 /// What is new in the traces that a book lists.
 fn news_in(
     alloc: Global,
-    book: &Book<'_>,
+    checked: &Checked<'_>,
     places: &Places<'_>,
     known: &[u8],
 ) -> Result<News, NewsFault>
-    ensures news { IfOk result (λ news. IsNewsOf places.now book.now known.now news.text.items news.verdict) }
+    ensures news { IfOk result (λ news. IsNewsWith places.now (map plain checked.now.sources.items)
+        checked.now.book known.now news.text.items news.verdict) }
     ensures known { OnOk result (unknown_line known.now ≡ None) }
     ensures unknown { (line : ℕ) → result ≡ Err (NewsFault.UnknownLine line) →
         unknown_line known.now ≡ Some line }
     ensures stream { (fault : StreamFault) → result ≢ Err (NewsFault.Stream fault) }
     ensures unwritten { result ≢ Err NewsFault.Write }
 {
-    let report = report_in(alloc, book)?;
+    let report = report_in(alloc, &checked.book)?;
     let new = new_report(alloc, &report, known)?;
-    let verdict = verdict_of_new(new.count, book.totals().refused);
+    let verdict = verdict_of_new(new.count, checked.book.totals().refused);
     let mut text = new.text;
-    let remarks = remarks(alloc, places, &text)?;
+    let shown = ShownPlaces {
+        files: places,
+        sources: checked.sources.as_slice(),
+    };
+    let remarks = remarks(alloc, &shown, &text)?;
     write_comments(&mut text, &remarks)?;
     Ok(News { text, verdict })
 }

@@ -18,7 +18,7 @@ use ld_formats::{Format, format_text};
 use ld_json::json_text;
 use ld_maps::Maps;
 use ld_rows::Rows;
-use ld_texts::Places;
+use ld_texts::{Places, ShownPlaces};
 use std::alloc::{AllocError, Global};
 use std::io;
 use std::rt::Files;
@@ -145,12 +145,17 @@ fn text_in<'s>(
     maps: &Maps<'_>,
     form: Form<'_>,
 ) -> Result<Vec<u8>, AllocError> {
+    let sources = checked.sources.as_slice();
+    let shown = ShownPlaces {
+        files: places,
+        sources,
+    };
     let rows = rows_of(
         alloc,
         &checked.book,
         report,
-        &checked.sources,
-        places,
+        sources,
+        &shown,
         maps,
         form.has_all(),
     )?;

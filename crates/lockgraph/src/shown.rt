@@ -9,9 +9,9 @@ use crate::fault::Fault;
 use crate::streams::{Streams, read_streams};
 use crate::told::{Told, write_told};
 use crate::words::Given;
-use ld_check::{Book, MOST_WORKERS, NoGate, Verdict, check, verdict_of};
+use ld_check::{Book, Checked, MOST_WORKERS, NoGate, Verdict, check, verdict_of};
 use ld_device::Std;
-use ld_texts::{Places, Wanted, text_of};
+use ld_texts::{Places, ShownPlaces, Wanted, text_of};
 use std::alloc::{AllocError, Global};
 use std::io;
 use std::rt::Files;
@@ -56,7 +56,7 @@ fn shown_of<'a, R: Threads + Wait + Sync>(
 {
     match check(rt, alloc, &streams.bytes, workers, &NoGate) {
         Ok(checked) => {
-            let told = shown_in(rt, alloc, &checked.book, &streams.places, wanted, workers);
+            let told = shown_in(rt, alloc, &checked, &streams.places, wanted, workers);
             drop(checked);
             Ok(told?)
         }
@@ -68,15 +68,19 @@ fn shown_of<'a, R: Threads + Wait + Sync>(
 fn shown_in<R: Threads + Sync>(
     rt: &R,
     alloc: Global,
-    book: &Book<'_>,
+    checked: &Checked<'_>,
     places: &Places<'_>,
     wanted: Wanted<'_>,
     threads: usize,
 ) -> Result<Told, AllocError>
-    ensures { IfOk result (λ told. IsVerdictOf wanted.entry book.now told.verdict) }
+    ensures { IfOk result (λ told. IsVerdictOf wanted.entry checked.now.book told.verdict) }
 {
-    let text = text_of(rt, alloc, book, places, wanted, threads)?;
-    let verdict = verdict_of_shown(wanted, book);
+    let shown = ShownPlaces {
+        files: places,
+        sources: checked.sources.as_slice(),
+    };
+    let text = text_of(rt, alloc, &checked.book, &shown, wanted, threads)?;
+    let verdict = verdict_of_shown(wanted, &checked.book);
     Ok(Told { text, verdict })
 }
 

@@ -3,9 +3,9 @@ ghost use Rattle.std.specs.Prelude.{◌≡◌, IfOk};
 
 use crate::rows::origins::place_of;
 use crate::sightings::Texts;
-use ld_maps::Maps;
+use ld_maps::{At as Known, Maps};
 use ld_rows::{At, Line};
-use ld_texts::{Places, Witness};
+use ld_texts::{ShownPlaces, Witness};
 use ld_trace::Source;
 use std::alloc::{AllocError, Global};
 
@@ -14,8 +14,8 @@ use std::alloc::{AllocError, Global};
 pub struct Placing<'t, 'a> {
     /// The traces, each at the place of its number.
     pub sources: &'t [Source<'a>],
-    /// The files of their lines.
-    pub places: &'t Places<'a>,
+    /// Where their lines are shown.
+    pub places: &'t ShownPlaces<'a>,
 }
 
 impl<'t, 'a> Placing<'t, 'a> {
@@ -66,10 +66,16 @@ impl<'t, 'a> Lines<'t, 'a> {
     {
         let text = self.texts.at(at);
         let at = self.placing.at(at);
-        let place = match self.maps.line(at.file, at.file_line) {
+        let place = match self.known(at.line) {
             Some(known) => Some(place_of(self.alloc, known)?),
             None => None,
         };
         Ok(Line { at, text, place })
+    }
+
+    /// What a map says of this line. The maps are those of the files that were read.
+    fn known(&self, line: u64) -> Option<Known<'t>> {
+        let own = self.placing.places.files.place(line)?;
+        self.maps.line(own.file, own.line)
     }
 }

@@ -1,5 +1,9 @@
 -- The report of what is new, and comments behind it.
-use Rattle.std.proofs.Common.{map, rules}
+use Rattle.std.proofs.Common.{◌∙◌, ap, map, rules, sym}
+use Rattle.std.specs.List.{list_any}
+use Rattle.ld_trace.specs.Sources.{plain}
+use Rattle.ld_select.proofs.KnownLemmas.{list_any-map}
+use Rattle.ld_texts.specs.ShownPlaces.{has_origin}
 use Rattle.lockgraph.proofs.news.news_in.Goals as goal
 
 pub returns-clause-news : goal.returns-clause-news
@@ -8,6 +12,10 @@ returns-clause-news c = record {
   remarks = map (λ remark. remark.items) c.deref-3.result.now;
   is = c.in_ok-report.ensures.text;
   text_is = search rules;
-  few = search rules;
+  few = λ one none.
+      ap (map (λ remark. remark.items))
+      (c.deref-3.ensures.value
+      ∙ c.in_ok-remarks.ensures.few one
+      (ap (list_any (λ source. has_origin (plain source))) c.as_slice.ensures.value ∙ sym (list_any-map plain has_origin c.args.checked.now.sources.items) ∙ none));
   verdict_is = search rules;
 }
