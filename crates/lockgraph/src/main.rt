@@ -10,6 +10,8 @@ mod comments;
 mod dot;
 mod explain;
 mod fault;
+mod found;
+mod groups;
 mod homes;
 mod lines;
 mod list;

@@ -12,6 +12,7 @@ ghost use Rattle.lockgraph.specs.Homes.{AreWanted};
 ghost use Rattle.lockgraph.specs.Reduced.{IsReducedOf, IsReducedWith, verdict_of_reduced};
 
 use crate::fault::Fault;
+use crate::groups::{read_group, write_group};
 use crate::homes::homes_wanted;
 use crate::streams::read_streams;
 use crate::words::ReduceWords;
@@ -62,11 +63,14 @@ pub enum ReduceFault {
 ///
 /// # Errors
 ///
-/// Those of `read_streams` and of `write_reduced`.
+/// Those of `read_streams`, `write_reduced` and `answer_group`.
 pub fn answer_reduce<'a, R: Files + io::Input + Print + AllocGlobal + Threads + Wait + Sync>(
     rt: &R,
     words: &ReduceWords<'a>,
 ) -> Result<Verdict, Fault<'a>> {
+    if words.given.files.len() > 1 {
+        return answer_group(rt, words);
+    }
     let streams = read_streams(rt, &words.given.files)?;
     let mut output = Std::new(io::writer(rt));
     let workers = words.given.workers;
@@ -79,6 +83,24 @@ pub fn answer_reduce<'a, R: Files + io::Input + Print + AllocGlobal + Threads + 
         &mut output,
         workers,
     ) {
+        Ok(verdict) => Ok(verdict),
+        Err(fault) => Err(Fault::of_reduce(fault)),
+    }
+}
+
+/// The same of several files, which are read in turn, and are reduced in groups if all are too much.
+///
+/// # Errors
+///
+/// Those of `read_group` and of `write_group`.
+fn answer_group<'a, R: Files + io::Input + Print + AllocGlobal + Threads + Wait + Sync>(
+    rt: &R,
+    words: &ReduceWords<'a>,
+) -> Result<Verdict, Fault<'a>> {
+    let workers = words.given.workers;
+    let group = read_group(rt, &words.given.files, words.keeping, workers)?;
+    let mut output = Std::new(io::writer(rt));
+    match write_group(rt, rt.alloc(), &group, words.keeping, &mut output, workers) {
         Ok(verdict) => Ok(verdict),
         Err(fault) => Err(Fault::of_reduce(fault)),
     }

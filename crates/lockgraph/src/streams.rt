@@ -219,7 +219,7 @@ fn has_plain_header(bytes: &[u8]) -> bool
 }
 
 /// Whether a line is `trace LABEL` with one blank between and nothing else before its LF. `false` says nothing.
-fn is_plain_header(line: &[u8]) -> bool
+pub fn is_plain_header(line: &[u8]) -> bool
     ensures { OnTrue result (is_header line.now ≡ true) }
 {
     let Some(behind) = line.strip_prefix(b"trace ") else {
