@@ -7,7 +7,7 @@ use Rattle.std.proofs.lemmas.List.Elements.{All-append, All-cons, All-nil}
 use Rattle.ld_trace.specs.declared.source.TheConstants.{LONGEST_STREAM, MOST_TRACES}
 use Rattle.ld_trace.specs.Sources.{PlainSource, sources, stream_fault}
 use Rattle.ld_rules.specs.Outcome.{outcome}
-use Rattle.ld_book.specs.Totals.{is_refused}
+use Rattle.ld_reduce.specs.OfBook.Totals.{is_refused}
 use Rattle.ld_reduce.specs.Written.{IsTrace, counted_anew, trace_text, written}
 use Rattle.ld_reduce.proofs.WrittenLemmas.{sources-written, written-sound}
 use Rattle.ld_cut.specs.Alike.{AreAlike, AreRead, HaveSame, Whole, rejected, whole}

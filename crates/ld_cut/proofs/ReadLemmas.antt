@@ -12,7 +12,7 @@ use Rattle.ld_trace.specs.Sources.{Fits, PlainSource, begins_trace, is_header}
 use Rattle.ld_trace.specs.Events.{PlainEvent, Position, Said, position_of, positions, said_by, said_by_fields}
 use Rattle.ld_rules.specs.declared.outcome.Outcome.{Outcome}
 use Rattle.ld_rules.specs.Outcome.{FaultyLine, events, faulty_lines, outcome, outcome_by, said_fault}
-use Rattle.ld_book.specs.Totals.{is_refused, refused_count}
+use Rattle.ld_reduce.specs.OfBook.Totals.{is_refused, refused_count}
 use Rattle.ld_reduce.specs.Written.{IsTrace}
 use Rattle.ld_cut.specs.Alike.{AreRead}
 

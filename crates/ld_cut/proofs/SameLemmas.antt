@@ -20,7 +20,7 @@ use Rattle.ld_rules.specs.Union.{classes_of, dependencies_of, dependency_witness
 use Rattle.ld_rules.specs.Usage.{Use, same_use, uses_at}
 use Rattle.ld_rules.proofs.PlaceLemmas.{alike_from_decides, any_each_once}
 use Rattle.ld_rules.proofs.StepLemmas.{some_is_any}
-use Rattle.ld_book.specs.Totals.{is_refused}
+use Rattle.ld_reduce.specs.OfBook.Totals.{is_refused}
 use Rattle.ld_reduce.specs.Written.{counted_anew, counted_from, ended}
 use Rattle.ld_reduce.proofs.MovedLemmas.{line_within, refused-same, within-same}
 use Rattle.ld_reduce.proofs.TextLemmas.{ended-twice, texts-ended}

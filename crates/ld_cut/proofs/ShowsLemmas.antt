@@ -11,12 +11,12 @@ use Rattle.ld_rules.specs.Dependency.{Dependency}
 use Rattle.ld_rules.specs.Union.{dependency_witness, union_classes, use_witness}
 use Rattle.ld_rules.specs.Usage.{Bit, Use}
 use Rattle.ld_rules.specs.Usage.Bit.{In, On}
-use Rattle.ld_book.specs.Dependencies.{AreDependencies, dependency_at, usage_of_class}
-use Rattle.ld_union.specs.Usage.{row_of, usage_row}
-use Rattle.ld_union.specs.declared.usage.UsageRow.{UsageRow}
-use Rattle.ld_union.specs.declared.dependencies.Witnessed.{Witnessed}
+use Rattle.ld_reduce.specs.OfBook.Dependencies.{AreDependencies, dependency_at, usage_of_class}
+use Rattle.ld_reduce.specs.OfBook.OfUnion.Usage.{row_of, usage_row}
+use Rattle.ld_reduce.specs.OfBook.OfUnion.declared.usage.UsageRow.{UsageRow}
+use Rattle.ld_reduce.specs.OfBook.OfUnion.declared.dependencies.Witnessed.{Witnessed}
 use Rattle.ld_trace.specs.Sources.{Fits}
-use Rattle.ld_book.specs.Totals.{refused_count}
+use Rattle.ld_reduce.specs.OfBook.Totals.{refused_count}
 use Rattle.ld_cut.specs.Alike.{AreAlike}
 use Rattle.ld_cut.specs.Inner.Shows.{ShowsBits, ShowsClass}
 use Rattle.ld_cut.proofs.ReadLemmas.{are-read, are-traces}

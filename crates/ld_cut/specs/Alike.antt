@@ -6,7 +6,7 @@ use Rattle.ld_rules.specs.Outcome.{outcome}
 use Rattle.ld_rules.specs.Dependency.{Dependency}
 use Rattle.ld_rules.specs.Union.{dependency_witness, union_classes, use_witness}
 use Rattle.ld_rules.specs.Usage.{Use}
-use Rattle.ld_book.specs.Totals.{is_refused}
+use Rattle.ld_reduce.specs.OfBook.Totals.{is_refused}
 use Rattle.ld_reduce.specs.Written.{IsTrace, ended}
 
 -- the traces of the one list have the classes, the dependencies and the usage bits of those of the other

@@ -7,11 +7,11 @@ ghost use Rattle.ld_trace.specs.Sources.{plain};
 ghost use Rattle.ld_rules.specs.Dependency.{Dependency};
 ghost use Rattle.ld_rules.specs.Union.{dependency_witness, union_classes, use_witness};
 ghost use Rattle.ld_rules.specs.Usage.{Use};
-ghost use Rattle.ld_union.specs.declared.usage.UsageRow.{UsageRow};
+ghost use Rattle.ld_reduce.specs.OfBook.OfUnion.declared.usage.UsageRow.{UsageRow};
 ghost use Rattle.ld_cut.specs.Alike.{AreAlike};
 ghost use Rattle.ld_cut.specs.Inner.Shows.{ShowsBits};
 
-use ld_book::{Batch, BatchRefusal, Book, UsageRow};
+use ld_reduce::{Batch, BatchRefusal, Book, UsageRow};
 use ld_trace::Source;
 use std::alloc::{AllocError, Global};
 

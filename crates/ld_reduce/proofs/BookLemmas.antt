@@ -30,7 +30,7 @@ use Rattle.ld_book.specs.Dependencies.{AreDependencies, dependency_at, usage_of_
 use Rattle.ld_book.specs.Violations.{Depends, HasBit, IsViolation, Violation}
 use Rattle.ld_book.specs.Violations.Violation.{Conflict, Cycle, Forbidden}
 use Rattle.ld_reduce.specs.Kept.{IsAt, IsFirst}
-use Rattle.ld_reduce.specs.Origin.{PlainHome, marked}
+use Rattle.ld_origin.specs.Origin.{PlainHome, marked}
 use Rattle.ld_reduce.specs.Reduced.{AreNeeded, IsReduced}
 use Rattle.ld_reduce.specs.Same.{HaveSameUnion, HaveSameWitnesses, ShowSame}
 use Rattle.ld_reduce.specs.Written.{IsTrace}

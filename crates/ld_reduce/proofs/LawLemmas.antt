@@ -8,7 +8,7 @@ use Rattle.ld_trace.specs.Sources.{PlainSource, sources}
 use Rattle.ld_shown.specs.Batch.{AreRising}
 use Rattle.ld_reduce.specs.Kept.{AreKept, keeps}
 use Rattle.ld_reduce.specs.Left.{AreKnown, BeginsWithHeader, IsLeft, further}
-use Rattle.ld_reduce.specs.Origin.{PlainHome, PlainOrigin, lacking, marked, marked_with, origin_from, origin_line, origin_of}
+use Rattle.ld_origin.specs.Origin.{PlainHome, PlainOrigin, lacking, marked, marked_with, origin_from, origin_line, origin_of}
 use Rattle.ld_reduce.specs.Reduced.{HaveHomes, IsReduced}
 use Rattle.ld_reduce.specs.Written.{IsTrace, counted_anew, counted_from, ended, header, trace_text, written}
 use Rattle.ld_reduce.proofs.LeftLemmas.{are-left, left-written, left_of_both}

@@ -1,4 +1,3 @@
-pub mod OriginLemmas
 pub mod LineLemmas
 pub mod TextLemmas
 pub mod WrittenLemmas

@@ -15,12 +15,12 @@ use Rattle.ld_rules.specs.Usage.{same_use, uses_at}
 use Rattle.ld_shown.specs.Batch.{AreRising}
 use Rattle.ld_book.specs.Totals.{is_refused}
 use Rattle.ld_reduce.specs.Kept.{AreKept, IsFirst, keeps}
-use Rattle.ld_reduce.specs.Origin.{PlainHome, lacking, mark_of, marked, marked_with, origin_from, origin_line, origin_of}
+use Rattle.ld_origin.specs.Origin.{PlainHome, lacking, mark_of, marked, marked_with, origin_from, origin_line, origin_of}
 use Rattle.ld_reduce.specs.Same.{HaveSameWitnesses}
 use Rattle.ld_reduce.specs.Written.{IsTrace, ended, header, trace_text}
 use Rattle.ld_reduce.proofs.MovedLemmas.{shown_by}
 use Rattle.ld_reduce.proofs.TextLemmas.{ended-behind}
-use Rattle.ld_reduce.proofs.OriginLemmas.{home-said, origin-line, origin-no_header, origin-silent}
+use Rattle.ld_origin.proofs.OriginLemmas.{home-said, origin-line, origin-no_header, origin-silent}
 
 -- a header stands before its lines
 abbrev pub HasHead : PlainSource → Type 0

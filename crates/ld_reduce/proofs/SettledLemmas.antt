@@ -8,10 +8,10 @@ use Rattle.ld_trace.specs.Sources.{PlainSource, sources}
 use Rattle.ld_rules.specs.Outcome.{outcome}
 use Rattle.ld_book.specs.Totals.{is_refused}
 use Rattle.ld_reduce.specs.Kept.{AreKept, IsFirst, keeps}
-use Rattle.ld_reduce.specs.Origin.{PlainHome, PlainOrigin, lacking, marked, marked_with, origin_by, origin_from, origin_of}
+use Rattle.ld_origin.specs.Origin.{PlainHome, PlainOrigin, lacking, marked, marked_with, origin_by, origin_from, origin_of}
 use Rattle.ld_reduce.specs.Reduced.{AreNeeded, AreSaid, HaveHomes, IsReduced, IsSettled}
 use Rattle.ld_reduce.specs.Written.{counted_from, ended, header, written}
-use Rattle.ld_reduce.proofs.OriginLemmas.{home-said, origin-line, origin-said}
+use Rattle.ld_origin.proofs.OriginLemmas.{home-said, origin-line, origin-said}
 use Rattle.ld_reduce.proofs.TextLemmas.{ended-twice, texts-ended}
 
 -- the trace says where it comes from

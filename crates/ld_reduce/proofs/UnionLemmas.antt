@@ -15,7 +15,7 @@ use Rattle.ld_shown.specs.Batch.{AreRising}
 use Rattle.ld_reduce.specs.Written.{counted_anew, counted_from, ended}
 use Rattle.ld_book.specs.Totals.{is_refused}
 use Rattle.ld_reduce.specs.Kept.{AreKept, IsFirst}
-use Rattle.ld_reduce.specs.Origin.{origin_by, origin_of}
+use Rattle.ld_origin.specs.Origin.{origin_by, origin_of}
 use Rattle.ld_reduce.specs.Same.{HaveSameUnion, Place, place_of}
 use Rattle.ld_reduce.proofs.MovedLemmas.{line_within, shown_by, within-same}
 use Rattle.ld_reduce.proofs.TextLemmas.{texts-ended}

@@ -3,7 +3,7 @@ use Rattle.std.specs.Prelude.{◌≡◌, ◌<◌, ◌⊎◌, ℕ, ◌+◌, Bool,
 use Rattle.std.specs.List.{prefix_len}
 use Rattle.ld_trace.specs.Lines.{lines}
 use Rattle.ld_trace.specs.Sources.{PlainSource, is_other, sources}
-use Rattle.ld_reduce.specs.Origin.{PlainHome, marked}
+use Rattle.ld_origin.specs.Origin.{PlainHome, marked}
 use Rattle.ld_reduce.specs.Reduced.{HaveHomes, IsReduced}
 use Rattle.ld_reduce.specs.Written.{IsTrace}
 

@@ -1,7 +1,7 @@
-pub mod Origin
 pub mod Written
 pub mod Kept
 pub mod Same
 pub mod Reduced
 pub mod Left
 pub mod Reduction
+pub use Rattle.ld_book.specs as OfBook

@@ -4,7 +4,7 @@ use Rattle.ld_trace.specs.Sources.{PlainSource, sources}
 use Rattle.ld_rules.specs.Outcome.{outcome}
 use Rattle.ld_book.specs.Totals.{is_refused}
 use Rattle.ld_reduce.specs.Kept.{AreKept, IsFirst}
-use Rattle.ld_reduce.specs.Origin.{PlainHome, marked, origin_from, origin_of}
+use Rattle.ld_origin.specs.Origin.{PlainHome, marked, origin_from, origin_of}
 use Rattle.ld_reduce.specs.Written.{counted_anew, written}
 
 -- The text is the stream of the traces that are kept of these, and is cut into just those, counted anew.

@@ -5,7 +5,7 @@ use Rattle.ld_trace.specs.Sources.{PlainSource, sources, stream_fault}
 use Rattle.ld_rules.specs.declared.outcome.Witness.{Witness}
 use Rattle.ld_book.specs.Violations.{IsViolation, Violation}
 use Rattle.ld_reduce.specs.Left.{IsLeft}
-use Rattle.ld_reduce.specs.Origin.{PlainHome, marked}
+use Rattle.ld_origin.specs.Origin.{PlainHome, marked}
 use Rattle.ld_reduce.specs.Reduced.{AreNeeded, AreSaid, IsReduced, IsSettled}
 use Rattle.ld_reduce.specs.Same.{HaveSameUnion, HaveSameWitnesses}
 

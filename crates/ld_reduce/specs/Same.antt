@@ -6,7 +6,7 @@ use Rattle.ld_rules.specs.declared.outcome.Witness.{Witness}
 use Rattle.ld_rules.specs.Dependency.{Dependency}
 use Rattle.ld_rules.specs.Union.{dependency_witness, use_witness}
 use Rattle.ld_rules.specs.Usage.{Use}
-use Rattle.ld_reduce.specs.Origin.{PlainOrigin, origin_of}
+use Rattle.ld_origin.specs.Origin.{PlainOrigin, origin_of}
 
 -- the same dependencies and the same usage bits of the same classes, wherever they are seen
 pub record ShowSame (sources others : List PlainSource) : Type 0 where

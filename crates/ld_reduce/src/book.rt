@@ -6,14 +6,14 @@ ghost use Rattle.std.specs.List.Sorted.{IsPermutation};
 ghost use Rattle.ld_trace.specs.Sources.{PlainSource};
 ghost use Rattle.ld_shown.specs.Batch.{AreRising};
 ghost use Rattle.ld_reduce.specs.Kept.{IsFirst};
-ghost use Rattle.ld_reduce.specs.Origin.{plain_home};
+ghost use Rattle.ld_origin.specs.Origin.{plain_home};
 ghost use Rattle.ld_reduce.specs.Reduction.{IsReductionOf, is_in};
 ghost use Rattle.ld_reduce.specs.Written.{IsTrace};
 
 use crate::firsts::Firsts;
-use crate::origin::Home;
 use crate::reduce::reduced;
 use ld_book::{Book, Traces, UsageRow, Witness, Witnessed};
+use ld_origin::Home;
 use std::alloc::{AllocError, Global};
 
 /// Notes where these dependencies were first seen.

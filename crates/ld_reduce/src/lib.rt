@@ -3,10 +3,9 @@
 
 mod book;
 mod firsts;
-mod origin;
 mod reduce;
 mod written;
 
 pub use book::reduction;
-pub use origin::{Home, Origin, origin_of};
+pub use ld_book::{Batch, BatchRefusal, Book, UsageRow};
 pub use written::{append_ended, is_ended};

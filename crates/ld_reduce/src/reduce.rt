@@ -8,14 +8,14 @@ ghost use Rattle.ld_rules.specs.Outcome.{outcome};
 ghost use Rattle.ld_shown.specs.Batch.{AreOutcomes, AreRising, sources_of};
 ghost use Rattle.ld_book.specs.Totals.{is_refused};
 ghost use Rattle.ld_reduce.specs.Kept.{IsFirst, keeps, kept_by};
-ghost use Rattle.ld_reduce.specs.Origin.{marked, plain_home};
+ghost use Rattle.ld_origin.specs.Origin.{marked, plain_home};
 ghost use Rattle.ld_reduce.specs.Reduced.{AreNeeded, IsReduced};
 ghost use Rattle.ld_reduce.specs.Same.{HaveSameUnion};
 ghost use Rattle.ld_reduce.specs.Written.{IsTrace};
 
 use crate::firsts::Firsts;
-use crate::origin::Home;
 use crate::written::write_traces;
+use ld_origin::Home;
 use ld_rules::{Listed, Outcome};
 use ld_trace::Source;
 use std::alloc::{AllocError, Global};

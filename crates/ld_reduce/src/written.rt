@@ -1,10 +1,10 @@
 //! Writes traces as a stream.
 ghost use Rattle.std.specs.Prelude.{◌≡◌, ◌++◌, IfOk, OnOk, map, option_map};
 ghost use Rattle.ld_trace.specs.Sources.{plain};
-ghost use Rattle.ld_reduce.specs.Origin.{mark_of, marked, plain_home};
+ghost use Rattle.ld_origin.specs.Origin.{mark_of, marked, plain_home};
 ghost use Rattle.ld_reduce.specs.Written.{ended, header, is_ended, trace_text, written};
 
-use crate::origin::{Home, lacking, write_origin};
+use ld_origin::{Home, lacking, write_origin};
 use ld_trace::Source;
 use std::alloc::{AllocError, Global};
 

@@ -6,7 +6,7 @@ use Rattle.std.specs.Option.{is_some, option_map}
 use Rattle.std.specs.Str.Parse.{digits_value}
 use Rattle.ld_trace.specs.Lines.{is_empty}
 use Rattle.ld_trace.specs.Sources.{PlainSource}
-use Rattle.ld_reduce.specs.Origin.{PlainOrigin, origin_of}
+use Rattle.ld_origin.specs.Origin.{PlainOrigin, origin_of}
 use Rattle.ld_texts.specs.Places.{IsPlace, PlainFile, PlainPlace}
 
 -- a number, if it is below a bound

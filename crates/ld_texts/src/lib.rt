@@ -14,7 +14,8 @@ mod wanted;
 mod writing;
 
 pub use ld_book::{
-    Book, ClassName, ConflictRow, CycleRow, Edge, Findings, ForbiddenRow, Totals, Walk, Witness,
+    Book, ClassName, ConflictRow, CycleRow, Edge, Findings, ForbiddenRow, Totals, Traces, Walk,
+    Witness,
 };
 pub use ld_counts::Followers;
 pub use overview::{ClassRow, DependencyRow, Overview};

@@ -5,12 +5,12 @@ ghost use Rattle.std.specs.List.{list_all, list_any};
 ghost use Rattle.std.specs.Str.Parse.{digits_value};
 ghost use Rattle.ld_trace.specs.Lines.{is_empty};
 ghost use Rattle.ld_trace.specs.Sources.{plain};
-ghost use Rattle.ld_reduce.specs.Origin.{plain_origin};
+ghost use Rattle.ld_origin.specs.Origin.{plain_origin};
 ghost use Rattle.ld_texts.specs.Places.{IsPlace, PlainPlace, plain_place};
 ghost use Rattle.ld_texts.specs.ShownPlaces.{IsSaid, IsSaidOf, IsShownAt, below, has_origin, place_from, said_place, source_at};
 
 use crate::places::{Place, Places};
-use ld_reduce::{Origin, origin_of};
+use ld_origin::{Origin, origin_of};
 use ld_trace::Source;
 
 /// Where the lines of some files, which are one stream, are shown. A trace may say where it comes from, as

@@ -14,10 +14,10 @@ use Rattle.ld_trace.proofs.NumberLemmas.{numbered}
 use Rattle.ld_rules.specs.Outcome.{faulty_lines, outcome, outcome_by}
 use Rattle.ld_check.specs.OfReport.OfBook.Totals.{is_refused, refused_count}
 use Rattle.ld_trace.specs.declared.source.Source.{Source}
-use Rattle.ld_reduce.specs.declared.origin.Home.{Home}
+use Rattle.ld_origin.specs.declared.origin.Home.{Home}
 use Rattle.ld_reduce.specs.Kept.{keeps}
 use Rattle.ld_reduce.specs.Left.{AreKnown, BeginsWithHeader, further}
-use Rattle.ld_reduce.specs.Origin.{PlainHome, lacking, marked, marked_with, origin_of, plain_home}
+use Rattle.ld_origin.specs.Origin.{PlainHome, lacking, marked, marked_with, origin_of, plain_home}
 use Rattle.ld_reduce.specs.Reduced.{HaveHomes, IsReduced}
 use Rattle.ld_reduce.specs.Reduction.{IsReductionOf}
 use Rattle.ld_reduce.specs.Written.{IsTrace, counted_from, ended}

@@ -5,8 +5,8 @@ use Rattle.std.specs.List.{AllZip}
 use Rattle.ld_trace.specs.declared.source.Source.{Source}
 use Rattle.ld_trace.specs.Sources.{PlainSource, plain, sources}
 use Rattle.ld_trace.proofs.NumberLemmas.{numbered}
-use Rattle.ld_reduce.specs.declared.origin.Home.{Home}
-use Rattle.ld_reduce.specs.Origin.{PlainHome, plain_home}
+use Rattle.ld_origin.specs.declared.origin.Home.{Home}
+use Rattle.ld_origin.specs.Origin.{PlainHome, plain_home}
 use Rattle.ld_reduce.specs.Reduced.{HaveHomes}
 use Rattle.ld_texts.specs.Places.{PlainFile}
 use Rattle.lockgraph.specs.Homes.{AreHomes, IsHome}

@@ -3,7 +3,7 @@ use Rattle.std.specs.Prelude.{◌≡◌, ◌⊎◌, ◌==◌, ◌&&◌, ◌||◌
 use Rattle.ld_trace.specs.Lines.{lines}
 use Rattle.ld_trace.specs.Sources.{PlainSource, is_header, sources, stream_fault}
 use Rattle.ld_check.specs.OfReport.OfBook.Totals.{refused_count}
-use Rattle.ld_reduce.specs.Origin.{PlainHome, marked, plain_home}
+use Rattle.ld_origin.specs.Origin.{PlainHome, marked, plain_home}
 use Rattle.ld_reduce.specs.Reduced.{IsReduced}
 use Rattle.ld_reduce.specs.Reduction.{IsReductionOf}
 use Rattle.ld_reduce.specs.Written.{IsTrace}

@@ -2,7 +2,7 @@
 use Rattle.std.specs.Prelude.{◌≡◌, ◌⊎◌, ℕ, ◌-◌, Bool, true, false, List, []}
 use Rattle.std.specs.List.{AllZip}
 use Rattle.ld_trace.specs.Sources.{PlainSource}
-use Rattle.ld_reduce.specs.Origin.{PlainHome}
+use Rattle.ld_origin.specs.Origin.{PlainHome}
 use Rattle.ld_texts.specs.Places.{IsPlace, PlainFile, PlainPlace}
 
 abbrev pub place_of : PlainHome → PlainPlace

@@ -4,7 +4,7 @@ use Rattle.ld_trace.specs.Sources.{PlainSource, sources}
 use Rattle.ld_check.specs.OfReport.OfBook.Totals.{refused_count}
 use Rattle.ld_check.specs.OfReport.declared.verdict.Verdict.{Verdict}
 use Rattle.ld_check.specs.OfReport.declared.verdict.Verdict.TheVariants.{Clean, Refused}
-use Rattle.ld_reduce.specs.Origin.{PlainHome, marked}
+use Rattle.ld_origin.specs.Origin.{PlainHome, marked}
 use Rattle.ld_reduce.specs.Reduced.{IsReduced}
 use Rattle.ld_reduce.specs.Reduction.{IsReductionOf}
 use Rattle.ld_texts.specs.Places.{PlainFile}

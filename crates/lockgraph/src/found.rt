@@ -1,14 +1,14 @@
 //! The traces of a file that is reduced with others, and where their headers stand.
 ghost use Rattle.std.specs.Prelude.{◌≡◌, [], Err, IfOk, IfSome, OnOk, false, map, true};
 ghost use Rattle.ld_trace.specs.Sources.{plain, stream_fault};
-ghost use Rattle.ld_reduce.specs.Origin.{plain_home};
+ghost use Rattle.ld_origin.specs.Origin.{plain_home};
 ghost use Rattle.lockgraph.specs.Groups.{AreHomed, file_read, home_in};
 ghost use Rattle.lockgraph.specs.Streams.{fault_of_file, has_trace};
 
 use crate::fault::Fault;
 use crate::reduce::ReduceFault;
 use ld_check::CheckFault;
-use ld_reduce::Home;
+use ld_origin::Home;
 use ld_trace::{Source, split};
 use std::alloc::{AllocError, Global};
 

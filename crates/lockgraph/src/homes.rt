@@ -1,10 +1,10 @@
 //! Where the headers of traces stand in their files.
 ghost use Rattle.std.specs.Prelude.{◌≡◌, ◌-◌, [], IfOk, false, map, true};
 ghost use Rattle.ld_trace.specs.Sources.{plain};
-ghost use Rattle.ld_reduce.specs.Origin.{plain_home};
+ghost use Rattle.ld_origin.specs.Origin.{plain_home};
 ghost use Rattle.lockgraph.specs.Homes.{AreHomes, IsHome};
 
-use ld_reduce::Home;
+use ld_origin::Home;
 use ld_texts::Places;
 use ld_trace::Source;
 use std::alloc::{AllocError, Global};

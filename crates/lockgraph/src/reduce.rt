@@ -5,7 +5,7 @@ ghost use Rattle.ld_trace.specs.declared.source.StreamFault.{StreamFault};
 ghost use Rattle.ld_trace.specs.Sources.{sources, stream_fault};
 ghost use Rattle.ld_device.specs.Transfer.{AppendsPart};
 ghost use Rattle.ld_trace.specs.Sources.{PlainSource, plain};
-ghost use Rattle.ld_reduce.specs.Origin.{PlainHome};
+ghost use Rattle.ld_origin.specs.Origin.{PlainHome};
 ghost use Rattle.ld_reduce.specs.Written.{IsTrace};
 ghost use Rattle.std.specs.List.Sorted.{IsPermutation};
 ghost use Rattle.lockgraph.specs.Homes.{AreWanted};

@@ -4,7 +4,7 @@ use Rattle.ld_class.specs.Names.{PlainClass, place_of}
 use Rattle.ld_trace.specs.Sources.{PlainSource}
 use Rattle.ld_rules.specs.Union.{union_classes, use_witness}
 use Rattle.ld_rules.specs.Usage.{Bit}
-use Rattle.ld_union.specs.declared.usage.UsageRow.{UsageRow}
+use Rattle.ld_reduce.specs.OfBook.OfUnion.declared.usage.UsageRow.{UsageRow}
 
 -- the row has each bit of the other one
 abbrev pub ShowsBits : UsageRow → UsageRow → Type 0

@@ -5,10 +5,9 @@ ghost use Rattle.ld_explain.specs.Faults.{fault_said};
 ghost use Rattle.ld_explain.specs.Rows.{AreRefusals, refusal_said, refusals};
 
 use crate::rows::lines::Lines;
-use ld_book::{Book, Traces};
 use ld_rows::Refused;
 use ld_rules::{Listed, Outcome, TraceFault};
-use ld_texts::Witness;
+use ld_texts::{Book, Traces, Witness};
 use std::alloc::{AllocError, Global};
 
 /// Why a trace is refused, and at which line.

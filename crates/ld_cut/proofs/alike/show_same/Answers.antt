@@ -1,8 +1,8 @@
 -- Each shows what the other does.
 use Rattle.std.proofs.Common.{◌≡◌, ◌≤◌, Bool, true, false, ap, arith}
 use Rattle.std.specs.Bool.{OnTrue}
-use Rattle.ld_book.specs.Totals.{refused_count}
-use Rattle.ld_book.specs.declared.totals.Totals.{Totals}
+use Rattle.ld_reduce.specs.OfBook.Totals.{refused_count}
+use Rattle.ld_reduce.specs.OfBook.declared.totals.Totals.{Totals}
 use Rattle.ld_cut.proofs.ShowsLemmas.{alike-is}
 use Rattle.ld_cut.proofs.alike.show_same.Goals as goal
 

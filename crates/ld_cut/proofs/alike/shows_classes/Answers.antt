@@ -4,9 +4,9 @@ use Rattle.std.proofs.Math.ListN.{get_or-map}
 use Rattle.std.proofs.lemmas.List.{get_or_default, length-map}
 use Rattle.ld_class.specs.Names.{PlainClass, no_class, plain_class}
 use Rattle.ld_rules.specs.Union.{union_classes}
-use Rattle.ld_book.specs.Dependencies.{usage_of_class}
-use Rattle.ld_union.specs.Usage.{usage_row}
-use Rattle.ld_union.specs.declared.usage.UsageRow.{UsageRow}
+use Rattle.ld_reduce.specs.OfBook.Dependencies.{usage_of_class}
+use Rattle.ld_reduce.specs.OfBook.OfUnion.Usage.{usage_row}
+use Rattle.ld_reduce.specs.OfBook.OfUnion.declared.usage.UsageRow.{UsageRow}
 use Rattle.ld_cut.specs.Inner.Shows.{ShowsClass}
 use Rattle.ld_cut.proofs.ShowsLemmas.{ShowsBelow, classes-shown, shows-class, uses-shown}
 use Rattle.ld_cut.proofs.alike.shows_classes.Goals as goal

@@ -5,8 +5,8 @@ use Rattle.std.proofs.lemmas.List.{take_all, take_more}
 use Rattle.std.proofs.lemmas.List.Elements.{All-push}
 use Rattle.ld_class.specs.Names.{PlainClass, no_class, plain_class}
 use Rattle.ld_rules.specs.Union.{dependency_witness, union_classes}
-use Rattle.ld_book.specs.Dependencies.{class_at, dependency_at}
-use Rattle.ld_union.specs.declared.dependencies.Witnessed.{Witnessed}
+use Rattle.ld_reduce.specs.OfBook.Dependencies.{class_at, dependency_at}
+use Rattle.ld_reduce.specs.OfBook.OfUnion.declared.dependencies.Witnessed.{Witnessed}
 use Rattle.ld_cut.proofs.ShowsLemmas.{ShowsRows, dependencies-shown}
 use Rattle.ld_cut.proofs.alike.shows_dependencies.Goals as goal
 

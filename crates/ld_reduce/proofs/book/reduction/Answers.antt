@@ -7,7 +7,7 @@ use Rattle.std.specs.List.{list_any}
 use Rattle.ld_trace.specs.Sources.{plain, sources}
 use Rattle.ld_shown.specs.Batch.{AreRising}
 use Rattle.ld_reduce.specs.Kept.{IsFirst}
-use Rattle.ld_reduce.specs.Origin.{marked, plain_home}
+use Rattle.ld_origin.specs.Origin.{marked, plain_home}
 use Rattle.ld_reduce.specs.Reduced.{IsReduced}
 use Rattle.ld_reduce.specs.Same.{HaveSameUnion}
 use Rattle.ld_reduce.specs.Written.{IsTrace}

@@ -6,7 +6,7 @@ use Rattle.std.specs.List.{list_any}
 use Rattle.ld_trace.specs.Sources.{plain}
 use Rattle.ld_shown.specs.Batch.{sources_of}
 use Rattle.ld_reduce.specs.Kept.{AreKept, kept_by}
-use Rattle.ld_reduce.specs.Origin.{marked, plain_home}
+use Rattle.ld_origin.specs.Origin.{marked, plain_home}
 use Rattle.ld_reduce.specs.Written.{written}
 use Rattle.ld_reduce.proofs.MarkedLemmas.{kept-marked, rising-marked, traces-marked}
 use Rattle.ld_reduce.proofs.ReducedLemmas.{reduced-is, reduced-needed, reduced-sound, reduced-union}

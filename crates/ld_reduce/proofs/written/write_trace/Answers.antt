@@ -2,7 +2,7 @@
 use Rattle.std.proofs.Common.{◌≡◌, ◌∙◌, ◌++◌, List, ℕ, ap, append_assoc, map, option_map, slice_get, sym}
 use Rattle.std.proofs.lemmas.Result.{on_ok_weaker}
 use Rattle.ld_trace.specs.Sources.{plain}
-use Rattle.ld_reduce.specs.Origin.{lacking, mark_of, marked, origin_of, plain_home}
+use Rattle.ld_origin.specs.Origin.{lacking, mark_of, marked, origin_of, plain_home}
 use Rattle.ld_reduce.specs.Written.{ended, header, trace_text}
 use Rattle.ld_reduce.proofs.MarkedLemmas.{text-with}
 use Rattle.ld_reduce.proofs.written.write_trace.Goals as goal

@@ -1,7 +1,7 @@
 -- The traces so far are written.
 use Rattle.std.specs.Prelude.{◌≡◌, map, take}
 use Rattle.ld_trace.specs.Sources.{plain}
-use Rattle.ld_reduce.specs.Origin.{marked, plain_home}
+use Rattle.ld_origin.specs.Origin.{marked, plain_home}
 use Rattle.ld_reduce.specs.Written.{written}
 use Rattle.ld_reduce.proofs.written.write_traces.Given as goal
 

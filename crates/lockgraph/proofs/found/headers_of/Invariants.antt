@@ -1,6 +1,6 @@
 use Rattle.std.proofs.Common.{◌≡◌, map, take}
 use Rattle.ld_trace.specs.Sources.{plain}
-use Rattle.ld_reduce.specs.Origin.{plain_home}
+use Rattle.ld_origin.specs.Origin.{plain_home}
 use Rattle.lockgraph.specs.Groups.{home_in}
 use Rattle.lockgraph.proofs.found.headers_of.Given as goal
 

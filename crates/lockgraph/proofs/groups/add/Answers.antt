@@ -1,7 +1,7 @@
 -- The group stands for all with the file behind it.
 use Rattle.std.proofs.Common.{◌≡◌, ◌∙◌, ap, map, subst}
 use Rattle.std.proofs.lemmas.Bool.{OnTrue_at}
-use Rattle.ld_reduce.specs.Origin.{plain_home}
+use Rattle.ld_origin.specs.Origin.{plain_home}
 use Rattle.ld_reduce.specs.Written.{ended}
 use Rattle.lockgraph.specs.Groups.{StartsWithHeader, file_read}
 use Rattle.lockgraph.proofs.GroupLemmas.{added, added-left}

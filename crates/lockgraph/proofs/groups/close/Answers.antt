@@ -2,7 +2,7 @@
 use Rattle.std.proofs.Common.{◌≡◌, ◌∙◌, ◌==◌, ◌||◌, None, ap, map, not, refl, subst}
 use Rattle.ld_trace.specs.Sources.{sources, stream_fault}
 use Rattle.ld_check.specs.OfReport.OfBook.Totals.{refused_count}
-use Rattle.ld_reduce.specs.Origin.{plain_home}
+use Rattle.ld_origin.specs.Origin.{plain_home}
 use Rattle.ld_reduce.specs.Reduction.{IsReductionOf}
 use Rattle.lockgraph.specs.declared.reduce.ReduceFault.TheVariants.{Stream}
 use Rattle.lockgraph.specs.Groups.{AreHomed}

@@ -5,7 +5,7 @@ use Rattle.ld_trace.specs.Sources.{sources, stream_fault}
 use Rattle.ld_check.specs.declared.checked.CheckFault.TheVariants.{Stream}
 use Rattle.ld_check.specs.OfReport.OfBook.declared.totals.Totals.{Totals}
 use Rattle.ld_check.proofs.OfReport.OfBook.PermutedLemmas.{totals-permuted}
-use Rattle.ld_reduce.specs.Origin.{plain_home}
+use Rattle.ld_origin.specs.Origin.{plain_home}
 use Rattle.ld_reduce.specs.Reduction.{IsReductionOf}
 use Rattle.ld_reduce.specs.Written.{IsTrace}
 use Rattle.ld_reduce.proofs.BookLemmas.{in_order-sources}

@@ -5,7 +5,7 @@ use Rattle.ld_trace.specs.Sources.{sources, stream_fault}
 use Rattle.ld_device.specs.Transfer.{AppendsPart}
 use Rattle.ld_check.specs.OfReport.OfBook.Totals.{refused_count}
 use Rattle.ld_check.specs.OfReport.declared.verdict.Verdict.{Verdict}
-use Rattle.ld_reduce.specs.Origin.{PlainHome, plain_home}
+use Rattle.ld_origin.specs.Origin.{PlainHome, plain_home}
 use Rattle.ld_reduce.specs.Reduction.{IsReductionOf}
 use Rattle.lockgraph.specs.declared.groups.Group.{Group}
 use Rattle.lockgraph.specs.declared.reduce.Keeping.{Keeping}

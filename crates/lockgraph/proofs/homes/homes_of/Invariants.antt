@@ -1,7 +1,7 @@
 -- The traces so far have their homes.
 use Rattle.std.specs.Prelude.{map, take}
 use Rattle.ld_trace.specs.Sources.{plain}
-use Rattle.ld_reduce.specs.Origin.{plain_home}
+use Rattle.ld_origin.specs.Origin.{plain_home}
 use Rattle.lockgraph.specs.Homes.{AreHomes}
 use Rattle.lockgraph.proofs.homes.homes_of.Given as goal
 

@@ -8,7 +8,7 @@ use Rattle.ld_check.specs.declared.checked.CheckFault.TheVariants.{Stream}
 use Rattle.ld_reduce.specs.Written.{IsTrace}
 use Rattle.ld_reduce.proofs.BookLemmas.{in_order-sources}
 use Rattle.ld_reduce.proofs.StreamLemmas.{sources-traces}
-use Rattle.ld_reduce.specs.Origin.{PlainHome}
+use Rattle.ld_origin.specs.Origin.{PlainHome}
 use Rattle.ld_reduce.specs.Reduced.{HaveHomes}
 use Rattle.ld_texts.specs.Places.{PlainFile}
 use Rattle.lockgraph.specs.Homes.{AreWanted}

@@ -4,8 +4,8 @@ use Rattle.std.specs.Char.{is_ascii_digit, is_ascii_graphic}
 use Rattle.std.specs.List.{after_first, before_first, list_all, starts_with}
 use Rattle.ld_trace.specs.Lines.{is_empty, lines, text_of}
 use Rattle.ld_trace.specs.Sources.{PlainSource}
-use Rattle.ld_reduce.specs.declared.origin.Home.{Home}
-use Rattle.ld_reduce.specs.declared.origin.Origin.{Origin}
+use Rattle.ld_origin.specs.declared.origin.Home.{Home}
+use Rattle.ld_origin.specs.declared.origin.Origin.{Origin}
 
 -- where a header stands: a line of a file, counted from 1
 pub record PlainHome : Type 0 where

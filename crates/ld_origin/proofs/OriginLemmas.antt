@@ -13,7 +13,7 @@ use Rattle.ld_trace.specs.Lines.{fields, is_empty, lines, text_of}
 use Rattle.ld_trace.specs.Sources.{begins_trace, is_header}
 use Rattle.ld_trace.specs.Events.{said_by, said_by_fields}
 use Rattle.ld_trace.proofs.PlainLemmas.{IsRun, fields-word, lines-onto, text-run}
-use Rattle.ld_reduce.specs.Origin.{PlainHome, PlainOrigin, hex_digit, is_space, origin_from, origin_line, origin_said, said_behind, spelled, spelled_byte}
+use Rattle.ld_origin.specs.Origin.{PlainHome, PlainOrigin, hex_digit, is_space, origin_from, origin_line, origin_said, said_behind, spelled, spelled_byte}
 
 -- an origin that a line may say
 pub record IsSaid (origin : PlainOrigin) : Type 0 where

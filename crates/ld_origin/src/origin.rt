@@ -4,7 +4,7 @@ ghost use Rattle.std.specs.Char.{is_ascii_digit, is_ascii_graphic};
 ghost use Rattle.std.specs.List.{list_all, position};
 ghost use Rattle.ld_trace.specs.Lines.{is_empty};
 ghost use Rattle.ld_trace.specs.Sources.{plain};
-ghost use Rattle.ld_reduce.specs.Origin.{hex_digit, is_space, lacking, origin_by, origin_from, origin_line, origin_of, origin_said, plain_home, plain_origin, said_behind, spelled, spelled_byte};
+ghost use Rattle.ld_origin.specs.Origin.{hex_digit, is_space, lacking, origin_by, origin_from, origin_line, origin_of, origin_said, plain_home, plain_origin, said_behind, spelled, spelled_byte};
 
 use ld_trace::{Source, next_line, text};
 use std::alloc::AllocError;
