@@ -11,7 +11,7 @@ from nights import COUNTS, FAULTY, REDUCED, Counts, Wrong, is_counted, is_regula
 ROOT = os.path.dirname(os.path.dirname(os.path.realpath(__file__)))
 # `lockgraph reduce` ends with 2 for each fault, and only these are the stream's own: what it lacks memory or room for,
 # or can't read, may go well another time or elsewhere.
-OF_STREAM = re.compile(rb"\b(NoHeader|BadHeader|NoTrace|TooManyTraces|TooLong)\n\Z")
+OF_STREAM = re.compile(rb"\b(NoHeader: .*|BadHeader|NoTrace|TooManyTraces|TooLong)\n\Z")
 REFUSED_LEFT_OUT = 3
 HEADER = re.compile(rb"^[ \t]*trace[ \t]", re.M)
 

@@ -28,7 +28,7 @@ _lockcheck() {
 _lockgraph() {
     local word=${COMP_WORDS[COMP_CWORD]} before=${COMP_WORDS[COMP_CWORD - 1]} command=${COMP_WORDS[1]} options=
     if [ "$COMP_CWORD" -eq 1 ]; then
-        COMPREPLY=($(compgen -W 'dot explain github help html json junit ktap list new reduce sarif stats --help -h --version -V' -- "$word"))
+        COMPREPLY=($(compgen -W 'check dot explain github help html json junit ktap list new reduce sarif stats --help -h --version -V' -- "$word"))
         return
     fi
     case $before in
@@ -43,7 +43,7 @@ _lockgraph() {
         github | junit | sarif) options='--map --strip' ;;
         html | json | ktap) options='--map' ;;
         list) options='--class --dependencies' ;;
-        new) options='--known' ;;
+        new) options='--fixed --known' ;;
         reduce) options='--from --keep-refused' ;;
     esac
     case $word in

@@ -90,7 +90,9 @@ def stream(number, traces=4, episodes=20):
 def fault(number):
     """What lockgraph says is wrong with a stream at fault, behind its name."""
     lines = stream(number).count("\n")
-    return ["1: NoHeader", " NoTrace", f"{lines}: BadHeader", "1: NoHeader"][number // FAULTY_EVERY % 4]
+    said = '1: NoHeader: no header, as "trace LABEL", stands before "acquire t A"'
+    packed = "1: NoHeader: it looks like a file that gzip made: decompress it first"
+    return [said, " NoTrace", f"{lines}: BadHeader", packed][number // FAULTY_EVERY % 4]
 
 
 def path(number):

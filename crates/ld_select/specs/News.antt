@@ -1,8 +1,9 @@
 -- Which lines of a report are new, and the report of what is new. `has` tells what is known.
-use Rattle.std.specs.Prelude.{ℕ, Bool, false, not, ◌&&◌, ◌==◌, List, ◌++◌, Option, None, Some, codes, count_by, decimal, filter, if◌then◌else◌}
+use Rattle.std.specs.Prelude.{ℕ, Bool, false, not, ◌&&◌, ◌==◌, List, [], ◌++◌, Option, None, Some, codes, count_by, decimal, filter, if◌then◌else◌}
 use Rattle.std.specs.List.{concat}
 use Rattle.ld_trace.specs.Lines.{lines, text_of}
 use Rattle.ld_select.specs.Said.{PlainSaid, said_by}
+use Rattle.ld_select.specs.Gone.{count_gone}
 use Rattle.ld_select.specs.Known.{has_said, is_last, is_summary_or_refused}
 
 -- something is said, and it is known
@@ -35,7 +36,14 @@ last_line count = if count == 0 then codes "nothing new\n" else codes "new " ++ 
 abbrev pub count_new : (report known : List ℕ) → ℕ
 count_new report known = count_staying (has_said known) report
 
--- The report of what is new: the lines of the report without those of violations that a line of the known
--- text says too, and in place of the last one how many violations are left.
+-- a comment that says how many known lines match nothing, if there are some
+abbrev pub gone_note : ℕ → List ℕ
+gone_note count =
+    if count == 0 then []
+    else codes "# known lines that match nothing: " ++ decimal count ++ codes " (--fixed lists them)\n"
+
+-- The report of what is new: the lines of the report without those of violations that a line of the known text says
+-- too; a comment if known lines match nothing; and in place of the last line how many violations are left.
 abbrev pub new_report : (report known : List ℕ) → List ℕ
-new_report report known = staying (has_said known) report ++ last_line (count_new report known)
+new_report report known =
+    staying (has_said known) report ++ gone_note (count_gone report known) ++ last_line (count_new report known)

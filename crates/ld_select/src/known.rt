@@ -47,7 +47,7 @@ fn blank_len(text: &[u8]) -> usize
 }
 
 /// Whether a line without its end says nothing: it has no byte but blanks, or is a comment.
-fn is_comment(text: &[u8]) -> bool
+pub fn is_comment(text: &[u8]) -> bool
     ensures { result ≡ is_comment text.now }
 {
     let (_, rest) = text.split_at(blank_len(text));

@@ -10,6 +10,6 @@ mod violations;
 mod witnesses;
 
 pub use gone::{GoneLines, gone_lines};
-pub use known::unknown_line;
+pub use known::{is_comment, unknown_line};
 pub use news::{NewReport, SelectFault, new_report};
 pub use witnesses::lines_named;

@@ -3,9 +3,10 @@ ghost use Rattle.std.specs.Prelude.{◌≡◌, ◌++◌, ℕ, [], Err, IfOk, IfS
 ghost use Rattle.ld_trace.specs.Lines.{text_of};
 ghost use Rattle.ld_select.specs.Said.{said_by};
 ghost use Rattle.ld_select.specs.Known.{is_among, unknown_line};
-ghost use Rattle.ld_select.specs.News.{count_new, count_staying, is_known_said, is_new, last_line, new_report, staying, stays};
+ghost use Rattle.ld_select.specs.News.{count_new, count_staying, gone_note, is_known_said, is_new, last_line, new_report, staying, stays};
 ghost use Rattle.ld_select.specs.declared.news.SelectFault.TheVariants.{Memory};
 
+use crate::gone::gone_lines;
 use crate::known::{Known, is_last, is_summary_or_refused, unknown_line};
 use crate::said::said_by;
 use ld_trace::{next_line, text};
@@ -109,9 +110,24 @@ fn write_last(text: &mut Vec<u8>, count: u64) -> Result<(), AllocError>
     .map_err(|_| AllocError)
 }
 
+/// Writes a comment that says how many known lines match nothing, if there are some.
+fn write_note(text: &mut Vec<u8>, count: u64) -> Result<(), AllocError>
+    ensures { OnOk result (text.new.items ≡ text.old.items ++ gone_note count) }
+{
+    match count {
+        0 => Ok(()),
+        _ => writeln!(
+            text,
+            "# known lines that match nothing: {count} (--fixed lists them)"
+        )
+        .map_err(|_| AllocError),
+    }
+}
+
 /// The report of what is new in a report: its lines, in its order, without those of violations that a
-/// line of the known text says too, by kind, state and classes, whatever their witnesses and walks; and
-/// in place of its last line one that says how many violations are left.
+/// line of the known text says too, by kind, state and classes, whatever their witnesses and walks; a comment
+/// that says how many known lines match nothing, if there are some; and in place of its last line one that says
+/// how many violations are left.
 ///
 /// # Errors
 ///
@@ -128,9 +144,11 @@ pub fn new_report(alloc: Global, report: &[u8], known: &[u8]) -> Result<NewRepor
     if let Some(line) = unknown_line(known) {
         return Err(SelectFault::UnknownLine(line));
     }
+    let gone = gone_lines(alloc, report, known)?;
     let known = Known::of(alloc, known)?;
     let mut new = staying(alloc, report, &known)?;
     let count = new.count;
+    write_note(&mut new.text, gone.count)?;
     write_last(&mut new.text, count)?;
     Ok(new)
 }

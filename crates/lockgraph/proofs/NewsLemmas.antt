@@ -10,7 +10,8 @@ use Rattle.ld_check.proofs.OfReport.Permuted.{report-permuted}
 use Rattle.ld_select.specs.News.{count_new}
 use Rattle.ld_texts.specs.Places.{PlainFile}
 use Rattle.ld_texts.specs.ShownPlaces.{has_origin}
-use Rattle.lockgraph.specs.News.{IsNewsOf, IsNewsWith, verdict_of_new}
+use Rattle.lockgraph.specs.News.{IsFixedOf, IsNewsOf, IsNewsWith, verdict_of_new}
+use Rattle.lockgraph.specs.Shown.{verdict_of_read}
 
 pub news-permuted : (sources listed in_order : List PlainSource) → IsPermutation sources listed → in_order ≡ sources
     → (files : List PlainFile) (known text : List ℕ) (verdict : Verdict) → IsNewsWith files in_order listed known text verdict → IsNewsOf files sources known text verdict
@@ -21,4 +22,13 @@ news-permuted sources listed in_order moved ordered files known text verdict new
   text_is = news.text_is;
   few = λ one none. news.few one (ap (list_any has_origin) ordered ∙ none);
   verdict_is = news.verdict_is ∙ ap (λ (t : Totals). verdict_of_new (count_new news.report known) t.refused) (totals-permuted sources listed moved);
+}
+
+pub fixed-permuted : (sources listed : List PlainSource) → IsPermutation sources listed
+    → (known text : List ℕ) (verdict : Verdict) → IsFixedOf listed known text verdict → IsFixedOf sources known text verdict
+fixed-permuted sources listed moved known text verdict fixed = record {
+  report = fixed.report;
+  is = report-permuted sources listed moved fixed.report fixed.is;
+  text_is = fixed.text_is;
+  verdict_is = fixed.verdict_is ∙ ap (λ (t : Totals). verdict_of_read t.refused) (totals-permuted sources listed moved);
 }

@@ -8,8 +8,9 @@ use Rattle.ld_trace.specs.declared.source.StreamFault.TheVariants as stream_faul
 use Rattle.ld_trace.specs.declared.source.TheConstants.{LONGEST_STREAM}
 use Rattle.ld_reduce.specs.Written.{ended}
 use Rattle.ld_select.specs.Known.{unknown_line}
+use Rattle.lockgraph.specs.declared.looks.Looks.{Looks}
 use Rattle.lockgraph.specs.declared.fault.Fault.{Fault}
-use Rattle.lockgraph.specs.declared.fault.Fault.TheVariants.{NoHeader, BadHeader, File, Together, UnknownLine, Memory}
+use Rattle.lockgraph.specs.declared.fault.Fault.TheVariants.{NoHeader, NoStream, BadHeader, File, Together, UnknownLine, Memory}
 
 -- an LF
 abbrev pub is_lf : ℕ → Bool
@@ -30,6 +31,11 @@ fault_of_file name fault = File name fault
 abbrev pub fault_of_files : List (Bor (List ℕ)) → Fault → Fault
 fault_of_files (name ∷ []) (Together fault) = fault_of_file name fault
 fault_of_files names fault = fault
+
+-- the same fault of a file that looks so, which is told with a line that stands before every header
+abbrev pub looking : Looks → Fault → Fault
+looking looks (NoHeader name line) = NoStream name line looks
+looking looks fault = fault
 
 -- a stream has a trace
 abbrev pub has_trace : List ℕ → Bool

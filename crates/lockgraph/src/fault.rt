@@ -1,5 +1,6 @@
 //! Why there is no answer.
 
+use crate::looks::Looks;
 use crate::maps::WrongMap;
 use crate::news::NewsFault;
 use crate::reduce::ReduceFault;
@@ -21,6 +22,9 @@ pub enum Fault<'a> {
     /// This line of this file says something, and stands before every header.
     #[error("{0}:{1}: NoHeader")]
     NoHeader(&'a str, u64),
+    /// The same, and the file looks so.
+    #[error("{0}:{1}: NoHeader: {2}")]
+    NoStream(&'a str, u64, Looks),
     /// This line of this file begins as a header, and isn't one.
     #[error("{0}:{1}: BadHeader")]
     BadHeader(&'a str, u64),
@@ -57,7 +61,7 @@ pub enum Fault<'a> {
 impl<'a> Fault<'a> {
     ghost use Rattle.std.specs.Prelude.{◌≡◌};
     ghost use Rattle.lockgraph.specs.Faults.{fault_of_news, fault_of_reduce};
-    ghost use Rattle.lockgraph.specs.Streams.{fault_of_file, fault_of_files};
+    ghost use Rattle.lockgraph.specs.Streams.{fault_of_file, fault_of_files, looking};
 
     /// A fault of the stream that this file is.
     pub fn of_file(name: &'a str, fault: StreamFault) -> Fault<'a>
@@ -79,6 +83,16 @@ impl<'a> Fault<'a> {
         match (self, names) {
             (Fault::Together(fault), [name]) => Fault::of_file(*name, fault),
             (fault, _) => fault,
+        }
+    }
+
+    /// The same fault of a file that looks so: it is told where a line stands before every header.
+    pub fn looking(self, looks: Looks) -> Fault<'a>
+        ensures { result ≡ looking looks self.entry }
+    {
+        match self {
+            Fault::NoHeader(name, line) => Fault::NoStream(name, line, looks),
+            fault => fault,
         }
     }
 

@@ -10,14 +10,17 @@ mod comments;
 mod dot;
 mod explain;
 mod fault;
+mod fixed;
 mod found;
 mod groups;
 mod homes;
 mod lines;
 mod list;
+mod looks;
 mod maps;
 mod news;
 mod reduce;
+mod report;
 mod rows;
 mod shown;
 mod stats;
@@ -32,6 +35,7 @@ use ld_check::Verdict;
 use list::answer_list;
 use news::answer_new;
 use reduce::answer_reduce;
+use report::answer_check;
 use rows::{answer_format, answer_json};
 use stats::answer_stats;
 use std::fmt::Display;
@@ -70,6 +74,7 @@ fn answer<'a, R: Files + io::Input + Print + AllocGlobal + Threads + Wait + Sync
     asked: &Asked<'a>,
 ) -> Result<Verdict, Fault<'a>> {
     let outcome = match asked {
+        Asked::Check(words) => answer_check(rt, words),
         Asked::Dot(words) => answer_dot(rt, words),
         Asked::Explain(words) => answer_explain(rt, words),
         Asked::Format(words) => answer_format(rt, words),

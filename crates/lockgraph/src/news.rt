@@ -9,6 +9,7 @@ ghost use Rattle.lockgraph.specs.News.{IsNewsOf, IsNewsWith, verdict_of_new};
 
 use crate::comments::{remarks, write_comments};
 use crate::fault::Fault;
+use crate::fixed::write_fixed;
 use crate::streams::{read_known, read_streams};
 use crate::words::NewWords;
 use ld_check::{CheckFault, Checked, MOST_WORKERS, NoGate, Verdict, check, report_in};
@@ -47,11 +48,11 @@ pub enum NewsFault {
     Uneven(u64),
 }
 
-/// Writes what is new in the files that are named. May wait.
+/// Writes what is new in the files that are named, or what is known and gone. May wait.
 ///
 /// # Errors
 ///
-/// Those of `read_known`, of `read_streams` and of `write_news`.
+/// Those of `read_known`, of `read_streams`, of `write_news` and of `write_fixed`.
 pub fn answer_new<'a, R: Files + io::Input + Print + AllocGlobal + Threads + Wait + Sync>(
     rt: &R,
     words: &NewWords<'a>,
@@ -61,15 +62,20 @@ pub fn answer_new<'a, R: Files + io::Input + Print + AllocGlobal + Threads + Wai
     let streams = read_streams(rt, &words.given.files)?;
     let mut output = Std::new(io::writer(rt));
     let workers = words.given.workers;
-    match write_news(
-        rt,
-        rt.alloc(),
-        &streams.bytes,
-        &streams.places,
-        &known,
-        &mut output,
-        workers,
-    ) {
+    let written = if words.fixed {
+        write_fixed(rt, rt.alloc(), &streams.bytes, &known, &mut output, workers)
+    } else {
+        write_news(
+            rt,
+            rt.alloc(),
+            &streams.bytes,
+            &streams.places,
+            &known,
+            &mut output,
+            workers,
+        )
+    };
+    match written {
         Ok(verdict) => Ok(verdict),
         Err(fault) => Err(Fault::of_news(words.known, fault)),
     }

@@ -95,7 +95,7 @@ fn verdict_of_shown(wanted: Wanted<'_>, book: &Book<'_>) -> Verdict
 }
 
 /// What it comes to that so many traces are refused, where no violation is told.
-fn verdict_of_read(refused: u64) -> Verdict
+pub fn verdict_of_read(refused: u64) -> Verdict
     ensures { result ≡ verdict_of_read refused }
 {
     if refused > 0 {

@@ -1,19 +1,20 @@
 //! Reads files, and puts the streams that they are one behind another, with where their lines stand.
-ghost use Rattle.std.specs.Prelude.{◌≡◌, ◌≢◌, ◌++◌, ◌∷◌, [], Err, IfOk, IfSome, None, OnErr, OnOk, true, false};
+ghost use Rattle.std.specs.Prelude.{◌≡◌, ◌≢◌, ◌++◌, ◌∷◌, [], Err, IfOk, IfSome, IsOk, MatchResult, None, OnErr, OnOk, true, false};
 ghost use Rattle.std.specs.Bool.{OnTrue};
 ghost use Rattle.std.specs.Char.{is_ascii_graphic};
 ghost use Rattle.std.specs.List.{list_all};
 ghost use Rattle.ld_trace.specs.Sources.{is_header, stream_fault};
 ghost use Rattle.ld_reduce.specs.Written.{ended};
-ghost use Rattle.lockgraph.specs.Streams.{fault_of_file, fault_of_known, has_trace, line_count};
+ghost use Rattle.lockgraph.specs.Streams.{fault_of_file, fault_of_known, has_trace, line_count, looking};
 
 use crate::fault::Fault;
 use crate::lines::line_count;
+use crate::looks::Looks;
 use ld_device::{ReadFault, Std, read_all};
 use ld_reduce::{append_ended, is_ended};
-use ld_select::unknown_line;
+use ld_select::{is_comment, unknown_line};
 use ld_texts::Places;
-use ld_trace::{LONGEST_STREAM, StreamFault, next_line, split};
+use ld_trace::{LONGEST_STREAM, StreamFault, next_line, split, text};
 use std::alloc::{AllocError, Global};
 use std::rt::Files;
 use std::{fs, io};
@@ -115,16 +116,30 @@ pub fn read_streams<'a, R: Files + io::Input + AllocGlobal>(
     match names {
         [name] => {
             let bytes = read_file(rt, *name)?;
-            add_alone(rt.alloc(), &mut streams, *name, bytes)?;
+            let looks = Looks::of(rt.alloc(), &bytes)?;
+            let added = add_alone(rt.alloc(), &mut streams, *name, bytes);
+            told_with(added, looks)?;
         }
         _ => {
             for name in names {
                 let bytes = read_file(rt, *name)?;
-                add(rt.alloc(), &mut streams, *name, bytes)?;
+                let looks = Looks::of(rt.alloc(), &bytes)?;
+                let added = add(rt.alloc(), &mut streams, *name, bytes);
+                told_with(added, looks)?;
             }
         }
     }
     Ok(streams)
+}
+
+/// How it went to add a file that looks so.
+fn told_with<'a>(added: Result<(), Fault<'a>>, looks: Looks) -> Result<(), Fault<'a>>
+    ensures { MatchResult added.entry (λ _. IsOk result) (λ fault. result ≡ Err (looking looks fault)) }
+{
+    match added {
+        Ok(()) => Ok(()),
+        Err(fault) => Err(fault.looking(looks)),
+    }
 }
 
 /// Puts the stream of a file behind others. Its last line ends with it.
@@ -203,7 +218,7 @@ fn put<'a>(streams: &mut Streams<'a>, name: &'a str, bytes: Vec<u8>) -> Result<(
     append(&mut streams.bytes, bytes)
 }
 
-/// Whether a stream has a header in its plainest form, which most have in one of their first lines. `false` says
+/// Whether the first line of a stream that says something is a header in its plainest form, as in most. `false` says
 /// nothing.
 fn has_plain_header(bytes: &[u8]) -> bool
     ensures { OnTrue result (has_trace bytes.now ≡ true) }
@@ -212,6 +227,10 @@ fn has_plain_header(bytes: &[u8]) -> bool
     while let Some((line, after)) = next_line(rest) {
         if is_plain_header(line) {
             return true;
+        }
+        // What stands before every header is found where the file is cut, with the file's looks.
+        if !is_comment(text(line)) {
+            return false;
         }
         rest = after;
     }

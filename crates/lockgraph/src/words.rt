@@ -2,6 +2,7 @@
 ghost use Rattle.std.specs.Prelude.{◌≤◌};
 ghost use Rattle.ld_check.specs.declared.checked.TheConstants.{MOST_WORKERS};
 
+mod check;
 mod dot;
 mod explain;
 mod formats;
@@ -13,6 +14,8 @@ mod reduce;
 mod stats;
 
 use crate::streams::STANDARD_INPUT;
+pub use check::CheckWords;
+use check::{check_command, read_check};
 use clap::error::ErrorKind;
 use clap::{Arg, ArgAction, ArgMatches, Command, Error, value_parser};
 pub use dot::DotWords;
@@ -56,6 +59,7 @@ Exit status:
   3  no violation that is told, and a trace is refused
 
 Example:
+  lockgraph check run.trace other.trace
   lockgraph dot run.trace | dot -Tsvg > run.svg
   lockgraph explain --class rx_lock run.trace
   lockgraph list --class rx_lock run.trace
@@ -72,6 +76,8 @@ Example:
 /// What a call asks for.
 #[derive(Debug, Drop)]
 pub enum Asked<'a> {
+    /// `check`.
+    Check(CheckWords<'a>),
     /// `dot`.
     Dot(DotWords<'a>),
     /// `explain`.
@@ -94,6 +100,7 @@ impl<'a> Asked<'a> {
     /// What the command is given that it names.
     pub fn given(&self) -> &Given<'a> {
         match self {
+            Asked::Check(words) => &words.given,
             Asked::Dot(words) => &words.given,
             Asked::Explain(words) => &words.mapped.given,
             Asked::Format(words) => &words.mapped.given,
@@ -130,6 +137,7 @@ pub fn read_words<'a, S: AsStr>(alloc: Global, words: &'a [S]) -> Result<Asked<'
     };
     let command = &mut command;
     match name {
+        "check" => Ok(Asked::Check(read_check(alloc, command, matches)?)),
         "dot" => Ok(Asked::Dot(read_dot(alloc, command, matches)?)),
         "explain" => Ok(Asked::Explain(read_explain(alloc, command, matches)?)),
         "json" => Ok(Asked::Json(read_json(alloc, command, matches)?)),
@@ -195,6 +203,7 @@ fn command_line<'a>(alloc: Global) -> Result<Command<'a>, AllocError> {
         .version(VERSION)
         .after_help(AFTER_HELP)
         .subcommand_required(true)
+        .subcommand(check_command(alloc)?)?
         .subcommand(dot_command(alloc)?)?
         .subcommand(explain_command(alloc)?)?
         .subcommand(github_command(alloc)?)?

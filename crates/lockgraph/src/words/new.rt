@@ -18,25 +18,30 @@ A line of KNOWN makes known what it says, in one of these forms, where .. may be
   conflict STATE A MARKS in ..
   forbidden STATE A MARKS in T:L -> B MARKS on ..
 In A and B each * stands for any bytes, also for none. Its other lines are those of reports, empty ones, and
-comments, which begin with #.
+comments, which begin with #. A comment at the end says how many of these lines match nothing in the report.
+
+With --fixed it writes those lines instead, and then `fixed` with their number, or `nothing fixed`.
 
 Exit status: 1 where a violation is new, 3 where none is and a trace is refused, 0 else, 2 where there is no
-answer.
+answer. With --fixed it is never 1.
 
 Example:
   lockcheck < run.trace > known.report
-  lockgraph new --known known.report run.trace other.trace";
+  lockgraph new --known known.report run.trace other.trace
+  lockgraph new --fixed --known known.report run.trace other.trace";
 
 /// What `new` is asked.
 #[derive(Debug, Drop)]
 pub struct NewWords<'a> {
     /// The name of the known text.
     pub known: &'a str,
+    /// Whether it is asked what is known and gone, in place of what is new.
+    pub fixed: bool,
     /// The files with the streams, and how they are read.
     pub given: Given<'a>,
 }
 
-/// `new --known FILE [--workers N] [FILE]..`.
+/// `new --known KNOWN [--fixed] [--workers N] [FILE]..`.
 pub fn new_command<'a>(alloc: Global) -> Result<Command<'a>, AllocError> {
     let known = Arg::new(alloc, "known")
         .long("known")
@@ -44,10 +49,15 @@ pub fn new_command<'a>(alloc: Global) -> Result<Command<'a>, AllocError> {
         .help("A report of before")
         .action(ArgAction::Set)
         .required(true);
+    let fixed = Arg::new(alloc, "fixed")
+        .long("fixed")
+        .help("Instead the lines of KNOWN that match nothing in the report")
+        .action(ArgAction::SetTrue);
     Command::new(alloc, "new")
         .about("Writes what is new in a report: what no line of a known one says")
         .after_help(AFTER_NEW)
         .arg(known)?
+        .arg(fixed)?
         .arg(count_of_workers(alloc))?
         .arg(named_files(alloc))
 }
@@ -66,5 +76,10 @@ pub fn read_new<'a>(
         return Err(command.error(ErrorKind::MissingRequiredArgument, "--known is missing")?);
     };
     let given = read_given(alloc, command, matches, &[known])?;
-    Ok(NewWords { known, given })
+    let fixed = matches.get_flag("fixed");
+    Ok(NewWords {
+        known,
+        fixed,
+        given,
+    })
 }

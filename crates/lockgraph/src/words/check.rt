@@ -1,0 +1,45 @@
+//! The words of `check`.
+
+use super::{Given, count_of_workers, named_files, read_given};
+use clap::{ArgMatches, Command, Error};
+use std::alloc::{AllocError, Global};
+
+/// What the help of `check` says behind its words.
+const AFTER_CHECK: &str = "\
+Writes the report that lockcheck writes of the files as one stream, one after another: T:L counts lines over all of
+them. A fault of a file is told with its name.
+
+Exit status: as lockcheck's.
+
+Example:
+  lockgraph check run.trace other.trace";
+
+/// What `check` is asked.
+#[derive(Debug, Drop)]
+pub struct CheckWords<'a> {
+    /// The files with the streams, and how they are read.
+    pub given: Given<'a>,
+}
+
+/// `check [--workers N] [FILE]..`.
+pub fn check_command<'a>(alloc: Global) -> Result<Command<'a>, AllocError> {
+    Command::new(alloc, "check")
+        .about("Writes lockcheck's report of files")
+        .after_help(AFTER_CHECK)
+        .arg(count_of_workers(alloc))?
+        .arg(named_files(alloc))
+}
+
+/// What the words behind `check` ask for.
+///
+/// # Errors
+///
+/// Those of `read_words`.
+pub fn read_check<'a>(
+    alloc: Global,
+    command: &mut Command<'a>,
+    matches: &ArgMatches<'a>,
+) -> Result<CheckWords<'a>, Error> {
+    let given = read_given(alloc, command, matches, &[])?;
+    Ok(CheckWords { given })
+}
