@@ -26,18 +26,19 @@ _lockcheck() {
 }
 
 _lockgraph() {
-    local word=${COMP_WORDS[COMP_CWORD]} before=${COMP_WORDS[COMP_CWORD - 1]} command=${COMP_WORDS[1]} options=
+    local word=${COMP_WORDS[COMP_CWORD]} before=${COMP_WORDS[COMP_CWORD - 1]} command=${COMP_WORDS[1]} options= workers=--workers
     if [ "$COMP_CWORD" -eq 1 ]; then
-        COMPREPLY=($(compgen -W 'check dot explain github help html json junit ktap list new reduce sarif stats --help -h --version -V' -- "$word"))
+        COMPREPLY=($(compgen -W 'check cut dot explain github help html json junit ktap list new reduce sarif stats --help -h --version -V' -- "$word"))
         return
     fi
     case $before in
         --workers) COMPREPLY=($(compgen -W '1 2 4 8 16' -- "$word")) && return ;;
         --only) COMPREPLY=($(compgen -W 'recursion inversion conflict forbidden' -- "$word")) && return ;;
-        --class | --most | --around | --strip) return ;;
+        --class | --most | --around | --strip | --lines) return ;;
         --map | --known) __lockcheck_files "$word" && return ;;
     esac
     case $command in
+        cut) options='--lines' workers= ;;
         dot) options='--all --around --class' ;;
         explain) options='--class --map --most --only' ;;
         github | junit | sarif) options='--map --strip' ;;
@@ -47,7 +48,7 @@ _lockgraph() {
         reduce) options='--from --keep-refused' ;;
     esac
     case $word in
-        -*) COMPREPLY=($(compgen -W "$options --workers --help -h" -- "$word")) ;;
+        -*) COMPREPLY=($(compgen -W "$options $workers --help -h" -- "$word")) ;;
         *) __lockcheck_files "$word" ;;
     esac
 }

@@ -46,6 +46,9 @@ pub enum Fault<'a> {
     /// This is wrong with the map beside this file.
     #[error("{0}.places{1}")]
     MapBeside(&'a str, WrongMap),
+    /// The pieces of traces are longer together than a stream may be.
+    #[error("TooLong: the pieces are longer together than a stream may be; ask for more lines in each")]
+    Pieces,
     /// A write or the flush failed.
     #[error("write failed")]
     Write,

@@ -7,6 +7,7 @@ ghost use Rattle.clap.specs.Values.{kind_of};
 ghost use Rattle.clap.specs.declared.error.kind.ErrorKind.{ErrorKind};
 
 mod comments;
+mod cutting;
 mod dot;
 mod explain;
 mod fault;
@@ -28,6 +29,7 @@ mod streams;
 mod told;
 mod words;
 
+use cutting::answer_cut;
 use dot::answer_dot;
 use explain::answer_explain;
 use fault::Fault;
@@ -75,6 +77,7 @@ fn answer<'a, R: Files + io::Input + Print + AllocGlobal + Threads + Wait + Sync
 ) -> Result<Verdict, Fault<'a>> {
     let outcome = match asked {
         Asked::Check(words) => answer_check(rt, words),
+        Asked::Cut(words) => answer_cut(rt, words),
         Asked::Dot(words) => answer_dot(rt, words),
         Asked::Explain(words) => answer_explain(rt, words),
         Asked::Format(words) => answer_format(rt, words),

@@ -3,6 +3,7 @@ ghost use Rattle.std.specs.Prelude.{◌≤◌};
 ghost use Rattle.ld_check.specs.declared.checked.TheConstants.{MOST_WORKERS};
 
 mod check;
+mod cut;
 mod dot;
 mod explain;
 mod formats;
@@ -18,6 +19,8 @@ pub use check::CheckWords;
 use check::{check_command, read_check};
 use clap::error::ErrorKind;
 use clap::{Arg, ArgAction, ArgMatches, Command, Error, value_parser};
+pub use cut::CutWords;
+use cut::{cut_command, read_cut};
 pub use dot::DotWords;
 use dot::{dot_command, read_dot};
 pub use explain::ExplainWords;
@@ -60,6 +63,7 @@ Exit status:
 
 Example:
   lockgraph check run.trace other.trace
+  lockgraph cut --lines 200 run.trace > cut.trace
   lockgraph dot run.trace | dot -Tsvg > run.svg
   lockgraph explain --class rx_lock run.trace
   lockgraph list --class rx_lock run.trace
@@ -78,6 +82,8 @@ Example:
 pub enum Asked<'a> {
     /// `check`.
     Check(CheckWords<'a>),
+    /// `cut`.
+    Cut(CutWords<'a>),
     /// `dot`.
     Dot(DotWords<'a>),
     /// `explain`.
@@ -101,6 +107,7 @@ impl<'a> Asked<'a> {
     pub fn given(&self) -> &Given<'a> {
         match self {
             Asked::Check(words) => &words.given,
+            Asked::Cut(words) => &words.given,
             Asked::Dot(words) => &words.given,
             Asked::Explain(words) => &words.mapped.given,
             Asked::Format(words) => &words.mapped.given,
@@ -138,6 +145,7 @@ pub fn read_words<'a, S: AsStr>(alloc: Global, words: &'a [S]) -> Result<Asked<'
     let command = &mut command;
     match name {
         "check" => Ok(Asked::Check(read_check(alloc, command, matches)?)),
+        "cut" => Ok(Asked::Cut(read_cut(alloc, command, matches)?)),
         "dot" => Ok(Asked::Dot(read_dot(alloc, command, matches)?)),
         "explain" => Ok(Asked::Explain(read_explain(alloc, command, matches)?)),
         "json" => Ok(Asked::Json(read_json(alloc, command, matches)?)),
@@ -204,6 +212,7 @@ fn command_line<'a>(alloc: Global) -> Result<Command<'a>, AllocError> {
         .after_help(AFTER_HELP)
         .subcommand_required(true)
         .subcommand(check_command(alloc)?)?
+        .subcommand(cut_command(alloc)?)?
         .subcommand(dot_command(alloc)?)?
         .subcommand(explain_command(alloc)?)?
         .subcommand(github_command(alloc)?)?
