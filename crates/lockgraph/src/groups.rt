@@ -14,8 +14,9 @@ ghost use Rattle.lockgraph.specs.Groups.{BothFollow, Homed, IsClosed, IsReducedA
 
 use crate::fault::Fault;
 use crate::found::{found_in, found_left};
+use crate::looks::Looks;
 use crate::reduce::{Keeping, ReduceFault};
-use crate::streams::{is_plain_header, read_file};
+use crate::streams::{is_plain_header, read_file, told_with};
 use ld_check::{Checked, MOST_WORKERS, NoGate, Verdict, check};
 use ld_device::{Output, send};
 use ld_origin::Home;
@@ -70,7 +71,9 @@ pub fn read_group<'a, R: Files + io::Input + AllocGlobal + Threads + Wait + Sync
     let mut group = Group::new(rt.alloc());
     for name in names {
         let bytes = read_file(rt, *name)?;
-        add(rt, rt.alloc(), &mut group, *name, bytes, keeping, workers)?;
+        let looks = Looks::of(rt.alloc(), &bytes)?;
+        let added = add(rt, rt.alloc(), &mut group, *name, bytes, keeping, workers);
+        told_with(added, looks)?;
     }
     Ok(group)
 }

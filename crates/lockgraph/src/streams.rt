@@ -133,7 +133,7 @@ pub fn read_streams<'a, R: Files + io::Input + AllocGlobal>(
 }
 
 /// How it went to add a file that looks so.
-fn told_with<'a>(added: Result<(), Fault<'a>>, looks: Looks) -> Result<(), Fault<'a>>
+pub fn told_with<'a>(added: Result<(), Fault<'a>>, looks: Looks) -> Result<(), Fault<'a>>
     ensures { MatchResult added.entry (λ _. IsOk result) (λ fault. result ≡ Err (looking looks fault)) }
 {
     match added {
