@@ -4,7 +4,7 @@ use Rattle.ld_trace.specs.Sources.{PlainSource}
 use Rattle.ld_rules.specs.Dependency.{Dependency}
 use Rattle.ld_rules.specs.Union.{dependency_witness, union_classes}
 use Rattle.ld_rules.specs.declared.outcome.TheConstants.{MOST_CLASSES}
-use Rattle.ld_shown.specs.Batch.{AreFewClasses, AreRising, IsShown, PlainShown}
+use Rattle.ld_batch.specs.Batch.{AreFewClasses, AreRising, IsShown, PlainShown}
 use Rattle.ld_book.specs.Dependencies.{AreDependencies}
 use Rattle.ld_book.specs.Inner.Kept.{Fields, IsKept}
 use Rattle.ld_union.specs.Inner.Numbers.{AreFound}

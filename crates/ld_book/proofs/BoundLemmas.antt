@@ -14,7 +14,7 @@ use Rattle.ld_trace.specs.Sources.{Fits, PlainSource, plain}
 use Rattle.ld_trace.specs.Events.{position_of, positions, said_by}
 use Rattle.ld_rules.specs.declared.outcome.Listed.{Listed}
 use Rattle.ld_facts.specs.Outcome.{FaultyLine, faulty_lines, outcome, outcome_by}
-use Rattle.ld_shown.specs.Batch.{sources_of}
+use Rattle.ld_batch.specs.Batch.{sources_of}
 use Rattle.ld_book.specs.Totals.{event_count, events_read}
 
 -- traces of distinct numbers are few

@@ -7,7 +7,7 @@ use Rattle.std.proofs.lemmas.Simd.{map-map}
 use Rattle.std.specs.List.{IsDistinct}
 use Rattle.ld_trace.specs.Sources.{PlainSource, plain}
 use Rattle.ld_rules.specs.declared.outcome.Listed.{Listed}
-use Rattle.ld_shown.specs.Batch.{sources_of}
+use Rattle.ld_batch.specs.Batch.{sources_of}
 
 abbrev pub no_source : PlainSource
 no_source = record { number = 0; label = []; first_line = 0; bytes = [] }

@@ -10,7 +10,7 @@ use Rattle.ld_trace.specs.Sources.{PlainSource, plain}
 use Rattle.ld_rules.specs.declared.outcome.Listed.{Listed}
 use Rattle.ld_rules.proofs.SameLemmas.{fails_each}
 use Rattle.ld_facts.specs.Outcome.{outcome}
-use Rattle.ld_shown.specs.Batch.{sources_of}
+use Rattle.ld_batch.specs.Batch.{sources_of}
 use Rattle.ld_book.specs.Book.{is_any_listed, is_listed}
 use Rattle.ld_book.specs.Totals.{event_count, events_read, is_refused, refused_count}
 

@@ -29,7 +29,7 @@ use Rattle.ld_union.specs.Usage.{witnessed_bits}
 use Rattle.ld_union.specs.Violations.{Depends, HasBit, HasViolation, IsConflict, IsCycle, IsForbidden, IsViolation, Violation}
 use Rattle.ld_union.specs.Violations.Violation.{Conflict, Cycle, Forbidden}
 use Rattle.ld_union.proofs.EachOnceLemmas.{IsDistinct-each_once, IsEquivalence-from_decides}
-use Rattle.ld_shown.proofs.EarlierLemmas.{by-earlier, is_by, same_from_bounds}
+use Rattle.ld_batch.proofs.EarlierLemmas.{by-earlier, is_by, same_from_bounds}
 
 -- the least of some witnesses isn't, where one of them isn't
 by-first : (bound : Witness) (witnesses : List Witness) → is_by bound (first_of witnesses) ≡ list_any (λ w. is_by bound (Some w)) witnesses

@@ -10,7 +10,7 @@ use Rattle.std.proofs.lemmas.Map.Made.{AllPairs-from_IsDistinct, IsDistinct-from
 use Rattle.std.specs.List.Sorted.{IsNonDecreasingBy}
 use Rattle.ld_trace.specs.Sources.{PlainSource, plain}
 use Rattle.ld_rules.specs.declared.outcome.Listed.{Listed}
-use Rattle.ld_shown.specs.Batch.{AreRising, sources_of}
+use Rattle.ld_batch.specs.Batch.{AreRising, sources_of}
 use Rattle.ld_book.proofs.ListedLemmas.{apart_by}
 
 -- no two have one number

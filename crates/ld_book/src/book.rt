@@ -7,7 +7,7 @@ ghost use Rattle.ld_facts.specs.Union.{dependency_witness, union_classes, use_wi
 ghost use Rattle.ld_facts.specs.Usage.{Use};
 ghost use Rattle.ld_union.specs.Alarms.{AreExact, plain_alarms};
 ghost use Rattle.ld_union.specs.Findings.{AreFindings, plain_findings};
-ghost use Rattle.ld_shown.specs.Batch.{AreOutcomes, sources_of};
+ghost use Rattle.ld_batch.specs.Batch.{AreOutcomes, sources_of};
 ghost use Rattle.ld_book.specs.Book.{is_any_listed, is_listed};
 ghost use Rattle.ld_book.specs.Dependencies.{AreDependencies, usage_of_class};
 ghost use Rattle.ld_trace.specs.Sources.{Fits};
@@ -17,10 +17,10 @@ ghost use Rattle.ld_union.specs.Usage.{usage_row};
 
 use crate::listing::Listing;
 use crate::totals::Totals;
+use ld_batch::Shown;
 use ld_class::{ClassName, Classes};
 use ld_facts::{Batch, Facts, Guesses, Listed, Series, Witness};
 use ld_graph::Graph;
-use ld_shown::Shown;
 use ld_union::{Alarms, Findings, Found, News, Union, UsageRow, Witnessed, findings_of};
 use std::alloc::{AllocError, Global};
 use std::marker::Model;

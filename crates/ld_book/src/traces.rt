@@ -2,7 +2,7 @@
 ghost use Rattle.std.specs.Prelude.{◌≡◌, ◌↔◌, IfOk, IsTrue};
 ghost use Rattle.std.specs.Cow.{cow_slice_items};
 ghost use Rattle.std.specs.List.Sorted.{IsNonDecreasingBy, IsPermutation};
-ghost use Rattle.ld_shown.specs.Batch.{AreOutcomes, AreRising, sources_of};
+ghost use Rattle.ld_batch.specs.Batch.{AreOutcomes, AreRising, sources_of};
 
 use crate::book::Book;
 use ld_facts::Listed;
@@ -23,7 +23,7 @@ impl<'b, 'a> Model for Traces<'b, 'a> {
 
     ghost Value = { List PlainSource };
 
-    ghost use Rattle.ld_shown.specs.Batch.{AreOutcomes, AreRising, sources_of};
+    ghost use Rattle.ld_batch.specs.Batch.{AreOutcomes, AreRising, sources_of};
     ghost use Rattle.std.specs.Cow.{cow_slice_items};
 
     ghost view = { λ t. sources_of (cow_slice_items t.listed) };

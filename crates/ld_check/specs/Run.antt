@@ -3,9 +3,9 @@
 use Rattle.std.specs.Prelude.{◌≡◌, ℕ, List, Bool, Option, None, Some}
 use Rattle.ld_trace.specs.Sources.{PlainSource, sources, stream_fault}
 use Rattle.ld_trace.specs.declared.source.StreamFault.{StreamFault}
-use Rattle.ld_device.specs.Transfer.{ReadsWhole}
-use Rattle.ld_device.specs.declared.transfer.ReadFault.{ReadFault}
-use Rattle.ld_device.specs.declared.transfer.ReadFault.TheVariants as read_fault
+use Rattle.ld_io.specs.Transfer.{ReadsWhole}
+use Rattle.ld_io.specs.declared.transfer.ReadFault.{ReadFault}
+use Rattle.ld_io.specs.declared.transfer.ReadFault.TheVariants as read_fault
 use Rattle.ld_check.specs.declared.checked.CheckFault.{CheckFault}
 use Rattle.ld_check.specs.declared.checked.CheckFault.TheVariants as check_fault
 use Rattle.ld_check.specs.declared.runs.RunFault.{RunFault}

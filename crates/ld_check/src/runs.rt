@@ -3,14 +3,14 @@ ghost use Rattle.std.specs.Prelude.{◌≡◌, ◌≢◌, ◌≤◌, ◌↔◌, 
 ghost use Rattle.std.specs.Io.KnownBytes.{Appends};
 ghost use Rattle.ld_trace.specs.declared.source.StreamFault.{StreamFault};
 ghost use Rattle.ld_report.specs.OfBook.Violations.{HasViolation};
-ghost use Rattle.ld_device.specs.Transfer.{AppendsPart, ConsumesAtMost};
+ghost use Rattle.ld_io.specs.Transfer.{AppendsPart, ConsumesAtMost};
 ghost use Rattle.ld_report.specs.Report.{IsReport, SaysClean};
 ghost use Rattle.ld_report.specs.Verdict.{VerdictIs};
 ghost use Rattle.ld_check.specs.Run.{Answers, Refuses};
 
 use crate::checked::{CheckFault, MOST_WORKERS};
 use crate::report::report_of;
-use ld_device::{Input, MOST_READ, Output, ReadFault, read_all, send};
+use ld_io::{Input, MOST_READ, Output, ReadFault, read_all, send};
 use ld_report::Verdict;
 use ld_trace::StreamFault;
 use ld_work::NoGate;

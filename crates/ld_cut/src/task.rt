@@ -11,8 +11,8 @@ ghost use Rattle.ld_trace.specs.declared.event.State.{State};
 ghost use Rattle.ld_cut.specs.Inner.Arounds.{kept_around};
 ghost use Rattle.ld_cut.specs.Inner.Kept.{IsChanged, IsExited, IsTold, bare, has_both_on, in_handler, is_hold_of, is_on, kept_begun, kept_flag, kept_hold, new_task, of_around, of_begun, of_flag, of_frame, of_hold, of_task, settled, stands, text_of_kept, with_begun, with_hold, with_set, without, without_flags};
 
-use ld_held::task_of;
 use ld_reduce::append_ended;
+use ld_replay::task_of;
 use ld_trace::{Event, Lock, State};
 use std::alloc::{AllocError, Global};
 use std::marker::Model;

@@ -9,7 +9,7 @@ ghost use Rattle.ld_cut.specs.Inner.Kept.{IsTold, stands, task_in, text_of_tasks
 
 use crate::task::Task;
 use ld_class::{ClassName, Classes, MOST_NAMES};
-use ld_held::task_of;
+use ld_replay::task_of;
 use ld_trace::{Event, next_line, read_event, text};
 use std::alloc::{AllocError, Global};
 use std::marker::Model;

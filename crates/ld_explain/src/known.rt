@@ -1,6 +1,6 @@
 //! Writes what recorders say of lines and classes. Each call answers `AllocError` where memory for it was refused.
 
-use ld_maps::{At, Maps, Origin, write_plain};
+use ld_source_map::{At, Maps, Origin, write_plain};
 use std::alloc::AllocError;
 use std::io::Write;
 

@@ -1,7 +1,7 @@
 //! What the words of the command line ask for.
 
 use clap::error::ErrorKind;
-use ld_words::workers;
+use ld_cli::workers;
 use std::test::Fail;
 
 #[test]

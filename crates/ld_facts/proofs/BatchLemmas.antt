@@ -30,18 +30,18 @@ use Rattle.ld_facts.specs.declared.scan.Scan.{Scan}
 use Rattle.ld_facts.specs.Named as scans
 use Rattle.ld_facts.specs.Inner.Scan.{IsAt, start_of}
 use Rattle.ld_facts.proofs.StartLemmas.{begun-at}
-use Rattle.ld_shown.specs.Batch.{AreOutcomes, AreRising, IsBatch, IsUse, IsBetween, PlainBatch, named_dependency, named_use, sources_of, witness_of}
+use Rattle.ld_batch.specs.Batch.{AreOutcomes, AreRising, IsBatch, IsUse, IsBetween, PlainBatch, named_dependency, named_use, sources_of, witness_of}
 use Rattle.ld_facts.specs.Inner.Kept.{AreNames, Fields, HasOwn, IsKept, IsRead, IsReady}
-use Rattle.ld_shown.specs.Inner.Names.{IsLonger, with_names}
-use Rattle.ld_shown.specs.Inner.Rows.{AreMet, seen_of}
+use Rattle.ld_batch.specs.Inner.Names.{IsLonger, with_names}
+use Rattle.ld_batch.specs.Inner.Rows.{AreMet, seen_of}
 use Rattle.ld_facts.specs.Inner.Rows.{IsOwnEdge, IsOwnUse, edge_of, use_of}
 use Rattle.ld_facts.proofs.NamedLemmas.{once-named}
-use Rattle.ld_shown.proofs.LineLemmas.{AreOnce}
-use Rattle.ld_shown.proofs.MetLemmas.{seen_once}
-use Rattle.ld_shown.proofs.NameLemmas.{longer_all, with_names-each_once}
+use Rattle.ld_batch.proofs.LineLemmas.{AreOnce}
+use Rattle.ld_batch.proofs.MetLemmas.{seen_once}
+use Rattle.ld_batch.proofs.NameLemmas.{longer_all, with_names-each_once}
 use Rattle.ld_facts.proofs.RowLemmas.{named_rows, named_use_rows, rows_within, use_rows_within}
 use Rattle.ld_facts.proofs.ShownLemmas.{own_edges, own_uses}
-use Rattle.ld_shown.proofs.SourceLemmas.{AreAdded, added_in_turn, are-met, pairs-of, shown-push, witness-new}
+use Rattle.ld_batch.proofs.SourceLemmas.{AreAdded, added_in_turn, are-met, pairs-of, shown-push, witness-new}
 use Rattle.ld_facts.proofs.TraceLemmas.{edges-longer, uses-longer, used-longer, within-longer}
 
 -- a number above the last one's is above all, where numbers rise

@@ -34,8 +34,8 @@ use Rattle.ld_rules.proofs.StepLemmas.{Decides-same_dependency, added_names-once
 use Rattle.ld_rules.proofs.UsageLemmas.{Decides-same_use, same_use_seen-alike}
 use Rattle.ld_rules.proofs.LeastLemmas.{least_is_first, least_once, seen-Ascend}
 use Rattle.ld_rules.proofs.SameLemmas.{apart-fold}
-use Rattle.ld_shown.proofs.LineLemmas.{AreOnce, first_same, least_of_once}
-use Rattle.ld_shown.proofs.MetLemmas.{joined}
+use Rattle.ld_batch.proofs.LineLemmas.{AreOnce, first_same, least_of_once}
+use Rattle.ld_batch.proofs.MetLemmas.{joined}
 use Rattle.ld_facts.proofs.NamedLemmas.{once-named}
 use Rattle.ld_trace.proofs.PositionLemmas.{positions-ascend}
 

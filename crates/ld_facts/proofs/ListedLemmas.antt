@@ -5,7 +5,7 @@ use Rattle.std.specs.List.{last_or}
 use Rattle.ld_trace.specs.Sources.{plain}
 use Rattle.ld_rules.specs.declared.outcome.Listed.{Listed}
 use Rattle.ld_rules.proofs.PlaceLemmas.{by_pushes, last_or-push}
-use Rattle.ld_shown.specs.Batch.{sources_of}
+use Rattle.ld_batch.specs.Batch.{sources_of}
 
 -- the last of their sources is the source of the last
 pub last_source : (d : Listed) (listed : List Listed) → 0 < length listed → last_or None (sources_of listed) ≡ Some (plain (get_or listed (length listed - 1) d).source)

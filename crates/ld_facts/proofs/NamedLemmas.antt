@@ -16,7 +16,7 @@ use Rattle.ld_tables.specs.Inner.Locks.{Hold}
 use Rattle.ld_rules.specs.Dependency.{same_dependency}
 use Rattle.ld_rules.specs.Inner.Scanned.{AreSame, same_dependency_seen, with_new}
 use Rattle.ld_rules.proofs.SameLemmas.{same-all}
-use Rattle.ld_shown.proofs.LineLemmas.{AreOnce, pairs-map}
+use Rattle.ld_batch.proofs.LineLemmas.{AreOnce, pairs-map}
 use Rattle.ld_facts.specs.Inner.Scan.{HeldLock, named_hold}
 use Rattle.ld_facts.specs.Named.{IsBetween, named_dependency}
 

@@ -16,10 +16,10 @@ use Rattle.ld_facts.specs.Named as scans
 use Rattle.ld_facts.specs.Inner.Scan.{names_at}
 use Rattle.ld_facts.proofs.OwnLemmas.{own-known, own-more, own-none}
 use Rattle.ld_facts.specs.Inner.Kept.{AreNames}
-use Rattle.ld_shown.specs.Inner.Names.{IsLonger, with_names}
-use Rattle.ld_shown.specs.Batch.{IsUse, IsBetween, named_dependency, named_use}
+use Rattle.ld_batch.specs.Inner.Names.{IsLonger, with_names}
+use Rattle.ld_batch.specs.Batch.{IsUse, IsBetween, named_dependency, named_use}
 use Rattle.ld_facts.specs.Inner.Rows.{IsOwnEdge, IsOwnUse, edge_of, place_in, use_of}
-use Rattle.ld_shown.proofs.MetLemmas.{met}
+use Rattle.ld_batch.proofs.MetLemmas.{met}
 use Rattle.ld_facts.proofs.TraceLemmas.{same_maps, same_name}
 
 -- as many numbers as names

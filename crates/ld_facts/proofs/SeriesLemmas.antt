@@ -12,11 +12,11 @@ use Rattle.ld_rules.specs.Union.{classes_of, dependencies_of, dependency_witness
 use Rattle.ld_rules.specs.Usage.{Use, same_use}
 use Rattle.ld_rules.proofs.StepLemmas.{Decides-same_dependency}
 use Rattle.ld_rules.proofs.UsageLemmas.{Decides-same_use}
-use Rattle.ld_shown.specs.declared.rows.WitnessedEdge.{WitnessedEdge}
-use Rattle.ld_shown.specs.declared.rows.WitnessedUse.{WitnessedUse}
-use Rattle.ld_shown.specs.Batch.{AreFewClasses, AreRising, IsBatch, IsBetween, IsShown, IsUse, Met, PlainBatch, PlainShown, named_dependency, named_use, sources_of, witness_of}
-use Rattle.ld_shown.specs.Inner.Names.{IsLonger}
-use Rattle.ld_shown.proofs.NameLemmas.{longer_all}
+use Rattle.ld_batch.specs.declared.rows.WitnessedEdge.{WitnessedEdge}
+use Rattle.ld_batch.specs.declared.rows.WitnessedUse.{WitnessedUse}
+use Rattle.ld_batch.specs.Batch.{AreFewClasses, AreRising, IsBatch, IsBetween, IsShown, IsUse, Met, PlainBatch, PlainShown, named_dependency, named_use, sources_of, witness_of}
+use Rattle.ld_batch.specs.Inner.Names.{IsLonger}
+use Rattle.ld_batch.proofs.NameLemmas.{longer_all}
 use Rattle.ld_facts.specs.declared.series.Passed.{Passed}
 use Rattle.ld_facts.specs.Inner.Rows.{IsOwnWord, edges_at, use_of}
 use Rattle.ld_facts.specs.Inner.Series.{IsSeries, Parts, fields_of, front_of, shown_of}

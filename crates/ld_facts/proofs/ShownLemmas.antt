@@ -26,7 +26,7 @@ use Rattle.ld_rules.proofs.HeldLemmas.{acquisition_at, has_key, held-acquires, h
 use Rattle.ld_rules.proofs.OutcomeLemmas.{events-push, seen-push}
 use Rattle.ld_rules.proofs.PlaceLemmas.{alike_from_decides, any_each_once, by_pushes}
 use Rattle.ld_rules.proofs.StepLemmas.{Decides-same_dependency}
-use Rattle.ld_shown.proofs.MetLemmas.{then_added}
+use Rattle.ld_batch.proofs.MetLemmas.{then_added}
 use Rattle.ld_facts.specs.declared.scan.Scan.{Scan}
 use Rattle.ld_facts.specs.Named as scans
 use Rattle.ld_facts.specs.Inner.Scan.{IsAt, Start, edges_after, own_names}

@@ -14,10 +14,10 @@ use Rattle.ld_rules.specs.declared.outcome.Witness.{Witness}
 use Rattle.ld_rules.specs.Dependency.{Seen}
 use Rattle.ld_rules.specs.Union.{first_witness}
 use Rattle.ld_rules.proofs.LeastLemmas.{first_pairs, later_pairs}
-use Rattle.ld_shown.specs.Batch.{Met, first_since, witness_of}
-use Rattle.ld_shown.specs.Inner.Rows.{earlier_of}
-use Rattle.ld_shown.proofs.MetLemmas.{witness-append}
-use Rattle.ld_shown.proofs.SinceLemmas.{witness-sources}
+use Rattle.ld_batch.specs.Batch.{Met, first_since, witness_of}
+use Rattle.ld_batch.specs.Inner.Rows.{earlier_of}
+use Rattle.ld_batch.proofs.MetLemmas.{witness-append}
+use Rattle.ld_batch.proofs.SinceLemmas.{witness-sources}
 
 -- the first ones of a list stay the first ones of a longer one
 pub front-stays : {X : Type 0} (old new : List X) (n : ℕ) → take (length old) new ≡ old → n ≤ length old → take n new ≡ take n old

@@ -4,10 +4,10 @@ use Rattle.std.proofs.lemmas.List.{get_or-take}
 use Rattle.std.proofs.lemmas.List.Elements.{All-head, All-tail, All-weaker}
 use Rattle.ld_class.specs.Names.{PlainClass, no_class}
 use Rattle.ld_rules.specs.Usage.{bit_of}
-use Rattle.ld_shown.specs.declared.rows.WitnessedEdge.{WitnessedEdge}
-use Rattle.ld_shown.specs.declared.rows.WitnessedUse.{WitnessedUse}
-use Rattle.ld_shown.specs.Batch.{IsUse, IsBetween, named_dependency, named_use}
-use Rattle.ld_shown.specs.Inner.Names.{IsLonger}
+use Rattle.ld_batch.specs.declared.rows.WitnessedEdge.{WitnessedEdge}
+use Rattle.ld_batch.specs.declared.rows.WitnessedUse.{WitnessedUse}
+use Rattle.ld_batch.specs.Batch.{IsUse, IsBetween, named_dependency, named_use}
+use Rattle.ld_batch.specs.Inner.Names.{IsLonger}
 
 -- two maps that agree on each element
 pub same_maps : {X Y : Type 0} (f g : X → Y) (P : X → Type 0) → ((x : X) → P x → f x ≡ g x) → (xs : List X) → All P xs → map f xs ≡ map g xs

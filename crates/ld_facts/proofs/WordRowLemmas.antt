@@ -9,8 +9,8 @@ use Rattle.std.proofs.Math.Seq.{drop-append_seam}
 use Rattle.std.proofs.lemmas.Simd.{map-map}
 use Rattle.std.specs.List.{list_any}
 use Rattle.ld_class.specs.Blocks.{IsBlock, classes_in}
-use Rattle.ld_shown.specs.declared.rows.WitnessedWord.{WitnessedWord}
-use Rattle.ld_shown.specs.Inner.Rows as lent
+use Rattle.ld_batch.specs.declared.rows.WitnessedWord.{WitnessedWord}
+use Rattle.ld_batch.specs.Inner.Rows as lent
 use Rattle.ld_tables.specs.declared.words.Telling.{Telling}
 use Rattle.ld_tables.specs.Inner.Edges as told
 use Rattle.ld_facts.specs.Inner.Rows.{IsOwnEdge, IsOwnWord, edge_of, edges_at, edges_in, place_in, word_of}

@@ -5,7 +5,7 @@ use Rattle.ld_tables.specs.declared.edges.EdgeFact.{EdgeFact}
 use Rattle.ld_tables.specs.declared.uses.UsageFact.{UsageFact}
 use Rattle.ld_rules.specs.Dependency.{Dependency, Seen}
 use Rattle.ld_rules.specs.Usage.{Use}
-use Rattle.ld_shown.specs.Batch.{AreClasses, IsBitOf, dependency_between, use_by}
+use Rattle.ld_batch.specs.Batch.{AreClasses, IsBitOf, dependency_between, use_by}
 
 -- a dependency by the names of its classes, with its line
 abbrev pub named_dependency : List PlainClass → EdgeFact → Seen Dependency

@@ -5,13 +5,13 @@ ghost use Rattle.ld_rules.specs.declared.outcome.Listed.{Listed};
 ghost use Rattle.std.specs.List.{last_or};
 ghost use Rattle.ld_trace.specs.Sources.{Fits, plain};
 ghost use Rattle.ld_rules.specs.declared.outcome.TheConstants.{MOST_CLASSES};
-ghost use Rattle.ld_shown.specs.Batch.{AreOutcomes, IsBatch, empty_batch, shown_alone, sources_of};
+ghost use Rattle.ld_batch.specs.Batch.{AreOutcomes, IsBatch, empty_batch, shown_alone, sources_of};
 
 use crate::known::Facts;
 use crate::series::Series;
+use ld_batch::{Edges, Guesses, Shown, WitnessedUse};
 use ld_class::ClassList;
 use ld_rules::Listed;
-use ld_shown::{Edges, Guesses, Shown, WitnessedUse};
 use ld_trace::Source;
 use std::alloc::{AllocError, Global};
 use std::marker::Model;
@@ -27,7 +27,7 @@ pub struct Batch<'a> {
 }
 
 impl<'a> Model for Batch<'a> {
-    ghost use Rattle.ld_shown.specs.Batch.{PlainBatch};
+    ghost use Rattle.ld_batch.specs.Batch.{PlainBatch};
     ghost use Rattle.std.specs.Prelude.{◌≡◌, []};
 
     ghost Value = { PlainBatch };

@@ -7,7 +7,7 @@ ghost use Rattle.ld_rules.specs.Outcome.{outcome};
 ghost use Rattle.ld_rules.specs.Union.{classes_of};
 ghost use Rattle.ld_facts.specs.Inner.Scan.{IsAt, StandsOn, start_of};
 ghost use Rattle.ld_facts.specs.Inner.Kept.{AreNames, HasOwn, IsRead, IsReady};
-ghost use Rattle.ld_shown.specs.Inner.Names.{with_names};
+ghost use Rattle.ld_batch.specs.Inner.Names.{with_names};
 ghost use Rattle.ld_facts.specs.Inner.Rows.{IsOwnEdge, IsOwnUse, IsOwnWord, edge_of, edges_at, use_of};
 
 use crate::batch_rows::BatchRows;

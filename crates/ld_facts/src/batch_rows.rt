@@ -4,15 +4,15 @@ ghost use Rattle.std.specs.Prelude.{◌≡◌, ◌+◌, ◌<◌, ◌≤◌, ◌+
 ghost use Rattle.ld_class.specs.Names.{AreDistinct, PlainClass};
 ghost use Rattle.ld_class.specs.declared.names.TheConstants.{MOST_NAMES};
 ghost use Rattle.ld_facts.specs.Inner.Kept.{AreNames};
-ghost use Rattle.ld_shown.specs.Inner.Names.{with_names};
+ghost use Rattle.ld_batch.specs.Inner.Names.{with_names};
 ghost use Rattle.ld_facts.specs.Inner.Rows.{IsOwnEdge, IsOwnUse, IsOwnWord, edge_of, edges_at, use_of};
 
 use crate::edges::add_edges;
 use crate::names::add_named;
 use crate::scan::Scan;
 use crate::uses::add_uses;
+use ld_batch::{WitnessedUse, WitnessedWord};
 use ld_class::ClassList;
-use ld_shown::{WitnessedUse, WitnessedWord};
 use ld_tables::Numbers;
 use std::alloc::{AllocError, Global};
 

@@ -2,8 +2,8 @@
 ghost use Rattle.std.specs.Prelude.{◌≡◌, ◌+◌, ◌++◌, ◌≤◌, length, map, vec_len, vec_capacity};
 ghost use Rattle.ld_facts.specs.Inner.Rows.{word_of};
 
+use ld_batch::WitnessedWord;
 use ld_rules::Witness;
-use ld_shown::WitnessedWord;
 use ld_tables::Telling;
 
 /// Adds the dependencies that the trace of this number told first.

@@ -6,7 +6,7 @@ ghost use Rattle.ld_class.specs.Names.{AreDistinct, no_class, with_name};
 ghost use Rattle.ld_class.specs.declared.names.TheConstants.{MOST_NAMES};
 ghost use Rattle.ld_facts.specs.Inner.Scan.{names_at};
 ghost use Rattle.ld_facts.specs.Inner.Kept.{AreNames};
-ghost use Rattle.ld_shown.specs.Inner.Names.{with_names};
+ghost use Rattle.ld_batch.specs.Inner.Names.{with_names};
 
 use ld_class::{ClassList, Classes};
 use ld_tables::Numbers;

@@ -6,16 +6,16 @@ ghost use Rattle.ld_rules.specs.declared.outcome.Listed.{Listed};
 ghost use Rattle.std.specs.List.{last_or};
 ghost use Rattle.ld_trace.specs.Sources.{Fits, plain};
 ghost use Rattle.ld_rules.specs.Union.{union_classes};
-ghost use Rattle.ld_shown.specs.Batch.{AreFewClasses, AreOutcomes, IsShown, nothing_shown, sources_of};
-ghost use Rattle.ld_shown.specs.Inner.Rows.{edges_of};
+ghost use Rattle.ld_batch.specs.Batch.{AreFewClasses, AreOutcomes, IsShown, nothing_shown, sources_of};
+ghost use Rattle.ld_batch.specs.Inner.Rows.{edges_of};
 
 use crate::batch_reading::read;
 use crate::batch_rows::BatchRows;
 use crate::bounds::MOST_KNOWN;
 use crate::scan::Scan;
+use ld_batch::{Guesses, Shown, WitnessedUse, Words};
 use ld_class::ClassList;
 use ld_rules::Listed;
-use ld_shown::{Guesses, Shown, WitnessedUse, Words};
 use ld_trace::Source;
 use std::alloc::{AllocError, Global};
 use std::marker::Model;
@@ -54,7 +54,7 @@ pub struct Series<'a> {
 }
 
 impl<'a> Model for Series<'a> {
-    ghost use Rattle.ld_shown.specs.Batch.{PlainShown};
+    ghost use Rattle.ld_batch.specs.Batch.{PlainShown};
     ghost use Rattle.ld_facts.specs.Inner.Series.{IsSeries, shown_of};
 
     ghost Value = { PlainShown };

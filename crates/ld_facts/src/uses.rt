@@ -3,8 +3,8 @@ ghost use Rattle.std.specs.Prelude.{◌≡◌, ◌+◌, ◌++◌, ◌≤◌, All
 ghost use Rattle.ld_class.specs.declared.names.TheConstants.{MOST_NAMES};
 ghost use Rattle.ld_facts.specs.Inner.Rows.{IsOwnUse, use_of};
 
+use ld_batch::WitnessedUse;
 use ld_rules::Witness;
-use ld_shown::WitnessedUse;
 use ld_tables::{Numbers, UsageFact};
 
 /// Adds the usage bits that the trace of this number told first, by the places that their classes have

@@ -20,7 +20,7 @@ use Rattle.ld_rules.specs.Dependency.{Dependency}
 use Rattle.ld_rules.specs.Union.{dependency_witness, union_classes, use_witness}
 use Rattle.ld_rules.specs.Usage.{Bit, Use}
 use Rattle.ld_rules.specs.Usage.Bit.{In, On}
-use Rattle.ld_shown.specs.Batch.{AreRising}
+use Rattle.ld_batch.specs.Batch.{AreRising}
 use Rattle.ld_book.specs.OfUnion.declared.dependencies.Witnessed.{Witnessed}
 use Rattle.ld_book.specs.OfUnion.declared.usage.UsageRow.{UsageRow}
 use Rattle.ld_book.specs.OfUnion.Usage.{bits}

@@ -11,7 +11,7 @@ use Rattle.ld_rules.specs.Dependency.{dependencies_at, least_line, same_dependen
 use Rattle.ld_rules.specs.Union.{first_of, first_witness}
 use Rattle.ld_rules.specs.Usage.{same_use, uses_at}
 use Rattle.ld_rules.proofs.PlaceLemmas.{flat_map-append}
-use Rattle.ld_shown.specs.Batch.{AreRising}
+use Rattle.ld_batch.specs.Batch.{AreRising}
 use Rattle.ld_reduce.specs.Kept.{AreKept, keeps}
 use Rattle.ld_reduce.specs.Same.{HaveSameUnion, ShowSame, place_of}
 use Rattle.ld_reduce.specs.Written.{IsTrace, counted_anew, counted_from, ended, trace_text, written}

@@ -5,7 +5,7 @@ use Rattle.std.proofs.lemmas.List.Elements.{All-append, All-cons, All-filter, Al
 use Rattle.std.proofs.lemmas.List.Kept.{AllPairs-cons}
 use Rattle.ld_trace.specs.Lines.{lines}
 use Rattle.ld_trace.specs.Sources.{PlainSource, sources}
-use Rattle.ld_shown.specs.Batch.{AreRising}
+use Rattle.ld_batch.specs.Batch.{AreRising}
 use Rattle.ld_reduce.specs.Kept.{AreKept, keeps}
 use Rattle.ld_reduce.specs.Left.{AreKnown, BeginsWithHeader, IsLeft, further}
 use Rattle.ld_origin.specs.Origin.{PlainHome, PlainOrigin, lacking, marked, marked_with, origin_from, origin_line, origin_of}

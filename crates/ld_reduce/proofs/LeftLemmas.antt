@@ -15,7 +15,7 @@ use Rattle.ld_rules.specs.Outcome.{outcome}
 use Rattle.ld_rules.specs.Union.{first_witness}
 use Rattle.ld_rules.specs.Usage.{Use, same_use, uses_at}
 use Rattle.ld_rules.proofs.PlaceLemmas.{flat_map-append}
-use Rattle.ld_shown.specs.Batch.{AreRising}
+use Rattle.ld_batch.specs.Batch.{AreRising}
 use Rattle.ld_book.specs.Totals.{is_refused}
 use Rattle.ld_reduce.specs.Kept.{AreKept, IsAt, IsFirst, keeps, kept_by}
 use Rattle.ld_reduce.specs.Left.{further}

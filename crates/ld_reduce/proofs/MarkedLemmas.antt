@@ -12,7 +12,7 @@ use Rattle.ld_rules.specs.Dependency.{dependencies_at, least_line, same_dependen
 use Rattle.ld_rules.specs.Outcome.{faulty_lines, outcome, outcome_by}
 use Rattle.ld_rules.specs.Union.{first_of, first_witness, if_read}
 use Rattle.ld_rules.specs.Usage.{same_use, uses_at}
-use Rattle.ld_shown.specs.Batch.{AreRising}
+use Rattle.ld_batch.specs.Batch.{AreRising}
 use Rattle.ld_book.specs.Totals.{is_refused}
 use Rattle.ld_reduce.specs.Kept.{AreKept, IsFirst, keeps}
 use Rattle.ld_origin.specs.Origin.{PlainHome, lacking, mark_of, marked, marked_with, origin_from, origin_line, origin_of}

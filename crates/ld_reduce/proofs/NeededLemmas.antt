@@ -13,7 +13,7 @@ use Rattle.ld_rules.specs.Dependency.{dependencies_at, least_line, same_dependen
 use Rattle.ld_rules.specs.Outcome.{outcome}
 use Rattle.ld_rules.specs.Union.{first_witness}
 use Rattle.ld_rules.specs.Usage.{same_use, uses_at}
-use Rattle.ld_shown.specs.Batch.{AreRising}
+use Rattle.ld_batch.specs.Batch.{AreRising}
 use Rattle.ld_reduce.specs.Written.{counted_anew, counted_from, ended}
 use Rattle.ld_book.specs.Totals.{is_refused}
 use Rattle.ld_reduce.specs.Kept.{AreKept, IsAt, IsFirst, keeps, kept_by}

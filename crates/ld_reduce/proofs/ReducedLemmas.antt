@@ -4,7 +4,7 @@ use Rattle.std.proofs.lemmas.List.Elements.{All-filter}
 use Rattle.std.proofs.lemmas.List.Sums.{count_by-le-length, length-filter}
 use Rattle.ld_trace.specs.Sources.{PlainSource, sources, stream_fault}
 use Rattle.ld_trace.specs.declared.source.TheConstants.{LONGEST_STREAM, MOST_TRACES}
-use Rattle.ld_shown.specs.Batch.{AreRising}
+use Rattle.ld_batch.specs.Batch.{AreRising}
 use Rattle.ld_reduce.specs.Kept.{AreKept, keeps}
 use Rattle.ld_reduce.specs.Reduced.{AreNeeded, IsReduced}
 use Rattle.ld_reduce.specs.Same.{HaveSameUnion}

@@ -11,7 +11,7 @@ use Rattle.ld_trace.specs.Sources.{PlainSource, fault_at, fields_of, headers_bef
 use Rattle.ld_trace.proofs.NumberLemmas.{numbered}
 use Rattle.ld_trace.proofs.SectionLemmas.{Opens, header-says, label-word, section-is}
 use Rattle.ld_trace.proofs.SplitLemmas.{drop-next}
-use Rattle.ld_shown.specs.Batch.{AreRising}
+use Rattle.ld_batch.specs.Batch.{AreRising}
 use Rattle.ld_reduce.specs.Written.{IsTrace}
 use Rattle.ld_reduce.proofs.WrittenLemmas.{all_given, sources-none}
 

@@ -9,7 +9,7 @@ use Rattle.ld_trace.specs.Sources.{PlainSource}
 use Rattle.ld_rules.specs.declared.outcome.Witness.{Witness}
 use Rattle.ld_rules.specs.Dependency.{Seen, least_line}
 use Rattle.ld_rules.specs.Union.{earlier, first_of, first_witness, is_before}
-use Rattle.ld_shown.specs.Batch.{AreRising}
+use Rattle.ld_batch.specs.Batch.{AreRising}
 use Rattle.ld_origin.specs.Origin.{origin_of}
 use Rattle.ld_reduce.specs.Same.{Place, place_of}
 

@@ -4,7 +4,7 @@ ghost use Rattle.std.specs.Bool.{Decides};
 ghost use Rattle.std.specs.List.{list_any};
 ghost use Rattle.std.specs.List.Sorted.{IsPermutation};
 ghost use Rattle.ld_trace.specs.Sources.{PlainSource};
-ghost use Rattle.ld_shown.specs.Batch.{AreRising};
+ghost use Rattle.ld_batch.specs.Batch.{AreRising};
 ghost use Rattle.ld_reduce.specs.Kept.{IsFirst};
 ghost use Rattle.ld_origin.specs.Origin.{plain_home};
 ghost use Rattle.ld_reduce.specs.Reduction.{IsReductionOf, is_in};

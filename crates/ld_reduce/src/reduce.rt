@@ -5,7 +5,7 @@ ghost use Rattle.std.specs.List.{list_any};
 ghost use Rattle.ld_trace.specs.Sources.{plain, sources, stream_fault};
 ghost use Rattle.ld_trace.specs.declared.source.TheConstants.{LONGEST_STREAM, MOST_TRACES};
 ghost use Rattle.ld_rules.specs.Outcome.{outcome};
-ghost use Rattle.ld_shown.specs.Batch.{AreOutcomes, AreRising, sources_of};
+ghost use Rattle.ld_batch.specs.Batch.{AreOutcomes, AreRising, sources_of};
 ghost use Rattle.ld_book.specs.Totals.{is_refused};
 ghost use Rattle.ld_reduce.specs.Kept.{IsFirst, keeps, kept_by};
 ghost use Rattle.ld_origin.specs.Origin.{marked, plain_home};

@@ -9,7 +9,7 @@ use Rattle.std.specs.List.Sorted.{IsNonDecreasingBy, IsPartitionPoint}
 use Rattle.std.specs.Ordering.{ordering_index}
 use Rattle.ld_trace.specs.Sources.{plain}
 use Rattle.ld_rules.specs.declared.outcome.Listed.{Listed}
-use Rattle.ld_shown.specs.Batch.{AreRising, sources_of}
+use Rattle.ld_batch.specs.Batch.{AreRising, sources_of}
 use Rattle.ld_report.specs.Report.{label_of_number}
 
 -- the numbers of all but the first rise

@@ -12,7 +12,7 @@ use Rattle.ld_rules.specs.Outcome.{name_of, outcome}
 use Rattle.ld_book.specs.declared.totals.Totals.{Totals}
 use Rattle.ld_book.specs.Findings.{AreFindings, PlainConflictRow, PlainCycleRow, PlainFindings, PlainForbiddenRow}
 use Rattle.ld_book.specs.Totals.{totals}
-use Rattle.ld_shown.specs.Batch.{AreRising}
+use Rattle.ld_batch.specs.Batch.{AreRising}
 
 -- group 1: `traces N refused R events E classes C dependencies D`
 abbrev pub summary_line : Totals → List ℕ

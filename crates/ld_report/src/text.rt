@@ -1,6 +1,6 @@
 //! The text of a report.
 ghost use Rattle.std.specs.Prelude.{◌≡◌, ◌++◌, ◌↔◌, IfOk, OnOk, flat_map, map};
-ghost use Rattle.ld_shown.specs.Batch.{AreOutcomes, sources_of};
+ghost use Rattle.ld_batch.specs.Batch.{AreOutcomes, sources_of};
 ghost use Rattle.ld_book.specs.Findings.{plain_conflict_row, plain_cycle_row, plain_findings};
 ghost use Rattle.ld_book.specs.Findings.{plain_forbidden_row};
 ghost use Rattle.ld_book.specs.Violations.{HasViolation};

@@ -5,8 +5,8 @@ use crate::texts::{
 };
 use ld_book::Book;
 use ld_check::{CheckFault, Checked, check, report_of};
-use ld_meeting::Meeting;
 use ld_report::report;
+use ld_test_gate::Meeting;
 use ld_work::NoGate;
 use std::alloc::{AllocError, Global};
 use std::process::Abort;

@@ -1,6 +1,6 @@
 //! Whole transfers by readers and writers of the library, and those that fail on the way.
 
-use ld_device::{DeviceFault, Input, Output, ReadFault, Std, read_all, send};
+use ld_io::{DeviceFault, Input, Output, ReadFault, Std, read_all, send};
 use std::alloc::Global;
 use std::io;
 use std::test::Fail;

@@ -1,7 +1,7 @@
 //! A reader and a writer in memory, which move some bytes a call and fail where they are told to.
 ghost use Rattle.std.specs.Prelude.{◌≡◌, ◌<◌, [], false, true, Some};
 
-use ld_device::{DeviceFault, Input, Output};
+use ld_io::{DeviceFault, Input, Output};
 use std::alloc::Global;
 
 /// Gives the bytes of a slice, at most some of them a call.

@@ -8,7 +8,7 @@ use crate::texts::{
     TWENTY_EQUAL_REPORT,
 };
 use ld_check::{MOST_WORKERS, RunFault, run};
-use ld_device::{Input, Output, Std};
+use ld_io::{Input, Output, Std};
 use ld_report::Verdict;
 use std::alloc::Global;
 use std::io;

@@ -11,9 +11,9 @@ use Rattle.std.specs.List.{find}
 use Rattle.ld_class.specs.Names.{PlainClass}
 use Rattle.ld_rules.specs.declared.outcome.Witness.{Witness}
 use Rattle.ld_rules.specs.Dependency.{Dependency, same_dependency}
-use Rattle.ld_shown.specs.declared.rows.WitnessedEdge.{WitnessedEdge}
-use Rattle.ld_shown.specs.Batch.{Met, named_dependency, witness_of}
-use Rattle.ld_shown.proofs.SourceLemmas.{earlier_of-none}
+use Rattle.ld_batch.specs.declared.rows.WitnessedEdge.{WitnessedEdge}
+use Rattle.ld_batch.specs.Batch.{Met, named_dependency, witness_of}
+use Rattle.ld_batch.proofs.SourceLemmas.{earlier_of-none}
 use Rattle.ld_union.specs.declared.dependencies.Dependencies.{Dependencies}
 use Rattle.ld_union.specs.declared.dependencies.Witnessed.{Witnessed}
 use Rattle.ld_union.specs.Inner.Noted.{AreNoted, IsNoting, with_all}

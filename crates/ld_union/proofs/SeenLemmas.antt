@@ -13,10 +13,10 @@ use Rattle.ld_rules.specs.declared.outcome.Witness.{Witness}
 use Rattle.ld_rules.specs.Union.{classes_of, union_classes}
 use Rattle.ld_rules.specs.Usage.{Use, same_use, usage_of}
 use Rattle.ld_rules.proofs.UsageLemmas.{Decides-same_use}
-use Rattle.ld_shown.specs.Batch.{IsShown, Met, PlainShown, named_dependency, named_use, witness_of}
+use Rattle.ld_batch.specs.Batch.{IsShown, Met, PlainShown, named_dependency, named_use, witness_of}
 use Rattle.ld_union.specs.Inner.Union.{earlier_of}
 use Rattle.ld_union.proofs.EachOnceLemmas.{IsDistinct-each_once}
-use Rattle.ld_shown.proofs.SourceLemmas.{earlier_of-none}
+use Rattle.ld_batch.proofs.SourceLemmas.{earlier_of-none}
 
 -- none passes, where none of the first ones does
 pub none_found : {X Y : Type 0} (p : Y → Bool) (f : X → Y) (i : ℕ) (xs : List X) (d : X) → ((k : ℕ) → k < i → k < length xs → p (f (get_or xs k d)) ≡ false) → find p (map f (take i xs)) ≡ None

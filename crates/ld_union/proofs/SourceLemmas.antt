@@ -5,9 +5,9 @@ use Rattle.ld_rules.specs.declared.outcome.Witness.{Witness}
 use Rattle.ld_rules.specs.Dependency.{Dependency, same_dependency}
 use Rattle.ld_rules.specs.Union.{dependencies_of, dependency_witness, union_classes, use_witness, uses_of}
 use Rattle.ld_rules.specs.Usage.{Use, same_use}
-use Rattle.ld_shown.specs.Batch.{IsShown, PlainShown, first_since}
-use Rattle.ld_shown.specs.Inner.Names.{with_names}
-use Rattle.ld_shown.proofs.SinceLemmas.{few-since, new-since, witness-since}
+use Rattle.ld_batch.specs.Batch.{IsShown, PlainShown, first_since}
+use Rattle.ld_batch.specs.Inner.Names.{with_names}
+use Rattle.ld_batch.proofs.SinceLemmas.{few-since, new-since, witness-since}
 use Rattle.ld_union.specs.Inner.Union.{Adds, AreBetween, AreUsed, AreWitnessed, PlainUnion, with_first}
 
 -- a union to which what a batch shows was added

@@ -14,8 +14,8 @@ use Rattle.ld_rules.specs.declared.outcome.Witness.{Witness}
 use Rattle.ld_rules.specs.Dependency.{Dependency, same_dependency}
 use Rattle.ld_rules.specs.Union.{earlier}
 use Rattle.ld_union.specs.declared.dependencies.Witnessed.{Witnessed}
-use Rattle.ld_shown.specs.Inner.Names.{IsLonger}
-use Rattle.ld_shown.proofs.SourceLemmas.{earlier_of-none}
+use Rattle.ld_batch.specs.Inner.Names.{IsLonger}
+use Rattle.ld_batch.proofs.SourceLemmas.{earlier_of-none}
 use Rattle.ld_union.specs.Inner.Union.{AreBetween, AreWitnessed, earlier_of, edges_of, named_edge}
 
 -- equal dependencies have equal names

@@ -15,10 +15,10 @@ use Rattle.ld_rules.specs.declared.outcome.Witness.{Witness}
 use Rattle.ld_rules.specs.Usage.{Bit, Use, same_bit, same_use, usage_of}
 use Rattle.ld_rules.specs.Usage.Bit.{In, On}
 use Rattle.ld_union.specs.declared.usage.UsageRow.{UsageRow}
-use Rattle.ld_shown.specs.Inner.Names.{IsLonger}
+use Rattle.ld_batch.specs.Inner.Names.{IsLonger}
 use Rattle.ld_union.specs.Inner.Union.{AreUsed, earlier_of, of_class, with_bit, with_first_use}
 use Rattle.ld_union.specs.Usage.{bits, row_of, witnessed_bits}
-use Rattle.ld_shown.proofs.SourceLemmas.{earlier_of-none}
+use Rattle.ld_batch.proofs.SourceLemmas.{earlier_of-none}
 use Rattle.ld_union.proofs.UnionLemmas.{seen_cases}
 
 -- the one 1 of a bit's number stands at the bit's place

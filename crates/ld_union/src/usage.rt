@@ -7,8 +7,8 @@ ghost use Rattle.ld_class.specs.Names.{AreDistinct, PlainClass, no_class};
 ghost use Rattle.ld_class.specs.Usage.{either, has_bit};
 ghost use Rattle.ld_rules.specs.Union.{earlier, use_witness};
 ghost use Rattle.ld_rules.specs.Usage.{Bit, IsBit, Use, bit_of, same_bit};
-ghost use Rattle.ld_shown.specs.Batch.{first_since};
-ghost use Rattle.ld_shown.specs.Inner.Names.{AreThere};
+ghost use Rattle.ld_batch.specs.Batch.{first_since};
+ghost use Rattle.ld_batch.specs.Inner.Names.{AreThere};
 ghost use Rattle.ld_union.specs.Inner.News.{TellsBits};
 ghost use Rattle.ld_union.specs.Inner.Union.{AreUsed, with_bit, with_first, with_first_use};
 ghost use Rattle.ld_union.specs.Usage.{bits, bits_of, row_of};
@@ -17,7 +17,7 @@ use crate::news::NewBit;
 use bitflags::Flags;
 use ld_class::{Classes, Usage};
 use ld_rules::Witness;
-use ld_shown::{Guesses, Shown, place_in};
+use ld_batch::{Guesses, Shown, place_in};
 
 /// The usage of a class, over all traces.
 #[derive(Clone, Copy, Debug, PartialEq, Eq)]

@@ -7,8 +7,8 @@ use Rattle.std.proofs.lemmas.List.Sorted.{IsPermutation-trans, length_permutatio
 use Rattle.std.specs.List.{Contains}
 use Rattle.ld_trace.specs.Sources.{AreNumbered, PlainSource, plain}
 use Rattle.ld_rules.specs.declared.outcome.Listed.{Listed}
-use Rattle.ld_shown.specs.Batch.{sources_of}
-use Rattle.ld_shown.specs.Batch.{AreRising}
+use Rattle.ld_batch.specs.Batch.{sources_of}
+use Rattle.ld_batch.specs.Batch.{AreRising}
 use Rattle.ld_work.specs.Inner.Uneven.{IsMissing, IsUneven}
 
 -- the source that is listed at a place

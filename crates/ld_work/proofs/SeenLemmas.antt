@@ -10,7 +10,7 @@ use mathlib.Core.List.{IsPrefix}
 use Rattle.ld_trace.specs.Sources.{AreNumbered, PlainSource, plain}
 use Rattle.ld_rules.specs.declared.outcome.Listed.{Listed}
 use Rattle.ld_rules.proofs.PlaceLemmas.{last_or-push}
-use Rattle.ld_shown.specs.Batch.{PlainShown, nothing_shown, sources_of}
+use Rattle.ld_batch.specs.Batch.{PlainShown, nothing_shown, sources_of}
 use Rattle.ld_work.specs.Inner.Seen.{AreOne, numbers_of}
 
 abbrev number : PlainSource → ℕ

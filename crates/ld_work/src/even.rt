@@ -2,7 +2,7 @@
 ghost use Rattle.std.specs.Prelude.{◌≡◌, ◌≢◌, ◌↔◌, All, AllPairs, IfNone, IfOk, IfSome, IsTrue, map};
 ghost use Rattle.std.specs.List.{Contains};
 ghost use Rattle.ld_trace.specs.Sources.{AreNumbered, plain};
-ghost use Rattle.ld_shown.specs.Batch.{AreRising, sources_of};
+ghost use Rattle.ld_batch.specs.Batch.{AreRising, sources_of};
 ghost use Rattle.ld_work.specs.Inner.Uneven.{IsUneven};
 ghost use Rattle.ld_work.specs.Work.{ListsEachOnce};
 

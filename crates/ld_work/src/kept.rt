@@ -2,7 +2,7 @@
 ghost use Rattle.std.specs.Prelude.{◌≡◌, ◌≤◌, ◌++◌, ◌∷◌, [], Some, length, option_map, All, IfSome, IsSome, OnOk};
 ghost use Rattle.std.specs.List.{Contains};
 ghost use Rattle.ld_book.specs.Totals.{event_count};
-ghost use Rattle.ld_shown.specs.Batch.{sources_of};
+ghost use Rattle.ld_batch.specs.Batch.{sources_of};
 ghost use Rattle.ld_work.specs.Desk.{IsAddition};
 ghost use Rattle.ld_work.specs.Inner.Seen.{AreOne, numbers_of};
 

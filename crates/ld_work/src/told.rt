@@ -1,7 +1,7 @@
 //! What a worker reads, and what it handed on.
 ghost use Rattle.std.specs.Prelude.{◌≡◌, ◌⊎◌, ◌<◌, ◌++◌, ◌∷◌, [], None, IfSome, IsSome, OnErr, OnOk};
 ghost use Rattle.std.specs.List.{last_or};
-ghost use Rattle.ld_shown.specs.Batch.{nothing_shown};
+ghost use Rattle.ld_batch.specs.Batch.{nothing_shown};
 ghost use Rattle.ld_trace.specs.Sources.{Fits, plain};
 ghost use Rattle.ld_work.specs.Inner.Seen.{AreOne};
 
@@ -28,7 +28,7 @@ pub(crate) struct Told<'a, S: Scope, H: Room> {
 impl<'a, S: Scope, H: Room> Model for Told<'a, S, H> {
     ghost use Rattle.std.specs.Prelude.{All, IsSome};
     ghost use Rattle.std.specs.List.{Contains};
-    ghost use Rattle.ld_shown.specs.Batch.{PlainShown};
+    ghost use Rattle.ld_batch.specs.Batch.{PlainShown};
     ghost use Rattle.ld_work.specs.Inner.Seen.{AreOne, numbers_of};
 
     ghost Value = { PlainShown };

@@ -3,7 +3,7 @@ ghost use Rattle.std.specs.Prelude.{◌≡◌, ◌≤◌, ◌<◌, All, length};
 ghost use Rattle.ld_work.specs.Draw.{IsSeatOf};
 
 use crate::common::expect_first_once;
-use ld_meeting::zeros;
+use ld_test_gate::zeros;
 use ld_work::{DrawSeat, Tickets};
 use std::alloc::{AllocError, Global};
 use std::process::Abort;

@@ -4,7 +4,7 @@ ghost use Rattle.std.specs.Prelude.{◌≤◌};
 use crate::common::{
     INVERSION, expect_first_once, expect_inversion, long_trace, sources_of, totals,
 };
-use ld_meeting::Meeting;
+use ld_test_gate::Meeting;
 use ld_work::{Gate, MOST_FEEDERS, NoGate, WorkFault, work};
 use std::alloc::Global;
 use std::process::Abort;

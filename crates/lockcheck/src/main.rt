@@ -7,9 +7,9 @@ ghost use Rattle.clap.specs.Values.{kind_of};
 ghost use Rattle.clap.specs.declared.error.kind.ErrorKind.{ErrorKind};
 
 use ld_check::{MOST_WORKERS, RunFault, run};
-use ld_device::Std;
+use ld_cli::workers;
+use ld_io::Std;
 use ld_report::Verdict;
-use ld_words::workers;
 use std::fmt::Display;
 use std::process::ExitCode;
 use std::rt::Env;
@@ -21,7 +21,7 @@ const NO_REPORT: u8 = 2;
 const _: () = prove!(NO_REPORT == 1 + 1);
 
 // The words of the command line ask for no more workers than a run takes.
-const _: () = prove!(ld_words::MOST_WORKERS == MOST_WORKERS);
+const _: () = prove!(ld_cli::MOST_WORKERS == MOST_WORKERS);
 
 fn main(rt: HostRuntime) -> ExitCode {
     let words = match given_words(&rt) {

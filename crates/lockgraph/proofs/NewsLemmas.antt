@@ -7,7 +7,7 @@ use Rattle.ld_check.specs.OfReport.OfBook.declared.totals.Totals.{Totals}
 use Rattle.ld_check.proofs.OfReport.OfBook.PermutedLemmas.{totals-permuted}
 use Rattle.ld_check.specs.OfReport.declared.verdict.Verdict.{Verdict}
 use Rattle.ld_check.proofs.OfReport.Permuted.{report-permuted}
-use Rattle.ld_select.specs.News.{count_new}
+use Rattle.ld_baseline.specs.News.{count_new}
 use Rattle.ld_texts.specs.Places.{PlainFile}
 use Rattle.ld_texts.specs.ShownPlaces.{has_origin}
 use Rattle.lockgraph.specs.News.{IsFixedOf, IsNewsOf, IsNewsWith, verdict_of_new}

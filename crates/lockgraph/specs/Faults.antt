@@ -4,8 +4,8 @@ use Rattle.std.specs.Borrow.{Bor}
 use Rattle.std.specs.Prelude.{ℕ, List}
 use Rattle.ld_check.specs.declared.checked.CheckFault.{CheckFault}
 use Rattle.ld_check.specs.declared.checked.CheckFault.TheVariants as check_faults
-use Rattle.ld_select.specs.declared.news.SelectFault.{SelectFault}
-use Rattle.ld_select.specs.declared.news.SelectFault.TheVariants as select_faults
+use Rattle.ld_baseline.specs.declared.news.SelectFault.{SelectFault}
+use Rattle.ld_baseline.specs.declared.news.SelectFault.TheVariants as select_faults
 use Rattle.lockgraph.specs.declared.fault.Fault.{Fault}
 use Rattle.lockgraph.specs.declared.fault.Fault.TheVariants as faults
 use Rattle.lockgraph.specs.declared.reduce.ReduceFault.{ReduceFault}

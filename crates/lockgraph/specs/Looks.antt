@@ -2,7 +2,7 @@
 use Rattle.std.specs.Prelude.{◌≡◌, ℕ, Bool, not, ◌||◌, List, [], ◌∷◌, Option, Some, None, codes, find, map, nat_eq, take, unwrap_or, if◌then◌else◌}
 use Rattle.std.specs.List.{starts_with}
 use Rattle.ld_trace.specs.Lines.{lines, text_of}
-use Rattle.ld_select.specs.Known.{is_comment}
+use Rattle.ld_baseline.specs.Known.{is_comment}
 use Rattle.lockgraph.specs.declared.looks.Kind.{Kind}
 use Rattle.lockgraph.specs.declared.looks.Kind.TheVariants.{Xz, Gzip, Ftrace, Report, Map}
 use Rattle.lockgraph.specs.declared.looks.Looks.{Looks}

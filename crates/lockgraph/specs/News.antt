@@ -6,8 +6,8 @@ use Rattle.ld_check.specs.OfReport.OfBook.Totals.{refused_count}
 use Rattle.ld_check.specs.OfReport.Report.{IsReport}
 use Rattle.ld_check.specs.OfReport.declared.verdict.Verdict.{Verdict}
 use Rattle.ld_check.specs.OfReport.declared.verdict.Verdict.TheVariants.{Clean, Refused, Violations}
-use Rattle.ld_select.specs.Gone.{count_gone, gone_lines}
-use Rattle.ld_select.specs.News.{count_new, new_report}
+use Rattle.ld_baseline.specs.Gone.{count_gone, gone_lines}
+use Rattle.ld_baseline.specs.News.{count_new, new_report}
 use Rattle.ld_texts.specs.Places.{PlainFile}
 use Rattle.ld_texts.specs.ShownPlaces.{has_origin}
 use Rattle.lockgraph.specs.Comments.{comment_line}

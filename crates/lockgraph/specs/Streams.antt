@@ -7,7 +7,7 @@ use Rattle.ld_trace.specs.declared.source.StreamFault.{StreamFault}
 use Rattle.ld_trace.specs.declared.source.StreamFault.TheVariants as stream_faults
 use Rattle.ld_trace.specs.declared.source.TheConstants.{LONGEST_STREAM}
 use Rattle.ld_reduce.specs.Written.{ended}
-use Rattle.ld_select.specs.Known.{unknown_line}
+use Rattle.ld_baseline.specs.Known.{unknown_line}
 use Rattle.lockgraph.specs.declared.looks.Looks.{Looks}
 use Rattle.lockgraph.specs.declared.fault.Fault.{Fault}
 use Rattle.lockgraph.specs.declared.fault.Fault.TheVariants.{NoHeader, NoStream, BadHeader, File, Together, UnknownLine, Memory}

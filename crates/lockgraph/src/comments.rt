@@ -6,7 +6,7 @@ ghost use Rattle.ld_texts.specs.ShownPlaces.{has_origin};
 ghost use Rattle.lockgraph.specs.Comments.{comment_line, tame};
 
 use indexmap::IndexSet;
-use ld_select::lines_named;
+use ld_baseline::lines_named;
 use ld_texts::ShownPlaces;
 use ld_trace::{next_line, text};
 use std::alloc::{AllocError, Global};

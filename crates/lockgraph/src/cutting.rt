@@ -3,7 +3,7 @@ ghost use Rattle.std.specs.Prelude.{◌≡◌, ◌≢◌, ◌↔◌, List, ℕ, 
 ghost use Rattle.std.specs.Io.KnownBytes.{Appends};
 ghost use Rattle.ld_trace.specs.declared.source.StreamFault.{StreamFault};
 ghost use Rattle.ld_trace.specs.Sources.{sources, stream_fault};
-ghost use Rattle.ld_device.specs.Transfer.{AppendsPart};
+ghost use Rattle.ld_io.specs.Transfer.{AppendsPart};
 ghost use Rattle.ld_cut.specs.Cut.{IsCutOf};
 
 use crate::fault::Fault;
@@ -11,7 +11,7 @@ use crate::streams::read_streams;
 use crate::words::CutWords;
 use ld_check::Verdict;
 use ld_cut::cut;
-use ld_device::{Output, Std, send};
+use ld_io::{Output, Std, send};
 use ld_trace::{LONGEST_STREAM, StreamFault, split};
 use std::alloc::{AllocError, Global};
 use std::io;

@@ -3,15 +3,15 @@ ghost use Rattle.std.specs.Prelude.{◌≡◌, ◌≢◌, ◌≤◌, ◌↔◌, 
 ghost use Rattle.std.specs.Io.KnownBytes.{Appends};
 ghost use Rattle.ld_trace.specs.declared.source.StreamFault.{StreamFault};
 ghost use Rattle.ld_trace.specs.Sources.{sources, stream_fault};
-ghost use Rattle.ld_device.specs.Transfer.{AppendsPart};
-ghost use Rattle.ld_select.specs.Known.{unknown_line};
+ghost use Rattle.ld_io.specs.Transfer.{AppendsPart};
+ghost use Rattle.ld_baseline.specs.Known.{unknown_line};
 ghost use Rattle.lockgraph.specs.News.{IsFixedOf, fixed_line};
 
 use crate::news::{News, NewsFault};
 use crate::shown::verdict_of_read;
+use ld_baseline::gone_lines;
 use ld_check::{Book, MOST_WORKERS, NoGate, Verdict, check, report_in};
-use ld_device::{Output, send};
-use ld_select::gone_lines;
+use ld_io::{Output, send};
 use std::alloc::{AllocError, Global};
 use std::io::Write;
 use std::sync::Wait;

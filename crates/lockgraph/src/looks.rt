@@ -2,7 +2,7 @@
 ghost use Rattle.std.specs.Prelude.{◌≡◌, IfOk, take};
 ghost use Rattle.lockgraph.specs.Looks.{IsLook, first_said, kind_of};
 
-use ld_select::is_comment;
+use ld_baseline::is_comment;
 use ld_trace::{next_line, text};
 use std::alloc::{AllocError, Global};
 use std::fmt;

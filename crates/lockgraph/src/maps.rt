@@ -3,8 +3,8 @@
 use crate::fault::Fault;
 use crate::streams::{STANDARD_INPUT, Streams};
 use crate::words::Mapped;
-use ld_device::{ReadFault, Std, read_all};
-use ld_maps::{Map, MapFault, Maps};
+use ld_io::{ReadFault, Std, read_all};
+use ld_source_map::{Map, MapFault, Maps};
 use ld_trace::LONGEST_STREAM;
 use std::alloc::{AllocError, Global};
 use std::rt::Files;

@@ -3,8 +3,8 @@ ghost use Rattle.std.specs.Prelude.{◌≡◌, ◌≢◌, ◌≤◌, ◌↔◌, 
 ghost use Rattle.std.specs.Io.KnownBytes.{Appends};
 ghost use Rattle.ld_trace.specs.declared.source.StreamFault.{StreamFault};
 ghost use Rattle.ld_trace.specs.Sources.{plain, sources, stream_fault};
-ghost use Rattle.ld_device.specs.Transfer.{AppendsPart};
-ghost use Rattle.ld_select.specs.Known.{unknown_line};
+ghost use Rattle.ld_io.specs.Transfer.{AppendsPart};
+ghost use Rattle.ld_baseline.specs.Known.{unknown_line};
 ghost use Rattle.lockgraph.specs.News.{IsNewsOf, IsNewsWith, verdict_of_new};
 
 use crate::comments::{remarks, write_comments};
@@ -12,9 +12,9 @@ use crate::fault::Fault;
 use crate::fixed::write_fixed;
 use crate::streams::{read_known, read_streams};
 use crate::words::NewWords;
+use ld_baseline::{SelectFault, new_report};
 use ld_check::{CheckFault, Checked, MOST_WORKERS, NoGate, Verdict, check, report_in};
-use ld_device::{Output, Std, send};
-use ld_select::{SelectFault, new_report};
+use ld_io::{Output, Std, send};
 use ld_texts::{Places, ShownPlaces};
 use ld_trace::StreamFault;
 use std::alloc::{AllocError, Global};

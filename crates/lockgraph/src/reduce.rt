@@ -3,7 +3,7 @@ ghost use Rattle.std.specs.Prelude.{◌≡◌, ◌≢◌, ◌≤◌, ◌<◌, �
 ghost use Rattle.std.specs.Io.KnownBytes.{Appends};
 ghost use Rattle.ld_trace.specs.declared.source.StreamFault.{StreamFault};
 ghost use Rattle.ld_trace.specs.Sources.{sources, stream_fault};
-ghost use Rattle.ld_device.specs.Transfer.{AppendsPart};
+ghost use Rattle.ld_io.specs.Transfer.{AppendsPart};
 ghost use Rattle.ld_trace.specs.Sources.{PlainSource, plain};
 ghost use Rattle.ld_origin.specs.Origin.{PlainHome};
 ghost use Rattle.ld_reduce.specs.Written.{IsTrace};
@@ -17,7 +17,7 @@ use crate::homes::homes_wanted;
 use crate::streams::read_streams;
 use crate::words::ReduceWords;
 use ld_check::{CheckFault, Checked, MOST_WORKERS, NoGate, Verdict, check};
-use ld_device::{Output, Std, send};
+use ld_io::{Output, Std, send};
 use ld_reduce::reduction;
 use ld_texts::Places;
 use ld_trace::StreamFault;

@@ -3,7 +3,7 @@ ghost use Rattle.std.specs.Prelude.{◌≡◌, ◌≢◌, ◌≤◌, ◌↔◌, 
 ghost use Rattle.std.specs.Io.KnownBytes.{Appends};
 ghost use Rattle.ld_trace.specs.declared.source.StreamFault.{StreamFault};
 ghost use Rattle.ld_trace.specs.Sources.{sources, stream_fault};
-ghost use Rattle.ld_device.specs.Transfer.{AppendsPart};
+ghost use Rattle.ld_io.specs.Transfer.{AppendsPart};
 ghost use Rattle.ld_check.specs.OfReport.OfBook.Violations.{HasViolation};
 ghost use Rattle.ld_check.specs.OfReport.Report.{IsReport, SaysClean};
 ghost use Rattle.ld_check.specs.OfReport.Verdict.{VerdictIs};
@@ -13,7 +13,7 @@ use crate::fault::Fault;
 use crate::streams::read_streams;
 use crate::words::CheckWords;
 use ld_check::{MOST_WORKERS, NoGate, Verdict, report_of};
-use ld_device::{Output, Std, send};
+use ld_io::{Output, Std, send};
 use std::alloc::Global;
 use std::io;
 use std::rt::Files;

@@ -10,7 +10,7 @@ use crate::streams::{Streams, read_streams};
 use crate::told::{Told, write_told};
 use crate::words::Given;
 use ld_check::{Book, Checked, MOST_WORKERS, NoGate, Verdict, check, verdict_of};
-use ld_device::Std;
+use ld_io::Std;
 use ld_texts::{Places, ShownPlaces, Wanted, text_of};
 use std::alloc::{AllocError, Global};
 use std::io;

@@ -10,9 +10,9 @@ ghost use Rattle.lockgraph.specs.Streams.{fault_of_file, fault_of_known, has_tra
 use crate::fault::Fault;
 use crate::lines::line_count;
 use crate::looks::Looks;
-use ld_device::{ReadFault, Std, read_all};
+use ld_baseline::{is_comment, unknown_line};
+use ld_io::{ReadFault, Std, read_all};
 use ld_reduce::{append_ended, is_ended};
-use ld_select::{is_comment, unknown_line};
 use ld_texts::Places;
 use ld_trace::{LONGEST_STREAM, StreamFault, next_line, split, text};
 use std::alloc::{AllocError, Global};

@@ -1,12 +1,12 @@
 //! What a text tells of some traces, and how it is written.
 ghost use Rattle.std.specs.Prelude.{◌≡◌, ◌≢◌, ◌↔◌, Err, Ok, IfOk, IsErr, OnOk, false, true};
 ghost use Rattle.std.specs.Io.KnownBytes.{Appends};
-ghost use Rattle.ld_device.specs.Transfer.{AppendsPart};
+ghost use Rattle.ld_io.specs.Transfer.{AppendsPart};
 ghost use Rattle.lockgraph.specs.declared.fault.Fault.TheVariants.{Write};
 
 use crate::fault::Fault;
 use ld_check::Verdict;
-use ld_device::{Output, send};
+use ld_io::{Output, send};
 
 /// What is told of some traces.
 #[derive(Debug, Drop)]

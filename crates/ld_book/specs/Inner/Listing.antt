@@ -5,7 +5,7 @@ use Rattle.ld_trace.specs.declared.source.TheConstants.{MOST_TRACES}
 use Rattle.ld_trace.specs.Sources.{Fits, PlainSource, plain}
 use Rattle.ld_book.specs.Book.{is_listed}
 use Rattle.ld_book.specs.declared.listing.Listing.TheInside.{Inside}
-use Rattle.ld_shown.specs.Batch.{AreOutcomes, sources_of}
+use Rattle.ld_batch.specs.Batch.{AreOutcomes, sources_of}
 use Rattle.ld_book.specs.Totals.{event_count, refused_count}
 
 -- the traces in order of arrival, and for how many further ones there is memory

@@ -3,8 +3,8 @@
 use crate::rows::lines::Placing;
 use crate::rows::origins::{origin_of, taken_of};
 use crate::rows::violations::class_of;
-use ld_maps::Maps;
 use ld_rows::{At, ClassRow, EdgeRow};
+use ld_source_map::Maps;
 use ld_texts::{ClassRow as Shown, Overview, Witness};
 use std::alloc::{AllocError, Global};
 

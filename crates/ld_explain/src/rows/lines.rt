@@ -3,8 +3,8 @@ ghost use Rattle.std.specs.Prelude.{◌≡◌, IfOk};
 
 use crate::rows::origins::place_of;
 use crate::sightings::Texts;
-use ld_maps::{At as Known, Maps};
 use ld_rows::{At, Line};
+use ld_source_map::{At as Known, Maps};
 use ld_texts::{ShownPlaces, Witness};
 use ld_trace::Source;
 use std::alloc::{AllocError, Global};

@@ -1,6 +1,6 @@
 //! Rows of refused traces.
 ghost use Rattle.std.specs.Prelude.{◌≡◌, IfOk, map};
-ghost use Rattle.ld_shown.specs.Batch.{AreOutcomes, sources_of};
+ghost use Rattle.ld_batch.specs.Batch.{AreOutcomes, sources_of};
 ghost use Rattle.ld_explain.specs.Faults.{fault_said};
 ghost use Rattle.ld_explain.specs.Rows.{AreRefusals, refusal_said, refusals};
 

@@ -11,11 +11,11 @@ use Rattle.ld_facts.specs.declared.scan.Scan.{Scan}
 use Rattle.ld_facts.specs.Named as scans
 use Rattle.ld_facts.specs.Inner.Scan.{IsAt, begun, names_at, start_of}
 use Rattle.ld_facts.specs.declared.bounds.TheConstants.{MOST_KNOWN}
-use Rattle.ld_shown.specs.declared.rows.WitnessedEdge.{WitnessedEdge}
-use Rattle.ld_shown.specs.declared.rows.WitnessedUse.{WitnessedUse}
-use Rattle.ld_shown.specs.Batch.{AreOutcomes, IsBatch, PlainBatch, named_dependency, named_use, sources_of}
-use Rattle.ld_shown.specs.Inner.Names.{with_names}
-use Rattle.ld_shown.specs.Inner.Rows.{AreMet}
+use Rattle.ld_batch.specs.declared.rows.WitnessedEdge.{WitnessedEdge}
+use Rattle.ld_batch.specs.declared.rows.WitnessedUse.{WitnessedUse}
+use Rattle.ld_batch.specs.Batch.{AreOutcomes, IsBatch, PlainBatch, named_dependency, named_use, sources_of}
+use Rattle.ld_batch.specs.Inner.Names.{with_names}
+use Rattle.ld_batch.specs.Inner.Rows.{AreMet}
 use Rattle.ld_facts.specs.Inner.Rows.{IsOwnEdge, IsOwnUse}
 
 -- the fields, as they are seen

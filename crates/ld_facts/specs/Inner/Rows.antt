@@ -5,9 +5,9 @@ use Rattle.ld_class.specs.Blocks.{IsBlock, classes_in}
 use Rattle.std.specs.List.{list_any, position_or_len}
 use Rattle.ld_tables.specs.declared.edges.EdgeFact.{EdgeFact}
 use Rattle.ld_tables.specs.declared.uses.UsageFact.{UsageFact}
-use Rattle.ld_shown.specs.declared.rows.WitnessedEdge.{WitnessedEdge}
-use Rattle.ld_shown.specs.declared.rows.WitnessedUse.{WitnessedUse}
-use Rattle.ld_shown.specs.declared.rows.WitnessedWord.{WitnessedWord}
+use Rattle.ld_batch.specs.declared.rows.WitnessedEdge.{WitnessedEdge}
+use Rattle.ld_batch.specs.declared.rows.WitnessedUse.{WitnessedUse}
+use Rattle.ld_batch.specs.declared.rows.WitnessedWord.{WitnessedWord}
 use Rattle.ld_tables.specs.declared.words.Telling.{Telling}
 
 -- the place of a class among those of a batch, by its number in the scan

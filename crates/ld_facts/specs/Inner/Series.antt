@@ -7,9 +7,9 @@ use Rattle.ld_facts.specs.declared.scan.Scan.{Scan}
 use Rattle.ld_facts.specs.declared.series.Passed.{Passed}
 use Rattle.ld_facts.specs.Inner.Kept.{Fields, IsKept}
 use Rattle.ld_facts.specs.Inner.Rows.{IsOwnWord, edges_at}
-use Rattle.ld_shown.specs.declared.rows.WitnessedUse.{WitnessedUse}
-use Rattle.ld_shown.specs.declared.rows.WitnessedWord.{WitnessedWord}
-use Rattle.ld_shown.specs.Batch.{IsBatch, PlainBatch, PlainShown, sources_of}
+use Rattle.ld_batch.specs.declared.rows.WitnessedUse.{WitnessedUse}
+use Rattle.ld_batch.specs.declared.rows.WitnessedWord.{WitnessedWord}
+use Rattle.ld_batch.specs.Batch.{IsBatch, PlainBatch, PlainShown, sources_of}
 
 -- the fields, as they are seen, and how much of them was handed on
 pub record Parts : Type 0 where

@@ -4,7 +4,7 @@ use Rattle.std.specs.Prelude.{Any, Option, Some, None, IsSome, MatchOption, ifâ—
 use Rattle.std.specs.Option.{is_some}
 use Rattle.ld_class.specs.declared.names.TheConstants.{MOST_NAMES}
 use Rattle.ld_class.specs.Names.{AreDistinct, PlainClass, no_class, place_of}
-pub use Rattle.ld_shown.specs.Inner.Rows.{earlier_of, seen_in}
+pub use Rattle.ld_batch.specs.Inner.Rows.{earlier_of, seen_in}
 use Rattle.ld_trace.specs.declared.event.State.{State}
 use Rattle.ld_trace.specs.Sources.{PlainSource}
 use Rattle.ld_graph.specs.declared.Edge.{Edge}

@@ -4,16 +4,16 @@ ghost use Rattle.ld_class.specs.Blocks.{IsBlock};
 ghost use Rattle.ld_rules.specs.declared.outcome.Witness.{Witness};
 ghost use Rattle.ld_rules.specs.Dependency.{Dependency};
 ghost use Rattle.ld_rules.specs.Union.{dependency_witness};
-ghost use Rattle.ld_shown.specs.Batch.{IsBetween, IsShown, first_since};
-ghost use Rattle.ld_shown.specs.Inner.Names.{AreThere};
-ghost use Rattle.ld_shown.specs.Inner.Rows.{edges_in};
+ghost use Rattle.ld_batch.specs.Batch.{IsBetween, IsShown, first_since};
+ghost use Rattle.ld_batch.specs.Inner.Names.{AreThere};
+ghost use Rattle.ld_batch.specs.Inner.Rows.{edges_in};
 ghost use Rattle.ld_union.specs.Inner.Noted.{AreNoted};
 ghost use Rattle.ld_union.specs.Inner.Union.{AreBetween, AreWitnessed, with_first};
 
 use super::Dependencies;
 use ld_class::{ClassList, Classes};
 use ld_graph::Edge;
-use ld_shown::{Guesses, Shown, WitnessedWord, Words, place_in};
+use ld_batch::{Guesses, Shown, WitnessedWord, Words, place_in};
 
 impl Dependencies {
     /// Notes the dependencies of a batch whose classes are among these names, each where it was seen first: those that

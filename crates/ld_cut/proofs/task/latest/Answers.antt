@@ -1,7 +1,7 @@
 -- Behind the place none passes, so the first that passes from there is the last.
 use Rattle.std.proofs.Common.{sym, ◌∙◌, arith}
 use Rattle.ld_trace.specs.Events.{plain_lock}
-use Rattle.ld_held.proofs.LatestLemmas.{last_before, none_before}
+use Rattle.ld_replay.proofs.LatestLemmas.{last_before, none_before}
 use Rattle.ld_cut.specs.Inner.Kept.{is_hold_of}
 use Rattle.ld_cut.proofs.task.latest.Goals as goal
 

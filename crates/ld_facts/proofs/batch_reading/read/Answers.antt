@@ -1,11 +1,11 @@
 use Rattle.std.proofs.Common.{rules, ◌∙◌, ap, arith, length, subst, sym}
 use Rattle.ld_trace.specs.Sources.{plain}
 use Rattle.ld_rules.specs.Union.{classes_of}
-use Rattle.ld_shown.specs.Inner.Names.{IsLonger}
+use Rattle.ld_batch.specs.Inner.Names.{IsLonger}
 use Rattle.ld_facts.specs.declared.scan.Scan.{Scan}
 use Rattle.ld_facts.specs.Inner.Kept.{IsRead, IsReady}
 use Rattle.ld_facts.proofs.BatchLemmas.{begins, room-left}
-use Rattle.ld_shown.proofs.NameLemmas.{longer_all}
+use Rattle.ld_batch.proofs.NameLemmas.{longer_all}
 use Rattle.ld_facts.proofs.RowLemmas.{names_longer}
 use Rattle.ld_facts.proofs.batch_reading.read.Goals as goal
 

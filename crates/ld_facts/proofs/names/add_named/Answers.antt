@@ -6,7 +6,7 @@ use Rattle.ld_class.specs.declared.names.TheConstants.{MOST_NAMES}
 use Rattle.ld_class.specs.Names.{no_class}
 use Rattle.ld_facts.specs.Inner.Scan.{names_at}
 use Rattle.ld_facts.proofs.StandsLemmas.{take-first}
-use Rattle.ld_shown.proofs.NameLemmas.{longer_all}
+use Rattle.ld_batch.proofs.NameLemmas.{longer_all}
 use Rattle.ld_facts.proofs.RowLemmas.{first_there, with_names-more}
 use Rattle.ld_facts.proofs.names.add_named.Goals as goal
 

@@ -2,7 +2,7 @@ use Rattle.std.proofs.Common.{◌≡◌, All, length, nat_eq, take, true}
 use Rattle.std.specs.List.{list_any}
 use Rattle.ld_facts.specs.Inner.Scan.{names_at}
 use Rattle.ld_facts.specs.Inner.Kept.{AreNames}
-use Rattle.ld_shown.specs.Inner.Names.{with_names}
+use Rattle.ld_batch.specs.Inner.Names.{with_names}
 use Rattle.ld_facts.proofs.names.add_named.Given as goal
 
 abbrev pub invariant-loop-number : goal.invariant-loop-number

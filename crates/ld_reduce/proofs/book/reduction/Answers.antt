@@ -5,7 +5,7 @@ use Rattle.std.proofs.lemmas.List.Sorted.{All-permutation}
 use Rattle.std.specs.Bool.{Decides}
 use Rattle.std.specs.List.{list_any}
 use Rattle.ld_trace.specs.Sources.{plain, sources}
-use Rattle.ld_shown.specs.Batch.{AreRising}
+use Rattle.ld_batch.specs.Batch.{AreRising}
 use Rattle.ld_reduce.specs.Kept.{IsFirst}
 use Rattle.ld_origin.specs.Origin.{marked, plain_home}
 use Rattle.ld_reduce.specs.Reduced.{IsReduced}

@@ -2,7 +2,7 @@
 use Rattle.std.specs.Prelude.{◌≡◌, map, nat_eq, take}
 use Rattle.std.specs.List.{list_any}
 use Rattle.ld_trace.specs.Sources.{plain}
-use Rattle.ld_shown.specs.Batch.{sources_of}
+use Rattle.ld_batch.specs.Batch.{sources_of}
 use Rattle.ld_reduce.specs.Kept.{kept_by}
 use Rattle.ld_reduce.proofs.reduce.kept.Given as goal
 

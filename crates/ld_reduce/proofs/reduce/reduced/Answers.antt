@@ -4,7 +4,7 @@ use Rattle.std.proofs.lemmas.Result.{IfOk-weaker}
 use Rattle.std.proofs.lemmas.List.{length-map}
 use Rattle.std.specs.List.{list_any}
 use Rattle.ld_trace.specs.Sources.{plain}
-use Rattle.ld_shown.specs.Batch.{sources_of}
+use Rattle.ld_batch.specs.Batch.{sources_of}
 use Rattle.ld_reduce.specs.Kept.{AreKept, kept_by}
 use Rattle.ld_origin.specs.Origin.{marked, plain_home}
 use Rattle.ld_reduce.specs.Written.{written}

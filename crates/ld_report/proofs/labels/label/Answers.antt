@@ -3,7 +3,7 @@ use Rattle.std.proofs.lemmas.Cmp.{ranked}
 use Rattle.std.proofs.lemmas.List.Sorted.{answers_always}
 use Rattle.std.specs.List.Sorted.{IsBinarySearchResult}
 use Rattle.ld_rules.specs.declared.outcome.Listed.{Listed}
-use Rattle.ld_shown.specs.Batch.{AreRising, sources_of}
+use Rattle.ld_batch.specs.Batch.{AreRising, sources_of}
 use Rattle.ld_report.specs.Report.{label_of_number}
 use Rattle.ld_report.proofs.TraceLemmas.{label-absent, label-found}
 use Rattle.ld_report.proofs.labels.label.Goals as goal

@@ -1,6 +1,6 @@
 use Rattle.std.proofs.Common.{◌≡◌, ◌++◌, take}
 use Rattle.ld_report.specs.Report.{refused_lines}
-use Rattle.ld_shown.specs.Batch.{sources_of}
+use Rattle.ld_batch.specs.Batch.{sources_of}
 use Rattle.ld_report.proofs.text.write_all_refused.Given as goal
 
 abbrev pub invariant-loop-trace : goal.invariant-loop-trace

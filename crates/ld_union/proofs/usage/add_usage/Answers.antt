@@ -1,9 +1,9 @@
 use Rattle.std.proofs.Common.{rules, ◌≡◌, ◌+◌, ◌-◌, ◌<◌, ◌≤◌, ◌∙◌, List, ap, arith, get_or, length, subst, sym}
 use Rattle.ld_class.specs.Names.{PlainClass, no_class}
 use Rattle.ld_class.specs.Usage.{no_bits}
-use Rattle.ld_shown.specs.declared.rows.WitnessedUse.{WitnessedUse}
-use Rattle.ld_shown.specs.Batch.{named_use}
-use Rattle.ld_shown.specs.Inner.Names.{AreThere}
+use Rattle.ld_batch.specs.declared.rows.WitnessedUse.{WitnessedUse}
+use Rattle.ld_batch.specs.Batch.{named_use}
+use Rattle.ld_batch.specs.Inner.Names.{AreThere}
 use Rattle.ld_rules.specs.Usage.{Use, bit_of, same_use}
 use Rattle.ld_union.specs.Inner.Union.{AreUsed, earlier_of}
 use Rattle.ld_union.specs.Usage.{bits_of}

@@ -3,7 +3,7 @@ use Rattle.std.proofs.lemmas.List.{length-map}
 use Rattle.std.proofs.lemmas.List.Sorted.{length_permutation}
 use Rattle.std.specs.List.{Contains}
 use Rattle.ld_trace.specs.Sources.{PlainSource, plain}
-use Rattle.ld_shown.specs.Batch.{sources_of}
+use Rattle.ld_batch.specs.Batch.{sources_of}
 use Rattle.ld_work.proofs.EvenLemmas.{permuted_from_within}
 use Rattle.ld_work.proofs.even.are_all.Goals as goal
 

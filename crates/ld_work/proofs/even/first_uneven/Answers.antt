@@ -1,7 +1,7 @@
 use Rattle.std.proofs.Common.{rules, ◌≡◌, ◌<◌, ◌≤◌, ◌∙◌, ap, arith, length, map, sym, get_or}
 use Rattle.std.proofs.lemmas.List.{length-map, take_more_same}
 use Rattle.ld_trace.specs.Sources.{PlainSource, plain}
-use Rattle.ld_shown.specs.Batch.{sources_of}
+use Rattle.ld_batch.specs.Batch.{sources_of}
 use Rattle.ld_work.proofs.EvenLemmas.{all_in_place, any, listed_at, same_by_number, uneven_from_other}
 use Rattle.ld_work.proofs.even.first_uneven.Goals as goal
 

@@ -4,7 +4,7 @@ use Rattle.std.proofs.lemmas.Option.{IfSome_then}
 use Rattle.std.specs.List.{Contains}
 use Rattle.std.specs.List.Sorted.{IsPermutation}
 use Rattle.ld_trace.specs.Sources.{plain}
-use Rattle.ld_shown.specs.Batch.{AreRising, sources_of}
+use Rattle.ld_batch.specs.Batch.{AreRising, sources_of}
 use Rattle.ld_work.proofs.EvenLemmas.{IfNone_then, uneven_moved}
 use Rattle.ld_work.proofs.even.uneven.Goals as goal
 use Rattle.ld_work.proofs.even.uneven.Goals.{Joined-traces}

@@ -1,5 +1,5 @@
 use Rattle.std.specs.Prelude.{◌≡◌, ◌++◌, take}
-use Rattle.ld_shown.specs.Batch.{sources_of}
+use Rattle.ld_batch.specs.Batch.{sources_of}
 use Rattle.ld_work.specs.Inner.Seen.{numbers_of}
 use Rattle.ld_work.proofs.kept.note_all.Given as goal
 

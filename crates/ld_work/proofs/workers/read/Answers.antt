@@ -1,7 +1,7 @@
 use Rattle.std.proofs.Common.{◌≡◌, ◌++◌, ◌∷◌, [], ◌∙◌, List, None, IfSome, refl, subst, sym}
 use Rattle.std.specs.List.{last_or}
 use Rattle.ld_trace.specs.Sources.{PlainSource, plain}
-use Rattle.ld_shown.specs.Batch.{PlainShown}
+use Rattle.ld_batch.specs.Batch.{PlainShown}
 use Rattle.ld_work.proofs.SeenLemmas.{last-on, last-read, some-ok}
 use Rattle.ld_work.proofs.workers.read.Goals as goal
 

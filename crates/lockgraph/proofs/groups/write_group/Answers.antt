@@ -2,7 +2,7 @@
 use Rattle.std.proofs.Common.{◌≡◌, List, ℕ, None, ap, map, refl, subst, sym}
 use Rattle.std.specs.Io.KnownBytes.{Appends}
 use Rattle.ld_trace.specs.Sources.{sources, stream_fault}
-use Rattle.ld_device.specs.Transfer.{AppendsPart}
+use Rattle.ld_io.specs.Transfer.{AppendsPart}
 use Rattle.ld_check.specs.OfReport.OfBook.Totals.{refused_count}
 use Rattle.ld_check.specs.OfReport.declared.verdict.Verdict.{Verdict}
 use Rattle.ld_origin.specs.Origin.{PlainHome, plain_home}

@@ -2,8 +2,8 @@
 use Rattle.std.proofs.Common.{◌∙◌, ◌++◌, ap, flat_map, map, rules, sym}
 use Rattle.std.specs.List.{list_any}
 use Rattle.ld_trace.specs.Sources.{plain}
-use Rattle.ld_select.proofs.KnownLemmas.{list_any-map}
-use Rattle.ld_select.specs.News.{new_report}
+use Rattle.ld_baseline.proofs.KnownLemmas.{list_any-map}
+use Rattle.ld_baseline.specs.News.{new_report}
 use Rattle.ld_texts.specs.ShownPlaces.{has_origin}
 use Rattle.lockgraph.specs.Comments.{comment_line}
 use Rattle.lockgraph.proofs.news.news_in.Goals as goal

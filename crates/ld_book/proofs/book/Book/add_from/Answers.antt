@@ -1,6 +1,6 @@
 use Rattle.std.proofs.Common.{◌≡◌, ◌++◌, ◌∙◌, Contains, Err, OnErr, OnOk, ap, false, subst, true}
 use Rattle.std.proofs.lemmas.List.Elements.{All-nil}
-use Rattle.ld_shown.specs.Batch.{PlainShown, shown_alone}
+use Rattle.ld_batch.specs.Batch.{PlainShown, shown_alone}
 use Rattle.ld_book.specs.Book.{is_any_listed}
 use Rattle.ld_book.specs.declared.book.AddRefusal.TheVariants.{Memory, Twice}
 use Rattle.ld_book.proofs.book.Book.add_from.Goals as goal

@@ -1,5 +1,5 @@
 use Rattle.std.proofs.Common.{◌≡◌, ◌++◌, ◌∙◌, All, Contains, Err, OnErr, OnOk, false, subst, sym, true}
-use Rattle.ld_shown.specs.Batch.{PlainShown}
+use Rattle.ld_batch.specs.Batch.{PlainShown}
 use Rattle.ld_book.specs.Book.{is_any_listed}
 use Rattle.ld_book.specs.declared.book.AddRefusal.TheVariants.{Memory, Twice}
 use Rattle.ld_book.proofs.book.Book.add_next.Goals as goal

@@ -4,8 +4,8 @@ use Rattle.ld_trace.specs.Sources.{Fits}
 use Rattle.ld_rules.specs.declared.outcome.TheConstants.{MOST_CLASSES}
 use Rattle.ld_rules.specs.Union.{union_classes}
 use Rattle.ld_facts.proofs.BatchLemmas.{few_sources}
-use Rattle.ld_shown.specs.Inner.Names.{AreThere}
-use Rattle.ld_shown.proofs.SinceLemmas.{fit-since, rise-since, there-behind}
+use Rattle.ld_batch.specs.Inner.Names.{AreThere}
+use Rattle.ld_batch.proofs.SinceLemmas.{fit-since, rise-since, there-behind}
 use Rattle.ld_book.specs.Book.{is_any_listed}
 use Rattle.ld_book.specs.Inner.Kept.{IsKept}
 use Rattle.ld_book.proofs.BookLemmas.{apart_from_rise, kept-added}

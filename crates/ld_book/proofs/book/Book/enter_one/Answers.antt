@@ -1,6 +1,6 @@
 use Rattle.std.proofs.Common.{◌≡◌, ◌++◌, ◌∙◌, Contains, OnOk, ap, subst}
 use Rattle.std.proofs.lemmas.List.Elements.{All-nil}
-use Rattle.ld_shown.specs.Batch.{PlainShown}
+use Rattle.ld_batch.specs.Batch.{PlainShown}
 use Rattle.ld_book.proofs.book.Book.enter_one.Goals as goal
 
 pub enter-entered-requires-clause-behind : goal.enter-entered-requires-clause-behind

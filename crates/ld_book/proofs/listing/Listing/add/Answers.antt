@@ -7,7 +7,7 @@ use Rattle.std.specs.List.{IsDistinct, list_any}
 use Rattle.ld_trace.specs.Sources.{Fits, plain}
 use Rattle.ld_rules.specs.declared.outcome.Listed.{Listed}
 use Rattle.ld_facts.specs.Outcome.{outcome}
-use Rattle.ld_shown.specs.Batch.{AreOutcomes, sources_of}
+use Rattle.ld_batch.specs.Batch.{AreOutcomes, sources_of}
 use Rattle.ld_book.specs.Book.{is_listed}
 use Rattle.ld_book.specs.Totals.{event_count, events_read, refused_count}
 use Rattle.ld_book.proofs.BoundLemmas.{events_fit}

@@ -1,7 +1,7 @@
 use Rattle.std.proofs.Common.{◌≡◌, ◌++◌, ◌∷◌, [], ◌∙◌, ap, append_assoc, arith, false, get_or, subst, sym, take}
 use Rattle.std.proofs.lemmas.List.{get_or-map, take_more}
 use Rattle.ld_trace.specs.Sources.{Fits, PlainSource, plain}
-use Rattle.ld_shown.specs.Batch.{sources_of}
+use Rattle.ld_batch.specs.Batch.{sources_of}
 use Rattle.ld_book.specs.Book.{is_listed}
 use Rattle.ld_book.proofs.ListedLemmas.{no_source, source_within}
 use Rattle.ld_book.proofs.ListingLemmas.{fresh_next}

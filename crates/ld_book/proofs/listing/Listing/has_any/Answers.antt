@@ -2,7 +2,7 @@ use Rattle.std.proofs.Common.{◌||◌, ◌∙◌, ap, sym}
 use Rattle.std.proofs.lemmas.List.{get_or-map}
 use Rattle.std.proofs.lemmas.List.Folds.{list_any_at, list_any_more}
 use Rattle.ld_trace.specs.Sources.{PlainSource, plain}
-use Rattle.ld_shown.specs.Batch.{sources_of}
+use Rattle.ld_batch.specs.Batch.{sources_of}
 use Rattle.ld_book.specs.Book.{is_listed}
 use Rattle.ld_book.proofs.ListedLemmas.{no_source, source_within}
 use Rattle.ld_book.proofs.listing.Listing.has_any.Goals as goal

@@ -1,5 +1,5 @@
 use Rattle.std.specs.Prelude.{◌≡◌, false, take}
-use Rattle.ld_shown.specs.Batch.{sources_of}
+use Rattle.ld_batch.specs.Batch.{sources_of}
 use Rattle.ld_book.specs.Book.{is_any_listed}
 use Rattle.ld_book.proofs.listing.Listing.has_any.Given as goal
 

@@ -4,7 +4,7 @@ use Rattle.ld_trace.specs.declared.source.TheConstants.{MOST_TRACES}
 use Rattle.std.specs.List.{IsDistinct}
 use Rattle.ld_trace.specs.Sources.{Fits, plain}
 use Rattle.ld_rules.specs.declared.outcome.Listed.{Listed}
-use Rattle.ld_shown.specs.Batch.{AreOutcomes, sources_of}
+use Rattle.ld_batch.specs.Batch.{AreOutcomes, sources_of}
 use Rattle.ld_book.specs.Book.{is_listed}
 use Rattle.ld_book.specs.Totals.{event_count, refused_count}
 use Rattle.ld_book.specs.declared.listing.Listing.TheInside.{Inside}

@@ -4,7 +4,7 @@ use Rattle.std.proofs.lemmas.List.Sorted.{All-permutation, IsPermutation-map}
 use Rattle.ld_trace.specs.Sources.{PlainSource, plain}
 use Rattle.ld_rules.specs.declared.outcome.Listed.{Listed}
 use Rattle.ld_facts.specs.Outcome.{outcome}
-use Rattle.ld_shown.specs.Batch.{sources_of}
+use Rattle.ld_batch.specs.Batch.{sources_of}
 use Rattle.ld_book.proofs.RisingLemmas.{rising_from_sorted}
 use Rattle.ld_book.proofs.traces.Traces.new.Goals as goal
 

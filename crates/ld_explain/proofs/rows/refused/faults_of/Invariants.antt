@@ -1,5 +1,5 @@
 use Rattle.std.specs.Prelude.{◌≡◌, map, take}
-use Rattle.ld_shown.specs.Batch.{sources_of}
+use Rattle.ld_batch.specs.Batch.{sources_of}
 use Rattle.ld_explain.specs.Faults.{fault_said}
 use Rattle.ld_explain.specs.Rows.{refusals}
 use Rattle.ld_explain.proofs.rows.refused.faults_of.Given as goal

@@ -4,10 +4,10 @@ use Rattle.ld_class.specs.declared.names.TheConstants.{MOST_NAMES}
 use Rattle.ld_class.specs.Names.{no_class}
 use Rattle.ld_facts.specs.Inner.Scan.{names_at}
 use Rattle.ld_facts.specs.Inner.Rows.{IsOwnEdge, IsOwnUse, IsOwnWord, edge_of, edges_at, word_of}
-use Rattle.ld_shown.proofs.NameLemmas.{longer_all}
+use Rattle.ld_batch.proofs.NameLemmas.{longer_all}
 use Rattle.ld_facts.proofs.RowLemmas.{as_many, edges_too, slice_is, told_rest, uses_too}
 use Rattle.ld_tables.specs.Inner.Edges.{edges_of}
-use Rattle.ld_shown.specs.declared.rows.WitnessedWord.{WitnessedWord}
+use Rattle.ld_batch.specs.declared.rows.WitnessedWord.{WitnessedWord}
 use Rattle.ld_facts.proofs.WordRowLemmas.{own-words, words-append, words-stay, words-told}
 use Rattle.ld_facts.proofs.batch_rows.BatchRows.add.Goals as goal
 

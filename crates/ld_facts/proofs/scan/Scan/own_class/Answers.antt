@@ -4,7 +4,7 @@ use Rattle.ld_class.specs.Names.{plain_class}
 use Rattle.ld_facts.specs.declared.scan.Scan.{Scan}
 use Rattle.ld_facts.specs.Inner.Scan.{names_at}
 use Rattle.ld_facts.proofs.OwnLemmas.{own-more, own-new, own-within}
-use Rattle.ld_shown.proofs.NameLemmas.{length-with_name}
+use Rattle.ld_batch.proofs.NameLemmas.{length-with_name}
 use Rattle.ld_facts.proofs.scan.Scan.own_class.Goals as goal
 
 pub add-requires : goal.add-requires

@@ -1,6 +1,6 @@
 use Rattle.std.proofs.Common.{ap, refl, subst, sym, ◌∙◌, None}
 use Rattle.std.specs.List.{last_or}
-use Rattle.ld_shown.specs.Batch.{IsShown, PlainShown, sources_of}
+use Rattle.ld_batch.specs.Batch.{IsShown, PlainShown, sources_of}
 use Rattle.ld_facts.proofs.ListedLemmas.{last_source}
 use Rattle.ld_facts.proofs.RowLemmas.{slice_is}
 use Rattle.ld_facts.proofs.SeriesLemmas.{series-exact}

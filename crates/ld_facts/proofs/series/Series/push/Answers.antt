@@ -5,7 +5,7 @@ use Rattle.ld_trace.specs.declared.source.TheConstants.{MOST_TRACES}
 use Rattle.ld_trace.specs.Sources.{plain}
 use Rattle.ld_rules.specs.declared.outcome.Listed.{Listed}
 use Rattle.ld_rules.specs.declared.outcome.TheConstants.{MOST_CLASSES}
-use Rattle.ld_shown.specs.Batch.{AreRising, PlainShown, sources_of}
+use Rattle.ld_batch.specs.Batch.{AreRising, PlainShown, sources_of}
 use Rattle.ld_facts.specs.declared.bounds.TheConstants.{MOST_KNOWN}
 use Rattle.ld_facts.proofs.BatchLemmas.{above_all, few_below, many-edges, many-uses}
 use Rattle.ld_facts.proofs.SeriesLemmas.{series-pushed, sources-split}

@@ -1,5 +1,5 @@
 use Rattle.std.proofs.Common.{subst}
-use Rattle.ld_shown.specs.Batch.{IsShown}
+use Rattle.ld_batch.specs.Batch.{IsShown}
 use Rattle.ld_facts.proofs.SeriesLemmas.{series-exact}
 use Rattle.ld_facts.proofs.series.Series.usage.Goals as goal
 

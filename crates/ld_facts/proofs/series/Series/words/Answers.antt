@@ -1,9 +1,9 @@
 use Rattle.std.proofs.Common.{All, ap, drop, refl, subst, sym, ◌∙◌}
 use Rattle.std.proofs.lemmas.List.Elements.{All-drop, All-weaker}
 use Rattle.ld_class.specs.Blocks.{IsBlock}
-use Rattle.ld_shown.specs.Batch.{IsShown, PlainShown}
-use Rattle.ld_shown.specs.Inner.Rows as lent
-use Rattle.ld_shown.specs.declared.rows.WitnessedWord.{WitnessedWord}
+use Rattle.ld_batch.specs.Batch.{IsShown, PlainShown}
+use Rattle.ld_batch.specs.Inner.Rows as lent
+use Rattle.ld_batch.specs.declared.rows.WitnessedWord.{WitnessedWord}
 use Rattle.ld_facts.specs.Inner.Rows.{IsOwnWord}
 use Rattle.ld_facts.proofs.RowLemmas.{slice_is}
 use Rattle.ld_facts.proofs.SeriesLemmas.{series-exact}

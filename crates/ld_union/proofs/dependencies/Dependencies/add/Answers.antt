@@ -2,11 +2,11 @@ use Rattle.std.proofs.Common.{◌≡◌, ◌+◌, ◌<◌, ◌≤◌, ◌++◌, 
 use Rattle.std.proofs.lemmas.List.{at_drop_more, drop_all}
 use Rattle.std.proofs.Math.ListN.{length-append}
 use Rattle.ld_class.specs.Names.{PlainClass}
-use Rattle.ld_shown.specs.declared.rows.WitnessedEdge.{WitnessedEdge}
-use Rattle.ld_shown.specs.declared.rows.WitnessedWord.{WitnessedWord}
-use Rattle.ld_shown.specs.Batch.{IsBetween, named_dependency}
-use Rattle.ld_shown.specs.Inner.Names.{AreThere}
-use Rattle.ld_shown.specs.Inner.Rows.{edges_in, edges_of}
+use Rattle.ld_batch.specs.declared.rows.WitnessedEdge.{WitnessedEdge}
+use Rattle.ld_batch.specs.declared.rows.WitnessedWord.{WitnessedWord}
+use Rattle.ld_batch.specs.Batch.{IsBetween, named_dependency}
+use Rattle.ld_batch.specs.Inner.Names.{AreThere}
+use Rattle.ld_batch.specs.Inner.Rows.{edges_in, edges_of}
 use Rattle.ld_union.specs.declared.dependencies.Dependencies.{Dependencies}
 use Rattle.ld_union.specs.Inner.Noted.{AreNoted, IsNoting}
 use Rattle.ld_union.specs.Inner.Union.{AreWitnessed, earlier_of}

@@ -1,5 +1,5 @@
 use Rattle.std.proofs.Common.{drop}
-use Rattle.ld_shown.specs.Inner.Rows as rows
+use Rattle.ld_batch.specs.Inner.Rows as rows
 use Rattle.ld_union.specs.Inner.Noted.{IsNoting}
 use Rattle.ld_union.proofs.dependencies.Dependencies.add.Given as goal
 

@@ -3,11 +3,11 @@ use Rattle.std.proofs.lemmas.List.Elements.{All-head}
 use Rattle.std.specs.Int.{trailing_zeros}
 use Rattle.ld_class.specs.Names.{PlainClass, no_class}
 use Rattle.ld_rules.specs.Dependency.{Dependency}
-use Rattle.ld_shown.specs.Batch.{IsBetween, named_dependency}
-use Rattle.ld_shown.specs.declared.rows.WitnessedEdge.{WitnessedEdge}
-use Rattle.ld_shown.specs.declared.rows.WitnessedWord.{WitnessedWord}
-use Rattle.ld_shown.specs.Inner.Rows.{edges_in}
-use Rattle.ld_shown.proofs.EdgeLemmas.{but_lowest, edge_by, edges-first, edges-none, many-in, with_bits}
+use Rattle.ld_batch.specs.Batch.{IsBetween, named_dependency}
+use Rattle.ld_batch.specs.declared.rows.WitnessedEdge.{WitnessedEdge}
+use Rattle.ld_batch.specs.declared.rows.WitnessedWord.{WitnessedWord}
+use Rattle.ld_batch.specs.Inner.Rows.{edges_in}
+use Rattle.ld_batch.proofs.EdgeLemmas.{but_lowest, edge_by, edges-first, edges-none, many-in, with_bits}
 use Rattle.ld_union.specs.declared.dependencies.Dependencies.{Dependencies}
 use Rattle.ld_union.specs.Inner.Noted.{AreNoted, IsNoting}
 use Rattle.ld_union.specs.Inner.Union.{AreWitnessed, with_seen}

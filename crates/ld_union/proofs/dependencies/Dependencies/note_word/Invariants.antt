@@ -1,7 +1,7 @@
 use Rattle.std.proofs.Common.{length}
 use Rattle.ld_class.specs.Blocks.{bits_on}
-use Rattle.ld_shown.specs.Inner.Rows.{edges_in}
-use Rattle.ld_shown.proofs.EdgeLemmas.{with_bits}
+use Rattle.ld_batch.specs.Inner.Rows.{edges_in}
+use Rattle.ld_batch.proofs.EdgeLemmas.{with_bits}
 use Rattle.ld_union.specs.Inner.Noted.{IsNoting}
 use Rattle.ld_union.proofs.dependencies.Dependencies.note_word.Given as goal
 

@@ -3,7 +3,7 @@ use Rattle.std.proofs.lemmas.List.{get_or_read}
 use Rattle.ld_graph.specs.Edges.{IsEdgeNumber}
 use Rattle.ld_rules.specs.Union.{earlier}
 use Rattle.ld_union.specs.declared.dependencies.Witnessed.{Witnessed}
-use Rattle.ld_shown.proofs.EarlierLemmas.{earlier-lower}
+use Rattle.ld_batch.proofs.EarlierLemmas.{earlier-lower}
 use Rattle.ld_union.proofs.UnionLemmas.{edges-set, found_row, witnessed-set}
 use Rattle.ld_union.proofs.dependencies.Dependencies.see.Goals as goal
 

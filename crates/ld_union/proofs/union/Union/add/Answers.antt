@@ -10,9 +10,9 @@ use Rattle.ld_rules.specs.Union.{union_classes, use_witness}
 use Rattle.ld_union.specs.declared.dependencies.Witnessed.{Witnessed}
 use Rattle.ld_union.specs.declared.news.NewBit.{NewBit}
 use Rattle.ld_union.specs.declared.usage.UsageRow.{UsageRow}
-use Rattle.ld_shown.specs.Batch.{first_since}
-use Rattle.ld_shown.specs.Inner.Names.{AreThere, IsLonger, with_names}
-use Rattle.ld_shown.proofs.SinceLemmas.{front-since, least-since}
+use Rattle.ld_batch.specs.Batch.{first_since}
+use Rattle.ld_batch.specs.Inner.Names.{AreThere, IsLonger, with_names}
+use Rattle.ld_batch.proofs.SinceLemmas.{front-since, least-since}
 use Rattle.ld_union.specs.Inner.News.{Tells, TellsBits}
 use Rattle.ld_union.specs.Inner.Reached.{AreFurther, ExpandsOnce, IsReachOf, IsSeeded, expanded_by, marks_by, reached_by}
 use Rattle.ld_union.specs.Inner.States.{of_state}

@@ -1,6 +1,6 @@
 use Rattle.std.proofs.Common.{◌++◌, ◌∙◌, List, ap, sym}
 use Rattle.ld_trace.specs.Sources.{PlainSource}
-use Rattle.ld_shown.specs.Batch.{PlainBatch}
+use Rattle.ld_batch.specs.Batch.{PlainBatch}
 use Rattle.ld_work.proofs.SeenLemmas.{noted, on-ok, still-kept}
 use Rattle.ld_work.proofs.kept.Kept.submit_from.Goals as goal
 

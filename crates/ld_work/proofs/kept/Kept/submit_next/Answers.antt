@@ -1,6 +1,6 @@
 use Rattle.std.proofs.Common.{◌++◌, ◌∙◌, List, ap, sym}
 use Rattle.ld_trace.specs.Sources.{PlainSource}
-use Rattle.ld_shown.specs.Batch.{PlainShown}
+use Rattle.ld_batch.specs.Batch.{PlainShown}
 use Rattle.ld_work.specs.Inner.Seen.{numbers_of}
 use Rattle.ld_work.proofs.SeenLemmas.{front-all, front-is, none-ok, noted, on-ok, seen-kept, seen-through, some-kept, some-ok, still-kept}
 use Rattle.ld_work.proofs.kept.Kept.submit_next.Goals as goal

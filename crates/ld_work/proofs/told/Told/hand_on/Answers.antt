@@ -1,7 +1,7 @@
 use Rattle.std.proofs.Common.{◌≡◌, ◌⊎◌, inl, ◌++◌, ◌∙◌, [], All, subst, sym}
 use Rattle.std.proofs.lemmas.List.Elements.{All-nil}
 use Rattle.std.specs.List.{Contains}
-use Rattle.ld_shown.specs.Batch.{PlainShown, nothing_shown}
+use Rattle.ld_batch.specs.Batch.{PlainShown, nothing_shown}
 use Rattle.ld_work.specs.Inner.Seen.{numbers_of}
 use Rattle.ld_work.proofs.SeenLemmas.{told-on}
 use Rattle.ld_work.proofs.told.Told.hand_on.Goals as goal

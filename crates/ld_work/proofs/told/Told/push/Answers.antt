@@ -2,7 +2,7 @@ use Rattle.std.proofs.Common.{All, List, subst, sym}
 use Rattle.std.proofs.lemmas.List.Elements.{All-push}
 use Rattle.std.specs.List.{Contains}
 use Rattle.ld_trace.specs.Sources.{PlainSource}
-use Rattle.ld_shown.specs.Batch.{PlainShown}
+use Rattle.ld_batch.specs.Batch.{PlainShown}
 use Rattle.ld_work.specs.Inner.Seen.{numbers_of}
 use Rattle.ld_work.proofs.told.Told.push.Goals as goal
 
