@@ -15,9 +15,9 @@ ghost use Rattle.ld_union.specs.Usage.{bits, bits_of, row_of};
 
 use crate::news::NewBit;
 use bitflags::Flags;
+use ld_batch::{Guesses, Shown, place_in};
 use ld_class::{Classes, Usage};
 use ld_rules::Witness;
-use ld_batch::{Guesses, Shown, place_in};
 
 /// The usage of a class, over all traces.
 #[derive(Clone, Copy, Debug, PartialEq, Eq)]

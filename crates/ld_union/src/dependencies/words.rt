@@ -11,9 +11,9 @@ ghost use Rattle.ld_union.specs.Inner.Noted.{AreNoted};
 ghost use Rattle.ld_union.specs.Inner.Union.{AreBetween, AreWitnessed, with_first};
 
 use super::Dependencies;
+use ld_batch::{Guesses, Shown, WitnessedWord, Words, place_in};
 use ld_class::{ClassList, Classes};
 use ld_graph::Edge;
-use ld_batch::{Guesses, Shown, WitnessedWord, Words, place_in};
 
 impl Dependencies {
     /// Notes the dependencies of a batch whose classes are among these names, each where it was seen first: those that
