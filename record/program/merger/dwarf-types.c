@@ -39,10 +39,12 @@ static void write_path(const struct debug *debug, const struct entry *wanted, ch
     }
 }
 
-static struct type_name *slot_of(struct type_name *names, size_t room, uint64_t at)
+static void *slot_of(void *all, size_t room, const void *element)
 {
-    size_t slot = at * UINT64_C(0x9e3779b97f4a7c15) >> 20;
-    for (slot %= room; names[slot].text && names[slot].at != at; slot = (slot + 1) % room)
+    struct type_name *names = all;
+    const struct type_name *wanted = element;
+    size_t slot = wanted->at * UINT64_C(0x9e3779b97f4a7c15) >> 20;
+    for (slot %= room; names[slot].text && names[slot].at != wanted->at; slot = (slot + 1) % room)
         continue;
     return &names[slot];
 }
@@ -51,17 +53,8 @@ static struct type_name *slot_of(struct type_name *names, size_t room, uint64_t 
 const char *qualified_name(struct debug *debug, const struct entry *type)
 {
     char text[NAME_BYTES] = "";
-    if (2 * debug->name_count >= debug->name_room) {
-        size_t room = debug->name_room ? 2 * debug->name_room : 256;
-        struct type_name *names = must(calloc(room, sizeof *names));
-        for (size_t slot = 0; slot < debug->name_room; slot++)
-            if (debug->names[slot].text)
-                *slot_of(names, room, debug->names[slot].at) = debug->names[slot];
-        free(debug->names);
-        debug->names = names;
-        debug->name_room = room;
-    }
-    struct type_name *slot = slot_of(debug->names, debug->name_room, type->at);
+    debug->names = grown_table(debug->names, debug->name_count, &debug->name_room, sizeof *debug->names, slot_of);
+    struct type_name *slot = slot_of(debug->names, debug->name_room, &(struct type_name){.at = type->at});
     if (!slot->text) {
         struct entry declared;
         bool is_elsewhere = type->origin && entry_at(debug, type->origin, &declared);

@@ -33,6 +33,32 @@ void *grown(void *all, size_t count, size_t *room, size_t size)
     return must(realloc(all, *room * size));
 }
 
+static bool is_in_use(const char *slot, size_t size)
+{
+    for (size_t byte = 0; byte < size; byte++)
+        if (slot[byte])
+            return true;
+    return false;
+}
+
+/* Gives a table by a checksum room for one more, so that at most half of its slots are in use. A slot of zeros is
+   free. `slot_of` gives the slot of an element, or a free one for it. */
+void *grown_table(void *all, size_t count, size_t *room, size_t size, slot_of_element *slot_of)
+{
+    if (2 * count < *room)
+        return all;
+    size_t twice = *room ? 2 * *room : 256;
+    char *slots = must(calloc(twice, size));
+    for (size_t slot = 0; slot < *room; slot++) {
+        const char *old = (const char *)all + slot * size;
+        if (is_in_use(old, size))
+            memcpy(slot_of(slots, twice, old), old, size);
+    }
+    free(all);
+    *room = twice;
+    return slots;
+}
+
 /* Gives a path without its directories. */
 const char *base_of(const char *path)
 {

@@ -19,35 +19,24 @@ struct order {
 static struct order *orders; /* by a checksum */
 static size_t order_count, order_room;
 
-static struct order *slot_of(struct order *all, size_t room, const struct order *wanted)
+static void *slot_of(void *all, size_t room, const void *element)
 {
+    struct order *slots = all;
+    const struct order *wanted = element;
     uint64_t sum = ((uintptr_t)wanted->class / 16 + wanted->outer * 31) * UINT64_C(0x9e3779b97f4a7c15);
     size_t slot = ((sum ^ wanted->inner) * UINT64_C(0x9e3779b97f4a7c15) >> 20) % room;
-    for (; all[slot].class; slot = (slot + 1) % room)
-        if (all[slot].class == wanted->class && all[slot].outer == wanted->outer &&
-            all[slot].inner == wanted->inner)
+    for (; slots[slot].class; slot = (slot + 1) % room)
+        if (slots[slot].class == wanted->class && slots[slot].outer == wanted->outer &&
+            slots[slot].inner == wanted->inner)
             break;
-    return &all[slot];
-}
-
-static void grow_orders(void)
-{
-    size_t room = order_room ? 2 * order_room : 256;
-    struct order *all = must(calloc(room, sizeof *all));
-    for (size_t slot = 0; slot < order_room; slot++)
-        if (orders[slot].class)
-            *slot_of(all, room, &orders[slot]) = orders[slot];
-    free(orders);
-    orders = all;
-    order_room = room;
+    return &slots[slot];
 }
 
 /* Notes that a lock was acquired while another one of its class, or itself, was held. */
 void note_order(const struct lock *outer, const struct lock *inner)
 {
     struct order order = {inner->class, outer->instance, inner->instance, 0, inner->address > outer->address};
-    if (2 * order_count >= order_room)
-        grow_orders();
+    orders = grown_table(orders, order_count, &order_room, sizeof *orders, slot_of);
     struct order *slot = slot_of(orders, order_room, &order);
     if (!slot->class) {
         *slot = order;

@@ -188,27 +188,20 @@ static const struct member *look_at_frames(struct search *search, const struct m
     return search->alone.type ? &search->alone : NULL;
 }
 
-static struct known *slot_of(struct known *all, size_t room, uint64_t calls)
+static void *slot_of(void *all, size_t room, const void *element)
 {
-    size_t slot = (calls >> 20) % room;
-    while (all[slot].calls && all[slot].calls != calls)
+    struct known *slots = all;
+    const struct known *wanted = element;
+    size_t slot = (wanted->calls >> 20) % room;
+    while (slots[slot].calls && slots[slot].calls != wanted->calls)
         slot = (slot + 1) % room;
-    return &all[slot];
+    return &slots[slot];
 }
 
 static struct known *known_at(uint64_t calls)
 {
-    if (2 * known_count >= known_room) {
-        size_t room = known_room ? 2 * known_room : 256;
-        struct known *all = must(calloc(room, sizeof *all));
-        for (size_t slot = 0; slot < known_room; slot++)
-            if (known[slot].calls)
-                *slot_of(all, room, known[slot].calls) = known[slot];
-        free(known);
-        known = all;
-        known_room = room;
-    }
-    struct known *slot = slot_of(known, known_room, calls);
+    known = grown_table(known, known_count, &known_room, sizeof *known, slot_of);
+    struct known *slot = slot_of(known, known_room, &(struct known){.calls = calls});
     known_count += slot->calls == 0;
     slot->calls = calls;
     return slot;

@@ -215,6 +215,8 @@ int read_settings(int count, char **words);
 __attribute__((format(printf, 1, 2))) void say(const char *format, ...);
 void *must(void *memory);
 void *grown(void *all, size_t count, size_t *room, size_t size);
+typedef void *slot_of_element(void *all, size_t room, const void *element);
+void *grown_table(void *all, size_t count, size_t *room, size_t size, slot_of_element *slot_of);
 const char *base_of(const char *path);
 const char *text_in(struct bytes bytes, uint64_t offset);
 uint32_t checksum(const char *text);

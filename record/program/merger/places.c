@@ -162,26 +162,15 @@ void name_place(char *text, size_t size, uint32_t place)
         snprintf(text, size, "at a place that isn't known");
 }
 
-static struct taken *slot_of_taken(struct taken *all, size_t room, const struct class *class,
-                                   uint32_t place)
+static void *slot_of_taken(void *all, size_t room, const void *element)
 {
-    size_t slot = ((uintptr_t)class / 16 * 31 + place) * UINT64_C(0x9e3779b97f4a7c15) >> 20;
-    for (slot %= room; all[slot].class; slot = (slot + 1) % room)
-        if (all[slot].class == class && all[slot].place == place)
+    struct taken *slots = all;
+    const struct taken *wanted = element;
+    size_t slot = ((uintptr_t)wanted->class / 16 * 31 + wanted->place) * UINT64_C(0x9e3779b97f4a7c15) >> 20;
+    for (slot %= room; slots[slot].class; slot = (slot + 1) % room)
+        if (slots[slot].class == wanted->class && slots[slot].place == wanted->place)
             break;
-    return &all[slot];
-}
-
-static void grow_taken(void)
-{
-    size_t room = taken_room ? 2 * taken_room : 1024;
-    struct taken *all = must(calloc(room, sizeof *all));
-    for (size_t slot = 0; slot < taken_room; slot++)
-        if (taken[slot].class)
-            *slot_of_taken(all, room, taken[slot].class, taken[slot].place) = taken[slot];
-    free(taken);
-    taken = all;
-    taken_room = room;
+    return &slots[slot];
 }
 
 /* Says that a line of the stream was written, and the place at which it takes a lock of a class. */
@@ -197,9 +186,9 @@ void end_line(uint32_t place, const struct class *class)
     places[place - 1].is_used = true;
     place = places[place - 1].plain;
     places[place - 1].is_used = true;
-    if (2 * taken_count >= taken_room)
-        grow_taken();
-    struct taken *slot = slot_of_taken(taken, taken_room, class, place);
+    taken = grown_table(taken, taken_count, &taken_room, sizeof *taken, slot_of_taken);
+    struct taken wanted = {class, place, 0};
+    struct taken *slot = slot_of_taken(taken, taken_room, &wanted);
     taken_count += slot->class == NULL;
     *slot = (struct taken){class, place, slot->count + 1};
 }
