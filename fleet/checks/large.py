@@ -1,9 +1,9 @@
 """Streams of together more than 2 GiB, in one call of `lockgraph reduce`."""
 import os
-import resource
 import subprocess
+import time
 
-from rooms import must, program, read
+from rooms import must, program, read, say
 
 LARGE = 2000
 MIB = 1 << 20
@@ -13,6 +13,8 @@ LONGEST = 2048 * MIB
 FILES, SIZE, GROUP = 25, 100 * MIB, 256 * MIB
 # All pairs of so many classes.
 CLASSES = 40
+# So many traces are written at once.
+BATCH = 100
 
 
 def nested(names):
@@ -31,15 +33,16 @@ def put_large(room):
     with open(path, "w", encoding="ascii") as file:
         number = 0
         while file.tell() < SIZE:
-            file.write("".join(f"trace m-{number + it}\n{lines}" for it in range(100)))
-            number += 100
+            file.write("".join(f"trace m-{number + it}\n{lines}" for it in range(BATCH)))
+            number += BATCH
     for at in range(1, FILES):
         os.link(path, room.path("large", f"m{at:02}.trace"))
     return os.path.getsize(path)
 
 
 def check_large(room, count):
-    """More than 2 GiB in one call: what is left of all files together, in the memory of a group and one file."""
+    """More than 2 GiB in one call: the right traces are left, and memory holds a group and one file, be it that each
+    is copied once as it grows."""
     if count < LARGE:
         return f"{FILES} files of {SIZE // MIB} MiB are read with --large alone"
     room.write("large/first.trace", "trace first\nacquire t A\nacquire t B\n")
@@ -47,11 +50,9 @@ def check_large(room, count):
     size = put_large(room)
     must(size * FILES > LONGEST, "large: the files have too few bytes")
     names = ["first.trace", *[f"m{it:02}.trace" for it in range(FILES)], "last.trace"]
-    with open(room.path("left"), "wb") as out:
-        process = subprocess.Popen(
-            [program("lockgraph"), "reduce", "--from", *names], cwd=room.path("large"), stdout=out
-        )
-        _, status, used = os.wait4(process.pid, 0)
+    began = time.monotonic()
+    status, memory = measured(names, room.path("large"), room.path("left"))
+    took = time.monotonic() - began
     must(status == 0, f"large: status {status}")
     left = (
         "trace first\n# from first.trace 1\nacquire t A\nacquire t B\n"
@@ -59,4 +60,16 @@ def check_large(room, count):
         "trace last\n# from last.trace 1\nacquire t B\nacquire t A\n"
     )
     must(read(room.path("left")).decode() == left, "large: another stream is left")
-    return used
+    must(memory <= 2 * (GROUP + size), f"large: it took {memory // MIB} MiB of memory")
+    say(f"large: {size * FILES // MIB} MiB in files of {size // MIB} MiB took {took:.0f} s and {memory // MIB} MiB of memory")
+    return None
+
+
+def measured(names, folder, target):
+    """How one call of `lockgraph reduce` ends, and how many bytes of memory it has had at most."""
+    with open(target, "wb") as out:
+        command = [program("lockgraph"), "reduce", "--from", *names]
+        process = subprocess.Popen(command, cwd=folder, stdin=subprocess.DEVNULL, stdout=out)
+    _, status, used = os.wait4(process.pid, 0)
+    process.returncode = os.waitstatus_to_exitcode(status)
+    return process.returncode, used.ru_maxrss * 1024
