@@ -83,7 +83,11 @@ def parser_of(name, about, example):
     parser = argparse.ArgumentParser(
         prog=name, description=f"{about}\n{ABOUT}\n  {example}\n", formatter_class=argparse.RawDescriptionHelpFormatter
     )
-    parser.add_argument("folder", metavar="FOLDER", help="the folder of the streams: all files NAME.trace below it, and compressed ones")
+    parser.add_argument(
+        "folder",
+        metavar="FOLDER",
+        help="the folder of the streams: all files NAME.trace below it, and compressed ones, as NAME.trace.gz",
+    )
     parser.add_argument("night", metavar="NIGHT", help="the folder of what is made of them; not below FOLDER")
     parser.add_argument(
         "--list",
@@ -199,8 +203,8 @@ class Driver:
 
     def map(self):
         """Goes round until no stream is missing, or nothing gets done any more."""
-        limit = str(self.words.limit)
-        command = [os.path.join(HERE, "map"), "--counted", "--limit", limit, "--folder", self.night.folder, self.night.path]
+        options = ["--counted", "--limit", str(self.words.limit), "--folder", self.night.folder]
+        command = [os.path.join(HERE, "map"), *options, self.night.path]
         number = idle = 0
         missing = self.missing()
         while missing and idle < ROUNDS:

@@ -61,7 +61,8 @@ def check_large(room, count):
     )
     must(read(room.path("left")).decode() == left, "large: another stream is left")
     must(memory <= 2 * (GROUP + size), f"large: it took {memory // MIB} MiB of memory")
-    say(f"large: {size * FILES // MIB} MiB in files of {size // MIB} MiB took {took:.0f} s and {memory // MIB} MiB of memory")
+    of = f"{size * FILES // MIB} MiB in files of {size // MIB} MiB"
+    say(f"large: {of} took {took:.0f} s and {memory // MIB} MiB of memory")
     return None
 
 

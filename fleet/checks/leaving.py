@@ -67,7 +67,8 @@ def check_packed(room, _count):
     said = night(streams, target, status=1, line=line)
     found = read(target, "night.trace").decode()
     must(found == "".join(left), f"packed: left is\n{found}\n{said}")
-    faulty = [it.partition(": it can't be decompressed")[0] for it in read(target, "night.faulty").decode().splitlines()]
+    told = read(target, "night.faulty").decode().splitlines()
+    faulty = [it.partition(": it can't be decompressed")[0] for it in told]
     cut = [f"cut{number}.trace{ending}" for number, ending in enumerate(PACKERS)]
     headless = [
         f"lockgraph: headless{number}.trace{ending}:1: NoHeader: no header, as \"trace LABEL\", stands before"
