@@ -9,7 +9,7 @@ import traceback
 
 from joining import GROUP, LARGEST_GROUP, MIB, Tree, keep_before
 from nights import STREAM, Found, Night, Wrong, found_below, list_of, names_in, read, shown
-from reducing import LIMIT, ROOT, Reducer, limit_of, program
+from reducing import LIMIT, ROOT, Reducer, program, seconds
 from summing import Summary
 
 HERE = os.path.join(ROOT, "fleet")
@@ -113,7 +113,7 @@ def parser_of(name, about, example):
     parser.add_argument(
         "--limit",
         metavar="SECONDS",
-        type=limit_of,
+        type=seconds,
         default=LIMIT,
         help="how long lockgraph may take for a stream until it is ended; %(default)s without it",
     )

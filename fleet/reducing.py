@@ -47,12 +47,12 @@ def count_traces(path):
         return sum(1 for _ in HEADER.finditer(data))
 
 
-def limit_of(word):
+def seconds(word):
     """A limit of time as a word gives it."""
-    seconds = float(word)
-    if not 0 < seconds <= 1_000_000:
+    number = float(word)
+    if not 0 < number <= 1_000_000:
         raise ValueError
-    return seconds
+    return number
 
 
 class Reducer:
@@ -92,15 +92,15 @@ class Reducer:
 
 
 @contextlib.contextmanager
-def ended_after(process, seconds):
-    """Ends a process if it takes longer, and notes that it did."""
+def ended_after(process, limit):
+    """Ends a process if it takes longer than so many seconds, and notes that it did."""
     is_late = threading.Event()
 
     def end():
         is_late.set()
         process.kill()
 
-    timer = threading.Timer(seconds, end) if seconds else None
+    timer = threading.Timer(limit, end) if limit else None
     try:
         if timer:
             timer.start()
