@@ -117,7 +117,7 @@ def check_cut(room, _count):
         room.write(f"short/{name}", read(streams, name) if faulty else cut.stdout)
     night(short, room.path("night"), status=1, line=planted.summary(SMALL))
     left = re.findall(rb"(?m)^trace \S+\.2\n# from (\S+) \d+$", read(room.path("night"), "night.trace"))
-    must(left and all(it.startswith(b"rack") for it in left), f"cut: pieces come from elsewhere, or none is left: {left}")
+    must(left and all(it.startswith(b"rack") for it in left), f"cut: no piece is left, or of other streams: {left}")
     found = kinds(read(room.path("night"), "night.report"))
     must(found == planted.violations(SMALL), f"cut: other violations than those that were planted: {found}")
 
