@@ -163,7 +163,7 @@ class Driver:
             return Found(names_in(read(self.words.list)), {}, [])
         found = found_below(self.night.folder, self.night.path)
         for it, why in found.unread.items():
-            self.say(f"{shown(it)}: {why}: this folder can't be read, so its streams are left")
+            self.say(f"{shown(it)}: this folder can't be read, so its streams are left: {why}")
         if found.others:
             more = f", and {len(found.others) - 1} more" if len(found.others) > 1 else ""
             self.say(f"not read, since its name doesn't end with {STREAM}: {shown(found.others[0])}{more}")
