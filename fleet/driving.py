@@ -9,7 +9,7 @@ import traceback
 
 from joining import GROUP, LARGEST_GROUP, MIB, Tree, keep_before
 from nights import STREAM, Found, Night, Wrong, found_below, list_of, names_in, read, shown
-from reducing import ROOT, Reducer, program
+from reducing import LIMIT, ROOT, Reducer, program, seconds
 from summing import Summary
 
 HERE = os.path.join(ROOT, "fleet")
@@ -30,7 +30,7 @@ Standard output and NIGHT/night.summary have one line at the end:
   reduced     streams of which traces are left
   empty       streams of which no trace is left, since their traces show nothing
   faulty      streams at fault: NIGHT/night.faulty says what is wrong with each
-  left        streams without a result yet, and folders that can't be read: NIGHT/night.left names them
+  left        streams without a result yet, and folders that can't be read: NIGHT/night.left says why of each
   refused     refused traces: NIGHT/night.refused has the number for each stream
   violations  violations in NIGHT/night.report, the report of all streams
   new         those of them in NIGHT/night.new
@@ -83,7 +83,11 @@ def parser_of(name, about, example):
     parser = argparse.ArgumentParser(
         prog=name, description=f"{about}\n{ABOUT}\n  {example}\n", formatter_class=argparse.RawDescriptionHelpFormatter
     )
-    parser.add_argument("folder", metavar="FOLDER", help="the folder of the streams: all files NAME.trace below it")
+    parser.add_argument(
+        "folder",
+        metavar="FOLDER",
+        help="the folder of the streams: all files NAME.trace below it, and compressed ones, as NAME.trace.gz",
+    )
     parser.add_argument("night", metavar="NIGHT", help="the folder of what is made of them; not below FOLDER")
     parser.add_argument(
         "--list",
@@ -106,6 +110,13 @@ def parser_of(name, about, example):
         help="how many MiB are joined at once, at most, below 1024; %(default)g without it",
     )
     parser.add_argument("--each", metavar="N", type=int, help="how many streams a task has, at most")
+    parser.add_argument(
+        "--limit",
+        metavar="SECONDS",
+        type=seconds,
+        default=LIMIT,
+        help="how long lockgraph may take for a stream until it is ended; %(default)s without it",
+    )
     return parser
 
 
@@ -120,7 +131,7 @@ class Driver:
             os.environ[it.upper()] = program(it)
         self.night = Night(words.night, words.folder)
         self.group = int(words.group * MIB)
-        self.names, self.unread = [], []
+        self.names, self.unread = [], {}
 
     def begin(self):
         """Makes the folder of the night, and writes which streams it is of."""
@@ -149,10 +160,10 @@ class Driver:
     def find(self):
         """What is below the folder, or in the list. What is no stream is told."""
         if self.words.list:
-            return Found(names_in(read(self.words.list)), [], [])
+            return Found(names_in(read(self.words.list)), {}, [])
         found = found_below(self.night.folder, self.night.path)
-        for it in found.unread:
-            self.say(f"{shown(it)}: this folder can't be read, so its streams are left")
+        for it, why in found.unread.items():
+            self.say(f"{shown(it)}: this folder can't be read, so its streams are left: {why}")
         if found.others:
             more = f", and {len(found.others) - 1} more" if len(found.others) > 1 else ""
             self.say(f"not read, since its name doesn't end with {STREAM}: {shown(found.others[0])}{more}")
@@ -192,12 +203,14 @@ class Driver:
 
     def map(self):
         """Goes round until no stream is missing, or nothing gets done any more."""
-        command = [os.path.join(HERE, "map"), "--counted", "--folder", self.night.folder, self.night.path]
+        options = ["--counted", "--limit", str(self.words.limit), "--folder", self.night.folder]
+        command = [os.path.join(HERE, "map"), *options, self.night.path]
         number = idle = 0
         missing = self.missing()
         while missing and idle < ROUNDS:
             if number > 0:
                 self.say(f"round {number + 1}: {len(missing)} streams are missing")
+            self.night.forget_reasons()
             lists = self.lists_of(missing, number)
             self.engine.start(command, lists, self.join_command())
             self.wait(lambda: min(sum(self.night.count_made()), len(self.names)))
@@ -225,7 +238,8 @@ class Driver:
     def run(self):
         self.begin()
         self.say(f"{len(self.names)} streams, {len(self.missing())} of them to be reduced")
-        left = self.map() + self.unread
+        left = {it: self.night.reason(it) for it in self.map()}
+        left.update(self.unread)
         tree = self.join()
         known = self.words.known or (self.words.before and os.path.join(self.words.before, "night.report"))
         summary = Summary(self.night, self.names, left, tree, known)

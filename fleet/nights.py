@@ -5,6 +5,7 @@ A night is of the streams below one folder, each named by its path there. In the
   streams        the names of the streams, each ended by a NUL
   map/           of each stream NAME.counts with NAME.reduced or NAME.faulty; NAME is its path in percent-encoding
   join/          the same of joined streams, each named by what it was joined of
+  left/          of each stream that a task has left NAME, which says why
   lists/, logs/  what the tasks of a cluster read and say
   night.trace    what is left of all streams, as one stream
 
@@ -21,7 +22,9 @@ import sys
 import urllib.parse
 from typing import NamedTuple
 
-STREAM = ".trace"
+# How the names of streams end: those of compressed ones have another ending behind the first.
+STREAM, PACKED = ".trace", (".gz", ".xz", ".bz2")
+STREAMS = (STREAM, *[STREAM + it for it in PACKED])
 REDUCED, COUNTS, FAULTY = ".reduced", ".counts", ".faulty"
 # How the name of a file ends that isn't whole: it is NAME%%HOST.PID.CHANCE.part.
 PART = ".part"
@@ -67,10 +70,11 @@ def plain(name):
 
 
 class Found(NamedTuple):
-    """What is below a folder, each as a path from there: streams, folders that can't be read, and other files."""
+    """What is below a folder, each as a path from there: streams; folders that can't be read, with the reason of each;
+    and other files."""
 
     streams: list
-    unread: list
+    unread: dict
     others: list
 
 
@@ -89,12 +93,13 @@ def found_below(folder, night):
     if errors and errors[0].filename == folder:
         raise errors[0]
     files.sort(key=os.fsencode)
-    others = [it for it in files if not it.endswith(STREAM)]
-    nowhere = {it for it in others if not os.path.exists(os.path.join(folder, it))}
+    others = [it for it in files if not it.endswith(STREAMS)]
+    unread = {os.path.relpath(it.filename, folder): it.strerror for it in errors}
+    unread.update({it: "it leads nowhere" for it in others if not os.path.exists(os.path.join(folder, it))})
     return Found(
-        [it for it in files if it.endswith(STREAM)],
-        sorted([os.path.relpath(it.filename, folder) for it in errors] + list(nowhere)),
-        [it for it in others if it not in nowhere],
+        [it for it in files if it.endswith(STREAMS)],
+        dict(sorted(unread.items())),
+        [it for it in others if it not in unread],
     )
 
 
@@ -173,7 +178,7 @@ class Night:
         return os.path.join(self.path, *names)
 
     def make(self):
-        for name in ("map", "join", "lists", "logs"):
+        for name in ("map", "join", "left", "lists", "logs"):
             os.makedirs(self.file(name), exist_ok=True)
 
     def stream(self, name):
@@ -211,6 +216,24 @@ class Night:
         for ending in (REDUCED, FAULTY, COUNTS):
             with contextlib.suppress(FileNotFoundError):
                 os.unlink(self.result(name, ending))
+
+    def put_reason(self, name, why):
+        """Writes why a task leaves a stream, if there is room."""
+        with contextlib.suppress(OSError), whole(self.file("left", encoded(name)), is_synced=False) as file:
+            file.write(why.encode())
+
+    def reason(self, name):
+        """Why a task has left a stream: if it wrote nothing, it was killed, or the disk is full."""
+        with contextlib.suppress(OSError):
+            return read(self.file("left", encoded(name))).decode()
+        return "no task has said why"
+
+    def forget_reasons(self):
+        with os.scandir(self.file("left")) as files:
+            paths = [it.path for it in files]
+        for path in paths:
+            with contextlib.suppress(FileNotFoundError):
+                os.unlink(path)
 
     def endings(self, names):
         return {it: self.ending(it) for it in names}

@@ -1,12 +1,15 @@
 """What is left of a stream, or of several that are joined: runs `lockgraph reduce`, and tells a stream that is at fault
 from a call that may do better another time."""
+import contextlib
 import mmap
 import os
 import re
 import shutil
 import subprocess
+import threading
 
 from nights import COUNTS, FAULTY, REDUCED, Counts, Wrong, is_counted, is_regular, shown, stamp_of, whole
+from packing import Broken, Missing, feed_unpacked, folder_of_input, is_packed
 
 ROOT = os.path.dirname(os.path.dirname(os.path.realpath(__file__)))
 # `lockgraph reduce` ends with 2 for each fault, and only these are the stream's own: what it lacks memory or room for,
@@ -14,6 +17,8 @@ ROOT = os.path.dirname(os.path.dirname(os.path.realpath(__file__)))
 OF_STREAM = re.compile(rb"\b(NoHeader: .*|BadHeader|NoTrace|TooManyTraces|TooLong)\n\Z")
 REFUSED_LEFT_OUT = 3
 HEADER = re.compile(rb"^[ \t]*trace[ \t]", re.M)
+# So many seconds may lockgraph take for a stream: one of 2 GiB takes some 15.
+LIMIT = 1200
 
 
 class Faulty(Exception):
@@ -42,10 +47,19 @@ def count_traces(path):
         return sum(1 for _ in HEADER.finditer(data))
 
 
-class Reducer:
-    """`lockgraph reduce` with so many workers."""
+def seconds(word):
+    """A limit of time as a word gives it."""
+    number = float(word)
+    if not 0 < number <= 1_000_000:
+        raise ValueError
+    return number
 
-    def __init__(self, workers):
+
+class Reducer:
+    """`lockgraph reduce` with so many workers, which may take so many seconds for a stream if there is a limit."""
+
+    def __init__(self, workers, limit=None):
+        self.limit = limit
         self.command = [program("lockgraph"), "reduce", "--workers", str(workers)]
         said = subprocess.run([self.command[0], "reduce", "--help"], capture_output=True, check=False).stdout
         # A program that notes where each trace comes from is asked to.
@@ -60,11 +74,15 @@ class Reducer:
         command = [*self.command, *words]
         with subprocess.Popen(command, cwd=folder, stdin=source, stdout=out, stderr=subprocess.PIPE) as process:
             try:
-                said = said_by(process, feed)
+                with ended_after(process, self.limit) as is_late:
+                    said = said_by(process, feed)
             except BaseException:
                 process.kill()
+                close(process.stdin)
                 raise
         status = process.returncode
+        if is_late.is_set():
+            raise Failed(f"lockgraph took longer than {self.limit:g} s")
         if status == 2 and OF_STREAM.search(said):
             raise Faulty(one_line(said))
         if status not in (0, REFUSED_LEFT_OUT):
@@ -73,14 +91,39 @@ class Reducer:
         return status == REFUSED_LEFT_OUT
 
 
+@contextlib.contextmanager
+def ended_after(process, limit):
+    """Ends a process if it takes longer than so many seconds, and notes that it did."""
+    is_late = threading.Event()
+
+    def end():
+        is_late.set()
+        process.kill()
+
+    timer = threading.Timer(limit, end) if limit else None
+    try:
+        if timer:
+            timer.start()
+        yield is_late
+    finally:
+        if timer:
+            timer.cancel()
+
+
+def close(pipe):
+    """Closes a pipe to a process that has ended, if there is one."""
+    with contextlib.suppress(BrokenPipeError):
+        if pipe:
+            pipe.close()
+
+
 def said_by(process, feed):
     """What a process says on standard error. If there is a function, it feeds the process' standard input."""
     if feed:
-        try:
+        # If it doesn't read on, its status says why.
+        with contextlib.suppress(BrokenPipeError):
             feed(process.stdin)
-            process.stdin.close()
-        except BrokenPipeError:
-            pass  # Its status says why it didn't read on.
+        close(process.stdin)
     return process.stderr.read()
 
 
@@ -101,7 +144,8 @@ def reduce_stream(reducer, night, name):
     except OSError as error:
         # Another process may have made the result, and taken the part of this one away.
         if night.ending(name) is None:
-            raise Failed(f"{shown(error.filename or name)}: {error.strerror}") from None
+            at = "" if error.filename in (None, stream) else f"{shown(error.filename)}: "
+            raise Failed(f"{at}{error.strerror}") from None
     if stamp_of(stream) != stamp:
         night.forget(name)
         raise Failed("it was written to meanwhile")
@@ -121,15 +165,36 @@ def keep_result(reducer, night, name, stamp):
 
 def keep_stream(reducer, night, name, stamp):
     """Makes what is left of a stream, with refused traces, so that the report of the night names them."""
-    with open(night.stream(name), "rb") as stream, whole(night.result(name, REDUCED)) as out:
-        word, source = (word_of(name), subprocess.DEVNULL) if is_utf8(name) else ("-", stream)
+    run = run_packed if is_packed(name) else run_plain
+    with whole(night.result(name, REDUCED)) as out:
         refused = 0
-        if reducer.run([*reducer.of_stream, word], out, night.folder, source):
+        if run(reducer, night, name, reducer.of_stream, out):
             read_only = count_traces(out.name)
-            stream.seek(0)
-            reducer.run([*reducer.of_stream, "--keep-refused", word], out, night.folder, source)
+            run(reducer, night, name, [*reducer.of_stream, "--keep-refused"], out)
             refused = count_traces(out.name) - read_only
         put_counts(night.result(name), Counts(count_traces(out.name), refused, stamp))
+
+
+def run_plain(reducer, night, name, options, out):
+    """Reduces a stream by its name."""
+    with open(night.stream(name), "rb") as stream:
+        word, source = (word_of(name), subprocess.DEVNULL) if is_utf8(name) else ("-", stream)
+        return reducer.run([*options, word], out, night.folder, source)
+
+
+def run_packed(reducer, night, name, options, out):
+    """Reduces what is in a compressed stream. It has the stream's name."""
+
+    def feed(pipe):
+        feed_unpacked(night.stream(name), pipe)
+
+    try:
+        with folder_of_input(name) as folder:
+            return reducer.run([*options, word_of(name) if is_utf8(name) else "-"], out, folder, feed=feed)
+    except Broken as why:
+        raise Faulty(f"{shown(name)}: it can't be decompressed: {why}") from None
+    except Missing as why:
+        raise Failed(str(why)) from None
 
 
 def is_utf8(name):

@@ -71,7 +71,7 @@ class Summary:
         self.write("night.faulty", said)
         most = sorted(self.refused.items(), key=lambda it: (-it[1], os.fsencode(it[0])))
         self.write("night.refused", [f"{count} {shown(name)}" for name, count in most])
-        self.write("night.left", [shown(it) for it in self.left])
+        self.write("night.left", [f"{shown(it)}: {why}" for it, why in self.left.items()])
 
     def tell(self, say):
         """Says where to look."""

@@ -113,7 +113,8 @@ def check_poisoned(room, streams):
         target = room.path(f"poisoned{turn}")
         words = [streams, target, "--jobs", "1"]
         said = night(*words, status=2, more={"LOCKGRAPH": stand_in, **more}, line=None)
-        must(read(target, "night.left").decode() == poison + "\n", f"killed: another is left:\n{said}")
+        left = read(target, "night.left").decode()
+        must(left == f"{poison}: no task has said why\n", f"killed: left is {left}:\n{said}")
         night(*words, status=1, line=planted.summary(SMALL))
         must_be_same(room.path("alone"), target, "killed")
 

@@ -106,6 +106,22 @@ def check_some(room, streams):
     must(read(target, "night.trace") == left[0], "groups: the night's stream isn't made again")
 
 
+def check_cut(room, _count):
+    """Streams whose traces were cut come to the same violations."""
+    streams, short = made(room, "streams", SMALL), room.path("short")
+    for number in range(SMALL):
+        name = planted.path(number)
+        cut = call(program("lockgraph"), "cut", "--lines", "20", name, folder=streams)
+        faulty = planted.is_faulty(number)
+        must(cut.returncode == (2 if faulty else 0), f"cut: {name}: {cut.stderr.decode()}")
+        room.write(f"short/{name}", read(streams, name) if faulty else cut.stdout)
+    night(short, room.path("night"), status=1, line=planted.summary(SMALL))
+    left = re.findall(rb"(?m)^trace \S+\.2\n# from (\S+) \d+$", read(room.path("night"), "night.trace"))
+    must(left and all(it.startswith(b"rack") for it in left), f"cut: no piece is left, or of other streams: {left}")
+    found = kinds(read(room.path("night"), "night.report"))
+    must(found == planted.violations(SMALL), f"cut: other violations than those that were planted: {found}")
+
+
 def check_before(room, _count):
     """Halves of different nights meet; what was reported before isn't new; refused traces are told in their night."""
     room.new("first")
@@ -177,6 +193,7 @@ def check_words(room, _count):
         ([streams, os.path.join(streams, "n")], "below that of the streams"),
         ([room.path("none"), room.path("n")], "No such file"),
         ([streams, room.path("n"), "--group", "1024"], "between 0 and 1024"),
+        ([streams, room.path("n"), "--limit", "0"], "--limit: invalid seconds value"),
         ([streams, room.path("n"), "--before", room.path("none")], "No such file"),
         ([streams, room.path("n"), "--before", room.path("n")], "this is the night itself"),
         ([streams, room.path("n"), "--known", room.path("n", "night.report")], "this is the night itself"),

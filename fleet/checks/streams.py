@@ -7,6 +7,12 @@ from failures import STAND_IN
 from rooms import call, fleet, has_parallel, must, night, program, read, unnoted, without_parallel
 
 TEXT = "trace {0}\nacquire t {0}_a\nacquire t {0}_b\n"
+# What is left where files, a folder and links can't be read.
+LEFT = """c.trace: Permission denied
+f.trace: No such file or directory
+closed: Permission denied
+rack: it leads nowhere
+"""
 # Nobody's number, whom files of mode 0 may be kept from.
 NOBODY = "65534"
 
@@ -129,7 +135,7 @@ def check_unread(room, _count):
     for name in ("a", "closed/b", "c"):
         room.write(f"streams/{name}.trace", TEXT.format(os.path.basename(name)))
     room.write("elsewhere/d.trace", TEXT.format("d"))
-    room.write("streams/e.trace.gz", "")
+    room.write("streams/e.text", "")
     os.symlink(room.path("elsewhere"), os.path.join(streams, "link"))
     os.symlink(".", os.path.join(room.path("elsewhere"), "loop"))
     os.symlink("../nights/night", os.path.join(streams, "own"))
@@ -143,8 +149,9 @@ def check_unread(room, _count):
     ended = call(*as_nobody(*words), folder="/")
     said = ended.stderr.decode()
     must(ended.returncode == 2, f"unread: status {ended.returncode}: {said}")
-    must(read(room.path("nights", "night", "night.left")) == b"c.trace\nf.trace\nclosed\nrack\n", f"unread: left are {said}")
-    must("doesn't end with .trace: e.trace.gz\n" in said, f"unread: another file isn't told: {said}")
+    left = read(room.path("nights", "night", "night.left")).decode()
+    must(left == LEFT, f"unread: left are {left}: {said}")
+    must("doesn't end with .trace: e.text\n" in said, f"unread: another file isn't told: {said}")
     must(b"trace a" in read(room.path("nights", "night", "night.trace")), "unread: another stream isn't done")
     os.chmod(closed[0], 0o755)
     os.chmod(closed[1], 0o644)
@@ -159,5 +166,8 @@ def check_unread(room, _count):
     ended = call(*as_nobody(*words), folder="/")
     os.chmod(closed[0], 0o755)
     left = read(room.path("nights", "night", "night.left"))
-    must(ended.returncode == 2 and left == b"closed/b.trace\n", f"unread: left are {left}: {ended.stderr.decode()}")
+    must(
+        ended.returncode == 2 and left == b"closed/b.trace: Permission denied\n",
+        f"unread: left are {left}: {ended.stderr.decode()}",
+    )
     return None

@@ -1,0 +1,66 @@
+"""Compressed streams, which are decompressed as they are read: no file is made of what is in them."""
+import contextlib
+import importlib
+import os
+import tempfile
+import zlib
+
+from nights import PACKED, shown
+
+MIB = 1 << 20
+# The module of Python that reads what has this ending.
+MODULES = dict(zip(PACKED, ("gzip", "lzma", "bz2")))
+
+
+class Broken(Exception):
+    """The bytes of a file aren't a whole compressed stream."""
+
+
+class Missing(Exception):
+    """What is needed to decompress a file isn't there."""
+
+
+def is_packed(name):
+    return name.endswith(PACKED)
+
+
+def module_of(path):
+    name = MODULES[os.path.splitext(path)[1]]
+    try:
+        return importlib.import_module(name)
+    except ImportError:
+        raise Missing(f"Python's module {name} isn't installed here") from None
+
+
+def feed_unpacked(path, pipe):
+    """Writes what is in a compressed file to a pipe."""
+    module = module_of(path)
+    broken = (EOFError, zlib.error, getattr(module, "LZMAError", EOFError))
+    with module.open(path, "rb") as file:
+        while data := chunk_of(file, broken):
+            pipe.write(data)
+
+
+def chunk_of(file, broken):
+    try:
+        return file.read(MIB)
+    except broken as error:
+        raise Broken(error) from None
+    except OSError as error:
+        # A fault of the disk has a number.
+        if error.errno is not None:
+            raise
+        raise Broken(error) from None
+
+
+@contextlib.contextmanager
+def folder_of_input(name):
+    """A folder where this name is that of standard input. So a program that is fed can be given the name of what it is
+    fed with."""
+    with tempfile.TemporaryDirectory(prefix="fleet-") as folder:
+        path = os.path.join(folder, name)
+        if not os.path.realpath(path).startswith(os.path.realpath(folder) + os.sep):
+            raise Missing(f"{shown(name)}: a compressed stream is named by its path below the folder")
+        os.makedirs(os.path.dirname(path), exist_ok=True)
+        os.symlink("/dev/stdin", path)
+        yield folder
