@@ -1,6 +1,6 @@
 -- Ranks are counted.
-use Rattle.std.proofs.Common.{◌≡◌, ◌≢◌, ◌⊎◌, ◌↔◌, inl, inr, ℕ, zero, suc, ◌+◌, ◌*◌, ◌<◌, ◌≤◌, Bool, true, false, true≢false, arith, refl, sym, ap, ◌∙◌, ltb}
-use Rattle.std.proofs.lemmas.Bool.{cases_eq, cases_lt, cases_order, ltb-true, lt-ltb, le-ltb}
+use Rattle.std.proofs.Common.{◌≡◌, ◌≢◌, ◌⊎◌, ◌↔◌, inl, inr, ℕ, zero, suc, ◌+◌, ◌*◌, ◌<◌, ◌≤◌, Bool, if◌then◌else◌, true, false, true≢false, arith, refl, sym, ap, ◌∙◌, ltb}
+use Rattle.std.proofs.lemmas.Bool.{cases_eq, cases_lt, ltb-true, lt-ltb, le-ltb}
 use Rattle.std.proofs.Math.Nat.{add-mul, mul-le-mul_right}
 use Rattle.ld_order.specs.Inner.Rings.{IsNode, AreLinked, IsSameOrder, count, rank}
 
@@ -8,14 +8,13 @@ module _ (p q : ℕ → Bool) where
   pub count-most : (n : ℕ) → ((k : ℕ) → k < n → p k ≡ true → q k ≡ true) → count p n ≤ count q n
   count-most zero h = omega arith
   count-most (suc n) h =
-      by (count-most n (λ k l. h k (omega (arith, l)))) (h n (omega arith)) (p n) refl (q n) refl
+      by (p n) (q n) (count-most n (λ k l. h k (omega (arith, l)))) (h n (omega arith))
     where
-      by : count p n ≤ count q n → (p n ≡ true → q n ≡ true) → (a : Bool) → p n ≡ a → (b : Bool) → q n ≡ b
-          → count p (suc n) ≤ count q (suc n)
-      by g i true e true f = rw (e, f) (omega (arith, g))
-      by g i true e false f = absurd (true≢false (sym (i e) ∙ f))
-      by g i false e true f = rw (e, f) (omega (arith, g))
-      by g i false e false f = rw (e, f) (omega (arith, g))
+      by : (a b : Bool) → count p n ≤ count q n → (a ≡ true → b ≡ true)
+          → count p n + (if a then 1 else 0) ≤ count q n + (if b then 1 else 0)
+      by true true g i = omega (arith, g)
+      by true false g i = absurd (true≢false (sym (i refl)))
+      by false b g i = let m : count q n ≤ count q n + (if b then 1 else 0) = omega arith in omega (arith, g, m)
 
   pub count-less : (n : ℕ) → ((k : ℕ) → k < n → p k ≡ true → q k ≡ true) → (i : ℕ) → i < n → p i ≡ false
       → q i ≡ true → count p n < count q n
@@ -36,12 +35,7 @@ module _ (p q : ℕ → Bool) where
 
   pub count-same : (n : ℕ) → ((k : ℕ) → k < n → p k ≡ q k) → count p n ≡ count q n
   count-same zero h = refl
-  count-same (suc n) h =
-      by (count-same n (λ k l. h k (omega (arith, l)))) (q n) refl
-    where
-      by : count p n ≡ count q n → (b : Bool) → q n ≡ b → count p (suc n) ≡ count q (suc n)
-      by g true f = let e : p n ≡ true = h n (omega arith) ∙ f in rw (e, f) (omega (arith, g))
-      by g false f = let e : p n ≡ false = h n (omega arith) ∙ f in rw (e, f) (omega (arith, g))
+  count-same (suc n) h = rw (h n (omega arith), count-same n (λ k l. h k (omega (arith, l)))) refl
 
   pub count-one : (n : ℕ) → (i : ℕ) → i < n → p i ≡ false → q i ≡ true
       → ((k : ℕ) → k < n → k ≢ i → p k ≡ q k) → count q n ≡ count p n + 1
@@ -78,11 +72,7 @@ module _ (n : ℕ) (label : ℕ → ℕ) where
       c h (le-ltb (label c) (label c) (omega arith)) (lt-ltb (label c) (label d) l)
 
   pub rank-tells : (c d : ℕ) → rank n label c < rank n label d → label c < label d
-  rank-tells c d l = by (cases_lt (label c) (label d))
-    where
-      by : (label c < label d) ⊎ (label d ≤ label c) → label c < label d
-      by (inl a) = a
-      by (inr a) = let k = rank-most d c a in absurd (omega (arith, k, l))
+  rank-tells c d l = grind (arith, rank-most d c)
 
   pub rank-below : (c : ℕ) → c < n → rank n label c < n
   rank-below c h =
@@ -95,12 +85,7 @@ module _ (n : ℕ) (label : ℕ → ℕ) where
     in_ring c h = (h, λ e. omega (arith, h, e))
 
     pub rank-once : (c d : ℕ) → c < n → d < n → rank n label c ≡ rank n label d → c ≡ d
-    rank-once c d h k e = r.once c d (in_ring c h) (in_ring d k) (by (cases_order (label c) (label d)))
-      where
-        by : (label c ≡ label d) ⊎ ((label c < label d) ⊎ (label d < label c)) → label c ≡ label d
-        by (inl a) = a
-        by (inr (inl a)) = let m = rank-less c d h a in absurd (omega (arith, m, e))
-        by (inr (inr a)) = let m = rank-less d c k a in absurd (omega (arith, m, e))
+    rank-once c d h k e = r.once c d (in_ring c h) (in_ring d k) (grind (arith, rank-less c d h, rank-less d c k))
 
     pub rank-next : (c : ℕ) → c < n → next c ≢ 0 → rank n label (next c) ≡ rank n label c + 1
     rank-next c h z =
@@ -151,11 +136,7 @@ rank-same n old new c h = count-same (λ k. ltb (new k) (new c)) (λ k. ltb (old
     by : (k : ℕ) → k < n → (old k < old c) ⊎ (old c ≤ old k) → ltb (new k) (new c) ≡ ltb (old k) (old c)
     by k l (inl a) = lt-ltb (new k) (new c) ((h k l).1 a) ∙ sym (lt-ltb (old k) (old c) a)
     by k l (inr a) =
-        le-ltb (new k) (new c) (more k l a (cases_lt (new k) (new c))) ∙ sym (le-ltb (old k) (old c) a)
-      where
-        more : (k : ℕ) → k < n → old c ≤ old k → (new k < new c) ⊎ (new c ≤ new k) → new c ≤ new k
-        more k l a (inl b) = let m = (h k l).0 b in absurd (omega (arith, m, a))
-        more k l a (inr b) = b
+        le-ltb (new k) (new c) (grind (arith, (h k l).0, a)) ∙ sym (le-ltb (old k) (old c) a)
 
 -- other labels in the same order
 pub relabelled : (n : ℕ) (label next prev label_new : ℕ → ℕ) → AreLinked n label next prev n
@@ -164,44 +145,27 @@ relabelled n label next prev label_new r o z = record {
   some = r.some;
   head = z;
   kept = r.kept;
-  once = λ c d h k e. r.once c d h k (once c d h.0 k.0 e (cases_order (label c) (label d)));
+  once = λ c d h k e. r.once c d h k (grind (arith, (o c d h.0 k.0).1, (o d c k.0 h.0).1, e));
   next_in = r.next_in;
   prev_in = r.prev_in;
   up = λ c h w. (o c (next c) h.0 (r.next_in c h).0).1 (r.up c h w);
   none = λ c d h k l.
       let a = r.none c d h k ((o c d h.0 k.0).0 l) in
-      (a.0, least d (next c) k.0 (r.next_in c h).0 a.1 (cases_lt (label_new d) (label_new (next c))));
+      (a.0, grind (arith, (o d (next c) k.0 (r.next_in c h).0).0, a.1));
   back = r.back;
   forth = r.forth;
 }
-  where
-    once : (c d : ℕ) → c < n → d < n → label_new c ≡ label_new d
-        → (label c ≡ label d) ⊎ ((label c < label d) ⊎ (label d < label c)) → label c ≡ label d
-    once c d h k e (inl a) = a
-    once c d h k e (inr (inl a)) = let m = (o c d h k).1 a in absurd (omega (arith, m, e))
-    once c d h k e (inr (inr a)) = let m = (o d c k h).1 a in absurd (omega (arith, m, e))
-
-    least : (d e : ℕ) → d < n → e < n → label e ≤ label d → (label_new d < label_new e) ⊎ (label_new e ≤ label_new d)
-        → label_new e ≤ label_new d
-    least d e h k a (inl b) = let m = (o d e h k).0 b in absurd (omega (arith, m, a))
-    least d e h k a (inr b) = b
 
 -- labels that are the ranks times a step
 pub stepped : (n : ℕ) (label label_new : ℕ → ℕ) (step : ℕ) → 0 < step
     → ((c : ℕ) → c < n → label_new c ≡ rank n label c * step) → IsSameOrder n label label_new
 stepped n label label_new step s h c d k l = (
-  λ a. less a (cases_lt (rank n label c) (rank n label d)),
+  λ a. let e = h c k in let f = h d l in
+      let m : rank n label d ≤ rank n label c → rank n label d * step ≤ rank n label c * step = mul-le-mul_right step in
+      rank-tells n label c d (grind (arith, e, f, m, a)),
   λ a. let b = rank-less n label c d k a in
       let e = h c k in let f = h d l in
       let m : (rank n label c + 1) * step ≤ rank n label d * step = mul-le-mul_right step (omega (arith, b)) in
       let t = add-mul (rank n label c) 1 step in
       omega (arith, e, f, m, t, s),
 )
-  where
-    less : label_new c < label_new d → (rank n label c < rank n label d) ⊎ (rank n label d ≤ rank n label c)
-        → label c < label d
-    less a (inl b) = rank-tells n label c d b
-    less a (inr b) =
-        let e = h c k in let f = h d l in
-        let m : rank n label d * step ≤ rank n label c * step = mul-le-mul_right step b in
-        absurd (omega (arith, e, f, m, a))

@@ -110,11 +110,7 @@ module _ (n : ℕ) (label next prev : ℕ → ℕ) (x : ℕ) (r : AreLinked n la
       let o = others c h.1 in let k = r.none at c here h a in let m = high k.0 in omega (arith, o, k.1, m)
 
   apart : (c : ℕ) → IsNode n x c → label_new c ≢ label_new x
-  apart c h e = by (cases_lt (label at) (label c))
-    where
-      by : (label at < label c) ⊎ (label c ≤ label at) → ⊥
-      by (inl a) = let k = high_all c h a in omega (arith, k, e)
-      by (inr a) = let k = low_all c h a in omega (arith, k, e)
+  apart c h e = grind (arith, high_all c h, low_all c h)
 
   pub linked : AreLinked n label_new next_new prev_new n
   linked = record {
@@ -164,9 +160,6 @@ module _ (n : ℕ) (label next prev : ℕ → ℕ) (x : ℕ) (r : AreLinked n la
           let v = n3 c e f in let lv = ap label_new v in let o = others c f in
           let o2 = others (next c) (r.next_in c (h, f)).1 in
           let k = r.up c (h, f) (λ w. z (v ∙ w)) in omega (arith, lv, o, o2, k)
-
-      Bound : (d y : ℕ) → Type 0
-      Bound d y = (y ≢ 0) × (label_new y ≤ label_new d)
 
       none : (c d : ℕ) → c < n → d < n → (c ≡ at) ⊎ (c ≢ at) → (c ≡ x) ⊎ (c ≢ x) → (d ≡ x) ⊎ (d ≢ x)
           → label_new c < label_new d → (next_new c ≢ 0) × (label_new (next_new c) ≤ label_new d)

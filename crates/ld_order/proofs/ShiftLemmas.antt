@@ -26,9 +26,6 @@ module _ (n : ℕ) (old l0 l1 l2 : ℕ → ℕ) (found : List ℕ) (i at0 at : �
     (below : (k : ℕ) → k < i + 1 → get_or found k 0 < n)
     (begin : i ≡ 0 → at ≡ at0) (last : 0 < i → at ≡ get_or found (i - 1) 0)
     (at_below : at0 < n) (at_free : (k : ℕ) → k < i + 1 → get_or found k 0 ≢ at0) where
-  x : ℕ
-  x = get_or found i 0
-
   inside : (c : ℕ) → IsOneOf found i c → c < n
   inside c h = subst (λ y. y < n) h.1.1 (below h.0 (let a = h.1.0 in omega (arith, a)))
 
@@ -137,14 +134,7 @@ module _ (n : ℕ) (old l0 l1 l2 : ℕ → ℕ) (found : List ℕ) (i at0 at : �
       lower c d (inr a) k w (inr g) =
           let p = m.below d k (λ e. w (subst (IsOneOf found (i + 1)) (sym e) newest)) g in
           let f = ap l2 a in
-          (λ z. not_above d k w g, λ z. omega (arith, p, f))
-        where
-          not_above : (d : ℕ) → d < n → (¬ IsOneOf found (i + 1) d) → l1 d ≤ l1 at → old d ≤ old at0
-          not_above d k w g = by (cases_lt (old at0) (old d))
-            where
-              by : (old at0 < old d) ⊎ (old d ≤ old at0) → old d ≤ old at0
-              by (inl z) = let t = (tells d k w).1 z in absurd (omega (arith, t, g))
-              by (inr z) = z
+          (λ z. grind (arith, (tells d k w).1, g), λ z. omega (arith, p, f))
 
       upper : (c d : ℕ) → (IsOneOf found i c) ⊎ (c ≡ get_or found i 0) → d < n → (¬ IsOneOf found (i + 1) d)
           → (l1 at < l1 d) ⊎ (l1 d ≤ l1 at) → (l2 c < l2 d) ↔ (old at0 < old d)
@@ -160,15 +150,6 @@ module _ (n : ℕ) (old l0 l1 l2 : ℕ → ℕ) (found : List ℕ) (i at0 at : �
           let p = m.below d k (λ e. w (subst (IsOneOf found (i + 1)) (sym e) newest)) g in
           let f = ap l2 a in
           (λ z. absurd (omega (arith, p, f, z)), λ z. let t = (tells d k w).1 z in absurd (omega (arith, t, g)))
-
--- no node went
-pub shifted-none : (n : ℕ) (old : ℕ → ℕ) (found : List ℕ) (at : ℕ) → IsShifted n old old (IsOneOf found 0) at
-shifted-none n old found at = record {
-  stay = λ c d h k u v. (λ a. a, λ a. a);
-  among = λ c d h k. absurd (let a = h.1.0 in omega (arith, a));
-  below = λ c d h k w. absurd (let a = h.1.0 in omega (arith, a));
-  above = λ c d h k w. absurd (let a = h.1.0 in omega (arith, a));
-}
 
 module _ (n : ℕ) (old new : ℕ → ℕ) (moved : ℕ → Type 0) (at : ℕ) (s : IsShifted n old new moved at)
     (can : (c : ℕ) → moved c ⊎ (¬ moved c)) where

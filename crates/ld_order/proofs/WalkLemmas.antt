@@ -19,9 +19,3 @@ module _ (n : ℕ) (label next prev : ℕ → ℕ) (r : AreLinked n label next p
         by (inr e) =
             let ne : rank n label c ≢ place = λ w. e (rank-once n label next prev r c node h l (w ∙ sym here)) in
             get_or-set_other written node c value 0 e ∙ done c h (omega (arith, k, ne))
-
-    pub walk-else : (old : ℕ → ℕ) → ((c : ℕ) → c < n → place < rank n label c + 1 → get_or written c 0 ≡ old c)
-        → (c : ℕ) → c < n → place + 1 < rank n label c + 1 → get_or (set written node value) c 0 ≡ old c
-    walk-else old left c h k =
-        let e : c ≢ node = λ w. let q : rank n label c ≡ place = ap (rank n label) w ∙ here in omega (arith, k, q) in
-        get_or-set_other written node c value 0 e ∙ left c h (omega (arith, k))
