@@ -69,48 +69,42 @@ IsEdge-push edges a b x y h = by (Contains-push_cases edges (edge a b) (edge x y
     by (inl e) = inl e
     by (inr e) = inr (ap (λ k. k.from) e, ap (λ k. k.to) e)
 
+-- what the lists have in one more place
+module _ (lists : List (List ℕ)) (near new : ℕ → ℕ → Type 0) (a b : ℕ) (l : a < length lists) (is : new a b)
+    (push : (x y : ℕ) → new x y → near x y ⊎ ((a ≡ x) × (b ≡ y))) (old : (x y : ℕ) → near x y → new x y)
+    (same : (x y : ℕ) → IsNear lists x y ↔ near x y) where
+  near_more : (x y : ℕ) → IsNear (set lists a (list_at lists a ++ b ∷ [])) x y ↔ new x y
+  near_more x y = (λ h. to (IsNear-push lists a b x y l h), λ h. back (push x y h))
+    where
+      to : IsNear lists x y ⊎ ((a ≡ x) × (b ≡ y)) → new x y
+      to (inl h) = old x y ((same x y).0 h)
+      to (inr e) = subst (λ z. new z y) e.0 (subst (λ z. new a z) e.1 is)
+
+      back : near x y ⊎ ((a ≡ x) × (b ≡ y)) → IsNear (set lists a (list_at lists a ++ b ∷ [])) x y
+      back (inl h) = IsNear-old lists a b x y l ((same x y).1 h)
+      back (inr e) = subst (λ z. IsNear (set lists a (list_at lists a ++ b ∷ [])) z y) e.0 (subst (λ
+          z. IsNear (set lists a (list_at lists a ++ b ∷ [])) a z) e.1 (IsNear-new lists a b l))
+
 -- both grow by the same edge
 pub IsNear-edge : (lists : List (List ℕ)) (edges : List Edge) (a b : ℕ) → a < length lists
     → ((x y : ℕ) → IsNear lists x y ↔ IsEdge edges x y)
     → (x y : ℕ) → IsNear (set lists a (list_at lists a ++ b ∷ [])) x y
     ↔ IsEdge (edges ++ edge a b ∷ []) x y
-IsNear-edge lists edges a b l same x y = (
-  λ h. to (IsNear-push lists a b x y l h),
-  λ h. back
-      (IsEdge-push edges a b x y h),
-)
-  where
-    to : IsNear lists x y ⊎ ((a ≡ x) × (b ≡ y)) → IsEdge (edges ++ edge a b ∷ []) x y
-    to (inl h) = Contains-append_left edges (edge a b ∷ []) (edge x y) ((same x y).0 h)
-    to (inr e) = subst (λ z. IsEdge (edges ++ edge a b ∷ []) z y) e.0 (subst (λ z. IsEdge (edges ++
-        edge a b ∷ []) a z) e.1 (Contains-push edges (edge a b)))
-
-    back : IsEdge edges x y ⊎ ((a ≡ x) × (b ≡ y)) → IsNear (set lists a (list_at lists a ++ b ∷ []))
-        x y
-    back (inl h) = IsNear-old lists a b x y l ((same x y).1 h)
-    back (inr e) = subst (λ z. IsNear (set lists a (list_at lists a ++ b ∷ [])) z y) e.0 (subst (λ
-        z. IsNear (set lists a (list_at lists a ++ b ∷ [])) a z) e.1 (IsNear-new lists a b l))
+IsNear-edge lists edges a b l same = near_more lists (IsEdge edges) (IsEdge (edges ++ edge a b ∷ [])) a b l
+    (Contains-push edges (edge a b)) (λ x y h. IsEdge-push edges a b x y h)
+    (λ x y e. Contains-append_left edges (edge a b ∷ []) (edge x y) e) same
 
 pub IsNear-turned : (lists : List (List ℕ)) (edges : List Edge) (a b : ℕ) → b < length lists
     → ((x y : ℕ) → IsNear lists x y ↔ IsEdge edges y x)
     → (x y : ℕ) → IsNear (set lists b (list_at lists b ++ a ∷ [])) x y
     ↔ IsEdge (edges ++ edge a b ∷ []) y x
-IsNear-turned lists edges a b l same x y = (
-  λ h. to (IsNear-push lists b a x y l h),
-  λ h. back
-      (IsEdge-push edges a b y x h),
-)
+IsNear-turned lists edges a b l same = near_more lists (λ x y. IsEdge edges y x) (λ x y. IsEdge (edges ++ edge a b ∷ []) y x) b a l
+    (Contains-push edges (edge a b)) (λ x y h. turn x y (IsEdge-push edges a b y x h))
+    (λ x y e. Contains-append_left edges (edge a b ∷ []) (edge y x) e) same
   where
-    to : IsNear lists x y ⊎ ((b ≡ x) × (a ≡ y)) → IsEdge (edges ++ edge a b ∷ []) y x
-    to (inl h) = Contains-append_left edges (edge a b ∷ []) (edge y x) ((same x y).0 h)
-    to (inr e) = subst (λ z. IsEdge (edges ++ edge a b ∷ []) y z) e.0 (subst (λ z. IsEdge (edges ++
-        edge a b ∷ []) z b) e.1 (Contains-push edges (edge a b)))
-
-    back : IsEdge edges y x ⊎ ((a ≡ y) × (b ≡ x)) → IsNear (set lists b (list_at lists b ++ a ∷ []))
-        x y
-    back (inl h) = IsNear-old lists b a x y l ((same x y).1 h)
-    back (inr e) = subst (λ z. IsNear (set lists b (list_at lists b ++ a ∷ [])) z y) e.1 (subst (λ
-        z. IsNear (set lists b (list_at lists b ++ a ∷ [])) b z) e.0 (IsNear-new lists b a l))
+    turn : (x y : ℕ) → IsEdge edges y x ⊎ ((a ≡ y) × (b ≡ x)) → IsEdge edges y x ⊎ ((b ≡ x) × (a ≡ y))
+    turn x y (inl h) = inl h
+    turn x y (inr e) = inr (e.1, e.0)
 
 -- the ends of the edges of a list with one more
 pub ends_push : (edges : List Edge) (a b n : ℕ) → a < n → b < n → ((x y : ℕ) → IsEdge edges x y

@@ -11,11 +11,8 @@ use Rattle.ld_graph.specs.Lists.{IsNear, list_at}
 use Rattle.ld_graph.specs.Inner.Repairs.{IsOrReaches}
 use Rattle.ld_graph.specs.Inner.Trails.{PlainTrail, no_frame, stage_at, next_at, wait_at, frame_at, IsLimit, IsHandled}
 use Rattle.ld_graph.specs.Inner.Trails.{IsFrame, AreStages, IsTrail, IsToldFrom, last_of, top_of, told}
-use Rattle.ld_graph.proofs.TrailLemmas.{reaches-within, same_place, frame-kept}
+use Rattle.ld_graph.proofs.TrailLemmas.{reaches-within, same_class, same_place, frame-kept}
 use Rattle.ld_graph.proofs.LowerLemmas.{top_frame, limit_low}
-
-same_class : (r s : ℕ) → Closed r ≡ Closed s → r ≡ s
-same_class r s e = cc
 
 module _ (lists : List (List ℕ)) (t : PlainTrail) (h : IsTrail lists t) (some : 0 < length t.path) (stages : List Stage) where
   abbrev R : ℕ → ℕ → Type 0
@@ -96,21 +93,16 @@ module _ (lists : List (List ℕ)) (t : PlainTrail) (h : IsTrail lists t) (some 
         at : (i : ℕ) → i < length (take top.position t.waiting) → stage_at s (wait_at s i) ≡ Open i
         at i b =
             let l = waiting_len in
-            let f = (top_frame lists t h some).starts in
-            let g = h.stages.at i (omega (arith, l, b, f)) in
             ap (λ z. stage_at s z) (wait_same i (omega (arith, l, b))) ∙ by (inside_or (wait_at t i))
           where
+            here : stage_at t (wait_at t i) ≡ Open i
+            here = let l = waiting_len in let f = (top_frame lists t h some).starts in h.stages.at i (omega (arith, l, b, f))
+
             by : IsInside (wait_at t i) ⊎ (stage_at s (wait_at t i) ≡ stage_at t (wait_at t i)) → stage_at s (wait_at t i) ≡ Open i
             by (inl q) =
-                let l = waiting_len in
-                let f = (top_frame lists t h some).starts in
-                let g = h.stages.at i (omega (arith, l, b, f)) in
-                let p : q.0 ≡ i = same_place q.0 i (sym (inside_waits (wait_at t i) q) ∙ g) in
-                let c = q.1.0 in absurd (omega (arith, p, c, l, b))
-            by (inr e) =
-                let l = waiting_len in
-                let f = (top_frame lists t h some).starts in
-                e ∙ h.stages.at i (omega (arith, l, b, f))
+                let p : q.0 ≡ i = same_place q.0 i (sym (inside_waits (wait_at t i) q) ∙ here) in
+                let c = q.1.0 in let l = waiting_len in absurd (omega (arith, p, c, l, b))
+            by (inr e) = e ∙ here
 
         back : (x i : ℕ) → stage_at s x ≡ Open i → (i < length (take top.position t.waiting)) × (wait_at s i ≡ x)
         back x i e = by (inside_or x)

@@ -51,12 +51,8 @@ module _ (lists : List (List ℕ)) (t : PlainTrail) (h : IsTrail lists t) (some 
 
   -- the last frame isn't the first one where a walk from it leads back
   pub has_parent : top.low < top.position → 0 < last
-  has_parent below = by (cases_lt 0 last)
-    where
-      by : (0 < last) ⊎ (last ≤ 0) → 0 < last
-      by (inl l) = l
-      by (inr l) = absurd (let e : last ≡ 0 = omega arith in
-          let p : top.position ≡ 0 = ap (λ z. (frame_at t z).position) e ∙ h.first some in omega (arith, p, below))
+  has_parent below =
+      let p : last ≡ 0 → top.position ≡ 0 = λ e. ap (λ z. (frame_at t z).position) e ∙ h.first some in grind (arith, p, below)
 
   -- a successor is looked at
   module _ (low : ℕ) (more : next_at t top.class < length (list_at lists top.class)) (less : low ≤ top.low)

@@ -14,6 +14,7 @@ use Rattle.std.proofs.lemmas.List.{get_or-replicate, length-replicate, get_or_de
 use Rattle.std.proofs.lemmas.List.Elements.{Contains-push, Contains-push_cases}
 use Rattle.std.proofs.lemmas.List.Elements.{Contains-append_left}
 use Rattle.ld_graph.specs.Inner.Marks.{AreMarked}
+use Rattle.ld_graph.proofs.NearLemmas.{within_of}
 use Rattle.ld_graph.proofs.OnceLemmas.{IsDistinct-none, IsDistinct-one_more}
 
 pub bool_cases : (b : Bool) → (b ≡ true) ⊎ (b ≡ false)
@@ -40,11 +41,7 @@ AreMarked-none = record {
 
 module _ (marks : List Bool) (found : List ℕ) (h : AreMarked marks found) where
   pub found_below : (k : ℕ) → Contains found k → k < length marks
-  found_below k n = by (cases_lt k (length marks))
-    where
-      by : (k < length marks) ⊎ (length marks ≤ k) → k < length marks
-      by (inl l) = l
-      by (inr l) = absurd (true≢false (sym ((h.marked k).1 n) ∙ get_or_past marks k false l))
+  found_below k n = within_of marks k false (λ e. true≢false (sym ((h.marked k).1 n) ∙ e))
 
   pub found_few : length found ≤ length marks
   found_few = length-le_from_distinct_below found (length marks) h.once

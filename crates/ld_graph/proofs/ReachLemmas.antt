@@ -2,8 +2,8 @@
 use Rattle.std.proofs.Common.{◌≡◌, ◌≢◌, ℕ, zero, suc, ◌+◌, ◌<◌, ◌≤◌, ◌⊎◌, inl, inr, Bool, true, false, true≢false, List, [], ◌∷◌}
 use Rattle.std.proofs.Common.{◌++◌, length, get_or, set, Option, Some, None, is_some, Contains, MatchOption, below_more, take, unwrap_or}
 use Rattle.std.proofs.Common.{arith, refl, sym, ap, subst, ◌∙◌}
-use Rattle.std.proofs.lemmas.Bool.{cases_eq, cases_lt, cases_order}
-use Rattle.std.proofs.lemmas.List.{get_or-set_same, get_or-set_other, get_or_past, get_or_append_left, get_or_push, get_or_default, length_push, take-append-le}
+use Rattle.std.proofs.lemmas.Bool.{cases_eq, cases_lt}
+use Rattle.std.proofs.lemmas.List.{get_or-set_same, get_or-set_other, get_or_past, get_or_append_left, get_or_default, length_push, take-append-le}
 use Rattle.std.proofs.lemmas.List.Elements.{Contains-get_or, Contains-append_left, Contains-push, Contains-push_cases}
 use Rattle.ld_graph.specs.Inner.KeptReach.{reach_of, AreExpanded, IsSpread, all_ahead, none_ahead, ahead_from}
 use Rattle.ld_graph.specs.Inner.Marks.{Marked}
@@ -14,9 +14,10 @@ use Rattle.ld_graph.specs.declared.reach.Reach.TheInside.{Inside}
 use Rattle.ld_graph.specs.Edges.{IsEdge, edge}
 use Rattle.ld_graph.specs.Reach.{IsReach, IsSource, PlainReach}
 use Rattle.ld_graph.specs.Walks.{HasWalk}
+use Rattle.ld_graph.proofs.NearLemmas.{get_or-push_default, within_of}
 use Rattle.ld_graph.proofs.OnceLemmas.{IsDistinct-none, IsDistinct-one_more}
-use Rattle.ld_graph.proofs.SpreadLemmas.{kept_marked, some_same}
-use Rattle.ld_graph.proofs.WalkLemmas.{Far, Far-snoc, IsWalk-Far, HasWalk-Far, IsWalk-same}
+use Rattle.ld_graph.proofs.SpreadLemmas.{kept_marked, some_is, some_same}
+use Rattle.ld_graph.proofs.WalkLemmas.{Far, IsWalk-Far, HasWalk-more, HasWalk-one, IsWalk-same}
 
 abbrev pub is_marked : List Bool → ℕ → Type 0
 is_marked marks x = get_or marks x false ≡ true
@@ -24,18 +25,10 @@ is_marked marks x = get_or marks x false ≡ true
 abbrev pub has_source : List (Option ℕ) → ℕ → Type 0
 has_source sources x = is_some (get_or sources x None) ≡ true
 
--- a source that is some
-some_source : (o : Option ℕ) → is_some o ≡ true → (s : ℕ) × (o ≡ Some s)
-some_source None h = absurd (true≢false (sym h))
-some_source (Some s) h = (s, refl)
-
--- one step more at a walk's end
-pub HasWalk-more : (step : ℕ → ℕ → Type 0) (s x y : ℕ) → HasWalk step s x → step x y → HasWalk step s y
-HasWalk-more step s x y w h =
-    let f = IsWalk-Far step s x w.0 w.1 in HasWalk-Far step (suc f.0) s y (Far-snoc step f.0 s x y f.1.1 h)
-
-pub HasWalk-one : (step : ℕ → ℕ → Type 0) (s x : ℕ) → step s x → HasWalk step s x
-HasWalk-one step s x h = HasWalk-Far step zero s x h
+-- a step of which none is ahead
+not_ahead : {P : Type 0} → ⊥ ⊎ P → P
+not_ahead (inl n) = absurd n
+not_ahead (inr p) = p
 
 module _ (step : ℕ → ℕ → Type 0) (seeds : List ℕ) where
   -- in an exact reach, what a marked class leads to has a source
@@ -46,7 +39,7 @@ module _ (step : ℕ → ℕ → Type 0) (seeds : List ℕ) where
       none is (inl seed) =
           subst (λ o. MatchOption o ((s : ℕ) → ¬ IsSource step seeds y s) (IsSource step seeds y)) is (exact.sources y) x (seed, HasWalk-one step x y h)
       none is (inr some) =
-          let s = some_source (get_or reach.sources x None) some in
+          let s = some_is (get_or reach.sources x None) some in
           let source : IsSource step seeds x s.0 = subst (λ o. MatchOption o ((s : ℕ) → ¬ IsSource step seeds x s) (IsSource step seeds x)) s.1 (exact.sources x) in
           subst (λ o. MatchOption o ((s : ℕ) → ¬ IsSource step seeds y s) (IsSource step seeds y)) is (exact.sources y) s.0 (source.0, HasWalk-more step s.0 x y source.1 h)
 
@@ -73,11 +66,7 @@ module _ (step : ℕ → ℕ → Type 0) (seeds : List ℕ) where
         subst (is_marked marks) (get_or_default reached at.0 0 x within ∙ at.2) (spread.covered at.0 within)
 
     next : (x y : ℕ) → is_marked marks x → step x y → has_source sources y
-    next x y marked h = by (spread.closed x y marked h)
-      where
-        by : none_ahead x y ⊎ has_source sources y → has_source sources y
-        by (inl n) = absurd n
-        by (inr s) = s
+    next x y marked h = not_ahead (spread.closed x y marked h)
 
     goes : (n : ℕ) (x y : ℕ) → is_marked marks x → Far step n x y → has_source sources y
     goes zero x y marked h = next x y marked h
@@ -159,7 +148,7 @@ module _ (step : ℕ → ℕ → Type 0) (seeds : List ℕ) where
         })
           where
             kept : (x : ℕ) → has_source sources x → has_source (set sources class (Some from)) x
-            kept x has = let s = some_source (get_or sources x None) has in ap is_some (kept_marked sources class from free x s.0 s.1)
+            kept x has = let s = some_is (get_or sources x None) has in ap is_some (kept_marked sources class from free x s.0 s.1)
 
             here : has_source (set sources class (Some from)) class
             here = ap is_some (get_or-set_same sources class (Some from) None within)
@@ -205,11 +194,7 @@ module _ (step : ℕ → ℕ → Type 0) (seeds : List ℕ) where
 
       closed : (x y : ℕ) → (x ≡ class) ⊎ is_marked marks x → step x y → all_ahead step class x y ⊎ has_source sources y
       closed x y (inl same) h = inl (same, h)
-      closed x y (inr m) h = by (spread.closed x y m h)
-        where
-          by : none_ahead x y ⊎ has_source sources y → all_ahead step class x y ⊎ has_source sources y
-          by (inl n) = absurd n
-          by (inr s) = inr s
+      closed x y (inr m) h = inr (not_ahead (spread.closed x y m h))
 
   -- one that was expanded before waits no more
   pub spread-passed : (class : ℕ) (sources : List (Option ℕ)) (marks : List Bool) (reached : List ℕ) (done : ℕ) → class ≡ get_or reached done 0 → is_marked marks class
@@ -247,11 +232,7 @@ module _ (step : ℕ → ℕ → Type 0) (seeds : List ℕ) where
 
       closed : (x y : ℕ) → (x ≡ class) ⊎ is_marked marks x → step x y → all_ahead step class x y ⊎ has_source sources y
       closed x y (inl same) h = inl (same, h)
-      closed x y (inr m) h = by (spread.closed x y m h)
-        where
-          by : none_ahead x y ⊎ has_source sources y → all_ahead step class x y ⊎ has_source sources y
-          by (inl n) = absurd n
-          by (inr s) = inr s
+      closed x y (inr m) h = inr (not_ahead (spread.closed x y m h))
 
   -- so does one that was
   pub spread-seeded_again : (class : ℕ) (sources : List (Option ℕ)) (marks : List Bool) (reached : List ℕ) (done : ℕ) → is_marked marks class
@@ -358,15 +339,6 @@ spread-edge before seeds reach a b are exact =
     spread-longer (IsEdge before) (IsEdge (before ++ edge a b ∷ [])) seeds none_ahead (λ x y. (x ≡ a) × (y ≡ b)) reach.sources reach.marks reach.reached (length reach.reached)
     (λ x y h. Contains-append_left before (edge a b ∷ []) (edge x y) h) (λ x y on h. IsEdge-cases before a b x y h) (λ x y h. absurd h) (reach-spread (IsEdge before) seeds reach are exact)
 
--- a default at the end changes no answer
-get_or-push_default : {X : Type 0} → (xs : List X) (d : X) (k : ℕ) → get_or (xs ++ d ∷ []) k d ≡ get_or xs k d
-get_or-push_default xs d k = by (cases_order k (length xs))
-  where
-    by : (k ≡ length xs) ⊎ ((k < length xs) ⊎ (length xs < k)) → get_or (xs ++ d ∷ []) k d ≡ get_or xs k d
-    by (inl same) = get_or_push xs d d k (sym same) ∙ sym (get_or_past xs k d (omega (arith, same)))
-    by (inr (inl within)) = get_or_append_left xs (d ∷ []) d k within
-    by (inr (inr past)) = get_or_past (xs ++ d ∷ []) k d (omega (arith, past, length_push xs d)) ∙ sym (get_or_past xs k d (omega (arith, past)))
-
 -- a class more, without source or mark, leaves a reach exact
 pub IsReach-added : (step : ℕ → ℕ → Type 0) (seeds : List ℕ) (reach : PlainReach) (spare : ℕ) → IsReach step seeds reach
     → IsReach step seeds (record { sources = reach.sources ++ None ∷ []; marks = reach.marks ++ false ∷ []; reached = reach.reached; spare = spare; expanded = reach.expanded })
@@ -388,14 +360,9 @@ IsGiven-front class from sources reached new more n within given = by (get_or so
 -- a class of the list is one of the classes, and has a source
 pub AreReached-has : (sources : List (Option ℕ)) (reached : List ℕ) → AreReached sources reached → (k d : ℕ) → k < length reached
     → has_source sources (get_or reached k d) × (get_or reached k d < length sources)
-AreReached-has sources reached are k d within = (has, by (cases_lt (get_or reached k d) (length sources)))
-  where
-    has : has_source sources (get_or reached k d)
-    has = (are.each (get_or reached k d)).0 (Contains-get_or reached k d within)
-
-    by : (get_or reached k d < length sources) ⊎ (length sources ≤ get_or reached k d) → get_or reached k d < length sources
-    by (inl l) = l
-    by (inr past) = absurd (true≢false (sym has ∙ ap is_some (get_or_past sources (get_or reached k d) None past)))
+AreReached-has sources reached are k d within =
+    let has = (are.each (get_or reached k d)).0 (Contains-get_or reached k d within) in
+    (has, within_of sources (get_or reached k d) None (λ e. true≢false (sym has ∙ ap is_some e)))
 
 -- the list is the same where a class is added
 pub AreReached-added : (sources : List (Option ℕ)) (reached : List ℕ) → AreReached sources reached → AreReached (sources ++ None ∷ []) reached

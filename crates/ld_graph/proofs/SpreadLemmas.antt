@@ -4,11 +4,12 @@ use Rattle.std.proofs.Common.{cond, count_by, ◌+◌, ◌<◌, ◌≤◌, ◌�
 use Rattle.std.proofs.Common.{length, get_or, set, Option, Some, None, arith, refl, sym, ap, subst}
 use Rattle.std.proofs.Common.{◌∙◌}
 use Rattle.std.proofs.lemmas.List.{get_or_append_left, get_or_push, length_push, get_or-set_same}
-use Rattle.std.proofs.lemmas.List.{get_or-set_other, get_or_past}
+use Rattle.std.proofs.lemmas.List.{get_or-set_other}
 use Rattle.std.proofs.lemmas.List.Sums.{sum_by-set, count_by-le-length}
 use Rattle.std.proofs.lemmas.Bool.{cases_lt, cases_eq}
 use Rattle.std.proofs.lemmas.List.Elements.{Contains-get_or}
 use Rattle.ld_graph.specs.Inner.Levels.{level_at, Spreads}
+use Rattle.ld_graph.proofs.NearLemmas.{within_of}
 
 pub some_same : (k l : ℕ) → Some k ≡ Some l → k ≡ l
 some_same k l e = cc
@@ -16,11 +17,7 @@ some_same k l e = cc
 -- a class with a level is within the list
 pub level_within : (levels : List (Option ℕ)) (x k : ℕ) → level_at levels x ≡ Some k
     → x < length levels
-level_within levels x k h = by (cases_lt x (length levels))
-  where
-    by : (x < length levels) ⊎ (length levels ≤ x) → x < length levels
-    by (inl l) = l
-    by (inr l) = let e : level_at levels x ≡ None = get_or_past levels x None l in cc
+level_within levels x k h = within_of levels x None (λ e. let f : level_at levels x ≡ None = e in cc)
 
 -- a class with a level keeps it where one with none is given one
 pub kept_marked : (levels : List (Option ℕ)) (y level : ℕ) → level_at levels y ≡ None

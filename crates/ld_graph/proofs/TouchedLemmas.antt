@@ -2,7 +2,7 @@
 use Rattle.std.proofs.Common.{◌≡◌, ◌≢◌, ◌<◌, ◌≤◌, ◌+◌, ◌⊎◌, inl, inr, ◌∙◌, ◌∷◌, ◌++◌, [], ℕ, Contains, List, Option, Some, None, arith, get_or, length, set, sym, subst, ap, refl}
 use Rattle.std.specs.Prelude.{IfSome}
 use Rattle.std.specs.Borrow.{Bor}
-use Rattle.std.proofs.lemmas.Bool.{cases_eq, cases_lt}
+use Rattle.std.proofs.lemmas.Bool.{cases_eq}
 use Rattle.std.proofs.lemmas.List.{get_or-set_same, get_or-set_other, length-set}
 use Rattle.std.proofs.lemmas.List.Elements.{Contains-append_left, Contains-push, Contains-push_cases}
 use Rattle.ld_graph.specs.Touched.{AreTouched}
@@ -20,11 +20,8 @@ taken levels touched i within h x k e = by (cases_eq x (get_or touched i 0))
     by (inr ne) =
         let q = h x k (sym (get_or-set_other levels (get_or touched i 0) x None None ne) ∙ e) in
         let a = q.1.0 in
-        (q.0, (past q.0 a q.1.1.1 (cases_lt i q.0), q.1.1))
-      where
-        past : (j : ℕ) → i ≤ j → get_or touched j 0 ≡ x → (i < j) ⊎ (j ≤ i) → i + 1 ≤ j
-        past j a at (inl l) = omega arith
-        past j a at (inr l) = let s : j ≡ i = omega arith in absurd (ne (sym at ∙ ap (λ z. get_or touched z 0) s))
+        let other : q.0 ≢ i = λ s. ne (sym q.1.1.1 ∙ ap (λ z. get_or touched z 0) s) in
+        (q.0, (omega (arith, a, other), q.1.1))
 
 pub none_left : (levels : List (Option ℕ)) (x : ℕ) → ((k : ℕ) → level_at levels x ≡ Some k → ⊥) → level_at levels x ≡ None
 none_left levels x h = by (level_at levels x) refl

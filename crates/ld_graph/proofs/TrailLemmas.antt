@@ -4,14 +4,16 @@ use Rattle.std.proofs.Common.{List, [], ◌∷◌, ◌++◌, length, get_or, ari
 use Rattle.std.proofs.Common.{refl, sym, ap, subst, ◌∙◌}
 use Rattle.std.proofs.lemmas.Bool.{cases_lt, cases_eq}
 use Rattle.std.proofs.lemmas.List.{get_or_append_left, get_or_push, length_push, get_or-set_same}
-use Rattle.std.proofs.lemmas.List.{get_or-set_other, get_or_past, length-set}
+use Rattle.std.proofs.lemmas.List.{get_or-set_other, length-set}
 use Rattle.ld_graph.specs.declared.trail.Stage.TheVariants.{Fresh, Open, Closed}
 use Rattle.ld_graph.specs.declared.trail.Frame.{Frame}
 use Rattle.ld_graph.specs.Lists.{IsNear, list_at}
 use Rattle.ld_graph.specs.Walks.{HasWalk}
+use Rattle.ld_graph.specs.Components.{AreTogether}
 use Rattle.ld_graph.specs.Inner.Repairs.{IsOrReaches}
 use Rattle.ld_graph.specs.Inner.Trails.{PlainTrail, no_frame, stage_at, next_at, wait_at, frame_at, IsLimit, IsHandled}
 use Rattle.ld_graph.specs.Inner.Trails.{IsFrame, AreStages, AreClosed, IsTrail, entered}
+use Rattle.ld_graph.proofs.NearLemmas.{within_of}
 use Rattle.ld_graph.proofs.WalkLemmas.{Far, IsWalk-Far, HasWalk-Far}
 
 -- two walks, one after the other
@@ -30,6 +32,12 @@ module _ (near : ℕ → ℕ → Type 0) where
       let r = Far-append f.0 g.0 a b c f.1.1 g.1.1 in
       inr (HasWalk-Far near r.0 a c r.1)
 
+  -- two classes that lead to each other are in one component
+  pub are_together : (a b : ℕ) → IsOrReaches near a b → IsOrReaches near b a → AreTogether near a b
+  are_together a b (inl e) h = inl e
+  are_together a b (inr w) (inl e) = inl (sym e)
+  are_together a b (inr w) (inr v) = inr (w, v)
+
   -- what no step leads out of no walk leads out of
   module _ (P : ℕ → Type 0) (closed : (x y : ℕ) → P x → near x y → P y) where
     Far-within : (n a b : ℕ) → P a → Far near n a b → P b
@@ -43,14 +51,13 @@ module _ (near : ℕ → ℕ → Type 0) where
 
 -- a class that waits is one of those that have a stage
 pub waits_within : (t : PlainTrail) (x i : ℕ) → stage_at t x ≡ Open i → x < length t.stages
-waits_within t x i e = by (cases_lt x (length t.stages))
-  where
-    by : (x < length t.stages) ⊎ (length t.stages ≤ x) → x < length t.stages
-    by (inl l) = l
-    by (inr l) = let f : stage_at t x ≡ Fresh = get_or_past t.stages x Fresh l in cc
+waits_within t x i e = within_of t.stages x Fresh (λ n. let f : stage_at t x ≡ Fresh = n in cc)
 
 pub same_place : (i j : ℕ) → Open i ≡ Open j → i ≡ j
 same_place i j e = cc
+
+pub same_class : (r s : ℕ) → Closed r ≡ Closed s → r ≡ s
+same_class r s e = cc
 
 module _ (lists : List (List ℕ)) where
   abbrev R : ℕ → ℕ → Type 0
