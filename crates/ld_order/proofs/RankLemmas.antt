@@ -4,34 +4,31 @@ use Rattle.std.proofs.lemmas.Bool.{cases_eq, cases_lt, ltb-true, lt-ltb, le-ltb}
 use Rattle.std.proofs.Math.Nat.{add-mul, mul-le-mul_right}
 use Rattle.ld_order.specs.Inner.Rings.{IsNode, AreLinked, IsSameOrder, count, rank}
 
+-- one more test keeps two counts in their order
+count_step : (a b : Bool) (x y : ℕ) → x ≤ y → (a ≡ true → b ≡ true) → x + (if a then 1 else 0) ≤ y + (if b then 1 else 0)
+count_step true true x y g i = omega (arith, g)
+count_step true false x y g i = absurd (true≢false (sym (i refl)))
+count_step false b x y g i = omega (arith, g)
+
 module _ (p q : ℕ → Bool) where
   pub count-most : (n : ℕ) → ((k : ℕ) → k < n → p k ≡ true → q k ≡ true) → count p n ≤ count q n
   count-most zero h = omega arith
   count-most (suc n) h =
-      by (p n) (q n) (count-most n (λ k l. h k (omega (arith, l)))) (h n (omega arith))
-    where
-      by : (a b : Bool) → count p n ≤ count q n → (a ≡ true → b ≡ true)
-          → count p n + (if a then 1 else 0) ≤ count q n + (if b then 1 else 0)
-      by true true g i = omega (arith, g)
-      by true false g i = absurd (true≢false (sym (i refl)))
-      by false b g i = let m : count q n ≤ count q n + (if b then 1 else 0) = omega arith in omega (arith, g, m)
+      count_step (p n) (q n) (count p n) (count q n) (count-most n (λ k l. h k (omega (arith, l)))) (h n (omega arith))
 
   pub count-less : (n : ℕ) → ((k : ℕ) → k < n → p k ≡ true → q k ≡ true) → (i : ℕ) → i < n → p i ≡ false
       → q i ≡ true → count p n < count q n
   count-less zero h i l e f = absurd (omega (arith, l))
   count-less (suc n) h i l e f =
       by (λ a. count-less n (λ k b. h k (omega (arith, b))) i a e f)
-      (count-most n (λ k b. h k (omega (arith, b)))) (h n (omega arith)) (cases_eq i n) (p n) refl (q n) refl
+      (count-most n (λ k b. h k (omega (arith, b)))) (h n (omega arith)) (cases_eq i n)
     where
       by : (i < n → count p n < count q n) → count p n ≤ count q n → (p n ≡ true → q n ≡ true)
-          → (i ≡ n) ⊎ (i ≢ n) → (a : Bool) → p n ≡ a → (b : Bool) → q n ≡ b → count p (suc n) < count q (suc n)
-      by g m t (inl z) true u b v = absurd (true≢false (sym u ∙ ap p (sym z) ∙ e))
-      by g m t (inl z) false u true v = rw (u, v) (omega (arith, m))
-      by g m t (inl z) false u false v = absurd (true≢false (sym f ∙ ap q z ∙ v))
-      by g m t (inr z) true u true v = let k = g (omega (arith, l, z)) in rw (u, v) (omega (arith, k))
-      by g m t (inr z) true u false v = absurd (true≢false (sym (t u) ∙ v))
-      by g m t (inr z) false u true v = let k = g (omega (arith, l, z)) in rw (u, v) (omega (arith, k))
-      by g m t (inr z) false u false v = let k = g (omega (arith, l, z)) in rw (u, v) (omega (arith, k))
+          → (i ≡ n) ⊎ (i ≢ n) → count p (suc n) < count q (suc n)
+      by g m t (inl z) = rw (ap p (sym z) ∙ e, ap q (sym z) ∙ f) (omega (arith, m))
+      by g m t (inr z) =
+          let k = count_step (p n) (q n) (count p n + 1) (count q n) (let k = g (omega (arith, l, z)) in omega (arith, k)) t in
+          omega (arith, k)
 
   pub count-same : (n : ℕ) → ((k : ℕ) → k < n → p k ≡ q k) → count p n ≡ count q n
   count-same zero h = refl
@@ -41,21 +38,13 @@ module _ (p q : ℕ → Bool) where
       → ((k : ℕ) → k < n → k ≢ i → p k ≡ q k) → count q n ≡ count p n + 1
   count-one zero i l e f h = absurd (omega (arith, l))
   count-one (suc n) i l e f h =
-      by (λ a. count-one n i a e f (λ k b. h k (omega (arith, b)))) (cases_eq i n) (q n) refl
+      by (λ a. count-one n i a e f (λ k b. h k (omega (arith, b)))) (cases_eq i n)
     where
-      by : (i < n → count q n ≡ count p n + 1) → (i ≡ n) ⊎ (i ≢ n) → (b : Bool) → q n ≡ b
-          → count q (suc n) ≡ count p (suc n) + 1
-      by g (inl z) true v =
-          let u : p n ≡ false = ap p (sym z) ∙ e in
+      by : (i < n → count q n ≡ count p n + 1) → (i ≡ n) ⊎ (i ≢ n) → count q (suc n) ≡ count p (suc n) + 1
+      by g (inl z) =
           let m = count-same n (λ k b. h k (omega (arith, b)) (λ w. omega (arith, b, z, w))) in
-          rw (u, v) (omega (arith, m))
-      by g (inl z) false v = absurd (true≢false (sym f ∙ ap q z ∙ v))
-      by g (inr z) true v =
-          let k = g (omega (arith, l, z)) in let u : p n ≡ true = h n (omega arith) (λ w. z (sym w)) ∙ v in
-          rw (u, v) (omega (arith, k))
-      by g (inr z) false v =
-          let k = g (omega (arith, l, z)) in let u : p n ≡ false = h n (omega arith) (λ w. z (sym w)) ∙ v in
-          rw (u, v) (omega (arith, k))
+          rw (ap p (sym z) ∙ e, ap q (sym z) ∙ f) (omega (arith, m))
+      by g (inr z) = let k = g (omega (arith, l, z)) in rw (h n (omega arith) (λ w. z (sym w))) (omega (arith, k))
 
 pub count-all : (n : ℕ) → count (λ _. true) n ≡ n
 count-all zero = refl

@@ -42,22 +42,20 @@ module _ (n : ℕ) (old l0 l1 l2 : ℕ → ℕ) (found : List ℕ) (i at0 at : �
   newest = (i, (omega arith, refl))
 
   which : (c : ℕ) → IsOneOf found (i + 1) c → (IsOneOf found i c) ⊎ (c ≡ get_or found i 0)
-  which c h = by (cases_eq h.0 i)
-    where
-      by : (h.0 ≡ i) ⊎ (h.0 ≢ i) → (IsOneOf found i c) ⊎ (c ≡ get_or found i 0)
-      by (inl e) = inr (sym h.1.1 ∙ ap (λ k. get_or found k 0) e)
-      by (inr e) = inl (h.0, (let a = h.1.0 in omega (arith, a, e), h.1.1))
+  which c h = elim (cases_eq h.0 i) [
+    | inl e ↦ inr (sym h.1.1 ∙ ap (λ k. get_or found k 0) e)
+    | inr e ↦ inl (h.0, (let a = h.1.0 in omega (arith, a, e), h.1.1))
+  ]
 
   -- the node behind which the next one goes is the last of those that went
   at_last : 0 < i → IsOneOf found i at
   at_last z = (i - 1, (omega (arith, z), sym (last z)))
 
   at_in : at < n
-  at_in = by (cases_eq i 0)
-    where
-      by : (i ≡ 0) ⊎ (i ≢ 0) → at < n
-      by (inl e) = let a = begin e in omega (arith, a, at_below)
-      by (inr e) = inside at (at_last (omega (arith, e)))
+  at_in = elim (cases_eq i 0) [
+    | inl e ↦ let a = begin e in omega (arith, a, at_below)
+    | inr e ↦ inside at (at_last (omega (arith, e)))
+  ]
 
   most : (c : ℕ) → IsOneOf found i c → l1 c ≤ l1 at
   most c h = by (cases_eq h.0 (i - 1))
