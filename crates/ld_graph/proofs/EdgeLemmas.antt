@@ -2,13 +2,13 @@
 use Rattle.std.proofs.Common.{◌≡◌, ◌≢◌, ◌⊎◌, inl, inr, ◌++◌, set, if◌then◌else◌, ℕ, ◌<◌, Bool}
 use Rattle.std.proofs.Common.{true, false, true≢false, ◌&&◌, nat_eq, List, [], ◌∷◌, length, get_or}
 use Rattle.std.proofs.Common.{slice_get, position, Some, arith, refl, sym, ap, subst}
-use Rattle.std.proofs.Common.{◌∙◌, Contains, ◌↔◌}
+use Rattle.std.proofs.Common.{◌∙◌, ◌↔◌}
 use Rattle.std.specs.List.{list_any, IsDistinct}
 use Rattle.std.proofs.lemmas.Map.Keys.{apart_from_distinct}
 use Rattle.std.proofs.lemmas.List.Folds.{list_any_at}
 use Rattle.std.proofs.lemmas.List.Elements.{Contains-append_left, Contains-push}
 use Rattle.std.proofs.lemmas.List.Elements.{Contains-push_cases}
-use Rattle.std.proofs.lemmas.Bool.{eqb-true, eq-eqb}
+use Rattle.std.proofs.lemmas.Bool.{and_parts, eqb-true, eq-eqb}
 use Rattle.std.proofs.lemmas.List.Quantifiers.{position-Some}
 use Rattle.std.proofs.lemmas.Option.{slice_get-get_or, get_or_from_slice_get}
 use Rattle.indexmap.proofs.CallerLemmas.{Contains-list_any}
@@ -22,13 +22,9 @@ use Rattle.indexmap.specs.IndexSet.{insert_key}
 abbrev pub same_edge : Edge → Edge → Bool
 same_edge x y = nat_eq x.from y.from && nat_eq x.to y.to
 
-two_true : (p q : Bool) → (p && q) ≡ true → (p ≡ true) × (q ≡ true)
-two_true true q e = (refl, e)
-two_true false q e = absurd (true≢false (sym e))
-
 pub same_edge-≡ : (x y : Edge) → same_edge x y ≡ true → x ≡ y
 same_edge-≡ x y e =
-    let h = two_true (nat_eq x.from y.from) (nat_eq x.to y.to) e in
+    let h = and_parts (nat_eq x.from y.from) (nat_eq x.to y.to) e in
     ap (λ f. edge f x.to) (eqb-true x.from y.from h.0) ∙ ap (λ t. edge y.from t) (eqb-true x.to y.to
     h.1)
 
@@ -63,11 +59,10 @@ IsEdgeNumber-position edges a b i e =
 -- the edges of a list with one more
 pub IsEdge-push : (edges : List Edge) (a b x y : ℕ) → IsEdge (edges ++ edge a b ∷ []) x y
     → IsEdge edges x y ⊎ ((a ≡ x) × (b ≡ y))
-IsEdge-push edges a b x y h = by (Contains-push_cases edges (edge a b) (edge x y) h)
-  where
-    by : Contains edges (edge x y) ⊎ (edge a b ≡ edge x y) → IsEdge edges x y ⊎ ((a ≡ x) × (b ≡ y))
-    by (inl e) = inl e
-    by (inr e) = inr (ap (λ k. k.from) e, ap (λ k. k.to) e)
+IsEdge-push edges a b x y h = elim (Contains-push_cases edges (edge a b) (edge x y) h) [
+  | inl e ↦ inl e
+  | inr e ↦ inr (ap (λ k. k.from) e, ap (λ k. k.to) e)
+]
 
 -- what the lists have in one more place
 module _ (lists : List (List ℕ)) (near new : ℕ → ℕ → Type 0) (a b : ℕ) (l : a < length lists) (is : new a b)
@@ -110,11 +105,10 @@ IsNear-turned lists edges a b l same = near_more lists (λ x y. IsEdge edges y x
 pub ends_push : (edges : List Edge) (a b n : ℕ) → a < n → b < n → ((x y : ℕ) → IsEdge edges x y
     → (x < n) × (y < n))
     → (x y : ℕ) → IsEdge (edges ++ edge a b ∷ []) x y → (x < n) × (y < n)
-ends_push edges a b n l m ends x y h = by (IsEdge-push edges a b x y h)
-  where
-    by : IsEdge edges x y ⊎ ((a ≡ x) × (b ≡ y)) → (x < n) × (y < n)
-    by (inl e) = ends x y e
-    by (inr e) = (subst (λ z. z < n) e.0 l, subst (λ z. z < n) e.1 m)
+ends_push edges a b n l m ends x y h = elim (IsEdge-push edges a b x y h) [
+  | inl e ↦ ends x y e
+  | inr e ↦ (subst (λ z. z < n) e.0 l, subst (λ z. z < n) e.1 m)
+]
 
 -- a key that isn't there goes last
 pub insert_key-new : (edges : List Edge) (e : Edge) → list_any (same_edge e) edges ≡ false

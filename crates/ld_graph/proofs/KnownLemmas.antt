@@ -55,25 +55,22 @@ module _ (lists : List (List ℕ)) (t : PlainTrail) (h : IsTrail lists t) (some 
     inside_told x i = ap (λ z. stage_at s z) (sym i.1.1.1) ∙ new.told i.0 i.1.0 i.1.1.0
 
     kept : (x r : ℕ) → stage_at t x ≡ Closed r → stage_at s x ≡ Closed r
-    kept x r e = by (inside_or x)
-      where
-        by : IsInside x ⊎ (stage_at s x ≡ stage_at t x) → stage_at s x ≡ Closed r
-        by (inl i) = let f = inside_waits x i in cc
-        by (inr f) = f ∙ e
+    kept x r e = elim (inside_or x) [
+      | inl i ↦ let f = inside_waits x i in cc
+      | inr f ↦ f ∙ e
+    ]
 
     was : (x r : ℕ) → stage_at s x ≡ Closed r → (IsInside x × (r ≡ top.class)) ⊎ (stage_at t x ≡ Closed r)
-    was x r e = by (inside_or x)
-      where
-        by : IsInside x ⊎ (stage_at s x ≡ stage_at t x) → (IsInside x × (r ≡ top.class)) ⊎ (stage_at t x ≡ Closed r)
-        by (inl i) = inl (i, same_class r top.class (sym e ∙ inside_told x i))
-        by (inr f) = inr (sym f ∙ e)
+    was x r e = elim (inside_or x) [
+      | inl i ↦ inl (i, same_class r top.class (sym e ∙ inside_told x i))
+      | inr f ↦ inr (sym f ∙ e)
+    ]
 
     pub told-met : (x : ℕ) → stage_at s x ≡ Fresh → stage_at t x ≡ Fresh
-    told-met x e = by (inside_or x)
-      where
-        by : IsInside x ⊎ (stage_at s x ≡ stage_at t x) → stage_at t x ≡ Fresh
-        by (inl i) = let f = inside_told x i in cc
-        by (inr f) = sym f ∙ e
+    told-met x e = elim (inside_or x) [
+      | inl i ↦ let f = inside_told x i in cc
+      | inr f ↦ sym f ∙ e
+    ]
 
     waiting_len : length (take top.position t.waiting) ≡ top.position
     waiting_len = let f = top_frame lists t h some in let a = f.starts in length-take-le top.position t.waiting (omega (arith, a))
@@ -141,11 +138,10 @@ module _ (lists : List (List ℕ)) (t : PlainTrail) (h : IsTrail lists t) (some 
         by z e (inr c) = let a = c.1.0 in (top.class, inside_told z (c.0, (omega (arith, a, whole), (c.1.1.0, c.1.1.1 ∙ e))))
 
     told_ahead : (x y r : ℕ) → stage_at s x ≡ Closed r → IsNear lists x y → (q : ℕ) × (stage_at s y ≡ Closed q)
-    told_ahead x y r e n = by (was x r e)
-      where
-        by : (IsInside x × (r ≡ top.class)) ⊎ (stage_at t x ≡ Closed r) → (q : ℕ) × (stage_at s y ≡ Closed q)
-        by (inl i) = inside_ahead x y i.0 n
-        by (inr c) = let q = h.closed.ahead x y r c n in (q.0, kept y q.0 q.1)
+    told_ahead x y r e n = elim (was x r e) [
+      | inl i ↦ inside_ahead x y i.0 n
+      | inr c ↦ let q = h.closed.ahead x y r c n in (q.0, kept y q.0 q.1)
+    ]
 
     told_whole : (x y r : ℕ) → stage_at s x ≡ Closed r → R x y → R y x → stage_at s y ≡ Closed r
     told_whole x y r e a b = by (was x r e)

@@ -2,9 +2,9 @@
 use Rattle.std.proofs.Common.{◌≡◌, ◌≢◌, ◌⊎◌, inl, inr, ℕ, ◌+◌, ◌-◌, ◌<◌, ◌≤◌, Bool, true}
 use Rattle.std.proofs.Common.{false}
 use Rattle.std.proofs.Common.{true≢false, List, [], ◌∷◌, ◌++◌, length, get_or, set, replicate}
-use Rattle.std.proofs.Common.{nat_eq, Contains, arith, refl, sym, ap, subst, ◌∙◌}
+use Rattle.std.proofs.Common.{nat_eq, Contains, arith, sym, ap, subst, ◌∙◌}
 use Rattle.std.specs.List.{list_any}
-use Rattle.std.proofs.lemmas.Bool.{cases_lt, cases_eq, eqb-true}
+use Rattle.std.proofs.lemmas.Bool.{cases_Bool, cases_lt, cases_eq, eqb-true}
 use Rattle.std.proofs.lemmas.Cmp.{nat_eq_equiv}
 use Rattle.std.proofs.lemmas.Map.Views.{Contains-from_any, list_any-from_Contains}
 use Rattle.std.proofs.lemmas.Map.Steps.{length-le_from_distinct_below}
@@ -16,14 +16,11 @@ use Rattle.std.proofs.lemmas.List.Elements.{Contains-append_left}
 use Rattle.ld_graph.specs.Inner.Marks.{AreMarked}
 use Rattle.ld_graph.proofs.NearLemmas.{within_of}
 use Rattle.ld_graph.proofs.OnceLemmas.{IsDistinct-none, IsDistinct-one_more}
-
-pub bool_cases : (b : Bool) → (b ≡ true) ⊎ (b ≡ false)
-bool_cases true = inl refl
-bool_cases false = inr refl
+use Rattle.ld_graph.proofs.ReachLemmas.{is_marked, mark_on, mark_stays, mark_was}
 
 -- whether a number is one of these
 pub has_or_not : (found : List ℕ) (k : ℕ) → Contains found k ⊎ (¬ Contains found k)
-has_or_not found k = by (bool_cases (list_any (nat_eq k) found))
+has_or_not found k = by (cases_Bool (list_any (nat_eq k) found))
   where
     by : (list_any (nat_eq k) found ≡ true) ⊎ (list_any (nat_eq k) found ≡ false)
         → Contains found k ⊎ (¬ Contains found k)
@@ -54,25 +51,16 @@ module _ (marks : List Bool) (found : List ℕ) (h : AreMarked marks found) wher
     pub AreMarked-add : AreMarked (set marks offset true) (found ++ offset ∷ [])
     AreMarked-add = record {
       once = IsDistinct-one_more found offset h.once (unmarked offset free);
-      marked = λ k. (λ e. to k (cases_eq k offset) e, λ n. back k (cases_eq k offset) n);
+      marked = λ k. (λ e. to k (mark_was marks offset k e), λ n. back k (Contains-push_cases found offset k n));
     }
       where
-        to : (k : ℕ) → (k ≡ offset) ⊎ (k ≢ offset) → get_or (set marks offset true) k false ≡ true
-            → Contains (found ++ offset ∷ []) k
-        to k (inl e) _ = subst (Contains (found ++ offset ∷ [])) (sym e) (Contains-push found offset)
-        to k (inr e) m = Contains-append_left found (offset ∷ []) k ((h.marked k).0
-            (sym (get_or-set_other marks offset k true false e) ∙ m))
+        to : (k : ℕ) → (k ≡ offset) ⊎ is_marked marks k → Contains (found ++ offset ∷ []) k
+        to k (inl e) = subst (Contains (found ++ offset ∷ [])) (sym e) (Contains-push found offset)
+        to k (inr m) = Contains-append_left found (offset ∷ []) k ((h.marked k).0 m)
 
-        old : (k : ℕ) → k ≢ offset → Contains found k ⊎ (offset ≡ k) → Contains found k
-        old k e (inl n) = n
-        old k e (inr n) = absurd (e (sym n))
-
-        back : (k : ℕ) → (k ≡ offset) ⊎ (k ≢ offset) → Contains (found ++ offset ∷ []) k
-            → get_or (set marks offset true) k false ≡ true
-        back k (inl e) _ = ap (λ z. get_or (set marks offset true) z false) e
-            ∙ get_or-set_same marks offset true false within
-        back k (inr e) n = get_or-set_other marks offset k true false e
-            ∙ (h.marked k).1 (old k e (Contains-push_cases found offset k n))
+        back : (k : ℕ) → Contains found k ⊎ (offset ≡ k) → is_marked (set marks offset true) k
+        back k (inl n) = mark_stays marks offset k ((h.marked k).1 n)
+        back k (inr e) = subst (is_marked (set marks offset true)) e (mark_on marks offset within)
 
   pub AreMarked-more : (n : ℕ) → AreMarked (marks ++ replicate n false) found
   AreMarked-more n = record {
@@ -96,12 +84,10 @@ module _ (marks : List Bool) (found : List ℕ) (h : AreMarked marks found) wher
               (let r = length-replicate {A = Bool} n false in omega (arith, b, r))
 
       same : (k : ℕ) → get_or (marks ++ replicate n false) k false ≡ get_or marks k false
-      same k = by (cases_lt k (length marks))
-        where
-          by : (k < length marks) ⊎ (length marks ≤ k)
-              → get_or (marks ++ replicate n false) k false ≡ get_or marks k false
-          by (inl l) = get_or_append_left marks (replicate n false) false k l
-          by (inr l) = past k l ∙ sym (get_or_past marks k false l)
+      same k = elim (cases_lt k (length marks)) [
+        | inl l ↦ get_or_append_left marks (replicate n false) false k l
+        | inr l ↦ past k l ∙ sym (get_or_past marks k false l)
+      ]
 
 -- one that isn't marked is a further one
 pub found_less : (marks : List Bool) (found : List ℕ) (offset : ℕ) → AreMarked marks found

@@ -1,5 +1,5 @@
 -- Which neighbours there are, as a class or a neighbour is added.
-use Rattle.std.proofs.Common.{◌≡◌, ◌≢◌, ◌⊎◌, inl, inr, ◌++◌, set, ℕ, ◌<◌, ◌≤◌, List, [], ◌∷◌, get_or, length}
+use Rattle.std.proofs.Common.{◌≡◌, ◌≢◌, ◌⊎◌, inl, inr, ◌++◌, set, ℕ, ◌<◌, List, [], ◌∷◌, get_or, length}
 use Rattle.std.proofs.Common.{arith, refl, sym, ap, subst, ◌∙◌, Contains, ◌↔◌}
 use Rattle.std.proofs.lemmas.List.{get_or_append_left, get_or_push, get_or_past, get_or-set_same}
 use Rattle.std.proofs.lemmas.List.{get_or-set_other, length_push}
@@ -10,11 +10,10 @@ use Rattle.ld_graph.specs.Lists.{NearLists, ListsGrown, list_at, IsNear}
 
 -- what is read behind the end is the default
 pub within_of : {X : Type 0} → (xs : List X) (k : ℕ) (d : X) → get_or xs k d ≢ d → k < length xs
-within_of xs k d other = by (cases_lt k (length xs))
-  where
-    by : (k < length xs) ⊎ (length xs ≤ k) → k < length xs
-    by (inl l) = l
-    by (inr past) = absurd (other (get_or_past xs k d past))
+within_of xs k d other = elim (cases_lt k (length xs)) [
+  | inl l ↦ l
+  | inr past ↦ absurd (other (get_or_past xs k d past))
+]
 
 -- a default at the end changes no answer
 pub get_or-push_default : {X : Type 0} → (xs : List X) (d : X) (k : ℕ) → get_or (xs ++ d ∷ []) k d ≡ get_or xs k d

@@ -1,5 +1,5 @@
 -- Lists of neighbours keep each class once.
-use Rattle.std.proofs.Common.{◌≡◌, ◌≢◌, ◌⊎◌, inl, inr, ℕ, ◌<◌, List, [], ◌∷◌, ◌++◌, length}
+use Rattle.std.proofs.Common.{◌≡◌, inl, inr, ℕ, ◌<◌, List, [], ◌∷◌, ◌++◌, length}
 use Rattle.std.proofs.Common.{nat_eq, set, Contains, Bool, true, false, refl, sym}
 use Rattle.std.proofs.Common.{ap, subst, ◌∙◌}
 use Rattle.std.specs.List.{IsDistinct, list_any}
@@ -37,11 +37,10 @@ HasEachOnce-class lists h c = subst (IsDistinct nat_eq) (sym (get_or-push_defaul
 
 pub HasEachOnce-push : (lists : List (List ℕ)) (a b : ℕ) → a < length lists → ¬ IsNear lists a b
     → HasEachOnce lists → HasEachOnce (set lists a (list_at lists a ++ b ∷ []))
-HasEachOnce-push lists a b l free h c = by (cases_eq c a)
-  where
-    by : (c ≡ a) ⊎ (c ≢ a) → IsDistinct nat_eq (list_at (set lists a (list_at lists a ++ b ∷ [])) c)
-    by (inl e) = subst (IsDistinct nat_eq) (sym (ap (λ z. list_at (set lists a (list_at lists a ++
-        b ∷ [])) z) e ∙ get_or-set_same lists a (list_at lists a ++ b ∷ []) [] l))
-        (IsDistinct-one_more (list_at lists a) b (h a) free)
-    by (inr e) = subst (IsDistinct nat_eq) (sym (get_or-set_other lists a c (list_at lists a ++ b ∷
-        []) [] e)) (h c)
+HasEachOnce-push lists a b l free h c = elim (cases_eq c a) [
+  | inl e ↦ subst (IsDistinct nat_eq) (sym (ap (λ z. list_at (set lists a (list_at lists a ++
+      b ∷ [])) z) e ∙ get_or-set_same lists a (list_at lists a ++ b ∷ []) [] l))
+      (IsDistinct-one_more (list_at lists a) b (h a) free)
+  | inr e ↦ subst (IsDistinct nat_eq) (sym (get_or-set_other lists a c (list_at lists a ++ b ∷
+      []) [] e)) (h c)
+]

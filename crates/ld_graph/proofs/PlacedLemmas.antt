@@ -17,7 +17,7 @@ use Rattle.ld_graph.specs.Inner.Repairs.{IsOrReaches}
 use Rattle.ld_graph.proofs.EdgeLemmas.{IsEdge-push}
 use Rattle.ld_graph.proofs.ApartLemmas.{Far-rises}
 use Rattle.ld_order.specs.Orders.{AreRanks}
-use Rattle.ld_graph.proofs.MarkLemmas.{bool_cases}
+use Rattle.std.proofs.lemmas.Bool.{cases_Bool}
 use Rattle.ld_graph.proofs.WalkLemmas.{HasWalk-more, HasWalk-one, IsWalk-Far, IsWalk-same}
 
 -- where ranks rise along the steps there is no cycle
@@ -65,11 +65,10 @@ module _ {C : Type 0} (g : Inside C) (h : IsKept g) (a b : ℕ) (now : Bool) (ra
   -- ranks that rise along the old edges and along the new one
   rises_more : ((x y : ℕ) → IsEdge g.edges.keys x y → get_or ranks x 0 < get_or ranks y 0) → get_or ranks a 0 < get_or ranks b 0
       → (x y : ℕ) → IsEdge (g.edges.keys ++ edge a b ∷ []) x y → get_or ranks x 0 < get_or ranks y 0
-  rises_more old up x y e = by (IsEdge-push g.edges.keys a b x y e)
-    where
-      by : IsEdge g.edges.keys x y ⊎ ((a ≡ x) × (b ≡ y)) → get_or ranks x 0 < get_or ranks y 0
-      by (inl o) = old x y o
-      by (inr o) = subst (λ z. get_or ranks z 0 < get_or ranks y 0) o.0 (subst (λ z. get_or ranks a 0 < get_or ranks z 0) o.1 up)
+  rises_more old up x y e = elim (IsEdge-push g.edges.keys a b x y e) [
+    | inl o ↦ old x y o
+    | inr o ↦ subst (λ z. get_or ranks z 0 < get_or ranks y 0) o.0 (subst (λ z. get_or ranks a 0 < get_or ranks z 0) o.1 up)
+  ]
 
   pub placed_rises : (answer : Insert) → Placed answer → now ≡ false
       → (x y : ℕ) → IsEdge (g.edges.keys ++ edge a b ∷ []) x y → get_or ranks x 0 < get_or ranks y 0
@@ -139,7 +138,7 @@ module _ {C : Type 0} (g : Inside C) (h : IsKept g) (a b : ℕ) (now : Bool) (ra
 
 -- whether there is a cycle is known
 pub cycle_kept : {C : Type 0} (g : Inside C) → IsKept g → IsTrue g.has_cycle ↔ HasCycle (IsEdge g.edges.keys)
-cycle_kept g h = (h.cycle, λ w. by (bool_cases g.has_cycle) w)
+cycle_kept g h = (h.cycle, λ w. by (cases_Bool g.has_cycle) w)
   where
     by : (g.has_cycle ≡ true) ⊎ (g.has_cycle ≡ false) → HasCycle (IsEdge g.edges.keys)
         → g.has_cycle ≡ true

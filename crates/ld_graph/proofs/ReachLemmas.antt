@@ -16,7 +16,7 @@ use Rattle.ld_graph.specs.Reach.{IsReach, IsSource, PlainReach}
 use Rattle.ld_graph.specs.Walks.{HasWalk}
 use Rattle.ld_graph.proofs.NearLemmas.{get_or-push_default, within_of}
 use Rattle.ld_graph.proofs.OnceLemmas.{IsDistinct-none, IsDistinct-one_more}
-use Rattle.ld_graph.proofs.SpreadLemmas.{kept_marked, some_is, some_same}
+use Rattle.ld_graph.proofs.SpreadLemmas.{kept_marked, none_is, some_is, some_same}
 use Rattle.ld_graph.proofs.WalkLemmas.{Far, IsWalk-Far, HasWalk-more, HasWalk-one, IsWalk-same}
 
 abbrev pub is_marked : List Bool → ℕ → Type 0
@@ -99,11 +99,10 @@ mark_stays marks c x on = by (cases_eq x c) (cases_lt x (length marks))
     by (inr other) _ = get_or-set_other marks c x true false other ∙ on
 
 pub mark_was : (marks : List Bool) (c x : ℕ) → is_marked (set marks c true) x → (x ≡ c) ⊎ is_marked marks x
-mark_was marks c x on = by (cases_eq x c)
-  where
-    by : (x ≡ c) ⊎ (x ≢ c) → (x ≡ c) ⊎ is_marked marks x
-    by (inl same) = inl same
-    by (inr other) = inr (sym (get_or-set_other marks c x true false other) ∙ on)
+mark_was marks c x on = elim (cases_eq x c) [
+  | inl same ↦ inl same
+  | inr other ↦ inr (sym (get_or-set_other marks c x true false other) ∙ on)
+]
 
 pub mark_on : (marks : List Bool) (c : ℕ) → c < length marks → is_marked (set marks c true) c
 mark_on marks c within = get_or-set_same marks c true false within
@@ -184,17 +183,15 @@ module _ (step : ℕ → ℕ → Type 0) (seeds : List ℕ) where
     covered = below_more (λ i. is_marked (set marks class true) (get_or reached i 0)) done
         (λ i low. mark_stays marks class (get_or reached i 0) (spread.covered i low)) (subst (is_marked (set marks class true)) is (mark_on marks class within));
     seeded = λ x seed. mark_stays marks class x (spread.seeded x seed);
-    known = λ x on. known x (mark_was marks class x on);
-    closed = λ x y on h. closed x y (mark_was marks class x on) h;
+    known = λ x on. elim (mark_was marks class x on) [
+      | inl same ↦ inr (ap (λ k. is_some (get_or sources k None)) same ∙ has)
+      | inr m ↦ spread.known x m
+    ];
+    closed = λ x y on h. elim (mark_was marks class x on) [
+      | inl same ↦ inl (same, h)
+      | inr m ↦ inr (not_ahead (spread.closed x y m h))
+    ];
   }
-    where
-      known : (x : ℕ) → (x ≡ class) ⊎ is_marked marks x → Contains seeds x ⊎ has_source sources x
-      known x (inl same) = inr (ap (λ k. is_some (get_or sources k None)) same ∙ has)
-      known x (inr m) = spread.known x m
-
-      closed : (x y : ℕ) → (x ≡ class) ⊎ is_marked marks x → step x y → all_ahead step class x y ⊎ has_source sources y
-      closed x y (inl same) h = inl (same, h)
-      closed x y (inr m) h = inr (not_ahead (spread.closed x y m h))
 
   -- one that was expanded before waits no more
   pub spread-passed : (class : ℕ) (sources : List (Option ℕ)) (marks : List Bool) (reached : List ℕ) (done : ℕ) → class ≡ get_or reached done 0 → is_marked marks class
@@ -207,32 +204,30 @@ module _ (step : ℕ → ℕ → Type 0) (seeds : List ℕ) where
     closed = spread.closed;
   }
 
+  known_more : (class : ℕ) (sources : List (Option ℕ)) (x : ℕ) → Contains seeds x ⊎ has_source sources x
+      → Contains (seeds ++ class ∷ []) x ⊎ has_source sources x
+  known_more class sources x (inl seed) = inl (Contains-append_left seeds (class ∷ []) x seed)
+  known_more class sources x (inr has) = inr has
+
   -- a class that was not expanded becomes a seed
   pub spread-seeded : (class : ℕ) (sources : List (Option ℕ)) (marks : List Bool) (reached : List ℕ) (done : ℕ) → class < length marks
       → IsSpread step seeds none_ahead sources marks reached done → IsSpread step (seeds ++ class ∷ []) (all_ahead step class) sources (set marks class true) reached done
   spread-seeded class sources marks reached done within spread = record {
     sound = λ x s is. let source = spread.sound x s is in (Contains-append_left seeds (class ∷ []) s source.0, source.1);
     covered = λ i low. mark_stays marks class (get_or reached i 0) (spread.covered i low);
-    seeded = λ x seed. seeded x (Contains-push_cases seeds class x seed);
-    known = λ x on. known x (mark_was marks class x on);
-    closed = λ x y on h. closed x y (mark_was marks class x on) h;
+    seeded = λ x seed. elim (Contains-push_cases seeds class x seed) [
+      | inl old ↦ mark_stays marks class x (spread.seeded x old)
+      | inr same ↦ subst (is_marked (set marks class true)) same (mark_on marks class within)
+    ];
+    known = λ x on. elim (mark_was marks class x on) [
+      | inl same ↦ inl (subst (Contains (seeds ++ class ∷ [])) (sym same) (Contains-push seeds class))
+      | inr m ↦ known_more class sources x (spread.known x m)
+    ];
+    closed = λ x y on h. elim (mark_was marks class x on) [
+      | inl same ↦ inl (same, h)
+      | inr m ↦ inr (not_ahead (spread.closed x y m h))
+    ];
   }
-    where
-      seeded : (x : ℕ) → Contains seeds x ⊎ (class ≡ x) → is_marked (set marks class true) x
-      seeded x (inl seed) = mark_stays marks class x (spread.seeded x seed)
-      seeded x (inr same) = subst (is_marked (set marks class true)) same (mark_on marks class within)
-
-      known : (x : ℕ) → (x ≡ class) ⊎ is_marked marks x → Contains (seeds ++ class ∷ []) x ⊎ has_source sources x
-      known x (inl same) = inl (subst (Contains (seeds ++ class ∷ [])) (sym same) (Contains-push seeds class))
-      known x (inr m) = by (spread.known x m)
-        where
-          by : Contains seeds x ⊎ has_source sources x → Contains (seeds ++ class ∷ []) x ⊎ has_source sources x
-          by (inl seed) = inl (Contains-append_left seeds (class ∷ []) x seed)
-          by (inr has) = inr has
-
-      closed : (x y : ℕ) → (x ≡ class) ⊎ is_marked marks x → step x y → all_ahead step class x y ⊎ has_source sources y
-      closed x y (inl same) h = inl (same, h)
-      closed x y (inr m) h = inr (not_ahead (spread.closed x y m h))
 
   -- so does one that was
   pub spread-seeded_again : (class : ℕ) (sources : List (Option ℕ)) (marks : List Bool) (reached : List ℕ) (done : ℕ) → is_marked marks class
@@ -240,18 +235,13 @@ module _ (step : ℕ → ℕ → Type 0) (seeds : List ℕ) where
   spread-seeded_again class sources marks reached done on spread = record {
     sound = λ x s is. let source = spread.sound x s is in (Contains-append_left seeds (class ∷ []) s source.0, source.1);
     covered = spread.covered;
-    seeded = λ x seed. seeded x (Contains-push_cases seeds class x seed);
-    known = λ x m. known x (spread.known x m);
+    seeded = λ x seed. elim (Contains-push_cases seeds class x seed) [
+      | inl old ↦ spread.seeded x old
+      | inr same ↦ subst (is_marked marks) same on
+    ];
+    known = λ x m. known_more class sources x (spread.known x m);
     closed = spread.closed;
   }
-    where
-      seeded : (x : ℕ) → Contains seeds x ⊎ (class ≡ x) → is_marked marks x
-      seeded x (inl seed) = spread.seeded x seed
-      seeded x (inr same) = subst (is_marked marks) same on
-
-      known : (x : ℕ) → Contains seeds x ⊎ has_source sources x → Contains (seeds ++ class ∷ []) x ⊎ has_source sources x
-      known x (inl seed) = inl (Contains-append_left seeds (class ∷ []) x seed)
-      known x (inr has) = inr has
 
 -- with other steps, some of which are ahead
 pub spread-longer : (step longer : ℕ → ℕ → Type 0) (seeds : List ℕ) (ahead left : ℕ → ℕ → Type 0) (sources : List (Option ℕ)) (marks : List Bool) (reached : List ℕ) (done : ℕ)
@@ -278,11 +268,10 @@ pub ahead-all : (near : List ℕ) (class x y : ℕ) → (x ≡ class) × Contain
 ahead-all near class x y h = (h.0, (h.1.0, (omega arith, h.1.1, get_or_default near h.1.0 0 y h.1.1 ∙ h.1.2)))
 
 pub ahead-next : (near : List ℕ) (class k x y : ℕ) → ahead_from near class k x y → ahead_from near class (k + 1) x y ⊎ (y ≡ get_or near k 0)
-ahead-next near class k x y h = by (cases_eq h.1.0 k)
-  where
-    by : (h.1.0 ≡ k) ⊎ (h.1.0 ≢ k) → ahead_from near class (k + 1) x y ⊎ (y ≡ get_or near k 0)
-    by (inl same) = inr (sym h.1.1.2 ∙ ap (λ i. get_or near i 0) same)
-    by (inr other) = inl (h.0, (h.1.0, (omega (arith, h.1.1.0, other), h.1.1.1, h.1.1.2)))
+ahead-next near class k x y h = elim (cases_eq h.1.0 k) [
+  | inl same ↦ inr (sym h.1.1.2 ∙ ap (λ i. get_or near i 0) same)
+  | inr other ↦ inl (h.0, (h.1.0, (omega (arith, h.1.1.0, other), h.1.1.1, h.1.1.2)))
+]
 
 pub ahead-none : (near : List ℕ) (class k x y : ℕ) → length near ≤ k → ahead_from near class k x y → none_ahead x y
 ahead-none near class k x y past h = absurd (omega (arith, past, h.1.1.0, h.1.1.1))
@@ -311,11 +300,10 @@ IsSource-along step seeds ahead sources marks reached done a b spread on h = by 
 
 -- an edge of a list with one more is one of the list or that one
 pub IsEdge-cases : (before : List Edge) (a b x y : ℕ) → IsEdge (before ++ edge a b ∷ []) x y → IsEdge before x y ⊎ ((x ≡ a) × (y ≡ b))
-IsEdge-cases before a b x y h = by (Contains-push_cases before (edge a b) (edge x y) h)
-  where
-    by : IsEdge before x y ⊎ (edge a b ≡ edge x y) → IsEdge before x y ⊎ ((x ≡ a) × (y ≡ b))
-    by (inl old) = inl old
-    by (inr same) = inr (ap (λ (e : Edge). e.from) (sym same), ap (λ (e : Edge). e.to) (sym same))
+IsEdge-cases before a b x y h = elim (Contains-push_cases before (edge a b) (edge x y) h) [
+  | inl old ↦ inl old
+  | inr same ↦ inr (ap (λ (e : Edge). e.from) (sym same), ap (λ (e : Edge). e.to) (sym same))
+]
 
 -- as many marks are seen as there are
 pub marks_len : (r : Inside) (reach : PlainReach) → reach_of r ≡ reach → length r.marks.each ≡ length reach.marks
@@ -397,11 +385,9 @@ AreReached-given sources reached class from are within free = record {
 
     to : (c : ℕ) → Contains reached c ⊎ (class ≡ c) → has_source (set sources class (Some from)) c
     to c (inr same) = subst (has_source (set sources class (Some from))) same here
-    to c (inl there) = by (cases_eq c class)
-      where
-        by : (c ≡ class) ⊎ (c ≢ class) → has_source (set sources class (Some from)) c
-        by (inl same) = subst (has_source (set sources class (Some from))) (sym same) here
-        by (inr other) = ap is_some (get_or-set_other sources class c (Some from) None other) ∙ (are.each c).0 there
+    to c (inl there) =
+        let s = some_is (get_or sources c None) ((are.each c).0 there) in
+        ap is_some (kept_marked sources class from (none_is (get_or sources class None) free) c s.0 s.1)
 
     back : (c : ℕ) → (c ≡ class) ⊎ (c ≢ class) → has_source (set sources class (Some from)) c → Contains (reached ++ class ∷ []) c
     back c (inl same) _ = subst (Contains (reached ++ class ∷ [])) (sym same) (Contains-push reached class)

@@ -119,14 +119,11 @@ module _ (near : ℕ → ℕ → Type 0) (start : ℕ) where
 
     covered : (x l : ℕ) → level_at levels x ≡ Some l → (i : ℕ) × ((i < length queue)
         × (get_or queue i 0 ≡ x))
-    covered x l e = by (h.fresh x l e)
-      where
-        by : (level_at old x ≡ Some l) ⊎ ((l ≡ k + 1) × near (get_or before done 0) x × ((i : ℕ)
-            × ((length before ≤ i) × (i < length queue) × (get_or queue i 0 ≡ x))))
-            → (i : ℕ) × ((i < length queue) × (get_or queue i 0 ≡ x))
-        by (inl o) = let c = p.covered x l o in let a = c.1.0 in let g = h.longer
-            in (c.0, (omega (arith, a, g), h.front c.0 a ∙ c.1.1))
-        by (inr o) = (o.2.0, (o.2.1.1, o.2.1.2))
+    covered x l e = elim (h.fresh x l e) [
+      | inl o ↦ let c = p.covered x l o in let a = c.1.0 in let g = h.longer
+          in (c.0, (omega (arith, a, g), h.front c.0 a ∙ c.1.1))
+      | inr o ↦ (o.2.0, (o.2.1.1, o.2.1.2))
+    ]
 
     rising : (i j l m : ℕ) → i ≤ j → j < length queue → level_at levels (get_or queue i 0) ≡ Some l
         → level_at levels (get_or queue j 0) ≡ Some m → l ≤ m

@@ -1,5 +1,5 @@
 -- What a search finds.
-use Rattle.std.proofs.Common.{◌≡◌, ◌⊎◌, inl, inr, ℕ, ◌<◌, ◌≤◌, ◌↔◌, Bool, true, false, true≢false, List, [], ◌∷◌}
+use Rattle.std.proofs.Common.{◌≡◌, inl, inr, ℕ, ◌<◌, ◌≤◌, ◌↔◌, Bool, true, false, true≢false, List, [], ◌∷◌}
 use Rattle.std.proofs.Common.{length, get_or, Contains, sym, subst, ◌∙◌}
 use Rattle.std.proofs.lemmas.Bool.{cases_lt}
 use Rattle.std.proofs.lemmas.List.Elements.{Contains-push, Contains-append_left, Contains-get_or}
@@ -30,8 +30,7 @@ Contains-read found n k l e = subst (Contains found) (sym e) (Contains-get_or fo
 -- more were found than a test says
 pub beyond : (n : ℕ) (found : List ℕ) (b : Bool) → (b ≡ true) ↔ (length found ≤ n) → b ≡ false
     → n < length found
-beyond n found b h is = by (cases_lt n (length found))
-  where
-    by : (n < length found) ⊎ (length found ≤ n) → n < length found
-    by (inl l) = l
-    by (inr l) = absurd (true≢false (sym (h.1 l) ∙ is))
+beyond n found b h is = elim (cases_lt n (length found)) [
+  | inl l ↦ l
+  | inr l ↦ absurd (true≢false (sym (h.1 l) ∙ is))
+]

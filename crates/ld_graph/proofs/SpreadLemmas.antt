@@ -22,11 +22,10 @@ level_within levels x k h = within_of levels x None (λ e. let f : level_at leve
 -- a class with a level keeps it where one with none is given one
 pub kept_marked : (levels : List (Option ℕ)) (y level : ℕ) → level_at levels y ≡ None
     → (x k : ℕ) → level_at levels x ≡ Some k → level_at (set levels y (Some level)) x ≡ Some k
-kept_marked levels y level free x k e = by (cases_eq x y)
-  where
-    by : (x ≡ y) ⊎ (x ≢ y) → level_at (set levels y (Some level)) x ≡ Some k
-    by (inl p) = let f : level_at levels x ≡ None = ap (λ z. level_at levels z) p ∙ free in cc
-    by (inr p) = get_or-set_other levels y x (Some level) None p ∙ e
+kept_marked levels y level free x k e = elim (cases_eq x y) [
+  | inl p ↦ let f : level_at levels x ≡ None = ap (λ z. level_at levels z) p ∙ free in cc
+  | inr p ↦ get_or-set_other levels y x (Some level) None p ∙ e
+]
 
 module _ (near : ℕ → Type 0) (level : ℕ) where
   module _ (old : List (Option ℕ)) (before : List ℕ) (now : List (Option ℕ)) (queue : List ℕ) (h :

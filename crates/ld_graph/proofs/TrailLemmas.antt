@@ -95,11 +95,10 @@ module _ (lists : List (List ℕ)) where
   }
 
   pub limit_is : (t : PlainTrail) (k : ℕ) → k < length t.path → (limit : ℕ) × IsLimit t k limit
-  limit_is t k b = by (cases_lt (k + 1) (length t.path))
-    where
-      by : (k + 1 < length t.path) ⊎ (length t.path ≤ k + 1) → (limit : ℕ) × IsLimit t k limit
-      by (inl l) = ((frame_at t (k + 1)).position, inl (l, refl))
-      by (inr l) = (length t.waiting, inr (omega arith, refl))
+  limit_is t k b = elim (cases_lt (k + 1) (length t.path)) [
+    | inl l ↦ ((frame_at t (k + 1)).position, inl (l, refl))
+    | inr l ↦ (length t.waiting, inr (omega arith, refl))
+  ]
 
   module _ (t : PlainTrail) (h : IsTrail lists t) where
     pub position_below : (k : ℕ) → k < length t.path → (frame_at t k).position < length t.waiting
@@ -143,18 +142,16 @@ module _ (lists : List (List ℕ)) where
       path_len = length_push t.path made
 
       kept_closed : (y r : ℕ) → stage_at t y ≡ Closed r → stage_at (entered t x) y ≡ Closed r
-      kept_closed y r e = by (cases_eq y x)
-        where
-          by : (y ≡ x) ⊎ (y ≢ x) → stage_at (entered t x) y ≡ Closed r
-          by (inl s) = let f : stage_at t y ≡ Fresh = ap (λ z. stage_at t z) s ∙ fresh in cc
-          by (inr s) = stage_else y s ∙ e
+      kept_closed y r e = elim (cases_eq y x) [
+        | inl s ↦ let f : stage_at t y ≡ Fresh = ap (λ z. stage_at t z) s ∙ fresh in cc
+        | inr s ↦ stage_else y s ∙ e
+      ]
 
       back_closed : (y r : ℕ) → stage_at (entered t x) y ≡ Closed r → stage_at t y ≡ Closed r
-      back_closed y r e = by (cases_eq y x)
-        where
-          by : (y ≡ x) ⊎ (y ≢ x) → stage_at t y ≡ Closed r
-          by (inl s) = let f : stage_at (entered t x) y ≡ Open (length t.waiting) = ap (λ z. stage_at (entered t x) z) s ∙ stage_here in cc
-          by (inr s) = sym (stage_else y s) ∙ e
+      back_closed y r e = elim (cases_eq y x) [
+        | inl s ↦ let f : stage_at (entered t x) y ≡ Open (length t.waiting) = ap (λ z. stage_at (entered t x) z) s ∙ stage_here in cc
+        | inr s ↦ sym (stage_else y s) ∙ e
+      ]
 
       entered_stages : AreStages lists (entered t x)
       entered_stages = record { at = at; back = back; fresh = no_nexts }
@@ -185,11 +182,10 @@ module _ (lists : List (List ℕ)) where
                   (omega (arith, l, q), wait_old i l ∙ p.1)
 
           no_nexts : (y : ℕ) → stage_at (entered t x) y ≡ Fresh → next_at t y ≡ 0
-          no_nexts y e = by (cases_eq y x)
-            where
-              by : (y ≡ x) ⊎ (y ≢ x) → next_at t y ≡ 0
-              by (inl s) = let f : stage_at (entered t x) y ≡ Open (length t.waiting) = ap (λ z. stage_at (entered t x) z) s ∙ stage_here in cc
-              by (inr s) = h.stages.fresh y (sym (stage_else y s) ∙ e)
+          no_nexts y e = elim (cases_eq y x) [
+            | inl s ↦ let f : stage_at (entered t x) y ≡ Open (length t.waiting) = ap (λ z. stage_at (entered t x) z) s ∙ stage_here in cc
+            | inr s ↦ h.stages.fresh y (sym (stage_else y s) ∙ e)
+          ]
 
       made_frame : (limit : ℕ) → limit ≡ length t.waiting + 1 → IsFrame lists (entered t x) limit made
       made_frame limit e = record {
@@ -256,11 +252,10 @@ module _ (lists : List (List ℕ)) where
               rw (frame_old k (omega (arith, e)), frame_new l e) (position_below k (omega (arith, e)))
 
       entered_first : 0 < length (t.path ++ made ∷ []) → (frame_at (entered t x) 0).position ≡ 0
-      entered_first b = by (cases_lt 0 (length t.path))
-        where
-          by : (0 < length t.path) ⊎ (length t.path ≤ 0) → (frame_at (entered t x) 0).position ≡ 0
-          by (inl c) = ap (λ f. f.position) (frame_old 0 c) ∙ h.first c
-          by (inr c) = let e : length t.path ≡ 0 = omega arith in ap (λ f. f.position) (frame_new 0 e) ∙ h.none e
+      entered_first b = elim (cases_lt 0 (length t.path)) [
+        | inl c ↦ ap (λ f. f.position) (frame_old 0 c) ∙ h.first c
+        | inr c ↦ let e : length t.path ≡ 0 = omega arith in ap (λ f. f.position) (frame_new 0 e) ∙ h.none e
+      ]
 
       pub entered-is : IsTrail lists (entered t x)
       entered-is = record {

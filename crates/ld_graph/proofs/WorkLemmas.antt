@@ -101,11 +101,10 @@ module _ (waiting : List ℕ) (stages : List Stage) (waits : (i : ℕ) → i < l
   tell_here = h.rest x other_wait ∙ ap (λ z. get_or stages z Fresh) is ∙ waits n within
 
   pub tell_within : x < length new
-  tell_within = by (cases_lt x (length new))
-    where
-      by : (x < length new) ⊎ (length new ≤ x) → x < length new
-      by (inl l) = l
-      by (inr l) = let e : get_or new x Fresh ≡ Fresh = get_or_past new x Fresh l in let f = tell_here in cc
+  tell_within = elim (cases_lt x (length new)) [
+    | inl l ↦ l
+    | inr l ↦ let e : get_or new x Fresh ≡ Fresh = get_or_past new x Fresh l in let f = tell_here in cc
+  ]
 
   pub tell_count : count_by is_fresh (set new x (Closed class)) ≡ count_by is_fresh new
   tell_count = count_told new x n class tell_within tell_here
