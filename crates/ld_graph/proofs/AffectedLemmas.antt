@@ -1,5 +1,5 @@
 -- One turn of a search through a range of labels.
-use Rattle.std.proofs.Common.{◌≡◌, ◌⊎◌, inl, inr, ℕ, ◌+◌, ◌<◌, ◌≤◌, List, [], ◌∷◌, nat_eq, length, get_or, Contains, arith, sym, ap, subst, ◌∙◌}
+use Rattle.std.proofs.Common.{◌≡◌, inl, inr, ℕ, ◌+◌, ◌<◌, ◌≤◌, List, [], ◌∷◌, nat_eq, length, get_or, Contains, arith, sym, ap, subst, ◌∙◌}
 use Rattle.std.specs.List.{IsDistinct}
 use Rattle.std.proofs.lemmas.Bool.{cases_eq, eqb-true}
 use Rattle.std.proofs.lemmas.Map.Views.{Contains-from_any}
@@ -19,12 +19,11 @@ module _ (near : ℕ → Type 0) (label : ℕ → ℕ) (low high : ℕ) where
       subst (IsReached near label low high old) (sym a.1) (record {
         longer = omega (arith, g, p);
         front = λ i b. get_or_append_left mid (x ∷ []) 0 i (omega (arith, b, g)) ∙ h.front i b;
-        fresh = λ k c. by k (Contains-push_cases mid x k c);
+        fresh = λ k c. elim (Contains-push_cases mid x k c) [
+          | inl m ↦ h.fresh k m
+          | inr same ↦ inr (subst near same n, subst (λ z. IsIn low high (label z)) same e)
+        ];
       })
-    where
-      by : (k : ℕ) → Contains mid k ⊎ (x ≡ k) → Contains old k ⊎ (near k × IsIn low high (label k))
-      by k (inl c) = h.fresh k c
-      by k (inr c) = inr (subst near c n, subst (λ z. IsIn low high (label z)) c e)
 
   pub reached_keeps : (old new : List ℕ) (k : ℕ) → IsReached near label low high old new → Contains old k
       → Contains new k

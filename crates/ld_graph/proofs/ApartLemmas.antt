@@ -158,9 +158,8 @@ module _ (rank : ℕ → ℕ) (n low high : ℕ) (order : low ≤ high)
       → ((k : ℕ) → Contains ys k → (k < n) × IsIn low high (rank k))
       → ((k : ℕ) → Contains xs k → ¬ Contains ys k) → length xs + length ys + low ≤ high + 1
   few_apart xs ys d e p q apart =
-      let f = few_within (xs ++ ys) (distinct_both xs ys d e apart) (λ k c. by k (Contains-append_cases xs ys k c)) in
+      let f = few_within (xs ++ ys) (distinct_both xs ys d e apart) (λ k c. elim (Contains-append_cases xs ys k c) [
+        | inl l ↦ p k l
+        | inr r ↦ q k r
+      ]) in
       let m = length-append xs ys in omega (arith, f, m)
-    where
-      by : (k : ℕ) → Contains xs k ⊎ Contains ys k → (k < n) × IsIn low high (rank k)
-      by k (inl c) = p k c
-      by k (inr c) = q k c

@@ -160,14 +160,13 @@ module _ (lists : List (List ℕ)) (t : PlainTrail) (h : IsTrail lists t) (some 
         by (inr c) = kept y r (h.closed.whole x y r c a b)
 
     told_sound : (x r : ℕ) → stage_at s x ≡ Closed r → R x r × R r x
-    told_sound x r e = by (was x r e)
-      where
-        by : (IsInside x × (r ≡ top.class)) ⊎ (stage_at t x ≡ Closed r) → R x r × R r x
-        by (inl i) =
-            let f = top_frame lists t h some in
-            subst (λ z. R x z × R z x) (sym i.1) (subst (λ z. R z top.class × R top.class z) i.0.1.1.1
-            (f.back i.0.0 i.0.1.1.0, f.ahead i.0.0 i.0.1.0 i.0.1.1.0))
-        by (inr c) = h.closed.sound x r c
+    told_sound x r e = elim (was x r e) [
+      | inl i ↦
+          let f = top_frame lists t h some in
+          subst (λ z. R x z × R z x) (sym i.1) (subst (λ z. R z top.class × R top.class z) i.0.1.1.1
+          (f.back i.0.0 i.0.1.1.0, f.ahead i.0.0 i.0.1.0 i.0.1.1.0))
+      | inr c ↦ h.closed.sound x r c
+    ]
 
     told_frames : (k limit : ℕ) → IsLimit s k limit → IsFrame lists s limit (frame_at s k)
     told_frames k limit is =

@@ -20,12 +20,10 @@ use Rattle.ld_graph.proofs.ReachLemmas.{is_marked, mark_on, mark_stays, mark_was
 
 -- whether a number is one of these
 pub has_or_not : (found : List ℕ) (k : ℕ) → Contains found k ⊎ (¬ Contains found k)
-has_or_not found k = by (cases_Bool (list_any (nat_eq k) found))
-  where
-    by : (list_any (nat_eq k) found ≡ true) ⊎ (list_any (nat_eq k) found ≡ false)
-        → Contains found k ⊎ (¬ Contains found k)
-    by (inl e) = inl (Contains-from_any {eq = nat_eq} (λ x y t. eqb-true x y t) k found e)
-    by (inr e) = inr (λ n. true≢false (sym (list_any-from_Contains nat_eq_equiv k found n) ∙ e))
+has_or_not found k = elim (cases_Bool (list_any (nat_eq k) found)) [
+  | inl e ↦ inl (Contains-from_any {eq = nat_eq} (λ x y t. eqb-true x y t) k found e)
+  | inr e ↦ inr (λ n. true≢false (sym (list_any-from_Contains nat_eq_equiv k found n) ∙ e))
+]
 
 pub AreMarked-none : AreMarked [] []
 AreMarked-none = record {

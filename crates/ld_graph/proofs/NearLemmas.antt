@@ -51,15 +51,14 @@ IsNear-push lists a b x y l h = by (cases_eq x a)
 
 pub IsNear-old : (lists : List (List ℕ)) (a b x y : ℕ) → a < length lists → IsNear lists x y
     → IsNear (set lists a (list_at lists a ++ b ∷ [])) x y
-IsNear-old lists a b x y l h = by (cases_eq x a)
-  where
-    by : (x ≡ a) ⊎ (x ≢ a) → IsNear (set lists a (list_at lists a ++ b ∷ [])) x y
-    by (inl q) =
-        subst (λ n. Contains n y) (sym (ap (λ z. list_at (set lists a (list_at lists a ++ b ∷ []))
-        z) q ∙ get_or-set_same lists a (list_at lists a ++ b ∷ []) [] l))
-        (Contains-append_left (list_at lists a) (b ∷ []) y (subst (λ z. IsNear lists z y) q h))
-    by (inr q) = subst (λ n. Contains n y) (sym (get_or-set_other lists a x (list_at lists a ++ b ∷
-        []) [] q)) h
+IsNear-old lists a b x y l h = elim (cases_eq x a) [
+  | inl q ↦
+      subst (λ n. Contains n y) (sym (ap (λ z. list_at (set lists a (list_at lists a ++ b ∷ []))
+      z) q ∙ get_or-set_same lists a (list_at lists a ++ b ∷ []) [] l))
+      (Contains-append_left (list_at lists a) (b ∷ []) y (subst (λ z. IsNear lists z y) q h))
+  | inr q ↦ subst (λ n. Contains n y) (sym (get_or-set_other lists a x (list_at lists a ++ b ∷
+      []) [] q)) h
+]
 
 pub IsNear-new : (lists : List (List ℕ)) (a b : ℕ) → a < length lists
     → IsNear (set lists a (list_at lists a ++ b ∷ [])) a b

@@ -97,15 +97,13 @@ module _ (near : ℕ → Type 0) (level : ℕ) where
 
     added : (i : ℕ) → length before ≤ i → i < length waiting
         → level_at marked (get_or waiting i 0) ≡ Some level
-    added i a b = by (cases_lt i (length queue))
-      where
-        by : (i < length queue) ⊎ (length queue ≤ i) → level_at marked (get_or waiting i 0) ≡ Some
-            level
-        by (inl l) = ap (λ z. level_at marked z) (get_or_append_left queue (y ∷ []) 0 i l)
-            ∙ kept_marked now y level free (get_or queue i 0) level (h.added i a l)
-        by (inr l) =
-            let p = length_push queue y in let e : length queue ≡ i = omega (arith, p, b) in
-            ap (λ z. level_at marked z) (get_or_push queue y 0 i e) ∙ same
+    added i a b = elim (cases_lt i (length queue)) [
+      | inl l ↦ ap (λ z. level_at marked z) (get_or_append_left queue (y ∷ []) 0 i l)
+          ∙ kept_marked now y level free (get_or queue i 0) level (h.added i a l)
+      | inr l ↦
+          let p = length_push queue y in let e : length queue ≡ i = omega (arith, p, b) in
+          ap (λ z. level_at marked z) (get_or_push queue y 0 i e) ∙ same
+    ]
 
     -- one more class, near and without a level, is given it
     pub Spreads-more : Spreads near level old before marked waiting

@@ -170,16 +170,15 @@ module _ (lists : List (List ℕ)) where
                   ap (λ z. stage_at (entered t x) z) (wait_new i e) ∙ stage_here ∙ ap (λ z. Open z) e
 
           back : (y i : ℕ) → stage_at (entered t x) y ≡ Open i → (i < length (t.waiting ++ x ∷ [])) × (wait_at (entered t x) i ≡ y)
-          back y i e = by (cases_eq y x)
-            where
-              by : (y ≡ x) ⊎ (y ≢ x) → (i < length (t.waiting ++ x ∷ [])) × (wait_at (entered t x) i ≡ y)
-              by (inl s) =
-                  let p : length t.waiting ≡ i = same_place (length t.waiting) i (sym stage_here ∙ ap (λ z. stage_at (entered t x) z) (sym s) ∙ e) in
-                  let q = wait_len in
-                  (omega (arith, p, q), wait_new i p ∙ sym s)
-              by (inr s) =
-                  let p = h.stages.back y i (sym (stage_else y s) ∙ e) in let l = p.0 in let q = wait_len in
-                  (omega (arith, l, q), wait_old i l ∙ p.1)
+          back y i e = elim (cases_eq y x) [
+            | inl s ↦
+                let p : length t.waiting ≡ i = same_place (length t.waiting) i (sym stage_here ∙ ap (λ z. stage_at (entered t x) z) (sym s) ∙ e) in
+                let q = wait_len in
+                (omega (arith, p, q), wait_new i p ∙ sym s)
+            | inr s ↦
+                let p = h.stages.back y i (sym (stage_else y s) ∙ e) in let l = p.0 in let q = wait_len in
+                (omega (arith, l, q), wait_old i l ∙ p.1)
+          ]
 
           no_nexts : (y : ℕ) → stage_at (entered t x) y ≡ Fresh → next_at t y ≡ 0
           no_nexts y e = elim (cases_eq y x) [
@@ -229,27 +228,25 @@ module _ (lists : List (List ℕ)) where
               inr (c.0, (c.1.0, (omega (arith, l, p), wait_old c.0 l ∙ c.1.1.1)))
 
       entered_frames : (k limit : ℕ) → IsLimit (entered t x) k limit → IsFrame lists (entered t x) limit (frame_at (entered t x) k)
-      entered_frames k limit (inl is) = by (cases_lt (k + 1) (length t.path))
-        where
-          by : (k + 1 < length t.path) ⊎ (length t.path ≤ k + 1) → IsFrame lists (entered t x) limit (frame_at (entered t x) k)
-          by (inl l) = old_frame k limit (omega arith) (inl (l, is.1 ∙ ap (λ f. f.position) (frame_old (k + 1) l)))
-          by (inr l) =
-              let p = path_len in let a = is.0 in
-              let e : k + 1 ≡ length t.path = omega (arith, p, a) in
-              old_frame k limit (omega (arith, e)) (inr (e, is.1 ∙ ap (λ f. f.position) (frame_new (k + 1) (sym e))))
+      entered_frames k limit (inl is) = elim (cases_lt (k + 1) (length t.path)) [
+        | inl l ↦ old_frame k limit (omega arith) (inl (l, is.1 ∙ ap (λ f. f.position) (frame_old (k + 1) l)))
+        | inr l ↦
+            let p = path_len in let a = is.0 in
+            let e : k + 1 ≡ length t.path = omega (arith, p, a) in
+            old_frame k limit (omega (arith, e)) (inr (e, is.1 ∙ ap (λ f. f.position) (frame_new (k + 1) (sym e))))
+      ]
       entered_frames k limit (inr is) =
           let p = path_len in let a = is.0 in let q = wait_len in let b = is.1 in
           let e : length t.path ≡ k = omega (arith, p, a) in
           subst (IsFrame lists (entered t x) limit) (sym (frame_new k e)) (made_frame limit (omega (arith, q, b)))
 
       entered_rising : (k l : ℕ) → k < l → l < length (t.path ++ made ∷ []) → (frame_at (entered t x) k).position < (frame_at (entered t x) l).position
-      entered_rising k l a b = by (cases_lt l (length t.path))
-        where
-          by : (l < length t.path) ⊎ (length t.path ≤ l) → (frame_at (entered t x) k).position < (frame_at (entered t x) l).position
-          by (inl c) = rw (frame_old k (omega arith), frame_old l c) (h.rising k l a c)
-          by (inr c) =
-              let p = path_len in let e : length t.path ≡ l = omega (arith, p) in
-              rw (frame_old k (omega (arith, e)), frame_new l e) (position_below k (omega (arith, e)))
+      entered_rising k l a b = elim (cases_lt l (length t.path)) [
+        | inl c ↦ rw (frame_old k (omega arith), frame_old l c) (h.rising k l a c)
+        | inr c ↦
+            let p = path_len in let e : length t.path ≡ l = omega (arith, p) in
+            rw (frame_old k (omega (arith, e)), frame_new l e) (position_below k (omega (arith, e)))
+      ]
 
       entered_first : 0 < length (t.path ++ made ∷ []) → (frame_at (entered t x) 0).position ≡ 0
       entered_first b = elim (cases_lt 0 (length t.path)) [

@@ -68,22 +68,20 @@ module _ (labels next prev : List ℕ) (r : IsRing labels next prev) where
       → (rank (length labels) (label_at labels) (c + 1) < place + 1
       → get_or ranks c 0 + 1 ≡ rank (length labels) (label_at labels) (c + 1))
       → get_or (set ranks (node - 1) place) c 0 + 1 ≡ rank (length labels) (label_at labels) (c + 1)
-  filled ranks node place l some here in_ranks c h k done = by (cases_eq c (node - 1))
-    where
-      by : (c ≡ node - 1) ⊎ (c ≢ node - 1)
-          → get_or (set ranks (node - 1) place) c 0 + 1 ≡ rank (length labels) (label_at labels) (c + 1)
-      by (inl e) =
-          let is : c + 1 ≡ node = omega (arith, e, some) in
-          let v = ap (rank (length labels) (label_at labels)) is in
-          let w = ap (λ z. get_or (set ranks (node - 1) place) z 0) e in
-          let u = get_or-set_same ranks (node - 1) place 0 in_ranks in
-          omega (arith, v, w, u, here)
-      by (inr e) =
-          let ne : rank (length labels) (label_at labels) (c + 1) ≢ place + 1 =
-          λ w. (let q = rank-once (length labels) (label_at labels) (label_at next) (label_at prev) r.links (c + 1) node h l (w ∙ sym here) in
-          omega (arith, q, e)) in
-          let u = get_or-set_other ranks (node - 1) c place 0 e in
-          let d = done (omega (arith, k, ne)) in omega (arith, u, d)
+  filled ranks node place l some here in_ranks c h k done = elim (cases_eq c (node - 1)) [
+    | inl e ↦
+        let is : c + 1 ≡ node = omega (arith, e, some) in
+        let v = ap (rank (length labels) (label_at labels)) is in
+        let w = ap (λ z. get_or (set ranks (node - 1) place) z 0) e in
+        let u = get_or-set_same ranks (node - 1) place 0 in_ranks in
+        omega (arith, v, w, u, here)
+    | inr e ↦
+        let ne : rank (length labels) (label_at labels) (c + 1) ≢ place + 1 =
+        λ w. (let q = rank-once (length labels) (label_at labels) (label_at next) (label_at prev) r.links (c + 1) node h l (w ∙ sym here) in
+        omega (arith, q, e)) in
+        let u = get_or-set_other ranks (node - 1) c place 0 e in
+        let d = done (omega (arith, k, ne)) in omega (arith, u, d)
+  ]
 
   -- the node of each rank
   node_at : (r : ℕ) → r < length labels → (c : ℕ) × ((c < length labels) × (rank (length labels) (label_at labels) c ≡ r))

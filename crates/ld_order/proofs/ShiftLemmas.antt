@@ -74,20 +74,19 @@ module _ (n : ℕ) (old l0 l1 l2 : ℕ → ℕ) (found : List ℕ) (i at0 at : �
           let g = (o c at (inside c h) at_in).1 f in omega (arith, g)
 
   tells : (d : ℕ) → d < n → (¬ IsOneOf found (i + 1) d) → (l1 at < l1 d) ↔ (old at0 < old d)
-  tells d k w = by (cases_eq i 0)
-    where
-      by : (i ≡ 0) ⊎ (i ≢ 0) → (l1 at < l1 d) ↔ (old at0 < old d)
-      by (inl e) =
-          let empty : (c : ℕ) → ¬ IsOneOf found i c = λ c h. let a = h.1.0 in omega (arith, a, e) in
-          let q = begin e in
-          let t = s.stay at d at_in k (empty at) (empty d) in
-          let u = o at d at_in k in
-          let v = ap old q in
-          (λ a. let b = t.0 (u.0 a) in omega (arith, b, v), λ a. u.1 (t.1 (omega (arith, a, v))))
-      by (inr e) =
-          let t = s.above at d (at_last (omega (arith, e))) k (λ h. w (wider d h)) in
-          let u = o at d at_in k in
-          (λ a. t.0 (u.0 a), λ a. u.1 (t.1 a))
+  tells d k w = elim (cases_eq i 0) [
+    | inl e ↦
+        let empty : (c : ℕ) → ¬ IsOneOf found i c = λ c h. let a = h.1.0 in omega (arith, a, e) in
+        let q = begin e in
+        let t = s.stay at d at_in k (empty at) (empty d) in
+        let u = o at d at_in k in
+        let v = ap old q in
+        (λ a. let b = t.0 (u.0 a) in omega (arith, b, v), λ a. u.1 (t.1 (omega (arith, a, v))))
+    | inr e ↦
+        let t = s.above at d (at_last (omega (arith, e))) k (λ h. w (wider d h)) in
+        let u = o at d at_in k in
+        (λ a. t.0 (u.0 a), λ a. u.1 (t.1 a))
+  ]
 
   pub shifted-more : IsShifted n old l2 (IsOneOf found (i + 1)) at0
   shifted-more = record {

@@ -1,5 +1,5 @@
 -- A stretch of nodes that has room.
-use Rattle.std.proofs.Common.{◌≡◌, ◌⊎◌, inl, inr, ℕ, ◌+◌, ◌-◌, ◌*◌, ◌/◌, ◌^◌, ◌<◌, ◌≤◌, arith, ap}
+use Rattle.std.proofs.Common.{◌≡◌, inl, inr, ℕ, ◌+◌, ◌-◌, ◌*◌, ◌/◌, ◌^◌, ◌<◌, ◌≤◌, arith, ap}
 use Rattle.std.proofs.lemmas.Bool.{cases_lt}
 use Rattle.std.proofs.Math.Nat.{mul_comm, mul-le-mul_left, mul-le-mul_right, div-mul-le_self, lt-div-mul-add}
 use Rattle.ld_order.specs.Inner.Rings.{IsSparse, IsSpread, rank}
@@ -36,23 +36,22 @@ module _ (n : ℕ) (old new : ℕ → ℕ) (at left count step : ℕ) (h : at < 
     (t : IsSpread n old new at left count step) where
   -- after the spread there is room behind the node
   pub room_here : (after : ℕ) → after < n → rank n old after ≡ rank n old at + 1 → new at + left < new after
-  room_here after k e = by (cases_lt 0 count)
-    where
-      by : (0 < count) ⊎ (count ≤ 0) → new at + left < new after
-      by (inl a) =
-          let v = t.inside after k (omega (arith, e)) (omega (arith, e, a)) in
-          let u = t.below at h (omega arith) in
-          let d : left + (rank n old after - rank n old at) ≡ left + 1 = omega (arith, e) in
-          let m = ap (λ z. z * step) d in
-          let w : (left + 1) * 1 ≤ (left + 1) * step = mul-le-mul_left (left + 1) s.some in
-          omega (arith, v, u, m, w)
-      by (inr a) =
-          let v = t.above after k (omega (arith, e, a)) in
-          let u = t.below at h (omega arith) in
-          let q = s.stretch after k (omega (arith, e, a)) in
-          let m : (left + 1) * step ≤ (left + count + 1) * step = mul-le-mul_right step (omega arith) in
-          let w : (left + 1) * 1 ≤ (left + 1) * step = mul-le-mul_left (left + 1) s.some in
-          omega (arith, v, u, q, m, w)
+  room_here after k e = elim (cases_lt 0 count) [
+    | inl a ↦
+        let v = t.inside after k (omega (arith, e)) (omega (arith, e, a)) in
+        let u = t.below at h (omega arith) in
+        let d : left + (rank n old after - rank n old at) ≡ left + 1 = omega (arith, e) in
+        let m = ap (λ z. z * step) d in
+        let w : (left + 1) * 1 ≤ (left + 1) * step = mul-le-mul_left (left + 1) s.some in
+        omega (arith, v, u, m, w)
+    | inr a ↦
+        let v = t.above after k (omega (arith, e, a)) in
+        let u = t.below at h (omega arith) in
+        let q = s.stretch after k (omega (arith, e, a)) in
+        let m : (left + 1) * step ≤ (left + count + 1) * step = mul-le-mul_right step (omega arith) in
+        let w : (left + 1) * 1 ≤ (left + 1) * step = mul-le-mul_left (left + 1) s.some in
+        omega (arith, v, u, q, m, w)
+  ]
 
   pub room_last : new at + left + 1 < 2 ^ 64
   room_last =
