@@ -40,13 +40,12 @@ module _ (lists : List (List ℕ)) (t : PlainTrail) (h : IsTrail lists t) (some 
         by : (stage : Stage) → stage_at t x ≡ stage → IsInside x ⊎ (stage_at s x ≡ stage_at t x)
         by Fresh e = inr (new.rest x (λ j a b q. let f = ap (λ z. stage_at t z) q in let g = h.stages.at j b in cc))
         by (Closed r) e = inr (new.rest x (λ j a b q. let f = ap (λ z. stage_at t z) q in let g = h.stages.at j b in cc))
-        by (Open i) e = cases (cases_lt i top.position)
-          where
-            cases : (i < top.position) ⊎ (top.position ≤ i) → IsInside x ⊎ (stage_at s x ≡ stage_at t x)
-            cases (inl l) = inr (new.rest x (λ j a b q.
-                let f : stage_at t x ≡ Open j = ap (λ z. stage_at t z) (sym q) ∙ h.stages.at j b in
-                let g : i ≡ j = same_place i j (sym e ∙ f) in omega (arith, g, a, l)))
-            cases (inr l) = let w = h.stages.back x i e in inl (i, (l, (w.0, w.1)))
+        by (Open i) e = elim (cases_lt i top.position) [
+          | inl l ↦ inr (new.rest x (λ j a b q.
+              let f : stage_at t x ≡ Open j = ap (λ z. stage_at t z) (sym q) ∙ h.stages.at j b in
+              let g : i ≡ j = same_place i j (sym e ∙ f) in omega (arith, g, a, l)))
+          | inr l ↦ let w = h.stages.back x i e in inl (i, (l, (w.0, w.1)))
+        ]
 
     inside_waits : (x : ℕ) → (i : IsInside x) → stage_at t x ≡ Open i.0
     inside_waits x i = ap (λ z. stage_at t z) (sym i.1.1.1) ∙ h.stages.at i.0 i.1.1.0
@@ -102,15 +101,13 @@ module _ (lists : List (List ℕ)) (t : PlainTrail) (h : IsTrail lists t) (some 
             by (inr e) = e ∙ here
 
         back : (x i : ℕ) → stage_at s x ≡ Open i → (i < length (take top.position t.waiting)) × (wait_at s i ≡ x)
-        back x i e = by (inside_or x)
-          where
-            by : IsInside x ⊎ (stage_at s x ≡ stage_at t x) → (i < length (take top.position t.waiting)) × (wait_at s i ≡ x)
-            by (inl q) = let f = inside_told x q in cc
-            by (inr f) = cases (cases_lt i top.position)
-              where
-                cases : (i < top.position) ⊎ (top.position ≤ i) → (i < length (take top.position t.waiting)) × (wait_at s i ≡ x)
-                cases (inl l) = let p = waiting_len in let q = h.stages.back x i (sym f ∙ e) in (omega (arith, p, l), wait_same i l ∙ q.1)
-                cases (inr l) = let q = h.stages.back x i (sym f ∙ e) in let g = inside_told x (i, (l, (q.0, q.1))) in cc
+        back x i e = elim (inside_or x) [
+          | inl q ↦ let f = inside_told x q in cc
+          | inr f ↦ elim (cases_lt i top.position) [
+            | inl l ↦ let p = waiting_len in let q = h.stages.back x i (sym f ∙ e) in (omega (arith, p, l), wait_same i l ∙ q.1)
+            | inr l ↦ let q = h.stages.back x i (sym f ∙ e) in let g = inside_told x (i, (l, (q.0, q.1))) in cc
+          ]
+        ]
 
     -- the successors of a class of the component are known
     inside_ahead : (x y : ℕ) → IsInside x → IsNear lists x y → (r : ℕ) × (stage_at s y ≡ Closed r)
@@ -192,11 +189,10 @@ module _ (lists : List (List ℕ)) (t : PlainTrail) (h : IsTrail lists t) (some 
 
         handled : (low y : ℕ) → IsHandled t low y → IsHandled s low y
         handled low y (inl c) = inl (c.0, kept y c.0 c.1)
-        handled low y (inr c) = cases (cases_lt c.0 top.position)
-          where
-            cases : (c.0 < top.position) ⊎ (top.position ≤ c.0) → IsHandled s low y
-            cases (inl l) = let p = waiting_len in inr (c.0, (c.1.0, (omega (arith, l, p), wait_same c.0 l ∙ c.1.1.1)))
-            cases (inr l) = inl (top.class, inside_told y (c.0, (l, (c.1.1.0, c.1.1.1))))
+        handled low y (inr c) = elim (cases_lt c.0 top.position) [
+          | inl l ↦ let p = waiting_len in inr (c.0, (c.1.0, (omega (arith, l, p), wait_same c.0 l ∙ c.1.1.1)))
+          | inr l ↦ inl (top.class, inside_told y (c.0, (l, (c.1.1.0, c.1.1.1))))
+        ]
 
     pub told-is : IsTrail lists s
     told-is = record {

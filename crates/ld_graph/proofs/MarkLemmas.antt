@@ -67,19 +67,17 @@ module _ (marks : List Bool) (found : List ℕ) (h : AreMarked marks found) wher
   }
     where
       past : (k : ℕ) → length marks ≤ k → get_or (marks ++ replicate n false) k false ≡ false
-      past k l = last (cases_lt (k - length marks) n)
+      past k l = at ∙ elim (cases_lt (k - length marks) n) [
+        | inl b ↦ get_or-replicate n (k - length marks) false false b
+        | inr b ↦ get_or_past (replicate n false) (k - length marks) false
+            (let r = length-replicate {A = Bool} n false in omega (arith, b, r))
+      ]
         where
           at : get_or (marks ++ replicate n false) k false
               ≡ get_or (replicate n false) (k - length marks) false
           at = let e : k ≡ length marks + (k - length marks) = omega (arith, l) in
               ap (λ z. get_or (marks ++ replicate n false) z false) e
               ∙ get_or-append-add marks (replicate n false) (k - length marks) false
-
-          last : (k - length marks < n) ⊎ (n ≤ k - length marks)
-              → get_or (marks ++ replicate n false) k false ≡ false
-          last (inl b) = at ∙ get_or-replicate n (k - length marks) false false b
-          last (inr b) = at ∙ get_or_past (replicate n false) (k - length marks) false
-              (let r = length-replicate {A = Bool} n false in omega (arith, b, r))
 
       same : (k : ℕ) → get_or (marks ++ replicate n false) k false ≡ get_or marks k false
       same k = elim (cases_lt k (length marks)) [
@@ -104,20 +102,18 @@ AreLeft old new found n = (k : ℕ) → get_or new k false ≡ true
 pub AreLeft-next : (old new : List Bool) (found : List ℕ) (n offset : ℕ) → AreLeft old new found n
     → offset ≡ get_or found n 0 → offset < length new
     → AreLeft old (set new offset false) found (n + 1)
-AreLeft-next old new found n offset h e within k t = by (cases_eq k offset)
-  where
-    by : (k ≡ offset) ⊎ (k ≢ offset)
-        → (get_or old k false ≡ true) × ((i : ℕ) → i < n + 1 → get_or found i 0 ≢ k)
-    by (inl q) = absurd (true≢false (sym t ∙ ap (λ z. get_or (set new offset false) z false) q
-        ∙ get_or-set_same new offset false false within))
-    by (inr q) =
-        let g = h k (sym (get_or-set_other new offset k false false q) ∙ t) in
-        (g.0, λ i l r. two g.1 i l r (cases_eq i n))
-      where
-        two : ((i : ℕ) → i < n → get_or found i 0 ≢ k) → (i : ℕ) → i < n + 1 → get_or found i 0 ≡ k
-            → (i ≡ n) ⊎ (i ≢ n) → ⊥
-        two g i l r (inl s) = q (sym r ∙ ap (λ z. get_or found z 0) s ∙ sym e)
-        two g i l r (inr s) = g i (omega arith) r
+AreLeft-next old new found n offset h e within k t = elim (cases_eq k offset) [
+  | inl q ↦ absurd (true≢false (sym t ∙ ap (λ z. get_or (set new offset false) z false) q
+      ∙ get_or-set_same new offset false false within))
+  | inr q ↦
+      let g = h k (sym (get_or-set_other new offset k false false q) ∙ t) in (
+        g.0,
+        λ i l r. elim (cases_eq i n) [
+          | inl s ↦ q (sym r ∙ ap (λ z. get_or found z 0) s ∙ sym e)
+          | inr s ↦ g.1 i (omega arith) r
+        ],
+      )
+]
 
 pub AreLeft-all : (old new : List Bool) (found : List ℕ) (n : ℕ) → AreLeft old new found n
     → length found ≤ n

@@ -31,8 +31,14 @@ acyclic step ranks rises w =
 -- a cycle stays one
 pub HasCycle-more : (edges : List Edge) (a b : ℕ) → HasCycle (IsEdge edges)
     → HasCycle (IsEdge (edges ++ edge a b ∷ []))
-HasCycle-more edges a b w = (w.0, (w.1.0, IsWalk-same (IsEdge edges) (IsEdge (edges ++ edge a b ∷ []))
-    (λ x y e. Contains-append_left edges (edge a b ∷ []) (edge x y) e) w.0 w.0 w.1.0 w.1.1))
+HasCycle-more edges a b w = (
+  w.0,
+  (
+    w.1.0,
+    IsWalk-same (IsEdge edges) (IsEdge (edges ++ edge a b ∷ []))
+        (λ x y e. Contains-append_left edges (edge a b ∷ []) (edge x y) e) w.0 w.0 w.1.0 w.1.1,
+  ),
+)
 
 -- an edge to where a walk leads to it closes a cycle
 pub HasCycle-closed : (edges : List Edge) (a b : ℕ) → IsOrReaches (IsEdge edges) b a
@@ -42,9 +48,14 @@ HasCycle-closed edges a b (inl e) = (
   HasWalk-one (IsEdge (edges ++ edge a b ∷ [])) a a (subst (λ z. IsEdge (edges ++ edge a b
       ∷ []) a z) e (Contains-push edges (edge a b))),
 )
-HasCycle-closed edges a b (inr w) = (b, HasWalk-more (IsEdge (edges ++ edge a b ∷ [])) b a b
-    (w.0, IsWalk-same (IsEdge edges) (IsEdge (edges ++ edge a b ∷ []))
-    (λ x y e. Contains-append_left edges (edge a b ∷ []) (edge x y) e) b a w.0 w.1) (Contains-push edges (edge a b)))
+HasCycle-closed edges a b (inr w) = (
+  b,
+  HasWalk-more (IsEdge (edges ++ edge a b ∷ [])) b a b (
+    w.0,
+    IsWalk-same (IsEdge edges) (IsEdge (edges ++ edge a b ∷ []))
+        (λ x y e. Contains-append_left edges (edge a b ∷ []) (edge x y) e) b a w.0 w.1,
+  ) (Contains-push edges (edge a b)),
+)
 
 IsOrReaches-same : (s t : ℕ → ℕ → Type 0) → ((x y : ℕ) → s x y → t x y) → (a b : ℕ) → IsOrReaches s a b
     → IsOrReaches t a b

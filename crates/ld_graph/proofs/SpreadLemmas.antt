@@ -47,16 +47,28 @@ module _ (near : ℕ → Type 0) (level : ℕ) where
         → (level_at old x ≡ Some k)
         ⊎ ((k ≡ level) × near x × ((i : ℕ) × ((length before ≤ i) × (i < length waiting)
         × (get_or waiting i 0 ≡ x))))
-    fresh x k e = by (cases_eq x y)
-      where
-        old_one : (level_at old x ≡ Some k)
-            ⊎ ((k ≡ level) × near x × ((i : ℕ) × ((length before ≤ i) × (i < length queue)
-            × (get_or queue i 0 ≡ x))))
-            → (level_at old x ≡ Some k)
-            ⊎ ((k ≡ level) × near x × ((i : ℕ) × ((length before ≤ i) × (i < length waiting)
-            × (get_or waiting i 0 ≡ x))))
-        old_one (inl o) = inl o
-        old_one (inr o) =
+    fresh x k e = elim (cases_eq x y) [
+      | inl p ↦
+          let f : Some level ≡ Some k = sym same ∙ ap (λ z. level_at marked z) (sym p) ∙ e in
+          let q = length_push queue y in let l = h.longer in
+          inr (
+            sym (some_same level k f),
+            subst near (sym p) ny,
+            (
+              length queue,
+              (
+                l,
+                omega (
+                  arith,
+                  q,
+                ),
+                get_or_push queue y 0 (length queue) refl ∙ sym p,
+              ),
+            ),
+          )
+      | inr p ↦ elim (h.fresh x k (sym (other x p) ∙ e)) [
+        | inl o ↦ inl o
+        | inr o ↦
             let l = o.2.1.1 in let p = length_push queue y in
             inr (
               o.0,
@@ -71,29 +83,8 @@ module _ (near : ℕ → Type 0) (level : ℕ) where
                 ),
               ),
             )
-
-        by : (x ≡ y) ⊎ (x ≢ y) → (level_at old x ≡ Some k)
-            ⊎ ((k ≡ level) × near x × ((i : ℕ) × ((length before ≤ i) × (i < length waiting)
-            × (get_or waiting i 0 ≡ x))))
-        by (inl p) =
-            let f : Some level ≡ Some k = sym same ∙ ap (λ z. level_at marked z) (sym p) ∙ e in
-            let q = length_push queue y in let l = h.longer in
-            inr (
-              sym (some_same level k f),
-              subst near (sym p) ny,
-              (
-                length queue,
-                (
-                  l,
-                  omega (
-                    arith,
-                    q,
-                  ),
-                  get_or_push queue y 0 (length queue) refl ∙ sym p,
-                ),
-              ),
-            )
-        by (inr p) = old_one (h.fresh x k (sym (other x p) ∙ e))
+      ]
+    ]
 
     added : (i : ℕ) → length before ≤ i → i < length waiting
         → level_at marked (get_or waiting i 0) ≡ Some level

@@ -157,17 +157,15 @@ module _ (lists : List (List ℕ)) where
       entered_stages = record { at = at; back = back; fresh = no_nexts }
         where
           at : (i : ℕ) → i < length (t.waiting ++ x ∷ []) → stage_at (entered t x) (wait_at (entered t x) i) ≡ Open i
-          at i b = by (cases_lt i (length t.waiting))
-            where
-              by : (i < length t.waiting) ⊎ (length t.waiting ≤ i) → stage_at (entered t x) (wait_at (entered t x) i) ≡ Open i
-              by (inl l) = by2 (cases_eq (wait_at t i) x)
-                where
-                  by2 : (wait_at t i ≡ x) ⊎ (wait_at t i ≢ x) → stage_at (entered t x) (wait_at (entered t x) i) ≡ Open i
-                  by2 (inl e) = let f : stage_at t (wait_at t i) ≡ Fresh = ap (λ z. stage_at t z) e ∙ fresh in
-                      let g = h.stages.at i l in cc
-                  by2 (inr ne) = ap (λ z. stage_at (entered t x) z) (wait_old i l) ∙ stage_else (wait_at t i) ne ∙ h.stages.at i l
-              by (inr l) = let e : length t.waiting ≡ i = (let p = wait_len in omega (arith, p)) in
-                  ap (λ z. stage_at (entered t x) z) (wait_new i e) ∙ stage_here ∙ ap (λ z. Open z) e
+          at i b = elim (cases_lt i (length t.waiting)) [
+            | inl l ↦ elim (cases_eq (wait_at t i) x) [
+              | inl e ↦ let f : stage_at t (wait_at t i) ≡ Fresh = ap (λ z. stage_at t z) e ∙ fresh in
+                  let g = h.stages.at i l in cc
+              | inr ne ↦ ap (λ z. stage_at (entered t x) z) (wait_old i l) ∙ stage_else (wait_at t i) ne ∙ h.stages.at i l
+            ]
+            | inr l ↦ let e : length t.waiting ≡ i = (let p = wait_len in omega (arith, p)) in
+                ap (λ z. stage_at (entered t x) z) (wait_new i e) ∙ stage_here ∙ ap (λ z. Open z) e
+          ]
 
           back : (y i : ℕ) → stage_at (entered t x) y ≡ Open i → (i < length (t.waiting ++ x ∷ [])) × (wait_at (entered t x) i ≡ y)
           back y i e = elim (cases_eq y x) [

@@ -53,7 +53,7 @@ invariant_of-self-2 c =
     } in
     let kept : IsKept grown = IsKept-grown c.self.inside grown (record {
       keys = c.reserve.ensures.keys;
-          edges = c.reserve.ensures.room.0;
+      edges = c.reserve.ensures.room.0;
       after = c.room.ensures.after;
       before = c.room.ensures.before;
       ranks = c.room-2.ensures.ranks;
