@@ -35,19 +35,16 @@ lists_same a = record {
 -- the neighbours where one list has one more
 pub IsNear-push : (lists : List (List ℕ)) (a b x y : ℕ) → a < length lists
     → IsNear (set lists a (list_at lists a ++ b ∷ [])) x y → IsNear lists x y ⊎ ((a ≡ x) × (b ≡ y))
-IsNear-push lists a b x y l h = by (cases_eq x a)
-  where
-    two : Contains (list_at lists a) y ⊎ (b ≡ y) → x ≡ a → IsNear lists x y ⊎ ((a ≡ x) × (b ≡ y))
-    two (inl e) q = inl (subst (λ z. IsNear lists z y) (sym q) e)
-    two (inr e) q = inr (sym q, e)
-
-    by : (x ≡ a) ⊎ (x ≢ a) → IsNear lists x y ⊎ ((a ≡ x) × (b ≡ y))
-    by (inl q) =
-        two (Contains-push_cases (list_at lists a) b y
-        (subst (λ n. Contains n y) (ap (λ z. list_at (set lists a (list_at lists a ++ b ∷ [])) z) q
-        ∙ get_or-set_same lists a (list_at lists a ++ b ∷ []) [] l) h)) q
-    by (inr q) = inl (subst (λ n. Contains n y) (get_or-set_other lists a x (list_at lists a ++ b ∷
-        []) [] q) h)
+IsNear-push lists a b x y l h = elim (cases_eq x a) [
+  | inl q ↦ elim (Contains-push_cases (list_at lists a) b y
+      (subst (λ n. Contains n y) (ap (λ z. list_at (set lists a (list_at lists a ++ b ∷ [])) z) q
+      ∙ get_or-set_same lists a (list_at lists a ++ b ∷ []) [] l) h)) [
+        | inl e ↦ inl (subst (λ z. IsNear lists z y) (sym q) e)
+        | inr e ↦ inr (sym q, e)
+      ]
+  | inr q ↦ inl (subst (λ n. Contains n y) (get_or-set_other lists a x (list_at lists a ++ b ∷
+      []) [] q) h)
+]
 
 pub IsNear-old : (lists : List (List ℕ)) (a b x y : ℕ) → a < length lists → IsNear lists x y
     → IsNear (set lists a (list_at lists a ++ b ∷ [])) x y

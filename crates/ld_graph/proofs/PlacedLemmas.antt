@@ -1,5 +1,5 @@
 -- What the insert of an edge answers is so.
-use Rattle.std.proofs.Common.{◌≡◌, ◌⊎◌, inl, inr, ℕ, ◌<◌, Bool, true, false}
+use Rattle.std.proofs.Common.{◌≡◌, inl, inr, ℕ, ◌<◌, Bool, true, false}
 use Rattle.std.proofs.Common.{◌↔◌, true≢false, List, [], ◌∷◌, ◌++◌, length, get_or}
 use Rattle.std.proofs.Common.{IsTrue, MatchOption, arith, refl, sym, ap, subst, ◌∙◌}
 use Rattle.std.proofs.lemmas.List.Elements.{Contains-append_left, Contains-push}
@@ -149,12 +149,13 @@ module _ {C : Type 0} (g : Inside C) (h : IsKept g) (a b : ℕ) (now : Bool) (ra
 
 -- whether there is a cycle is known
 pub cycle_kept : {C : Type 0} (g : Inside C) → IsKept g → IsTrue g.has_cycle ↔ HasCycle (IsEdge g.edges.keys)
-cycle_kept g h = (h.cycle, λ w. by (cases_Bool g.has_cycle) w)
-  where
-    by : (g.has_cycle ≡ true) ⊎ (g.has_cycle ≡ false) → HasCycle (IsEdge g.edges.keys)
-        → g.has_cycle ≡ true
-    by (inl t) w = t
-    by (inr f) w = absurd (acyclic (IsEdge g.edges.keys) g.ranks.ranks (h.rises f) w)
+cycle_kept g h = (
+  h.cycle,
+  λ w. elim (cases_Bool g.has_cycle) [
+    | inl t ↦ t
+    | inr f ↦ absurd (acyclic (IsEdge g.edges.keys) g.ranks.ranks (h.rises f) w)
+  ],
+)
 
 -- where there is none, the ranks are an order
 pub order_some : {C : Type 0} (g : Inside C) → IsKept g → g.has_cycle ≡ false → AreRanks g.ranks.ranks

@@ -116,6 +116,14 @@ module _ (step : ℕ → ℕ → Type 0) (seeds : List ℕ) where
     pub spread-given : IsSpread step seeds left new marks more done
     spread-given = by (get_or sources class None) refl
       where
+        closed : (new : List (Option ℕ)) → ((x : ℕ) → has_source sources x → has_source new x) → has_source new class
+            → (x y : ℕ) → ahead x y ⊎ has_source sources y → left x y ⊎ has_source new y
+        closed new kept here x y (inl a) = elim (gone x y a) [
+          | inl l ↦ inl l
+          | inr same ↦ inr (subst (has_source new) (sym same) here)
+        ]
+        closed new kept here x y (inr has) = inr (kept y has)
+
         -- it had one
         had : has_source sources class → IsSpread step seeds left new marks more done
         had has =
@@ -125,16 +133,8 @@ module _ (step : ℕ → ℕ → Type 0) (seeds : List ℕ) where
               covered = spread.covered;
               seeded = spread.seeded;
               known = spread.known;
-              closed = λ x y marked h. closed x y (spread.closed x y marked h);
+              closed = λ x y marked h. closed sources (λ z s. s) has x y (spread.closed x y marked h);
             })
-          where
-            closed : (x y : ℕ) → ahead x y ⊎ has_source sources y → left x y ⊎ has_source sources y
-            closed x y (inl a) = to (gone x y a)
-              where
-                to : left x y ⊎ (y ≡ class) → left x y ⊎ has_source sources y
-                to (inl l) = inl l
-                to (inr same) = inr (ap (λ k. is_some (get_or sources k None)) same ∙ has)
-            closed x y (inr s) = inr s
 
         -- it gets one
         gets : get_or sources class None ≡ None → IsSpread step seeds left new marks more done
@@ -143,7 +143,7 @@ module _ (step : ℕ → ℕ → Type 0) (seeds : List ℕ) where
           covered = λ i low. subst (is_marked marks) (sym (get_or_append_left reached (class ∷ []) 0 i (omega (arith, low, upto)))) (spread.covered i low);
           seeded = spread.seeded;
           known = λ x marked. known x (spread.known x marked);
-          closed = λ x y marked h. closed x y (spread.closed x y marked h);
+          closed = λ x y marked h. closed (set sources class (Some from)) kept here x y (spread.closed x y marked h);
         })
           where
             kept : (x : ℕ) → has_source sources x → has_source (set sources class (Some from)) x
@@ -161,14 +161,6 @@ module _ (step : ℕ → ℕ → Type 0) (seeds : List ℕ) where
             known : (x : ℕ) → Contains seeds x ⊎ has_source sources x → Contains seeds x ⊎ has_source (set sources class (Some from)) x
             known x (inl seed) = inl seed
             known x (inr has) = inr (kept x has)
-
-            closed : (x y : ℕ) → ahead x y ⊎ has_source sources y → left x y ⊎ has_source (set sources class (Some from)) y
-            closed x y (inl a) = to (gone x y a)
-              where
-                to : left x y ⊎ (y ≡ class) → left x y ⊎ has_source (set sources class (Some from)) y
-                to (inl l) = inl l
-                to (inr same) = inr (ap (λ k. is_some (get_or (set sources class (Some from)) k None)) same ∙ here)
-            closed x y (inr has) = inr (kept y has)
 
         by : (o : Option ℕ) → get_or sources class None ≡ o → IsSpread step seeds left new marks more done
         by None is = gets is

@@ -13,11 +13,10 @@ one_of found (suc i) c = by (one_of found i c) (cases_eq (get_or found i 0) c)
         → IsOneOf found (suc i) c ⊎ (¬ IsOneOf found (suc i) c)
     by (inl h) _ = inl (h.0, (let a = h.1.0 in omega (arith, a), h.1.1))
     by (inr n) (inl e) = inl (i, (omega arith, e))
-    by (inr n) (inr e) = inr (λ h. last h (cases_eq h.0 i))
-      where
-        last : (h : IsOneOf found (suc i) c) → (h.0 ≡ i) ⊎ (h.0 ≢ i) → ⊥
-        last h (inl z) = e (sym (ap (λ k. get_or found k 0) z) ∙ h.1.1)
-        last h (inr z) = n (h.0, (let a = h.1.0 in omega (arith, a, z), h.1.1))
+    by (inr n) (inr e) = inr (λ h. elim (cases_eq h.0 i) [
+      | inl z ↦ e (sym (ap (λ k. get_or found k 0) z) ∙ h.1.1)
+      | inr z ↦ n (h.0, (let a = h.1.0 in omega (arith, a, z), h.1.1))
+    ])
 
 module _ (n : ℕ) (old l0 l1 l2 : ℕ → ℕ) (found : List ℕ) (i at0 at : ℕ)
     (s : IsShifted n old l0 (IsOneOf found i) at0) (o : IsSameOrder n l0 l1)
