@@ -19,16 +19,14 @@ module _ (p q : ℕ → Bool) where
   pub count-less : (n : ℕ) → ((k : ℕ) → k < n → p k ≡ true → q k ≡ true) → (i : ℕ) → i < n → p i ≡ false
       → q i ≡ true → count p n < count q n
   count-less zero h i l e f = absurd (omega (arith, l))
-  count-less (suc n) h i l e f =
-      by (λ a. count-less n (λ k b. h k (omega (arith, b))) i a e f)
-      (count-most n (λ k b. h k (omega (arith, b)))) (h n (omega arith)) (cases_eq i n)
-    where
-      by : (i < n → count p n < count q n) → count p n ≤ count q n → (p n ≡ true → q n ≡ true)
-          → (i ≡ n) ⊎ (i ≢ n) → count p (suc n) < count q (suc n)
-      by g m t (inl z) = rw (ap p (sym z) ∙ e, ap q (sym z) ∙ f) (omega (arith, m))
-      by g m t (inr z) =
-          let k = count_step (p n) (q n) (count p n + 1) (count q n) (let k = g (omega (arith, l, z)) in omega (arith, k)) t in
-          omega (arith, k)
+  count-less (suc n) h i l e f = elim (cases_eq i n) [
+    | inl z ↦
+        let m = count-most n (λ k b. h k (omega (arith, b))) in rw (ap p (sym z) ∙ e, ap q (sym z) ∙ f) (omega (arith, m))
+    | inr z ↦
+        let g = count-less n (λ k b. h k (omega (arith, b))) i (omega (arith, l, z)) e f in
+        let k = count_step (p n) (q n) (count p n + 1) (count q n) (omega (arith, g)) (h n (omega arith)) in
+        omega (arith, k)
+  ]
 
   pub count-same : (n : ℕ) → ((k : ℕ) → k < n → p k ≡ q k) → count p n ≡ count q n
   count-same zero h = refl
@@ -37,14 +35,14 @@ module _ (p q : ℕ → Bool) where
   pub count-one : (n : ℕ) → (i : ℕ) → i < n → p i ≡ false → q i ≡ true
       → ((k : ℕ) → k < n → k ≢ i → p k ≡ q k) → count q n ≡ count p n + 1
   count-one zero i l e f h = absurd (omega (arith, l))
-  count-one (suc n) i l e f h =
-      by (λ a. count-one n i a e f (λ k b. h k (omega (arith, b)))) (cases_eq i n)
-    where
-      by : (i < n → count q n ≡ count p n + 1) → (i ≡ n) ⊎ (i ≢ n) → count q (suc n) ≡ count p (suc n) + 1
-      by g (inl z) =
-          let m = count-same n (λ k b. h k (omega (arith, b)) (λ w. omega (arith, b, z, w))) in
-          rw (ap p (sym z) ∙ e, ap q (sym z) ∙ f) (omega (arith, m))
-      by g (inr z) = let k = g (omega (arith, l, z)) in rw (h n (omega arith) (λ w. z (sym w))) (omega (arith, k))
+  count-one (suc n) i l e f h = elim (cases_eq i n) [
+    | inl z ↦
+        let m = count-same n (λ k b. h k (omega (arith, b)) (λ w. omega (arith, b, z, w))) in
+        rw (ap p (sym z) ∙ e, ap q (sym z) ∙ f) (omega (arith, m))
+    | inr z ↦
+        let k = count-one n i (omega (arith, l, z)) e f (λ k b. h k (omega (arith, b))) in
+        rw (h n (omega arith) (λ w. z (sym w))) (omega (arith, k))
+  ]
 
 pub count-all : (n : ℕ) → count (λ _. true) n ≡ n
 count-all zero = refl
