@@ -1,5 +1,5 @@
 -- One turn of a search through a range of labels.
-use Rattle.std.proofs.Common.{◌≡◌, ◌≢◌, ◌⊎◌, inl, inr, ℕ, ◌+◌, ◌<◌, ◌≤◌, List, [], ◌∷◌, nat_eq, length, get_or, Contains, arith, sym, ap, subst, ◌∙◌}
+use Rattle.std.proofs.Common.{◌≡◌, inl, inr, ℕ, ◌+◌, ◌<◌, ◌≤◌, List, [], ◌∷◌, nat_eq, length, get_or, Contains, arith, sym, ap, subst, ◌∙◌}
 use Rattle.std.specs.List.{IsDistinct}
 use Rattle.std.proofs.lemmas.Bool.{cases_eq, eqb-true}
 use Rattle.std.proofs.lemmas.Map.Views.{Contains-from_any}
@@ -19,12 +19,11 @@ module _ (near : ℕ → Type 0) (label : ℕ → ℕ) (low high : ℕ) where
       subst (IsReached near label low high old) (sym a.1) (record {
         longer = omega (arith, g, p);
         front = λ i b. get_or_append_left mid (x ∷ []) 0 i (omega (arith, b, g)) ∙ h.front i b;
-        fresh = λ k c. by k (Contains-push_cases mid x k c);
+        fresh = λ k c. elim (Contains-push_cases mid x k c) [
+          | inl m ↦ h.fresh k m
+          | inr same ↦ inr (subst near same n, subst (λ z. IsIn low high (label z)) same e)
+        ];
       })
-    where
-      by : (k : ℕ) → Contains mid k ⊎ (x ≡ k) → Contains old k ⊎ (near k × IsIn low high (label k))
-      by k (inl c) = h.fresh k c
-      by k (inr c) = inr (subst near c n, subst (λ z. IsIn low high (label z)) c e)
 
   pub reached_keeps : (old new : List ℕ) (k : ℕ) → IsReached near label low high old new → Contains old k
       → Contains new k
@@ -46,27 +45,21 @@ module _ (near : ℕ → ℕ → Type 0) (label : ℕ → ℕ) (n low high : ℕ
   found-more = record {
     some = let a = h.some in let b = g.longer in omega (arith, a, b);
     upto = let b = g.longer in omega (arith, waits, b);
-    within = λ k c. within k (g.fresh k c);
-    reached = λ k c. subst (λ z. IsOrReaches near z k) (sym same_first) (reached k (g.fresh k c));
-    closed = λ i y l s e. closed i y l s e (cases_eq i done);
-  }
-    where
-      within : (k : ℕ) → Contains old k ⊎ (Contains list k × IsIn low high (label k)) → (k < n) × IsIn low high (label k)
-      within k (inl c) = h.within k c
-      within k (inr c) = (ends (get_or old done 0) k (real k c.0), c.1)
-
-      reached : (k : ℕ) → Contains old k ⊎ (Contains list k × IsIn low high (label k)) → IsOrReaches near (get_or old 0 0) k
-      reached k (inl c) = h.reached k c
-      reached k (inr c) = IsOrReaches-next near (get_or old 0 0) (get_or old done 0) k
-          (h.reached (get_or old done 0) (Contains-get_or old done 0 waits)) (real k c.0)
-
-      closed : (i y : ℕ) → i < done + 1 → near (get_or new i 0) y → IsIn low high (label y) → (i ≡ done) ⊎ (i ≢ done)
-          → Contains new y
-      closed i y l s e (inl z) =
-          taken y (read y (subst (λ w. near w y) (ap (λ w. get_or new w 0) z ∙ g.front done waits) s)) e
-      closed i y l s e (inr z) =
-          reached_keeps (Contains list) label low high old new y g
+    within = λ k c. elim (g.fresh k c) [
+      | inl d ↦ h.within k d
+      | inr d ↦ (ends (get_or old done 0) k (real k d.0), d.1)
+    ];
+    reached = λ k c. subst (λ z. IsOrReaches near z k) (sym same_first) (elim (g.fresh k c) [
+      | inl d ↦ h.reached k d
+      | inr d ↦ IsOrReaches-next near (get_or old 0 0) (get_or old done 0) k
+          (h.reached (get_or old done 0) (Contains-get_or old done 0 waits)) (real k d.0)
+    ]);
+    closed = λ i y l s e. elim (cases_eq i done) [
+      | inl z ↦ taken y (read y (subst (λ w. near w y) (ap (λ w. get_or new w 0) z ∙ g.front done waits) s)) e
+      | inr z ↦ reached_keeps (Contains list) label low high old new y g
           (h.closed i y (omega (arith, l, z)) (subst (λ w. near w y) (g.front i (omega (arith, l, z, waits))) s) e)
+    ];
+  }
 
 -- no more are found than there are nodes
 pub found-few : (near : ℕ → ℕ → Type 0) (label : ℕ → ℕ) (n low high : ℕ) (found : List ℕ) (done : ℕ)

@@ -1,8 +1,8 @@
 -- No class is found by both searches, so no more lists are read than there are ranks in the range.
-use Rattle.std.proofs.Common.{◌≡◌, ◌≢◌, ◌⊎◌, inl, inr, ℕ, zero, suc, ◌+◌, ◌-◌, ◌<◌, ◌≤◌, Bool, true, false, true≢false}
+use Rattle.std.proofs.Common.{◌≡◌, ◌⊎◌, inl, inr, ℕ, zero, suc, ◌+◌, ◌-◌, ◌<◌, ◌≤◌, false, true≢false}
 use Rattle.std.proofs.Common.{List, ◌++◌, length, get_or, map, nat_eq, Contains, arith, refl, sym, subst, ◌∙◌}
 use Rattle.std.specs.List.{IsDistinct}
-use Rattle.std.proofs.lemmas.Bool.{cases_lt, eq-eqb, eqb-true}
+use Rattle.std.proofs.lemmas.Bool.{cases_lt, eq-eqb, eqb-true, ne_eqb}
 use Rattle.std.proofs.lemmas.List.{get_or_default, get_or_append_left, get_or-append_right, get_or-map, length-append, length-map}
 use Rattle.std.proofs.lemmas.List.Elements.{Contains-append_cases, Contains-get_or}
 use Rattle.std.proofs.lemmas.Map.Keys.{IsDistinct-from_apart, apart_from_distinct}
@@ -10,7 +10,7 @@ use Rattle.std.proofs.lemmas.Map.Steps.{length-le_from_distinct_below}
 use Rattle.std.proofs.lemmas.Map.Views.{Contains-from_any}
 use Rattle.ld_graph.specs.Inner.Affected.{IsFound, IsIn}
 use Rattle.ld_graph.specs.Inner.Repairs.{IsOrReaches}
-use Rattle.ld_graph.proofs.WalkLemmas.{Far, Far-turned, HasWalk-Far, IsWalk-Far}
+use Rattle.ld_graph.proofs.WalkLemmas.{Far, Far-turned, HasWalk-Far, IsWalk-Far, IsWalk-same}
 
 module _ (step : ℕ → ℕ → Type 0) (rank : ℕ → ℕ) (rises : (x y : ℕ) → step x y → rank x < rank y) where
   -- a walk leads to a class of a greater rank
@@ -35,18 +35,13 @@ module _ (step : ℕ → ℕ → Type 0) (rank : ℕ → ℕ) (rises : (x y : �
       let u = Far-rises n s.0 b s.1.1 in
       Far-forward F high closed n s.0 b s.1.1 l (closed a s.0 s.1.0 f (omega (arith, u, l)))
 
-pub Far-same : (s t : ℕ → ℕ → Type 0) → ((x y : ℕ) → s x y → t x y) → (n a b : ℕ) → Far s n a b
-    → Far t n a b
-Far-same s t to zero a b h = to a b h
-Far-same s t to (suc n) a b h = (h.0, (to a h.0 h.1.0, Far-same s t to n h.0 b h.1.1))
-
 -- what was found backward reaches the class where the search began
 pub met_backward : (after before : ℕ → ℕ → Type 0) → ((x y : ℕ) → before x y → after y x) → (a b : ℕ)
     → IsOrReaches before a b → IsOrReaches after b a
 met_backward after before turned a b (inl e) = inl (sym e)
 met_backward after before turned a b (inr w) =
-    let f = IsWalk-Far before a b w.0 w.1 in
-    inr (HasWalk-Far after f.0 b a (Far-turned after f.0 b a (Far-same before (λ p q. after q p) turned f.0 a b f.1.1)))
+    let f = IsWalk-Far (λ p q. after q p) a b w.0 (IsWalk-same before (λ p q. after q p) turned a b w.0 w.1) in
+    inr (HasWalk-Far after f.0 b a (Far-turned after f.0 b a f.1.1))
 
 module _ (step near : ℕ → ℕ → Type 0) (rank : ℕ → ℕ) (rises : (x y : ℕ) → step x y → rank x < rank y)
     (n low high : ℕ) (found : List ℕ) (h : IsFound near rank n low high found (length found)) where
@@ -94,13 +89,6 @@ module _ (after before : ℕ → ℕ → Type 0) (to : (x y : ℕ) → after x y
           Far-forward after rank rises (Contains forward) (rank a)
           (closed_forward after after rank rises n (rank b) (rank a) forward h (λ x y s. s)) f.0 k a f.1.1 (omega arith) d
 
-no_two : (x y : ℕ) → x ≢ y → nat_eq x y ≡ false
-no_two x y n = by (nat_eq x y) refl
-  where
-    by : (b : Bool) → nat_eq x y ≡ b → nat_eq x y ≡ false
-    by false e = e
-    by true e = absurd (n (eqb-true x y e))
-
 -- two lists without a number in common
 distinct_both : (xs ys : List ℕ) → IsDistinct nat_eq xs → IsDistinct nat_eq ys
     → ((k : ℕ) → Contains xs k → ¬ Contains ys k) → IsDistinct nat_eq (xs ++ ys)
@@ -122,7 +110,7 @@ distinct_both xs ys d e apart = IsDistinct-from_apart nat_eq (xs ++ ys) (λ i j 
     by i j z l b (inl p) (inr q) =
         let n = length-append xs ys in
         let w : j - length xs < length ys = omega (arith, b, n, q) in
-        no_two _ _ (λ s. apart (get_or xs i z) (Contains-get_or xs i z p) (subst (Contains ys) (sym
+        ne_eqb _ _ (λ s. apart (get_or xs i z) (Contains-get_or xs i z p) (subst (Contains ys) (sym
         (right j z q) ∙ sym s ∙ left i z p) (Contains-get_or ys (j - length xs) z w)))
     by i j z l b (inr p) (inr q) =
         let n = length-append xs ys in
@@ -152,7 +140,7 @@ module _ (rank : ℕ → ℕ) (n low high : ℕ) (order : low ≤ high)
           let u = within (get_or xs i z) (Contains-get_or xs i z p) in
           let v = within (get_or xs j z) (Contains-get_or xs j z q) in
           let a = apart_from_distinct nat_eq xs i j z d l q in
-          rw (read i z p, read j z q) (no_two _ _ (λ e.
+          rw (read i z p, read j z q) (ne_eqb _ _ (λ e.
           let s = once (get_or xs i z) (get_or xs j z) u.0 v.0 (omega (arith, e, u.1.0, v.1.0)) in
           true≢false (sym (eq-eqb (get_or xs i z) (get_or xs j z) s) ∙ a))))
 
@@ -170,9 +158,8 @@ module _ (rank : ℕ → ℕ) (n low high : ℕ) (order : low ≤ high)
       → ((k : ℕ) → Contains ys k → (k < n) × IsIn low high (rank k))
       → ((k : ℕ) → Contains xs k → ¬ Contains ys k) → length xs + length ys + low ≤ high + 1
   few_apart xs ys d e p q apart =
-      let f = few_within (xs ++ ys) (distinct_both xs ys d e apart) (λ k c. by k (Contains-append_cases xs ys k c)) in
+      let f = few_within (xs ++ ys) (distinct_both xs ys d e apart) (λ k c. elim (Contains-append_cases xs ys k c) [
+        | inl l ↦ p k l
+        | inr r ↦ q k r
+      ]) in
       let m = length-append xs ys in omega (arith, f, m)
-    where
-      by : (k : ℕ) → Contains xs k ⊎ Contains ys k → (k < n) × IsIn low high (rank k)
-      by k (inl c) = p k c
-      by k (inr c) = q k c

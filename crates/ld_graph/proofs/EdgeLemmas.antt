@@ -2,13 +2,13 @@
 use Rattle.std.proofs.Common.{◌≡◌, ◌≢◌, ◌⊎◌, inl, inr, ◌++◌, set, if◌then◌else◌, ℕ, ◌<◌, Bool}
 use Rattle.std.proofs.Common.{true, false, true≢false, ◌&&◌, nat_eq, List, [], ◌∷◌, length, get_or}
 use Rattle.std.proofs.Common.{slice_get, position, Some, arith, refl, sym, ap, subst}
-use Rattle.std.proofs.Common.{◌∙◌, Contains, ◌↔◌}
+use Rattle.std.proofs.Common.{◌∙◌, ◌↔◌}
 use Rattle.std.specs.List.{list_any, IsDistinct}
 use Rattle.std.proofs.lemmas.Map.Keys.{apart_from_distinct}
 use Rattle.std.proofs.lemmas.List.Folds.{list_any_at}
 use Rattle.std.proofs.lemmas.List.Elements.{Contains-append_left, Contains-push}
 use Rattle.std.proofs.lemmas.List.Elements.{Contains-push_cases}
-use Rattle.std.proofs.lemmas.Bool.{eqb-true, eq-eqb}
+use Rattle.std.proofs.lemmas.Bool.{and_parts, eqb-true, eq-eqb}
 use Rattle.std.proofs.lemmas.List.Quantifiers.{position-Some}
 use Rattle.std.proofs.lemmas.Option.{slice_get-get_or, get_or_from_slice_get}
 use Rattle.indexmap.proofs.CallerLemmas.{Contains-list_any}
@@ -22,13 +22,9 @@ use Rattle.indexmap.specs.IndexSet.{insert_key}
 abbrev pub same_edge : Edge → Edge → Bool
 same_edge x y = nat_eq x.from y.from && nat_eq x.to y.to
 
-two_true : (p q : Bool) → (p && q) ≡ true → (p ≡ true) × (q ≡ true)
-two_true true q e = (refl, e)
-two_true false q e = absurd (true≢false (sym e))
-
 pub same_edge-≡ : (x y : Edge) → same_edge x y ≡ true → x ≡ y
 same_edge-≡ x y e =
-    let h = two_true (nat_eq x.from y.from) (nat_eq x.to y.to) e in
+    let h = and_parts (nat_eq x.from y.from) (nat_eq x.to y.to) e in
     ap (λ f. edge f x.to) (eqb-true x.from y.from h.0) ∙ ap (λ t. edge y.from t) (eqb-true x.to y.to
     h.1)
 
@@ -63,64 +59,56 @@ IsEdgeNumber-position edges a b i e =
 -- the edges of a list with one more
 pub IsEdge-push : (edges : List Edge) (a b x y : ℕ) → IsEdge (edges ++ edge a b ∷ []) x y
     → IsEdge edges x y ⊎ ((a ≡ x) × (b ≡ y))
-IsEdge-push edges a b x y h = by (Contains-push_cases edges (edge a b) (edge x y) h)
-  where
-    by : Contains edges (edge x y) ⊎ (edge a b ≡ edge x y) → IsEdge edges x y ⊎ ((a ≡ x) × (b ≡ y))
-    by (inl e) = inl e
-    by (inr e) = inr (ap (λ k. k.from) e, ap (λ k. k.to) e)
+IsEdge-push edges a b x y h = elim (Contains-push_cases edges (edge a b) (edge x y) h) [
+  | inl e ↦ inl e
+  | inr e ↦ inr (ap (λ k. k.from) e, ap (λ k. k.to) e)
+]
+
+-- what the lists have in one more place
+module _ (lists : List (List ℕ)) (near new : ℕ → ℕ → Type 0) (a b : ℕ) (l : a < length lists) (is : new a b)
+    (push : (x y : ℕ) → new x y → near x y ⊎ ((a ≡ x) × (b ≡ y))) (old : (x y : ℕ) → near x y → new x y)
+    (same : (x y : ℕ) → IsNear lists x y ↔ near x y) where
+  near_more : (x y : ℕ) → IsNear (set lists a (list_at lists a ++ b ∷ [])) x y ↔ new x y
+  near_more x y = (λ h. to (IsNear-push lists a b x y l h), λ h. back (push x y h))
+    where
+      to : IsNear lists x y ⊎ ((a ≡ x) × (b ≡ y)) → new x y
+      to (inl h) = old x y ((same x y).0 h)
+      to (inr e) = subst (λ z. new z y) e.0 (subst (λ z. new a z) e.1 is)
+
+      back : near x y ⊎ ((a ≡ x) × (b ≡ y)) → IsNear (set lists a (list_at lists a ++ b ∷ [])) x y
+      back (inl h) = IsNear-old lists a b x y l ((same x y).1 h)
+      back (inr e) = subst (λ z. IsNear (set lists a (list_at lists a ++ b ∷ [])) z y) e.0 (subst (λ
+          z. IsNear (set lists a (list_at lists a ++ b ∷ [])) a z) e.1 (IsNear-new lists a b l))
 
 -- both grow by the same edge
 pub IsNear-edge : (lists : List (List ℕ)) (edges : List Edge) (a b : ℕ) → a < length lists
     → ((x y : ℕ) → IsNear lists x y ↔ IsEdge edges x y)
     → (x y : ℕ) → IsNear (set lists a (list_at lists a ++ b ∷ [])) x y
     ↔ IsEdge (edges ++ edge a b ∷ []) x y
-IsNear-edge lists edges a b l same x y = (
-  λ h. to (IsNear-push lists a b x y l h),
-  λ h. back
-      (IsEdge-push edges a b x y h),
-)
-  where
-    to : IsNear lists x y ⊎ ((a ≡ x) × (b ≡ y)) → IsEdge (edges ++ edge a b ∷ []) x y
-    to (inl h) = Contains-append_left edges (edge a b ∷ []) (edge x y) ((same x y).0 h)
-    to (inr e) = subst (λ z. IsEdge (edges ++ edge a b ∷ []) z y) e.0 (subst (λ z. IsEdge (edges ++
-        edge a b ∷ []) a z) e.1 (Contains-push edges (edge a b)))
-
-    back : IsEdge edges x y ⊎ ((a ≡ x) × (b ≡ y)) → IsNear (set lists a (list_at lists a ++ b ∷ []))
-        x y
-    back (inl h) = IsNear-old lists a b x y l ((same x y).1 h)
-    back (inr e) = subst (λ z. IsNear (set lists a (list_at lists a ++ b ∷ [])) z y) e.0 (subst (λ
-        z. IsNear (set lists a (list_at lists a ++ b ∷ [])) a z) e.1 (IsNear-new lists a b l))
+IsNear-edge lists edges a b l same = near_more lists (IsEdge edges) (IsEdge (edges ++ edge a b ∷ [])) a b l
+    (Contains-push edges (edge a b)) (λ x y h. IsEdge-push edges a b x y h)
+    (λ x y e. Contains-append_left edges (edge a b ∷ []) (edge x y) e) same
 
 pub IsNear-turned : (lists : List (List ℕ)) (edges : List Edge) (a b : ℕ) → b < length lists
     → ((x y : ℕ) → IsNear lists x y ↔ IsEdge edges y x)
     → (x y : ℕ) → IsNear (set lists b (list_at lists b ++ a ∷ [])) x y
     ↔ IsEdge (edges ++ edge a b ∷ []) y x
-IsNear-turned lists edges a b l same x y = (
-  λ h. to (IsNear-push lists b a x y l h),
-  λ h. back
-      (IsEdge-push edges a b y x h),
-)
+IsNear-turned lists edges a b l same = near_more lists (λ x y. IsEdge edges y x) (λ x y. IsEdge (edges ++ edge a b ∷ []) y x) b a l
+    (Contains-push edges (edge a b)) (λ x y h. turn x y (IsEdge-push edges a b y x h))
+    (λ x y e. Contains-append_left edges (edge a b ∷ []) (edge y x) e) same
   where
-    to : IsNear lists x y ⊎ ((b ≡ x) × (a ≡ y)) → IsEdge (edges ++ edge a b ∷ []) y x
-    to (inl h) = Contains-append_left edges (edge a b ∷ []) (edge y x) ((same x y).0 h)
-    to (inr e) = subst (λ z. IsEdge (edges ++ edge a b ∷ []) y z) e.0 (subst (λ z. IsEdge (edges ++
-        edge a b ∷ []) z b) e.1 (Contains-push edges (edge a b)))
-
-    back : IsEdge edges y x ⊎ ((a ≡ y) × (b ≡ x)) → IsNear (set lists b (list_at lists b ++ a ∷ []))
-        x y
-    back (inl h) = IsNear-old lists b a x y l ((same x y).1 h)
-    back (inr e) = subst (λ z. IsNear (set lists b (list_at lists b ++ a ∷ [])) z y) e.1 (subst (λ
-        z. IsNear (set lists b (list_at lists b ++ a ∷ [])) b z) e.0 (IsNear-new lists b a l))
+    turn : (x y : ℕ) → IsEdge edges y x ⊎ ((a ≡ y) × (b ≡ x)) → IsEdge edges y x ⊎ ((b ≡ x) × (a ≡ y))
+    turn x y (inl h) = inl h
+    turn x y (inr e) = inr (e.1, e.0)
 
 -- the ends of the edges of a list with one more
 pub ends_push : (edges : List Edge) (a b n : ℕ) → a < n → b < n → ((x y : ℕ) → IsEdge edges x y
     → (x < n) × (y < n))
     → (x y : ℕ) → IsEdge (edges ++ edge a b ∷ []) x y → (x < n) × (y < n)
-ends_push edges a b n l m ends x y h = by (IsEdge-push edges a b x y h)
-  where
-    by : IsEdge edges x y ⊎ ((a ≡ x) × (b ≡ y)) → (x < n) × (y < n)
-    by (inl e) = ends x y e
-    by (inr e) = (subst (λ z. z < n) e.0 l, subst (λ z. z < n) e.1 m)
+ends_push edges a b n l m ends x y h = elim (IsEdge-push edges a b x y h) [
+  | inl e ↦ ends x y e
+  | inr e ↦ (subst (λ z. z < n) e.0 l, subst (λ z. z < n) e.1 m)
+]
 
 -- a key that isn't there goes last
 pub insert_key-new : (edges : List Edge) (e : Edge) → list_any (same_edge e) edges ≡ false

@@ -2,14 +2,14 @@
 use Rattle.std.proofs.Common.{◌≡◌, ◌↔◌, ◌⊎◌, inl, inr, ℕ, ◌<◌, ◌≤◌, List, [], ◌∷◌, Option, None, Some, arith, get_or, length, refl, subst, sym}
 use Rattle.std.proofs.lemmas.Bool.{cases_lt}
 use Rattle.std.proofs.lemmas.List.{get_or_past}
-use Rattle.ld_graph.specs.Components.{AreComponents, AreTogether}
+use Rattle.ld_graph.specs.Components.{AreComponents}
 use Rattle.ld_graph.specs.Inner.Insides.{AreLevelsFor, IsNearInside}
 use Rattle.ld_graph.specs.Inner.Levels.{level_at}
 use Rattle.ld_graph.specs.Lists.{IsNear}
 use Rattle.ld_graph.specs.Walks.{AreEnough, LeadsTo, IsDistance, IsWalk, HasWalk, Reaches, DistanceIs}
 use Rattle.ld_graph.proofs.ShownLemmas.{AreEnough-same}
 use Rattle.ld_graph.proofs.SoughtLemmas.{IsOrReaches-next}
-use Rattle.ld_graph.proofs.TrailLemmas.{reaches-on}
+use Rattle.ld_graph.proofs.TrailLemmas.{are_together, reaches-on}
 use Rattle.ld_graph.proofs.WalkLemmas.{IsWalk-same}
 
 module _ (step : ℕ → ℕ → Type 0) (before : List (List ℕ)) (turned : (x y : ℕ) → IsNear before x y ↔ step y x) (n : ℕ)
@@ -20,13 +20,8 @@ module _ (step : ℕ → ℕ → Type 0) (before : List (List ℕ)) (turned : (x
   outer : (a b : ℕ) → inside a b → step a b
   outer a b h = (turned b a).0 h.0
 
-  together : (a : ℕ) → a < n → Reaches step end a → Reaches step a end → AreTogether step a end
-  together a at (inl e) back = inl (sym e)
-  together a at (inr w) (inl e) = inl e
-  together a at (inr w) (inr v) = inr (v, w)
-
   inner : (a b : ℕ) → Reaches step end a → HasWalk step a end → step a b → inside a b
-  inner a b reached back s = let at = (ends a b s).0 in ((turned b a).1 s, (are.each a end at within).1 (together a at reached (inr back)))
+  inner a b reached back s = let at = (ends a b s).0 in ((turned b a).1 s, (are.each a end at within).1 (are_together step a end (inr back) reached))
 
   leads : (a : ℕ) (w : List ℕ) → Reaches step end a → LeadsTo step a end w → LeadsTo inside a end w
   leads a [] reached h = absurd h

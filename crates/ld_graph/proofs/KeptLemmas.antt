@@ -16,20 +16,20 @@ module _ {C : Type 0} where
     pub edges : spare old.edges ≤ spare new.edges
     pub after : ListsGrown old.lists.after new.lists.after
     pub before : ListsGrown old.lists.before new.lists.before
-    pub classes : new.classes ≡ old.classes
     pub ranks : new.ranks.ranks ≡ old.ranks.ranks
     pub ranks_room : old.ranks.room ≤ new.ranks.room
-    pub has_cycle : new.has_cycle ≡ old.has_cycle
-    pub spare_classes : new.spare_classes ≡ old.spare_classes
-    pub spare_edges : new.spare_edges ≡ old.spare_edges
+    pub rest : new ≡ record old { edges = new.edges; lists = new.lists; ranks = new.ranks }
 
 pub IsKept-grown : {C : Type 0} (old new : Inside C) → HasGrown old new → IsKept old → IsKept new
 IsKept-grown old new g h =
-    let classes = g.classes in
+    let classes = ap (λ (x : Inside _). x.classes) g.rest in
+    let has_cycle = ap (λ (x : Inside _). x.has_cycle) g.rest in
+    let spare_classes = ap (λ (x : Inside _). x.spare_classes) g.rest in
+    let spare_edges = ap (λ (x : Inside _). x.spare_edges) g.rest in
     let count = ap length g.keys in
     record {
-      after_classes = ap length g.after.lists ∙ h.after_classes ∙ sym g.classes;
-      before_classes = ap length g.before.lists ∙ h.before_classes ∙ sym g.classes;
+      after_classes = ap length g.after.lists ∙ h.after_classes ∙ sym classes;
+      before_classes = ap length g.before.lists ∙ h.before_classes ∙ sym classes;
       after_items = g.after.items ∙ h.after_items ∙ sym count;
       before_items = g.before.items ∙ h.before_items ∙ sym count;
       after_edges = λ a b. subst (λ l. IsNear l a b ↔ IsEdge new.edges.keys a b) (sym g.after.lists)
@@ -38,23 +38,23 @@ IsKept-grown old new g h =
       before_edges = λ a b. subst (λ l. IsNear l a b ↔ IsEdge new.edges.keys b a) (sym
           g.before.lists) (subst (λ k. IsNear old.lists.before.lists a b
           ↔ IsEdge k b a) (sym g.keys) (h.before_edges a b));
-      ends = λ a b e. subst (λ n. (a < n) × (b < n)) (sym g.classes) (h.ends a b (subst (λ k. IsEdge k a
+      ends = λ a b e. subst (λ n. (a < n) × (b < n)) (sym classes) (h.ends a b (subst (λ k. IsEdge k a
           b) g.keys e));
-      room_edges = omega (arith, g.edges, h.room_edges, g.spare_edges);
+      room_edges = omega (arith, g.edges, h.room_edges, spare_edges);
       room_after = (
-        omega (arith, classes, h.room_after.0, g.after.class_room, g.spare_classes),
-        omega (arith, count, h.room_after.1, g.after.item_room, g.spare_edges),
+        omega (arith, classes, h.room_after.0, g.after.class_room, spare_classes),
+        omega (arith, count, h.room_after.1, g.after.item_room, spare_edges),
       );
       room_before = (
-        omega (arith, classes, h.room_before.0, g.before.class_room, g.spare_classes),
-        omega (arith, count, h.room_before.1, g.before.item_room, g.spare_edges),
+        omega (arith, classes, h.room_before.0, g.before.class_room, spare_classes),
+        omega (arith, count, h.room_before.1, g.before.item_room, spare_edges),
       );
-      few = omega (arith, classes, h.few, g.spare_classes);
-      room_ranks = omega (arith, classes, h.room_ranks, g.ranks_room, g.spare_classes);
-      ranked = ap length g.ranks ∙ h.ranked ∙ sym g.classes;
+      few = omega (arith, classes, h.few, spare_classes);
+      room_ranks = omega (arith, classes, h.room_ranks, g.ranks_room, spare_classes);
+      ranked = ap length g.ranks ∙ h.ranked ∙ sym classes;
       rises = λ f x y e. subst (λ r. get_or r x 0 < get_or r y 0) (sym g.ranks)
-          (h.rises (sym g.has_cycle ∙ f) x y (subst (λ k. IsEdge k x y) g.keys e));
-      cycle = λ t. subst (λ k. HasCycle (IsEdge k)) (sym g.keys) (h.cycle (sym g.has_cycle ∙ t));
+          (h.rises (sym has_cycle ∙ f) x y (subst (λ k. IsEdge k x y) g.keys e));
+      cycle = λ t. subst (λ k. HasCycle (IsEdge k)) (sym g.keys) (h.cycle (sym has_cycle ∙ t));
     }
 
 -- where there is memory for more, the spares may be more

@@ -11,11 +11,8 @@ use Rattle.ld_graph.specs.Lists.{IsNear, list_at}
 use Rattle.ld_graph.specs.Inner.Repairs.{IsOrReaches}
 use Rattle.ld_graph.specs.Inner.Trails.{PlainTrail, no_frame, stage_at, next_at, wait_at, frame_at, IsLimit, IsHandled}
 use Rattle.ld_graph.specs.Inner.Trails.{IsFrame, AreStages, IsTrail, IsToldFrom, last_of, top_of, told}
-use Rattle.ld_graph.proofs.TrailLemmas.{reaches-within, same_place, frame-kept}
+use Rattle.ld_graph.proofs.TrailLemmas.{reaches-within, same_class, same_place, frame-kept}
 use Rattle.ld_graph.proofs.LowerLemmas.{top_frame, limit_low}
-
-same_class : (r s : ℕ) → Closed r ≡ Closed s → r ≡ s
-same_class r s e = cc
 
 module _ (lists : List (List ℕ)) (t : PlainTrail) (h : IsTrail lists t) (some : 0 < length t.path) (stages : List Stage) where
   abbrev R : ℕ → ℕ → Type 0
@@ -43,13 +40,12 @@ module _ (lists : List (List ℕ)) (t : PlainTrail) (h : IsTrail lists t) (some 
         by : (stage : Stage) → stage_at t x ≡ stage → IsInside x ⊎ (stage_at s x ≡ stage_at t x)
         by Fresh e = inr (new.rest x (λ j a b q. let f = ap (λ z. stage_at t z) q in let g = h.stages.at j b in cc))
         by (Closed r) e = inr (new.rest x (λ j a b q. let f = ap (λ z. stage_at t z) q in let g = h.stages.at j b in cc))
-        by (Open i) e = cases (cases_lt i top.position)
-          where
-            cases : (i < top.position) ⊎ (top.position ≤ i) → IsInside x ⊎ (stage_at s x ≡ stage_at t x)
-            cases (inl l) = inr (new.rest x (λ j a b q.
-                let f : stage_at t x ≡ Open j = ap (λ z. stage_at t z) (sym q) ∙ h.stages.at j b in
-                let g : i ≡ j = same_place i j (sym e ∙ f) in omega (arith, g, a, l)))
-            cases (inr l) = let w = h.stages.back x i e in inl (i, (l, (w.0, w.1)))
+        by (Open i) e = elim (cases_lt i top.position) [
+          | inl l ↦ inr (new.rest x (λ j a b q.
+              let f : stage_at t x ≡ Open j = ap (λ z. stage_at t z) (sym q) ∙ h.stages.at j b in
+              let g : i ≡ j = same_place i j (sym e ∙ f) in omega (arith, g, a, l)))
+          | inr l ↦ let w = h.stages.back x i e in inl (i, (l, (w.0, w.1)))
+        ]
 
     inside_waits : (x : ℕ) → (i : IsInside x) → stage_at t x ≡ Open i.0
     inside_waits x i = ap (λ z. stage_at t z) (sym i.1.1.1) ∙ h.stages.at i.0 i.1.1.0
@@ -58,25 +54,22 @@ module _ (lists : List (List ℕ)) (t : PlainTrail) (h : IsTrail lists t) (some 
     inside_told x i = ap (λ z. stage_at s z) (sym i.1.1.1) ∙ new.told i.0 i.1.0 i.1.1.0
 
     kept : (x r : ℕ) → stage_at t x ≡ Closed r → stage_at s x ≡ Closed r
-    kept x r e = by (inside_or x)
-      where
-        by : IsInside x ⊎ (stage_at s x ≡ stage_at t x) → stage_at s x ≡ Closed r
-        by (inl i) = let f = inside_waits x i in cc
-        by (inr f) = f ∙ e
+    kept x r e = elim (inside_or x) [
+      | inl i ↦ let f = inside_waits x i in cc
+      | inr f ↦ f ∙ e
+    ]
 
     was : (x r : ℕ) → stage_at s x ≡ Closed r → (IsInside x × (r ≡ top.class)) ⊎ (stage_at t x ≡ Closed r)
-    was x r e = by (inside_or x)
-      where
-        by : IsInside x ⊎ (stage_at s x ≡ stage_at t x) → (IsInside x × (r ≡ top.class)) ⊎ (stage_at t x ≡ Closed r)
-        by (inl i) = inl (i, same_class r top.class (sym e ∙ inside_told x i))
-        by (inr f) = inr (sym f ∙ e)
+    was x r e = elim (inside_or x) [
+      | inl i ↦ inl (i, same_class r top.class (sym e ∙ inside_told x i))
+      | inr f ↦ inr (sym f ∙ e)
+    ]
 
     pub told-met : (x : ℕ) → stage_at s x ≡ Fresh → stage_at t x ≡ Fresh
-    told-met x e = by (inside_or x)
-      where
-        by : IsInside x ⊎ (stage_at s x ≡ stage_at t x) → stage_at t x ≡ Fresh
-        by (inl i) = let f = inside_told x i in cc
-        by (inr f) = sym f ∙ e
+    told-met x e = elim (inside_or x) [
+      | inl i ↦ let f = inside_told x i in cc
+      | inr f ↦ sym f ∙ e
+    ]
 
     waiting_len : length (take top.position t.waiting) ≡ top.position
     waiting_len = let f = top_frame lists t h some in let a = f.starts in length-take-le top.position t.waiting (omega (arith, a))
@@ -96,32 +89,25 @@ module _ (lists : List (List ℕ)) (t : PlainTrail) (h : IsTrail lists t) (some 
         at : (i : ℕ) → i < length (take top.position t.waiting) → stage_at s (wait_at s i) ≡ Open i
         at i b =
             let l = waiting_len in
-            let f = (top_frame lists t h some).starts in
-            let g = h.stages.at i (omega (arith, l, b, f)) in
             ap (λ z. stage_at s z) (wait_same i (omega (arith, l, b))) ∙ by (inside_or (wait_at t i))
           where
+            here : stage_at t (wait_at t i) ≡ Open i
+            here = let l = waiting_len in let f = (top_frame lists t h some).starts in h.stages.at i (omega (arith, l, b, f))
+
             by : IsInside (wait_at t i) ⊎ (stage_at s (wait_at t i) ≡ stage_at t (wait_at t i)) → stage_at s (wait_at t i) ≡ Open i
             by (inl q) =
-                let l = waiting_len in
-                let f = (top_frame lists t h some).starts in
-                let g = h.stages.at i (omega (arith, l, b, f)) in
-                let p : q.0 ≡ i = same_place q.0 i (sym (inside_waits (wait_at t i) q) ∙ g) in
-                let c = q.1.0 in absurd (omega (arith, p, c, l, b))
-            by (inr e) =
-                let l = waiting_len in
-                let f = (top_frame lists t h some).starts in
-                e ∙ h.stages.at i (omega (arith, l, b, f))
+                let p : q.0 ≡ i = same_place q.0 i (sym (inside_waits (wait_at t i) q) ∙ here) in
+                let c = q.1.0 in let l = waiting_len in absurd (omega (arith, p, c, l, b))
+            by (inr e) = e ∙ here
 
         back : (x i : ℕ) → stage_at s x ≡ Open i → (i < length (take top.position t.waiting)) × (wait_at s i ≡ x)
-        back x i e = by (inside_or x)
-          where
-            by : IsInside x ⊎ (stage_at s x ≡ stage_at t x) → (i < length (take top.position t.waiting)) × (wait_at s i ≡ x)
-            by (inl q) = let f = inside_told x q in cc
-            by (inr f) = cases (cases_lt i top.position)
-              where
-                cases : (i < top.position) ⊎ (top.position ≤ i) → (i < length (take top.position t.waiting)) × (wait_at s i ≡ x)
-                cases (inl l) = let p = waiting_len in let q = h.stages.back x i (sym f ∙ e) in (omega (arith, p, l), wait_same i l ∙ q.1)
-                cases (inr l) = let q = h.stages.back x i (sym f ∙ e) in let g = inside_told x (i, (l, (q.0, q.1))) in cc
+        back x i e = elim (inside_or x) [
+          | inl q ↦ let f = inside_told x q in cc
+          | inr f ↦ elim (cases_lt i top.position) [
+            | inl l ↦ let p = waiting_len in let q = h.stages.back x i (sym f ∙ e) in (omega (arith, p, l), wait_same i l ∙ q.1)
+            | inr l ↦ let q = h.stages.back x i (sym f ∙ e) in let g = inside_told x (i, (l, (q.0, q.1))) in cc
+          ]
+        ]
 
     -- the successors of a class of the component are known
     inside_ahead : (x y : ℕ) → IsInside x → IsNear lists x y → (r : ℕ) × (stage_at s y ≡ Closed r)
@@ -149,11 +135,10 @@ module _ (lists : List (List ℕ)) (t : PlainTrail) (h : IsTrail lists t) (some 
         by z e (inr c) = let a = c.1.0 in (top.class, inside_told z (c.0, (omega (arith, a, whole), (c.1.1.0, c.1.1.1 ∙ e))))
 
     told_ahead : (x y r : ℕ) → stage_at s x ≡ Closed r → IsNear lists x y → (q : ℕ) × (stage_at s y ≡ Closed q)
-    told_ahead x y r e n = by (was x r e)
-      where
-        by : (IsInside x × (r ≡ top.class)) ⊎ (stage_at t x ≡ Closed r) → (q : ℕ) × (stage_at s y ≡ Closed q)
-        by (inl i) = inside_ahead x y i.0 n
-        by (inr c) = let q = h.closed.ahead x y r c n in (q.0, kept y q.0 q.1)
+    told_ahead x y r e n = elim (was x r e) [
+      | inl i ↦ inside_ahead x y i.0 n
+      | inr c ↦ let q = h.closed.ahead x y r c n in (q.0, kept y q.0 q.1)
+    ]
 
     told_whole : (x y r : ℕ) → stage_at s x ≡ Closed r → R x y → R y x → stage_at s y ≡ Closed r
     told_whole x y r e a b = by (was x r e)
@@ -172,14 +157,13 @@ module _ (lists : List (List ℕ)) (t : PlainTrail) (h : IsTrail lists t) (some 
         by (inr c) = kept y r (h.closed.whole x y r c a b)
 
     told_sound : (x r : ℕ) → stage_at s x ≡ Closed r → R x r × R r x
-    told_sound x r e = by (was x r e)
-      where
-        by : (IsInside x × (r ≡ top.class)) ⊎ (stage_at t x ≡ Closed r) → R x r × R r x
-        by (inl i) =
-            let f = top_frame lists t h some in
-            subst (λ z. R x z × R z x) (sym i.1) (subst (λ z. R z top.class × R top.class z) i.0.1.1.1
-            (f.back i.0.0 i.0.1.1.0, f.ahead i.0.0 i.0.1.0 i.0.1.1.0))
-        by (inr c) = h.closed.sound x r c
+    told_sound x r e = elim (was x r e) [
+      | inl i ↦
+          let f = top_frame lists t h some in
+          subst (λ z. R x z × R z x) (sym i.1) (subst (λ z. R z top.class × R top.class z) i.0.1.1.1
+          (f.back i.0.0 i.0.1.1.0, f.ahead i.0.0 i.0.1.0 i.0.1.1.0))
+      | inr c ↦ h.closed.sound x r c
+    ]
 
     told_frames : (k limit : ℕ) → IsLimit s k limit → IsFrame lists s limit (frame_at s k)
     told_frames k limit is =
@@ -205,11 +189,10 @@ module _ (lists : List (List ℕ)) (t : PlainTrail) (h : IsTrail lists t) (some 
 
         handled : (low y : ℕ) → IsHandled t low y → IsHandled s low y
         handled low y (inl c) = inl (c.0, kept y c.0 c.1)
-        handled low y (inr c) = cases (cases_lt c.0 top.position)
-          where
-            cases : (c.0 < top.position) ⊎ (top.position ≤ c.0) → IsHandled s low y
-            cases (inl l) = let p = waiting_len in inr (c.0, (c.1.0, (omega (arith, l, p), wait_same c.0 l ∙ c.1.1.1)))
-            cases (inr l) = inl (top.class, inside_told y (c.0, (l, (c.1.1.0, c.1.1.1))))
+        handled low y (inr c) = elim (cases_lt c.0 top.position) [
+          | inl l ↦ let p = waiting_len in inr (c.0, (c.1.0, (omega (arith, l, p), wait_same c.0 l ∙ c.1.1.1)))
+          | inr l ↦ inl (top.class, inside_told y (c.0, (l, (c.1.1.0, c.1.1.1))))
+        ]
 
     pub told-is : IsTrail lists s
     told-is = record {

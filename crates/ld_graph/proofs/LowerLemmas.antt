@@ -27,11 +27,10 @@ module _ (lists : List (List ℕ)) (t : PlainTrail) (h : IsTrail lists t) (some 
   top_frame = h.frames last (length t.waiting) (inr (omega arith, refl))
 
   pub limit_low : (k limit : ℕ) → IsLimit t k limit → k < last → limit ≤ top.position
-  limit_low k limit (inl is) b = by (cases_eq (k + 1) last)
-    where
-      by : (k + 1 ≡ last) ⊎ (k + 1 ≢ last) → limit ≤ top.position
-      by (inl e) = let p : limit ≡ top.position = is.1 ∙ ap (λ z. (frame_at t z).position) e in omega (arith, p)
-      by (inr ne) = let r = h.rising (k + 1) last (omega (arith, ne)) (omega arith) in let p = is.1 in omega (arith, r, p)
+  limit_low k limit (inl is) b = elim (cases_eq (k + 1) last) [
+    | inl e ↦ let p : limit ≡ top.position = is.1 ∙ ap (λ z. (frame_at t z).position) e in omega (arith, p)
+    | inr ne ↦ let r = h.rising (k + 1) last (omega (arith, ne)) (omega arith) in let p = is.1 in omega (arith, r, p)
+  ]
   limit_low k limit (inr is) b = absurd (let a = is.0 in omega (arith, a))
 
   pub top_waits : stage_at t top.class ≡ Open top.position
@@ -51,12 +50,8 @@ module _ (lists : List (List ℕ)) (t : PlainTrail) (h : IsTrail lists t) (some 
 
   -- the last frame isn't the first one where a walk from it leads back
   pub has_parent : top.low < top.position → 0 < last
-  has_parent below = by (cases_lt 0 last)
-    where
-      by : (0 < last) ⊎ (last ≤ 0) → 0 < last
-      by (inl l) = l
-      by (inr l) = absurd (let e : last ≡ 0 = omega arith in
-          let p : top.position ≡ 0 = ap (λ z. (frame_at t z).position) e ∙ h.first some in omega (arith, p, below))
+  has_parent below =
+      let p : last ≡ 0 → top.position ≡ 0 = λ e. ap (λ z. (frame_at t z).position) e ∙ h.first some in grind (arith, p, below)
 
   -- a successor is looked at
   module _ (low : ℕ) (more : next_at t top.class < length (list_at lists top.class)) (less : low ≤ top.low)
@@ -70,11 +65,10 @@ module _ (lists : List (List ℕ)) (t : PlainTrail) (h : IsTrail lists t) (some 
     next_else x ne = get_or-set_other t.nexts top.class x (next_at t top.class + 1) 0 ne
 
     next_more : (x : ℕ) → next_at t x ≤ next_at (advanced t low) x
-    next_more x = by (cases_eq x top.class)
-      where
-        by : (x ≡ top.class) ⊎ (x ≢ top.class) → next_at t x ≤ next_at (advanced t low) x
-        by (inl e) = let a = ap (λ z. next_at (advanced t low) z) e ∙ next_here in let b = ap (λ z. next_at t z) e in omega (arith, a, b)
-        by (inr ne) = let a = next_else x ne in omega (arith, a)
+    next_more x = elim (cases_eq x top.class) [
+      | inl e ↦ let a = ap (λ z. next_at (advanced t low) z) e ∙ next_here in let b = ap (λ z. next_at t z) e in omega (arith, a, b)
+      | inr ne ↦ let a = next_else x ne in omega (arith, a)
+    ]
 
     frame_here : frame_at (advanced t low) last ≡ lowered top low
     frame_here = get_or-set_same t.path last (lowered top low) no_frame (omega arith)
@@ -83,11 +77,10 @@ module _ (lists : List (List ℕ)) (t : PlainTrail) (h : IsTrail lists t) (some 
     frame_else k ne = get_or-set_other t.path last k (lowered top low) no_frame ne
 
     same_position : (k : ℕ) → (frame_at (advanced t low) k).position ≡ (frame_at t k).position
-    same_position k = by (cases_eq k last)
-      where
-        by : (k ≡ last) ⊎ (k ≢ last) → (frame_at (advanced t low) k).position ≡ (frame_at t k).position
-        by (inl e) = ap (λ z. (frame_at (advanced t low) z).position) e ∙ ap (λ f. f.position) frame_here ∙ ap (λ z. (frame_at t z).position) (sym e)
-        by (inr ne) = ap (λ f. f.position) (frame_else k ne)
+    same_position k = elim (cases_eq k last) [
+      | inl e ↦ ap (λ z. (frame_at (advanced t low) z).position) e ∙ ap (λ f. f.position) frame_here ∙ ap (λ z. (frame_at t z).position) (sym e)
+      | inr ne ↦ ap (λ f. f.position) (frame_else k ne)
+    ]
 
     path_len : length (set t.path last (lowered top low)) ≡ length t.path
     path_len = length-set t.path last (lowered top low)
@@ -194,11 +187,10 @@ module _ (lists : List (List ℕ)) (t : PlainTrail) (h : IsTrail lists t) (some 
     parent_else k b ne = get_or-set_other (take last t.path) prev k (lowered parent low) no_frame ne ∙ get_or-take last t.path k no_frame b
 
     place_kept : (k : ℕ) → k < last → (frame_at (returned t low) k).position ≡ (frame_at t k).position
-    place_kept k b = by (cases_eq k prev)
-      where
-        by : (k ≡ prev) ⊎ (k ≢ prev) → (frame_at (returned t low) k).position ≡ (frame_at t k).position
-        by (inl e) = ap (λ z. (frame_at (returned t low) z).position) e ∙ ap (λ f. f.position) parent_here ∙ ap (λ z. (frame_at t z).position) (sym e)
-        by (inr ne) = ap (λ f. f.position) (parent_else k b ne)
+    place_kept k b = elim (cases_eq k prev) [
+      | inl e ↦ ap (λ z. (frame_at (returned t low) z).position) e ∙ ap (λ f. f.position) parent_here ∙ ap (λ z. (frame_at t z).position) (sym e)
+      | inr ne ↦ ap (λ f. f.position) (parent_else k b ne)
+    ]
 
     weaker_yet : (old y : ℕ) → low ≤ old → IsHandled t old y → IsHandled (returned t low) low y
     weaker_yet old y l (inl c) = inl c

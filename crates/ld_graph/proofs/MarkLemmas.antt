@@ -2,9 +2,9 @@
 use Rattle.std.proofs.Common.{◌≡◌, ◌≢◌, ◌⊎◌, inl, inr, ℕ, ◌+◌, ◌-◌, ◌<◌, ◌≤◌, Bool, true}
 use Rattle.std.proofs.Common.{false}
 use Rattle.std.proofs.Common.{true≢false, List, [], ◌∷◌, ◌++◌, length, get_or, set, replicate}
-use Rattle.std.proofs.Common.{nat_eq, Contains, arith, refl, sym, ap, subst, ◌∙◌}
+use Rattle.std.proofs.Common.{nat_eq, Contains, arith, sym, ap, subst, ◌∙◌}
 use Rattle.std.specs.List.{list_any}
-use Rattle.std.proofs.lemmas.Bool.{cases_lt, cases_eq, eqb-true}
+use Rattle.std.proofs.lemmas.Bool.{cases_Bool, cases_lt, cases_eq, eqb-true}
 use Rattle.std.proofs.lemmas.Cmp.{nat_eq_equiv}
 use Rattle.std.proofs.lemmas.Map.Views.{Contains-from_any, list_any-from_Contains}
 use Rattle.std.proofs.lemmas.Map.Steps.{length-le_from_distinct_below}
@@ -14,20 +14,16 @@ use Rattle.std.proofs.lemmas.List.{get_or-replicate, length-replicate, get_or_de
 use Rattle.std.proofs.lemmas.List.Elements.{Contains-push, Contains-push_cases}
 use Rattle.std.proofs.lemmas.List.Elements.{Contains-append_left}
 use Rattle.ld_graph.specs.Inner.Marks.{AreMarked}
+use Rattle.ld_graph.proofs.NearLemmas.{within_of}
 use Rattle.ld_graph.proofs.OnceLemmas.{IsDistinct-none, IsDistinct-one_more}
-
-pub bool_cases : (b : Bool) → (b ≡ true) ⊎ (b ≡ false)
-bool_cases true = inl refl
-bool_cases false = inr refl
+use Rattle.ld_graph.proofs.ReachLemmas.{is_marked, mark_on, mark_stays, mark_was}
 
 -- whether a number is one of these
 pub has_or_not : (found : List ℕ) (k : ℕ) → Contains found k ⊎ (¬ Contains found k)
-has_or_not found k = by (bool_cases (list_any (nat_eq k) found))
-  where
-    by : (list_any (nat_eq k) found ≡ true) ⊎ (list_any (nat_eq k) found ≡ false)
-        → Contains found k ⊎ (¬ Contains found k)
-    by (inl e) = inl (Contains-from_any {eq = nat_eq} (λ x y t. eqb-true x y t) k found e)
-    by (inr e) = inr (λ n. true≢false (sym (list_any-from_Contains nat_eq_equiv k found n) ∙ e))
+has_or_not found k = elim (cases_Bool (list_any (nat_eq k) found)) [
+  | inl e ↦ inl (Contains-from_any {eq = nat_eq} (λ x y t. eqb-true x y t) k found e)
+  | inr e ↦ inr (λ n. true≢false (sym (list_any-from_Contains nat_eq_equiv k found n) ∙ e))
+]
 
 pub AreMarked-none : AreMarked [] []
 AreMarked-none = record {
@@ -40,11 +36,7 @@ AreMarked-none = record {
 
 module _ (marks : List Bool) (found : List ℕ) (h : AreMarked marks found) where
   pub found_below : (k : ℕ) → Contains found k → k < length marks
-  found_below k n = by (cases_lt k (length marks))
-    where
-      by : (k < length marks) ⊎ (length marks ≤ k) → k < length marks
-      by (inl l) = l
-      by (inr l) = absurd (true≢false (sym ((h.marked k).1 n) ∙ get_or_past marks k false l))
+  found_below k n = within_of marks k false (λ e. true≢false (sym ((h.marked k).1 n) ∙ e))
 
   pub found_few : length found ≤ length marks
   found_few = length-le_from_distinct_below found (length marks) h.once
@@ -57,25 +49,16 @@ module _ (marks : List Bool) (found : List ℕ) (h : AreMarked marks found) wher
     pub AreMarked-add : AreMarked (set marks offset true) (found ++ offset ∷ [])
     AreMarked-add = record {
       once = IsDistinct-one_more found offset h.once (unmarked offset free);
-      marked = λ k. (λ e. to k (cases_eq k offset) e, λ n. back k (cases_eq k offset) n);
+      marked = λ k. (λ e. to k (mark_was marks offset k e), λ n. back k (Contains-push_cases found offset k n));
     }
       where
-        to : (k : ℕ) → (k ≡ offset) ⊎ (k ≢ offset) → get_or (set marks offset true) k false ≡ true
-            → Contains (found ++ offset ∷ []) k
-        to k (inl e) _ = subst (Contains (found ++ offset ∷ [])) (sym e) (Contains-push found offset)
-        to k (inr e) m = Contains-append_left found (offset ∷ []) k ((h.marked k).0
-            (sym (get_or-set_other marks offset k true false e) ∙ m))
+        to : (k : ℕ) → (k ≡ offset) ⊎ is_marked marks k → Contains (found ++ offset ∷ []) k
+        to k (inl e) = subst (Contains (found ++ offset ∷ [])) (sym e) (Contains-push found offset)
+        to k (inr m) = Contains-append_left found (offset ∷ []) k ((h.marked k).0 m)
 
-        old : (k : ℕ) → k ≢ offset → Contains found k ⊎ (offset ≡ k) → Contains found k
-        old k e (inl n) = n
-        old k e (inr n) = absurd (e (sym n))
-
-        back : (k : ℕ) → (k ≡ offset) ⊎ (k ≢ offset) → Contains (found ++ offset ∷ []) k
-            → get_or (set marks offset true) k false ≡ true
-        back k (inl e) _ = ap (λ z. get_or (set marks offset true) z false) e
-            ∙ get_or-set_same marks offset true false within
-        back k (inr e) n = get_or-set_other marks offset k true false e
-            ∙ (h.marked k).1 (old k e (Contains-push_cases found offset k n))
+        back : (k : ℕ) → Contains found k ⊎ (offset ≡ k) → is_marked (set marks offset true) k
+        back k (inl n) = mark_stays marks offset k ((h.marked k).1 n)
+        back k (inr e) = subst (is_marked (set marks offset true)) e (mark_on marks offset within)
 
   pub AreMarked-more : (n : ℕ) → AreMarked (marks ++ replicate n false) found
   AreMarked-more n = record {
@@ -84,7 +67,11 @@ module _ (marks : List Bool) (found : List ℕ) (h : AreMarked marks found) wher
   }
     where
       past : (k : ℕ) → length marks ≤ k → get_or (marks ++ replicate n false) k false ≡ false
-      past k l = last (cases_lt (k - length marks) n)
+      past k l = at ∙ elim (cases_lt (k - length marks) n) [
+        | inl b ↦ get_or-replicate n (k - length marks) false false b
+        | inr b ↦ get_or_past (replicate n false) (k - length marks) false
+            (let r = length-replicate {A = Bool} n false in omega (arith, b, r))
+      ]
         where
           at : get_or (marks ++ replicate n false) k false
               ≡ get_or (replicate n false) (k - length marks) false
@@ -92,19 +79,11 @@ module _ (marks : List Bool) (found : List ℕ) (h : AreMarked marks found) wher
               ap (λ z. get_or (marks ++ replicate n false) z false) e
               ∙ get_or-append-add marks (replicate n false) (k - length marks) false
 
-          last : (k - length marks < n) ⊎ (n ≤ k - length marks)
-              → get_or (marks ++ replicate n false) k false ≡ false
-          last (inl b) = at ∙ get_or-replicate n (k - length marks) false false b
-          last (inr b) = at ∙ get_or_past (replicate n false) (k - length marks) false
-              (let r = length-replicate {A = Bool} n false in omega (arith, b, r))
-
       same : (k : ℕ) → get_or (marks ++ replicate n false) k false ≡ get_or marks k false
-      same k = by (cases_lt k (length marks))
-        where
-          by : (k < length marks) ⊎ (length marks ≤ k)
-              → get_or (marks ++ replicate n false) k false ≡ get_or marks k false
-          by (inl l) = get_or_append_left marks (replicate n false) false k l
-          by (inr l) = past k l ∙ sym (get_or_past marks k false l)
+      same k = elim (cases_lt k (length marks)) [
+        | inl l ↦ get_or_append_left marks (replicate n false) false k l
+        | inr l ↦ past k l ∙ sym (get_or_past marks k false l)
+      ]
 
 -- one that isn't marked is a further one
 pub found_less : (marks : List Bool) (found : List ℕ) (offset : ℕ) → AreMarked marks found
@@ -123,20 +102,18 @@ AreLeft old new found n = (k : ℕ) → get_or new k false ≡ true
 pub AreLeft-next : (old new : List Bool) (found : List ℕ) (n offset : ℕ) → AreLeft old new found n
     → offset ≡ get_or found n 0 → offset < length new
     → AreLeft old (set new offset false) found (n + 1)
-AreLeft-next old new found n offset h e within k t = by (cases_eq k offset)
-  where
-    by : (k ≡ offset) ⊎ (k ≢ offset)
-        → (get_or old k false ≡ true) × ((i : ℕ) → i < n + 1 → get_or found i 0 ≢ k)
-    by (inl q) = absurd (true≢false (sym t ∙ ap (λ z. get_or (set new offset false) z false) q
-        ∙ get_or-set_same new offset false false within))
-    by (inr q) =
-        let g = h k (sym (get_or-set_other new offset k false false q) ∙ t) in
-        (g.0, λ i l r. two g.1 i l r (cases_eq i n))
-      where
-        two : ((i : ℕ) → i < n → get_or found i 0 ≢ k) → (i : ℕ) → i < n + 1 → get_or found i 0 ≡ k
-            → (i ≡ n) ⊎ (i ≢ n) → ⊥
-        two g i l r (inl s) = q (sym r ∙ ap (λ z. get_or found z 0) s ∙ sym e)
-        two g i l r (inr s) = g i (omega arith) r
+AreLeft-next old new found n offset h e within k t = elim (cases_eq k offset) [
+  | inl q ↦ absurd (true≢false (sym t ∙ ap (λ z. get_or (set new offset false) z false) q
+      ∙ get_or-set_same new offset false false within))
+  | inr q ↦
+      let g = h k (sym (get_or-set_other new offset k false false q) ∙ t) in (
+        g.0,
+        λ i l r. elim (cases_eq i n) [
+          | inl s ↦ q (sym r ∙ ap (λ z. get_or found z 0) s ∙ sym e)
+          | inr s ↦ g.1 i (omega arith) r
+        ],
+      )
+]
 
 pub AreLeft-all : (old new : List Bool) (found : List ℕ) (n : ℕ) → AreLeft old new found n
     → length found ≤ n

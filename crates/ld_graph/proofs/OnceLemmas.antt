@@ -1,16 +1,17 @@
 -- Lists of neighbours keep each class once.
-use Rattle.std.proofs.Common.{◌≡◌, ◌≢◌, ◌⊎◌, inl, inr, ℕ, ◌<◌, ◌≤◌, List, [], ◌∷◌, ◌++◌, length}
-use Rattle.std.proofs.Common.{nat_eq, set, Contains, Bool, true, false, arith, refl, sym}
+use Rattle.std.proofs.Common.{◌≡◌, inl, inr, ℕ, ◌<◌, List, [], ◌∷◌, ◌++◌, length}
+use Rattle.std.proofs.Common.{nat_eq, set, Contains, Bool, true, false, refl, sym}
 use Rattle.std.proofs.Common.{ap, subst, ◌∙◌}
 use Rattle.std.specs.List.{IsDistinct, list_any}
-use Rattle.std.proofs.lemmas.List.{get_or_append_left, get_or_push, get_or_past, get_or-set_same}
-use Rattle.std.proofs.lemmas.List.{get_or-set_other, length_push}
+use Rattle.std.proofs.lemmas.List.{get_or-set_same}
+use Rattle.std.proofs.lemmas.List.{get_or-set_other}
 use Rattle.std.proofs.lemmas.Map.Keys.{IsDistinct-push}
 use Rattle.std.proofs.lemmas.Map.Views.{Contains-from_any}
-use Rattle.std.proofs.lemmas.Bool.{cases_eq, cases_lt, eqb-true}
+use Rattle.std.proofs.lemmas.Bool.{cases_eq, eqb-true}
 use Rattle.std.proofs.lemmas.Cmp.{nat_eq_equiv}
 use Rattle.ld_graph.specs.Lists.{list_at, IsNear}
 use Rattle.ld_graph.specs.Inner.Sides.{HasEachOnce}
+use Rattle.ld_graph.proofs.NearLemmas.{get_or-push_default}
 
 -- one more number, which is not there yet
 pub IsDistinct-one_more : (xs : List ℕ) (y : ℕ) → IsDistinct nat_eq xs → ¬ Contains xs y
@@ -32,27 +33,14 @@ HasEachOnce-none c = IsDistinct-none
 
 pub HasEachOnce-class : (lists : List (List ℕ)) → HasEachOnce lists
     → HasEachOnce (lists ++ [] ∷ [])
-HasEachOnce-class lists h c = by (cases_lt c (length lists))
-  where
-    none : length lists ≤ c → list_at (lists ++ [] ∷ []) c ≡ []
-    none l = last (cases_eq (length lists) c)
-      where
-        last : (length lists ≡ c) ⊎ (length lists ≢ c) → list_at (lists ++ [] ∷ []) c ≡ []
-        last (inl e) = get_or_push lists [] [] c e
-        last (inr e) = get_or_past (lists ++ [] ∷ []) c [] (let p = length_push {X = List ℕ} lists
-            [] in omega arith)
-
-    by : (c < length lists) ⊎ (length lists ≤ c) → IsDistinct nat_eq (list_at (lists ++ [] ∷ []) c)
-    by (inl l) = subst (IsDistinct nat_eq) (sym (get_or_append_left lists ([] ∷ []) [] c l)) (h c)
-    by (inr l) = subst (IsDistinct nat_eq) (sym (none l)) IsDistinct-none
+HasEachOnce-class lists h c = subst (IsDistinct nat_eq) (sym (get_or-push_default lists [] c)) (h c)
 
 pub HasEachOnce-push : (lists : List (List ℕ)) (a b : ℕ) → a < length lists → ¬ IsNear lists a b
     → HasEachOnce lists → HasEachOnce (set lists a (list_at lists a ++ b ∷ []))
-HasEachOnce-push lists a b l free h c = by (cases_eq c a)
-  where
-    by : (c ≡ a) ⊎ (c ≢ a) → IsDistinct nat_eq (list_at (set lists a (list_at lists a ++ b ∷ [])) c)
-    by (inl e) = subst (IsDistinct nat_eq) (sym (ap (λ z. list_at (set lists a (list_at lists a ++
-        b ∷ [])) z) e ∙ get_or-set_same lists a (list_at lists a ++ b ∷ []) [] l))
-        (IsDistinct-one_more (list_at lists a) b (h a) free)
-    by (inr e) = subst (IsDistinct nat_eq) (sym (get_or-set_other lists a c (list_at lists a ++ b ∷
-        []) [] e)) (h c)
+HasEachOnce-push lists a b l free h c = elim (cases_eq c a) [
+  | inl e ↦ subst (IsDistinct nat_eq) (sym (ap (λ z. list_at (set lists a (list_at lists a ++
+      b ∷ [])) z) e ∙ get_or-set_same lists a (list_at lists a ++ b ∷ []) [] l))
+      (IsDistinct-one_more (list_at lists a) b (h a) free)
+  | inr e ↦ subst (IsDistinct nat_eq) (sym (get_or-set_other lists a c (list_at lists a ++ b ∷
+      []) [] e)) (h c)
+]

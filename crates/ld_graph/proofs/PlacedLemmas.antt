@@ -1,5 +1,5 @@
 -- What the insert of an edge answers is so.
-use Rattle.std.proofs.Common.{◌≡◌, ◌⊎◌, inl, inr, ℕ, suc, ◌<◌, Bool, true, false}
+use Rattle.std.proofs.Common.{◌≡◌, inl, inr, ℕ, ◌<◌, Bool, true, false}
 use Rattle.std.proofs.Common.{◌↔◌, true≢false, List, [], ◌∷◌, ◌++◌, length, get_or}
 use Rattle.std.proofs.Common.{IsTrue, MatchOption, arith, refl, sym, ap, subst, ◌∙◌}
 use Rattle.std.proofs.lemmas.List.Elements.{Contains-append_left, Contains-push}
@@ -15,10 +15,10 @@ use Rattle.ld_graph.specs.Inner.Kept.{IsKept, order_of, graph_of}
 use Rattle.ld_graph.specs.Inner.Placed.{IsPlaced}
 use Rattle.ld_graph.specs.Inner.Repairs.{IsOrReaches}
 use Rattle.ld_graph.proofs.EdgeLemmas.{IsEdge-push}
-use Rattle.ld_graph.proofs.ApartLemmas.{Far-rises, Far-same}
+use Rattle.ld_graph.proofs.ApartLemmas.{Far-rises}
 use Rattle.ld_order.specs.Orders.{AreRanks}
-use Rattle.ld_graph.proofs.MarkLemmas.{bool_cases}
-use Rattle.ld_graph.proofs.WalkLemmas.{HasWalk-Far, IsWalk-Far}
+use Rattle.std.proofs.lemmas.Bool.{cases_Bool}
+use Rattle.ld_graph.proofs.WalkLemmas.{HasWalk-more, HasWalk-one, IsWalk-Far, IsWalk-same}
 
 -- where ranks rise along the steps there is no cycle
 pub acyclic : (step : ℕ → ℕ → Type 0) (ranks : List ℕ)
@@ -31,42 +31,36 @@ acyclic step ranks rises w =
 -- a cycle stays one
 pub HasCycle-more : (edges : List Edge) (a b : ℕ) → HasCycle (IsEdge edges)
     → HasCycle (IsEdge (edges ++ edge a b ∷ []))
-HasCycle-more edges a b w =
-    let f = IsWalk-Far (IsEdge edges) w.0 w.0 w.1.0 w.1.1 in (
-      w.0,
-      HasWalk-Far (IsEdge (edges ++ edge a b ∷ [])) f.0 w.0 w.0 (Far-same (IsEdge edges) (IsEdge
-          (edges ++ edge a b ∷ [])) (λ x y e. Contains-append_left edges (edge a b ∷ []) (edge x y) e) f.0
-          w.0 w.0 f.1.1),
-    )
+HasCycle-more edges a b w = (
+  w.0,
+  (
+    w.1.0,
+    IsWalk-same (IsEdge edges) (IsEdge (edges ++ edge a b ∷ []))
+        (λ x y e. Contains-append_left edges (edge a b ∷ []) (edge x y) e) w.0 w.0 w.1.0 w.1.1,
+  ),
+)
 
 -- an edge to where a walk leads to it closes a cycle
 pub HasCycle-closed : (edges : List Edge) (a b : ℕ) → IsOrReaches (IsEdge edges) b a
     → HasCycle (IsEdge (edges ++ edge a b ∷ []))
 HasCycle-closed edges a b (inl e) = (
   a,
-  HasWalk-Far (IsEdge (edges ++ edge a b ∷ [])) 0 a a (subst (λ z. IsEdge (edges ++ edge a b
+  HasWalk-one (IsEdge (edges ++ edge a b ∷ [])) a a (subst (λ z. IsEdge (edges ++ edge a b
       ∷ []) a z) e (Contains-push edges (edge a b))),
 )
-HasCycle-closed edges a b (inr w) =
-    let f = IsWalk-Far (IsEdge edges) b a w.0 w.1 in (
-      a,
-      HasWalk-Far (IsEdge (edges ++ edge a b ∷ [])) (suc f.0) a a (
-        b,
-        (
-          Contains-push edges (edge a
-              b),
-          Far-same (IsEdge edges) (IsEdge (edges ++ edge a b ∷ [])) (λ x y e. Contains-append_left
-              edges (edge a b ∷ []) (edge x y) e) f.0 b a f.1.1,
-        ),
-      ),
-    )
+HasCycle-closed edges a b (inr w) = (
+  b,
+  HasWalk-more (IsEdge (edges ++ edge a b ∷ [])) b a b (
+    w.0,
+    IsWalk-same (IsEdge edges) (IsEdge (edges ++ edge a b ∷ []))
+        (λ x y e. Contains-append_left edges (edge a b ∷ []) (edge x y) e) b a w.0 w.1,
+  ) (Contains-push edges (edge a b)),
+)
 
 IsOrReaches-same : (s t : ℕ → ℕ → Type 0) → ((x y : ℕ) → s x y → t x y) → (a b : ℕ) → IsOrReaches s a b
     → IsOrReaches t a b
 IsOrReaches-same s t to a b (inl e) = inl e
-IsOrReaches-same s t to a b (inr w) =
-    let f = IsWalk-Far s a b w.0 w.1 in
-    inr (HasWalk-Far t f.0 a b (Far-same s t to f.0 a b f.1.1))
+IsOrReaches-same s t to a b (inr w) = inr (w.0, IsWalk-same s t to a b w.0 w.1)
 
 module _ {C : Type 0} (g : Inside C) (h : IsKept g) (a b : ℕ) (now : Bool) (ranks : List ℕ) where
   abbrev Placed : Insert → Type 0
@@ -82,11 +76,10 @@ module _ {C : Type 0} (g : Inside C) (h : IsKept g) (a b : ℕ) (now : Bool) (ra
   -- ranks that rise along the old edges and along the new one
   rises_more : ((x y : ℕ) → IsEdge g.edges.keys x y → get_or ranks x 0 < get_or ranks y 0) → get_or ranks a 0 < get_or ranks b 0
       → (x y : ℕ) → IsEdge (g.edges.keys ++ edge a b ∷ []) x y → get_or ranks x 0 < get_or ranks y 0
-  rises_more old up x y e = by (IsEdge-push g.edges.keys a b x y e)
-    where
-      by : IsEdge g.edges.keys x y ⊎ ((a ≡ x) × (b ≡ y)) → get_or ranks x 0 < get_or ranks y 0
-      by (inl o) = old x y o
-      by (inr o) = subst (λ z. get_or ranks z 0 < get_or ranks y 0) o.0 (subst (λ z. get_or ranks a 0 < get_or ranks z 0) o.1 up)
+  rises_more old up x y e = elim (IsEdge-push g.edges.keys a b x y e) [
+    | inl o ↦ old x y o
+    | inr o ↦ subst (λ z. get_or ranks z 0 < get_or ranks y 0) o.0 (subst (λ z. get_or ranks a 0 < get_or ranks z 0) o.1 up)
+  ]
 
   pub placed_rises : (answer : Insert) → Placed answer → now ≡ false
       → (x y : ℕ) → IsEdge (g.edges.keys ++ edge a b ∷ []) x y → get_or ranks x 0 < get_or ranks y 0
@@ -156,12 +149,13 @@ module _ {C : Type 0} (g : Inside C) (h : IsKept g) (a b : ℕ) (now : Bool) (ra
 
 -- whether there is a cycle is known
 pub cycle_kept : {C : Type 0} (g : Inside C) → IsKept g → IsTrue g.has_cycle ↔ HasCycle (IsEdge g.edges.keys)
-cycle_kept g h = (h.cycle, λ w. by (bool_cases g.has_cycle) w)
-  where
-    by : (g.has_cycle ≡ true) ⊎ (g.has_cycle ≡ false) → HasCycle (IsEdge g.edges.keys)
-        → g.has_cycle ≡ true
-    by (inl t) w = t
-    by (inr f) w = absurd (acyclic (IsEdge g.edges.keys) g.ranks.ranks (h.rises f) w)
+cycle_kept g h = (
+  h.cycle,
+  λ w. elim (cases_Bool g.has_cycle) [
+    | inl t ↦ t
+    | inr f ↦ absurd (acyclic (IsEdge g.edges.keys) g.ranks.ranks (h.rises f) w)
+  ],
+)
 
 -- where there is none, the ranks are an order
 pub order_some : {C : Type 0} (g : Inside C) → IsKept g → g.has_cycle ≡ false → AreRanks g.ranks.ranks

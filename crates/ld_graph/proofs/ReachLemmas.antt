@@ -2,8 +2,8 @@
 use Rattle.std.proofs.Common.{◌≡◌, ◌≢◌, ℕ, zero, suc, ◌+◌, ◌<◌, ◌≤◌, ◌⊎◌, inl, inr, Bool, true, false, true≢false, List, [], ◌∷◌}
 use Rattle.std.proofs.Common.{◌++◌, length, get_or, set, Option, Some, None, is_some, Contains, MatchOption, below_more, take, unwrap_or}
 use Rattle.std.proofs.Common.{arith, refl, sym, ap, subst, ◌∙◌}
-use Rattle.std.proofs.lemmas.Bool.{cases_eq, cases_lt, cases_order}
-use Rattle.std.proofs.lemmas.List.{get_or-set_same, get_or-set_other, get_or_past, get_or_append_left, get_or_push, get_or_default, length_push, take-append-le}
+use Rattle.std.proofs.lemmas.Bool.{cases_eq, cases_lt}
+use Rattle.std.proofs.lemmas.List.{get_or-set_same, get_or-set_other, get_or_past, get_or_append_left, get_or_default, length_push, take-append-le}
 use Rattle.std.proofs.lemmas.List.Elements.{Contains-get_or, Contains-append_left, Contains-push, Contains-push_cases}
 use Rattle.ld_graph.specs.Inner.KeptReach.{reach_of, AreExpanded, IsSpread, all_ahead, none_ahead, ahead_from}
 use Rattle.ld_graph.specs.Inner.Marks.{Marked}
@@ -14,9 +14,10 @@ use Rattle.ld_graph.specs.declared.reach.Reach.TheInside.{Inside}
 use Rattle.ld_graph.specs.Edges.{IsEdge, edge}
 use Rattle.ld_graph.specs.Reach.{IsReach, IsSource, PlainReach}
 use Rattle.ld_graph.specs.Walks.{HasWalk}
+use Rattle.ld_graph.proofs.NearLemmas.{get_or-push_default, within_of}
 use Rattle.ld_graph.proofs.OnceLemmas.{IsDistinct-none, IsDistinct-one_more}
-use Rattle.ld_graph.proofs.SpreadLemmas.{kept_marked, some_same}
-use Rattle.ld_graph.proofs.WalkLemmas.{Far, Far-snoc, IsWalk-Far, HasWalk-Far, IsWalk-same}
+use Rattle.ld_graph.proofs.SpreadLemmas.{kept_marked, none_is, some_is, some_same}
+use Rattle.ld_graph.proofs.WalkLemmas.{Far, IsWalk-Far, HasWalk-more, HasWalk-one, IsWalk-same}
 
 abbrev pub is_marked : List Bool → ℕ → Type 0
 is_marked marks x = get_or marks x false ≡ true
@@ -24,18 +25,10 @@ is_marked marks x = get_or marks x false ≡ true
 abbrev pub has_source : List (Option ℕ) → ℕ → Type 0
 has_source sources x = is_some (get_or sources x None) ≡ true
 
--- a source that is some
-some_source : (o : Option ℕ) → is_some o ≡ true → (s : ℕ) × (o ≡ Some s)
-some_source None h = absurd (true≢false (sym h))
-some_source (Some s) h = (s, refl)
-
--- one step more at a walk's end
-pub HasWalk-more : (step : ℕ → ℕ → Type 0) (s x y : ℕ) → HasWalk step s x → step x y → HasWalk step s y
-HasWalk-more step s x y w h =
-    let f = IsWalk-Far step s x w.0 w.1 in HasWalk-Far step (suc f.0) s y (Far-snoc step f.0 s x y f.1.1 h)
-
-pub HasWalk-one : (step : ℕ → ℕ → Type 0) (s x : ℕ) → step s x → HasWalk step s x
-HasWalk-one step s x h = HasWalk-Far step zero s x h
+-- a step of which none is ahead
+not_ahead : {P : Type 0} → ⊥ ⊎ P → P
+not_ahead (inl n) = absurd n
+not_ahead (inr p) = p
 
 module _ (step : ℕ → ℕ → Type 0) (seeds : List ℕ) where
   -- in an exact reach, what a marked class leads to has a source
@@ -46,7 +39,7 @@ module _ (step : ℕ → ℕ → Type 0) (seeds : List ℕ) where
       none is (inl seed) =
           subst (λ o. MatchOption o ((s : ℕ) → ¬ IsSource step seeds y s) (IsSource step seeds y)) is (exact.sources y) x (seed, HasWalk-one step x y h)
       none is (inr some) =
-          let s = some_source (get_or reach.sources x None) some in
+          let s = some_is (get_or reach.sources x None) some in
           let source : IsSource step seeds x s.0 = subst (λ o. MatchOption o ((s : ℕ) → ¬ IsSource step seeds x s) (IsSource step seeds x)) s.1 (exact.sources x) in
           subst (λ o. MatchOption o ((s : ℕ) → ¬ IsSource step seeds y s) (IsSource step seeds y)) is (exact.sources y) s.0 (source.0, HasWalk-more step s.0 x y source.1 h)
 
@@ -73,11 +66,7 @@ module _ (step : ℕ → ℕ → Type 0) (seeds : List ℕ) where
         subst (is_marked marks) (get_or_default reached at.0 0 x within ∙ at.2) (spread.covered at.0 within)
 
     next : (x y : ℕ) → is_marked marks x → step x y → has_source sources y
-    next x y marked h = by (spread.closed x y marked h)
-      where
-        by : none_ahead x y ⊎ has_source sources y → has_source sources y
-        by (inl n) = absurd n
-        by (inr s) = s
+    next x y marked h = not_ahead (spread.closed x y marked h)
 
     goes : (n : ℕ) (x y : ℕ) → is_marked marks x → Far step n x y → has_source sources y
     goes zero x y marked h = next x y marked h
@@ -110,11 +99,10 @@ mark_stays marks c x on = by (cases_eq x c) (cases_lt x (length marks))
     by (inr other) _ = get_or-set_other marks c x true false other ∙ on
 
 pub mark_was : (marks : List Bool) (c x : ℕ) → is_marked (set marks c true) x → (x ≡ c) ⊎ is_marked marks x
-mark_was marks c x on = by (cases_eq x c)
-  where
-    by : (x ≡ c) ⊎ (x ≢ c) → (x ≡ c) ⊎ is_marked marks x
-    by (inl same) = inl same
-    by (inr other) = inr (sym (get_or-set_other marks c x true false other) ∙ on)
+mark_was marks c x on = elim (cases_eq x c) [
+  | inl same ↦ inl same
+  | inr other ↦ inr (sym (get_or-set_other marks c x true false other) ∙ on)
+]
 
 pub mark_on : (marks : List Bool) (c : ℕ) → c < length marks → is_marked (set marks c true) c
 mark_on marks c within = get_or-set_same marks c true false within
@@ -128,6 +116,14 @@ module _ (step : ℕ → ℕ → Type 0) (seeds : List ℕ) where
     pub spread-given : IsSpread step seeds left new marks more done
     spread-given = by (get_or sources class None) refl
       where
+        closed : (new : List (Option ℕ)) → ((x : ℕ) → has_source sources x → has_source new x) → has_source new class
+            → (x y : ℕ) → ahead x y ⊎ has_source sources y → left x y ⊎ has_source new y
+        closed new kept here x y (inl a) = elim (gone x y a) [
+          | inl l ↦ inl l
+          | inr same ↦ inr (subst (has_source new) (sym same) here)
+        ]
+        closed new kept here x y (inr has) = inr (kept y has)
+
         -- it had one
         had : has_source sources class → IsSpread step seeds left new marks more done
         had has =
@@ -137,16 +133,8 @@ module _ (step : ℕ → ℕ → Type 0) (seeds : List ℕ) where
               covered = spread.covered;
               seeded = spread.seeded;
               known = spread.known;
-              closed = λ x y marked h. closed x y (spread.closed x y marked h);
+              closed = λ x y marked h. closed sources (λ z s. s) has x y (spread.closed x y marked h);
             })
-          where
-            closed : (x y : ℕ) → ahead x y ⊎ has_source sources y → left x y ⊎ has_source sources y
-            closed x y (inl a) = to (gone x y a)
-              where
-                to : left x y ⊎ (y ≡ class) → left x y ⊎ has_source sources y
-                to (inl l) = inl l
-                to (inr same) = inr (ap (λ k. is_some (get_or sources k None)) same ∙ has)
-            closed x y (inr s) = inr s
 
         -- it gets one
         gets : get_or sources class None ≡ None → IsSpread step seeds left new marks more done
@@ -155,11 +143,11 @@ module _ (step : ℕ → ℕ → Type 0) (seeds : List ℕ) where
           covered = λ i low. subst (is_marked marks) (sym (get_or_append_left reached (class ∷ []) 0 i (omega (arith, low, upto)))) (spread.covered i low);
           seeded = spread.seeded;
           known = λ x marked. known x (spread.known x marked);
-          closed = λ x y marked h. closed x y (spread.closed x y marked h);
+          closed = λ x y marked h. closed (set sources class (Some from)) kept here x y (spread.closed x y marked h);
         })
           where
             kept : (x : ℕ) → has_source sources x → has_source (set sources class (Some from)) x
-            kept x has = let s = some_source (get_or sources x None) has in ap is_some (kept_marked sources class from free x s.0 s.1)
+            kept x has = let s = some_is (get_or sources x None) has in ap is_some (kept_marked sources class from free x s.0 s.1)
 
             here : has_source (set sources class (Some from)) class
             here = ap is_some (get_or-set_same sources class (Some from) None within)
@@ -174,14 +162,6 @@ module _ (step : ℕ → ℕ → Type 0) (seeds : List ℕ) where
             known x (inl seed) = inl seed
             known x (inr has) = inr (kept x has)
 
-            closed : (x y : ℕ) → ahead x y ⊎ has_source sources y → left x y ⊎ has_source (set sources class (Some from)) y
-            closed x y (inl a) = to (gone x y a)
-              where
-                to : left x y ⊎ (y ≡ class) → left x y ⊎ has_source (set sources class (Some from)) y
-                to (inl l) = inl l
-                to (inr same) = inr (ap (λ k. is_some (get_or (set sources class (Some from)) k None)) same ∙ here)
-            closed x y (inr has) = inr (kept y has)
-
         by : (o : Option ℕ) → get_or sources class None ≡ o → IsSpread step seeds left new marks more done
         by None is = gets is
         by (Some s) is = had (ap is_some is)
@@ -195,21 +175,15 @@ module _ (step : ℕ → ℕ → Type 0) (seeds : List ℕ) where
     covered = below_more (λ i. is_marked (set marks class true) (get_or reached i 0)) done
         (λ i low. mark_stays marks class (get_or reached i 0) (spread.covered i low)) (subst (is_marked (set marks class true)) is (mark_on marks class within));
     seeded = λ x seed. mark_stays marks class x (spread.seeded x seed);
-    known = λ x on. known x (mark_was marks class x on);
-    closed = λ x y on h. closed x y (mark_was marks class x on) h;
+    known = λ x on. elim (mark_was marks class x on) [
+      | inl same ↦ inr (ap (λ k. is_some (get_or sources k None)) same ∙ has)
+      | inr m ↦ spread.known x m
+    ];
+    closed = λ x y on h. elim (mark_was marks class x on) [
+      | inl same ↦ inl (same, h)
+      | inr m ↦ inr (not_ahead (spread.closed x y m h))
+    ];
   }
-    where
-      known : (x : ℕ) → (x ≡ class) ⊎ is_marked marks x → Contains seeds x ⊎ has_source sources x
-      known x (inl same) = inr (ap (λ k. is_some (get_or sources k None)) same ∙ has)
-      known x (inr m) = spread.known x m
-
-      closed : (x y : ℕ) → (x ≡ class) ⊎ is_marked marks x → step x y → all_ahead step class x y ⊎ has_source sources y
-      closed x y (inl same) h = inl (same, h)
-      closed x y (inr m) h = by (spread.closed x y m h)
-        where
-          by : none_ahead x y ⊎ has_source sources y → all_ahead step class x y ⊎ has_source sources y
-          by (inl n) = absurd n
-          by (inr s) = inr s
 
   -- one that was expanded before waits no more
   pub spread-passed : (class : ℕ) (sources : List (Option ℕ)) (marks : List Bool) (reached : List ℕ) (done : ℕ) → class ≡ get_or reached done 0 → is_marked marks class
@@ -222,36 +196,30 @@ module _ (step : ℕ → ℕ → Type 0) (seeds : List ℕ) where
     closed = spread.closed;
   }
 
+  known_more : (class : ℕ) (sources : List (Option ℕ)) (x : ℕ) → Contains seeds x ⊎ has_source sources x
+      → Contains (seeds ++ class ∷ []) x ⊎ has_source sources x
+  known_more class sources x (inl seed) = inl (Contains-append_left seeds (class ∷ []) x seed)
+  known_more class sources x (inr has) = inr has
+
   -- a class that was not expanded becomes a seed
   pub spread-seeded : (class : ℕ) (sources : List (Option ℕ)) (marks : List Bool) (reached : List ℕ) (done : ℕ) → class < length marks
       → IsSpread step seeds none_ahead sources marks reached done → IsSpread step (seeds ++ class ∷ []) (all_ahead step class) sources (set marks class true) reached done
   spread-seeded class sources marks reached done within spread = record {
     sound = λ x s is. let source = spread.sound x s is in (Contains-append_left seeds (class ∷ []) s source.0, source.1);
     covered = λ i low. mark_stays marks class (get_or reached i 0) (spread.covered i low);
-    seeded = λ x seed. seeded x (Contains-push_cases seeds class x seed);
-    known = λ x on. known x (mark_was marks class x on);
-    closed = λ x y on h. closed x y (mark_was marks class x on) h;
+    seeded = λ x seed. elim (Contains-push_cases seeds class x seed) [
+      | inl old ↦ mark_stays marks class x (spread.seeded x old)
+      | inr same ↦ subst (is_marked (set marks class true)) same (mark_on marks class within)
+    ];
+    known = λ x on. elim (mark_was marks class x on) [
+      | inl same ↦ inl (subst (Contains (seeds ++ class ∷ [])) (sym same) (Contains-push seeds class))
+      | inr m ↦ known_more class sources x (spread.known x m)
+    ];
+    closed = λ x y on h. elim (mark_was marks class x on) [
+      | inl same ↦ inl (same, h)
+      | inr m ↦ inr (not_ahead (spread.closed x y m h))
+    ];
   }
-    where
-      seeded : (x : ℕ) → Contains seeds x ⊎ (class ≡ x) → is_marked (set marks class true) x
-      seeded x (inl seed) = mark_stays marks class x (spread.seeded x seed)
-      seeded x (inr same) = subst (is_marked (set marks class true)) same (mark_on marks class within)
-
-      known : (x : ℕ) → (x ≡ class) ⊎ is_marked marks x → Contains (seeds ++ class ∷ []) x ⊎ has_source sources x
-      known x (inl same) = inl (subst (Contains (seeds ++ class ∷ [])) (sym same) (Contains-push seeds class))
-      known x (inr m) = by (spread.known x m)
-        where
-          by : Contains seeds x ⊎ has_source sources x → Contains (seeds ++ class ∷ []) x ⊎ has_source sources x
-          by (inl seed) = inl (Contains-append_left seeds (class ∷ []) x seed)
-          by (inr has) = inr has
-
-      closed : (x y : ℕ) → (x ≡ class) ⊎ is_marked marks x → step x y → all_ahead step class x y ⊎ has_source sources y
-      closed x y (inl same) h = inl (same, h)
-      closed x y (inr m) h = by (spread.closed x y m h)
-        where
-          by : none_ahead x y ⊎ has_source sources y → all_ahead step class x y ⊎ has_source sources y
-          by (inl n) = absurd n
-          by (inr s) = inr s
 
   -- so does one that was
   pub spread-seeded_again : (class : ℕ) (sources : List (Option ℕ)) (marks : List Bool) (reached : List ℕ) (done : ℕ) → is_marked marks class
@@ -259,18 +227,13 @@ module _ (step : ℕ → ℕ → Type 0) (seeds : List ℕ) where
   spread-seeded_again class sources marks reached done on spread = record {
     sound = λ x s is. let source = spread.sound x s is in (Contains-append_left seeds (class ∷ []) s source.0, source.1);
     covered = spread.covered;
-    seeded = λ x seed. seeded x (Contains-push_cases seeds class x seed);
-    known = λ x m. known x (spread.known x m);
+    seeded = λ x seed. elim (Contains-push_cases seeds class x seed) [
+      | inl old ↦ spread.seeded x old
+      | inr same ↦ subst (is_marked marks) same on
+    ];
+    known = λ x m. known_more class sources x (spread.known x m);
     closed = spread.closed;
   }
-    where
-      seeded : (x : ℕ) → Contains seeds x ⊎ (class ≡ x) → is_marked marks x
-      seeded x (inl seed) = spread.seeded x seed
-      seeded x (inr same) = subst (is_marked marks) same on
-
-      known : (x : ℕ) → Contains seeds x ⊎ has_source sources x → Contains (seeds ++ class ∷ []) x ⊎ has_source sources x
-      known x (inl seed) = inl (Contains-append_left seeds (class ∷ []) x seed)
-      known x (inr has) = inr has
 
 -- with other steps, some of which are ahead
 pub spread-longer : (step longer : ℕ → ℕ → Type 0) (seeds : List ℕ) (ahead left : ℕ → ℕ → Type 0) (sources : List (Option ℕ)) (marks : List Bool) (reached : List ℕ) (done : ℕ)
@@ -297,11 +260,10 @@ pub ahead-all : (near : List ℕ) (class x y : ℕ) → (x ≡ class) × Contain
 ahead-all near class x y h = (h.0, (h.1.0, (omega arith, h.1.1, get_or_default near h.1.0 0 y h.1.1 ∙ h.1.2)))
 
 pub ahead-next : (near : List ℕ) (class k x y : ℕ) → ahead_from near class k x y → ahead_from near class (k + 1) x y ⊎ (y ≡ get_or near k 0)
-ahead-next near class k x y h = by (cases_eq h.1.0 k)
-  where
-    by : (h.1.0 ≡ k) ⊎ (h.1.0 ≢ k) → ahead_from near class (k + 1) x y ⊎ (y ≡ get_or near k 0)
-    by (inl same) = inr (sym h.1.1.2 ∙ ap (λ i. get_or near i 0) same)
-    by (inr other) = inl (h.0, (h.1.0, (omega (arith, h.1.1.0, other), h.1.1.1, h.1.1.2)))
+ahead-next near class k x y h = elim (cases_eq h.1.0 k) [
+  | inl same ↦ inr (sym h.1.1.2 ∙ ap (λ i. get_or near i 0) same)
+  | inr other ↦ inl (h.0, (h.1.0, (omega (arith, h.1.1.0, other), h.1.1.1, h.1.1.2)))
+]
 
 pub ahead-none : (near : List ℕ) (class k x y : ℕ) → length near ≤ k → ahead_from near class k x y → none_ahead x y
 ahead-none near class k x y past h = absurd (omega (arith, past, h.1.1.0, h.1.1.1))
@@ -330,11 +292,10 @@ IsSource-along step seeds ahead sources marks reached done a b spread on h = by 
 
 -- an edge of a list with one more is one of the list or that one
 pub IsEdge-cases : (before : List Edge) (a b x y : ℕ) → IsEdge (before ++ edge a b ∷ []) x y → IsEdge before x y ⊎ ((x ≡ a) × (y ≡ b))
-IsEdge-cases before a b x y h = by (Contains-push_cases before (edge a b) (edge x y) h)
-  where
-    by : IsEdge before x y ⊎ (edge a b ≡ edge x y) → IsEdge before x y ⊎ ((x ≡ a) × (y ≡ b))
-    by (inl old) = inl old
-    by (inr same) = inr (ap (λ (e : Edge). e.from) (sym same), ap (λ (e : Edge). e.to) (sym same))
+IsEdge-cases before a b x y h = elim (Contains-push_cases before (edge a b) (edge x y) h) [
+  | inl old ↦ inl old
+  | inr same ↦ inr (ap (λ (e : Edge). e.from) (sym same), ap (λ (e : Edge). e.to) (sym same))
+]
 
 -- as many marks are seen as there are
 pub marks_len : (r : Inside) (reach : PlainReach) → reach_of r ≡ reach → length r.marks.each ≡ length reach.marks
@@ -358,15 +319,6 @@ spread-edge before seeds reach a b are exact =
     spread-longer (IsEdge before) (IsEdge (before ++ edge a b ∷ [])) seeds none_ahead (λ x y. (x ≡ a) × (y ≡ b)) reach.sources reach.marks reach.reached (length reach.reached)
     (λ x y h. Contains-append_left before (edge a b ∷ []) (edge x y) h) (λ x y on h. IsEdge-cases before a b x y h) (λ x y h. absurd h) (reach-spread (IsEdge before) seeds reach are exact)
 
--- a default at the end changes no answer
-get_or-push_default : {X : Type 0} → (xs : List X) (d : X) (k : ℕ) → get_or (xs ++ d ∷ []) k d ≡ get_or xs k d
-get_or-push_default xs d k = by (cases_order k (length xs))
-  where
-    by : (k ≡ length xs) ⊎ ((k < length xs) ⊎ (length xs < k)) → get_or (xs ++ d ∷ []) k d ≡ get_or xs k d
-    by (inl same) = get_or_push xs d d k (sym same) ∙ sym (get_or_past xs k d (omega (arith, same)))
-    by (inr (inl within)) = get_or_append_left xs (d ∷ []) d k within
-    by (inr (inr past)) = get_or_past (xs ++ d ∷ []) k d (omega (arith, past, length_push xs d)) ∙ sym (get_or_past xs k d (omega (arith, past)))
-
 -- a class more, without source or mark, leaves a reach exact
 pub IsReach-added : (step : ℕ → ℕ → Type 0) (seeds : List ℕ) (reach : PlainReach) (spare : ℕ) → IsReach step seeds reach
     → IsReach step seeds (record { sources = reach.sources ++ None ∷ []; marks = reach.marks ++ false ∷ []; reached = reach.reached; spare = spare; expanded = reach.expanded })
@@ -388,14 +340,9 @@ IsGiven-front class from sources reached new more n within given = by (get_or so
 -- a class of the list is one of the classes, and has a source
 pub AreReached-has : (sources : List (Option ℕ)) (reached : List ℕ) → AreReached sources reached → (k d : ℕ) → k < length reached
     → has_source sources (get_or reached k d) × (get_or reached k d < length sources)
-AreReached-has sources reached are k d within = (has, by (cases_lt (get_or reached k d) (length sources)))
-  where
-    has : has_source sources (get_or reached k d)
-    has = (are.each (get_or reached k d)).0 (Contains-get_or reached k d within)
-
-    by : (get_or reached k d < length sources) ⊎ (length sources ≤ get_or reached k d) → get_or reached k d < length sources
-    by (inl l) = l
-    by (inr past) = absurd (true≢false (sym has ∙ ap is_some (get_or_past sources (get_or reached k d) None past)))
+AreReached-has sources reached are k d within =
+    let has = (are.each (get_or reached k d)).0 (Contains-get_or reached k d within) in
+    (has, within_of sources (get_or reached k d) None (λ e. true≢false (sym has ∙ ap is_some e)))
 
 -- the list is the same where a class is added
 pub AreReached-added : (sources : List (Option ℕ)) (reached : List ℕ) → AreReached sources reached → AreReached (sources ++ None ∷ []) reached
@@ -430,11 +377,9 @@ AreReached-given sources reached class from are within free = record {
 
     to : (c : ℕ) → Contains reached c ⊎ (class ≡ c) → has_source (set sources class (Some from)) c
     to c (inr same) = subst (has_source (set sources class (Some from))) same here
-    to c (inl there) = by (cases_eq c class)
-      where
-        by : (c ≡ class) ⊎ (c ≢ class) → has_source (set sources class (Some from)) c
-        by (inl same) = subst (has_source (set sources class (Some from))) (sym same) here
-        by (inr other) = ap is_some (get_or-set_other sources class c (Some from) None other) ∙ (are.each c).0 there
+    to c (inl there) =
+        let s = some_is (get_or sources c None) ((are.each c).0 there) in
+        ap is_some (kept_marked sources class from (none_is (get_or sources class None) free) c s.0 s.1)
 
     back : (c : ℕ) → (c ≡ class) ⊎ (c ≢ class) → has_source (set sources class (Some from)) c → Contains (reached ++ class ∷ []) c
     back c (inl same) _ = subst (Contains (reached ++ class ∷ [])) (sym same) (Contains-push reached class)

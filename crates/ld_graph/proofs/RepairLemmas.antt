@@ -94,23 +94,13 @@ module _ (step near : ℕ → ℕ → Type 0) (old new : List ℕ) (a b : ℕ) (
         → get_or old c 0 < get_or old d 0 → get_or new c 0 < get_or new d 0
     alike_backward c d lc ld beside less = by (has_or_not found c) (has_or_not found d) beside
       where
-        before_b : (x : ℕ) → Contains found x → get_or new x 0 < get_or new b 0
-        before_b x m = (h.above x b m lb free).1 (omega arith)
-
-        low : get_or new c 0 ≤ get_or new a 0 → ¬ Contains found c → get_or old c 0 < get_or old b 0
-        low p m = by_rank (cases_lt (get_or old c 0) (get_or old b 0))
-          where
-            by_rank : (get_or old c 0 < get_or old b 0) ⊎ (get_or old b 0 ≤ get_or old c 0) → get_or old c 0 < get_or old b 0
-            by_rank (inl q) = q
-            by_rank (inr q) = let r = (h.above a c has_a lc m).1 q in absurd (omega (arith, r, p))
-
         by : Contains found c ⊎ (¬ Contains found c) → Contains found d ⊎ (¬ Contains found d) → AreBeside c d
             → get_or new c 0 < get_or new d 0
         by (inl m) (inl n) _ = (h.among c d m n).1 less
         by (inr m) (inr n) _ = (h.stay c d lc ld m n).1 less
         by (inl m) (inr n) _ = (h.above c d m ld n).1 (let w = (f.within c m).1.0 in omega (arith, w, less))
-        by (inr m) (inl n) (inl p) = (h.below d c n lc m).1 (low p.0 m)
-        by (inr m) (inl n) (inr p) = let r = before_b d n in absurd (omega (arith, r, p.1))
+        by (inr m) (inl n) (inl p) = let q = p.0 in (h.below d c n lc m).1 (grind (arith, (h.above a c has_a lc m).1, q))
+        by (inr m) (inl n) (inr p) = let r = (h.above d b n lb free).1 (omega arith) in absurd (omega (arith, r, p.1))
 
   module _ (h : HaveMoved (Contains found) (get_or old a 0 + 1) old new) (has_b : Contains found b) (free : ¬ Contains found a) where
     beside_forward : (c : ℕ) → c < length old → IsBeside c
@@ -130,23 +120,13 @@ module _ (step near : ℕ → ℕ → Type 0) (old new : List ℕ) (a b : ℕ) (
         → get_or old c 0 < get_or old d 0 → get_or new c 0 < get_or new d 0
     alike_forward c d lc ld beside less = by (has_or_not found c) (has_or_not found d) beside
       where
-        behind_a : (x : ℕ) → Contains found x → get_or new a 0 < get_or new x 0
-        behind_a x m = (h.below x a m la free).1 (omega arith)
-
-        high : get_or new b 0 ≤ get_or new d 0 → ¬ Contains found d → get_or old a 0 + 1 ≤ get_or old d 0
-        high p m = by_rank (cases_lt (get_or old d 0) (get_or old a 0 + 1))
-          where
-            by_rank : (get_or old d 0 < get_or old a 0 + 1) ⊎ (get_or old a 0 + 1 ≤ get_or old d 0) → get_or old a 0 + 1 ≤ get_or old d 0
-            by_rank (inl q) = let r = (h.below b d has_b ld m).1 q in absurd (omega (arith, r, p))
-            by_rank (inr q) = q
-
         by : Contains found c ⊎ (¬ Contains found c) → Contains found d ⊎ (¬ Contains found d) → AreBeside c d
             → get_or new c 0 < get_or new d 0
         by (inl m) (inl n) _ = (h.among c d m n).1 less
         by (inr m) (inr n) _ = (h.stay c d lc ld m n).1 less
         by (inr m) (inl n) _ = (h.below d c n lc m).1 (let w = (f.within d n).1.1 in omega (arith, w, less))
-        by (inl m) (inr n) (inl p) = let r = behind_a c m in absurd (omega (arith, r, p.0))
-        by (inl m) (inr n) (inr p) = (h.above c d m ld n).1 (high p.1 n)
+        by (inl m) (inr n) (inl p) = let r = (h.below c a m la free).1 (omega arith) in absurd (omega (arith, r, p.0))
+        by (inl m) (inr n) (inr p) = let q = p.1 in (h.above c d m ld n).1 (grind (arith, (h.below b d has_b ld n).1, q))
 
   pub mended_backward : ((x y : ℕ) → step x y → near y x) → get_or found 0 0 ≡ a → ¬ Contains found b
       → HaveMoved (Contains found) (get_or old b 0) old new → IsMended step a b old new
@@ -190,19 +170,11 @@ module _ (ranks labels : List ℕ) (len : length labels ≡ length ranks) (o : A
     (a b : ℕ) (la : a < length ranks) (lb : b < length ranks) where
   not_less : (c d : ℕ) → c < length ranks → d < length ranks → get_or labels c 0 ≤ get_or labels d 0
       → get_or ranks c 0 ≤ get_or ranks d 0
-  not_less c d h k l = by (cases_lt (get_or ranks d 0) (get_or ranks c 0))
-    where
-      by : (get_or ranks d 0 < get_or ranks c 0) ⊎ (get_or ranks c 0 ≤ get_or ranks d 0) → get_or ranks c 0 ≤ get_or ranks d 0
-      by (inl m) = let q = (o d c k h).1 m in absurd (omega (arith, q, l))
-      by (inr m) = m
+  not_less c d h k l = grind (arith, (o d c k h).1, l)
 
   not_below : (c d : ℕ) → c < length ranks → d < length ranks → get_or ranks c 0 ≤ get_or ranks d 0
       → get_or labels c 0 ≤ get_or labels d 0
-  not_below c d h k l = by (cases_lt (get_or labels d 0) (get_or labels c 0))
-    where
-      by : (get_or labels d 0 < get_or labels c 0) ⊎ (get_or labels c 0 ≤ get_or labels d 0) → get_or labels c 0 ≤ get_or labels d 0
-      by (inl m) = let q = (o d c k h).0 m in absurd (omega (arith, q, l))
-      by (inr m) = m
+  not_below c d h k l = grind (arith, (o d c k h).0, l)
 
   pub found_ranked : (near : ℕ → ℕ → Type 0) → ((x y : ℕ) → near x y → y < length ranks) → (found : List ℕ) (done : ℕ)
       → IsFound near (λ x. get_or labels x 0) (length labels) (get_or labels b 0) (get_or labels a 0) found done

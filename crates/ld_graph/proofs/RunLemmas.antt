@@ -2,7 +2,7 @@
 use Rattle.std.proofs.Common.{◌≡◌, ◌≢◌, ℕ, zero, suc, ◌+◌, ◌-◌, ◌*◌, ◌<◌, ◌≤◌, ◌⊎◌, inl, inr, max}
 use Rattle.std.proofs.Common.{List, [], ◌∷◌, ◌++◌, length, map, get_or, set, take, drop, replicate}
 use Rattle.std.proofs.Common.{arith, refl, sym, ap, subst, ◌∙◌}
-use Rattle.std.proofs.lemmas.List.{get_or_append_left, get_or_push, length_push, length-append}
+use Rattle.std.proofs.lemmas.List.{get_or_past, length-append}
 use Rattle.std.proofs.lemmas.List.{length-replicate, get_or-set_same, get_or-set_other, length-set}
 use Rattle.std.proofs.lemmas.List.{length-take-le, length-drop, append_assoc, drop_at, take_at}
 use Rattle.std.proofs.lemmas.List.{drop-append-le, take-append-le, drop-set-lt, drop-set-add}
@@ -11,6 +11,7 @@ use Rattle.std.proofs.lemmas.Bool.{cases_lt, cases_eq}
 use Rattle.ld_graph.specs.declared.neighbours.Run.{Run}
 use Rattle.ld_graph.specs.Inner.Runs.{no_run, run_at, items_of, total, AreApart, AreRuns, HasMoved}
 use Rattle.ld_graph.specs.Inner.Runs.{HasWay}
+use Rattle.ld_graph.proofs.NearLemmas.{get_or-push_default}
 
 module _ (f : Run → ℕ) where
   pub total-set : (rs : List Run) (i : ℕ) (y : Run) → i < length rs
@@ -59,43 +60,23 @@ way_room runs slots items c h l full =
 pub AreRuns-class : (runs : List Run) (slots : List ℕ) (items : ℕ) → AreRuns runs slots items
     → AreRuns (runs ++ no_run ∷ []) slots items
 AreRuns-class runs slots items h = record {
-  fits = λ i l. by i (cases_lt i (length runs)) (subst (λ n. i < n) (length_push runs no_run) l);
-  apart = λ i j l m ne. two i j (cases_lt i (length runs)) (cases_lt j (length runs)) (subst (λ n. i
-      < n) (length_push runs no_run) l) (subst (λ n. j < n) (length_push runs no_run) m) ne;
+  fits = λ i l. rw (get_or-push_default runs no_run i) (by i (cases_lt i (length runs)));
+  apart = λ i j l m ne. rw (get_or-push_default runs no_run i, get_or-push_default runs no_run j)
+      (two i j (cases_lt i (length runs)) (cases_lt j (length runs)) ne);
   used = let t = total-push (λ r. r.room) runs no_run in let u = h.used in omega (arith, t, u);
   counted = let t = total-push (λ r. r.len) runs no_run in let u = h.counted in omega (arith, t, u);
 }
   where
-    old : (i : ℕ) → i < length runs → run_at (runs ++ no_run ∷ []) i ≡ run_at runs i
-    old i l = get_or_append_left runs (no_run ∷ []) no_run i l
+    by : (i : ℕ) → (i < length runs) ⊎ (length runs ≤ i) → ((run_at runs i).len ≤ (run_at runs i).room)
+        × ((run_at runs i).room ≤ 2 * (run_at runs i).len) × ((run_at runs i).start + (run_at runs i).room ≤ length slots)
+    by i (inl l) = h.fits i l
+    by i (inr l) = rw (get_or_past runs i no_run l) (omega arith, omega arith, omega arith)
 
-    new : (i : ℕ) → length runs ≤ i → i < length runs + 1 → run_at (runs ++ no_run ∷ []) i ≡ no_run
-    new i l m = get_or_push runs no_run no_run i (omega arith)
-
-    by : (i : ℕ) → (i < length runs) ⊎ (length runs ≤ i) → i < length runs + 1
-        → ((run_at (runs ++ no_run ∷ []) i).len ≤ (run_at (runs ++ no_run ∷ []) i).room)
-        × ((run_at (runs ++ no_run ∷ []) i).room ≤ 2 * (run_at (runs ++ no_run ∷ []) i).len)
-        × ((run_at (runs ++ no_run ∷ []) i).start + (run_at (runs ++ no_run ∷ []) i).room ≤ length
-        slots)
-    by i (inl l) _ = subst (λ r. (r.len ≤ r.room) × (r.room ≤ 2 * r.len)
-        × (r.start + r.room ≤ length slots)) (sym (old i l)) (h.fits i l)
-    by i (inr l) m = subst (λ r. (r.len ≤ r.room) × (r.room ≤ 2 * r.len)
-        × (r.start + r.room ≤ length slots)) (sym (new i l m)) (
-          omega arith,
-          omega arith,
-          omega
-              arith,
-        )
-
-    two : (i j : ℕ) → (i < length runs) ⊎ (length runs ≤ i) → (j < length runs) ⊎ (length runs ≤ j)
-        → i < length runs + 1 → j < length runs + 1
-        → i ≢ j → AreApart (run_at (runs ++ no_run ∷ []) i) (run_at (runs ++ no_run ∷ []) j)
-    two i j (inl a) (inl b) _ _ ne = subst (λ r. AreApart r (run_at (runs ++ no_run ∷ []) j)) (sym
-        (old i a)) (subst (λ r. AreApart (run_at runs i) r) (sym (old j b)) (h.apart i j a b ne))
-    two i j (inr a) _ m _ ne = subst (λ r. AreApart r (run_at (runs ++ no_run ∷ []) j)) (sym (new i
-        a m)) (inl (omega arith))
-    two i j (inl a) (inr b) _ m ne = subst (λ r. AreApart (run_at (runs ++ no_run ∷ []) i) r) (sym
-        (new j b m)) (inr (omega arith))
+    two : (i j : ℕ) → (i < length runs) ⊎ (length runs ≤ i) → (j < length runs) ⊎ (length runs ≤ j) → i ≢ j
+        → AreApart (run_at runs i) (run_at runs j)
+    two i j (inl a) (inl b) ne = h.apart i j a b ne
+    two i j (inr a) _ ne = rw (get_or_past runs i no_run a) (inl (omega arith))
+    two i j (inl a) (inr b) ne = rw (get_or_past runs j no_run b) (inr (omega arith))
 
 -- a map over a list of which one element was replaced, and whose function changed where it doesn't
 -- matter

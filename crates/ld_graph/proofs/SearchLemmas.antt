@@ -49,15 +49,12 @@ module _ (near : ℕ → ℕ → Type 0) (start : ℕ) where
     closed = λ i x k l. absurd (omega arith);
   }
     where
-      by : (x k : ℕ) → (level_at old x ≡ Some k) ⊎ ((k ≡ 1) × near start x × ((i : ℕ)
-          × ((length {A = ℕ} [] ≤ i) × (i < length queue) × (get_or queue i 0 ≡ x))))
-          → (k ≡ 1) × near start x × ((i : ℕ) × ((i < length queue) × (get_or queue i 0 ≡ x)))
-      by x k (inl o) = let n = none x in cc
-      by x k (inr o) = (o.0, o.1, (o.2.0, (o.2.1.1, o.2.1.2)))
-
       one : (x k : ℕ) → level_at levels x ≡ Some k → (k ≡ 1) × near start x × ((i : ℕ)
           × ((i < length queue) × (get_or queue i 0 ≡ x)))
-      one x k e = by x k (h.fresh x k e)
+      one x k e = elim (h.fresh x k e) [
+        | inl o ↦ let n = none x in cc
+        | inr o ↦ (o.0, o.1, (o.2.0, (o.2.1.1, o.2.1.2)))
+      ]
 
       level : (i k : ℕ) → i < length queue → level_at levels (get_or queue i 0) ≡ Some k → k ≡ 1
       level i k l e = (one (get_or queue i 0) k e).0
@@ -86,47 +83,39 @@ module _ (near : ℕ → ℕ → Type 0) (start : ℕ) where
 
     sound : (x l : ℕ) → level_at levels x ≡ Some l → (m : ℕ) × ((l ≡ m + 1)
         × Far (λ a b. near b a) m x start)
-    sound x l e = by (h.fresh x l e)
-      where
-        by : (level_at old x ≡ Some l) ⊎ ((l ≡ k + 1) × near (get_or before done 0) x × ((i : ℕ)
-            × ((length before ≤ i) × (i < length queue) × (get_or queue i 0 ≡ x))))
-            → (m : ℕ) × ((l ≡ m + 1) × Far (λ a b. near b a) m x start)
-        by (inl o) = p.sound x l o
-        by (inr o) =
-            let s = p.sound (get_or before done 0) k here in
-            let e = s.1.0 in let f = o.0 in
-            (suc s.0, (omega (arith, e, f), (get_or before done 0, (o.1, s.1.1))))
+    sound x l e = elim (h.fresh x l e) [
+      | inl o ↦ p.sound x l o
+      | inr o ↦
+          let s = p.sound (get_or before done 0) k here in
+          let e = s.1.0 in let f = o.0 in
+          (suc s.0, (omega (arith, e, f), (get_or before done 0, (o.1, s.1.1))))
+    ]
 
     queued : (i : ℕ) → i < length queue → (l : ℕ) × ((level_at levels (get_or queue i 0) ≡ Some l)
         × (l ≤ i + 1))
-    queued i b = by (cases_lt i (length before))
-      where
-        by : (i < length before) ⊎ (length before ≤ i) → (l : ℕ)
-            × ((level_at levels (get_or queue i 0) ≡ Some l) × (l ≤ i + 1))
-        by (inl a) =
-            let q = p.queued i a in (
-              q.0,
-              (
-                ap (λ z. level_at levels z) (h.front i a)
-                    ∙ h.kept (get_or before i 0) q.0 q.1.0,
-                q.1.1,
-              ),
-            )
-        by (inr a) =
-            let q = p.queued done waits in let f = some_same q.0 k (sym q.1.0 ∙ here)
-            in let g = q.1.1 in
-            (k + 1, (h.added i a b, omega (arith, f, g)))
+    queued i b = elim (cases_lt i (length before)) [
+      | inl a ↦
+          let q = p.queued i a in (
+            q.0,
+            (
+              ap (λ z. level_at levels z) (h.front i a)
+                  ∙ h.kept (get_or before i 0) q.0 q.1.0,
+              q.1.1,
+            ),
+          )
+      | inr a ↦
+          let q = p.queued done waits in let f = some_same q.0 k (sym q.1.0 ∙ here)
+          in let g = q.1.1 in
+          (k + 1, (h.added i a b, omega (arith, f, g)))
+    ]
 
     covered : (x l : ℕ) → level_at levels x ≡ Some l → (i : ℕ) × ((i < length queue)
         × (get_or queue i 0 ≡ x))
-    covered x l e = by (h.fresh x l e)
-      where
-        by : (level_at old x ≡ Some l) ⊎ ((l ≡ k + 1) × near (get_or before done 0) x × ((i : ℕ)
-            × ((length before ≤ i) × (i < length queue) × (get_or queue i 0 ≡ x))))
-            → (i : ℕ) × ((i < length queue) × (get_or queue i 0 ≡ x))
-        by (inl o) = let c = p.covered x l o in let a = c.1.0 in let g = h.longer
-            in (c.0, (omega (arith, a, g), h.front c.0 a ∙ c.1.1))
-        by (inr o) = (o.2.0, (o.2.1.1, o.2.1.2))
+    covered x l e = elim (h.fresh x l e) [
+      | inl o ↦ let c = p.covered x l o in let a = c.1.0 in let g = h.longer
+          in (c.0, (omega (arith, a, g), h.front c.0 a ∙ c.1.1))
+      | inr o ↦ (o.2.0, (o.2.1.1, o.2.1.2))
+    ]
 
     rising : (i j l m : ℕ) → i ≤ j → j < length queue → level_at levels (get_or queue i 0) ≡ Some l
         → level_at levels (get_or queue j 0) ≡ Some m → l ≤ m

@@ -1,10 +1,10 @@
 -- What a search finds.
-use Rattle.std.proofs.Common.{◌≡◌, ◌⊎◌, inl, inr, ℕ, suc, ◌<◌, ◌≤◌, ◌↔◌, Bool, true, false, true≢false, List, [], ◌∷◌}
+use Rattle.std.proofs.Common.{◌≡◌, inl, inr, ℕ, ◌<◌, ◌≤◌, ◌↔◌, Bool, true, false, true≢false, List, [], ◌∷◌}
 use Rattle.std.proofs.Common.{length, get_or, Contains, sym, subst, ◌∙◌}
 use Rattle.std.proofs.lemmas.Bool.{cases_lt}
 use Rattle.std.proofs.lemmas.List.Elements.{Contains-push, Contains-append_left, Contains-get_or}
 use Rattle.ld_graph.specs.Inner.Repairs.{IsAdded, IsOrReaches}
-use Rattle.ld_graph.proofs.WalkLemmas.{Far-snoc, HasWalk-Far, IsWalk-Far}
+use Rattle.ld_graph.proofs.WalkLemmas.{HasWalk-more, HasWalk-one}
 
 -- a class that was added
 pub added_has : (old new : List ℕ) (class : ℕ) → IsAdded old class new → Contains new class
@@ -20,11 +20,8 @@ added_keeps old new class k (inr h) n =
 -- a walk goes on
 pub IsOrReaches-next : (near : ℕ → ℕ → Type 0) (a x y : ℕ) → IsOrReaches near a x → near x y
     → IsOrReaches near a y
-IsOrReaches-next near a x y (inl e) n =
-    inr (HasWalk-Far near 0 a y (subst (λ z. near z y) (sym e) n))
-IsOrReaches-next near a x y (inr w) n =
-    let f = IsWalk-Far near a x w.0 w.1 in
-    inr (HasWalk-Far near (suc f.0) a y (Far-snoc near f.0 a x y f.1.1 n))
+IsOrReaches-next near a x y (inl e) n = inr (HasWalk-one near a y (subst (λ z. near z y) (sym e) n))
+IsOrReaches-next near a x y (inr w) n = inr (HasWalk-more near a x y w n)
 
 pub Contains-read : (found : List ℕ) (n k : ℕ) → n < length found → k ≡ get_or found n 0
     → Contains found k
@@ -33,8 +30,7 @@ Contains-read found n k l e = subst (Contains found) (sym e) (Contains-get_or fo
 -- more were found than a test says
 pub beyond : (n : ℕ) (found : List ℕ) (b : Bool) → (b ≡ true) ↔ (length found ≤ n) → b ≡ false
     → n < length found
-beyond n found b h is = by (cases_lt n (length found))
-  where
-    by : (n < length found) ⊎ (length found ≤ n) → n < length found
-    by (inl l) = l
-    by (inr l) = absurd (true≢false (sym (h.1 l) ∙ is))
+beyond n found b h is = elim (cases_lt n (length found)) [
+  | inl l ↦ l
+  | inr l ↦ absurd (true≢false (sym (h.1 l) ∙ is))
+]

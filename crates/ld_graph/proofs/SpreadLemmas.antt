@@ -4,11 +4,12 @@ use Rattle.std.proofs.Common.{cond, count_by, ◌+◌, ◌<◌, ◌≤◌, ◌�
 use Rattle.std.proofs.Common.{length, get_or, set, Option, Some, None, arith, refl, sym, ap, subst}
 use Rattle.std.proofs.Common.{◌∙◌}
 use Rattle.std.proofs.lemmas.List.{get_or_append_left, get_or_push, length_push, get_or-set_same}
-use Rattle.std.proofs.lemmas.List.{get_or-set_other, get_or_past}
+use Rattle.std.proofs.lemmas.List.{get_or-set_other}
 use Rattle.std.proofs.lemmas.List.Sums.{sum_by-set, count_by-le-length}
 use Rattle.std.proofs.lemmas.Bool.{cases_lt, cases_eq}
 use Rattle.std.proofs.lemmas.List.Elements.{Contains-get_or}
 use Rattle.ld_graph.specs.Inner.Levels.{level_at, Spreads}
+use Rattle.ld_graph.proofs.NearLemmas.{within_of}
 
 pub some_same : (k l : ℕ) → Some k ≡ Some l → k ≡ l
 some_same k l e = cc
@@ -16,20 +17,15 @@ some_same k l e = cc
 -- a class with a level is within the list
 pub level_within : (levels : List (Option ℕ)) (x k : ℕ) → level_at levels x ≡ Some k
     → x < length levels
-level_within levels x k h = by (cases_lt x (length levels))
-  where
-    by : (x < length levels) ⊎ (length levels ≤ x) → x < length levels
-    by (inl l) = l
-    by (inr l) = let e : level_at levels x ≡ None = get_or_past levels x None l in cc
+level_within levels x k h = within_of levels x None (λ e. let f : level_at levels x ≡ None = e in cc)
 
 -- a class with a level keeps it where one with none is given one
 pub kept_marked : (levels : List (Option ℕ)) (y level : ℕ) → level_at levels y ≡ None
     → (x k : ℕ) → level_at levels x ≡ Some k → level_at (set levels y (Some level)) x ≡ Some k
-kept_marked levels y level free x k e = by (cases_eq x y)
-  where
-    by : (x ≡ y) ⊎ (x ≢ y) → level_at (set levels y (Some level)) x ≡ Some k
-    by (inl p) = let f : level_at levels x ≡ None = ap (λ z. level_at levels z) p ∙ free in cc
-    by (inr p) = get_or-set_other levels y x (Some level) None p ∙ e
+kept_marked levels y level free x k e = elim (cases_eq x y) [
+  | inl p ↦ let f : level_at levels x ≡ None = ap (λ z. level_at levels z) p ∙ free in cc
+  | inr p ↦ get_or-set_other levels y x (Some level) None p ∙ e
+]
 
 module _ (near : ℕ → Type 0) (level : ℕ) where
   module _ (old : List (Option ℕ)) (before : List ℕ) (now : List (Option ℕ)) (queue : List ℕ) (h :
@@ -51,16 +47,28 @@ module _ (near : ℕ → Type 0) (level : ℕ) where
         → (level_at old x ≡ Some k)
         ⊎ ((k ≡ level) × near x × ((i : ℕ) × ((length before ≤ i) × (i < length waiting)
         × (get_or waiting i 0 ≡ x))))
-    fresh x k e = by (cases_eq x y)
-      where
-        old_one : (level_at old x ≡ Some k)
-            ⊎ ((k ≡ level) × near x × ((i : ℕ) × ((length before ≤ i) × (i < length queue)
-            × (get_or queue i 0 ≡ x))))
-            → (level_at old x ≡ Some k)
-            ⊎ ((k ≡ level) × near x × ((i : ℕ) × ((length before ≤ i) × (i < length waiting)
-            × (get_or waiting i 0 ≡ x))))
-        old_one (inl o) = inl o
-        old_one (inr o) =
+    fresh x k e = elim (cases_eq x y) [
+      | inl p ↦
+          let f : Some level ≡ Some k = sym same ∙ ap (λ z. level_at marked z) (sym p) ∙ e in
+          let q = length_push queue y in let l = h.longer in
+          inr (
+            sym (some_same level k f),
+            subst near (sym p) ny,
+            (
+              length queue,
+              (
+                l,
+                omega (
+                  arith,
+                  q,
+                ),
+                get_or_push queue y 0 (length queue) refl ∙ sym p,
+              ),
+            ),
+          )
+      | inr p ↦ elim (h.fresh x k (sym (other x p) ∙ e)) [
+        | inl o ↦ inl o
+        | inr o ↦
             let l = o.2.1.1 in let p = length_push queue y in
             inr (
               o.0,
@@ -75,41 +83,18 @@ module _ (near : ℕ → Type 0) (level : ℕ) where
                 ),
               ),
             )
-
-        by : (x ≡ y) ⊎ (x ≢ y) → (level_at old x ≡ Some k)
-            ⊎ ((k ≡ level) × near x × ((i : ℕ) × ((length before ≤ i) × (i < length waiting)
-            × (get_or waiting i 0 ≡ x))))
-        by (inl p) =
-            let f : Some level ≡ Some k = sym same ∙ ap (λ z. level_at marked z) (sym p) ∙ e in
-            let q = length_push queue y in let l = h.longer in
-            inr (
-              sym (some_same level k f),
-              subst near (sym p) ny,
-              (
-                length queue,
-                (
-                  l,
-                  omega (
-                    arith,
-                    q,
-                  ),
-                  get_or_push queue y 0 (length queue) refl ∙ sym p,
-                ),
-              ),
-            )
-        by (inr p) = old_one (h.fresh x k (sym (other x p) ∙ e))
+      ]
+    ]
 
     added : (i : ℕ) → length before ≤ i → i < length waiting
         → level_at marked (get_or waiting i 0) ≡ Some level
-    added i a b = by (cases_lt i (length queue))
-      where
-        by : (i < length queue) ⊎ (length queue ≤ i) → level_at marked (get_or waiting i 0) ≡ Some
-            level
-        by (inl l) = ap (λ z. level_at marked z) (get_or_append_left queue (y ∷ []) 0 i l)
-            ∙ kept_marked now y level free (get_or queue i 0) level (h.added i a l)
-        by (inr l) =
-            let p = length_push queue y in let e : length queue ≡ i = omega (arith, p, b) in
-            ap (λ z. level_at marked z) (get_or_push queue y 0 i e) ∙ same
+    added i a b = elim (cases_lt i (length queue)) [
+      | inl l ↦ ap (λ z. level_at marked z) (get_or_append_left queue (y ∷ []) 0 i l)
+          ∙ kept_marked now y level free (get_or queue i 0) level (h.added i a l)
+      | inr l ↦
+          let p = length_push queue y in let e : length queue ≡ i = omega (arith, p, b) in
+          ap (λ z. level_at marked z) (get_or_push queue y 0 i e) ∙ same
+    ]
 
     -- one more class, near and without a level, is given it
     pub Spreads-more : Spreads near level old before marked waiting

@@ -1,8 +1,8 @@
 -- What is left of what was touched, when some of it is taken away.
-use Rattle.std.proofs.Common.{◌≡◌, ◌≢◌, ◌<◌, ◌≤◌, ◌+◌, ◌⊎◌, inl, inr, ◌∙◌, ◌∷◌, ◌++◌, [], ℕ, Contains, List, Option, Some, None, arith, get_or, length, set, sym, subst, ap, refl}
+use Rattle.std.proofs.Common.{◌≡◌, ◌≢◌, ◌<◌, ◌≤◌, ◌+◌, inl, inr, ◌∙◌, ◌∷◌, ◌++◌, [], ℕ, Contains, List, Option, Some, None, arith, get_or, length, set, sym, subst, ap, refl}
 use Rattle.std.specs.Prelude.{IfSome}
 use Rattle.std.specs.Borrow.{Bor}
-use Rattle.std.proofs.lemmas.Bool.{cases_eq, cases_lt}
+use Rattle.std.proofs.lemmas.Bool.{cases_eq}
 use Rattle.std.proofs.lemmas.List.{get_or-set_same, get_or-set_other, length-set}
 use Rattle.std.proofs.lemmas.List.Elements.{Contains-append_left, Contains-push, Contains-push_cases}
 use Rattle.ld_graph.specs.Touched.{AreTouched}
@@ -11,20 +11,16 @@ use Rattle.ld_graph.specs.Inner.Levels.{level_at}
 pub taken : (levels : List (Option ℕ)) (touched : List ℕ) (i : ℕ) → get_or touched i 0 < length levels
     → ((x k : ℕ) → level_at levels x ≡ Some k → (j : ℕ) × ((i ≤ j) × ((j < length touched) × (get_or touched j 0 ≡ x))))
     → (x k : ℕ) → level_at (set levels (get_or touched i 0) None) x ≡ Some k → (j : ℕ) × ((i + 1 ≤ j) × ((j < length touched) × (get_or touched j 0 ≡ x)))
-taken levels touched i within h x k e = by (cases_eq x (get_or touched i 0))
-  where
-    by : (x ≡ get_or touched i 0) ⊎ (x ≢ get_or touched i 0) → (j : ℕ) × ((i + 1 ≤ j) × ((j < length touched) × (get_or touched j 0 ≡ x)))
-    by (inl s) =
-        let f : level_at (set levels (get_or touched i 0) None) x ≡ None = ap (λ z. level_at (set levels (get_or touched i 0) None) z) s ∙ get_or-set_same levels (get_or touched i 0) None None within in
-        cc
-    by (inr ne) =
-        let q = h x k (sym (get_or-set_other levels (get_or touched i 0) x None None ne) ∙ e) in
-        let a = q.1.0 in
-        (q.0, (past q.0 a q.1.1.1 (cases_lt i q.0), q.1.1))
-      where
-        past : (j : ℕ) → i ≤ j → get_or touched j 0 ≡ x → (i < j) ⊎ (j ≤ i) → i + 1 ≤ j
-        past j a at (inl l) = omega arith
-        past j a at (inr l) = let s : j ≡ i = omega arith in absurd (ne (sym at ∙ ap (λ z. get_or touched z 0) s))
+taken levels touched i within h x k e = elim (cases_eq x (get_or touched i 0)) [
+  | inl s ↦
+      let f : level_at (set levels (get_or touched i 0) None) x ≡ None = ap (λ z. level_at (set levels (get_or touched i 0) None) z) s ∙ get_or-set_same levels (get_or touched i 0) None None within in
+      cc
+  | inr ne ↦
+      let q = h x k (sym (get_or-set_other levels (get_or touched i 0) x None None ne) ∙ e) in
+      let a = q.1.0 in
+      let other : q.0 ≢ i = λ s. ne (sym q.1.1.1 ∙ ap (λ z. get_or touched z 0) s) in
+      (q.0, (omega (arith, a, other), q.1.1))
+]
 
 pub none_left : (levels : List (Option ℕ)) (x : ℕ) → ((k : ℕ) → level_at levels x ≡ Some k → ⊥) → level_at levels x ≡ None
 none_left levels x h = by (level_at levels x) refl
@@ -36,17 +32,15 @@ none_left levels x h = by (level_at levels x) refl
 pub touched_more : (levels : List (Option ℕ)) (touched : List ℕ) (class level : ℕ) → class < length levels
     → AreTouched levels touched → AreTouched (set levels class (Some level)) (touched ++ class ∷ [])
 touched_more levels touched class level within h = record {
-  within = λ x m. low x (Contains-push_cases touched class x m);
-  all = λ x k e. by x k e (cases_eq x class);
+  within = λ x m. elim (Contains-push_cases touched class x m) [
+    | inl n ↦ let l = h.within x n in let s = length-set levels class (Some level) in omega (arith, l, s)
+    | inr e ↦ let s = length-set levels class (Some level) in omega (arith, e, s, within)
+  ];
+  all = λ x k e. elim (cases_eq x class) [
+    | inl s ↦ subst (Contains (touched ++ class ∷ [])) (sym s) (Contains-push touched class)
+    | inr ne ↦ Contains-append_left touched (class ∷ []) x (h.all x k (sym (get_or-set_other levels class x (Some level) None ne) ∙ e))
+  ];
 }
-  where
-    low : (x : ℕ) → Contains touched x ⊎ (class ≡ x) → x < length (set levels class (Some level))
-    low x (inl m) = let l = h.within x m in let s = length-set levels class (Some level) in omega (arith, l, s)
-    low x (inr e) = let s = length-set levels class (Some level) in omega (arith, e, s, within)
-
-    by : (x k : ℕ) → level_at (set levels class (Some level)) x ≡ Some k → (x ≡ class) ⊎ (x ≢ class) → Contains (touched ++ class ∷ []) x
-    by x k e (inl s) = subst (Contains (touched ++ class ∷ [])) (sym s) (Contains-push touched class)
-    by x k e (inr ne) = Contains-append_left touched (class ∷ []) x (h.all x k (sym (get_or-set_other levels class x (Some level) None ne) ∙ e))
 
 -- a class that is below the number of classes has a component, where components are given
 pub within_if : (components : Option (Bor (List ℕ))) (n x : ℕ) → IfSome components (λ c. length c.now ≡ n) → x < n

@@ -4,14 +4,16 @@ use Rattle.std.proofs.Common.{List, [], ◌∷◌, ◌++◌, length, get_or, ari
 use Rattle.std.proofs.Common.{refl, sym, ap, subst, ◌∙◌}
 use Rattle.std.proofs.lemmas.Bool.{cases_lt, cases_eq}
 use Rattle.std.proofs.lemmas.List.{get_or_append_left, get_or_push, length_push, get_or-set_same}
-use Rattle.std.proofs.lemmas.List.{get_or-set_other, get_or_past, length-set}
+use Rattle.std.proofs.lemmas.List.{get_or-set_other, length-set}
 use Rattle.ld_graph.specs.declared.trail.Stage.TheVariants.{Fresh, Open, Closed}
 use Rattle.ld_graph.specs.declared.trail.Frame.{Frame}
 use Rattle.ld_graph.specs.Lists.{IsNear, list_at}
 use Rattle.ld_graph.specs.Walks.{HasWalk}
+use Rattle.ld_graph.specs.Components.{AreTogether}
 use Rattle.ld_graph.specs.Inner.Repairs.{IsOrReaches}
 use Rattle.ld_graph.specs.Inner.Trails.{PlainTrail, no_frame, stage_at, next_at, wait_at, frame_at, IsLimit, IsHandled}
 use Rattle.ld_graph.specs.Inner.Trails.{IsFrame, AreStages, AreClosed, IsTrail, entered}
+use Rattle.ld_graph.proofs.NearLemmas.{within_of}
 use Rattle.ld_graph.proofs.WalkLemmas.{Far, IsWalk-Far, HasWalk-Far}
 
 -- two walks, one after the other
@@ -30,6 +32,12 @@ module _ (near : ℕ → ℕ → Type 0) where
       let r = Far-append f.0 g.0 a b c f.1.1 g.1.1 in
       inr (HasWalk-Far near r.0 a c r.1)
 
+  -- two classes that lead to each other are in one component
+  pub are_together : (a b : ℕ) → IsOrReaches near a b → IsOrReaches near b a → AreTogether near a b
+  are_together a b (inl e) h = inl e
+  are_together a b (inr w) (inl e) = inl (sym e)
+  are_together a b (inr w) (inr v) = inr (w, v)
+
   -- what no step leads out of no walk leads out of
   module _ (P : ℕ → Type 0) (closed : (x y : ℕ) → P x → near x y → P y) where
     Far-within : (n a b : ℕ) → P a → Far near n a b → P b
@@ -43,14 +51,13 @@ module _ (near : ℕ → ℕ → Type 0) where
 
 -- a class that waits is one of those that have a stage
 pub waits_within : (t : PlainTrail) (x i : ℕ) → stage_at t x ≡ Open i → x < length t.stages
-waits_within t x i e = by (cases_lt x (length t.stages))
-  where
-    by : (x < length t.stages) ⊎ (length t.stages ≤ x) → x < length t.stages
-    by (inl l) = l
-    by (inr l) = let f : stage_at t x ≡ Fresh = get_or_past t.stages x Fresh l in cc
+waits_within t x i e = within_of t.stages x Fresh (λ n. let f : stage_at t x ≡ Fresh = n in cc)
 
 pub same_place : (i j : ℕ) → Open i ≡ Open j → i ≡ j
 same_place i j e = cc
+
+pub same_class : (r s : ℕ) → Closed r ≡ Closed s → r ≡ s
+same_class r s e = cc
 
 module _ (lists : List (List ℕ)) where
   abbrev R : ℕ → ℕ → Type 0
@@ -88,11 +95,10 @@ module _ (lists : List (List ℕ)) where
   }
 
   pub limit_is : (t : PlainTrail) (k : ℕ) → k < length t.path → (limit : ℕ) × IsLimit t k limit
-  limit_is t k b = by (cases_lt (k + 1) (length t.path))
-    where
-      by : (k + 1 < length t.path) ⊎ (length t.path ≤ k + 1) → (limit : ℕ) × IsLimit t k limit
-      by (inl l) = ((frame_at t (k + 1)).position, inl (l, refl))
-      by (inr l) = (length t.waiting, inr (omega arith, refl))
+  limit_is t k b = elim (cases_lt (k + 1) (length t.path)) [
+    | inl l ↦ ((frame_at t (k + 1)).position, inl (l, refl))
+    | inr l ↦ (length t.waiting, inr (omega arith, refl))
+  ]
 
   module _ (t : PlainTrail) (h : IsTrail lists t) where
     pub position_below : (k : ℕ) → k < length t.path → (frame_at t k).position < length t.waiting
@@ -136,53 +142,47 @@ module _ (lists : List (List ℕ)) where
       path_len = length_push t.path made
 
       kept_closed : (y r : ℕ) → stage_at t y ≡ Closed r → stage_at (entered t x) y ≡ Closed r
-      kept_closed y r e = by (cases_eq y x)
-        where
-          by : (y ≡ x) ⊎ (y ≢ x) → stage_at (entered t x) y ≡ Closed r
-          by (inl s) = let f : stage_at t y ≡ Fresh = ap (λ z. stage_at t z) s ∙ fresh in cc
-          by (inr s) = stage_else y s ∙ e
+      kept_closed y r e = elim (cases_eq y x) [
+        | inl s ↦ let f : stage_at t y ≡ Fresh = ap (λ z. stage_at t z) s ∙ fresh in cc
+        | inr s ↦ stage_else y s ∙ e
+      ]
 
       back_closed : (y r : ℕ) → stage_at (entered t x) y ≡ Closed r → stage_at t y ≡ Closed r
-      back_closed y r e = by (cases_eq y x)
-        where
-          by : (y ≡ x) ⊎ (y ≢ x) → stage_at t y ≡ Closed r
-          by (inl s) = let f : stage_at (entered t x) y ≡ Open (length t.waiting) = ap (λ z. stage_at (entered t x) z) s ∙ stage_here in cc
-          by (inr s) = sym (stage_else y s) ∙ e
+      back_closed y r e = elim (cases_eq y x) [
+        | inl s ↦ let f : stage_at (entered t x) y ≡ Open (length t.waiting) = ap (λ z. stage_at (entered t x) z) s ∙ stage_here in cc
+        | inr s ↦ sym (stage_else y s) ∙ e
+      ]
 
       entered_stages : AreStages lists (entered t x)
       entered_stages = record { at = at; back = back; fresh = no_nexts }
         where
           at : (i : ℕ) → i < length (t.waiting ++ x ∷ []) → stage_at (entered t x) (wait_at (entered t x) i) ≡ Open i
-          at i b = by (cases_lt i (length t.waiting))
-            where
-              by : (i < length t.waiting) ⊎ (length t.waiting ≤ i) → stage_at (entered t x) (wait_at (entered t x) i) ≡ Open i
-              by (inl l) = by2 (cases_eq (wait_at t i) x)
-                where
-                  by2 : (wait_at t i ≡ x) ⊎ (wait_at t i ≢ x) → stage_at (entered t x) (wait_at (entered t x) i) ≡ Open i
-                  by2 (inl e) = let f : stage_at t (wait_at t i) ≡ Fresh = ap (λ z. stage_at t z) e ∙ fresh in
-                      let g = h.stages.at i l in cc
-                  by2 (inr ne) = ap (λ z. stage_at (entered t x) z) (wait_old i l) ∙ stage_else (wait_at t i) ne ∙ h.stages.at i l
-              by (inr l) = let e : length t.waiting ≡ i = (let p = wait_len in omega (arith, p)) in
-                  ap (λ z. stage_at (entered t x) z) (wait_new i e) ∙ stage_here ∙ ap (λ z. Open z) e
+          at i b = elim (cases_lt i (length t.waiting)) [
+            | inl l ↦ elim (cases_eq (wait_at t i) x) [
+              | inl e ↦ let f : stage_at t (wait_at t i) ≡ Fresh = ap (λ z. stage_at t z) e ∙ fresh in
+                  let g = h.stages.at i l in cc
+              | inr ne ↦ ap (λ z. stage_at (entered t x) z) (wait_old i l) ∙ stage_else (wait_at t i) ne ∙ h.stages.at i l
+            ]
+            | inr l ↦ let e : length t.waiting ≡ i = (let p = wait_len in omega (arith, p)) in
+                ap (λ z. stage_at (entered t x) z) (wait_new i e) ∙ stage_here ∙ ap (λ z. Open z) e
+          ]
 
           back : (y i : ℕ) → stage_at (entered t x) y ≡ Open i → (i < length (t.waiting ++ x ∷ [])) × (wait_at (entered t x) i ≡ y)
-          back y i e = by (cases_eq y x)
-            where
-              by : (y ≡ x) ⊎ (y ≢ x) → (i < length (t.waiting ++ x ∷ [])) × (wait_at (entered t x) i ≡ y)
-              by (inl s) =
-                  let p : length t.waiting ≡ i = same_place (length t.waiting) i (sym stage_here ∙ ap (λ z. stage_at (entered t x) z) (sym s) ∙ e) in
-                  let q = wait_len in
-                  (omega (arith, p, q), wait_new i p ∙ sym s)
-              by (inr s) =
-                  let p = h.stages.back y i (sym (stage_else y s) ∙ e) in let l = p.0 in let q = wait_len in
-                  (omega (arith, l, q), wait_old i l ∙ p.1)
+          back y i e = elim (cases_eq y x) [
+            | inl s ↦
+                let p : length t.waiting ≡ i = same_place (length t.waiting) i (sym stage_here ∙ ap (λ z. stage_at (entered t x) z) (sym s) ∙ e) in
+                let q = wait_len in
+                (omega (arith, p, q), wait_new i p ∙ sym s)
+            | inr s ↦
+                let p = h.stages.back y i (sym (stage_else y s) ∙ e) in let l = p.0 in let q = wait_len in
+                (omega (arith, l, q), wait_old i l ∙ p.1)
+          ]
 
           no_nexts : (y : ℕ) → stage_at (entered t x) y ≡ Fresh → next_at t y ≡ 0
-          no_nexts y e = by (cases_eq y x)
-            where
-              by : (y ≡ x) ⊎ (y ≢ x) → next_at t y ≡ 0
-              by (inl s) = let f : stage_at (entered t x) y ≡ Open (length t.waiting) = ap (λ z. stage_at (entered t x) z) s ∙ stage_here in cc
-              by (inr s) = h.stages.fresh y (sym (stage_else y s) ∙ e)
+          no_nexts y e = elim (cases_eq y x) [
+            | inl s ↦ let f : stage_at (entered t x) y ≡ Open (length t.waiting) = ap (λ z. stage_at (entered t x) z) s ∙ stage_here in cc
+            | inr s ↦ h.stages.fresh y (sym (stage_else y s) ∙ e)
+          ]
 
       made_frame : (limit : ℕ) → limit ≡ length t.waiting + 1 → IsFrame lists (entered t x) limit made
       made_frame limit e = record {
@@ -226,34 +226,31 @@ module _ (lists : List (List ℕ)) where
               inr (c.0, (c.1.0, (omega (arith, l, p), wait_old c.0 l ∙ c.1.1.1)))
 
       entered_frames : (k limit : ℕ) → IsLimit (entered t x) k limit → IsFrame lists (entered t x) limit (frame_at (entered t x) k)
-      entered_frames k limit (inl is) = by (cases_lt (k + 1) (length t.path))
-        where
-          by : (k + 1 < length t.path) ⊎ (length t.path ≤ k + 1) → IsFrame lists (entered t x) limit (frame_at (entered t x) k)
-          by (inl l) = old_frame k limit (omega arith) (inl (l, is.1 ∙ ap (λ f. f.position) (frame_old (k + 1) l)))
-          by (inr l) =
-              let p = path_len in let a = is.0 in
-              let e : k + 1 ≡ length t.path = omega (arith, p, a) in
-              old_frame k limit (omega (arith, e)) (inr (e, is.1 ∙ ap (λ f. f.position) (frame_new (k + 1) (sym e))))
+      entered_frames k limit (inl is) = elim (cases_lt (k + 1) (length t.path)) [
+        | inl l ↦ old_frame k limit (omega arith) (inl (l, is.1 ∙ ap (λ f. f.position) (frame_old (k + 1) l)))
+        | inr l ↦
+            let p = path_len in let a = is.0 in
+            let e : k + 1 ≡ length t.path = omega (arith, p, a) in
+            old_frame k limit (omega (arith, e)) (inr (e, is.1 ∙ ap (λ f. f.position) (frame_new (k + 1) (sym e))))
+      ]
       entered_frames k limit (inr is) =
           let p = path_len in let a = is.0 in let q = wait_len in let b = is.1 in
           let e : length t.path ≡ k = omega (arith, p, a) in
           subst (IsFrame lists (entered t x) limit) (sym (frame_new k e)) (made_frame limit (omega (arith, q, b)))
 
       entered_rising : (k l : ℕ) → k < l → l < length (t.path ++ made ∷ []) → (frame_at (entered t x) k).position < (frame_at (entered t x) l).position
-      entered_rising k l a b = by (cases_lt l (length t.path))
-        where
-          by : (l < length t.path) ⊎ (length t.path ≤ l) → (frame_at (entered t x) k).position < (frame_at (entered t x) l).position
-          by (inl c) = rw (frame_old k (omega arith), frame_old l c) (h.rising k l a c)
-          by (inr c) =
-              let p = path_len in let e : length t.path ≡ l = omega (arith, p) in
-              rw (frame_old k (omega (arith, e)), frame_new l e) (position_below k (omega (arith, e)))
+      entered_rising k l a b = elim (cases_lt l (length t.path)) [
+        | inl c ↦ rw (frame_old k (omega arith), frame_old l c) (h.rising k l a c)
+        | inr c ↦
+            let p = path_len in let e : length t.path ≡ l = omega (arith, p) in
+            rw (frame_old k (omega (arith, e)), frame_new l e) (position_below k (omega (arith, e)))
+      ]
 
       entered_first : 0 < length (t.path ++ made ∷ []) → (frame_at (entered t x) 0).position ≡ 0
-      entered_first b = by (cases_lt 0 (length t.path))
-        where
-          by : (0 < length t.path) ⊎ (length t.path ≤ 0) → (frame_at (entered t x) 0).position ≡ 0
-          by (inl c) = ap (λ f. f.position) (frame_old 0 c) ∙ h.first c
-          by (inr c) = let e : length t.path ≡ 0 = omega arith in ap (λ f. f.position) (frame_new 0 e) ∙ h.none e
+      entered_first b = elim (cases_lt 0 (length t.path)) [
+        | inl c ↦ ap (λ f. f.position) (frame_old 0 c) ∙ h.first c
+        | inr c ↦ let e : length t.path ≡ 0 = omega arith in ap (λ f. f.position) (frame_new 0 e) ∙ h.none e
+      ]
 
       pub entered-is : IsTrail lists (entered t x)
       entered-is = record {

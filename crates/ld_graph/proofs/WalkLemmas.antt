@@ -62,6 +62,14 @@ module _ {A : Type 0} (step : A → A → Type 0) where
   pub HasWalk-Far : (n : ℕ) (a b : A) → Far step n a b → HasWalk step a b
   HasWalk-Far n a b h = let r = Far-IsWalk step n a b h in (r.0, r.1.0)
 
+  pub HasWalk-one : (a b : A) → step a b → HasWalk step a b
+  HasWalk-one a b h = HasWalk-Far zero a b h
+
+  -- one step more at a walk's end
+  pub HasWalk-more : (a x b : A) → HasWalk step a x → step x b → HasWalk step a b
+  HasWalk-more a x b w h =
+      let f = IsWalk-Far step a x w.0 w.1 in HasWalk-Far (suc f.0) a b (Far-snoc f.0 a x b f.1.1 h)
+
 -- walks of the same steps
 module _ {A : Type 0} (s t : A → A → Type 0) (to : (a b : A) → s a b → t a b) where
   LeadsTo-same : (a b : A) (w : List A) → LeadsTo s a b w → LeadsTo t a b w

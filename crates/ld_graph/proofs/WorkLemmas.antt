@@ -10,9 +10,8 @@ use Rattle.ld_graph.specs.declared.trail.Stage.{Stage}
 use Rattle.ld_graph.specs.declared.trail.Stage.TheVariants.{Fresh, Open, Closed}
 use Rattle.ld_graph.specs.Lists.{IsNear}
 use Rattle.ld_graph.specs.Components.{AreTogether, AreComponents}
-use Rattle.ld_graph.specs.Inner.Repairs.{IsOrReaches}
 use Rattle.ld_graph.specs.Inner.Trails.{PlainTrail, stage_at, IsTrail, IsToldFrom, rest, is_fresh}
-use Rattle.ld_graph.proofs.TrailLemmas.{reaches-on}
+use Rattle.ld_graph.proofs.TrailLemmas.{are_together, reaches-on, same_class}
 use Rattle.ld_graph.proofs.WalkLemmas.{IsWalk-same}
 
 count_set : (stages : List Stage) (x : ℕ) (s : Stage) → x < length stages
@@ -57,32 +56,24 @@ ended_known lists t h e x met = by (stage_at t x) refl
     by (Open i) f = absurd (let w = h.stages.back x i f in let a = w.0 in let b = h.none e in omega (arith, a, b))
     by (Closed r) f = (r, f)
 
-closed_same : (r s : ℕ) → Closed r ≡ Closed s → r ≡ s
-closed_same r s e = cc
-
 -- where each class has a component, they are the components
 pub known-components : (lists : List (List ℕ)) (t : PlainTrail) (n : ℕ) (components : List ℕ) → IsTrail lists t
     → ((x : ℕ) → x < n → stage_at t x ≡ Closed (get_or components x 0)) → length components ≡ n
     → AreComponents (IsNear lists) n components
 known-components lists t n components h known len = record { len = len; each = λ a b l m. (λ e. to a b l m e, λ e. back a b l m e) }
   where
-    both : (a b : ℕ) → IsOrReaches (IsNear lists) a b → IsOrReaches (IsNear lists) b a → AreTogether (IsNear lists) a b
-    both a b (inl e) g = inl e
-    both a b (inr w) (inl e) = inl (sym e)
-    both a b (inr w) (inr v) = inr (w, v)
-
     to : (a b : ℕ) → a < n → b < n → get_or components a 0 ≡ get_or components b 0 → AreTogether (IsNear lists) a b
     to a b l m e =
         let p : stage_at t a ≡ Closed (get_or components b 0) = known a l ∙ ap (λ z. Closed z) e in
         let r = h.closed.sound a (get_or components b 0) p in
         let s = h.closed.sound b (get_or components b 0) (known b m) in
-        both a b (reaches-on (IsNear lists) a (get_or components b 0) b r.0 s.1) (reaches-on (IsNear lists) b (get_or components b 0) a s.0 r.1)
+        are_together (IsNear lists) a b (reaches-on (IsNear lists) a (get_or components b 0) b r.0 s.1) (reaches-on (IsNear lists) b (get_or components b 0) a s.0 r.1)
 
     back : (a b : ℕ) → a < n → b < n → AreTogether (IsNear lists) a b → get_or components a 0 ≡ get_or components b 0
     back a b l m (inl e) = ap (λ z. get_or components z 0) e
     back a b l m (inr w) =
         let r = h.closed.whole a b (get_or components a 0) (known a l) (inr w.0) (inr w.1) in
-        closed_same (get_or components a 0) (get_or components b 0) (sym r ∙ known b m)
+        same_class (get_or components a 0) (get_or components b 0) (sym r ∙ known b m)
 
 -- the last class that waits is taken away
 pub popped : (all old new : List ℕ) (x n : ℕ) → length new ≡ n → n < length all → old ≡ take (n + 1) all
@@ -110,11 +101,10 @@ module _ (waiting : List ℕ) (stages : List Stage) (waits : (i : ℕ) → i < l
   tell_here = h.rest x other_wait ∙ ap (λ z. get_or stages z Fresh) is ∙ waits n within
 
   pub tell_within : x < length new
-  tell_within = by (cases_lt x (length new))
-    where
-      by : (x < length new) ⊎ (length new ≤ x) → x < length new
-      by (inl l) = l
-      by (inr l) = let e : get_or new x Fresh ≡ Fresh = get_or_past new x Fresh l in let f = tell_here in cc
+  tell_within = elim (cases_lt x (length new)) [
+    | inl l ↦ l
+    | inr l ↦ let e : get_or new x Fresh ≡ Fresh = get_or_past new x Fresh l in let f = tell_here in cc
+  ]
 
   pub tell_count : count_by is_fresh (set new x (Closed class)) ≡ count_by is_fresh new
   tell_count = count_told new x n class tell_within tell_here

@@ -1,6 +1,5 @@
 -- Ranks of classes: class c is node c + 1.
-use Rattle.std.proofs.Common.{◌≡◌, ◌≢◌, ◌⊎◌, ◌↔◌, inl, inr, ℕ, zero, suc, ◌+◌, ◌-◌, ◌<◌, ◌≤◌, List, [], ◌∷◌, ◌++◌, get_or, get_or-set_other, get_or-set_same, set, length, ltb, map, drop, take, Bool, true, false, Contains, arith, refl, sym, ap, subst, ◌∙◌}
-use Rattle.std.specs.List.{range_with_len}
+use Rattle.std.proofs.Common.{◌≡◌, ◌≢◌, ◌⊎◌, ◌↔◌, inl, inr, ℕ, zero, suc, ◌+◌, ◌-◌, ◌<◌, ◌≤◌, List, [], ◌∷◌, ◌++◌, get_or, get_or-set_other, get_or-set_same, set, length, ltb, map, drop, true, false, Contains, arith, refl, sym, ap, subst, ◌∙◌}
 use Rattle.std.specs.List.Sorted.{IsPermutation}
 use Rattle.std.proofs.lemmas.Bool.{cases_eq, cases_lt, le-ltb, lt-ltb}
 use Rattle.std.proofs.lemmas.Grind.{get_or_after_one, same_number_lists}
@@ -18,7 +17,7 @@ use Rattle.ld_order.proofs.PlaceOfLemmas.{before_less, behind_before}
 use Rattle.ld_order.specs.declared.order.Order.TheInside.{Inside}
 use Rattle.ld_order.specs.Inner.Kept.{IsKept, ranks_of}
 use Rattle.ld_order.specs.Inner.Labels.{node_of}
-use Rattle.ld_order.specs.Inner.Rings.{IsNode, IsOneOf, IsRing, IsSameOrder, IsShifted, count, rank}
+use Rattle.ld_order.specs.Inner.Rings.{IsOneOf, IsRing, IsSameOrder, IsShifted, count, rank}
 use Rattle.ld_order.proofs.RankLemmas.{count-all, count-same, rank-below, rank-head, rank-less, rank-once, rank-same, rank-step, rank-tells}
 use Rattle.ld_order.proofs.ShiftLemmas.{one_of, outside}
 
@@ -58,15 +57,9 @@ module _ (labels next prev : List ℕ) (r : IsRing labels next prev) where
 
   -- a node with one before it isn't the head
   pub past_head : (c place : ℕ) → rank (length labels) (label_at labels) c ≡ place + 1 → 1 ≤ c
-  past_head c place h = by (cases_lt 0 c)
-    where
-      by : (0 < c) ⊎ (c ≤ 0) → 1 ≤ c
-      by (inl a) = omega (arith, a)
-      by (inr a) =
-          let z : c ≡ 0 = omega (arith, a) in
-          let e = ap (rank (length labels) (label_at labels)) z in
-          let q = rank-head (length labels) (label_at labels) (label_at next) (label_at prev) r.links in
-          absurd (omega (arith, h, e, q))
+  past_head zero place h =
+      let q = rank-head (length labels) (label_at labels) (label_at next) (label_at prev) r.links in absurd (omega (arith, h, q))
+  past_head (suc c) place h = omega arith
 
   -- one more rank is written
   pub filled : (ranks : List ℕ) (node place : ℕ) → node < length labels → 1 ≤ node
@@ -75,22 +68,20 @@ module _ (labels next prev : List ℕ) (r : IsRing labels next prev) where
       → (rank (length labels) (label_at labels) (c + 1) < place + 1
       → get_or ranks c 0 + 1 ≡ rank (length labels) (label_at labels) (c + 1))
       → get_or (set ranks (node - 1) place) c 0 + 1 ≡ rank (length labels) (label_at labels) (c + 1)
-  filled ranks node place l some here in_ranks c h k done = by (cases_eq c (node - 1))
-    where
-      by : (c ≡ node - 1) ⊎ (c ≢ node - 1)
-          → get_or (set ranks (node - 1) place) c 0 + 1 ≡ rank (length labels) (label_at labels) (c + 1)
-      by (inl e) =
-          let is : c + 1 ≡ node = omega (arith, e, some) in
-          let v = ap (rank (length labels) (label_at labels)) is in
-          let w = ap (λ z. get_or (set ranks (node - 1) place) z 0) e in
-          let u = get_or-set_same ranks (node - 1) place 0 in_ranks in
-          omega (arith, v, w, u, here)
-      by (inr e) =
-          let ne : rank (length labels) (label_at labels) (c + 1) ≢ place + 1 =
-          λ w. (let q = rank-once (length labels) (label_at labels) (label_at next) (label_at prev) r.links (c + 1) node h l (w ∙ sym here) in
-          omega (arith, q, e)) in
-          let u = get_or-set_other ranks (node - 1) c place 0 e in
-          let d = done (omega (arith, k, ne)) in omega (arith, u, d)
+  filled ranks node place l some here in_ranks c h k done = elim (cases_eq c (node - 1)) [
+    | inl e ↦
+        let is : c + 1 ≡ node = omega (arith, e, some) in
+        let v = ap (rank (length labels) (label_at labels)) is in
+        let w = ap (λ z. get_or (set ranks (node - 1) place) z 0) e in
+        let u = get_or-set_same ranks (node - 1) place 0 in_ranks in
+        omega (arith, v, w, u, here)
+    | inr e ↦
+        let ne : rank (length labels) (label_at labels) (c + 1) ≢ place + 1 =
+        λ w. (let q = rank-once (length labels) (label_at labels) (label_at next) (label_at prev) r.links (c + 1) node h l (w ∙ sym here) in
+        omega (arith, q, e)) in
+        let u = get_or-set_other ranks (node - 1) c place 0 e in
+        let d = done (omega (arith, k, ne)) in omega (arith, u, d)
+  ]
 
   -- the node of each rank
   node_at : (r : ℕ) → r < length labels → (c : ℕ) × ((c < length labels) × (rank (length labels) (label_at labels) c ≡ r))
@@ -267,7 +258,7 @@ module _ (classes nodes : List ℕ) (p : IsPermutation (map node_of classes) nod
           let t = s.below (c + 1) (d + 1) (to_node c h) (in_labels d k) (λ a. y (from_class d a)) in
           let v = new d c (in_labels d k) (in_labels c (within c h)) in
           let w = place d (in_labels d k) in
-          (λ a. not_up d w (t.0 (v.0 a)), λ a. v.1 (t.1 (up_not d w a)));
+          (λ a. let m = t.0 (v.0 a) in grind (arith, w.1, m), λ a. v.1 (t.1 (grind (arith, w.0, a))));
       above = λ c d h k y.
           let t = s.above (c + 1) (d + 1) (to_node c h) (in_labels d k) (λ a. y (from_class d a)) in
           let v = new c d (in_labels c (within c h)) (in_labels d k) in
@@ -294,27 +285,6 @@ module _ (classes nodes : List ℕ) (p : IsPermutation (map node_of classes) nod
             → (get_or (ranks_of labels2) c 0 < get_or (ranks_of labels2) d 0)
             ↔ (label_at labels2 (c + 1) < label_at labels2 (d + 1))
         new c d h k = ranks_tell labels2 next2 prev2 r2 c d (omega (arith, h, len)) (omega (arith, k, len))
-
-        Here : ℕ → Type 0
-        Here d = (label_at labels at < label_at labels (d + 1)) ↔ (limit ≤ get_or (ranks_of labels) d 0)
-
-        not_up : (d : ℕ) → (label_at labels at < label_at labels (d + 1)) ↔ (limit ≤ get_or (ranks_of labels) d 0)
-            → label_at labels (d + 1) ≤ label_at labels at → get_or (ranks_of labels) d 0 < limit
-        not_up d w a = by (cases_lt (get_or (ranks_of labels) d 0) limit)
-          where
-            by : (get_or (ranks_of labels) d 0 < limit) ⊎ (limit ≤ get_or (ranks_of labels) d 0)
-                → get_or (ranks_of labels) d 0 < limit
-            by (inl b) = b
-            by (inr b) = let m = w.1 b in absurd (omega (arith, m, a))
-
-        up_not : (d : ℕ) → (label_at labels at < label_at labels (d + 1)) ↔ (limit ≤ get_or (ranks_of labels) d 0)
-            → get_or (ranks_of labels) d 0 < limit → label_at labels (d + 1) ≤ label_at labels at
-        up_not d w a = by (cases_lt (label_at labels at) (label_at labels (d + 1)))
-          where
-            by : (label_at labels at < label_at labels (d + 1)) ⊎ (label_at labels (d + 1) ≤ label_at labels at)
-                → label_at labels (d + 1) ≤ label_at labels at
-            by (inl b) = let m = w.0 b in absurd (omega (arith, m, a))
-            by (inr b) = b
 
         stands : (d : ℕ) → d < length (ranks_of labels)
             → ((c : ℕ) → Contains classes c → (get_or (ranks_of labels) c 0 < get_or (ranks_of labels) d 0)
@@ -367,27 +337,9 @@ module _ (labels next prev : List ℕ) (r : IsRing labels next prev) (b : ℕ) (
       let t = ranks_tell labels next prev r c b h l in
       let p = behind_before (length labels) (label_at labels) (label_at next) (label_at prev) r.links (b + 1) l (omega arith) (c + 1) h in
       let e = ap (label_at labels) is in (
-        λ u. up t (p.0 (omega (arith, u, e))),
-        λ u. let m = p.1 (down t u) in omega (arith, m, e),
+        λ u. let m = p.0 (omega (arith, u, e)) in grind (arith, t.0, m),
+        λ u. let m = p.1 (grind (arith, t.1, u)) in omega (arith, m, e),
       )
-    where
-      up : (get_or (ranks_of labels) c 0 < get_or (ranks_of labels) b 0) ↔ (label_at labels (c + 1) < label_at labels (b + 1))
-          → label_at labels (b + 1) ≤ label_at labels (c + 1) → get_or (ranks_of labels) b 0 ≤ get_or (ranks_of labels) c 0
-      up t u = by (cases_lt (get_or (ranks_of labels) c 0) (get_or (ranks_of labels) b 0))
-        where
-          by : (get_or (ranks_of labels) c 0 < get_or (ranks_of labels) b 0) ⊎ (get_or (ranks_of labels) b 0 ≤ get_or (ranks_of labels) c 0)
-              → get_or (ranks_of labels) b 0 ≤ get_or (ranks_of labels) c 0
-          by (inl a) = let m = t.0 a in absurd (omega (arith, m, u))
-          by (inr a) = a
-
-      down : (get_or (ranks_of labels) c 0 < get_or (ranks_of labels) b 0) ↔ (label_at labels (c + 1) < label_at labels (b + 1))
-          → get_or (ranks_of labels) b 0 ≤ get_or (ranks_of labels) c 0 → label_at labels (b + 1) ≤ label_at labels (c + 1)
-      down t u = by (cases_lt (label_at labels (c + 1)) (label_at labels (b + 1)))
-        where
-          by : (label_at labels (c + 1) < label_at labels (b + 1)) ⊎ (label_at labels (b + 1) ≤ label_at labels (c + 1))
-              → label_at labels (b + 1) ≤ label_at labels (c + 1)
-          by (inl a) = let m = t.1 a in absurd (omega (arith, m, u))
-          by (inr a) = a
 
 -- the place directly behind a class
 module _ (labels next prev : List ℕ) (r : IsRing labels next prev) (a : ℕ) (l : a + 1 < length labels) where
@@ -413,11 +365,7 @@ pub class_below : (o : Inside) (c : ℕ) → c < length (ranks_of o.labels.items
 class_below o c h = let n = ranks_len o.labels.items in omega (arith, h, n)
 
 pub ring_some : (o : Inside) → IsKept o → length o.labels.items ≢ 0 → IsRing o.labels.items o.next.items o.prev.items
-ring_some o k h = k.ring (by (cases_eq o.room 0))
-  where
-    by : (o.room ≡ 0) ⊎ (o.room ≢ 0) → 0 < o.room
-    by (inl e) = absurd (h (k.none e))
-    by (inr e) = omega (arith, e)
+ring_some o k h = k.ring (grind (arith, k.none, h))
 
 pub ring_of : (o : Inside) → IsKept o → (c : ℕ) → c < length (ranks_of o.labels.items)
     → IsRing o.labels.items o.next.items o.prev.items

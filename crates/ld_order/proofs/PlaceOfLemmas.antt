@@ -1,7 +1,5 @@
 -- The node before another one, and the last one.
-use Rattle.std.proofs.Common.{◌≡◌, ◌≢◌, ◌↔◌, ℕ, ◌<◌, ◌≤◌, arith, sym, ap, ◌∙◌}
-use Rattle.std.proofs.lemmas.Bool.{cases_lt}
-use Rattle.std.proofs.Common.{◌⊎◌, inl, inr}
+use Rattle.std.proofs.Common.{◌≡◌, ◌↔◌, ℕ, ◌<◌, ◌≤◌, arith, sym, ap, ◌∙◌}
 use Rattle.ld_order.specs.Inner.Rings.{AreLinked, IsNode}
 
 module _ (n : ℕ) (label next prev : ℕ → ℕ) (r : AreLinked n label next prev n) where
@@ -28,8 +26,6 @@ module _ (n : ℕ) (label next prev : ℕ → ℕ) (r : AreLinked n label next p
 
   -- nothing is behind the one before the head
   pub last_most : (x : ℕ) → x < n → label x ≤ label (prev 0)
-  last_most x h = by (cases_lt (label (prev 0)) (label x))
-    where
-      by : (label (prev 0) < label x) ⊎ (label x ≤ label (prev 0)) → label x ≤ label (prev 0)
-      by (inl a) = absurd ((r.none (prev 0) x (r.prev_in 0 (node 0 r.some)) (node x h) a).0 (r.forth 0 (node 0 r.some)))
-      by (inr a) = a
+  last_most x h =
+      let none : ¬ (label (prev 0) < label x) =
+      λ a. (r.none (prev 0) x (r.prev_in 0 (node 0 r.some)) (node x h) a).0 (r.forth 0 (node 0 r.some)) in omega (arith, none)

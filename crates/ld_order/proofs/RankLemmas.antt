@@ -1,67 +1,48 @@
 -- Ranks are counted.
-use Rattle.std.proofs.Common.{◌≡◌, ◌≢◌, ◌⊎◌, ◌↔◌, inl, inr, ℕ, zero, suc, ◌+◌, ◌*◌, ◌<◌, ◌≤◌, Bool, true, false, true≢false, arith, refl, sym, ap, ◌∙◌, ltb}
-use Rattle.std.proofs.lemmas.Bool.{cases_eq, cases_lt, cases_order, ltb-true, lt-ltb, le-ltb}
+use Rattle.std.proofs.Common.{◌≡◌, ◌≢◌, ◌⊎◌, ◌↔◌, inl, inr, ℕ, zero, suc, ◌+◌, ◌*◌, ◌<◌, ◌≤◌, Bool, if◌then◌else◌, true, false, true≢false, arith, refl, sym, ap, ◌∙◌, ltb}
+use Rattle.std.proofs.lemmas.Bool.{cases_eq, cases_lt, ltb-true, lt-ltb, le-ltb}
 use Rattle.std.proofs.Math.Nat.{add-mul, mul-le-mul_right}
 use Rattle.ld_order.specs.Inner.Rings.{IsNode, AreLinked, IsSameOrder, count, rank}
+
+-- one more test keeps two counts in their order
+count_step : (a b : Bool) (x y : ℕ) → x ≤ y → (a ≡ true → b ≡ true) → x + (if a then 1 else 0) ≤ y + (if b then 1 else 0)
+count_step true true x y g i = omega (arith, g)
+count_step true false x y g i = absurd (true≢false (sym (i refl)))
+count_step false b x y g i = omega (arith, g)
 
 module _ (p q : ℕ → Bool) where
   pub count-most : (n : ℕ) → ((k : ℕ) → k < n → p k ≡ true → q k ≡ true) → count p n ≤ count q n
   count-most zero h = omega arith
   count-most (suc n) h =
-      by (count-most n (λ k l. h k (omega (arith, l)))) (h n (omega arith)) (p n) refl (q n) refl
-    where
-      by : count p n ≤ count q n → (p n ≡ true → q n ≡ true) → (a : Bool) → p n ≡ a → (b : Bool) → q n ≡ b
-          → count p (suc n) ≤ count q (suc n)
-      by g i true e true f = rw (e, f) (omega (arith, g))
-      by g i true e false f = absurd (true≢false (sym (i e) ∙ f))
-      by g i false e true f = rw (e, f) (omega (arith, g))
-      by g i false e false f = rw (e, f) (omega (arith, g))
+      count_step (p n) (q n) (count p n) (count q n) (count-most n (λ k l. h k (omega (arith, l)))) (h n (omega arith))
 
   pub count-less : (n : ℕ) → ((k : ℕ) → k < n → p k ≡ true → q k ≡ true) → (i : ℕ) → i < n → p i ≡ false
       → q i ≡ true → count p n < count q n
   count-less zero h i l e f = absurd (omega (arith, l))
-  count-less (suc n) h i l e f =
-      by (λ a. count-less n (λ k b. h k (omega (arith, b))) i a e f)
-      (count-most n (λ k b. h k (omega (arith, b)))) (h n (omega arith)) (cases_eq i n) (p n) refl (q n) refl
-    where
-      by : (i < n → count p n < count q n) → count p n ≤ count q n → (p n ≡ true → q n ≡ true)
-          → (i ≡ n) ⊎ (i ≢ n) → (a : Bool) → p n ≡ a → (b : Bool) → q n ≡ b → count p (suc n) < count q (suc n)
-      by g m t (inl z) true u b v = absurd (true≢false (sym u ∙ ap p (sym z) ∙ e))
-      by g m t (inl z) false u true v = rw (u, v) (omega (arith, m))
-      by g m t (inl z) false u false v = absurd (true≢false (sym f ∙ ap q z ∙ v))
-      by g m t (inr z) true u true v = let k = g (omega (arith, l, z)) in rw (u, v) (omega (arith, k))
-      by g m t (inr z) true u false v = absurd (true≢false (sym (t u) ∙ v))
-      by g m t (inr z) false u true v = let k = g (omega (arith, l, z)) in rw (u, v) (omega (arith, k))
-      by g m t (inr z) false u false v = let k = g (omega (arith, l, z)) in rw (u, v) (omega (arith, k))
+  count-less (suc n) h i l e f = elim (cases_eq i n) [
+    | inl z ↦
+        let m = count-most n (λ k b. h k (omega (arith, b))) in rw (ap p (sym z) ∙ e, ap q (sym z) ∙ f) (omega (arith, m))
+    | inr z ↦
+        let g = count-less n (λ k b. h k (omega (arith, b))) i (omega (arith, l, z)) e f in
+        let k = count_step (p n) (q n) (count p n + 1) (count q n) (omega (arith, g)) (h n (omega arith)) in
+        omega (arith, k)
+  ]
 
   pub count-same : (n : ℕ) → ((k : ℕ) → k < n → p k ≡ q k) → count p n ≡ count q n
   count-same zero h = refl
-  count-same (suc n) h =
-      by (count-same n (λ k l. h k (omega (arith, l)))) (q n) refl
-    where
-      by : count p n ≡ count q n → (b : Bool) → q n ≡ b → count p (suc n) ≡ count q (suc n)
-      by g true f = let e : p n ≡ true = h n (omega arith) ∙ f in rw (e, f) (omega (arith, g))
-      by g false f = let e : p n ≡ false = h n (omega arith) ∙ f in rw (e, f) (omega (arith, g))
+  count-same (suc n) h = rw (h n (omega arith), count-same n (λ k l. h k (omega (arith, l)))) refl
 
   pub count-one : (n : ℕ) → (i : ℕ) → i < n → p i ≡ false → q i ≡ true
       → ((k : ℕ) → k < n → k ≢ i → p k ≡ q k) → count q n ≡ count p n + 1
   count-one zero i l e f h = absurd (omega (arith, l))
-  count-one (suc n) i l e f h =
-      by (λ a. count-one n i a e f (λ k b. h k (omega (arith, b)))) (cases_eq i n) (q n) refl
-    where
-      by : (i < n → count q n ≡ count p n + 1) → (i ≡ n) ⊎ (i ≢ n) → (b : Bool) → q n ≡ b
-          → count q (suc n) ≡ count p (suc n) + 1
-      by g (inl z) true v =
-          let u : p n ≡ false = ap p (sym z) ∙ e in
-          let m = count-same n (λ k b. h k (omega (arith, b)) (λ w. omega (arith, b, z, w))) in
-          rw (u, v) (omega (arith, m))
-      by g (inl z) false v = absurd (true≢false (sym f ∙ ap q z ∙ v))
-      by g (inr z) true v =
-          let k = g (omega (arith, l, z)) in let u : p n ≡ true = h n (omega arith) (λ w. z (sym w)) ∙ v in
-          rw (u, v) (omega (arith, k))
-      by g (inr z) false v =
-          let k = g (omega (arith, l, z)) in let u : p n ≡ false = h n (omega arith) (λ w. z (sym w)) ∙ v in
-          rw (u, v) (omega (arith, k))
+  count-one (suc n) i l e f h = elim (cases_eq i n) [
+    | inl z ↦
+        let m = count-same n (λ k b. h k (omega (arith, b)) (λ w. omega (arith, b, z, w))) in
+        rw (ap p (sym z) ∙ e, ap q (sym z) ∙ f) (omega (arith, m))
+    | inr z ↦
+        let k = count-one n i (omega (arith, l, z)) e f (λ k b. h k (omega (arith, b))) in
+        rw (h n (omega arith) (λ w. z (sym w))) (omega (arith, k))
+  ]
 
 pub count-all : (n : ℕ) → count (λ _. true) n ≡ n
 count-all zero = refl
@@ -78,11 +59,7 @@ module _ (n : ℕ) (label : ℕ → ℕ) where
       c h (le-ltb (label c) (label c) (omega arith)) (lt-ltb (label c) (label d) l)
 
   pub rank-tells : (c d : ℕ) → rank n label c < rank n label d → label c < label d
-  rank-tells c d l = by (cases_lt (label c) (label d))
-    where
-      by : (label c < label d) ⊎ (label d ≤ label c) → label c < label d
-      by (inl a) = a
-      by (inr a) = let k = rank-most d c a in absurd (omega (arith, k, l))
+  rank-tells c d l = grind (arith, rank-most d c)
 
   pub rank-below : (c : ℕ) → c < n → rank n label c < n
   rank-below c h =
@@ -95,12 +72,7 @@ module _ (n : ℕ) (label : ℕ → ℕ) where
     in_ring c h = (h, λ e. omega (arith, h, e))
 
     pub rank-once : (c d : ℕ) → c < n → d < n → rank n label c ≡ rank n label d → c ≡ d
-    rank-once c d h k e = r.once c d (in_ring c h) (in_ring d k) (by (cases_order (label c) (label d)))
-      where
-        by : (label c ≡ label d) ⊎ ((label c < label d) ⊎ (label d < label c)) → label c ≡ label d
-        by (inl a) = a
-        by (inr (inl a)) = let m = rank-less c d h a in absurd (omega (arith, m, e))
-        by (inr (inr a)) = let m = rank-less d c k a in absurd (omega (arith, m, e))
+    rank-once c d h k e = r.once c d (in_ring c h) (in_ring d k) (grind (arith, rank-less c d h, rank-less d c k))
 
     pub rank-next : (c : ℕ) → c < n → next c ≢ 0 → rank n label (next c) ≡ rank n label c + 1
     rank-next c h z =
@@ -151,11 +123,7 @@ rank-same n old new c h = count-same (λ k. ltb (new k) (new c)) (λ k. ltb (old
     by : (k : ℕ) → k < n → (old k < old c) ⊎ (old c ≤ old k) → ltb (new k) (new c) ≡ ltb (old k) (old c)
     by k l (inl a) = lt-ltb (new k) (new c) ((h k l).1 a) ∙ sym (lt-ltb (old k) (old c) a)
     by k l (inr a) =
-        le-ltb (new k) (new c) (more k l a (cases_lt (new k) (new c))) ∙ sym (le-ltb (old k) (old c) a)
-      where
-        more : (k : ℕ) → k < n → old c ≤ old k → (new k < new c) ⊎ (new c ≤ new k) → new c ≤ new k
-        more k l a (inl b) = let m = (h k l).0 b in absurd (omega (arith, m, a))
-        more k l a (inr b) = b
+        le-ltb (new k) (new c) (grind (arith, (h k l).0, a)) ∙ sym (le-ltb (old k) (old c) a)
 
 -- other labels in the same order
 pub relabelled : (n : ℕ) (label next prev label_new : ℕ → ℕ) → AreLinked n label next prev n
@@ -164,44 +132,27 @@ relabelled n label next prev label_new r o z = record {
   some = r.some;
   head = z;
   kept = r.kept;
-  once = λ c d h k e. r.once c d h k (once c d h.0 k.0 e (cases_order (label c) (label d)));
+  once = λ c d h k e. r.once c d h k (grind (arith, (o c d h.0 k.0).1, (o d c k.0 h.0).1, e));
   next_in = r.next_in;
   prev_in = r.prev_in;
   up = λ c h w. (o c (next c) h.0 (r.next_in c h).0).1 (r.up c h w);
   none = λ c d h k l.
       let a = r.none c d h k ((o c d h.0 k.0).0 l) in
-      (a.0, least d (next c) k.0 (r.next_in c h).0 a.1 (cases_lt (label_new d) (label_new (next c))));
+      (a.0, grind (arith, (o d (next c) k.0 (r.next_in c h).0).0, a.1));
   back = r.back;
   forth = r.forth;
 }
-  where
-    once : (c d : ℕ) → c < n → d < n → label_new c ≡ label_new d
-        → (label c ≡ label d) ⊎ ((label c < label d) ⊎ (label d < label c)) → label c ≡ label d
-    once c d h k e (inl a) = a
-    once c d h k e (inr (inl a)) = let m = (o c d h k).1 a in absurd (omega (arith, m, e))
-    once c d h k e (inr (inr a)) = let m = (o d c k h).1 a in absurd (omega (arith, m, e))
-
-    least : (d e : ℕ) → d < n → e < n → label e ≤ label d → (label_new d < label_new e) ⊎ (label_new e ≤ label_new d)
-        → label_new e ≤ label_new d
-    least d e h k a (inl b) = let m = (o d e h k).0 b in absurd (omega (arith, m, a))
-    least d e h k a (inr b) = b
 
 -- labels that are the ranks times a step
 pub stepped : (n : ℕ) (label label_new : ℕ → ℕ) (step : ℕ) → 0 < step
     → ((c : ℕ) → c < n → label_new c ≡ rank n label c * step) → IsSameOrder n label label_new
 stepped n label label_new step s h c d k l = (
-  λ a. less a (cases_lt (rank n label c) (rank n label d)),
+  λ a. let e = h c k in let f = h d l in
+      let m : rank n label d ≤ rank n label c → rank n label d * step ≤ rank n label c * step = mul-le-mul_right step in
+      rank-tells n label c d (grind (arith, e, f, m, a)),
   λ a. let b = rank-less n label c d k a in
       let e = h c k in let f = h d l in
       let m : (rank n label c + 1) * step ≤ rank n label d * step = mul-le-mul_right step (omega (arith, b)) in
       let t = add-mul (rank n label c) 1 step in
       omega (arith, e, f, m, t, s),
 )
-  where
-    less : label_new c < label_new d → (rank n label c < rank n label d) ⊎ (rank n label d ≤ rank n label c)
-        → label c < label d
-    less a (inl b) = rank-tells n label c d b
-    less a (inr b) =
-        let e = h c k in let f = h d l in
-        let m : rank n label d * step ≤ rank n label c * step = mul-le-mul_right step b in
-        absurd (omega (arith, e, f, m, a))

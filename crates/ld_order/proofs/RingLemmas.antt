@@ -31,45 +31,35 @@ module _ (n : ℕ) (label next prev : ℕ → ℕ) (r : AreLinked n label next p
     head = r.head;
     kept = λ e. omega (arith, e, s);
     once = λ c d h k e. r.once c d (node c h.0) (node d k.0) e;
-    next_in = λ c h. next_in c h (cases_eq c (prev x));
-    prev_in = λ c h. prev_in c h (cases_eq c (next x));
-    up = λ c h. up c h (cases_eq c (prev x));
-    none = λ c d h k. none c d h k (cases_eq c (prev x));
-    back = λ c h. back c h (cases_eq c (prev x));
-    forth = λ c h. forth c h (cases_eq c (next x));
-  }
-    where
-      next_in : (c : ℕ) → IsNode n x c → (c ≡ prev x) ⊎ (c ≢ prev x) → IsNode n x (next_new c)
-      next_in c h (inl e) =
+    next_in = λ c h. elim (cases_eq c (prev x)) [
+      | inl e ↦
           let v : next_new c ≡ next x = ap next_new e ∙ n1 in
           subst (IsNode n x) (sym v) ((r.next_in x (node x l)).0, next_other)
-      next_in c h (inr e) =
+      | inr e ↦
           subst (IsNode n x) (sym (n2 c e)) ((r.next_in c (node c h.0)).0, λ a. e (is_prev c h.0 a))
-
-      prev_in : (c : ℕ) → IsNode n x c → (c ≡ next x) ⊎ (c ≢ next x) → IsNode n x (prev_new c)
-      prev_in c h (inl e) =
+    ];
+    prev_in = λ c h. elim (cases_eq c (next x)) [
+      | inl e ↦
           let v : prev_new c ≡ prev x = ap prev_new e ∙ p1 in
           subst (IsNode n x) (sym v) ((r.prev_in x (node x l)).0, prev_other)
-      prev_in c h (inr e) =
+      | inr e ↦
           subst (IsNode n x) (sym (p2 c e)) ((r.prev_in c (node c h.0)).0, λ a. e (is_next c h.0 a))
-
-      up : (c : ℕ) → IsNode n x c → (c ≡ prev x) ⊎ (c ≢ prev x) → next_new c ≢ 0
-          → label c < label (next_new c)
-      up c h (inl e) z =
+    ];
+    up = λ c h z. elim (cases_eq c (prev x)) [
+      | inl e ↦
           let v : next_new c ≡ next x = ap next_new e ∙ n1 in
           let a = r.up x (node x l) (λ w. z (v ∙ w)) in
           let f = r.forth x (node x l) in
           let b = r.up (prev x) (r.prev_in x (node x l)) (λ w. omega (arith, s, w, f)) in
           let k = ap label f in let lv = ap label v in let lc = ap label e in
           omega (arith, a, b, k, lv, lc)
-      up c h (inr e) z =
+      | inr e ↦
           let v = n2 c e in
           let a = r.up c (node c h.0) (λ w. z (v ∙ w)) in
           let lv = ap label v in omega (arith, a, lv)
-
-      none : (c d : ℕ) → IsNode n x c → IsNode n x d → (c ≡ prev x) ⊎ (c ≢ prev x) → label c < label d
-          → (next_new c ≢ 0) × (label (next_new c) ≤ label d)
-      none c d h k (inl e) m =
+    ];
+    none = λ c d h k m. elim (cases_eq c (prev x)) [
+      | inl e ↦
           let v : next_new c ≡ next x = ap next_new e ∙ n1 in
           let lc = ap label e in
           let f = r.forth x (node x l) in
@@ -78,22 +68,24 @@ module _ (n : ℕ) (label next prev : ℕ → ℕ) (r : AreLinked n label next p
           let ne : label x ≢ label d = λ w. k.1 (sym (r.once x d (node x l) (node d k.0) w)) in
           let b = r.none x d (node x l) (node d k.0) (omega (arith, a, lf, ne)) in
           subst (λ y. (y ≢ 0) × (label y ≤ label d)) (sym v) b
-      none c d h k (inr e) m =
+      | inr e ↦
           subst (λ y. (y ≢ 0) × (label y ≤ label d)) (sym (n2 c e)) (r.none c d (node c h.0) (node d k.0) m)
-
-      back : (c : ℕ) → IsNode n x c → (c ≡ prev x) ⊎ (c ≢ prev x) → prev_new (next_new c) ≡ c
-      back c h (inl e) =
+    ];
+    back = λ c h. elim (cases_eq c (prev x)) [
+      | inl e ↦
           let v : next_new c ≡ next x = ap next_new e ∙ n1 in ap prev_new v ∙ p1 ∙ sym e
-      back c h (inr e) =
+      | inr e ↦
           let ne : next c ≢ next x = λ w. h.1 (sym (r.back c (node c h.0)) ∙ ap prev w ∙ r.back x (node x l)) in
           ap prev_new (n2 c e) ∙ p2 (next c) ne ∙ r.back c (node c h.0)
-
-      forth : (c : ℕ) → IsNode n x c → (c ≡ next x) ⊎ (c ≢ next x) → next_new (prev_new c) ≡ c
-      forth c h (inl e) =
+    ];
+    forth = λ c h. elim (cases_eq c (next x)) [
+      | inl e ↦
           let v : prev_new c ≡ prev x = ap prev_new e ∙ p1 in ap next_new v ∙ n1 ∙ sym e
-      forth c h (inr e) =
+      | inr e ↦
           let ne : prev c ≢ prev x = λ w. h.1 (sym (r.forth c (node c h.0)) ∙ ap next w ∙ r.forth x (node x l)) in
           ap next_new (p2 c e) ∙ n2 (prev c) ne ∙ r.forth c (node c h.0)
+    ];
+  }
 
 module _ (n : ℕ) (label next prev : ℕ → ℕ) (x : ℕ) (r : AreLinked n label next prev x) (l : x < n)
     (at : ℕ) (here : IsNode n x at) (label_new next_new prev_new : ℕ → ℕ)
@@ -110,11 +102,7 @@ module _ (n : ℕ) (label next prev : ℕ → ℕ) (x : ℕ) (r : AreLinked n la
       let o = others c h.1 in let k = r.none at c here h a in let m = high k.0 in omega (arith, o, k.1, m)
 
   apart : (c : ℕ) → IsNode n x c → label_new c ≢ label_new x
-  apart c h e = by (cases_lt (label at) (label c))
-    where
-      by : (label at < label c) ⊎ (label c ≤ label at) → ⊥
-      by (inl a) = let k = high_all c h a in omega (arith, k, e)
-      by (inr a) = let k = low_all c h a in omega (arith, k, e)
+  apart c h e = grind (arith, high_all c h, low_all c h)
 
   pub linked : AreLinked n label_new next_new prev_new n
   linked = record {
@@ -164,9 +152,6 @@ module _ (n : ℕ) (label next prev : ℕ → ℕ) (x : ℕ) (r : AreLinked n la
           let v = n3 c e f in let lv = ap label_new v in let o = others c f in
           let o2 = others (next c) (r.next_in c (h, f)).1 in
           let k = r.up c (h, f) (λ w. z (v ∙ w)) in omega (arith, lv, o, o2, k)
-
-      Bound : (d y : ℕ) → Type 0
-      Bound d y = (y ≢ 0) × (label_new y ≤ label_new d)
 
       none : (c d : ℕ) → c < n → d < n → (c ≡ at) ⊎ (c ≢ at) → (c ≡ x) ⊎ (c ≢ x) → (d ≡ x) ⊎ (d ≢ x)
           → label_new c < label_new d → (next_new c ≢ 0) × (label_new (next_new c) ≤ label_new d)

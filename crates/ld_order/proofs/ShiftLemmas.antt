@@ -13,11 +13,10 @@ one_of found (suc i) c = by (one_of found i c) (cases_eq (get_or found i 0) c)
         → IsOneOf found (suc i) c ⊎ (¬ IsOneOf found (suc i) c)
     by (inl h) _ = inl (h.0, (let a = h.1.0 in omega (arith, a), h.1.1))
     by (inr n) (inl e) = inl (i, (omega arith, e))
-    by (inr n) (inr e) = inr (λ h. last h (cases_eq h.0 i))
-      where
-        last : (h : IsOneOf found (suc i) c) → (h.0 ≡ i) ⊎ (h.0 ≢ i) → ⊥
-        last h (inl z) = e (sym (ap (λ k. get_or found k 0) z) ∙ h.1.1)
-        last h (inr z) = n (h.0, (let a = h.1.0 in omega (arith, a, z), h.1.1))
+    by (inr n) (inr e) = inr (λ h. elim (cases_eq h.0 i) [
+      | inl z ↦ e (sym (ap (λ k. get_or found k 0) z) ∙ h.1.1)
+      | inr z ↦ n (h.0, (let a = h.1.0 in omega (arith, a, z), h.1.1))
+    ])
 
 module _ (n : ℕ) (old l0 l1 l2 : ℕ → ℕ) (found : List ℕ) (i at0 at : ℕ)
     (s : IsShifted n old l0 (IsOneOf found i) at0) (o : IsSameOrder n l0 l1)
@@ -26,9 +25,6 @@ module _ (n : ℕ) (old l0 l1 l2 : ℕ → ℕ) (found : List ℕ) (i at0 at : �
     (below : (k : ℕ) → k < i + 1 → get_or found k 0 < n)
     (begin : i ≡ 0 → at ≡ at0) (last : 0 < i → at ≡ get_or found (i - 1) 0)
     (at_below : at0 < n) (at_free : (k : ℕ) → k < i + 1 → get_or found k 0 ≢ at0) where
-  x : ℕ
-  x = get_or found i 0
-
   inside : (c : ℕ) → IsOneOf found i c → c < n
   inside c h = subst (λ y. y < n) h.1.1 (below h.0 (let a = h.1.0 in omega (arith, a)))
 
@@ -45,22 +41,20 @@ module _ (n : ℕ) (old l0 l1 l2 : ℕ → ℕ) (found : List ℕ) (i at0 at : �
   newest = (i, (omega arith, refl))
 
   which : (c : ℕ) → IsOneOf found (i + 1) c → (IsOneOf found i c) ⊎ (c ≡ get_or found i 0)
-  which c h = by (cases_eq h.0 i)
-    where
-      by : (h.0 ≡ i) ⊎ (h.0 ≢ i) → (IsOneOf found i c) ⊎ (c ≡ get_or found i 0)
-      by (inl e) = inr (sym h.1.1 ∙ ap (λ k. get_or found k 0) e)
-      by (inr e) = inl (h.0, (let a = h.1.0 in omega (arith, a, e), h.1.1))
+  which c h = elim (cases_eq h.0 i) [
+    | inl e ↦ inr (sym h.1.1 ∙ ap (λ k. get_or found k 0) e)
+    | inr e ↦ inl (h.0, (let a = h.1.0 in omega (arith, a, e), h.1.1))
+  ]
 
   -- the node behind which the next one goes is the last of those that went
   at_last : 0 < i → IsOneOf found i at
   at_last z = (i - 1, (omega (arith, z), sym (last z)))
 
   at_in : at < n
-  at_in = by (cases_eq i 0)
-    where
-      by : (i ≡ 0) ⊎ (i ≢ 0) → at < n
-      by (inl e) = let a = begin e in omega (arith, a, at_below)
-      by (inr e) = inside at (at_last (omega (arith, e)))
+  at_in = elim (cases_eq i 0) [
+    | inl e ↦ let a = begin e in omega (arith, a, at_below)
+    | inr e ↦ inside at (at_last (omega (arith, e)))
+  ]
 
   most : (c : ℕ) → IsOneOf found i c → l1 c ≤ l1 at
   most c h = by (cases_eq h.0 (i - 1))
@@ -79,20 +73,19 @@ module _ (n : ℕ) (old l0 l1 l2 : ℕ → ℕ) (found : List ℕ) (i at0 at : �
           let g = (o c at (inside c h) at_in).1 f in omega (arith, g)
 
   tells : (d : ℕ) → d < n → (¬ IsOneOf found (i + 1) d) → (l1 at < l1 d) ↔ (old at0 < old d)
-  tells d k w = by (cases_eq i 0)
-    where
-      by : (i ≡ 0) ⊎ (i ≢ 0) → (l1 at < l1 d) ↔ (old at0 < old d)
-      by (inl e) =
-          let empty : (c : ℕ) → ¬ IsOneOf found i c = λ c h. let a = h.1.0 in omega (arith, a, e) in
-          let q = begin e in
-          let t = s.stay at d at_in k (empty at) (empty d) in
-          let u = o at d at_in k in
-          let v = ap old q in
-          (λ a. let b = t.0 (u.0 a) in omega (arith, b, v), λ a. u.1 (t.1 (omega (arith, a, v))))
-      by (inr e) =
-          let t = s.above at d (at_last (omega (arith, e))) k (λ h. w (wider d h)) in
-          let u = o at d at_in k in
-          (λ a. t.0 (u.0 a), λ a. u.1 (t.1 a))
+  tells d k w = elim (cases_eq i 0) [
+    | inl e ↦
+        let empty : (c : ℕ) → ¬ IsOneOf found i c = λ c h. let a = h.1.0 in omega (arith, a, e) in
+        let q = begin e in
+        let t = s.stay at d at_in k (empty at) (empty d) in
+        let u = o at d at_in k in
+        let v = ap old q in
+        (λ a. let b = t.0 (u.0 a) in omega (arith, b, v), λ a. u.1 (t.1 (omega (arith, a, v))))
+    | inr e ↦
+        let t = s.above at d (at_last (omega (arith, e))) k (λ h. w (wider d h)) in
+        let u = o at d at_in k in
+        (λ a. t.0 (u.0 a), λ a. u.1 (t.1 a))
+  ]
 
   pub shifted-more : IsShifted n old l2 (IsOneOf found (i + 1)) at0
   shifted-more = record {
@@ -137,14 +130,7 @@ module _ (n : ℕ) (old l0 l1 l2 : ℕ → ℕ) (found : List ℕ) (i at0 at : �
       lower c d (inr a) k w (inr g) =
           let p = m.below d k (λ e. w (subst (IsOneOf found (i + 1)) (sym e) newest)) g in
           let f = ap l2 a in
-          (λ z. not_above d k w g, λ z. omega (arith, p, f))
-        where
-          not_above : (d : ℕ) → d < n → (¬ IsOneOf found (i + 1) d) → l1 d ≤ l1 at → old d ≤ old at0
-          not_above d k w g = by (cases_lt (old at0) (old d))
-            where
-              by : (old at0 < old d) ⊎ (old d ≤ old at0) → old d ≤ old at0
-              by (inl z) = let t = (tells d k w).1 z in absurd (omega (arith, t, g))
-              by (inr z) = z
+          (λ z. grind (arith, (tells d k w).1, g), λ z. omega (arith, p, f))
 
       upper : (c d : ℕ) → (IsOneOf found i c) ⊎ (c ≡ get_or found i 0) → d < n → (¬ IsOneOf found (i + 1) d)
           → (l1 at < l1 d) ⊎ (l1 d ≤ l1 at) → (l2 c < l2 d) ↔ (old at0 < old d)
@@ -160,15 +146,6 @@ module _ (n : ℕ) (old l0 l1 l2 : ℕ → ℕ) (found : List ℕ) (i at0 at : �
           let p = m.below d k (λ e. w (subst (IsOneOf found (i + 1)) (sym e) newest)) g in
           let f = ap l2 a in
           (λ z. absurd (omega (arith, p, f, z)), λ z. let t = (tells d k w).1 z in absurd (omega (arith, t, g)))
-
--- no node went
-pub shifted-none : (n : ℕ) (old : ℕ → ℕ) (found : List ℕ) (at : ℕ) → IsShifted n old old (IsOneOf found 0) at
-shifted-none n old found at = record {
-  stay = λ c d h k u v. (λ a. a, λ a. a);
-  among = λ c d h k. absurd (let a = h.1.0 in omega (arith, a));
-  below = λ c d h k w. absurd (let a = h.1.0 in omega (arith, a));
-  above = λ c d h k w. absurd (let a = h.1.0 in omega (arith, a));
-}
 
 module _ (n : ℕ) (old new : ℕ → ℕ) (moved : ℕ → Type 0) (at : ℕ) (s : IsShifted n old new moved at)
     (can : (c : ℕ) → moved c ⊎ (¬ moved c)) where

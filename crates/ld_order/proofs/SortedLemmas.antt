@@ -1,8 +1,8 @@
 -- Nodes of classes in the order of their labels.
-use Rattle.std.proofs.Common.{◌≡◌, ◌≢◌, ◌⊎◌, inl, inr, ℕ, ◌+◌, ◌<◌, ◌≤◌, Bool, true, false, List, [], ◌∷◌, All, true≢false, get_or, length, map, nat_eq, Contains, arith, refl, sym, ap, subst, ◌∙◌}
+use Rattle.std.proofs.Common.{◌≡◌, ◌≢◌, ℕ, ◌+◌, ◌<◌, ◌≤◌, List, [], ◌∷◌, All, true≢false, get_or, length, map, nat_eq, Contains, arith, refl, sym, ap, subst, ◌∙◌}
 use Rattle.std.specs.List.{IsDistinct}
 use Rattle.std.specs.List.Sorted.{IsNonDecreasingBy, IsPermutation}
-use Rattle.std.proofs.lemmas.Bool.{eq-eqb, eqb-true}
+use Rattle.std.proofs.lemmas.Bool.{eq-eqb, eqb-false, ne_eqb}
 use Rattle.std.proofs.lemmas.Cmp.{nat_eq_equiv}
 use Rattle.std.proofs.lemmas.List.{get_or-map, get_or_default, length-map}
 use Rattle.std.proofs.lemmas.List.Elements.{Contains-get_or}
@@ -27,15 +27,7 @@ nodes_once found once = IsDistinct-from_apart nat_eq (map node_of found) (λ i j
     let n = length-map found node_of in
     let e = get_or-map node_of found i 0 z (omega (arith, l, b, n)) in
     let f = get_or-map node_of found j 0 z (omega (arith, b, n)) in
-    rw (e, f) (differ (get_or found i 0) (get_or found j 0)
-    (apart_from_distinct nat_eq found i j 0 once l (omega (arith, b, n))) (nat_eq (node_of (get_or found i 0)) (node_of (get_or found j 0))) refl))
-  where
-    differ : (x y : ℕ) → nat_eq x y ≡ false → (b : Bool) → nat_eq (node_of x) (node_of y) ≡ b
-        → nat_eq (node_of x) (node_of y) ≡ false
-    differ x y n false e = e
-    differ x y n true e =
-        let q = eqb-true (node_of x) (node_of y) e in
-        let s : x ≡ y = omega (arith, q) in absurd (true≢false (sym (eq-eqb x y s) ∙ n))
+    rw (e, f) (ne_eqb _ _ (λ q. eqb-false _ _ (apart_from_distinct nat_eq found i j 0 once l (omega (arith, b, n))) (omega (arith, q)))))
 
 module _ (labels found : List ℕ) (pool : List Labelled) (perm : IsPermutation (map (labelled labels) found) pool) where
   pub arranged_same : IsPermutation (map node_of found) (map (λ (e : Labelled). e.node) pool)

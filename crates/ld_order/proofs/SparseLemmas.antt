@@ -1,7 +1,7 @@
 -- A stretch of nodes that has room.
-use Rattle.std.proofs.Common.{◌≡◌, ◌⊎◌, inl, inr, ℕ, ◌+◌, ◌-◌, ◌*◌, ◌/◌, ◌^◌, ◌<◌, ◌≤◌, arith, ap}
+use Rattle.std.proofs.Common.{◌≡◌, inl, inr, ℕ, ◌+◌, ◌-◌, ◌*◌, ◌/◌, ◌^◌, ◌<◌, ◌≤◌, arith, ap}
 use Rattle.std.proofs.lemmas.Bool.{cases_lt}
-use Rattle.std.proofs.Math.Nat.{add-mul, mul_comm, mul-le-mul_left, mul-le-mul_right, div-mul-le_self, lt-div-mul-add}
+use Rattle.std.proofs.Math.Nat.{mul_comm, mul-le-mul_left, mul-le-mul_right, div-mul-le_self, lt-div-mul-add}
 use Rattle.ld_order.specs.Inner.Rings.{IsSparse, IsSpread, rank}
 use Rattle.ld_order.proofs.RankLemmas.{rank-less}
 
@@ -17,52 +17,41 @@ module _ (n : ℕ) (label : ℕ → ℕ) (at left count node : ℕ) (l : node < 
       let q = mul_comm (count + left + 1) ((label node - label at) / (count + left + 1)) in omega (arith, m, q, f, less)
 
   some : 0 < (label node - label at) / (count + left + 1)
-  some = by (cases_lt 0 ((label node - label at) / (count + left + 1)))
-    where
-      by : (0 < (label node - label at) / (count + left + 1)) ⊎ ((label node - label at) / (count + left + 1) ≤ 0)
-          → 0 < (label node - label at) / (count + left + 1)
-      by (inl a) = a
-      by (inr a) =
-          let w = lt-div-mul-add {a = label node - label at} {b = count + left + 1} (omega arith) in
-          let m : (label node - label at) / (count + left + 1) * (count + left + 1) ≤ 0 * (count + left + 1) =
-          mul-le-mul_right (count + left + 1) (omega (arith, a)) in
-          let f : (count + left + 1) * 1 ≤ (count + left + 1) * (count + left + 1) = mul-le-mul_left (count + left + 1) (omega arith) in
-          absurd (omega (arith, w, m, f, wide))
+  some =
+      let w = lt-div-mul-add {a = label node - label at} {b = count + left + 1} (omega arith) in
+      let m : (label node - label at) / (count + left + 1) ≤ 0
+      → (label node - label at) / (count + left + 1) * (count + left + 1) ≤ 0 * (count + left + 1) = λ a. mul-le-mul_right (count + left + 1) a in
+      let f : (count + left + 1) * 1 ≤ (count + left + 1) * (count + left + 1) = mul-le-mul_left (count + left + 1) (omega arith) in
+      grind (arith, w, m, f, wide)
 
   pub sparse_here : IsSparse n label at left count ((label node - label at) / (count + left + 1))
   sparse_here = record {
     nodes = nodes;
     some = some;
     fits = let a = sum in omega (arith, a, fits);
-    stretch = λ c h k. by c h k (cases_lt (label c) (label node));
+    stretch = λ c h k. let m = sum in grind (arith, rank-less n label c node h, here, k, m);
   }
-    where
-      by : (c : ℕ) → c < n → rank n label at + count < rank n label c → (label c < label node) ⊎ (label node ≤ label c)
-          → label at + (left + count + 1) * ((label node - label at) / (count + left + 1)) ≤ label c
-      by c h k (inl a) = let m = rank-less n label c node h a in absurd (omega (arith, m, here, k))
-      by c h k (inr a) = let m = sum in omega (arith, m, a)
 
 module _ (n : ℕ) (old new : ℕ → ℕ) (at left count step : ℕ) (h : at < n) (s : IsSparse n old at left count step)
     (t : IsSpread n old new at left count step) where
   -- after the spread there is room behind the node
   pub room_here : (after : ℕ) → after < n → rank n old after ≡ rank n old at + 1 → new at + left < new after
-  room_here after k e = by (cases_lt 0 count)
-    where
-      by : (0 < count) ⊎ (count ≤ 0) → new at + left < new after
-      by (inl a) =
-          let v = t.inside after k (omega (arith, e)) (omega (arith, e, a)) in
-          let u = t.below at h (omega arith) in
-          let d : left + (rank n old after - rank n old at) ≡ left + 1 = omega (arith, e) in
-          let m = ap (λ z. z * step) d in
-          let w : (left + 1) * 1 ≤ (left + 1) * step = mul-le-mul_left (left + 1) s.some in
-          omega (arith, v, u, m, w)
-      by (inr a) =
-          let v = t.above after k (omega (arith, e, a)) in
-          let u = t.below at h (omega arith) in
-          let q = s.stretch after k (omega (arith, e, a)) in
-          let m : (left + 1) * step ≤ (left + count + 1) * step = mul-le-mul_right step (omega arith) in
-          let w : (left + 1) * 1 ≤ (left + 1) * step = mul-le-mul_left (left + 1) s.some in
-          omega (arith, v, u, q, m, w)
+  room_here after k e = elim (cases_lt 0 count) [
+    | inl a ↦
+        let v = t.inside after k (omega (arith, e)) (omega (arith, e, a)) in
+        let u = t.below at h (omega arith) in
+        let d : left + (rank n old after - rank n old at) ≡ left + 1 = omega (arith, e) in
+        let m = ap (λ z. z * step) d in
+        let w : (left + 1) * 1 ≤ (left + 1) * step = mul-le-mul_left (left + 1) s.some in
+        omega (arith, v, u, m, w)
+    | inr a ↦
+        let v = t.above after k (omega (arith, e, a)) in
+        let u = t.below at h (omega arith) in
+        let q = s.stretch after k (omega (arith, e, a)) in
+        let m : (left + 1) * step ≤ (left + count + 1) * step = mul-le-mul_right step (omega arith) in
+        let w : (left + 1) * 1 ≤ (left + 1) * step = mul-le-mul_left (left + 1) s.some in
+        omega (arith, v, u, q, m, w)
+  ]
 
   pub room_last : new at + left + 1 < 2 ^ 64
   room_last =

@@ -1,6 +1,6 @@
 -- The labels of a stretch of nodes are dealt out anew, evenly.
 use Rattle.std.proofs.Common.{◌≡◌, ◌≢◌, ◌⊎◌, inl, inr, ℕ, ◌+◌, ◌-◌, ◌*◌, ◌<◌, ◌≤◌, List, get_or, set, length, arith, refl, sym, ap, ◌∙◌, get_or-set_other, get_or-set_same}
-use Rattle.std.proofs.lemmas.Bool.{cases_eq, cases_lt, cases_order}
+use Rattle.std.proofs.lemmas.Bool.{cases_eq, cases_lt}
 use Rattle.std.proofs.Math.Nat.{mul-le-mul_right, add-mul}
 use Rattle.ld_order.specs.Inner.Rings.{AreLinked, IsSameOrder, IsSpread, rank}
 use Rattle.ld_order.proofs.RankLemmas.{rank-less, rank-once}
@@ -8,21 +8,14 @@ use Rattle.ld_order.proofs.RankLemmas.{rank-less, rank-once}
 -- labels that rise with the old ones are in their order
 pub rising_same : (n : ℕ) (label next prev label_new : ℕ → ℕ) → AreLinked n label next prev n
     → ((c d : ℕ) → c < n → d < n → label c < label d → label_new c < label_new d) → IsSameOrder n label label_new
-rising_same n label next prev label_new r up c d h k = (λ a. by a (cases_order (label c) (label d)), up c d h k)
+rising_same n label next prev label_new r up c d h k = (λ a. grind (arith, same, up d c k h, a), up c d h k)
   where
-    by : label_new c < label_new d → (label c ≡ label d) ⊎ ((label c < label d) ⊎ (label d < label c)) → label c < label d
-    by a (inl e) =
-        let q : c ≡ d = r.once c d (h, λ w. omega (arith, h, w)) (k, λ w. omega (arith, k, w)) e in
-        let b = ap label_new q in absurd (omega (arith, a, b))
-    by a (inr (inl b)) = b
-    by a (inr (inr b)) = let m = up d c k h b in absurd (omega (arith, a, m))
+    same : label c ≡ label d → label_new c ≡ label_new d
+    same e = ap label_new (r.once c d (h, λ w. omega (arith, h, w)) (k, λ w. omega (arith, k, w)) e)
 
 module _ (n : ℕ) (label next prev label_new : ℕ → ℕ) (r : AreLinked n label next prev n) (at left count step : ℕ) (h : at < n)
     (s : IsSpread n label label_new at left count step) (some : 0 < step)
     (stretch : (c : ℕ) → c < n → rank n label at + count < rank n label c → label at + (left + count) * step < label c) where
-  ra : ℕ
-  ra = rank n label at
-
   pub spread_rises : (c d : ℕ) → c < n → d < n → label c < label d → label_new c < label_new d
   spread_rises c d k l a = by (cases_lt (rank n label at) (rank n label c)) (cases_lt (rank n label at + count) (rank n label c))
       (cases_lt (rank n label at) (rank n label d)) (cases_lt (rank n label at + count) (rank n label d))
@@ -44,13 +37,6 @@ module _ (n : ℕ) (label next prev label_new : ℕ → ℕ) (r : AreLinked n la
           let m : 1 * step ≤ (left + (rank n label e - rank n label at)) * step = mul-le-mul_right step (omega (arith, x, y)) in
           omega (arith, v, m, some)
 
-      not_more : (e : ℕ) → e < n → rank n label e ≤ rank n label at → label e ≤ label at
-      not_more e q x = more (cases_lt (label at) (label e))
-        where
-          more : (label at < label e) ⊎ (label e ≤ label at) → label e ≤ label at
-          more (inl z) = let m = rank-less n label at e h z in absurd (omega (arith, m, x))
-          more (inr z) = z
-
       by : (rank n label at < rank n label c) ⊎ (rank n label c ≤ rank n label at)
           → (rank n label at + count < rank n label c) ⊎ (rank n label c ≤ rank n label at + count)
           → (rank n label at < rank n label d) ⊎ (rank n label d ≤ rank n label at)
@@ -70,7 +56,7 @@ module _ (n : ℕ) (label next prev label_new : ℕ → ℕ) (r : AreLinked n la
       by (inr x) (inr y) (inl t) (inl z) =
           let u = s.below c k x in let v = s.above d l z in omega (arith, u, v, a)
       by (inr x) (inr y) (inl t) (inr z) =
-          let u = s.below c k x in let v = mid_more d l t z in let w = not_more c k x in omega (arith, u, v, w)
+          let u = s.below c k x in let v = mid_more d l t z in grind (arith, u, v, x, rank-less n label at c h)
       by (inr x) (inr y) (inr t) _ =
           let u = s.below c k x in let v = s.below d l t in omega (arith, u, v, a)
 

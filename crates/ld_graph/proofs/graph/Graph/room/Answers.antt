@@ -8,43 +8,34 @@ use Rattle.ld_graph.proofs.graph.Graph.room.Goals as goal
 pub invariant_of-self : goal.invariant_of-self
 invariant_of-self c = IsKept-grown c.self.inside _ (record {
   keys = c.reserve.ensures.keys;
-  classes = refl;
   edges = c.reserve.ensures.room.0;
   after = lists_same c.self.inside.lists.after;
   before = lists_same c.self.inside.lists.before;
   ranks = refl;
   ranks_room = omega arith;
-  has_cycle = refl;
-  spare_classes = refl;
-  spare_edges = refl;
+  rest = refl;
 }) c.self.invariant
 
 pub invariant_of-self-in_err-room : goal.invariant_of-self-in_err-room
 invariant_of-self-in_err-room c = IsKept-grown c.self.inside _ (record {
   keys = c.reserve.ensures.keys;
-  classes = refl;
   edges = c.reserve.ensures.room.0;
   after = c.room.ensures.after;
   before = c.room.ensures.before;
   ranks = refl;
   ranks_room = omega arith;
-  has_cycle = refl;
-  spare_classes = refl;
-  spare_edges = refl;
+  rest = refl;
 }) c.self.invariant
 
 pub invariant_of-self-in_err-room-2 : goal.invariant_of-self-in_err-room-2
 invariant_of-self-in_err-room-2 c = IsKept-grown c.self.inside _ (record {
   keys = c.reserve.ensures.keys;
-  classes = refl;
   edges = c.reserve.ensures.room.0;
   after = c.room.ensures.after;
   before = c.room.ensures.before;
   ranks = c.room-2.ensures.ranks;
   ranks_room = c.room-2.ensures.kept;
-  has_cycle = refl;
-  spare_classes = refl;
-  spare_edges = refl;
+  rest = refl;
 }) c.self.invariant
 
 pub invariant_of-self-2 : goal.invariant_of-self-2
@@ -62,15 +53,12 @@ invariant_of-self-2 c =
     } in
     let kept : IsKept grown = IsKept-grown c.self.inside grown (record {
       keys = c.reserve.ensures.keys;
-      classes = refl;
       edges = c.reserve.ensures.room.0;
       after = c.room.ensures.after;
       before = c.room.ensures.before;
       ranks = c.room-2.ensures.ranks;
       ranks_room = c.room-2.ensures.kept;
-      has_cycle = refl;
-      spare_classes = refl;
-      spare_edges = refl;
+      rest = refl;
     }) c.self.invariant in
     IsKept-spare grown c.args.classes c.args.edges c.max-self-inside.result
     c.max-self-inside-2.result kept
