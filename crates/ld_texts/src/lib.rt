@@ -2,7 +2,6 @@
 //! shown, it is that of the file that its trace says, or else of its own file.
 #![tactic(auto)]
 
-mod json;
 mod list;
 mod overview;
 mod places;

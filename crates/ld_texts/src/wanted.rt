@@ -1,6 +1,5 @@
 //! What is asked of a book, and the text that answers it.
 
-use crate::json::json_text;
 use crate::list::{Counts, class_text, list_text};
 use crate::shown_places::ShownPlaces;
 use crate::stats::stats_text;
@@ -16,8 +15,6 @@ pub enum Wanted<'w> {
     List(Listing<'w>),
     /// How much the traces are and show, one figure a line.
     Stats,
-    /// The report, one JSON object a line.
-    Json,
 }
 
 /// What is listed.
@@ -47,7 +44,6 @@ pub fn text_of<R: Threads + Sync>(
     match wanted {
         Wanted::List(listing) => list_of(rt, alloc, book, places, listing, threads),
         Wanted::Stats => stats_text(rt, alloc, book, places.files, threads),
-        Wanted::Json => json_text(alloc, book, places),
     }
 }
 

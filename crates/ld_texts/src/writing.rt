@@ -2,7 +2,6 @@
 
 use crate::shown_places::ShownPlaces;
 use ld_book::{Book, ClassName, Traces, UsageRow, Witness};
-use ld_rules::Listed;
 use std::alloc::{AllocError, Global};
 use std::io::Write;
 
@@ -22,11 +21,6 @@ impl<'b, 'p, 'f, 'a> Seen<'b, 'p, 'f, 'a> {
     ) -> Result<Seen<'b, 'p, 'f, 'a>, AllocError> {
         let traces = Traces::new(alloc, book)?;
         Ok(Seen { traces, places })
-    }
-
-    /// The traces, in their order.
-    pub(crate) fn listed(&self) -> &[Listed<'a>] {
-        self.traces.listed()
     }
 
     /// The label of a trace. It is empty where there is no such trace.
