@@ -1,3 +1,4 @@
+pub mod List
 pub mod Overview
 pub mod Places
 pub mod Readers

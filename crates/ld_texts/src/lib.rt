@@ -2,7 +2,7 @@
 //! shown, it is that of the file that its trace says, or else of its own file.
 #![tactic(auto)]
 
-mod json;
+mod figures;
 mod list;
 mod overview;
 mod places;

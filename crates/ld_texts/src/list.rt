@@ -1,41 +1,15 @@
 //! The list of classes.
+ghost use Rattle.std.specs.Prelude.{◌≡◌, ◌++◌, IfOk, None, OnOk, option_map};
+ghost use Rattle.ld_class.specs.Names.{plain_class};
+ghost use Rattle.ld_texts.specs.List.{IsClassList, class_line, figures_text, head_text, is_under, level_of, lines_below};
 
+use crate::figures::{Figures, figures_of};
 use crate::overview::{ClassRow, DependencyRow, Overview, class_rows, dependency_rows};
 use crate::readers::{has_readers, sort_by_locks, write_held, write_waited};
-use crate::shape::components;
 use crate::writing::{Seen, is_called, write_at, write_class, write_marks};
 use ld_book::{Book, ClassName, Witness};
-use ld_counts::{Walks, acquisitions};
 use std::alloc::{AllocError, Global};
 use std::io::Write;
-use std::thread::Threads;
-
-/// What is counted of each class.
-#[derive(Drop)]
-pub(crate) struct Counts {
-    /// How often each is acquired, by the numbers of the classes.
-    acquired: Vec<u64>,
-    walks: Walks,
-}
-
-impl Counts {
-    /// Those of the classes of a book, whose traces that many threads read at once.
-    pub(crate) fn of<R: Threads + Sync>(
-        rt: &R,
-        alloc: Global,
-        book: &Book<'_>,
-        threads: usize,
-    ) -> Result<Counts, AllocError> {
-        let acquired = acquisitions(rt, alloc, book.classes(), book.listed(), threads)?;
-        let walks = Walks::of(alloc, components(alloc, book)?)?;
-        Ok(Counts { acquired, walks })
-    }
-
-    /// How often a class is acquired.
-    fn acquired(&self, class: u32) -> u64 {
-        self.acquired.get(class as usize).copied().unwrap_or(0)
-    }
-}
 
 /// How the row of a class stands in the list.
 #[derive(Clone, Copy, Debug, PartialEq, Eq)]
@@ -46,43 +20,94 @@ enum Level {
     OfLock,
 }
 
-/// Every class by its name, and where they are wanted its dependencies under it.
-pub(crate) fn list_text(
+/// Every class by its name.
+pub(crate) fn classes_text(
+    alloc: Global,
+    book: &Book<'_>,
+    figures: &[Figures],
+) -> Result<Vec<u8>, AllocError>
+    ensures { IfOk result (λ text. IsClassList book.now text.items) }
+{
+    let mut rows = class_rows(alloc, book)?;
+    sort_by_locks(&mut rows);
+    let mut text = Vec::new(alloc);
+    write_classes(&mut text, figures, &rows)?;
+    Ok(text)
+}
+
+/// Writes the rows of classes, one below another.
+fn write_classes(
+    text: &mut Vec<u8>,
+    figures: &[Figures],
+    rows: &[ClassRow<'_>],
+) -> Result<(), AllocError>
+    ensures { OnOk result (text.new.items ≡ text.old.items ++ lines_below figures.now None rows.now) }
+{
+    let mut above = None;
+    for row in rows {
+        write_row(text, figures, row, level_of(above, row.class))?;
+        above = Some(row.class);
+    }
+    Ok(())
+}
+
+/// Every class by its name, and its dependencies under it.
+pub(crate) fn dependencies_text(
     alloc: Global,
     book: &Book<'_>,
     seen: &Seen<'_, '_, '_, '_>,
-    counts: &Counts,
-    dependencies: bool,
+    figures: &[Figures],
 ) -> Result<Vec<u8>, AllocError> {
     let mut classes = class_rows(alloc, book)?;
     sort_by_locks(&mut classes);
-    // To put them in their order is a good part of the work.
-    let rows = if dependencies {
-        dependency_rows(alloc, book)?
-    } else {
-        Vec::new(alloc)
-    };
+    let rows = dependency_rows(alloc, book)?;
     let starts = starts(alloc, classes.len(), &rows)?;
     let mut text = Vec::new(alloc);
+    write_dependencies(&mut text, seen, figures, &classes, &rows, &starts)?;
+    Ok(text)
+}
+
+/// Writes the rows of classes, and under each the dependencies that it begins: those from its start on.
+fn write_dependencies(
+    text: &mut Vec<u8>,
+    seen: &Seen<'_, '_, '_, '_>,
+    figures: &[Figures],
+    classes: &[ClassRow<'_>],
+    rows: &[DependencyRow<'_>],
+    starts: &[usize],
+) -> Result<(), AllocError> {
     let mut above = None;
-    for class in &classes {
+    for class in classes {
         let level = level_of(above, class.class);
-        write_row(&mut text, counts, class, level)?;
+        write_row(text, figures, class, level)?;
         let start = starts
             .get(class.number as usize)
             .copied()
             .unwrap_or(rows.len());
-        write_followers(&mut text, seen, &rows, start, class.number, level)?;
+        write_followers(text, seen, rows, start, class.number, level)?;
         above = Some(class.class);
     }
-    Ok(text)
+    Ok(())
 }
 
 /// How the row of a class stands below that of the class above.
-fn level_of(above: Option<ClassName<'_>>, class: ClassName<'_>) -> Level {
+fn level_of(above: Option<ClassName<'_>>, class: ClassName<'_>) -> Level
+    ensures { result ≡ level_of (option_map plain_class above.entry) (plain_class class.entry) }
+{
+    if is_under(above, class) {
+        Level::OfLock
+    } else {
+        Level::Own
+    }
+}
+
+/// Whether recursive readers of locks of the class above wait for this one.
+fn is_under(above: Option<ClassName<'_>>, class: ClassName<'_>) -> bool
+    ensures { result ≡ is_under (option_map plain_class above.entry) (plain_class class.entry) }
+{
     match above {
-        Some(above) if has_readers(above, class) => Level::OfLock,
-        _ => Level::Own,
+        Some(above) => has_readers(above, class),
+        None => false,
     }
 }
 
@@ -107,43 +132,69 @@ pub(crate) fn class_text(
     alloc: Global,
     book: &Book<'_>,
     seen: &Seen<'_, '_, '_, '_>,
-    counts: &Counts,
+    figures: &[Figures],
     name: &[u8],
 ) -> Result<Vec<u8>, AllocError> {
     let overview = Overview::new(alloc, book)?;
     let mut text = Vec::new(alloc);
-    let mut is_there = false;
-    for class in &overview.classes {
-        if is_called(class.class, name) {
-            is_there = true;
-            write_row(&mut text, counts, class, Level::Own)?;
-            write_usage(&mut text, seen, class)?;
-            write_around(&mut text, seen, &overview.dependencies, class.number)?;
-        }
-    }
-    if !is_there {
+    write_called(&mut text, seen, figures, &overview, name)?;
+    if text.is_empty() {
         text.extend_from_slice(name)?;
         text.extend_from_slice(b" not seen\n")?;
     }
     Ok(text)
 }
 
+/// Writes the classes of this name.
+fn write_called(
+    text: &mut Vec<u8>,
+    seen: &Seen<'_, '_, '_, '_>,
+    figures: &[Figures],
+    overview: &Overview<'_>,
+    name: &[u8],
+) -> Result<(), AllocError> {
+    for class in &overview.classes {
+        if is_called(class.class, name) {
+            write_row(text, figures, class, Level::Own)?;
+            write_usage(text, seen, class)?;
+            write_around(text, seen, &overview.dependencies, class.number)?;
+        }
+    }
+    Ok(())
+}
+
 /// Writes `CLASS {USAGE} acquired N reached-from N reaches N`.
 fn write_row(
     text: &mut Vec<u8>,
-    counts: &Counts,
+    figures: &[Figures],
     row: &ClassRow<'_>,
     level: Level,
-) -> Result<(), AllocError> {
-    match level {
-        Level::Own => write_class(text, row.class)?,
-        Level::OfLock => text.extend_from_slice(b"  !read")?,
-    }
+) -> Result<(), AllocError>
+    ensures { OnOk result (text.new.items ≡ text.old.items ++ class_line figures.now level row.now) }
+{
+    write_head(text, row.class, level)?;
     text.extend_from_slice(b" ")?;
     write_marks(text, &row.usage)?;
-    let acquired = counts.acquired(row.number);
-    let from = counts.walks.reached_from(row.number);
-    let to = counts.walks.reaches(row.number);
+    write_figures(text, figures_of(figures, row.number))
+}
+
+/// Writes a class as it stands at this level.
+fn write_head(text: &mut Vec<u8>, class: ClassName<'_>, level: Level) -> Result<(), AllocError>
+    ensures { OnOk result (text.new.items ≡ text.old.items ++ head_text level (plain_class class.entry)) }
+{
+    match level {
+        Level::Own => write_class(text, class),
+        Level::OfLock => text.extend_from_slice(b"  !read"),
+    }
+}
+
+/// Writes what is counted of a class, and ends the line.
+fn write_figures(text: &mut Vec<u8>, figures: Figures) -> Result<(), AllocError>
+    ensures { OnOk result (text.new.items ≡ text.old.items ++ figures_text figures) }
+{
+    let acquired = figures.acquired;
+    let from = figures.reached_from;
+    let to = figures.reaches;
     writeln!(
         text,
         " acquired {acquired} reached-from {from} reaches {to}"

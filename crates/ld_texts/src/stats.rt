@@ -40,24 +40,41 @@ pub(crate) fn stats_text<R: Threads + Sync>(
     threads: usize,
 ) -> Result<Vec<u8>, AllocError> {
     let counted = Counted::of(rt, alloc, book.classes(), book.listed(), threads)?;
-    let findings = book.findings(alloc)?;
-    let totals = book.totals();
     let mut text = Vec::new(alloc);
     write_figure(&mut text, "files", places.count())?;
-    write_traces(&mut text, &totals, book.listed())?;
-    write_events(&mut text, &totals, &counted.verbs)?;
-    write_classes(&mut text, book)?;
-    write_figure(&mut text, "dependencies", totals.dependencies)?;
-    write_figure(&mut text, "chains", counted.chain_count())?;
-    write_figure(&mut text, "depth", counted.depth)?;
+    write_counted(&mut text, book, &counted)?;
     write_components(alloc, &mut text, book)?;
-    write_violations(&mut text, &findings)?;
+    write_violations(alloc, &mut text, book)?;
     Ok(text)
+}
+
+/// Writes what is counted of the traces of a book, and how many classes and dependencies they show.
+fn write_counted(text: &mut Vec<u8>, book: &Book<'_>, counted: &Counted) -> Result<(), AllocError> {
+    let totals = book.totals();
+    write_traces(text, &totals, book.listed())?;
+    write_events(text, &totals, &counted.verbs)?;
+    write_classes(text, book)?;
+    write_figures(
+        text,
+        &[
+            ("dependencies", totals.dependencies),
+            ("chains", counted.chain_count()),
+            ("depth", counted.depth),
+        ],
+    )
 }
 
 /// Writes `NAME FIGURE`.
 fn write_figure(text: &mut Vec<u8>, name: &str, figure: u64) -> Result<(), AllocError> {
     writeln!(text, "{name} {figure}").map_err(|_| AllocError)
+}
+
+/// Writes some figures, each behind its name.
+fn write_figures(text: &mut Vec<u8>, figures: &[(&str, u64)]) -> Result<(), AllocError> {
+    for (name, figure) in figures {
+        write_figure(text, name, *figure)?;
+    }
+    Ok(())
 }
 
 /// Writes `GROUP-NAME FIGURE`.
@@ -97,16 +114,21 @@ fn fault_counts(listed: &[Listed<'_>]) -> [u64; FAULTS.len()] {
 
 /// Writes how many events the traces have that are read, and how many of each verb.
 fn write_events(text: &mut Vec<u8>, totals: &Totals, verbs: &Verbs) -> Result<(), AllocError> {
-    write_figure(text, "events", totals.events)?;
-    write_part(text, "events", "acquire", verbs.acquire)?;
-    write_part(text, "events", "nested", verbs.nested)?;
-    write_part(text, "events", "try", verbs.tries)?;
-    write_part(text, "events", "release", verbs.release)?;
-    write_part(text, "events", "enter", verbs.enter)?;
-    write_part(text, "events", "exit", verbs.exit)?;
-    write_part(text, "events", "enable", verbs.enable)?;
-    write_part(text, "events", "disable", verbs.disable)?;
-    write_part(text, "events", "begin", verbs.begin)
+    write_figures(
+        text,
+        &[
+            ("events", totals.events),
+            ("events-acquire", verbs.acquire),
+            ("events-nested", verbs.nested),
+            ("events-try", verbs.tries),
+            ("events-release", verbs.release),
+            ("events-enter", verbs.enter),
+            ("events-exit", verbs.exit),
+            ("events-enable", verbs.enable),
+            ("events-disable", verbs.disable),
+            ("events-begin", verbs.begin),
+        ],
+    )
 }
 
 /// Writes how many classes there are, how many of them are subclasses, and how many have each usage bit.
@@ -167,8 +189,14 @@ fn cyclic_sizes(alloc: Global, book: &Book<'_>) -> Result<Vec<u32>, AllocError> 
     Ok(cyclic)
 }
 
-/// Writes how many violations there are, and how many of each kind.
-fn write_violations(text: &mut Vec<u8>, findings: &Findings<'_, '_>) -> Result<(), AllocError> {
+/// Writes how many violations a book has, and how many of each kind.
+fn write_violations(alloc: Global, text: &mut Vec<u8>, book: &Book<'_>) -> Result<(), AllocError> {
+    let findings = book.findings(alloc)?;
+    write_found(text, &findings)
+}
+
+/// Writes how many violations were found, and how many of each kind.
+fn write_found(text: &mut Vec<u8>, findings: &Findings<'_, '_>) -> Result<(), AllocError> {
     let cycles = findings.cycles.items();
     let conflicts = findings.conflicts.items();
     let forbidden = findings.forbidden.items();
@@ -184,23 +212,22 @@ fn write_violations(text: &mut Vec<u8>, findings: &Findings<'_, '_>) -> Result<(
     let all = (cycles.len() as u64)
         .saturating_add(conflicts.len() as u64)
         .saturating_add(forbidden.len() as u64);
-    write_figure(text, "violations", all)?;
-    write_figure(text, "recursions", recursions as u64)?;
-    write_figure(
+    write_figures(
         text,
-        "inversions",
-        cycles.len().saturating_sub(recursions) as u64,
-    )?;
-    write_figure(text, "conflicts-hard", hard as u64)?;
-    write_figure(
-        text,
-        "conflicts-soft",
-        conflicts.len().saturating_sub(hard) as u64,
-    )?;
-    write_figure(text, "forbidden-hard", hard_walks as u64)?;
-    write_figure(
-        text,
-        "forbidden-soft",
-        forbidden.len().saturating_sub(hard_walks) as u64,
+        &[
+            ("violations", all),
+            ("recursions", recursions as u64),
+            ("inversions", cycles.len().saturating_sub(recursions) as u64),
+            ("conflicts-hard", hard as u64),
+            (
+                "conflicts-soft",
+                conflicts.len().saturating_sub(hard) as u64,
+            ),
+            ("forbidden-hard", hard_walks as u64),
+            (
+                "forbidden-soft",
+                forbidden.len().saturating_sub(hard_walks) as u64,
+            ),
+        ],
     )
 }

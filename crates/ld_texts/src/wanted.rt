@@ -1,7 +1,9 @@
 //! What is asked of a book, and the text that answers it.
+ghost use Rattle.std.specs.Prelude.{◌≡◌, IfOk};
+ghost use Rattle.ld_texts.specs.List.{IsClassList, every_class, list_classes};
 
-use crate::json::json_text;
-use crate::list::{Counts, class_text, list_text};
+use crate::figures::{Figures, all_figures};
+use crate::list::{class_text, classes_text, dependencies_text};
 use crate::shown_places::ShownPlaces;
 use crate::stats::stats_text;
 use crate::writing::Seen;
@@ -16,8 +18,6 @@ pub enum Wanted<'w> {
     List(Listing<'w>),
     /// How much the traces are and show, one figure a line.
     Stats,
-    /// The report, one JSON object a line.
-    Json,
 }
 
 /// What is listed.
@@ -43,11 +43,12 @@ pub fn text_of<R: Threads + Sync>(
     places: &ShownPlaces<'_>,
     wanted: Wanted<'_>,
     threads: usize,
-) -> Result<Vec<u8>, AllocError> {
+) -> Result<Vec<u8>, AllocError>
+    ensures classes { wanted.entry ≡ list_classes → IfOk result (λ text. IsClassList book.now text.items) }
+{
     match wanted {
         Wanted::List(listing) => list_of(rt, alloc, book, places, listing, threads),
         Wanted::Stats => stats_text(rt, alloc, book, places.files, threads),
-        Wanted::Json => json_text(alloc, book, places),
     }
 }
 
@@ -59,12 +60,32 @@ fn list_of<R: Threads + Sync>(
     places: &ShownPlaces<'_>,
     listing: Listing<'_>,
     threads: usize,
-) -> Result<Vec<u8>, AllocError> {
-    let seen = Seen::new(alloc, book, places)?;
-    let counts = Counts::of(rt, alloc, book, threads)?;
+) -> Result<Vec<u8>, AllocError>
+    ensures { listing.entry ≡ every_class → IfOk result (λ text. IsClassList book.now text.items) }
+{
+    let figures = all_figures(rt, alloc, book, threads)?;
+    list_with(alloc, book, places, listing, &figures)
+}
+
+/// The list with these figures of the classes.
+fn list_with(
+    alloc: Global,
+    book: &Book<'_>,
+    places: &ShownPlaces<'_>,
+    listing: Listing<'_>,
+    figures: &[Figures],
+) -> Result<Vec<u8>, AllocError>
+    ensures { listing.entry ≡ every_class → IfOk result (λ text. IsClassList book.now text.items) }
+{
     match listing {
-        Listing::Classes => list_text(alloc, book, &seen, &counts, false),
-        Listing::Dependencies => list_text(alloc, book, &seen, &counts, true),
-        Listing::Class(name) => class_text(alloc, book, &seen, &counts, name.as_bytes()),
+        Listing::Classes => classes_text(alloc, book, figures),
+        Listing::Dependencies => {
+            let seen = Seen::new(alloc, book, places)?;
+            dependencies_text(alloc, book, &seen, figures)
+        }
+        Listing::Class(name) => {
+            let seen = Seen::new(alloc, book, places)?;
+            class_text(alloc, book, &seen, figures, name.as_bytes())
+        }
     }
 }

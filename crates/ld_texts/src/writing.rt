@@ -1,8 +1,10 @@
 //! Writes names and places. Each call answers `AllocError` where memory was refused.
+ghost use Rattle.std.specs.Prelude.{◌≡◌, ◌++◌, OnOk};
+ghost use Rattle.ld_class.specs.Names.{plain_class};
+ghost use Rattle.ld_texts.specs.List.{class_text, marks_text};
 
 use crate::shown_places::ShownPlaces;
 use ld_book::{Book, ClassName, Traces, UsageRow, Witness};
-use ld_rules::Listed;
 use std::alloc::{AllocError, Global};
 use std::io::Write;
 
@@ -24,11 +26,6 @@ impl<'b, 'p, 'f, 'a> Seen<'b, 'p, 'f, 'a> {
         Ok(Seen { traces, places })
     }
 
-    /// The traces, in their order.
-    pub(crate) fn listed(&self) -> &[Listed<'a>] {
-        self.traces.listed()
-    }
-
     /// The label of a trace. It is empty where there is no such trace.
     pub(crate) fn label(&self, number: u64) -> &'a [u8] {
         let in_order = self.traces.listed();
@@ -48,7 +45,9 @@ impl<'b, 'p, 'f, 'a> Seen<'b, 'p, 'f, 'a> {
 }
 
 /// Writes the name of a class: `name`, or `name/N` where it is a subclass.
-pub(crate) fn write_class(text: &mut Vec<u8>, class: ClassName<'_>) -> Result<(), AllocError> {
+pub(crate) fn write_class(text: &mut Vec<u8>, class: ClassName<'_>) -> Result<(), AllocError>
+    ensures { OnOk result (text.new.items ≡ text.old.items ++ class_text (plain_class class.entry)) }
+{
     text.extend_from_slice(class.name)?;
     if class.sub == 0 {
         return Ok(());
@@ -69,7 +68,9 @@ pub(crate) fn is_called(class: ClassName<'_>, name: &[u8]) -> bool {
 }
 
 /// Writes the usage characters of a class, in braces.
-pub(crate) fn write_marks(text: &mut Vec<u8>, usage: &UsageRow) -> Result<(), AllocError> {
+pub(crate) fn write_marks(text: &mut Vec<u8>, usage: &UsageRow) -> Result<(), AllocError>
+    ensures { OnOk result (text.new.items ≡ text.old.items ++ marks_text usage.now.bits) }
+{
     text.extend_from_slice(b"{")?;
     text.extend_from_slice(&usage.bits.marks())?;
     text.extend_from_slice(b"}")?;

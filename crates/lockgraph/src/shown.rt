@@ -1,15 +1,16 @@
-//! What `list`, `stats` and `json` have in common: a text on the traces of some files.
+//! What `list` and `stats` have in common: a text on the traces of some files.
 ghost use Rattle.std.specs.Prelude.{◌≡◌, ◌≢◌, ◌≤◌, Err, IfOk, IfSome, Some};
+ghost use Rattle.ld_check.specs.OfReport.OfBook.Totals.{refused_count};
 ghost use Rattle.ld_trace.specs.declared.source.StreamFault.{StreamFault};
 ghost use Rattle.ld_trace.specs.Sources.{stream_fault};
 ghost use Rattle.lockgraph.specs.declared.fault.Fault.TheVariants.{Together, Write};
-ghost use Rattle.lockgraph.specs.Shown.{IsVerdictOf, verdict_of_read};
+ghost use Rattle.lockgraph.specs.Shown.{verdict_of_read};
 
 use crate::fault::Fault;
 use crate::streams::{Streams, read_streams};
 use crate::told::{Told, write_told};
 use crate::words::Given;
-use ld_check::{Book, Checked, MOST_WORKERS, NoGate, Verdict, check, verdict_of};
+use ld_check::{Checked, MOST_WORKERS, NoGate, Verdict, check};
 use ld_io::Std;
 use ld_texts::{Places, ShownPlaces, Wanted, text_of};
 use std::alloc::{AllocError, Global};
@@ -73,25 +74,15 @@ fn shown_in<R: Threads + Sync>(
     wanted: Wanted<'_>,
     threads: usize,
 ) -> Result<Told, AllocError>
-    ensures { IfOk result (λ told. IsVerdictOf wanted.entry checked.now.book told.verdict) }
+    ensures { IfOk result (λ told. told.verdict ≡ verdict_of_read (refused_count checked.now.book)) }
 {
     let shown = ShownPlaces {
         files: places,
         sources: checked.sources.as_slice(),
     };
     let text = text_of(rt, alloc, &checked.book, &shown, wanted, threads)?;
-    let verdict = verdict_of_shown(wanted, &checked.book);
+    let verdict = verdict_of_read(checked.book.totals().refused);
     Ok(Told { text, verdict })
-}
-
-/// What it comes to that this is told of the traces that a book lists.
-fn verdict_of_shown(wanted: Wanted<'_>, book: &Book<'_>) -> Verdict
-    ensures { IsVerdictOf wanted.entry book.now result }
-{
-    match wanted {
-        Wanted::List(_) | Wanted::Stats => verdict_of_read(book.totals().refused),
-        Wanted::Json => verdict_of(book),
-    }
 }
 
 /// What it comes to that so many traces are refused, where no violation is told.
