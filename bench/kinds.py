@@ -109,15 +109,23 @@ def chain(draws, size):
     return shown(draws, size, Locks(draws, count + 1), again(draws, pairs), 100)
 
 
-def hub(draws, size):
-    """Up to 80,000 classes that a task holds alone, and then as many new ones, each held over the first of all."""
-    count = min(80_000, size // 250)
+def over_others(draws, size, most, other):
+    """Up to so many classes that a task holds alone, and then as many new ones, each held over one of those."""
+    count = min(most, size // 250)
     locks, task = Locks(draws, 2 * count), task_names()[0]
     pieces = [taken_alone(task, locks, number) for number in range(count)]
-    pieces += [dependency(task, locks, (number, 0)) for number in range(count, 2 * count)]
+    pieces += [dependency(task, locks, (count + number, other(number))) for number in range(count)]
     each = max(100, size // MOST_TRACES // 60)
     for number, piece in enumerate(again(draws, pieces)):
         yield piece if number % each else b'trace run-%d\n%b' % (number // each, piece)
+
+
+def hub(draws, size):
+    return over_others(draws, size, 80_000, lambda number: 0)
+
+
+def far_apart(draws, size):
+    return over_others(draws, size, 32_768, lambda number: number)
 
 
 def lone(draws, size, violation):
@@ -211,6 +219,7 @@ KINDS = {
     'layers-handlers': Kind(layers_handlers, True, 'the same, and handlers that acquire deep classes'),
     'chain': Kind(chain, True, 'up to 100,000 classes in a chain that grows at its begin'),
     'hub': Kind(hub, True, 'up to 80,000 classes alone, and as many that are held over one of them'),
+    'far-apart': Kind(far_apart, True, 'up to 32,768 classes alone, and as many, each held over another of them'),
     'lone-cycle': Kind(lone_cycle, False, 'up to 100,000 classes without a dependency, and one inversion'),
     'lone-walk': Kind(lone_walk, False, 'the same, and one forbidden walk'),
     'hand-over-hand': Kind(hand_over_hand, True, 'one trace of one task, which holds 95 locks and releases the oldest one'),

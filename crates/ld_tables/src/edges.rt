@@ -8,8 +8,9 @@ ghost use Rattle.ld_tables.specs.declared.edges.TheConstants.{MOST_WORDS};
 ghost use Rattle.ld_tables.specs.Inner.Edges.{AreMasks, AreMore, AreToldTo, classes_of, edge_to, edges_of};
 ghost use Rattle.ld_tables.specs.Inner.Edges.{with_edge_fact, word_at};
 
+use crate::guesses::WordGuesses;
 use crate::held::Held;
-use crate::masks::add_bit;
+use crate::masks::{Seats, add_bit};
 use crate::numbers::as_number;
 use crate::untold::untell;
 use crate::words::{Mask, Telling, Word};
@@ -44,6 +45,8 @@ const _: () = prove!(MOST_WORDS == 524_288);
 #[derive(Drop)]
 pub struct Edges {
     words: IndexSet<Word>,
+    /// Where words were found last.
+    guesses: WordGuesses,
     /// By the number of a word the bits of it that were told.
     told: Vec<u64>,
     tellings: Vec<Telling>,
@@ -66,6 +69,7 @@ impl Edges {
     {
         Edges {
             words: IndexSet::new(alloc),
+            guesses: WordGuesses::new(alloc),
             told: Vec::new(alloc),
             tellings: Vec::new(alloc),
         }
@@ -94,8 +98,29 @@ impl Edges {
         self.words.len() < MOST_WORDS
     }
 
-    /// The number of a word. `AllocError` too where its place is no number of 32 bits.
+    /// The number of a word. `AllocError` too if its place is no number of 32 bits. The number that it had last is tried
+    /// first.
+    // Most words are guessed, and are compared where this is called.
+    #[inline(always)]
     fn number(&mut self, word: Word) -> Result<u32, AllocError>
+        requires { IsBlock word.block }
+        ensures tellings { self.new.tellings ≡ self.old.tellings }
+        ensures more { AreMore self.old.words self.new.words }
+        ensures within { IfOk result (λ number. number < length self.new.words) }
+        ensures number { IfOk result (λ number. word_at self.new.words number ≡ word) }
+    {
+        let guess = self.guesses.of(word);
+        if is_at(&self.words, guess, word) {
+            return Ok(guess);
+        }
+        let number = self.look_up(word)?;
+        self.guesses.note(word, number);
+        Ok(number)
+    }
+
+    /// The same, of a word that isn't guessed.
+    #[inline(never)]
+    fn look_up(&mut self, word: Word) -> Result<u32, AllocError>
         requires { IsBlock word.block }
         ensures tellings { self.new.tellings ≡ self.old.tellings }
         ensures more { AreMore self.old.words self.new.words }
@@ -118,8 +143,24 @@ impl Edges {
         self.words.as_slice()[number as usize]
     }
 
-    /// Where there is a mask of the word. `None` says nothing.
-    fn place_of(&self, masks: &[Mask], word: Word) -> Option<usize>
+    /// Where there is a mask of the word. `None` says nothing: no mask has the seat of its block.
+    #[inline(always)]
+    fn place_of(&self, masks: &[Mask], seats: &Seats, word: Word) -> Option<usize>
+        requires { All (λ m. m.word < length self.now.words) masks.now }
+        ensures within { IfSome result (λ at. at < length masks.now) }
+        ensures word { IfSome result (λ at. (d : Mask)
+            → word_at self.now.words (slice_index_or masks.now at d).word ≡ word) }
+    {
+        let seat = seats.of(word.block)?;
+        if seat < masks.len() && self.word(masks[seat].word) == word {
+            return Some(seat);
+        }
+        self.search(masks, word)
+    }
+
+    /// The same, if a mask of another block has its seat.
+    #[inline(never)]
+    fn search(&self, masks: &[Mask], word: Word) -> Option<usize>
         requires { All (λ m. m.word < length self.now.words) masks.now }
         ensures within { IfSome result (λ at. at < length masks.now) }
         ensures word { IfSome result (λ at. (d : Mask)
@@ -148,15 +189,20 @@ impl Edges {
         ensures few { IfOk result (λ masks. length masks.items ≤ length stack.now) }
     {
         let mut masks = Vec::new(alloc);
+        masks.reserve(stack.len())?;
+        let mut seats = Seats::new();
         for held in stack {
             let word = Word {
                 block: held.class / 64,
                 to: class,
             };
-            let at = self.place_of(&masks, word);
+            let at = self.place_of(&masks, &seats, word);
             let number = match at {
                 Some(at) => masks[at].word,
-                None => self.number(word)?,
+                None => {
+                    seats.take(word.block, masks.len());
+                    self.number(word)?
+                }
             };
             add_bit(&mut masks, at, number, held.class % 64)?;
         }
@@ -249,4 +295,13 @@ impl Edges {
         self.told.truncate(0);
         self.words.truncate(0);
     }
+}
+
+/// Whether the word has this number.
+fn is_at(words: &IndexSet<Word>, number: u32, word: Word) -> bool
+    ensures { OnTrue result ((number < length words.now.keys)
+        × (slice_index_or words.now.keys number word ≡ word)) }
+{
+    let place = number as usize;
+    place < words.len() && words.as_slice()[place] == word
 }

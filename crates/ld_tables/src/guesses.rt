@@ -1,15 +1,24 @@
-//! Guesses where names stand among those that are known, and chains among those that were met.
+//! Guesses where names stand among those that are known, chains among those that were met, and words among those with
+//! numbers.
 ghost use Rattle.std.specs.Prelude.{◌<◌};
-ghost use Rattle.ld_tables.specs.declared.guesses.TheConstants.{CHAIN_GUESSES, GUESSES};
+ghost use Rattle.ld_tables.specs.declared.guesses.TheConstants.{CHAIN_GUESSES, GUESSES, WORD_GUESSES};
 
 use crate::chains::Link;
+use crate::words::Word;
 use ld_class::ClassName;
+use std::alloc::Global;
 
 /// How many guesses of names there are.
 pub const GUESSES: usize = 1 << 12;
 
 /// How many guesses of chains there are.
 pub const CHAIN_GUESSES: usize = 1 << 14;
+
+/// How many guesses of words are kept at most.
+pub const WORD_GUESSES: u64 = 1 << 17;
+
+/// So many blocks of one class have a guess each.
+const BLOCKS: u64 = 32;
 
 /// An odd number by which bytes are spread.
 const SPREAD: u64 = 0x9e37_79b9_7f4a_7c15;
@@ -67,6 +76,41 @@ impl ChainGuesses {
     }
 }
 
+/// By a number that is made of a word, the number that such a word had last. Words of up to 2,048 classes have a guess
+/// each. As a guess of a name it has no meaning: whoever reads one compares the word of that number. If memory for a
+/// guess is refused, there is none.
+#[derive(Drop)]
+pub struct WordGuesses {
+    numbers: Vec<u32>,
+}
+
+impl WordGuesses {
+    /// No guess. Takes no memory.
+    pub fn new(alloc: Global) -> WordGuesses {
+        WordGuesses {
+            numbers: Vec::new(alloc),
+        }
+    }
+
+    /// The number that a word like this one had last.
+    #[inline(always)]
+    pub fn of(&self, word: Word) -> u32 {
+        match self.numbers.get(word_slot(word)) {
+            Some(number) => *number,
+            None => 0,
+        }
+    }
+
+    /// The word has this number. It is kept if there is memory for it.
+    pub fn note(&mut self, word: Word, number: u32) {
+        let slot = word_slot(word);
+        if self.numbers.len() <= slot && self.numbers.resize(slot + 1, 0).is_err() {
+            return;
+        }
+        self.numbers[slot] = number;
+    }
+}
+
 /// The number that is made of a name, of both ends of its bytes.
 #[inline(always)]
 fn slot(name: ClassName<'_>) -> usize
@@ -115,6 +159,14 @@ fn chain_slot(link: Link) -> usize
         None => 0,
     };
     (product(before, link.class as u64) / (1 << 50) % CHAIN_GUESSES as u64) as usize
+}
+
+/// The number that is made of a word.
+#[inline(always)]
+fn word_slot(word: Word) -> usize
+    ensures { result < WORD_GUESSES }
+{
+    ((word.to as u64 * BLOCKS + word.block as u64) % WORD_GUESSES) as usize
 }
 
 /// A number of which the upper bits are touched by each bit of these.

@@ -7,6 +7,39 @@ ghost use Rattle.ld_tables.specs.Inner.Edges.{any_bit};
 use crate::words::Mask;
 use std::alloc::AllocError;
 
+/// How many seats there are.
+const SEATS: usize = 32;
+
+/// Where the masks of blocks stand: each block has a seat, and the first mask of those with one seat takes it. It has no
+/// meaning: whoever reads a place compares the word that stands there.
+#[derive(Drop)]
+pub(crate) struct Seats {
+    /// One more than a place; 0 if the seat is free.
+    taken: [u8; SEATS],
+}
+
+impl Seats {
+    /// All free.
+    pub(crate) fn new() -> Seats {
+        Seats { taken: [0; SEATS] }
+    }
+
+    /// The place of the mask that has the seat of this block.
+    #[inline(always)]
+    pub(crate) fn of(&self, block: u32) -> Option<usize> {
+        (self.taken[block as usize % SEATS] as usize).checked_sub(1)
+    }
+
+    /// The mask at this place takes the seat of this block, unless it is taken.
+    #[inline(always)]
+    pub(crate) fn take(&mut self, block: u32, place: usize) {
+        let seat = block as usize % SEATS;
+        if self.taken[seat] == 0 && place < u8::MAX as usize {
+            self.taken[seat] = (place + 1) as u8;
+        }
+    }
+}
+
 /// Puts a bit of a word on, in the mask at this place, which is of the word, or else in one more.
 pub(crate) fn add_bit(
     masks: &mut Vec<Mask>,

@@ -12,7 +12,8 @@ use Rattle.ld_tables.proofs.edges.Edges.masks.Goals.{in-Some, in-None+in_ok-numb
 
 pub loop-held-init : goal.loop-held-init
 loop-held-init c =
-    let none : c.new-masks.result.items ≡ [] = search rules in
+    let new : c.new-masks.result.items ≡ [] = search rules in
+    let none : c.reserve.new.self.items ≡ [] = c.reserve.ensures.items ∙ new in
     record {
       tellings = refl;
       more = AreMore-same c.args.self.now.words;
