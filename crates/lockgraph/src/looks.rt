@@ -12,7 +12,7 @@ use thiserror::Error;
 pub const MOST_SHOWN: usize = 60;
 
 /// What a file is that isn't a stream, if its first bytes tell it.
-#[derive(Clone, Copy, Debug, PartialEq, Eq, Error)]
+#[derive(Clone, Copy, Debug, Error)]
 pub enum Kind {
     /// What xz made.
     #[error("it looks like a file that xz made: decompress it first")]

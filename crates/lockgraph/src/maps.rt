@@ -12,7 +12,7 @@ use std::{fs, io};
 use thiserror::Error;
 
 /// What a map is called.
-#[derive(Clone, Copy, Debug, PartialEq, Eq)]
+#[derive(Clone, Copy)]
 enum MapName<'a> {
     /// So, by a word of the command line.
     Given(&'a str),

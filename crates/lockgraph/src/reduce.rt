@@ -15,6 +15,7 @@ use crate::fault::Fault;
 use crate::groups::{read_group, write_group};
 use crate::homes::homes_wanted;
 use crate::streams::read_streams;
+use crate::told::Told;
 use crate::words::ReduceWords;
 use ld_check::{CheckFault, Checked, MOST_WORKERS, NoGate, Verdict, check};
 use ld_io::{Output, Std, send};
@@ -28,7 +29,7 @@ use std::sync::Wait;
 use std::thread::Threads;
 
 /// What a reduced stream is to have beside the traces that show something.
-#[derive(Clone, Copy, Debug, PartialEq, Eq)]
+#[derive(Clone, Copy)]
 pub struct Keeping {
     /// The refused traces.
     pub refused: bool,
@@ -36,17 +37,8 @@ pub struct Keeping {
     pub from: bool,
 }
 
-/// A reduced stream.
-#[derive(Debug, Drop)]
-struct Reduced {
-    /// Its bytes.
-    text: Vec<u8>,
-    /// `Refused` where a refused trace was left out, else `Clean`.
-    verdict: Verdict,
-}
-
 /// Why there is no reduced stream, or no whole one.
-#[derive(Clone, Copy, Debug, PartialEq, Eq)]
+#[derive(Clone, Copy)]
 pub enum ReduceFault {
     /// The stream has this fault.
     Stream(StreamFault),
@@ -123,7 +115,7 @@ fn reduction_in(
     checked: &Checked<'_>,
     places: &Places<'_>,
     keeping: Keeping,
-) -> Result<Reduced, ReduceFault>
+) -> Result<Told, ReduceFault>
     requires { All IsTrace checked.now.book }
     ensures memory { OnErr result (result ≡ Err ReduceFault.Memory) }
     ensures reduced { IfOk result (λ reduced. (homes : List PlainHome)
@@ -135,7 +127,7 @@ fn reduction_in(
     let homes = homes_wanted(alloc, places, &checked.sources, keeping.from)?;
     let text = reduction(alloc, &checked.book, keeping.refused, &homes)?;
     let verdict = verdict_of_reduced(keeping.refused, checked.book.totals().refused);
-    Ok(Reduced { text, verdict })
+    Ok(Told { text, verdict })
 }
 
 /// The reduced stream of a stream, whose traces that many workers read at once. May wait.
@@ -151,7 +143,7 @@ fn reduction_of<R: Threads + Wait + Sync>(
     places: &Places<'_>,
     keeping: Keeping,
     workers: usize,
-) -> Result<Reduced, ReduceFault>
+) -> Result<Told, ReduceFault>
     requires { (1 ≤ workers) × (workers ≤ MOST_WORKERS) }
     ensures reduced { IfOk result (λ reduced. IsReducedOf keeping places.now
         (sources bytes.now) reduced.text.items reduced.verdict) }

@@ -26,7 +26,7 @@ use std::sync::Wait;
 use std::thread::Threads;
 
 /// In which form rows are written.
-#[derive(Clone, Copy, Debug)]
+#[derive(Clone, Copy)]
 enum Form<'f> {
     /// As one JSON object a line.
     Json,

@@ -113,23 +113,32 @@ pub fn read_streams<'a, R: Files + io::Input + AllocGlobal>(
         places: Places::new(rt.alloc()),
         lines: Vec::new(rt.alloc()),
     };
-    match names {
-        [name] => {
-            let bytes = read_file(rt, *name)?;
-            let looks = Looks::of(rt.alloc(), &bytes)?;
-            let added = add_alone(rt.alloc(), &mut streams, *name, bytes);
-            told_with(added, looks)?;
-        }
-        _ => {
-            for name in names {
-                let bytes = read_file(rt, *name)?;
-                let looks = Looks::of(rt.alloc(), &bytes)?;
-                let added = add(rt.alloc(), &mut streams, *name, bytes);
-                told_with(added, looks)?;
-            }
-        }
+    let is_alone = names.len() == 1;
+    for name in names {
+        read_into(rt, &mut streams, *name, is_alone)?;
     }
     Ok(streams)
+}
+
+/// Reads a file, and puts its stream behind others, or alone. May wait.
+///
+/// # Errors
+///
+/// Those of `read_file`, and of `add_alone` or `add`.
+fn read_into<'a, R: Files + io::Input + AllocGlobal>(
+    rt: &R,
+    streams: &mut Streams<'a>,
+    name: &'a str,
+    is_alone: bool,
+) -> Result<(), Fault<'a>> {
+    let bytes = read_file(rt, name)?;
+    let looks = Looks::of(rt.alloc(), &bytes)?;
+    let added = if is_alone {
+        add_alone(rt.alloc(), streams, name, bytes)
+    } else {
+        add(rt.alloc(), streams, name, bytes)
+    };
+    told_with(added, looks)
 }
 
 /// How it went to add a file that looks so.

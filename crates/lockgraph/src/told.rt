@@ -9,7 +9,7 @@ use ld_check::Verdict;
 use ld_io::{Output, send};
 
 /// What is told of some traces.
-#[derive(Debug, Drop)]
+#[derive(Drop)]
 pub struct Told {
     /// The text.
     pub text: Vec<u8>,
