@@ -6,6 +6,7 @@ ghost use Rattle.lockgraph.specs.declared.fault.Fault.TheVariants.{Together};
 
 use crate::fault::Fault;
 use crate::maps::{maps_in, maps_of, read_maps};
+use crate::nearest::find_class;
 use crate::streams::read_streams;
 use crate::told::{Told, write_told};
 use crate::words::ExplainWords;
@@ -52,8 +53,9 @@ pub fn answer_explain<'a, R: Files + io::Input + Print + AllocGlobal + Threads +
 ///
 /// # Errors
 ///
-/// `Together` exactly where they are no stream together, whatever memory there is; `Memory` where a growth was
-/// refused; and `Uneven` where the workers' book isn't that of the stream.
+/// `Together` exactly where they are no stream together, whatever memory there is; `NoClass` where no trace acquires the
+/// class that is named; `Memory` where a growth was refused; and `Uneven` where the workers' book isn't that of the
+/// stream.
 fn explained_of<'a, R: Threads + Wait + Sync>(
     rt: &R,
     alloc: Global,
@@ -83,6 +85,9 @@ fn explained_in<'a>(
 ) -> Result<Told, Fault<'a>>
     ensures { IfOk result (λ told. VerdictIs checked.now.book told.verdict) }
 {
+    if let Some(word) = choice.class {
+        find_class(alloc, &checked.book, word)?;
+    }
     let report = report_in(alloc, &checked.book)?;
     let text = text_in(alloc, checked, &report, places, maps, choice)?;
     let verdict = verdict_of(&checked.book);

@@ -2,6 +2,7 @@
 
 use crate::looks::Looks;
 use crate::maps::WrongMap;
+use crate::nearest::NoClass;
 use crate::news::NewsFault;
 use crate::reduce::ReduceFault;
 use ld_check::CheckFault;
@@ -46,6 +47,9 @@ pub enum Fault<'a> {
     /// This is wrong with the map beside this file.
     #[error("{0}.places{1}")]
     MapBeside(&'a str, WrongMap),
+    /// No trace acquires this class.
+    #[error("{0}")]
+    NoClass(NoClass),
     /// The pieces of traces are longer together than a stream may be.
     #[error("TooLong: the pieces are longer together than a stream may be; ask for more lines in each")]
     Pieces,

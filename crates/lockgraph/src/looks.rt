@@ -120,7 +120,7 @@ impl fmt::Display for Looks {
 }
 
 /// Writes a byte of a line: one that shows nothing, a quote and a backslash by its number.
-fn write_shown<W: fmt::Write>(f: &mut fmt::Formatter<W>, byte: u8) -> fmt::Result {
+pub fn write_shown<W: fmt::Write>(f: &mut fmt::Formatter<W>, byte: u8) -> fmt::Result {
     if (byte.is_ascii_graphic() || byte == b' ') && byte != b'"' && byte != b'\\' {
         let shown = byte as char;
         write!(f, "{shown}")

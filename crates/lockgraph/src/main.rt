@@ -19,6 +19,7 @@ mod lines;
 mod list;
 mod looks;
 mod maps;
+mod nearest;
 mod news;
 mod reduce;
 mod report;

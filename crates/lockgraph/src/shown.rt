@@ -6,13 +6,14 @@ ghost use Rattle.lockgraph.specs.declared.fault.Fault.TheVariants.{Together, Wri
 ghost use Rattle.lockgraph.specs.Shown.{IsVerdictOf, verdict_of_read};
 
 use crate::fault::Fault;
+use crate::nearest::find_class;
 use crate::streams::{Streams, read_streams};
 use crate::told::{Told, write_told};
 use crate::words::Given;
 use ld_check::{Book, Checked, MOST_WORKERS, NoGate, Verdict, check, verdict_of};
 use ld_io::Std;
-use ld_texts::{Places, ShownPlaces, Wanted, text_of};
-use std::alloc::{AllocError, Global};
+use ld_texts::{Listing, Places, ShownPlaces, Wanted, text_of};
+use std::alloc::Global;
 use std::io;
 use std::rt::Files;
 use std::sync::Wait;
@@ -38,8 +39,9 @@ pub fn answer_shown<'a, R: Files + io::Input + Print + AllocGlobal + Threads + W
 ///
 /// # Errors
 ///
-/// `Together` exactly where they are no stream together, whatever memory there is; `Memory` where a growth was
-/// refused; and `Uneven` where the workers' book isn't that of the stream.
+/// `Together` exactly where they are no stream together, whatever memory there is; `NoClass` where no trace acquires the
+/// class that is named; `Memory` where a growth was refused; and `Uneven` where the workers' book isn't that of the
+/// stream.
 fn shown_of<'a, R: Threads + Wait + Sync>(
     rt: &R,
     alloc: Global,
@@ -58,23 +60,28 @@ fn shown_of<'a, R: Threads + Wait + Sync>(
         Ok(checked) => {
             let told = shown_in(rt, alloc, &checked, &streams.places, wanted, workers);
             drop(checked);
-            Ok(told?)
+            told
         }
         Err(fault) => Err(Fault::from(fault)),
     }
 }
 
 /// What is wanted of the traces that a book lists.
-fn shown_in<R: Threads + Sync>(
+fn shown_in<'f, R: Threads + Sync>(
     rt: &R,
     alloc: Global,
     checked: &Checked<'_>,
     places: &Places<'_>,
     wanted: Wanted<'_>,
     threads: usize,
-) -> Result<Told, AllocError>
-    ensures { IfOk result (λ told. IsVerdictOf wanted.entry checked.now.book told.verdict) }
+) -> Result<Told, Fault<'f>>
+    ensures verdict { IfOk result (λ told. IsVerdictOf wanted.entry checked.now.book told.verdict) }
+    ensures unwritten { result ≢ Err Write }
+    ensures sound { (fault : StreamFault) → result ≢ Err (Together fault) }
 {
+    if let Wanted::List(Listing::Class(name)) = wanted {
+        find_class(alloc, &checked.book, name.as_bytes())?;
+    }
     let shown = ShownPlaces {
         files: places,
         sources: checked.sources.as_slice(),

@@ -16,7 +16,7 @@ each with the place where it was first seen:
 The class L!read, for which recursive readers of L wait, has the row !read under that of L.
 
 Of one class --class writes where each usage bit was first seen, under which classes it was acquired (under),
-and which ones were acquired under it (over), or `NAME not seen`.
+and which ones were acquired under it (over). A class that no trace acquires is told with the nearest name.
 
 Exit status: 3 where a trace is refused, of which nothing is listed, 0 else, 2 where there is no whole answer.
 
