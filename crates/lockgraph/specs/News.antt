@@ -12,7 +12,7 @@ use Rattle.ld_texts.specs.Places.{PlainFile}
 use Rattle.ld_texts.specs.ShownPlaces.{has_origin}
 use Rattle.lockgraph.specs.declared.news.Telling.{Telling}
 use Rattle.lockgraph.specs.declared.news.Telling.TheVariants as tellings
-use Rattle.lockgraph.specs.Comments.{comment_line}
+use Rattle.ld_files.specs.Comments.{comment_line}
 use Rattle.lockgraph.specs.Shown.{verdict_of_read}
 
 -- `Violations` where some are new, else `Refused` where a trace is refused, else `Clean`

@@ -2,15 +2,12 @@
 ghost use Rattle.std.specs.Prelude.{◌≡◌, ◌≤◌, Err, IfOk, IfSome};
 ghost use Rattle.ld_trace.specs.Sources.{sources, stream_fault};
 ghost use Rattle.ld_check.specs.OfReport.Verdict.{VerdictIs};
-ghost use Rattle.lockgraph.specs.declared.fault.Fault.TheVariants.{Together};
+ghost use Rattle.ld_files.specs.declared.fault.Fault.TheVariants.{Together};
 
-use crate::fault::Fault;
-use crate::nearest::find_class;
-use crate::streams::read_streams;
-use crate::told::{Told, write_told};
 use crate::words::DotWords;
 use ld_check::{Checked, MOST_WORKERS, NoGate, Verdict, check, verdict_of};
 use ld_explain::{Drawn, dot};
+use ld_files::{Fault, Told, find_class, read_streams, write_told};
 use ld_io::Std;
 use ld_texts::{Places, ShownPlaces};
 use std::alloc::Global;

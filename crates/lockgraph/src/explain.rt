@@ -2,16 +2,12 @@
 ghost use Rattle.std.specs.Prelude.{◌≡◌, ◌≤◌, Err, IfOk, IfSome};
 ghost use Rattle.ld_trace.specs.Sources.{sources, stream_fault};
 ghost use Rattle.ld_check.specs.OfReport.Verdict.{VerdictIs};
-ghost use Rattle.lockgraph.specs.declared.fault.Fault.TheVariants.{Together};
+ghost use Rattle.ld_files.specs.declared.fault.Fault.TheVariants.{Together};
 
-use crate::fault::Fault;
-use crate::maps::{maps_in, maps_of, read_maps};
-use crate::nearest::find_class;
-use crate::streams::read_streams;
-use crate::told::{Told, write_told};
 use crate::words::ExplainWords;
 use ld_check::{Checked, MOST_WORKERS, NoGate, Verdict, check, report_in, verdict_of};
 use ld_explain::{Choice, chosen, explain};
+use ld_files::{Fault, Told, find_class, maps_in, maps_of, read_maps, read_streams, write_told};
 use ld_io::Std;
 use ld_source_map::Maps;
 use ld_texts::{Places, ShownPlaces};
@@ -31,7 +27,7 @@ pub fn answer_explain<'a, R: Files + io::Input + Print + AllocGlobal + Threads +
     words: &ExplainWords<'a>,
 ) -> Result<Verdict, Fault<'a>> {
     let files = &words.mapped.given.files;
-    let texts = read_maps(rt, &words.mapped)?;
+    let texts = read_maps(rt, &words.mapped.maps, files)?;
     // A mistake in them is told before the traces are read.
     let maps = maps_in(rt.alloc(), &texts)?;
     let streams = read_streams(rt, files)?;

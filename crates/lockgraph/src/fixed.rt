@@ -6,9 +6,9 @@ ghost use Rattle.lockgraph.specs.News.{IsFixedOf, fixed_line};
 
 use crate::news::NewsFault;
 use crate::shown::verdict_of_read;
-use crate::told::Told;
 use ld_baseline::gone_lines;
 use ld_check::{Book, report_in};
+use ld_files::Told;
 use std::alloc::{AllocError, Global};
 use std::io::Write;
 

@@ -5,16 +5,14 @@ ghost use Rattle.ld_trace.specs.declared.source.StreamFault.{StreamFault};
 ghost use Rattle.ld_trace.specs.Sources.{plain, sources, stream_fault};
 ghost use Rattle.ld_io.specs.Transfer.{AppendsPart};
 ghost use Rattle.ld_baseline.specs.Known.{unknown_line};
+ghost use Rattle.lockgraph.specs.Faults.{fault_of_news};
 ghost use Rattle.lockgraph.specs.News.{IsNewsWith, IsToldOf, IsToldWith, verdict_of_new};
 
-use crate::comments::{remarks, write_comments};
-use crate::fault::Fault;
 use crate::fixed::fixed_in;
-use crate::streams::{read_known, read_streams};
-use crate::told::Told;
 use crate::words::NewWords;
 use ld_baseline::{SelectFault, new_report};
 use ld_check::{CheckFault, Checked, MOST_WORKERS, NoGate, Verdict, check, report_in};
+use ld_files::{Fault, Told, read_known, read_streams, remarks, write_comments};
 use ld_io::{Output, Std, send};
 use ld_texts::{Places, ShownPlaces};
 use ld_trace::StreamFault;
@@ -73,7 +71,20 @@ pub fn answer_new<'a, R: Files + io::Input + Print + AllocGlobal + Threads + Wai
         words.given.workers,
     ) {
         Ok(verdict) => Ok(verdict),
-        Err(fault) => Err(Fault::of_news(words.known, fault)),
+        Err(fault) => Err(fault_of_news(words.known, fault)),
+    }
+}
+
+/// Why it isn't told what is new beside the known text of this name.
+fn fault_of_news<'a>(known: &'a str, fault: NewsFault) -> Fault<'a>
+    ensures { result ≡ fault_of_news known.entry fault }
+{
+    match fault {
+        NewsFault::Stream(fault) => Fault::Together(fault),
+        NewsFault::UnknownLine(line) => Fault::UnknownLine(known, line),
+        NewsFault::Write => Fault::Write,
+        NewsFault::Memory => Fault::Memory,
+        NewsFault::Uneven(number) => Fault::Uneven(number),
     }
 }
 

@@ -8,16 +8,14 @@ ghost use Rattle.ld_trace.specs.Sources.{PlainSource, plain};
 ghost use Rattle.ld_origin.specs.Origin.{PlainHome};
 ghost use Rattle.ld_reduce.specs.Written.{IsTrace};
 ghost use Rattle.std.specs.List.Sorted.{IsPermutation};
-ghost use Rattle.lockgraph.specs.Homes.{AreWanted};
+ghost use Rattle.ld_files.specs.Homes.{AreWanted};
+ghost use Rattle.lockgraph.specs.Faults.{fault_of_reduce};
 ghost use Rattle.lockgraph.specs.Reduced.{IsReducedOf, IsReducedWith, verdict_of_reduced};
 
-use crate::fault::Fault;
 use crate::groups::{read_group, write_group};
-use crate::homes::homes_wanted;
-use crate::streams::read_streams;
-use crate::told::Told;
 use crate::words::ReduceWords;
 use ld_check::{CheckFault, Checked, MOST_WORKERS, NoGate, Verdict, check};
+use ld_files::{Fault, Told, homes_wanted, read_streams};
 use ld_io::{Output, Std, send};
 use ld_reduce::reduction;
 use ld_texts::Places;
@@ -76,7 +74,7 @@ pub fn answer_reduce<'a, R: Files + io::Input + Print + AllocGlobal + Threads + 
         workers,
     ) {
         Ok(verdict) => Ok(verdict),
-        Err(fault) => Err(Fault::of_reduce(fault)),
+        Err(fault) => Err(fault_of_reduce(fault)),
     }
 }
 
@@ -94,7 +92,19 @@ fn answer_group<'a, R: Files + io::Input + Print + AllocGlobal + Threads + Wait 
     let mut output = Std::new(io::writer(rt));
     match write_group(rt, rt.alloc(), &group, words.keeping, &mut output, workers) {
         Ok(verdict) => Ok(verdict),
-        Err(fault) => Err(Fault::of_reduce(fault)),
+        Err(fault) => Err(fault_of_reduce(fault)),
+    }
+}
+
+/// Why there is no reduced stream.
+pub fn fault_of_reduce<'a>(fault: ReduceFault) -> Fault<'a>
+    ensures { result ≡ fault_of_reduce fault }
+{
+    match fault {
+        ReduceFault::Stream(fault) => Fault::Together(fault),
+        ReduceFault::Write => Fault::Write,
+        ReduceFault::Memory => Fault::Memory,
+        ReduceFault::Uneven(number) => Fault::Uneven(number),
     }
 }
 

@@ -2,15 +2,12 @@
 ghost use Rattle.std.specs.Prelude.{◌≡◌, ◌≢◌, ◌≤◌, Err, IfOk, IfSome, Some};
 ghost use Rattle.ld_trace.specs.declared.source.StreamFault.{StreamFault};
 ghost use Rattle.ld_trace.specs.Sources.{stream_fault};
-ghost use Rattle.lockgraph.specs.declared.fault.Fault.TheVariants.{Together, Write};
+ghost use Rattle.ld_files.specs.declared.fault.Fault.TheVariants.{Together, Write};
 ghost use Rattle.lockgraph.specs.Shown.{IsVerdictOf, verdict_of_read};
 
-use crate::fault::Fault;
-use crate::nearest::find_class;
-use crate::streams::{Streams, read_streams};
-use crate::told::{Told, write_told};
 use crate::words::Given;
 use ld_check::{Book, Checked, MOST_WORKERS, NoGate, Verdict, check, verdict_of};
+use ld_files::{Fault, Streams, Told, find_class, read_streams, write_told};
 use ld_io::Std;
 use ld_texts::{Listing, Places, ShownPlaces, Wanted, text_of};
 use std::alloc::Global;

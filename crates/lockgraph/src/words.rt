@@ -14,7 +14,6 @@ mod new;
 mod reduce;
 mod stats;
 
-use crate::streams::STANDARD_INPUT;
 pub use check::CheckWords;
 use check::{check_command, read_check};
 use clap::error::ErrorKind;
@@ -32,6 +31,7 @@ use formats::{
 pub use json::JsonWords;
 use json::{json_command, read_json};
 use ld_check::MOST_WORKERS;
+use ld_files::STANDARD_INPUT;
 pub use list::ListWords;
 use list::{list_command, read_list};
 pub use mapped::Mapped;
