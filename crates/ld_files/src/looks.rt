@@ -94,7 +94,7 @@ fn first_said(bytes: &[u8]) -> &[u8]
 }
 
 /// The bytes of a line that are shown.
-fn front(line: &[u8]) -> &[u8]
+pub fn front(line: &[u8]) -> &[u8]
     ensures { result.now ≡ take MOST_SHOWN line.now }
 {
     if line.len() > MOST_SHOWN {
