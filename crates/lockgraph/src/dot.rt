@@ -2,14 +2,12 @@
 ghost use Rattle.std.specs.Prelude.{◌≡◌, ◌≤◌, Err, IfOk, IfSome};
 ghost use Rattle.ld_trace.specs.Sources.{sources, stream_fault};
 ghost use Rattle.ld_check.specs.OfReport.Verdict.{VerdictIs};
-ghost use Rattle.lockgraph.specs.declared.fault.Fault.TheVariants.{Together};
+ghost use Rattle.ld_files.specs.declared.fault.Fault.TheVariants.{Together};
 
-use crate::fault::Fault;
-use crate::streams::read_streams;
-use crate::told::{Told, write_told};
 use crate::words::DotWords;
 use ld_check::{Checked, MOST_WORKERS, NoGate, Verdict, check, verdict_of};
 use ld_explain::{Drawn, dot};
+use ld_files::{Fault, Told, find_class, read_streams, write_told};
 use ld_io::Std;
 use ld_texts::{Places, ShownPlaces};
 use std::alloc::Global;
@@ -44,8 +42,9 @@ pub fn answer_dot<'a, R: Files + io::Input + Print + AllocGlobal + Threads + Wai
 ///
 /// # Errors
 ///
-/// `Together` exactly where they are no stream together, whatever memory there is; `Memory` where a growth was
-/// refused; and `Uneven` where the workers' book isn't that of the stream.
+/// `Together` exactly where they are no stream together, whatever memory there is; `NoClass` where no trace acquires the
+/// class that is named; `Memory` where a growth was refused; and `Uneven` where the workers' book isn't that of the
+/// stream.
 fn drawn_of<'a, R: Threads + Wait + Sync>(
     rt: &R,
     alloc: Global,
@@ -73,6 +72,9 @@ fn drawn_in<'a>(
 ) -> Result<Told, Fault<'a>>
     ensures { IfOk result (λ told. VerdictIs checked.now.book told.verdict) }
 {
+    if let Drawn::Around { name, .. } = drawn {
+        find_class(alloc, &checked.book, name)?;
+    }
     let sources = checked.sources.as_slice();
     let shown = ShownPlaces {
         files: places,

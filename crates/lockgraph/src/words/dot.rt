@@ -27,7 +27,7 @@ Example:
   lockgraph dot run.trace | dot -Tsvg > run.svg";
 
 /// What `dot` is asked.
-#[derive(Debug, Drop)]
+#[derive(Drop)]
 pub struct DotWords<'a> {
     /// What is drawn.
     pub drawn: Drawn<'a>,

@@ -39,7 +39,7 @@ Example:
   lockgraph explain --map run.trace.places run.trace";
 
 /// What `explain` is asked.
-#[derive(Debug, Drop)]
+#[derive(Drop)]
 pub struct ExplainWords<'a> {
     /// Which violations are explained.
     pub choice: Choice<'a>,
@@ -49,30 +49,33 @@ pub struct ExplainWords<'a> {
 
 /// `explain [--only KIND] [--class NAME] [--most N] [--map FILE].. [--workers N] [FILE]..`.
 pub fn explain_command<'a>(alloc: Global) -> Result<Command<'a>, AllocError> {
-    let only = Arg::new(alloc, "only")
-        .long("only")
-        .value_name("KIND")
-        .help("The violations of this kind alone")
-        .action(ArgAction::Set)
-        .value_parser(KINDS.as_slice());
-    let class = Arg::new(alloc, "class")
-        .long("class")
-        .value_name("NAME")
-        .help("Those that this class is part of alone, NAME or NAME/N")
-        .action(ArgAction::Set);
-    let most = Arg::new(alloc, "most")
-        .long("most")
-        .value_name("N")
-        .help("How many violations are explained at most, 0 for all")
-        .action(ArgAction::Set)
-        .default_value("20")
-        .value_parser(value_parser!(u64));
     Command::new(alloc, "explain")
         .about("Says what stands behind each violation: who held what where")
         .after_help(AFTER_EXPLAIN)
-        .arg(only)?
-        .arg(class)?
-        .arg(most)?
+        .arg(
+            Arg::new(alloc, "only")
+                .long("only")
+                .value_name("KIND")
+                .help("The violations of this kind alone")
+                .action(ArgAction::Set)
+                .value_parser(KINDS.as_slice()),
+        )?
+        .arg(
+            Arg::new(alloc, "class")
+                .long("class")
+                .value_name("NAME")
+                .help("Those that this class is part of alone, NAME or NAME/N")
+                .action(ArgAction::Set),
+        )?
+        .arg(
+            Arg::new(alloc, "most")
+                .long("most")
+                .value_name("N")
+                .help("How many violations are explained at most, 0 for all")
+                .action(ArgAction::Set)
+                .default_value("20")
+                .value_parser(value_parser!(u64)),
+        )?
         .arg(named_map(alloc))?
         .arg(count_of_workers(alloc))?
         .arg(named_files(alloc))
