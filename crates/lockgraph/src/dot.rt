@@ -7,8 +7,9 @@ ghost use Rattle.ld_files.specs.declared.fault.Fault.TheVariants.{Together};
 use crate::words::DotWords;
 use ld_check::{Checked, MOST_WORKERS, NoGate, Verdict, check, verdict_of};
 use ld_explain::{Drawn, dot};
-use ld_files::{Fault, Told, find_class, read_streams, write_told};
+use ld_files::{Fault, Told, find_class, maps_in, maps_of, read_maps, read_streams, write_told};
 use ld_io::Std;
+use ld_source_map::Maps;
 use ld_texts::{Places, ShownPlaces};
 use std::alloc::Global;
 use std::io;
@@ -20,19 +21,25 @@ use std::thread::Threads;
 ///
 /// # Errors
 ///
-/// Those of `read_streams`, `drawn_of` and `write_told`.
+/// Those of `read_maps`, `maps_in`, `read_streams`, `maps_of`, `drawn_of` and `write_told`.
 pub fn answer_dot<'a, R: Files + io::Input + Print + AllocGlobal + Threads + Wait + Sync>(
     rt: &R,
     words: &DotWords<'a>,
 ) -> Result<Verdict, Fault<'a>> {
-    let streams = read_streams(rt, &words.given.files)?;
+    let files = &words.mapped.given.files;
+    let texts = read_maps(rt, &words.mapped.maps, files)?;
+    // A mistake in them is told before the traces are read.
+    let maps = maps_in(rt.alloc(), &texts)?;
+    let streams = read_streams(rt, files)?;
+    let maps = maps_of(rt.alloc(), &texts, maps, files, &streams)?;
     let told = drawn_of(
         rt,
         rt.alloc(),
         &streams.bytes,
         &streams.places,
+        &maps,
         words.drawn,
-        words.given.workers,
+        words.mapped.given.workers,
     )?;
     let mut output = Std::new(io::writer(rt));
     write_told(&mut output, &told)
@@ -50,6 +57,7 @@ fn drawn_of<'a, R: Threads + Wait + Sync>(
     alloc: Global,
     bytes: &[u8],
     places: &Places<'_>,
+    maps: &Maps<'_>,
     drawn: Drawn<'_>,
     workers: usize,
 ) -> Result<Told, Fault<'a>>
@@ -58,7 +66,7 @@ fn drawn_of<'a, R: Threads + Wait + Sync>(
     ensures stream { IfSome (stream_fault bytes.now) (λ fault. result ≡ Err (Together fault)) }
 {
     let checked = check(rt, alloc, bytes, workers, &NoGate)?;
-    let told = drawn_in(alloc, &checked, places, drawn);
+    let told = drawn_in(alloc, &checked, places, maps, drawn);
     drop(checked);
     told
 }
@@ -68,6 +76,7 @@ fn drawn_in<'a>(
     alloc: Global,
     checked: &Checked<'_>,
     places: &Places<'_>,
+    maps: &Maps<'_>,
     drawn: Drawn<'_>,
 ) -> Result<Told, Fault<'a>>
     ensures { IfOk result (λ told. VerdictIs checked.now.book told.verdict) }
@@ -80,7 +89,7 @@ fn drawn_in<'a>(
         files: places,
         sources,
     };
-    let text = dot(alloc, &checked.book, sources, &shown, drawn)?;
+    let text = dot(alloc, &checked.book, sources, &shown, maps, drawn)?;
     let verdict = verdict_of(&checked.book);
     Ok(Told { text, verdict })
 }

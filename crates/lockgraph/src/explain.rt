@@ -1,4 +1,4 @@
-//! `explain`: what stands behind the violations of some traces.
+//! `explain`: why traces are refused, and what stands behind the violations of the others.
 ghost use Rattle.std.specs.Prelude.{◌≡◌, ◌≤◌, Err, IfOk, IfSome};
 ghost use Rattle.ld_trace.specs.Sources.{sources, stream_fault};
 ghost use Rattle.ld_check.specs.OfReport.Verdict.{VerdictIs};
@@ -6,7 +6,7 @@ ghost use Rattle.ld_files.specs.declared.fault.Fault.TheVariants.{Together};
 
 use crate::words::ExplainWords;
 use ld_check::{Checked, MOST_WORKERS, NoGate, Verdict, check, report_in, verdict_of};
-use ld_explain::{Choice, chosen, explain};
+use ld_explain::{Choice, chosen, explain, faults};
 use ld_files::{Fault, Told, find_class, maps_in, maps_of, read_maps, read_streams, write_told};
 use ld_io::Std;
 use ld_source_map::Maps;
@@ -99,11 +99,20 @@ fn text_in(
     maps: &Maps<'_>,
     choice: &Choice<'_>,
 ) -> Result<Vec<u8>, AllocError> {
+    let faults = faults(alloc, &checked.book, choice)?;
     let violations = chosen(alloc, &checked.book, report, choice)?;
     let sources = checked.sources.as_slice();
     let shown = ShownPlaces {
         files: places,
         sources,
     };
-    explain(alloc, &violations, choice.most, sources, &shown, maps)
+    explain(
+        alloc,
+        &faults,
+        &violations,
+        choice.most,
+        sources,
+        &shown,
+        maps,
+    )
 }

@@ -108,7 +108,7 @@ impl<'a> Asked<'a> {
         match self {
             Asked::Check(words) => &words.given,
             Asked::Cut(words) => &words.given,
-            Asked::Dot(words) => &words.given,
+            Asked::Dot(words) => &words.mapped.given,
             Asked::Explain(words) => &words.mapped.given,
             Asked::Format(words) => &words.mapped.given,
             Asked::Json(words) => &words.mapped.given,

@@ -28,6 +28,12 @@ of a program, or what convert --map wrote of a kernel; an empty one, as /dev/nul
 stands then the function and the source line, or the line of the recording; and below a class, where it is first
 named, what its locks are and where they are acquired most.
 
+Of an inversion it is told if all of these were by one task of one trace, and which locks were held at each of them:
+`both` of two dependencies, `all` of more.
+
+Traces that are refused come first, unless --only or --class choose violations: the faulty line, what its verb takes and
+what was found, and what the task had open there.
+
 Violations that share dependencies stand together, and the heading names the one that most of them have. What
 was told before is `above`. The last line says how many violations are explained, and how many are not.
 
@@ -71,7 +77,7 @@ pub fn explain_command<'a>(alloc: Global) -> Result<Command<'a>, AllocError> {
             Arg::new(alloc, "most")
                 .long("most")
                 .value_name("N")
-                .help("How many violations are explained at most, 0 for all")
+                .help("How many violations, and refused traces, are explained at most, 0 for all")
                 .action(ArgAction::Set)
                 .default_value("20")
                 .value_parser(value_parser!(u64)),
