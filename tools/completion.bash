@@ -39,7 +39,7 @@ _lockgraph() {
     esac
     case $command in
         cut) options='--lines' workers= ;;
-        dot) options='--all --around --class' ;;
+        dot) options='--all --around --class --map' ;;
         explain) options='--class --map --most --only' ;;
         github | junit | sarif) options='--map --strip' ;;
         html | json | ktap) options='--map' ;;

@@ -1,13 +1,15 @@
 //! Graphs of classes and dependencies, in the language of Graphviz.
 
 use crate::around::near;
+use crate::known::{known_at, write_known};
 use crate::violations::{Choice, Dependency, Violation, chosen, is_named};
 use crate::writing::write_sub;
 use indexmap::{IndexMap, IndexSet};
 use ld_rows::Kind;
+use ld_source_map::{At, Maps};
 use ld_texts::{
-    Book, ClassName, ClassRow, DependencyRow, Overview, ShownPlaces, has_readers, lock_of_readers,
-    sort_by_locks,
+    Book, ClassName, ClassRow, DependencyRow, Overview, ShownPlaces, Witness, has_readers,
+    lock_of_readers, sort_by_locks,
 };
 use ld_trace::Source;
 use std::alloc::{AllocError, Global};
@@ -46,12 +48,12 @@ struct Marked<'a> {
 }
 
 /// The classes and dependencies of a book as a graph for Graphviz: each class with its usage, each dependency
-/// with its first witness. Those of cycles are red, other ones of forbidden walks orange, and classes with a
-/// conflict have two lines around them. What the readers of a lock wait for stands in a box with the lock's name, and
-/// with the lock's own class, if that is drawn.
+/// with its first witness, and with what is known of that line. Those of cycles are red, other ones of forbidden walks
+/// orange, and classes with a conflict have two lines around them. What the readers of a lock wait for stands in a box
+/// with the lock's name, and with the lock's own class, if that is drawn.
 ///
-/// `sources` are the traces of the book, each at the place of its number, and `places` says where the lines
-/// stand in files.
+/// `sources` are the traces of the book, each at the place of its number, `places` says where the lines stand in files,
+/// and `maps` what is known of these files' lines.
 ///
 /// # Errors
 ///
@@ -61,6 +63,7 @@ pub fn dot<'t, 'a>(
     book: &Book<'a>,
     sources: &'t [Source<'a>],
     places: &'t ShownPlaces<'t>,
+    maps: &'t Maps<'t>,
     drawn: Drawn<'_>,
 ) -> Result<Vec<u8>, AllocError> {
     let mut overview = Overview::new(alloc, book)?;
@@ -71,6 +74,7 @@ pub fn dot<'t, 'a>(
         alloc,
         sources,
         places,
+        maps,
         marked: &marked,
         text: Vec::new(alloc),
     };
@@ -175,6 +179,7 @@ struct Drawing<'t, 'a> {
     alloc: Global,
     sources: &'t [Source<'a>],
     places: &'t ShownPlaces<'t>,
+    maps: &'t Maps<'t>,
     marked: &'t Marked<'a>,
     text: Vec<u8>,
 }
@@ -275,19 +280,32 @@ impl<'t, 'a> Drawing<'t, 'a> {
         self.node(row.from)?;
         self.text.extend_from_slice(b" -> ")?;
         self.node(row.to)?;
-        self.text.extend_from_slice(b" [label=\"")?;
-        if let Some(source) = self.sources.get(row.first.number as usize) {
-            write_shown(&mut self.text, source.name)?;
-        }
-        self.text.extend_from_slice(b"\\n")?;
-        self.place(row.first.line)?;
-        self.text.push(b'"')?;
+        self.witness(row.first)?;
         match self.colour(row) {
             Some(Colour::Red) => self.text.extend_from_slice(b" color=red")?,
             Some(Colour::Orange) => self.text.extend_from_slice(b" color=orange")?,
             None => {}
         }
         self.text.extend_from_slice(b"];\n")?;
+        Ok(())
+    }
+
+    /// The label with a first witness. What is known of its line is shown where a pointer is over the edge or the label.
+    fn witness(&mut self, first: Witness) -> Result<(), AllocError> {
+        self.text.extend_from_slice(b" [label=\"")?;
+        if let Some(source) = self.sources.get(first.number as usize) {
+            write_shown(&mut self.text, source.name)?;
+        }
+        self.text.extend_from_slice(b"\\n")?;
+        self.place(first.line)?;
+        if let Some(at) = known_at(self.places, self.maps, first.line) {
+            let known = known_of(self.alloc, at)?;
+            self.text.extend_from_slice(b"\" tooltip=\"")?;
+            write_shown(&mut self.text, &known)?;
+            self.text.extend_from_slice(b"\" labeltooltip=\"")?;
+            write_shown(&mut self.text, &known)?;
+        }
+        self.text.push(b'"')?;
         Ok(())
     }
 
@@ -311,6 +329,13 @@ impl<'t, 'a> Drawing<'t, 'a> {
             None => write!(self.text, "line {line}").map_err(|_| AllocError),
         }
     }
+}
+
+/// What is known of a line, as a text.
+fn known_of(alloc: Global, at: At<'_>) -> Result<Vec<u8>, AllocError> {
+    let mut text = Vec::new(alloc);
+    write_known(&mut text, at)?;
+    Ok(text)
 }
 
 /// Writes what stands between the quotes of a label, where Graphviz reads entities too.

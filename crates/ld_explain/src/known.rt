@@ -1,19 +1,18 @@
 //! Writes what recorders say of lines and classes. Each call answers `AllocError` where memory for it was refused.
 
 use ld_source_map::{At, Maps, Origin, write_plain};
+use ld_texts::ShownPlaces;
 use std::alloc::AllocError;
 use std::io::Write;
 
-/// What is known of a line of a file, on a line of its own, if something is.
-pub fn write_known_line(
-    out: &mut Vec<u8>,
-    maps: &Maps<'_>,
-    file: &str,
-    line: u64,
-) -> Result<(), AllocError> {
-    let Some(at) = maps.line(file, line) else {
-        return Ok(());
-    };
+/// What is known of a line of the stream. The maps are those of the files that were read.
+pub fn known_at<'m>(places: &ShownPlaces<'_>, maps: &Maps<'m>, line: u64) -> Option<At<'m>> {
+    let own = places.files.place(line)?;
+    maps.line(own.file, own.line)
+}
+
+/// What is known of a line, on a line of its own.
+pub fn write_known_line(out: &mut Vec<u8>, at: At<'_>) -> Result<(), AllocError> {
     out.extend_from_slice(b"      ")?;
     write_known(out, at)?;
     out.push(b'\n')?;
@@ -66,7 +65,7 @@ fn write_origin(out: &mut Vec<u8>, origin: Origin<'_>) -> Result<(), AllocError>
 }
 
 /// Where in the source something is, or on which line of a recording.
-fn write_known(out: &mut Vec<u8>, at: At<'_>) -> Result<(), AllocError> {
+pub fn write_known(out: &mut Vec<u8>, at: At<'_>) -> Result<(), AllocError> {
     match at {
         At::Place { function, source } => {
             out.extend_from_slice(b"in ")?;

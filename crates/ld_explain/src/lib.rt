@@ -4,18 +4,23 @@
 #![tactic(auto)]
 
 mod around;
+mod common;
 mod drawing;
 mod explaining;
+mod fault;
 mod groups;
 mod known;
 mod readers;
+mod refusals;
 mod rows;
 mod sightings;
+mod telling;
 mod violations;
 mod writing;
 
 pub use drawing::{Drawn, dot};
 pub use explaining::explain;
+pub use fault::{Fault, faults};
 pub use ld_rows::Kind;
 pub use rows::rows_of;
 pub use violations::{Choice, Dependency, Ends, Step, Violation, chosen};

@@ -15,12 +15,13 @@ mod refused;
 mod seen;
 mod violations;
 
+use crate::fault::{Fault, faults};
 use crate::groups::grouped;
 use crate::rows::classes::{class_rows, edge_rows};
 use crate::rows::groups::{group_numbers, group_rows};
 use crate::rows::lines::{Lines, Placing};
 use crate::rows::needed::Needed;
-use crate::rows::refused::{Fault, faults, refused_rows};
+use crate::rows::refused::refused_rows;
 use crate::rows::seen::{Telling, dependency_rows, end_rows};
 use crate::rows::violations::violation_rows;
 use crate::sightings::{Sightings, Texts};
@@ -124,7 +125,7 @@ fn shown_of<'a>(
         AreRefusals book.now (map refusal_said shown.refused.items)) }
     ensures first { IfOk result (λ shown. All (IsFirstRow book.now) shown.dependencies.items) }
 {
-    let faults = faults(alloc, book)?;
+    let faults = faults(alloc, book, &Choice::all())?;
     let sightings = Sightings::of(alloc, placing.sources, needed.witnesses(alloc)?)?;
     let texts = texts_of(alloc, placing.sources, &sightings, &faults)?;
     let lines = Lines {

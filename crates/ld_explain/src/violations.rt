@@ -33,6 +33,22 @@ impl Choice<'_> {
             most: 0,
         }
     }
+
+    /// Whether it is every violation, but for how many.
+    pub(crate) fn is_every(&self) -> bool
+        ensures { IsEvery self.now → result ≡ true }
+    {
+        self.kind.is_none() && self.class.is_none()
+    }
+}
+
+/// How many of so many are explained, if so many are at most; all if that is 0.
+pub fn at_most(count: usize, most: u64) -> usize {
+    if most == 0 || count as u64 <= most {
+        count
+    } else {
+        most as usize
+    }
 }
 
 /// A dependency, by the names of its classes.

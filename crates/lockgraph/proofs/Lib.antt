@@ -1,5 +1,2 @@
-pub mod HeaderLemmas
-pub mod HomeLemmas
-pub mod LineLemmas
 pub mod NewsLemmas
 pub mod GroupLemmas

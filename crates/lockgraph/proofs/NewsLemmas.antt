@@ -10,7 +10,9 @@ use Rattle.ld_check.proofs.OfReport.Permuted.{report-permuted}
 use Rattle.ld_baseline.specs.News.{count_new}
 use Rattle.ld_texts.specs.Places.{PlainFile}
 use Rattle.ld_texts.specs.ShownPlaces.{has_origin}
-use Rattle.lockgraph.specs.News.{IsFixedOf, IsNewsOf, IsNewsWith, verdict_of_new}
+use Rattle.lockgraph.specs.declared.news.Telling.{Telling}
+use Rattle.lockgraph.specs.declared.news.Telling.TheVariants as tellings
+use Rattle.lockgraph.specs.News.{IsFixedOf, IsNewsOf, IsNewsWith, IsToldOf, IsToldWith, verdict_of_new}
 use Rattle.lockgraph.specs.Shown.{verdict_of_read}
 
 pub news-permuted : (sources listed in_order : List PlainSource) → IsPermutation sources listed → in_order ≡ sources
@@ -32,3 +34,8 @@ fixed-permuted sources listed moved known text verdict fixed = record {
   text_is = fixed.text_is;
   verdict_is = fixed.verdict_is ∙ ap (λ (t : Totals). verdict_of_read t.refused) (totals-permuted sources listed moved);
 }
+
+pub told-permuted : (telling : Telling) (sources listed in_order : List PlainSource) → IsPermutation sources listed → in_order ≡ sources
+    → (files : List PlainFile) (known text : List ℕ) (verdict : Verdict) → IsToldWith telling files in_order listed known text verdict → IsToldOf telling files sources known text verdict
+told-permuted tellings.New sources listed in_order moved ordered files known text verdict news = news-permuted sources listed in_order moved ordered files known text verdict news
+told-permuted tellings.Gone sources listed in_order moved ordered files known text verdict fixed = fixed-permuted sources listed moved known text verdict fixed

@@ -6,8 +6,8 @@ use Rattle.ld_check.specs.declared.checked.CheckFault.{CheckFault}
 use Rattle.ld_check.specs.declared.checked.CheckFault.TheVariants as check_faults
 use Rattle.ld_baseline.specs.declared.news.SelectFault.{SelectFault}
 use Rattle.ld_baseline.specs.declared.news.SelectFault.TheVariants as select_faults
-use Rattle.lockgraph.specs.declared.fault.Fault.{Fault}
-use Rattle.lockgraph.specs.declared.fault.Fault.TheVariants as faults
+use Rattle.ld_files.specs.declared.fault.Fault.{Fault}
+use Rattle.ld_files.specs.declared.fault.Fault.TheVariants as faults
 use Rattle.lockgraph.specs.declared.reduce.ReduceFault.{ReduceFault}
 use Rattle.lockgraph.specs.declared.reduce.ReduceFault.TheVariants as reduce_faults
 use Rattle.lockgraph.specs.declared.news.NewsFault.{NewsFault}
@@ -23,12 +23,6 @@ news_fault_of_check (check_faults.Uneven number) = Uneven number
 abbrev pub news_fault_of_select : SelectFault → NewsFault
 news_fault_of_select (select_faults.UnknownLine line) = UnknownLine line
 news_fault_of_select select_faults.Memory = Memory
-
--- the same fault
-abbrev pub fault_of_check : CheckFault → Fault
-fault_of_check (check_faults.Stream fault) = faults.Together fault
-fault_of_check check_faults.Memory = faults.Memory
-fault_of_check (check_faults.Uneven number) = faults.Uneven number
 
 -- the same fault, that of the known text with its name
 abbrev pub fault_of_news : Bor (List ℕ) → NewsFault → Fault

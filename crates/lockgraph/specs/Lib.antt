@@ -1,7 +1,3 @@
-pub mod Comments
-pub mod Looks
-pub mod Streams
-pub mod Homes
 pub mod Reduced
 pub mod Groups
 pub mod Shown

@@ -10,7 +10,9 @@ use Rattle.ld_baseline.specs.Gone.{count_gone, gone_lines}
 use Rattle.ld_baseline.specs.News.{count_new, new_report}
 use Rattle.ld_texts.specs.Places.{PlainFile}
 use Rattle.ld_texts.specs.ShownPlaces.{has_origin}
-use Rattle.lockgraph.specs.Comments.{comment_line}
+use Rattle.lockgraph.specs.declared.news.Telling.{Telling}
+use Rattle.lockgraph.specs.declared.news.Telling.TheVariants as tellings
+use Rattle.ld_files.specs.Comments.{comment_line}
 use Rattle.lockgraph.specs.Shown.{verdict_of_read}
 
 -- `Violations` where some are new, else `Refused` where a trace is refused, else `Clean`
@@ -42,3 +44,12 @@ pub record IsFixedOf (sources : List PlainSource) (known text : List ℕ) (verdi
   pub is : IsReport sources report
   pub text_is : text ≡ gone_lines report known ++ fixed_line (count_gone report known)
   pub verdict_is : verdict ≡ verdict_of_read (refused_count sources)
+
+-- either of them, by what is to be told
+abbrev pub IsToldWith : Telling → List PlainFile → (in_order sources : List PlainSource) → (known text : List ℕ) → Verdict → Type 0
+IsToldWith tellings.New files in_order sources known text verdict = IsNewsWith files in_order sources known text verdict
+IsToldWith tellings.Gone files in_order sources known text verdict = IsFixedOf sources known text verdict
+
+-- the same of the sources in order
+abbrev pub IsToldOf : Telling → List PlainFile → List PlainSource → (known text : List ℕ) → Verdict → Type 0
+IsToldOf telling files sources known text verdict = IsToldWith telling files sources sources known text verdict

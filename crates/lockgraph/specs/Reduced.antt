@@ -9,7 +9,7 @@ use Rattle.ld_reduce.specs.Reduced.{IsReduced}
 use Rattle.ld_reduce.specs.Reduction.{IsReductionOf}
 use Rattle.ld_texts.specs.Places.{PlainFile}
 use Rattle.lockgraph.specs.declared.reduce.Keeping.{Keeping}
-use Rattle.lockgraph.specs.Homes.{AreWanted}
+use Rattle.ld_files.specs.Homes.{AreWanted}
 
 -- `Refused` where a refused trace is left out, else `Clean`
 abbrev pub verdict_of_reduced : (keep_refused : Bool) (refused : ℕ) → Verdict

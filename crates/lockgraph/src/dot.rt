@@ -2,15 +2,14 @@
 ghost use Rattle.std.specs.Prelude.{◌≡◌, ◌≤◌, Err, IfOk, IfSome};
 ghost use Rattle.ld_trace.specs.Sources.{sources, stream_fault};
 ghost use Rattle.ld_check.specs.OfReport.Verdict.{VerdictIs};
-ghost use Rattle.lockgraph.specs.declared.fault.Fault.TheVariants.{Together};
+ghost use Rattle.ld_files.specs.declared.fault.Fault.TheVariants.{Together};
 
-use crate::fault::Fault;
-use crate::streams::read_streams;
-use crate::told::{Told, write_told};
 use crate::words::DotWords;
 use ld_check::{Checked, MOST_WORKERS, NoGate, Verdict, check, verdict_of};
 use ld_explain::{Drawn, dot};
+use ld_files::{Fault, Told, find_class, maps_in, maps_of, read_maps, read_streams, write_told};
 use ld_io::Std;
+use ld_source_map::Maps;
 use ld_texts::{Places, ShownPlaces};
 use std::alloc::Global;
 use std::io;
@@ -22,19 +21,25 @@ use std::thread::Threads;
 ///
 /// # Errors
 ///
-/// Those of `read_streams`, `drawn_of` and `write_told`.
+/// Those of `read_maps`, `maps_in`, `read_streams`, `maps_of`, `drawn_of` and `write_told`.
 pub fn answer_dot<'a, R: Files + io::Input + Print + AllocGlobal + Threads + Wait + Sync>(
     rt: &R,
     words: &DotWords<'a>,
 ) -> Result<Verdict, Fault<'a>> {
-    let streams = read_streams(rt, &words.given.files)?;
+    let files = &words.mapped.given.files;
+    let texts = read_maps(rt, &words.mapped.maps, files)?;
+    // A mistake in them is told before the traces are read.
+    let maps = maps_in(rt.alloc(), &texts)?;
+    let streams = read_streams(rt, files)?;
+    let maps = maps_of(rt.alloc(), &texts, maps, files, &streams)?;
     let told = drawn_of(
         rt,
         rt.alloc(),
         &streams.bytes,
         &streams.places,
+        &maps,
         words.drawn,
-        words.given.workers,
+        words.mapped.given.workers,
     )?;
     let mut output = Std::new(io::writer(rt));
     write_told(&mut output, &told)
@@ -44,13 +49,15 @@ pub fn answer_dot<'a, R: Files + io::Input + Print + AllocGlobal + Threads + Wai
 ///
 /// # Errors
 ///
-/// `Together` exactly where they are no stream together, whatever memory there is; `Memory` where a growth was
-/// refused; and `Uneven` where the workers' book isn't that of the stream.
+/// `Together` exactly where they are no stream together, whatever memory there is; `NoClass` where no trace acquires the
+/// class that is named; `Memory` where a growth was refused; and `Uneven` where the workers' book isn't that of the
+/// stream.
 fn drawn_of<'a, R: Threads + Wait + Sync>(
     rt: &R,
     alloc: Global,
     bytes: &[u8],
     places: &Places<'_>,
+    maps: &Maps<'_>,
     drawn: Drawn<'_>,
     workers: usize,
 ) -> Result<Told, Fault<'a>>
@@ -59,7 +66,7 @@ fn drawn_of<'a, R: Threads + Wait + Sync>(
     ensures stream { IfSome (stream_fault bytes.now) (λ fault. result ≡ Err (Together fault)) }
 {
     let checked = check(rt, alloc, bytes, workers, &NoGate)?;
-    let told = drawn_in(alloc, &checked, places, drawn);
+    let told = drawn_in(alloc, &checked, places, maps, drawn);
     drop(checked);
     told
 }
@@ -69,16 +76,20 @@ fn drawn_in<'a>(
     alloc: Global,
     checked: &Checked<'_>,
     places: &Places<'_>,
+    maps: &Maps<'_>,
     drawn: Drawn<'_>,
 ) -> Result<Told, Fault<'a>>
     ensures { IfOk result (λ told. VerdictIs checked.now.book told.verdict) }
 {
+    if let Drawn::Around { name, .. } = drawn {
+        find_class(alloc, &checked.book, name)?;
+    }
     let sources = checked.sources.as_slice();
     let shown = ShownPlaces {
         files: places,
         sources,
     };
-    let text = dot(alloc, &checked.book, sources, &shown, drawn)?;
+    let text = dot(alloc, &checked.book, sources, &shown, maps, drawn)?;
     let verdict = verdict_of(&checked.book);
     Ok(Told { text, verdict })
 }

@@ -1,16 +1,13 @@
-//! `explain`: what stands behind the violations of some traces.
+//! `explain`: why traces are refused, and what stands behind the violations of the others.
 ghost use Rattle.std.specs.Prelude.{◌≡◌, ◌≤◌, Err, IfOk, IfSome};
 ghost use Rattle.ld_trace.specs.Sources.{sources, stream_fault};
 ghost use Rattle.ld_check.specs.OfReport.Verdict.{VerdictIs};
-ghost use Rattle.lockgraph.specs.declared.fault.Fault.TheVariants.{Together};
+ghost use Rattle.ld_files.specs.declared.fault.Fault.TheVariants.{Together};
 
-use crate::fault::Fault;
-use crate::maps::{maps_in, maps_of, read_maps};
-use crate::streams::read_streams;
-use crate::told::{Told, write_told};
 use crate::words::ExplainWords;
 use ld_check::{Checked, MOST_WORKERS, NoGate, Verdict, check, report_in, verdict_of};
-use ld_explain::{Choice, chosen, explain};
+use ld_explain::{Choice, chosen, explain, faults};
+use ld_files::{Fault, Told, find_class, maps_in, maps_of, read_maps, read_streams, write_told};
 use ld_io::Std;
 use ld_source_map::Maps;
 use ld_texts::{Places, ShownPlaces};
@@ -30,7 +27,7 @@ pub fn answer_explain<'a, R: Files + io::Input + Print + AllocGlobal + Threads +
     words: &ExplainWords<'a>,
 ) -> Result<Verdict, Fault<'a>> {
     let files = &words.mapped.given.files;
-    let texts = read_maps(rt, &words.mapped)?;
+    let texts = read_maps(rt, &words.mapped.maps, files)?;
     // A mistake in them is told before the traces are read.
     let maps = maps_in(rt.alloc(), &texts)?;
     let streams = read_streams(rt, files)?;
@@ -52,8 +49,9 @@ pub fn answer_explain<'a, R: Files + io::Input + Print + AllocGlobal + Threads +
 ///
 /// # Errors
 ///
-/// `Together` exactly where they are no stream together, whatever memory there is; `Memory` where a growth was
-/// refused; and `Uneven` where the workers' book isn't that of the stream.
+/// `Together` exactly where they are no stream together, whatever memory there is; `NoClass` where no trace acquires the
+/// class that is named; `Memory` where a growth was refused; and `Uneven` where the workers' book isn't that of the
+/// stream.
 fn explained_of<'a, R: Threads + Wait + Sync>(
     rt: &R,
     alloc: Global,
@@ -83,6 +81,9 @@ fn explained_in<'a>(
 ) -> Result<Told, Fault<'a>>
     ensures { IfOk result (λ told. VerdictIs checked.now.book told.verdict) }
 {
+    if let Some(word) = choice.class {
+        find_class(alloc, &checked.book, word)?;
+    }
     let report = report_in(alloc, &checked.book)?;
     let text = text_in(alloc, checked, &report, places, maps, choice)?;
     let verdict = verdict_of(&checked.book);
@@ -98,11 +99,20 @@ fn text_in(
     maps: &Maps<'_>,
     choice: &Choice<'_>,
 ) -> Result<Vec<u8>, AllocError> {
+    let faults = faults(alloc, &checked.book, choice)?;
     let violations = chosen(alloc, &checked.book, report, choice)?;
     let sources = checked.sources.as_slice();
     let shown = ShownPlaces {
         files: places,
         sources,
     };
-    explain(alloc, &violations, choice.most, sources, &shown, maps)
+    explain(
+        alloc,
+        &faults,
+        &violations,
+        choice.most,
+        sources,
+        &shown,
+        maps,
+    )
 }

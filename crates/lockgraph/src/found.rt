@@ -3,11 +3,11 @@ ghost use Rattle.std.specs.Prelude.{◌≡◌, [], Err, IfOk, IfSome, OnOk, fals
 ghost use Rattle.ld_trace.specs.Sources.{plain, stream_fault};
 ghost use Rattle.ld_origin.specs.Origin.{plain_home};
 ghost use Rattle.lockgraph.specs.Groups.{AreHomed, file_read, home_in};
-ghost use Rattle.lockgraph.specs.Streams.{fault_of_file, has_trace};
+ghost use Rattle.ld_files.specs.Streams.{fault_of_file, has_trace};
 
-use crate::fault::Fault;
 use crate::reduce::ReduceFault;
 use ld_check::CheckFault;
+use ld_files::Fault;
 use ld_origin::Home;
 use ld_trace::{Source, split};
 use std::alloc::{AllocError, Global};

@@ -12,12 +12,10 @@ ghost use Rattle.ld_reduce.specs.Written.{IsTrace, ended};
 ghost use Rattle.lockgraph.specs.declared.groups.Group.{Group};
 ghost use Rattle.lockgraph.specs.Groups.{BothFollow, Homed, IsClosed, IsReducedAll, Stands, StartsWithHeader, behind, file_read, verdict_of_lost};
 
-use crate::fault::Fault;
 use crate::found::{found_in, found_left};
-use crate::looks::Looks;
-use crate::reduce::{Keeping, ReduceFault};
-use crate::streams::{is_plain_header, read_file, told_with};
+use crate::reduce::{Keeping, ReduceFault, fault_of_reduce};
 use ld_check::{Checked, MOST_WORKERS, NoGate, Verdict, check};
+use ld_files::{Fault, Looks, is_plain_header, read_file, told_with};
 use ld_io::{Output, send};
 use ld_origin::Home;
 use ld_reduce::{is_ended, reduction};
@@ -122,7 +120,7 @@ fn add<'a, R: Threads + Wait + Sync>(
     if begins && !fits(group, bytes.len(), traces) {
         match add_behind_left(rt, alloc, group, bytes, homes, traces, keeping, workers) {
             Ok(()) => return Ok(()),
-            Err(fault) => return Err(Fault::of_reduce(fault)),
+            Err(fault) => return Err(fault_of_reduce(fault)),
         }
     }
     Ok(append(group, bytes, homes, traces)?)

@@ -1,9 +1,9 @@
 //! `list`: the classes that the traces acquire.
 
-use crate::fault::Fault;
 use crate::shown::answer_shown;
 use crate::words::ListWords;
 use ld_check::Verdict;
+use ld_files::Fault;
 use ld_texts::Wanted;
 use std::io;
 use std::rt::Files;

@@ -5,15 +5,14 @@ ghost use Rattle.ld_trace.specs.declared.source.StreamFault.{StreamFault};
 ghost use Rattle.ld_trace.specs.Sources.{plain, sources, stream_fault};
 ghost use Rattle.ld_io.specs.Transfer.{AppendsPart};
 ghost use Rattle.ld_baseline.specs.Known.{unknown_line};
-ghost use Rattle.lockgraph.specs.News.{IsNewsOf, IsNewsWith, verdict_of_new};
+ghost use Rattle.lockgraph.specs.Faults.{fault_of_news};
+ghost use Rattle.lockgraph.specs.News.{IsNewsWith, IsToldOf, IsToldWith, verdict_of_new};
 
-use crate::comments::{remarks, write_comments};
-use crate::fault::Fault;
-use crate::fixed::write_fixed;
-use crate::streams::{read_known, read_streams};
+use crate::fixed::fixed_in;
 use crate::words::NewWords;
 use ld_baseline::{SelectFault, new_report};
 use ld_check::{CheckFault, Checked, MOST_WORKERS, NoGate, Verdict, check, report_in};
+use ld_files::{Fault, Told, read_known, read_streams, remarks, write_comments};
 use ld_io::{Output, Std, send};
 use ld_texts::{Places, ShownPlaces};
 use ld_trace::StreamFault;
@@ -23,17 +22,17 @@ use std::rt::Files;
 use std::sync::Wait;
 use std::thread::Threads;
 
-/// What is new.
-#[derive(Debug, Drop)]
-pub struct News {
-    /// The report of what is new.
-    pub text: Vec<u8>,
-    /// What it comes to: `Violations` where one is new.
-    pub verdict: Verdict,
+/// What is to be told of some traces and a known text.
+#[derive(Clone, Copy)]
+pub enum Telling {
+    /// What is new: what no known line says.
+    New,
+    /// What is known and gone: the known lines that match nothing.
+    Gone,
 }
 
 /// Why it isn't told what is new.
-#[derive(Clone, Copy, Debug, PartialEq, Eq)]
+#[derive(Clone, Copy)]
 pub enum NewsFault {
     /// The stream has this fault.
     Stream(StreamFault),
@@ -52,7 +51,7 @@ pub enum NewsFault {
 ///
 /// # Errors
 ///
-/// Those of `read_known`, of `read_streams`, of `write_news` and of `write_fixed`.
+/// Those of `read_known`, of `read_streams` and of `write_news`.
 pub fn answer_new<'a, R: Files + io::Input + Print + AllocGlobal + Threads + Wait + Sync>(
     rt: &R,
     words: &NewWords<'a>,
@@ -61,27 +60,35 @@ pub fn answer_new<'a, R: Files + io::Input + Print + AllocGlobal + Threads + Wai
     let known = read_known(rt, words.known)?;
     let streams = read_streams(rt, &words.given.files)?;
     let mut output = Std::new(io::writer(rt));
-    let workers = words.given.workers;
-    let written = if words.fixed {
-        write_fixed(rt, rt.alloc(), &streams.bytes, &known, &mut output, workers)
-    } else {
-        write_news(
-            rt,
-            rt.alloc(),
-            &streams.bytes,
-            &streams.places,
-            &known,
-            &mut output,
-            workers,
-        )
-    };
-    match written {
+    match write_news(
+        rt,
+        rt.alloc(),
+        words.telling,
+        &streams.bytes,
+        &streams.places,
+        &known,
+        &mut output,
+        words.given.workers,
+    ) {
         Ok(verdict) => Ok(verdict),
-        Err(fault) => Err(Fault::of_news(words.known, fault)),
+        Err(fault) => Err(fault_of_news(words.known, fault)),
     }
 }
 
-/// Writes the report of what is new in a stream, whose traces that many workers read at once, and flushes
+/// Why it isn't told what is new beside the known text of this name.
+fn fault_of_news<'a>(known: &'a str, fault: NewsFault) -> Fault<'a>
+    ensures { result ≡ fault_of_news known.entry fault }
+{
+    match fault {
+        NewsFault::Stream(fault) => Fault::Together(fault),
+        NewsFault::UnknownLine(line) => Fault::UnknownLine(known, line),
+        NewsFault::Write => Fault::Write,
+        NewsFault::Memory => Fault::Memory,
+        NewsFault::Uneven(number) => Fault::Uneven(number),
+    }
+}
+
+/// Writes what is new in a stream, whose traces that many workers read at once, or what is known and gone; and flushes
 /// it. No write or flush that fails is tried again. May wait.
 ///
 /// # Errors
@@ -91,6 +98,7 @@ pub fn answer_new<'a, R: Files + io::Input + Print + AllocGlobal + Threads + Wai
 fn write_news<O: Output, R: Threads + Wait + Sync>(
     rt: &R,
     alloc: Global,
+    telling: Telling,
     bytes: &[u8],
     places: &Places<'_>,
     known: &[u8],
@@ -101,12 +109,12 @@ fn write_news<O: Output, R: Threads + Wait + Sync>(
     requires workers { (1 ≤ workers) × (workers ≤ MOST_WORKERS) }
 
     ensures ok { IfOk result (λ verdict. (text : List ℕ)
-        × IsNewsOf places.now (sources bytes.now) known.now text verdict
+        × IsToldOf telling places.now (sources bytes.now) known.now text verdict
         × Appends (O.held output.old) (O.held output.new) text) }
     ensures flushed { OnOk result (O.is_flushed output.new ≡ true) }
     ensures write { (result ≡ Err NewsFault.Write) ↔ (O.write_failed output.new ≡ true) }
     ensures part { result ≡ Err NewsFault.Write → (text : List ℕ) × (verdict : Verdict)
-        × IsNewsOf places.now (sources bytes.now) known.now text verdict
+        × IsToldOf telling places.now (sources bytes.now) known.now text verdict
         × AppendsPart (O.held output.old) (O.held output.new) text }
     ensures nothing { IsErr result → result ≢ Err NewsFault.Write → output.new ≡ output.old }
 
@@ -118,16 +126,15 @@ fn write_news<O: Output, R: Threads + Wait + Sync>(
     ensures unknown { (line : ℕ) → result ≡ Err (NewsFault.UnknownLine line) →
         unknown_line known.now ≡ Some line }
 {
-    let news = news_of(rt, alloc, bytes, places, known, workers)?;
+    let news = news_of(rt, alloc, telling, bytes, places, known, workers)?;
     match send(output, &news.text) {
         Ok(()) => Ok(news.verdict),
         Err(_) => Err(NewsFault::Write),
     }
 }
 
-/// What is new in a stream, whose traces that many workers read at once and whose lines stand at these places: its
-/// report without the lines of violations that a line of the known text says too; and where the stream is of several
-/// files, or a trace says where it comes from, comments that say where the lines are shown that it names. May wait.
+/// What is new in a stream, whose traces that many workers read at once and whose lines stand at these places, or what
+/// is known and gone. May wait.
 ///
 /// # Errors
 ///
@@ -137,14 +144,15 @@ fn write_news<O: Output, R: Threads + Wait + Sync>(
 fn news_of<R: Threads + Wait + Sync>(
     rt: &R,
     alloc: Global,
+    telling: Telling,
     bytes: &[u8],
     places: &Places<'_>,
     known: &[u8],
     workers: usize,
-) -> Result<News, NewsFault>
+) -> Result<Told, NewsFault>
     requires { (1 ≤ workers) × (workers ≤ MOST_WORKERS) }
-    ensures news { IfOk result (λ news.
-        IsNewsOf places.now (sources bytes.now) known.now news.text.items news.verdict) }
+    ensures news { IfOk result (λ news. IsToldOf telling places.now (sources bytes.now)
+        known.now news.text.items news.verdict) }
     ensures stream { IfSome (stream_fault bytes.now) (λ fault.
         result ≡ Err (NewsFault.Stream fault)) }
     ensures sound { (fault : StreamFault) → result ≡ Err (NewsFault.Stream fault) →
@@ -155,18 +163,42 @@ fn news_of<R: Threads + Wait + Sync>(
     ensures unwritten { result ≢ Err NewsFault.Write }
 {
     let checked = check(rt, alloc, bytes, workers, &NoGate)?;
-    let news = news_in(alloc, &checked, places, known);
+    let news = told_in(alloc, telling, &checked, places, known);
     drop(checked);
     news
 }
 
-/// What is new in the traces that a book lists.
+/// What is new in the traces that a book lists, or what is known and gone.
+fn told_in(
+    alloc: Global,
+    telling: Telling,
+    checked: &Checked<'_>,
+    places: &Places<'_>,
+    known: &[u8],
+) -> Result<Told, NewsFault>
+    ensures news { IfOk result (λ news. IsToldWith telling places.now
+        (map plain checked.now.sources.items) checked.now.book known.now news.text.items news.verdict) }
+    ensures known { OnOk result (unknown_line known.now ≡ None) }
+    ensures unknown { (line : ℕ) → result ≡ Err (NewsFault.UnknownLine line) →
+        unknown_line known.now ≡ Some line }
+    ensures stream { (fault : StreamFault) → result ≢ Err (NewsFault.Stream fault) }
+    ensures unwritten { result ≢ Err NewsFault.Write }
+{
+    match telling {
+        Telling::New => news_in(alloc, checked, places, known),
+        Telling::Gone => fixed_in(alloc, &checked.book, known),
+    }
+}
+
+/// What is new in the traces that a book lists: their report without the lines of violations that a line of the known
+/// text says too; and where they are of several files, or a trace says where it comes from, comments that say where the
+/// lines are shown that it names.
 fn news_in(
     alloc: Global,
     checked: &Checked<'_>,
     places: &Places<'_>,
     known: &[u8],
-) -> Result<News, NewsFault>
+) -> Result<Told, NewsFault>
     ensures news { IfOk result (λ news. IsNewsWith places.now (map plain checked.now.sources.items)
         checked.now.book known.now news.text.items news.verdict) }
     ensures known { OnOk result (unknown_line known.now ≡ None) }
@@ -185,7 +217,7 @@ fn news_in(
     };
     let remarks = remarks(alloc, &shown, &text)?;
     write_comments(&mut text, &remarks)?;
-    Ok(News { text, verdict })
+    Ok(Told { text, verdict })
 }
 
 /// What it comes to that so many violations are new and so many traces are refused.

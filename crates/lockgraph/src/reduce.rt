@@ -8,15 +8,14 @@ ghost use Rattle.ld_trace.specs.Sources.{PlainSource, plain};
 ghost use Rattle.ld_origin.specs.Origin.{PlainHome};
 ghost use Rattle.ld_reduce.specs.Written.{IsTrace};
 ghost use Rattle.std.specs.List.Sorted.{IsPermutation};
-ghost use Rattle.lockgraph.specs.Homes.{AreWanted};
+ghost use Rattle.ld_files.specs.Homes.{AreWanted};
+ghost use Rattle.lockgraph.specs.Faults.{fault_of_reduce};
 ghost use Rattle.lockgraph.specs.Reduced.{IsReducedOf, IsReducedWith, verdict_of_reduced};
 
-use crate::fault::Fault;
 use crate::groups::{read_group, write_group};
-use crate::homes::homes_wanted;
-use crate::streams::read_streams;
 use crate::words::ReduceWords;
 use ld_check::{CheckFault, Checked, MOST_WORKERS, NoGate, Verdict, check};
+use ld_files::{Fault, Told, homes_wanted, read_streams};
 use ld_io::{Output, Std, send};
 use ld_reduce::reduction;
 use ld_texts::Places;
@@ -28,7 +27,7 @@ use std::sync::Wait;
 use std::thread::Threads;
 
 /// What a reduced stream is to have beside the traces that show something.
-#[derive(Clone, Copy, Debug, PartialEq, Eq)]
+#[derive(Clone, Copy)]
 pub struct Keeping {
     /// The refused traces.
     pub refused: bool,
@@ -36,17 +35,8 @@ pub struct Keeping {
     pub from: bool,
 }
 
-/// A reduced stream.
-#[derive(Debug, Drop)]
-struct Reduced {
-    /// Its bytes.
-    text: Vec<u8>,
-    /// `Refused` where a refused trace was left out, else `Clean`.
-    verdict: Verdict,
-}
-
 /// Why there is no reduced stream, or no whole one.
-#[derive(Clone, Copy, Debug, PartialEq, Eq)]
+#[derive(Clone, Copy)]
 pub enum ReduceFault {
     /// The stream has this fault.
     Stream(StreamFault),
@@ -84,7 +74,7 @@ pub fn answer_reduce<'a, R: Files + io::Input + Print + AllocGlobal + Threads + 
         workers,
     ) {
         Ok(verdict) => Ok(verdict),
-        Err(fault) => Err(Fault::of_reduce(fault)),
+        Err(fault) => Err(fault_of_reduce(fault)),
     }
 }
 
@@ -102,7 +92,19 @@ fn answer_group<'a, R: Files + io::Input + Print + AllocGlobal + Threads + Wait 
     let mut output = Std::new(io::writer(rt));
     match write_group(rt, rt.alloc(), &group, words.keeping, &mut output, workers) {
         Ok(verdict) => Ok(verdict),
-        Err(fault) => Err(Fault::of_reduce(fault)),
+        Err(fault) => Err(fault_of_reduce(fault)),
+    }
+}
+
+/// Why there is no reduced stream.
+pub fn fault_of_reduce<'a>(fault: ReduceFault) -> Fault<'a>
+    ensures { result ≡ fault_of_reduce fault }
+{
+    match fault {
+        ReduceFault::Stream(fault) => Fault::Together(fault),
+        ReduceFault::Write => Fault::Write,
+        ReduceFault::Memory => Fault::Memory,
+        ReduceFault::Uneven(number) => Fault::Uneven(number),
     }
 }
 
@@ -123,7 +125,7 @@ fn reduction_in(
     checked: &Checked<'_>,
     places: &Places<'_>,
     keeping: Keeping,
-) -> Result<Reduced, ReduceFault>
+) -> Result<Told, ReduceFault>
     requires { All IsTrace checked.now.book }
     ensures memory { OnErr result (result ≡ Err ReduceFault.Memory) }
     ensures reduced { IfOk result (λ reduced. (homes : List PlainHome)
@@ -135,7 +137,7 @@ fn reduction_in(
     let homes = homes_wanted(alloc, places, &checked.sources, keeping.from)?;
     let text = reduction(alloc, &checked.book, keeping.refused, &homes)?;
     let verdict = verdict_of_reduced(keeping.refused, checked.book.totals().refused);
-    Ok(Reduced { text, verdict })
+    Ok(Told { text, verdict })
 }
 
 /// The reduced stream of a stream, whose traces that many workers read at once. May wait.
@@ -151,7 +153,7 @@ fn reduction_of<R: Threads + Wait + Sync>(
     places: &Places<'_>,
     keeping: Keeping,
     workers: usize,
-) -> Result<Reduced, ReduceFault>
+) -> Result<Told, ReduceFault>
     requires { (1 ≤ workers) × (workers ≤ MOST_WORKERS) }
     ensures reduced { IfOk result (λ reduced. IsReducedOf keeping places.now
         (sources bytes.now) reduced.text.items reduced.verdict) }

@@ -7,12 +7,11 @@ ghost use Rattle.ld_io.specs.Transfer.{AppendsPart};
 ghost use Rattle.ld_check.specs.OfReport.OfBook.Violations.{HasViolation};
 ghost use Rattle.ld_check.specs.OfReport.Report.{IsReport, SaysClean};
 ghost use Rattle.ld_check.specs.OfReport.Verdict.{VerdictIs};
-ghost use Rattle.lockgraph.specs.declared.fault.Fault.TheVariants.{Together, Write};
+ghost use Rattle.ld_files.specs.declared.fault.Fault.TheVariants.{Together, Write};
 
-use crate::fault::Fault;
-use crate::streams::read_streams;
 use crate::words::CheckWords;
 use ld_check::{MOST_WORKERS, NoGate, Verdict, report_of};
+use ld_files::{Fault, read_streams};
 use ld_io::{Output, Std, send};
 use std::alloc::Global;
 use std::io;

@@ -3,16 +3,13 @@ ghost use Rattle.std.specs.Prelude.{◌≡◌, ◌≤◌, Err, IfOk, IfSome};
 ghost use Rattle.ld_trace.specs.Sources.{sources, stream_fault};
 ghost use Rattle.ld_check.specs.OfReport.Verdict.{VerdictIs};
 ghost use Rattle.ld_json.specs.Json.{json_text};
-ghost use Rattle.lockgraph.specs.declared.fault.Fault.TheVariants.{Together};
+ghost use Rattle.ld_files.specs.declared.fault.Fault.TheVariants.{Together};
 ghost use Rattle.lockgraph.specs.declared.rows.Form.TheVariants.{Json};
 
-use crate::fault::Fault;
-use crate::maps::{maps_in, maps_of, read_maps};
-use crate::streams::read_streams;
-use crate::told::{Told, write_told};
 use crate::words::{FormatWords, JsonWords, Mapped};
 use ld_check::{Checked, MOST_WORKERS, NoGate, Verdict, check, report_in, verdict_of};
 use ld_explain::rows_of;
+use ld_files::{Fault, Told, maps_in, maps_of, read_maps, read_streams, write_told};
 use ld_formats::{Format, format_text};
 use ld_io::Std;
 use ld_json::json_text;
@@ -26,7 +23,7 @@ use std::sync::Wait;
 use std::thread::Threads;
 
 /// In which form rows are written.
-#[derive(Clone, Copy, Debug)]
+#[derive(Clone, Copy)]
 enum Form<'f> {
     /// As one JSON object a line.
     Json,
@@ -76,7 +73,7 @@ fn answer_rows<'a, R: Files + io::Input + Print + AllocGlobal + Threads + Wait +
     form: Form<'_>,
 ) -> Result<Verdict, Fault<'a>> {
     let files = &mapped.given.files;
-    let texts = read_maps(rt, mapped)?;
+    let texts = read_maps(rt, &mapped.maps, files)?;
     // A mistake in them is told before the traces are read.
     let maps = maps_in(rt.alloc(), &texts)?;
     let streams = read_streams(rt, files)?;

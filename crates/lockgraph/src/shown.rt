@@ -3,17 +3,15 @@ ghost use Rattle.std.specs.Prelude.{◌≡◌, ◌≢◌, ◌≤◌, Err, IfOk, 
 ghost use Rattle.ld_check.specs.OfReport.OfBook.Totals.{refused_count};
 ghost use Rattle.ld_trace.specs.declared.source.StreamFault.{StreamFault};
 ghost use Rattle.ld_trace.specs.Sources.{stream_fault};
-ghost use Rattle.lockgraph.specs.declared.fault.Fault.TheVariants.{Together, Write};
+ghost use Rattle.ld_files.specs.declared.fault.Fault.TheVariants.{Together, Write};
 ghost use Rattle.lockgraph.specs.Shown.{verdict_of_read};
 
-use crate::fault::Fault;
-use crate::streams::{Streams, read_streams};
-use crate::told::{Told, write_told};
 use crate::words::Given;
 use ld_check::{Checked, MOST_WORKERS, NoGate, Verdict, check};
+use ld_files::{Fault, Streams, Told, find_class, read_streams, write_told};
 use ld_io::Std;
-use ld_texts::{Places, ShownPlaces, Wanted, text_of};
-use std::alloc::{AllocError, Global};
+use ld_texts::{Listing, Places, ShownPlaces, Wanted, text_of};
+use std::alloc::Global;
 use std::io;
 use std::rt::Files;
 use std::sync::Wait;
@@ -39,8 +37,9 @@ pub fn answer_shown<'a, R: Files + io::Input + Print + AllocGlobal + Threads + W
 ///
 /// # Errors
 ///
-/// `Together` exactly where they are no stream together, whatever memory there is; `Memory` where a growth was
-/// refused; and `Uneven` where the workers' book isn't that of the stream.
+/// `Together` exactly where they are no stream together, whatever memory there is; `NoClass` where no trace acquires the
+/// class that is named; `Memory` where a growth was refused; and `Uneven` where the workers' book isn't that of the
+/// stream.
 fn shown_of<'a, R: Threads + Wait + Sync>(
     rt: &R,
     alloc: Global,
@@ -59,23 +58,28 @@ fn shown_of<'a, R: Threads + Wait + Sync>(
         Ok(checked) => {
             let told = shown_in(rt, alloc, &checked, &streams.places, wanted, workers);
             drop(checked);
-            Ok(told?)
+            told
         }
         Err(fault) => Err(Fault::from(fault)),
     }
 }
 
 /// What is wanted of the traces that a book lists.
-fn shown_in<R: Threads + Sync>(
+fn shown_in<'f, R: Threads + Sync>(
     rt: &R,
     alloc: Global,
     checked: &Checked<'_>,
     places: &Places<'_>,
     wanted: Wanted<'_>,
     threads: usize,
-) -> Result<Told, AllocError>
-    ensures { IfOk result (λ told. told.verdict ≡ verdict_of_read (refused_count checked.now.book)) }
+) -> Result<Told, Fault<'f>>
+    ensures verdict { IfOk result (λ told. told.verdict ≡ verdict_of_read (refused_count checked.now.book)) }
+    ensures unwritten { result ≢ Err Write }
+    ensures sound { (fault : StreamFault) → result ≢ Err (Together fault) }
 {
+    if let Wanted::List(Listing::Class(name)) = wanted {
+        find_class(alloc, &checked.book, name.as_bytes())?;
+    }
     let shown = ShownPlaces {
         files: places,
         sources: checked.sources.as_slice(),

@@ -1,9 +1,9 @@
 //! `stats`: how much the traces are and show.
 
-use crate::fault::Fault;
 use crate::shown::answer_shown;
 use crate::words::StatsWords;
 use ld_check::Verdict;
+use ld_files::Fault;
 use ld_texts::Wanted;
 use std::io;
 use std::rt::Files;

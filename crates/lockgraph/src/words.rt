@@ -14,7 +14,6 @@ mod new;
 mod reduce;
 mod stats;
 
-use crate::streams::STANDARD_INPUT;
 pub use check::CheckWords;
 use check::{check_command, read_check};
 use clap::error::ErrorKind;
@@ -32,6 +31,7 @@ use formats::{
 pub use json::JsonWords;
 use json::{json_command, read_json};
 use ld_check::MOST_WORKERS;
+use ld_files::STANDARD_INPUT;
 pub use list::ListWords;
 use list::{list_command, read_list};
 pub use mapped::Mapped;
@@ -78,7 +78,7 @@ Example:
   lockgraph reduce run.trace other.trace > reduced.trace";
 
 /// What a call asks for.
-#[derive(Debug, Drop)]
+#[derive(Drop)]
 pub enum Asked<'a> {
     /// `check`.
     Check(CheckWords<'a>),
@@ -108,7 +108,7 @@ impl<'a> Asked<'a> {
         match self {
             Asked::Check(words) => &words.given,
             Asked::Cut(words) => &words.given,
-            Asked::Dot(words) => &words.given,
+            Asked::Dot(words) => &words.mapped.given,
             Asked::Explain(words) => &words.mapped.given,
             Asked::Format(words) => &words.mapped.given,
             Asked::Json(words) => &words.mapped.given,
@@ -121,7 +121,7 @@ impl<'a> Asked<'a> {
 }
 
 /// What each command is given.
-#[derive(Debug, Drop)]
+#[derive(Drop)]
 pub struct Given<'a> {
     /// The names of the files with the streams.
     pub files: Vec<&'a str>,
@@ -139,10 +139,28 @@ pub struct Given<'a> {
 pub fn read_words<'a, S: AsStr>(alloc: Global, words: &'a [S]) -> Result<Asked<'a>, Error> {
     let mut command = command_line(alloc)?;
     let matches = command.try_get_matches_from_mut(words)?;
-    let Some((name, matches)) = matches.subcommand() else {
-        return Err(command.error(ErrorKind::MissingSubcommand, "a command is missing")?);
-    };
-    let command = &mut command;
+    read_matches(alloc, &mut command, &matches)
+}
+
+/// What these words ask for, which are matched.
+fn read_matches<'a>(
+    alloc: Global,
+    command: &mut Command<'a>,
+    matches: &ArgMatches<'a>,
+) -> Result<Asked<'a>, Error> {
+    match matches.subcommand() {
+        Some((name, matches)) => read_command(alloc, command, name, matches),
+        None => Err(command.error(ErrorKind::MissingSubcommand, "a command is missing")?),
+    }
+}
+
+/// What the words behind the command of this name ask for.
+fn read_command<'a>(
+    alloc: Global,
+    command: &mut Command<'a>,
+    name: &str,
+    matches: &ArgMatches<'a>,
+) -> Result<Asked<'a>, Error> {
     match name {
         "check" => Ok(Asked::Check(read_check(alloc, command, matches)?)),
         "cut" => Ok(Asked::Cut(read_cut(alloc, command, matches)?)),
@@ -204,27 +222,35 @@ fn workers(matches: &ArgMatches<'_>) -> usize
 
 /// What the words may say.
 fn command_line<'a>(alloc: Global) -> Result<Command<'a>, AllocError> {
-    Command::new(alloc, "lockgraph")
+    let command = Command::new(alloc, "lockgraph")
         .about(
             "Answers questions on recorded lock traces, over the report that lockcheck gives of them",
         )
         .version(VERSION)
         .after_help(AFTER_HELP)
-        .subcommand_required(true)
-        .subcommand(check_command(alloc)?)?
-        .subcommand(cut_command(alloc)?)?
-        .subcommand(dot_command(alloc)?)?
-        .subcommand(explain_command(alloc)?)?
-        .subcommand(github_command(alloc)?)?
-        .subcommand(html_command(alloc)?)?
-        .subcommand(json_command(alloc)?)?
-        .subcommand(junit_command(alloc)?)?
-        .subcommand(ktap_command(alloc)?)?
-        .subcommand(list_command(alloc)?)?
-        .subcommand(new_command(alloc)?)?
-        .subcommand(reduce_command(alloc)?)?
-        .subcommand(sarif_command(alloc)?)?
-        .subcommand(stats_command(alloc)?)
+        .subcommand_required(true);
+    let command = with(command, check_command(alloc))?;
+    let command = with(command, cut_command(alloc))?;
+    let command = with(command, dot_command(alloc))?;
+    let command = with(command, explain_command(alloc))?;
+    let command = with(command, github_command(alloc))?;
+    let command = with(command, html_command(alloc))?;
+    let command = with(command, json_command(alloc))?;
+    let command = with(command, junit_command(alloc))?;
+    let command = with(command, ktap_command(alloc))?;
+    let command = with(command, list_command(alloc))?;
+    let command = with(command, new_command(alloc))?;
+    let command = with(command, reduce_command(alloc))?;
+    let command = with(command, sarif_command(alloc))?;
+    with(command, stats_command(alloc))
+}
+
+/// A command with this one below it, if there was memory for it.
+fn with<'a>(
+    command: Command<'a>,
+    below: Result<Command<'a>, AllocError>,
+) -> Result<Command<'a>, AllocError> {
+    command.subcommand(below?)
 }
 
 /// `--workers N`.

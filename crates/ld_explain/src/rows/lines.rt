@@ -1,10 +1,11 @@
 //! Lines of traces, and where they come from.
 ghost use Rattle.std.specs.Prelude.{◌≡◌, IfOk};
 
+use crate::known::known_at;
 use crate::rows::origins::place_of;
 use crate::sightings::Texts;
 use ld_rows::{At, Line};
-use ld_source_map::{At as Known, Maps};
+use ld_source_map::Maps;
 use ld_texts::{ShownPlaces, Witness};
 use ld_trace::Source;
 use std::alloc::{AllocError, Global};
@@ -66,16 +67,10 @@ impl<'t, 'a> Lines<'t, 'a> {
     {
         let text = self.texts.at(at);
         let at = self.placing.at(at);
-        let place = match self.known(at.line) {
+        let place = match known_at(self.placing.places, self.maps, at.line) {
             Some(known) => Some(place_of(self.alloc, known)?),
             None => None,
         };
         Ok(Line { at, text, place })
-    }
-
-    /// What a map says of this line. The maps are those of the files that were read.
-    fn known(&self, line: u64) -> Option<Known<'t>> {
-        let own = self.placing.places.files.place(line)?;
-        self.maps.line(own.file, own.line)
     }
 }

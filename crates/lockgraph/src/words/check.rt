@@ -15,7 +15,7 @@ Example:
   lockgraph check run.trace other.trace";
 
 /// What `check` is asked.
-#[derive(Debug, Drop)]
+#[derive(Drop)]
 pub struct CheckWords<'a> {
     /// The files with the streams, and how they are read.
     pub given: Given<'a>,

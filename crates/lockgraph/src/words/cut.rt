@@ -20,7 +20,7 @@ Example:
   lockgraph cut --lines 200 run.trace | lockgraph reduce > reduced.trace";
 
 /// What `cut` is asked.
-#[derive(Debug, Drop)]
+#[derive(Drop)]
 pub struct CutWords<'a> {
     /// How many lines of a trace a piece has.
     pub lines: usize,

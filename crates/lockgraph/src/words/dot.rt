@@ -1,7 +1,8 @@
 //! The words of `dot`.
 
 use super::explain::class_named;
-use super::{Given, count_of_workers, named_files, read_given};
+use super::mapped::{Mapped, named_map, read_mapped};
+use super::{count_of_workers, named_files};
 use clap::error::ErrorKind;
 use clap::{Arg, ArgAction, ArgMatches, Command, Error, value_parser};
 use ld_explain::Drawn;
@@ -15,7 +16,8 @@ const AFTER_DOT: &str = "\
 Writes a graph in the language of Graphviz. A class is a node, with its usage characters. A dependency is an edge,
 with the trace and FILE:LINE at which it was first seen. Recursions and the steps of inversions are red, other
 steps of forbidden paths orange, and the ends of a conflict have a double line around them. The class L!read, for
-which recursive readers of L wait, stands as !read in a box with the name L.
+which recursive readers of L wait, stands as !read in a box with the name L. With --map, or a map FILE.places beside
+FILE, the tooltip of an edge has the function and the source line, and the calls that led there.
 
 Without --class and --all it shows what stands on violations. --class NAME shows the class and all that is at most
 N steps away from it, in either direction, and the dependencies between these.
@@ -27,15 +29,15 @@ Example:
   lockgraph dot run.trace | dot -Tsvg > run.svg";
 
 /// What `dot` is asked.
-#[derive(Debug, Drop)]
+#[derive(Drop)]
 pub struct DotWords<'a> {
     /// What is drawn.
     pub drawn: Drawn<'a>,
-    /// The files with the streams, and how they are read.
-    pub given: Given<'a>,
+    /// The files with the streams, and their maps.
+    pub mapped: Mapped<'a>,
 }
 
-/// `dot [--all | --class NAME [--around N]] [--workers N] [FILE]..`.
+/// `dot [--all | --class NAME [--around N]] [--map FILE].. [--workers N] [FILE]..`.
 pub fn dot_command<'a>(alloc: Global) -> Result<Command<'a>, AllocError> {
     let all = Arg::new(alloc, "all")
         .long("all")
@@ -59,6 +61,7 @@ pub fn dot_command<'a>(alloc: Global) -> Result<Command<'a>, AllocError> {
         .arg(all)?
         .arg(class)?
         .arg(around)?
+        .arg(named_map(alloc))?
         .arg(count_of_workers(alloc))?
         .arg(named_files(alloc))
 }
@@ -88,6 +91,6 @@ pub fn read_dot<'a>(
         None if matches.get_flag("all") => Drawn::All,
         None => Drawn::Violations,
     };
-    let given = read_given(alloc, command, matches, &[])?;
-    Ok(DotWords { drawn, given })
+    let mapped = read_mapped(alloc, command, matches)?;
+    Ok(DotWords { drawn, mapped })
 }

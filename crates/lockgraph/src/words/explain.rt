@@ -28,6 +28,12 @@ of a program, or what convert --map wrote of a kernel; an empty one, as /dev/nul
 stands then the function and the source line, or the line of the recording; and below a class, where it is first
 named, what its locks are and where they are acquired most.
 
+Of an inversion it is told if all of these were by one task of one trace, and which locks were held at each of them:
+`both` of two dependencies, `all` of more.
+
+Traces that are refused come first, unless --only or --class choose violations: the faulty line, what its verb takes and
+what was found, and what the task had open there.
+
 Violations that share dependencies stand together, and the heading names the one that most of them have. What
 was told before is `above`. The last line says how many violations are explained, and how many are not.
 
@@ -39,7 +45,7 @@ Example:
   lockgraph explain --map run.trace.places run.trace";
 
 /// What `explain` is asked.
-#[derive(Debug, Drop)]
+#[derive(Drop)]
 pub struct ExplainWords<'a> {
     /// Which violations are explained.
     pub choice: Choice<'a>,
@@ -49,30 +55,33 @@ pub struct ExplainWords<'a> {
 
 /// `explain [--only KIND] [--class NAME] [--most N] [--map FILE].. [--workers N] [FILE]..`.
 pub fn explain_command<'a>(alloc: Global) -> Result<Command<'a>, AllocError> {
-    let only = Arg::new(alloc, "only")
-        .long("only")
-        .value_name("KIND")
-        .help("The violations of this kind alone")
-        .action(ArgAction::Set)
-        .value_parser(KINDS.as_slice());
-    let class = Arg::new(alloc, "class")
-        .long("class")
-        .value_name("NAME")
-        .help("Those that this class is part of alone, NAME or NAME/N")
-        .action(ArgAction::Set);
-    let most = Arg::new(alloc, "most")
-        .long("most")
-        .value_name("N")
-        .help("How many violations are explained at most, 0 for all")
-        .action(ArgAction::Set)
-        .default_value("20")
-        .value_parser(value_parser!(u64));
     Command::new(alloc, "explain")
         .about("Says what stands behind each violation: who held what where")
         .after_help(AFTER_EXPLAIN)
-        .arg(only)?
-        .arg(class)?
-        .arg(most)?
+        .arg(
+            Arg::new(alloc, "only")
+                .long("only")
+                .value_name("KIND")
+                .help("The violations of this kind alone")
+                .action(ArgAction::Set)
+                .value_parser(KINDS.as_slice()),
+        )?
+        .arg(
+            Arg::new(alloc, "class")
+                .long("class")
+                .value_name("NAME")
+                .help("Those that this class is part of alone, NAME or NAME/N")
+                .action(ArgAction::Set),
+        )?
+        .arg(
+            Arg::new(alloc, "most")
+                .long("most")
+                .value_name("N")
+                .help("How many violations, and refused traces, are explained at most, 0 for all")
+                .action(ArgAction::Set)
+                .default_value("20")
+                .value_parser(value_parser!(u64)),
+        )?
         .arg(named_map(alloc))?
         .arg(count_of_workers(alloc))?
         .arg(named_files(alloc))

@@ -59,7 +59,7 @@ Example:
   lockgraph html --map run.trace.places run.trace > run.html";
 
 /// What one of these commands is asked.
-#[derive(Debug, Drop)]
+#[derive(Drop)]
 pub struct FormatWords<'a> {
     /// What is written.
     pub format: Format<'a>,

@@ -22,7 +22,7 @@ Example:
   lockgraph json --map run.trace.places run.trace";
 
 /// What `json` is asked.
-#[derive(Debug, Drop)]
+#[derive(Drop)]
 pub struct JsonWords<'a> {
     /// The files with the streams, and their maps.
     pub mapped: Mapped<'a>,

@@ -16,7 +16,7 @@ each with the place where it was first seen:
 The class L!read, for which recursive readers of L wait, has the row !read under that of L.
 
 Of one class --class writes where each usage bit was first seen, under which classes it was acquired (under),
-and which ones were acquired under it (over), or `NAME not seen`.
+and which ones were acquired under it (over). A class that no trace acquires is told with the nearest name.
 
 Exit status: 3 where a trace is refused, of which nothing is listed, 0 else, 2 where there is no whole answer.
 
@@ -25,7 +25,7 @@ Example:
   lockgraph list --class rx_lock run.trace other.trace";
 
 /// What `list` is asked.
-#[derive(Debug, Drop)]
+#[derive(Drop)]
 pub struct ListWords<'a> {
     /// What is to be listed.
     pub listing: Listing<'a>,
@@ -35,20 +35,22 @@ pub struct ListWords<'a> {
 
 /// `list [--dependencies] [--class NAME] [--workers N] [FILE]..`.
 pub fn list_command<'a>(alloc: Global) -> Result<Command<'a>, AllocError> {
-    let dependencies = Arg::new(alloc, "dependencies")
-        .long("dependencies")
-        .help("Under each class the dependencies that begin with it")
-        .action(ArgAction::SetTrue);
-    let class = Arg::new(alloc, "class")
-        .long("class")
-        .value_name("NAME")
-        .help("This class alone, and what was held around it")
-        .action(ArgAction::Set);
     Command::new(alloc, "list")
         .about("Writes the classes that the traces acquire, and what each leads to")
         .after_help(AFTER_LIST)
-        .arg(dependencies)?
-        .arg(class)?
+        .arg(
+            Arg::new(alloc, "dependencies")
+                .long("dependencies")
+                .help("Under each class the dependencies that begin with it")
+                .action(ArgAction::SetTrue),
+        )?
+        .arg(
+            Arg::new(alloc, "class")
+                .long("class")
+                .value_name("NAME")
+                .help("This class alone, and what was held around it")
+                .action(ArgAction::Set),
+        )?
         .arg(count_of_workers(alloc))?
         .arg(named_files(alloc))
 }

@@ -6,7 +6,7 @@ use clap::{Arg, ArgAction, ArgMatches, Command, Error};
 use std::alloc::Global;
 
 /// Files with streams, and their maps.
-#[derive(Debug, Drop)]
+#[derive(Drop)]
 pub struct Mapped<'a> {
     /// The names of the maps, of the files in turn: no more than there are files. Each other file has the map that
     /// stands beside it, if there is one.

@@ -1,6 +1,7 @@
 //! The words of `new`.
 
 use super::{Given, count_of_workers, named_files, read_given};
+use crate::news::Telling;
 use clap::error::ErrorKind;
 use clap::{Arg, ArgAction, ArgMatches, Command, Error};
 use std::alloc::{AllocError, Global};
@@ -31,33 +32,35 @@ Example:
   lockgraph new --fixed --known known.report run.trace other.trace";
 
 /// What `new` is asked.
-#[derive(Debug, Drop)]
+#[derive(Drop)]
 pub struct NewWords<'a> {
     /// The name of the known text.
     pub known: &'a str,
-    /// Whether it is asked what is known and gone, in place of what is new.
-    pub fixed: bool,
+    /// What is told: what is new, or what is known and gone.
+    pub telling: Telling,
     /// The files with the streams, and how they are read.
     pub given: Given<'a>,
 }
 
 /// `new --known KNOWN [--fixed] [--workers N] [FILE]..`.
 pub fn new_command<'a>(alloc: Global) -> Result<Command<'a>, AllocError> {
-    let known = Arg::new(alloc, "known")
-        .long("known")
-        .value_name("KNOWN")
-        .help("A report of before")
-        .action(ArgAction::Set)
-        .required(true);
-    let fixed = Arg::new(alloc, "fixed")
-        .long("fixed")
-        .help("Instead the lines of KNOWN that match nothing in the report")
-        .action(ArgAction::SetTrue);
     Command::new(alloc, "new")
         .about("Writes what is new in a report: what no line of a known one says")
         .after_help(AFTER_NEW)
-        .arg(known)?
-        .arg(fixed)?
+        .arg(
+            Arg::new(alloc, "known")
+                .long("known")
+                .value_name("KNOWN")
+                .help("A report of before")
+                .action(ArgAction::Set)
+                .required(true),
+        )?
+        .arg(
+            Arg::new(alloc, "fixed")
+                .long("fixed")
+                .help("Instead the lines of KNOWN that match nothing in the report")
+                .action(ArgAction::SetTrue),
+        )?
         .arg(count_of_workers(alloc))?
         .arg(named_files(alloc))
 }
@@ -76,10 +79,14 @@ pub fn read_new<'a>(
         return Err(command.error(ErrorKind::MissingRequiredArgument, "--known is missing")?);
     };
     let given = read_given(alloc, command, matches, &[known])?;
-    let fixed = matches.get_flag("fixed");
+    let telling = if matches.get_flag("fixed") {
+        Telling::Gone
+    } else {
+        Telling::New
+    };
     Ok(NewWords {
         known,
-        fixed,
+        telling,
         given,
     })
 }

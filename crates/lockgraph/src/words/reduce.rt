@@ -21,7 +21,7 @@ Example:
   lockcheck < reduced.trace";
 
 /// What `reduce` is asked.
-#[derive(Debug, Drop)]
+#[derive(Drop)]
 pub struct ReduceWords<'a> {
     /// What is written beside the traces that show something.
     pub keeping: Keeping,
@@ -31,19 +31,21 @@ pub struct ReduceWords<'a> {
 
 /// `reduce [--from] [--keep-refused] [--workers N] [FILE]..`.
 pub fn reduce_command<'a>(alloc: Global) -> Result<Command<'a>, AllocError> {
-    let from = Arg::new(alloc, "from")
-        .long("from")
-        .help("A line behind each header says where it stands: # from FILE LINE")
-        .action(ArgAction::SetTrue);
-    let keep_refused = Arg::new(alloc, "keep-refused")
-        .long("keep-refused")
-        .help("Refused traces are written too")
-        .action(ArgAction::SetTrue);
     Command::new(alloc, "reduce")
         .about("Writes the traces that are the first to show something, as a stream")
         .after_help(AFTER_REDUCE)
-        .arg(from)?
-        .arg(keep_refused)?
+        .arg(
+            Arg::new(alloc, "from")
+                .long("from")
+                .help("A line behind each header says where it stands: # from FILE LINE")
+                .action(ArgAction::SetTrue),
+        )?
+        .arg(
+            Arg::new(alloc, "keep-refused")
+                .long("keep-refused")
+                .help("Refused traces are written too")
+                .action(ArgAction::SetTrue),
+        )?
         .arg(count_of_workers(alloc))?
         .arg(named_files(alloc))
 }

@@ -15,7 +15,7 @@ Example:
   lockgraph stats run.trace other.trace";
 
 /// What `stats` is asked.
-#[derive(Debug, Drop)]
+#[derive(Drop)]
 pub struct StatsWords<'a> {
     /// The files with the streams, and how they are read.
     pub given: Given<'a>,

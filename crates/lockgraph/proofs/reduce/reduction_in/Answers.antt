@@ -5,7 +5,7 @@ use Rattle.ld_check.specs.OfReport.OfBook.declared.totals.Totals.{Totals}
 use Rattle.ld_trace.specs.Sources.{plain}
 use Rattle.ld_origin.specs.Origin.{plain_home}
 use Rattle.ld_reduce.specs.Reduction.{IsReductionOf}
-use Rattle.lockgraph.specs.Homes.{AreHomes}
+use Rattle.ld_files.specs.Homes.{AreHomes}
 use Rattle.lockgraph.specs.Reduced.{verdict_of_reduced}
 use Rattle.lockgraph.proofs.reduce.reduction_in.Goals as goal
 

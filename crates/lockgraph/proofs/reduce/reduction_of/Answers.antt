@@ -11,9 +11,9 @@ use Rattle.ld_reduce.proofs.StreamLemmas.{sources-traces}
 use Rattle.ld_origin.specs.Origin.{PlainHome}
 use Rattle.ld_reduce.specs.Reduced.{HaveHomes}
 use Rattle.ld_texts.specs.Places.{PlainFile}
-use Rattle.lockgraph.specs.Homes.{AreWanted}
+use Rattle.ld_files.specs.Homes.{AreWanted}
 use Rattle.lockgraph.specs.Reduced.{IsReducedOf, IsReducedWith}
-use Rattle.lockgraph.proofs.HomeLemmas.{have-homes}
+use Rattle.ld_files.proofs.HomeLemmas.{have-homes}
 use Rattle.lockgraph.proofs.reduce.reduction_of.Goals as goal
 
 -- where there is an answer, there is no fault

@@ -1,0 +1,5 @@
+pub mod Comments
+pub mod Looks
+pub mod Streams
+pub mod Homes
+pub mod Faults

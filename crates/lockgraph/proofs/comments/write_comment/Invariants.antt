@@ -1,7 +1,0 @@
--- The bytes so far are written.
-use Rattle.std.proofs.Common.{◌≡◌, ◌++◌, codes, map, take}
-use Rattle.lockgraph.specs.Comments.{tame}
-use Rattle.lockgraph.proofs.comments.write_comment.Given as goal
-
-abbrev pub invariant-loop-byte : goal.invariant-loop-byte
-invariant-loop-byte l = l.out.items ≡ l.fn.out.items ++ codes "# " ++ map tame (take l.byte-index l.remark)

@@ -1,7 +1,0 @@
--- One more trace has its home.
-use Rattle.lockgraph.proofs.HomeLemmas.{more-homes}
-use Rattle.lockgraph.proofs.homes.homes_of.Goals as goal
-
-pub loop-source-preserved : goal.loop-source-preserved
-loop-source-preserved c =
-    more-homes c.args.places.now c.args.sources.now c.loop-source.source-index _ c.loop-source.homes.items _ c.home_of.result c.loop-source-test.true c.in_ok-push.ensures.items c.loop-source.invariant c.home_of.ensures
