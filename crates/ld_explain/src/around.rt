@@ -1,6 +1,7 @@
 //! Which classes are near one.
 
-use ld_texts::{DependencyRow, Edge, Followers};
+use ld_counts::Followers;
+use ld_overview::{DependencyRow, Edge};
 use std::alloc::{AllocError, Global};
 
 /// For each of so many classes, by their numbers, whether a walk of at most so many dependencies leads to it

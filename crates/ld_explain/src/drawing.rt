@@ -5,12 +5,13 @@ use crate::known::{known_at, write_known};
 use crate::violations::{Choice, Dependency, Violation, chosen, is_named};
 use crate::writing::write_sub;
 use indexmap::{IndexMap, IndexSet};
+use ld_overview::{
+    Book, ClassName, ClassRow, DependencyRow, Overview, Witness, has_readers, lock_of_readers,
+    sort_by_locks,
+};
+use ld_places::ShownPlaces;
 use ld_rows::Kind;
 use ld_source_map::{At, Maps};
-use ld_texts::{
-    Book, ClassName, ClassRow, DependencyRow, Overview, ShownPlaces, Witness, has_readers,
-    lock_of_readers, sort_by_locks,
-};
 use ld_trace::Source;
 use std::alloc::{AllocError, Global};
 use std::io::Write;

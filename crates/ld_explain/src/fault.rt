@@ -6,8 +6,8 @@ ghost use Rattle.ld_explain.specs.Rows.{AreRefusals, refusals};
 ghost use Rattle.ld_explain.specs.Steps.{IsEvery};
 
 use crate::violations::Choice;
+use ld_overview::{Book, Traces, Witness};
 use ld_rules::{Listed, Outcome, TraceFault};
-use ld_texts::{Book, Traces, Witness};
 use std::alloc::{AllocError, Global};
 
 /// Why a trace is refused, and at which line.

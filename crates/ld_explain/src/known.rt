@@ -1,7 +1,7 @@
 //! Writes what recorders say of lines and classes. Each call answers `AllocError` where memory for it was refused.
 
+use ld_places::ShownPlaces;
 use ld_source_map::{At, Maps, Origin, write_plain};
-use ld_texts::ShownPlaces;
 use std::alloc::AllocError;
 use std::io::Write;
 

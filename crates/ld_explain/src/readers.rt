@@ -1,7 +1,7 @@
 //! What a task holds as it is told of: a lock that readers wait for is one lock, whose writer holds two classes.
 
+use ld_overview::{ClassName, has_readers, lock_of_readers};
 use ld_replay::{Before, Hold};
-use ld_texts::{ClassName, has_readers, lock_of_readers};
 use ld_trace::Lock;
 use std::alloc::{AllocError, Global};
 

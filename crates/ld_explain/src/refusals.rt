@@ -2,9 +2,9 @@
 
 use crate::fault::Fault;
 use crate::telling::Telling;
+use ld_overview::Witness;
 use ld_replay::Before;
 use ld_rules::TraceFault;
-use ld_texts::Witness;
 use std::alloc::AllocError;
 use std::io::Write;
 

@@ -1,6 +1,6 @@
 //! All that a report says, and what stands behind it, as rows.
 ghost use Rattle.std.specs.Prelude.{◌≡◌, All, IfOk, map};
-ghost use Rattle.ld_texts.specs.OfBook.Totals.{totals};
+ghost use Rattle.ld_overview.specs.OfBook.Totals.{totals};
 ghost use Rattle.ld_explain.specs.Rows.{AreRefusals, AreViolations, IsFirstRow, refusal_said, row_said};
 ghost use Rattle.ld_explain.specs.Rows.{totals_row};
 ghost use Rattle.ld_explain.specs.Faults.{fault_said};
@@ -26,9 +26,10 @@ use crate::rows::seen::{Telling, dependency_rows, end_rows};
 use crate::rows::violations::violation_rows;
 use crate::sightings::{Sightings, Texts};
 use crate::violations::{Choice, chosen};
+use ld_overview::{Book, Overview, Totals as BookTotals};
+use ld_places::ShownPlaces;
 use ld_rows::{ClassRow, Dependency, EdgeRow, End, Group, Refused, Rows, Totals, Violation};
 use ld_source_map::Maps;
-use ld_texts::{Book, Overview, ShownPlaces, Totals as BookTotals};
 use ld_trace::Source;
 use std::alloc::{AllocError, Global};
 

@@ -1,7 +1,7 @@
 //! What stands at some lines of some traces, looked up in one pass over each trace.
 
+use ld_overview::Witness;
 use ld_replay::{Before, Flag, before_lines, lines_at};
-use ld_texts::Witness;
 use ld_trace::{Source, text};
 use std::alloc::{AllocError, Global};
 

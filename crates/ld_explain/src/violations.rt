@@ -1,13 +1,13 @@
 //! The violations of a report, with the dependencies that they stand on.
 ghost use Rattle.std.specs.Prelude.{◌≡◌, ◌++◌, ◌∷◌, [], All, IfOk, List, None, OnOk, Some, map, true};
 ghost use Rattle.ld_trace.specs.Sources.{PlainSource};
-ghost use Rattle.ld_texts.specs.OfBook.Findings.{plain_cycle_row, plain_findings};
+ghost use Rattle.ld_overview.specs.OfBook.Findings.{plain_cycle_row, plain_findings};
 ghost use Rattle.ld_rows.specs.declared.violations.Kind.TheVariants.{Conflict, Forbidden};
 ghost use Rattle.ld_explain.specs.Rows.{AreViolations, cycle_kind, cycle_said, findings_said};
 ghost use Rattle.ld_explain.specs.Steps.{AreFirst, IsAtFirst, IsEvery, violation_said};
 
+use ld_overview::{Book, ClassName, ConflictRow, CycleRow, Findings, ForbiddenRow, Walk, Witness};
 use ld_rows::Kind;
-use ld_texts::{Book, ClassName, ConflictRow, CycleRow, Findings, ForbiddenRow, Walk, Witness};
 use ld_trace::{State, next_line, text};
 use std::alloc::{AllocError, Global};
 

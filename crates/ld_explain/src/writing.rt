@@ -1,7 +1,8 @@
 //! Writes names and places. Each call answers `AllocError` where memory for its text was refused.
 
 use crate::readers::Held;
-use ld_texts::{ClassName, ShownPlaces};
+use ld_overview::ClassName;
+use ld_places::ShownPlaces;
 use ld_trace::State;
 use std::alloc::AllocError;
 use std::io::Write;

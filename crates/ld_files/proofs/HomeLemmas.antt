@@ -8,7 +8,7 @@ use Rattle.ld_trace.proofs.NumberLemmas.{numbered}
 use Rattle.ld_origin.specs.declared.origin.Home.{Home}
 use Rattle.ld_origin.specs.Origin.{PlainHome, plain_home}
 use Rattle.ld_reduce.specs.Reduced.{HaveHomes}
-use Rattle.ld_texts.specs.Places.{PlainFile}
+use Rattle.ld_places.specs.Places.{PlainFile}
 use Rattle.ld_files.specs.Homes.{AreHomes, IsHome}
 
 zip-length : {A B : Type 0} (R : A → B → Type 0) (xs : List A) (ys : List B) → AllZip R xs ys → length xs ≡ length ys

@@ -3,7 +3,7 @@ use Rattle.std.specs.Prelude.{◌≡◌, ◌⊎◌, ℕ, ◌-◌, Bool, true, fa
 use Rattle.std.specs.List.{AllZip}
 use Rattle.ld_trace.specs.Sources.{PlainSource}
 use Rattle.ld_origin.specs.Origin.{PlainHome}
-use Rattle.ld_texts.specs.Places.{IsPlace, PlainFile, PlainPlace}
+use Rattle.ld_places.specs.Places.{IsPlace, PlainFile, PlainPlace}
 
 abbrev pub place_of : PlainHome → PlainPlace
 place_of home = record { file = home.file; line = home.line }

@@ -2,12 +2,12 @@
 ghost use Rattle.std.specs.Prelude.{◌≡◌, ◌++◌, ◌≤◌, [], IfOk, OnOk, false, flat_map, length, map};
 ghost use Rattle.std.specs.List.{list_any};
 ghost use Rattle.ld_trace.specs.Sources.{plain};
-ghost use Rattle.ld_texts.specs.ShownPlaces.{has_origin};
+ghost use Rattle.ld_places.specs.ShownPlaces.{has_origin};
 ghost use Rattle.ld_files.specs.Comments.{comment_line, tame};
 
 use indexmap::IndexSet;
 use ld_baseline::lines_named;
-use ld_texts::ShownPlaces;
+use ld_places::ShownPlaces;
 use ld_trace::{next_line, text};
 use std::alloc::{AllocError, Global};
 use std::io::Write;

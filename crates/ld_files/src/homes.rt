@@ -5,7 +5,7 @@ ghost use Rattle.ld_origin.specs.Origin.{plain_home};
 ghost use Rattle.ld_files.specs.Homes.{AreHomes, IsHome};
 
 use ld_origin::Home;
-use ld_texts::Places;
+use ld_places::Places;
 use ld_trace::Source;
 use std::alloc::{AllocError, Global};
 

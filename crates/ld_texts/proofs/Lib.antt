@@ -1,4 +1,1 @@
-pub mod PlaceLemmas
-pub mod OverviewLemmas
 pub mod ReaderLemmas
-pub mod ShownLemmas

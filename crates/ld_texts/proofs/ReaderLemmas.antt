@@ -1,17 +1,13 @@
--- A class is what recursive readers of one lock wait for.
-use Rattle.std.proofs.Common.{◌≡◌, ◌≢◌, ◌∙◌, ◌==◌, ◌&&◌, ◌∷◌, [], Bool, List, ℕ, Some, codes, not, refl, sym}
+-- A class stands below the lock whose recursive readers wait for it.
+use Rattle.std.proofs.Common.{◌≡◌, ◌≢◌, ◌==◌, ◌&&◌, ◌∷◌, [], Bool, List, ℕ, Some, not, refl}
 use Rattle.std.proofs.lemmas.Bool.{and_from, and_parts}
 use Rattle.std.proofs.lemmas.Bool.Decides.{Decides-eqb, same_from_decides}
-use Rattle.std.proofs.lemmas.List.{append_cancel_right}
 use Rattle.std.specs.Bool.{Decides}
 use Rattle.ld_class.proofs.NameLemmas.{same_class-Decides}
 use Rattle.ld_class.specs.Names.{PlainClass, same_class}
 use Rattle.ld_trace.specs.Lines.{is_empty}
 use Rattle.ld_texts.specs.List.{is_under, readers_of}
-use Rattle.ld_texts.specs.Readers.{HasReaders, IsForReaders}
-
-pub one_lock : (one other : List ℕ) (class : PlainClass) → IsForReaders one class → IsForReaders other class → one ≡ other
-one_lock one other class is also = append_cancel_right one other (codes "!read") (λ i. ((sym is.named ∙ also.named) i).name)
+use Rattle.ld_overview.specs.Readers.{HasReaders}
 
 some-Decides : (name : List ℕ) → Decides (not (is_empty name)) (name ≢ [])
 some-Decides [] = (λ yes. absurd (cc), λ some. absurd (some refl))

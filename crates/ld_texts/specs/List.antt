@@ -6,19 +6,16 @@ use Rattle.ld_class.specs.Usage.{marks_of}
 use Rattle.ld_class.specs.declared.usage.Usage.{Usage}
 use Rattle.ld_trace.specs.Lines.{is_empty}
 use Rattle.ld_trace.specs.Sources.{PlainSource}
-use Rattle.ld_texts.specs.Overview.{AreClassRows}
+use Rattle.ld_overview.specs.Names.{class_text}
+use Rattle.ld_overview.specs.Overview.{AreClassRows}
 use Rattle.ld_texts.specs.declared.list.Level.{Level}
 use Rattle.ld_texts.specs.declared.list.Level.TheVariants.{OfLock, Own}
 use Rattle.ld_texts.specs.declared.wanted.Listing.{Listing}
 use Rattle.ld_texts.specs.declared.wanted.Listing.TheVariants as listing
 use Rattle.ld_texts.specs.declared.wanted.Wanted.{Wanted}
 use Rattle.ld_texts.specs.declared.wanted.Wanted.TheVariants as wanted
-use Rattle.ld_texts.specs.declared.overview.ClassRow.{ClassRow}
+use Rattle.ld_overview.specs.declared.overview.ClassRow.{ClassRow}
 use Rattle.ld_texts.specs.declared.figures.Figures.{Figures}
-
--- the name of a class: `A`, and `A/N` of its subclass N
-abbrev pub class_text : PlainClass → List ℕ
-class_text class = class.name ++ (if class.sub == 0 then [] else codes "/" ++ decimal class.sub)
 
 -- the usage characters of a class: `{?.+.}`
 abbrev pub marks_text : Usage → List ℕ

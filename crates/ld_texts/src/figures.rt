@@ -3,8 +3,8 @@ ghost use Rattle.std.specs.Prelude.{◌≡◌};
 ghost use Rattle.ld_texts.specs.List.{figures_of};
 
 use crate::shape::components;
-use ld_book::Book;
 use ld_counts::{Walks, acquisitions};
+use ld_overview::Book;
 use std::alloc::{AllocError, Global};
 use std::thread::Threads;
 

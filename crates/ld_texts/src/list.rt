@@ -4,10 +4,11 @@ ghost use Rattle.ld_class.specs.Names.{plain_class};
 ghost use Rattle.ld_texts.specs.List.{IsClassList, class_line, figures_text, head_text, is_under, level_of, lines_below};
 
 use crate::figures::{Figures, figures_of};
-use crate::overview::{ClassRow, DependencyRow, Overview, class_rows, dependency_rows};
-use crate::readers::{has_readers, sort_by_locks, write_held, write_waited};
-use crate::writing::{Seen, is_called, write_at, write_class, write_marks};
-use ld_book::{Book, ClassName, Witness};
+use crate::writing::{Seen, is_called, write_at, write_marks};
+use ld_overview::{
+    Book, ClassName, ClassRow, DependencyRow, Overview, Witness, class_rows, dependency_rows,
+    has_readers, sort_by_locks, write_class, write_held, write_waited,
+};
 use std::alloc::{AllocError, Global};
 use std::io::Write;
 

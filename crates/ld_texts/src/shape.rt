@@ -1,7 +1,7 @@
 //! The components of what a book shows.
 
-use ld_book::Book;
 use ld_counts::Components;
+use ld_overview::Book;
 use std::alloc::{AllocError, Global};
 
 /// The components of the dependencies of a book.

@@ -1,9 +1,9 @@
 //! How much some traces are and show, one figure a line.
 
-use crate::places::Places;
 use crate::shape::components;
-use ld_book::{Book, Findings, Totals};
 use ld_counts::{Counted, Verbs};
+use ld_overview::{Book, Findings, Totals};
+use ld_places::Places;
 use ld_rules::{Listed, Outcome, TraceFault};
 use ld_trace::State;
 use std::alloc::{AllocError, Global};

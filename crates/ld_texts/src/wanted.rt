@@ -4,10 +4,10 @@ ghost use Rattle.ld_texts.specs.List.{IsClassList, every_class, list_classes};
 
 use crate::figures::{Figures, all_figures};
 use crate::list::{class_text, classes_text, dependencies_text};
-use crate::shown_places::ShownPlaces;
 use crate::stats::stats_text;
 use crate::writing::Seen;
-use ld_book::Book;
+use ld_overview::Book;
+use ld_places::ShownPlaces;
 use std::alloc::{AllocError, Global};
 use std::thread::Threads;
 

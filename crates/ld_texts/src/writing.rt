@@ -1,10 +1,9 @@
 //! Writes names and places. Each call answers `AllocError` where memory was refused.
 ghost use Rattle.std.specs.Prelude.{◌≡◌, ◌++◌, OnOk};
-ghost use Rattle.ld_class.specs.Names.{plain_class};
-ghost use Rattle.ld_texts.specs.List.{class_text, marks_text};
+ghost use Rattle.ld_texts.specs.List.{marks_text};
 
-use crate::shown_places::ShownPlaces;
-use ld_book::{Book, ClassName, Traces, UsageRow, Witness};
+use ld_overview::{Book, ClassName, Traces, UsageRow, Witness};
+use ld_places::ShownPlaces;
 use std::alloc::{AllocError, Global};
 use std::io::Write;
 
@@ -42,18 +41,6 @@ impl<'b, 'p, 'f, 'a> Seen<'b, 'p, 'f, 'a> {
             None => ("", line),
         }
     }
-}
-
-/// Writes the name of a class: `name`, or `name/N` where it is a subclass.
-pub(crate) fn write_class(text: &mut Vec<u8>, class: ClassName<'_>) -> Result<(), AllocError>
-    ensures { OnOk result (text.new.items ≡ text.old.items ++ class_text (plain_class class.entry)) }
-{
-    text.extend_from_slice(class.name)?;
-    if class.sub == 0 {
-        return Ok(());
-    }
-    let sub = class.sub;
-    write!(text, "/{sub}").map_err(|_| AllocError)
 }
 
 /// Whether a class has this name, as it is written.

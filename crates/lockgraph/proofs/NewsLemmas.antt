@@ -8,8 +8,8 @@ use Rattle.ld_check.proofs.OfReport.OfBook.PermutedLemmas.{totals-permuted}
 use Rattle.ld_check.specs.OfReport.declared.verdict.Verdict.{Verdict}
 use Rattle.ld_check.proofs.OfReport.Permuted.{report-permuted}
 use Rattle.ld_baseline.specs.News.{count_new}
-use Rattle.ld_texts.specs.Places.{PlainFile}
-use Rattle.ld_texts.specs.ShownPlaces.{has_origin}
+use Rattle.ld_places.specs.Places.{PlainFile}
+use Rattle.ld_places.specs.ShownPlaces.{has_origin}
 use Rattle.lockgraph.specs.declared.news.Telling.{Telling}
 use Rattle.lockgraph.specs.declared.news.Telling.TheVariants as tellings
 use Rattle.lockgraph.specs.News.{IsFixedOf, IsNewsOf, IsNewsWith, IsToldOf, IsToldWith, verdict_of_new}

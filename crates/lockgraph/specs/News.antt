@@ -8,8 +8,8 @@ use Rattle.ld_check.specs.OfReport.declared.verdict.Verdict.{Verdict}
 use Rattle.ld_check.specs.OfReport.declared.verdict.Verdict.TheVariants.{Clean, Refused, Violations}
 use Rattle.ld_baseline.specs.Gone.{count_gone, gone_lines}
 use Rattle.ld_baseline.specs.News.{count_new, new_report}
-use Rattle.ld_texts.specs.Places.{PlainFile}
-use Rattle.ld_texts.specs.ShownPlaces.{has_origin}
+use Rattle.ld_places.specs.Places.{PlainFile}
+use Rattle.ld_places.specs.ShownPlaces.{has_origin}
 use Rattle.lockgraph.specs.declared.news.Telling.{Telling}
 use Rattle.lockgraph.specs.declared.news.Telling.TheVariants as tellings
 use Rattle.ld_files.specs.Comments.{comment_line}

@@ -7,7 +7,7 @@ use Rattle.ld_check.specs.OfReport.declared.verdict.Verdict.TheVariants.{Clean, 
 use Rattle.ld_origin.specs.Origin.{PlainHome, marked}
 use Rattle.ld_reduce.specs.Reduced.{IsReduced}
 use Rattle.ld_reduce.specs.Reduction.{IsReductionOf}
-use Rattle.ld_texts.specs.Places.{PlainFile}
+use Rattle.ld_places.specs.Places.{PlainFile}
 use Rattle.lockgraph.specs.declared.reduce.Keeping.{Keeping}
 use Rattle.ld_files.specs.Homes.{AreWanted}
 

@@ -9,8 +9,8 @@ use ld_check::{Checked, MOST_WORKERS, NoGate, Verdict, check, report_in, verdict
 use ld_explain::{Choice, chosen, explain, faults};
 use ld_files::{Fault, Told, find_class, maps_in, maps_of, read_maps, read_streams, write_told};
 use ld_io::Std;
+use ld_places::{Places, ShownPlaces};
 use ld_source_map::Maps;
-use ld_texts::{Places, ShownPlaces};
 use std::alloc::{AllocError, Global};
 use std::io;
 use std::rt::Files;

@@ -14,7 +14,7 @@ use ld_baseline::{SelectFault, new_report};
 use ld_check::{CheckFault, Checked, MOST_WORKERS, NoGate, Verdict, check, report_in};
 use ld_files::{Fault, Told, read_known, read_streams, remarks, write_comments};
 use ld_io::{Output, Std, send};
-use ld_texts::{Places, ShownPlaces};
+use ld_places::{Places, ShownPlaces};
 use ld_trace::StreamFault;
 use std::alloc::{AllocError, Global};
 use std::io;

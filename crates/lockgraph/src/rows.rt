@@ -13,9 +13,9 @@ use ld_files::{Fault, Told, maps_in, maps_of, read_maps, read_streams, write_tol
 use ld_formats::{Format, format_text};
 use ld_io::Std;
 use ld_json::json_text;
+use ld_places::{Places, ShownPlaces};
 use ld_rows::Rows;
 use ld_source_map::Maps;
-use ld_texts::{Places, ShownPlaces};
 use std::alloc::{AllocError, Global};
 use std::io;
 use std::rt::Files;

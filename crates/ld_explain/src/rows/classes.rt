@@ -3,9 +3,9 @@
 use crate::rows::lines::Placing;
 use crate::rows::origins::{origin_of, taken_of};
 use crate::rows::violations::class_of;
+use ld_overview::{ClassRow as Shown, Overview, Witness};
 use ld_rows::{At, ClassRow, EdgeRow};
 use ld_source_map::Maps;
-use ld_texts::{ClassRow as Shown, Overview, Witness};
 use std::alloc::{AllocError, Global};
 
 /// Every class, in the order of a report.

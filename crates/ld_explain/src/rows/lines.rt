@@ -4,9 +4,10 @@ ghost use Rattle.std.specs.Prelude.{◌≡◌, IfOk};
 use crate::known::known_at;
 use crate::rows::origins::place_of;
 use crate::sightings::Texts;
+use ld_overview::Witness;
+use ld_places::ShownPlaces;
 use ld_rows::{At, Line};
 use ld_source_map::Maps;
-use ld_texts::{ShownPlaces, Witness};
 use ld_trace::Source;
 use std::alloc::{AllocError, Global};
 

@@ -5,8 +5,8 @@ ghost use Rattle.ld_explain.specs.Steps.{IsAtFirst};
 
 use crate::violations::{Dependency, Step};
 use indexmap::IndexMap;
+use ld_overview::{ClassName, Witness};
 use ld_rows::Use;
-use ld_texts::{ClassName, Witness};
 use ld_trace::State;
 use std::alloc::{AllocError, Global};
 

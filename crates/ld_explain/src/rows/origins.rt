@@ -1,8 +1,8 @@
 //! What maps say of lines and of classes.
 
+use ld_overview::{ClassName, lock_of_readers};
 use ld_rows::{Frame, Origin, Place, Taken};
 use ld_source_map::{At, Call, Maps, Origin as Known, calls_of, write_plain};
-use ld_texts::{ClassName, lock_of_readers};
 use std::alloc::{AllocError, Global};
 
 /// What a map says of a line.

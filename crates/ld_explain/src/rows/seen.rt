@@ -10,9 +10,9 @@ use crate::rows::needed::NeededEnd;
 use crate::rows::violations::class_of;
 use crate::sightings::Sightings;
 use crate::violations::Step;
+use ld_overview::{Book, ClassName, Witness};
 use ld_replay::{Before, Flag, task_of};
 use ld_rows::{Class, Dependency, End, Handler, Held, Seen, Since, Use};
-use ld_texts::{Book, ClassName, Witness};
 use std::alloc::AllocError;
 
 /// What lines say, and what their tasks have open.

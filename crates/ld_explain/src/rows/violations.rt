@@ -8,8 +8,8 @@ ghost use Rattle.ld_explain.specs.Steps.{AreFirst, IsAtFirst, violation_said};
 use crate::rows::lines::Placing;
 use crate::rows::needed::{Needed, NeededEnd};
 use crate::violations::{Ends, Step, Violation};
+use ld_overview::{ClassName, Witness};
 use ld_rows::{Class, Use, Violation as Row};
-use ld_texts::{ClassName, Witness};
 use ld_trace::State;
 use std::alloc::{AllocError, Global};
 

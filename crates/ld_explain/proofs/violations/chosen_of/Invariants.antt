@@ -1,5 +1,5 @@
 use Rattle.std.specs.Prelude.{◌≡◌, ◌++◌, All, Some, map, take}
-use Rattle.ld_texts.specs.OfBook.Findings.{plain_cycle_row, plain_conflict_row, plain_forbidden_row}
+use Rattle.ld_overview.specs.OfBook.Findings.{plain_cycle_row, plain_conflict_row, plain_forbidden_row}
 use Rattle.ld_rows.specs.declared.violations.Kind.TheVariants.{Conflict, Forbidden}
 use Rattle.ld_explain.specs.Rows.{cycle_said}
 use Rattle.ld_explain.specs.Steps.{AreFirst, IsEvery, violation_said}

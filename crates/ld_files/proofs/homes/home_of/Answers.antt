@@ -1,6 +1,6 @@
 -- A line of no file has no place.
 use Rattle.std.proofs.Common.{◌≡◌, ◌-◌, arith, inr, subst, sym}
-use Rattle.ld_texts.specs.Places.{IsPlace}
+use Rattle.ld_places.specs.Places.{IsPlace}
 use Rattle.ld_files.proofs.homes.home_of.Goals as goal
 
 pub returns-in-None : goal.returns-in-None

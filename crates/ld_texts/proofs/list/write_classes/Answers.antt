@@ -4,7 +4,7 @@ use Rattle.std.proofs.lemmas.List.{at_drop_more}
 use Rattle.ld_class.specs.Names.{PlainClass, plain_class}
 use Rattle.ld_texts.specs.declared.figures.Figures.{Figures}
 use Rattle.ld_texts.specs.declared.list.Level.{Level}
-use Rattle.ld_texts.specs.declared.overview.ClassRow.{ClassRow}
+use Rattle.ld_overview.specs.declared.overview.ClassRow.{ClassRow}
 use Rattle.ld_texts.specs.List.{class_line, level_of, lines_below}
 use Rattle.ld_texts.proofs.list.write_classes.Goals as goal
 

@@ -4,7 +4,7 @@ use Rattle.std.specs.List.{list_any}
 use Rattle.ld_trace.specs.Sources.{plain}
 use Rattle.ld_baseline.proofs.KnownLemmas.{list_any-map}
 use Rattle.ld_baseline.specs.News.{new_report}
-use Rattle.ld_texts.specs.ShownPlaces.{has_origin}
+use Rattle.ld_places.specs.ShownPlaces.{has_origin}
 use Rattle.ld_files.specs.Comments.{comment_line}
 use Rattle.lockgraph.proofs.news.news_in.Goals as goal
 

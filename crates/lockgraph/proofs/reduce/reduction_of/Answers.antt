@@ -10,7 +10,7 @@ use Rattle.ld_reduce.proofs.BookLemmas.{in_order-sources}
 use Rattle.ld_reduce.proofs.StreamLemmas.{sources-traces}
 use Rattle.ld_origin.specs.Origin.{PlainHome}
 use Rattle.ld_reduce.specs.Reduced.{HaveHomes}
-use Rattle.ld_texts.specs.Places.{PlainFile}
+use Rattle.ld_places.specs.Places.{PlainFile}
 use Rattle.ld_files.specs.Homes.{AreWanted}
 use Rattle.lockgraph.specs.Reduced.{IsReducedOf, IsReducedWith}
 use Rattle.ld_files.proofs.HomeLemmas.{have-homes}

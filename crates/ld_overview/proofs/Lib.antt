@@ -1,0 +1,2 @@
+pub mod OverviewLemmas
+pub mod ReaderLemmas

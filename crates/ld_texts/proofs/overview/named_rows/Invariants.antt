@@ -1,9 +1,0 @@
-use Rattle.std.proofs.Common.{◌≡◌, All, map, take}
-use Rattle.ld_texts.specs.Overview.{IsDependencyRow}
-use Rattle.ld_texts.proofs.overview.named_rows.Given as goal
-
-abbrev pub invariant-loop-dependency : goal.invariant-loop-dependency
-invariant-loop-dependency l = record {
-  each : All (IsDependencyRow l.book) l.rows.items;
-  edges : map (λ row. row.edge) l.rows.items ≡ map (λ row. row.edge) (take l.dependency-index l.dependencies);
-}
