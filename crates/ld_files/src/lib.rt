@@ -17,7 +17,5 @@ pub use homes::homes_wanted;
 pub use looks::{Kind, Looks};
 pub use maps::{MapText, WrongMap, maps_in, maps_of, read_maps};
 pub use nearest::{NoClass, find_class};
-pub use streams::{
-    STANDARD_INPUT, Streams, is_plain_header, read_file, read_known, read_streams, told_with,
-};
+pub use streams::{Streams, is_plain_header, read_file, read_known, read_streams, told_with};
 pub use told::{Told, write_told};

@@ -1,7 +1,8 @@
 //! The maps that recorders wrote beside the files.
 
 use crate::fault::Fault;
-use crate::streams::{STANDARD_INPUT, Streams};
+use crate::streams::Streams;
+use ld_commands::STANDARD_INPUT;
 use ld_io::{ReadFault, Std, read_all};
 use ld_source_map::{Map, MapFault, Maps};
 use ld_trace::LONGEST_STREAM;

@@ -11,6 +11,7 @@ use crate::fault::Fault;
 use crate::lines::line_count;
 use crate::looks::Looks;
 use ld_baseline::{is_comment, unknown_line};
+use ld_commands::STANDARD_INPUT;
 use ld_io::{ReadFault, Std, read_all};
 use ld_places::Places;
 use ld_reduce::{append_ended, is_ended};
@@ -18,9 +19,6 @@ use ld_trace::{LONGEST_STREAM, StreamFault, next_line, split, text};
 use std::alloc::{AllocError, Global};
 use std::rt::Files;
 use std::{fs, io};
-
-/// What stands for standard input among the names of files.
-pub const STANDARD_INPUT: &str = "-";
 
 /// Files that were read as one stream.
 #[derive(Drop)]

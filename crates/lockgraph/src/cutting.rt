@@ -6,8 +6,8 @@ ghost use Rattle.ld_trace.specs.Sources.{sources, stream_fault};
 ghost use Rattle.ld_io.specs.Transfer.{AppendsPart};
 ghost use Rattle.ld_cut.specs.Cut.{IsCutOf};
 
-use crate::words::CutWords;
 use ld_check::Verdict;
+use ld_commands::CutWords;
 use ld_cut::cut;
 use ld_files::{Fault, read_streams};
 use ld_io::{Output, Std, send};

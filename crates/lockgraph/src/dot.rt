@@ -4,8 +4,8 @@ ghost use Rattle.ld_trace.specs.Sources.{sources, stream_fault};
 ghost use Rattle.ld_check.specs.OfReport.Verdict.{VerdictIs};
 ghost use Rattle.ld_files.specs.declared.fault.Fault.TheVariants.{Together};
 
-use crate::words::DotWords;
 use ld_check::{Checked, MOST_WORKERS, NoGate, Verdict, check, verdict_of};
+use ld_commands::DotWords;
 use ld_explain::{Drawn, dot};
 use ld_files::{Fault, Told, find_class, maps_in, maps_of, read_maps, read_streams, write_told};
 use ld_io::Std;
@@ -38,11 +38,23 @@ pub fn answer_dot<'a, R: Files + io::Input + Print + AllocGlobal + Threads + Wai
         &streams.bytes,
         &streams.places,
         &maps,
-        words.drawn,
+        drawn_by(words),
         words.mapped.given.workers,
     )?;
     let mut output = Std::new(io::writer(rt));
     write_told(&mut output, &told)
+}
+
+/// What the words ask to draw.
+fn drawn_by<'a>(words: &DotWords<'a>) -> Drawn<'a> {
+    match words.around {
+        Some(around) => Drawn::Around {
+            name: around.name,
+            steps: around.steps,
+        },
+        None if words.all => Drawn::All,
+        None => Drawn::Violations,
+    }
 }
 
 /// A graph of these streams, whose traces that many workers read at once. May wait.

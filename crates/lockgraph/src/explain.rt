@@ -4,8 +4,8 @@ ghost use Rattle.ld_trace.specs.Sources.{sources, stream_fault};
 ghost use Rattle.ld_check.specs.OfReport.Verdict.{VerdictIs};
 ghost use Rattle.ld_files.specs.declared.fault.Fault.TheVariants.{Together};
 
-use crate::words::ExplainWords;
 use ld_check::{Checked, MOST_WORKERS, NoGate, Verdict, check, report_in, verdict_of};
+use ld_commands::ExplainWords;
 use ld_explain::{Choice, chosen, explain, faults};
 use ld_files::{Fault, Told, find_class, maps_in, maps_of, read_maps, read_streams, write_told};
 use ld_io::Std;
@@ -32,13 +32,18 @@ pub fn answer_explain<'a, R: Files + io::Input + Print + AllocGlobal + Threads +
     let maps = maps_in(rt.alloc(), &texts)?;
     let streams = read_streams(rt, files)?;
     let maps = maps_of(rt.alloc(), &texts, maps, files, &streams)?;
+    let choice = Choice {
+        kind: words.kind,
+        class: words.class,
+        most: words.most,
+    };
     let told = explained_of(
         rt,
         rt.alloc(),
         &streams.bytes,
         &streams.places,
         &maps,
-        &words.choice,
+        &choice,
         words.mapped.given.workers,
     )?;
     let mut output = Std::new(io::writer(rt));

@@ -1,10 +1,10 @@
 //! `list`: the classes that the traces acquire.
 
 use crate::shown::answer_shown;
-use crate::words::ListWords;
 use ld_check::Verdict;
+use ld_commands::ListWords;
 use ld_files::Fault;
-use ld_texts::Wanted;
+use ld_texts::{Listing, Wanted};
 use std::io;
 use std::rt::Files;
 use std::sync::Wait;
@@ -19,5 +19,14 @@ pub fn answer_list<'a, R: Files + io::Input + Print + AllocGlobal + Threads + Wa
     rt: &R,
     words: &ListWords<'a>,
 ) -> Result<Verdict, Fault<'a>> {
-    answer_shown(rt, &words.given, Wanted::List(words.listing))
+    answer_shown(rt, &words.given, Wanted::List(listing(words)))
+}
+
+/// What is to be listed.
+fn listing<'a>(words: &ListWords<'a>) -> Listing<'a> {
+    match words.class {
+        Some(name) => Listing::Class(name),
+        None if words.dependencies => Listing::Dependencies,
+        None => Listing::Classes,
+    }
 }

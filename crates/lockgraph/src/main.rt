@@ -19,12 +19,12 @@ mod report;
 mod rows;
 mod shown;
 mod stats;
-mod words;
 
 use cutting::answer_cut;
 use dot::answer_dot;
 use explain::answer_explain;
-use ld_check::Verdict;
+use ld_check::{MOST_WORKERS, Verdict};
+use ld_commands::{Asked, read_words};
 use ld_files::Fault;
 use list::answer_list;
 use news::answer_new;
@@ -38,12 +38,14 @@ use std::rt::{Env, Files};
 use std::sync::Wait;
 use std::thread::Threads;
 use std::{env, io};
-use words::{Asked, read_words};
 
 /// The exit status where there is no answer.
 const NO_ANSWER: u8 = 2;
 
 const _: () = prove!(NO_ANSWER == 1 + 1);
+
+// The words of the command line ask for no more workers than a check takes.
+const _: () = prove!(ld_commands::MOST_WORKERS == MOST_WORKERS);
 
 fn main(rt: HostRuntime) -> ExitCode {
     let words = match given_words(&rt) {

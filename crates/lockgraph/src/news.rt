@@ -9,9 +9,9 @@ ghost use Rattle.lockgraph.specs.Faults.{fault_of_news};
 ghost use Rattle.lockgraph.specs.News.{IsNewsWith, IsToldOf, IsToldWith, verdict_of_new};
 
 use crate::fixed::fixed_in;
-use crate::words::NewWords;
 use ld_baseline::{SelectFault, new_report};
 use ld_check::{CheckFault, Checked, MOST_WORKERS, NoGate, Verdict, check, report_in};
+use ld_commands::NewWords;
 use ld_files::{Fault, Told, read_known, read_streams, remarks, write_comments};
 use ld_io::{Output, Std, send};
 use ld_places::{Places, ShownPlaces};

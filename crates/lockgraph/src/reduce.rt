@@ -13,8 +13,8 @@ ghost use Rattle.lockgraph.specs.Faults.{fault_of_reduce};
 ghost use Rattle.lockgraph.specs.Reduced.{IsReducedOf, IsReducedWith, verdict_of_reduced};
 
 use crate::groups::{read_group, write_group};
-use crate::words::ReduceWords;
 use ld_check::{CheckFault, Checked, MOST_WORKERS, NoGate, Verdict, check};
+use ld_commands::ReduceWords;
 use ld_files::{Fault, Told, homes_wanted, read_streams};
 use ld_io::{Output, Std, send};
 use ld_places::Places;

@@ -9,8 +9,8 @@ ghost use Rattle.ld_check.specs.OfReport.Report.{IsReport, SaysClean};
 ghost use Rattle.ld_check.specs.OfReport.Verdict.{VerdictIs};
 ghost use Rattle.ld_files.specs.declared.fault.Fault.TheVariants.{Together, Write};
 
-use crate::words::CheckWords;
 use ld_check::{MOST_WORKERS, NoGate, Verdict, report_of};
+use ld_commands::CheckWords;
 use ld_files::{Fault, read_streams};
 use ld_io::{Output, Std, send};
 use std::alloc::Global;

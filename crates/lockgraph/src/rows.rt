@@ -6,8 +6,8 @@ ghost use Rattle.ld_json.specs.Json.{json_text};
 ghost use Rattle.ld_files.specs.declared.fault.Fault.TheVariants.{Together};
 ghost use Rattle.lockgraph.specs.declared.rows.Form.TheVariants.{Json};
 
-use crate::words::{FormatWords, JsonWords, Mapped};
 use ld_check::{Checked, MOST_WORKERS, NoGate, Verdict, check, report_in, verdict_of};
+use ld_commands::{FormatWords, JsonWords, Mapped};
 use ld_explain::rows_of;
 use ld_files::{Fault, Told, maps_in, maps_of, read_maps, read_streams, write_told};
 use ld_formats::{Format, format_text};

@@ -6,8 +6,8 @@ ghost use Rattle.ld_trace.specs.Sources.{stream_fault};
 ghost use Rattle.ld_files.specs.declared.fault.Fault.TheVariants.{Together, Write};
 ghost use Rattle.lockgraph.specs.Shown.{verdict_of_read};
 
-use crate::words::Given;
 use ld_check::{Checked, MOST_WORKERS, NoGate, Verdict, check};
+use ld_commands::Given;
 use ld_files::{Fault, Streams, Told, find_class, read_streams, write_told};
 use ld_io::Std;
 use ld_places::{Places, ShownPlaces};

@@ -1,8 +1,8 @@
 //! `stats`: how much the traces are and show.
 
 use crate::shown::answer_shown;
-use crate::words::StatsWords;
 use ld_check::Verdict;
+use ld_commands::StatsWords;
 use ld_files::Fault;
 use ld_texts::Wanted;
 use std::io;

@@ -1,11 +1,10 @@
 //! The words of `dot`.
 
-use super::explain::class_named;
-use super::mapped::{Mapped, named_map, read_mapped};
-use super::{count_of_workers, named_files};
+use crate::explain::class_named;
+use crate::mapped::{Mapped, named_map, read_mapped};
+use crate::words::{count_of_workers, named_files};
 use clap::error::ErrorKind;
 use clap::{Arg, ArgAction, ArgMatches, Command, Error, value_parser};
-use ld_explain::Drawn;
 use std::alloc::{AllocError, Global};
 
 /// How far a neighbourhood goes where no word says it.
@@ -28,11 +27,22 @@ else, 2 where there is no whole answer.
 Example:
   lockgraph dot run.trace | dot -Tsvg > run.svg";
 
+/// The neighbourhood of a class.
+#[derive(Clone, Copy, Debug)]
+pub struct Around<'a> {
+    /// The name of the class, `name` or `name/N`.
+    pub name: &'a [u8],
+    /// How many steps away from it at most.
+    pub steps: u64,
+}
+
 /// What `dot` is asked.
 #[derive(Drop)]
 pub struct DotWords<'a> {
-    /// What is drawn.
-    pub drawn: Drawn<'a>,
+    /// The neighbourhood that is drawn alone; `None` for all of what is drawn.
+    pub around: Option<Around<'a>>,
+    /// Whether all classes and dependencies are drawn, and not what stands on violations alone.
+    pub all: bool,
     /// The files with the streams, and their maps.
     pub mapped: Mapped<'a>,
 }
@@ -76,21 +86,25 @@ pub fn read_dot<'a>(
     command: &mut Command<'a>,
     matches: &ArgMatches<'a>,
 ) -> Result<DotWords<'a>, Error> {
-    let around = matches.get_one::<u64>("around");
-    let drawn = match class_named(matches) {
-        Some(name) => Drawn::Around {
+    let steps = matches.get_one::<u64>("around");
+    let around = match class_named(matches) {
+        Some(name) => Some(Around {
             name,
-            steps: around.unwrap_or(DEFAULT_AROUND),
-        },
-        None if around.is_some() => {
+            steps: steps.unwrap_or(DEFAULT_AROUND),
+        }),
+        None if steps.is_some() => {
             return Err(command.error(
                 ErrorKind::MissingRequiredArgument,
                 "--around is without --class",
             )?);
         }
-        None if matches.get_flag("all") => Drawn::All,
-        None => Drawn::Violations,
+        None => None,
     };
+    let all = matches.get_flag("all");
     let mapped = read_mapped(alloc, command, matches)?;
-    Ok(DotWords { drawn, mapped })
+    Ok(DotWords {
+        around,
+        all,
+        mapped,
+    })
 }

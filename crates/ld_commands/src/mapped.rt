@@ -1,6 +1,6 @@
 //! The words of commands that maps tell more to.
 
-use super::{Given, read_given};
+use crate::words::{Given, read_given};
 use clap::error::ErrorKind;
 use clap::{Arg, ArgAction, ArgMatches, Command, Error};
 use std::alloc::Global;

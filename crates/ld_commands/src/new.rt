@@ -1,7 +1,7 @@
 //! The words of `new`.
 
-use super::{Given, count_of_workers, named_files, read_given};
 use crate::news::Telling;
+use crate::words::{Given, count_of_workers, named_files, read_given};
 use clap::error::ErrorKind;
 use clap::{Arg, ArgAction, ArgMatches, Command, Error};
 use std::alloc::{AllocError, Global};

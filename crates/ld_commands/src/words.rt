@@ -1,51 +1,31 @@
 //! The words of the command line.
 ghost use Rattle.std.specs.Prelude.{◌≤◌};
-ghost use Rattle.ld_check.specs.declared.checked.TheConstants.{MOST_WORKERS};
+ghost use Rattle.ld_cli.specs.declared.words.TheConstants.{MOST_WORKERS};
 
-mod check;
-mod cut;
-mod dot;
-mod explain;
-mod formats;
-mod json;
-mod list;
-mod mapped;
-mod new;
-mod reduce;
-mod stats;
-
-pub use check::CheckWords;
-use check::{check_command, read_check};
+use crate::check::{CheckWords, check_command, read_check};
+use crate::cut::{CutWords, cut_command, read_cut};
+use crate::dot::{DotWords, dot_command, read_dot};
+use crate::explain::{ExplainWords, explain_command, read_explain};
+use crate::formats::{
+    FormatWords, github_command, html_command, junit_command, ktap_command, read_format,
+    sarif_command,
+};
+use crate::json::{JsonWords, json_command, read_json};
+use crate::list::{ListWords, list_command, read_list};
+use crate::new::{NewWords, new_command, read_new};
+use crate::reduce::{ReduceWords, read_reduce, reduce_command};
+use crate::stats::{StatsWords, read_stats, stats_command};
 use clap::error::ErrorKind;
 use clap::{Arg, ArgAction, ArgMatches, Command, Error, value_parser};
-pub use cut::CutWords;
-use cut::{cut_command, read_cut};
-pub use dot::DotWords;
-use dot::{dot_command, read_dot};
-pub use explain::ExplainWords;
-use explain::{explain_command, read_explain};
-pub use formats::FormatWords;
-use formats::{
-    github_command, html_command, junit_command, ktap_command, read_format, sarif_command,
-};
-pub use json::JsonWords;
-use json::{json_command, read_json};
-use ld_check::MOST_WORKERS;
-use ld_files::STANDARD_INPUT;
-pub use list::ListWords;
-use list::{list_command, read_list};
-pub use mapped::Mapped;
-pub use new::NewWords;
-use new::{new_command, read_new};
-pub use reduce::ReduceWords;
-use reduce::{read_reduce, reduce_command};
-pub use stats::StatsWords;
-use stats::{read_stats, stats_command};
+use ld_cli::MOST_WORKERS;
 use std::alloc::{AllocError, Global};
 use std::convert::AsStr;
 
 /// What `--version` says of the program.
-const VERSION: &str = "0.1.0";
+pub(crate) const VERSION: &str = "0.1.0";
+
+/// The name that stands for standard input.
+pub const STANDARD_INPUT: &str = "-";
 
 /// How many workers there are where no word says it.
 const DEFAULT_WORKERS: usize = 4;
@@ -180,7 +160,7 @@ fn read_command<'a>(
 /// # Errors
 ///
 /// Where standard input is named twice, or memory was refused.
-fn read_given<'a>(
+pub(crate) fn read_given<'a>(
     alloc: Global,
     command: &mut Command<'a>,
     matches: &ArgMatches<'a>,
@@ -254,7 +234,7 @@ fn with<'a>(
 }
 
 /// `--workers N`.
-fn count_of_workers<'a>(alloc: Global) -> Arg<'a> {
+pub(crate) fn count_of_workers<'a>(alloc: Global) -> Arg<'a> {
     Arg::new(alloc, "workers")
         .long("workers")
         .value_name("N")
@@ -265,7 +245,7 @@ fn count_of_workers<'a>(alloc: Global) -> Arg<'a> {
 }
 
 /// `[FILE]..`.
-fn named_files<'a>(alloc: Global) -> Arg<'a> {
+pub(crate) fn named_files<'a>(alloc: Global) -> Arg<'a> {
     Arg::new(alloc, "files")
         .value_name("FILE")
         .help("The files with the traces")

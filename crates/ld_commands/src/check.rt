@@ -1,6 +1,6 @@
 //! The words of `check`.
 
-use super::{Given, count_of_workers, named_files, read_given};
+use crate::words::{Given, count_of_workers, named_files, read_given};
 use clap::{ArgMatches, Command, Error};
 use std::alloc::{AllocError, Global};
 

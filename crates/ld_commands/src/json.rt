@@ -1,7 +1,7 @@
 //! The words of `json`.
 
-use super::mapped::{Mapped, named_map, read_mapped};
-use super::{count_of_workers, named_files};
+use crate::mapped::{Mapped, named_map, read_mapped};
+use crate::words::{count_of_workers, named_files};
 use clap::{ArgMatches, Command, Error};
 use std::alloc::{AllocError, Global};
 

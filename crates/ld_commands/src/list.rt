@@ -1,8 +1,7 @@
 //! The words of `list`.
 
-use super::{Given, count_of_workers, named_files, read_given};
+use crate::words::{Given, count_of_workers, named_files, read_given};
 use clap::{Arg, ArgAction, ArgMatches, Command, Error};
-use ld_texts::Listing;
 use std::alloc::{AllocError, Global};
 
 /// What the help of `list` says behind its words.
@@ -27,8 +26,10 @@ Example:
 /// What `list` is asked.
 #[derive(Drop)]
 pub struct ListWords<'a> {
-    /// What is to be listed.
-    pub listing: Listing<'a>,
+    /// The class that is listed alone; `None` for all.
+    pub class: Option<&'a str>,
+    /// Whether the dependencies of each class are listed too. Those of one class are in any case.
+    pub dependencies: bool,
     /// The files with the streams, and how they are read.
     pub given: Given<'a>,
 }
@@ -65,16 +66,12 @@ pub fn read_list<'a>(
     command: &mut Command<'a>,
     matches: &ArgMatches<'a>,
 ) -> Result<ListWords<'a>, Error> {
-    let listing = listing(matches);
+    let class = matches.get_str("class");
+    let dependencies = matches.get_flag("dependencies");
     let given = read_given(alloc, command, matches, &[])?;
-    Ok(ListWords { listing, given })
-}
-
-/// What is to be listed. What is told of one class has its dependencies.
-fn listing<'a>(matches: &ArgMatches<'a>) -> Listing<'a> {
-    match matches.get_str("class") {
-        Some(name) => Listing::Class(name),
-        None if matches.get_flag("dependencies") => Listing::Dependencies,
-        None => Listing::Classes,
-    }
+    Ok(ListWords {
+        class,
+        dependencies,
+        given,
+    })
 }

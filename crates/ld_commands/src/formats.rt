@@ -1,7 +1,7 @@
 //! The words of the commands that write for other programs: `sarif`, `github`, `junit`, `ktap` and `html`.
 
-use super::mapped::{Mapped, named_map, read_mapped};
-use super::{VERSION, count_of_workers, named_files};
+use crate::mapped::{Mapped, named_map, read_mapped};
+use crate::words::{VERSION, count_of_workers, named_files};
 use clap::error::ErrorKind;
 use clap::{Arg, ArgAction, ArgMatches, Command, Error};
 use ld_formats::{Format, Stripped};

@@ -1,6 +1,6 @@
 //! The words of `cut`.
 
-use super::{Given, named_files, read_given};
+use crate::words::{Given, named_files, read_given};
 use clap::{Arg, ArgAction, ArgMatches, Command, Error, value_parser};
 use std::alloc::{AllocError, Global};
 

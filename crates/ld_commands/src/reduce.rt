@@ -1,7 +1,7 @@
 //! The words of `reduce`.
 
-use super::{Given, count_of_workers, named_files, read_given};
 use crate::reduce::Keeping;
+use crate::words::{Given, count_of_workers, named_files, read_given};
 use clap::{Arg, ArgAction, ArgMatches, Command, Error};
 use std::alloc::{AllocError, Global};
 

@@ -1,9 +1,9 @@
 //! The words of `explain`.
 
-use super::mapped::{Mapped, named_map, read_mapped};
-use super::{count_of_workers, named_files};
+use crate::mapped::{Mapped, named_map, read_mapped};
+use crate::words::{count_of_workers, named_files};
 use clap::{Arg, ArgAction, ArgMatches, Command, Error, value_parser};
-use ld_explain::{Choice, Kind};
+use ld_rows::Kind;
 use std::alloc::{AllocError, Global};
 
 /// The names of the kinds of violations.
@@ -47,8 +47,12 @@ Example:
 /// What `explain` is asked.
 #[derive(Drop)]
 pub struct ExplainWords<'a> {
-    /// Which violations are explained.
-    pub choice: Choice<'a>,
+    /// The kind of the violations that are explained; `None` for all.
+    pub kind: Option<Kind>,
+    /// The class that they are part of, `name` or `name/N`; `None` for all.
+    pub class: Option<&'a [u8]>,
+    /// How many of them are explained at most; 0 for all.
+    pub most: u64,
     /// The files with the streams, and their maps.
     pub mapped: Mapped<'a>,
 }
@@ -97,13 +101,16 @@ pub fn read_explain<'a>(
     command: &mut Command<'a>,
     matches: &ArgMatches<'a>,
 ) -> Result<ExplainWords<'a>, Error> {
-    let choice = Choice {
-        kind: kind_named(matches.get_str("only")),
-        class: class_named(matches),
-        most: matches.get_one::<u64>("most").unwrap_or(DEFAULT_MOST),
-    };
+    let kind = kind_named(matches.get_str("only"));
+    let class = class_named(matches);
+    let most = matches.get_one::<u64>("most").unwrap_or(DEFAULT_MOST);
     let mapped = read_mapped(alloc, command, matches)?;
-    Ok(ExplainWords { choice, mapped })
+    Ok(ExplainWords {
+        kind,
+        class,
+        most,
+        mapped,
+    })
 }
 
 /// The bytes of the class that `--class` names, if it is there.
