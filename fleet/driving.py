@@ -20,8 +20,8 @@ QUIET = 10
 # At most so many streams are one task's.
 EACH = 32
 ABOUT = """
-The command makes the folder NIGHT if there is none. A second call with the same words does only what is missing. A
-stream that was written anew counts as missing. Two calls may work on one night.
+The command makes the folder NIGHT if there is none. A second call with the same arguments does only what is missing.
+A stream that was rewritten counts as missing. Two calls may work on one night.
 
 Standard output and NIGHT/night.summary have one line at the end:
 
@@ -29,9 +29,9 @@ Standard output and NIGHT/night.summary have one line at the end:
 
   reduced     streams of which traces are left
   empty       streams of which no trace is left, since their traces show nothing
-  faulty      streams at fault: NIGHT/night.faulty says what is wrong with each
-  left        streams without a result yet, and folders that can't be read: NIGHT/night.left says why of each
-  refused     refused traces: NIGHT/night.refused has the number for each stream
+  faulty      streams with a fault: NIGHT/night.faulty names it for each
+  left        streams without a result yet, and folders that can't be read: NIGHT/night.left has the reason of each
+  refused     rejected traces: NIGHT/night.refused has the number for each stream
   violations  violations in NIGHT/night.report, the report of all streams
   new         those of them in NIGHT/night.new
 
@@ -42,7 +42,7 @@ Exit status:
   0  nothing is new
   1  violations are new
   2  the report isn't whole: a stream is left, or something failed
-  3  nothing is new, and a stream is faulty or a trace is refused
+  3  nothing is new, and a stream is faulty or a trace is rejected
 
 LOCKGRAPH and LOCKCHECK name other programs than those that were built here.
 """
