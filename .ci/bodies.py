@@ -142,8 +142,8 @@ class Body:
 
 
 def sources(root, crate, bodies):
-    """The files of a crate, by their paths in it, in which each function has its wrong bodies. `bodies` has those of all
-    crates, by their numbers."""
+    """The files of a crate, by their paths in it, in which each function has its wrong bodies. `bodies` has those of
+    all crates, by their numbers."""
     folder = f"{root}/crates/{crate}"
     own = [(number, body) for number, body in bodies.items() if body.crate == crate]
     for file in (f"{at}/{name}" for at, _, names in os.walk(f"{folder}/src") for name in names):

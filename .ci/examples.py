@@ -1,8 +1,8 @@
 """Wrong bodies on which examples of lockgraph have to fail.
 
 Most of what a trial takes is the build, so there is one for all: of a copy, in which a function that has wrong bodies
-begins by asking which body was chosen. `rt try` runs its program in a folder of its own, without an environment. Run so,
-the program copies itself out of there; else it takes the body that the environment chooses, by its number. So the
+begins by asking which body was chosen. `rt try` runs its program in a folder of its own, without an environment. Run
+so, the program copies itself out of there; else it takes the body that the environment chooses, by its number. So the
 examples run it as they run lockgraph. Body 0 is the right one, with which each example has to pass.
 """
 import os

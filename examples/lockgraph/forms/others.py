@@ -7,7 +7,8 @@ import tempfile
 import urllib.parse
 import xml.etree.ElementTree
 
-from .stories import Stories, name_of
+from .shown import name_of
+from .stories import Stories
 from .streams import KINDS, must, same
 
 URI = re.compile(r"(?:file:///)?(?:[A-Za-z0-9._~/-]|%[0-9A-F]{2})*")
@@ -18,12 +19,12 @@ TEST = re.compile(r"(not ok|ok) (\d+) (.*)")
 
 # What each kind means.
 MEANINGS = {
-    "A task acquires a lock of this class while it holds one. If both are one lock, or if two tasks take two such locks in"
-    " opposite order, they wait forever.",
-    "Each step acquires a lock while another one is held, and the steps form a cycle. If tasks take them at once, each can"
-    " wait forever for a lock that the next one holds.",
-    "An interrupt handler acquires a lock of this class, and elsewhere one is held while such a handler can interrupt. If"
-    " it interrupts the task that holds the lock, it waits forever for that task.",
+    "A task acquires a lock of this class while it holds one. If both are one lock, or if two tasks take two such locks"
+    " in opposite order, they wait forever.",
+    "Each step acquires a lock while another one is held, and the steps form a cycle. If tasks take them at once, each"
+    " can wait forever for a lock that the next one holds.",
+    "An interrupt handler acquires a lock of this class, and elsewhere one is held while such a handler can interrupt."
+    " If it interrupts the task that holds the lock, it waits forever for that task.",
     "Interrupt handlers acquire the first class, and the last one is held while they can interrupt. If a task holds the"
     " first and waits along the path for the last, a handler that interrupts its holder waits forever.",
 }
@@ -89,16 +90,8 @@ def sarif(case, prefix=""):
                 physical(step["location"], prefix)
                 for frame in step.get("stack", {}).get("frames", ()):
                     physical(frame["location"], prefix)
-    stories = Stories(case)
     fingerprints = [it["partialFingerprints"]["lockViolation/v1"] for it in run["results"]]
-    if stories.are_plain():
-        same(fingerprints, list(map(title, stories.violations)), "the fingerprints")
-        for result, violation in zip(run["results"], stories.violations):
-            same(result["message"]["text"].split("\n")[2:], stories.of(violation), "what a result tells")
-            same([flow_of(it, prefix) for it in result["codeFlows"][0]["threadFlows"]], stories.flows(violation), "flows")
-            file, line = pointed_at(case, violation, prefix)
-            found = physical(result["locations"][0], prefix)
-            same(found, (f"{prefix}/{file}" if prefix and not file.startswith("/") else file, line), "where a result is")
+    told_by_sarif(case, run["results"], prefix)
     must(len(set(fingerprints)) == len(fingerprints), "fingerprints differ")
     (invocation,) = run["invocations"]
     must(invocation["executionSuccessful"] is True, "the invocation has ended well")
@@ -109,6 +102,19 @@ def sarif(case, prefix=""):
         must(note["message"]["text"] == f"{line.label} is refused: {refused.split(' ')[-1]}", "a notification")
         same(physical(note["locations"][0], prefix), (line.file, line.file_number), "where a fault is")
     return run
+
+
+def told_by_sarif(case, results, prefix):
+    """What the results tell of the violations."""
+    stories = Stories(case)
+    for result, violation in zip(results, stories.violations if stories.are_plain() else ()):
+        same(result["partialFingerprints"]["lockViolation/v1"], title(violation), "a fingerprint")
+        same(result["message"]["text"].split("\n")[2:], stories.of(violation), "what a result tells")
+        flows = [flow_of(it, prefix) for it in result["codeFlows"][0]["threadFlows"]]
+        same(flows, stories.flows(violation), "the flows")
+        file, line = pointed_at(case, violation, prefix)
+        file = f"{prefix}/{file}" if prefix and not file.startswith("/") else file
+        same(physical(result["locations"][0], prefix), (file, line), "where a result is")
 
 
 def flow_of(thread, prefix):

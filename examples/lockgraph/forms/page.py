@@ -10,9 +10,9 @@ import tempfile
 
 from .maps import origins
 from .others import MEANINGS, shown, title
-from .stories import Stories, frame, name_of, of_class, told
+from .shown import USES, name_of
+from .stories import Stories, frame, of_class, told
 from .streams import must, same
-from .texts import USES
 
 TAGS = set(
     "html head meta link title style body h1 h2 h3 h4 p dl div dt dd span input label output section article code"
@@ -47,7 +47,7 @@ class Page(html.parser.HTMLParser):
         super().__init__()
         self.open, self.names, self.leads, self.counts = [], set(), [], {}
         self.lines, self.classes, self.scripts, self.policy = [], [], [], None
-        # What is written outside of pictures: of each section, in its articles and before them, and of each row of a table.
+        # What is written outside of pictures: of each section, before its articles and in them, and of rows of tables.
         self.groups, self.rows, self.verdict = [], [], ""
         # The texts of each picture, and how many of its arrows are dashed.
         self.boxes, self.dashed = [], []
@@ -230,7 +230,7 @@ class Told:
         first = "".join(f"{it.line.label} {it.line.file}:{it.line.file_number}" for it in seen if it)
         count = [sum(it[place] == class_of for it in self.facts.dependencies) for place in (1, 0)]
         origin = self.origins.get(class_of[0] if class_of[1] else class_of[0].removesuffix("!read"), "")
-        return [name_of(class_of), self.stories.marks(class_of) + first, *map(str, count), origin]
+        return [name_of(class_of), self.stories.shown.marks(class_of)[1:-1] + first, *map(str, count), origin]
 
 
 def pair(step):

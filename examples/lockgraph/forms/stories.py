@@ -1,7 +1,7 @@
 """What stands behind a violation, as messages tell it: lines, from a replay of the stream."""
 import re
 
-from .texts import Texts, grouped, name_of
+from .shown import Shown, grouped, name_of
 
 # Texts that each form writes as they are.
 PLAIN = re.compile(r"[ !$&-\[\]-~]*")
@@ -12,9 +12,8 @@ class Stories:
 
     def __init__(self, case):
         self.case, self.facts = case, case.facts
-        texts = Texts(case)
-        self.violations = texts.violations
-        self.marks = lambda class_of: texts.marks(class_of)[1:-1]
+        self.shown = Shown(case)
+        self.violations = self.shown.violations
 
     def are_plain(self):
         """Whether each form has them as they are."""
