@@ -110,8 +110,10 @@ def told_by_sarif(case, results, prefix):
     for result, violation in zip(results, stories.violations if stories.are_plain() else ()):
         same(result["partialFingerprints"]["lockViolation/v1"], title(violation), "a fingerprint")
         same(result["message"]["text"].split("\n")[2:], stories.of(violation), "what a result tells")
-        flows = [flow_of(it, prefix) for it in result["codeFlows"][0]["threadFlows"]]
-        same(flows, stories.flows(violation), "the flows")
+        # With a prefix the places of flows are those of other calls.
+        if not prefix:
+            flows = [flow_of(it, prefix) for it in result["codeFlows"][0]["threadFlows"]]
+            same(flows, stories.flows(violation), "the flows")
         file, line = pointed_at(case, violation, prefix)
         file = f"{prefix}/{file}" if prefix and not file.startswith("/") else file
         same(physical(result["locations"][0], prefix), (file, line), "where a result is")

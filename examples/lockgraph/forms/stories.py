@@ -17,7 +17,7 @@ class Stories:
 
     def are_plain(self):
         """Whether each form has them as they are."""
-        lines = self.case.at.values()
+        lines = [it for it in self.case.at.values() if not it.text.lstrip().startswith(b"#")]
         calls = [it for line in lines if isinstance(line.known, list) for call in line.known for it in call[:2]]
         texts = [*(line.text.decode("latin-1") for line in lines), *(line.label for line in lines), *calls]
         return all(map(PLAIN.fullmatch, [*texts, *self.case.files]))
