@@ -1,5 +1,5 @@
-"""Wrong bodies that meet every contract, side by side with the right one in a copy of a crate, and what such
-a copy calls."""
+"""Wrong bodies that meet every contract, or that no contract speaks of, side by side with the right one in a copy of
+a crate, and what such a copy calls."""
 import os
 import re
 
@@ -7,6 +7,8 @@ from crates import read
 from edits import Wrong, functions_of
 
 FOLDER = "must-fail-tests"
+# What the commands begin with that `fails:` names besides tests.
+EXAMPLES = "examples/"
 # What the copy of the tests and of the functions with wrong bodies calls.
 TRIAL = """\
 #![tactic(auto)]
@@ -87,12 +89,13 @@ uint32_t trial_each(uint32_t last) {
 
 
 class Body:
-    """A wrong body: the files that it changes, by their path in its crate, and the tests that have to fail."""
+    """A wrong body: the files that it changes, by their path in its crate, and the tests or the examples that have to
+    fail. An example is a command in examples/ with its words."""
 
     def __init__(self, root, edit):
-        self.edit = os.path.relpath(edit, root)
+        self.root, self.edit = root, os.path.relpath(edit, root)
         self.crate = self.edit.split(os.sep)[1]
-        self.changed, self.wanted = {}, set()
+        self.changed, self.wanted, self.examples = {}, set(), set()
         file = old = None
         for line in read(edit).splitlines():
             word, _, rest = line.partition(": ")
@@ -105,14 +108,25 @@ class Body:
                 if self.changed[file].count(old) != 1:
                     raise Wrong(f"{self.edit}: an 'old:' text is not in its file just once")
                 self.changed[file] = self.changed[file].replace(old, rest)
+            elif word == "fails" and rest.startswith(EXAMPLES):
+                self.add_example(tuple(rest.split()))
             elif word == "fails":
-                crate, test = rest.split()
-                module = test.partition("::")[0]
-                if not os.path.isfile(f"{root}/crates/{crate}/src/{module}.rt"):
-                    raise Wrong(f"{self.edit}: {crate} has no tests {module}")
-                self.wanted.add(test)
-        if not self.changed or not self.wanted:
+                self.add_test(*rest.split())
+        if not self.changed or not self.wanted and not self.examples:
             raise Wrong(f"{self.edit}: it needs a pair of 'old:' and 'new:', and a line 'fails:'")
+        if self.wanted and self.examples:
+            raise Wrong(f"{self.edit}: it names tests and examples")
+
+    def add_test(self, crate, test):
+        module = test.partition("::")[0]
+        if not os.path.isfile(f"{self.root}/crates/{crate}/src/{module}.rt"):
+            raise Wrong(f"{self.edit}: {crate} has no tests {module}")
+        self.wanted.add(test)
+
+    def add_example(self, words):
+        if not os.path.isfile(f"{self.root}/{words[0]}"):
+            raise Wrong(f"{self.edit}: there is no {words[0]}")
+        self.examples.add(words)
 
     def bodies(self, path, lines, functions):
         """The bodies of functions that it changes in a file, by the numbers of their first line and of the line
@@ -125,6 +139,16 @@ class Body:
                 raise Wrong(f"{self.edit}: it changes more than the bodies of functions")
             found[where] = changed[slice(*where)]
         return found
+
+
+def sources(root, crate, bodies):
+    """The files of a crate, by their paths in it, in which each function has its wrong bodies. `bodies` has those of
+    all crates, by their numbers."""
+    folder = f"{root}/crates/{crate}"
+    own = [(number, body) for number, body in bodies.items() if body.crate == crate]
+    for file in (f"{at}/{name}" for at, _, names in os.walk(f"{folder}/src") for name in names):
+        path = os.path.relpath(file, folder)
+        yield path, with_bodies(file, path, [it for it in own if path in it[1].changed])
 
 
 def with_bodies(file, path, bodies):
@@ -148,6 +172,16 @@ def number_at(text, line):
     begins = [it for it in text.splitlines()[:line] if it == "} else" or it.startswith("if ld_trial::is_body(")]
     number = re.search(r"\((\d+)\)", begins[-1]) if begins else None
     return int(number[1]) if number else None
+
+
+def blamed(said, folder, bodies):
+    """What was said of a build in this folder, and the edits in whose bodies its errors are."""
+    found = set()
+    for path, line in re.findall(r"(?m)^(\S+\.rt):(\d+):\d+: error", said):
+        number = number_at(read(os.path.join(folder, path)), int(line))
+        if number:
+            found.add(bodies[number].edit)
+    return [said, *(f"in the body of {it}" for it in sorted(found))]
 
 
 def all_edits(root):

@@ -107,6 +107,8 @@ class Objects:
 
     def line(self, told, line):
         same((told["at"], told["text"]), (line.place(), line.said()), "a line")
+        calls = [(it["function"], it["file"], it.get("line")) for it in told.get("calls", ())]
+        same(calls or told.get("recorded"), line.known, "what a map says of a line")
 
     def seen(self, told, seen, held):
         self.line(told, seen.line)

@@ -7,6 +7,8 @@ import tempfile
 import urllib.parse
 import xml.etree.ElementTree
 
+from .shown import name_of
+from .stories import Stories
 from .streams import KINDS, must, same
 
 URI = re.compile(r"(?:file:///)?(?:[A-Za-z0-9._~/-]|%[0-9A-F]{2})*")
@@ -15,6 +17,17 @@ ODD = re.compile("[\x80-\x9f\u2028-\u202e\u2066-\u2069\ufffe\uffff]")
 TEST = re.compile(r"(not ok|ok) (\d+) (.*)")
 
 
+# What each kind means.
+MEANINGS = {
+    "A task acquires a lock of this class while it holds one. If both are one lock, or if two tasks take two such locks"
+    " in opposite order, they wait forever.",
+    "Each step acquires a lock while another one is held, and the steps form a cycle. If tasks take them at once, each"
+    " can wait forever for a lock that the next one holds.",
+    "An interrupt handler acquires a lock of this class, and elsewhere one is held while such a handler can interrupt."
+    " If it interrupts the task that holds the lock, it waits forever for that task.",
+    "Interrupt handlers acquire the first class, and the last one is held while they can interrupt. If a task holds the"
+    " first and waits along the path for the last, a handler that interrupts its holder waits forever.",
+}
 # Which word of a violation's line is the place that it points at: where it is first seen, or held.
 POINTED_AT = {"recursion": 3, "inversion": 5, "conflict": 7, "forbidden": 10}
 # Which is the first class behind `via`.
@@ -31,6 +44,27 @@ def place(case, violation):
 def faulty(case, refused):
     """The faulty line of a rejected trace."""
     return case.at[int(refused.rsplit(" ", 2)[1])]
+
+
+def title(violation):
+    """What a violation is, whatever its occurrences and its path are."""
+    ends = violation.ends if violation.kind == "forbidden" else violation.steps[0] if violation.steps else ()
+    ends = violation.ends[:1] if violation.kind == "conflict" else ends[:1] if violation.kind == "recursion" else ends
+    return " ".join([violation.kind, *filter(None, [violation.state]), " -> ".join(map(name_of, ends))])
+
+
+def pointed_at(case, violation, prefix):
+    """The file and the line that a violation points at: the innermost call in a file below the prefix, or else the
+    innermost call, or the line of the trace."""
+    if violation.ends:
+        line = case.facts.uses[violation.ends[1], "on", violation.state].line
+    else:
+        line = case.facts.dependencies[violation.steps[0]].line
+    if not isinstance(line.known, list):
+        return line.file, line.file_number
+    below = [it for it in line.known if it[2] is not None and it[1].startswith(f"{prefix}/")] if prefix else []
+    file, number = (below or [it for it in line.known if it[2] is not None and not prefix] or line.known)[0][1:]
+    return (file.removeprefix(f"{prefix}/") if prefix else file), number
 
 
 def sarif(case, prefix=""):
@@ -57,6 +91,7 @@ def sarif(case, prefix=""):
                 for frame in step.get("stack", {}).get("frames", ()):
                     physical(frame["location"], prefix)
     fingerprints = [it["partialFingerprints"]["lockViolation/v1"] for it in run["results"]]
+    told_by_sarif(case, run["results"], prefix)
     must(len(set(fingerprints)) == len(fingerprints), "fingerprints differ")
     (invocation,) = run["invocations"]
     must(invocation["executionSuccessful"] is True, "the invocation has ended well")
@@ -67,6 +102,32 @@ def sarif(case, prefix=""):
         must(note["message"]["text"] == f"{line.label} is refused: {refused.split(' ')[-1]}", "a notification")
         same(physical(note["locations"][0], prefix), (line.file, line.file_number), "where a fault is")
     return run
+
+
+def told_by_sarif(case, results, prefix):
+    """What the results tell of the violations."""
+    stories = Stories(case)
+    for result, violation in zip(results, stories.violations if stories.are_plain() else ()):
+        same(result["partialFingerprints"]["lockViolation/v1"], title(violation), "a fingerprint")
+        same(result["message"]["text"].split("\n")[2:], stories.of(violation), "what a result tells")
+        # With a prefix the places of flows are those of other calls.
+        if not prefix:
+            flows = [flow_of(it, prefix) for it in result["codeFlows"][0]["threadFlows"]]
+            same(flows, stories.flows(violation), "the flows")
+        file, line = pointed_at(case, violation, prefix)
+        file = f"{prefix}/{file}" if prefix and not file.startswith("/") else file
+        same(physical(result["locations"][0], prefix), (file, line), "where a result is")
+
+
+def flow_of(thread, prefix):
+    """What a flow is, and of each of its locations the message, the place, and the calls that led there."""
+    steps = []
+    for step in thread["locations"]:
+        frames = step.get("stack", {}).get("frames", ())
+        names = [it["location"]["logicalLocations"][0]["name"] for it in frames]
+        calls = [(name, *physical(it["location"], prefix)) for name, it in zip(names, frames)]
+        steps.append((step["location"]["message"]["text"], physical(step["location"], prefix), calls))
+    return thread["message"]["text"], steps
 
 
 def physical(location, prefix):
@@ -115,12 +176,20 @@ def github(case, prefix=""):
         same(message[0], f"{line.label} is refused: {refused.split(' ')[-1]}", "a warning")
         if not prefix:
             same((given["file"], given["line"]), (as_read(line.file), str(line.file_number)), "where a fault is")
+    told = []
     for (_, given, message), violation in zip(commands[len(case.refused):], case.violations):
         same(message[0], violation, "an error")
         must(violation.startswith(given["title"].split(" ")[0]), "a title")
+        told.append((given["title"], message[2:], (given["file"], given.get("line"))))
         if not case.words and not prefix:
             file, number = place(case, violation)
             same((given["file"], given["line"]), (as_read(file), str(number)), "where an error is")
+    stories = Stories(case)
+    if stories.are_plain():
+        for (name, lines, spot), violation in zip(told, stories.violations):
+            same((name, lines), (title(violation), stories.of(violation)), "what an error tells")
+            file, number = pointed_at(case, violation, prefix)
+            same(spot, (file, str(number) if number else None), "where an error is")
     numbers = (len(case.violations), case.totals["traces"], case.totals["refused"])
     same(commands[-1][2], ["violations {}, traces {}, of which refused {}".format(*numbers)], "the notice")
 
@@ -159,10 +228,31 @@ def junit(case, prefix=""):
     told = [line for it in suite.findall("testcase/failure") for line in it.text.split("\n")]
     told = sorted(it for it in told if it.split(" ")[0] in KINDS)
     same(told, sorted(map(shown, case.violations)), "the failures")
+    stories = Stories(case)
+    if stories.are_plain():
+        groups = stories.groups()
+        names = [title(it[0]) for it in groups] or ["no violation"]
+        same([it.get("name") for it in tests], ["traces accepted", *names], "the names of the cases")
+        for test, group in zip(tests[1:], groups):
+            failure = test.find("failure")
+            same(failure.get("message"), f"{group[0].line}{more(group)}", "the message of a failure")
+            lines = failure.text.removesuffix("\n").split("\n")
+            same([it for it in lines if it not in MEANINGS], told_of(stories, group), "what a failure tells")
+            file, line = pointed_at(case, group[0], prefix)
+            same((test.get("file"), test.get("line")), (file, str(line) if line else None), "where a failure is")
     for it in suite.findall("testcase/error"):
         for refused in case.refused:
             name = f"{shown(faulty(case, refused).label)} is refused: {refused.split(' ')[-1]}"
             must(name in it.text, f"{name} is missing")
+
+
+def more(group):
+    return f" and {len(group) - 1} more" if len(group) > 1 else ""
+
+
+def told_of(stories, group):
+    """What is told of a group, without what its kinds mean."""
+    return [line for it in group for line in (it.line, *stories.of(it))]
 
 
 def shown(text):
@@ -170,7 +260,7 @@ def shown(text):
     return text.replace("\\", "\\x5C")
 
 
-def ktap(case):
+def ktap(case, _prefix=""):
     text = case.run("ktap")
     lines = text.decode("utf-8").removesuffix("\n").split("\n")
     groups = grouped(case)
@@ -181,6 +271,12 @@ def ktap(case):
     is_ok = [not case.refused, *([False] * groups or [True])]
     same([it[1] == "ok" for it in tests], is_ok, "which tests are ok")
     must(not any("#" in it[3] for it in tests), "a description has a directive")
+    stories = Stories(case)
+    if stories.are_plain():
+        names = [f"{title(it[0])}{more(it)}" for it in stories.groups()] or ["no violation"]
+        same([it[3] for it in tests], ["traces accepted", *names], "the tests")
+        told = [it[2:] for it in lines[2 + len(case.refused) :] if it.startswith("# ") and it[2:] not in MEANINGS]
+        same(told, [line for it in stories.groups() for line in told_of(stories, it)], "the comments")
     comments = {it[2:] for it in lines if it.startswith("# ")}
     must(comments.issuperset(map(escaped, case.violations)), "a violation is missing")
     if shutil.which("prove"):
@@ -200,7 +296,5 @@ def escaped(text):
 
 
 def look(case):
-    sarif(case)
-    github(case)
-    junit(case)
-    ktap(case)
+    for form in (sarif, github, junit, ktap):
+        form(case)

@@ -8,7 +8,10 @@ import shutil
 import subprocess
 import tempfile
 
-from .others import shown
+from .maps import origins
+from .others import MEANINGS, shown, title
+from .shown import USES, name_of
+from .stories import Stories, frame, of_class, told
 from .streams import must, same
 
 TAGS = set(
@@ -44,6 +47,10 @@ class Page(html.parser.HTMLParser):
         super().__init__()
         self.open, self.names, self.leads, self.counts = [], set(), [], {}
         self.lines, self.classes, self.scripts, self.policy = [], [], [], None
+        # What is written outside of pictures: of each section, before its articles and in them, and of rows of tables.
+        self.groups, self.rows, self.verdict = [], [], ""
+        # The texts of each picture, and how many of its arrows are dashed.
+        self.boxes, self.dashed = [], []
         self.feed(text)
         self.close()
 
@@ -65,6 +72,36 @@ class Page(html.parser.HTMLParser):
             (self.lines if tag == "p" else self.classes).append("")
         if tag == "script":
             self.scripts.append("")
+        self.begin_part(tag, given)
+
+    def begin_part(self, tag, given):
+        """Something of which all texts are wanted."""
+        if tag == "section":
+            self.groups.append([""])
+        elif tag == "article":
+            self.groups[-1].append("")
+        elif tag == "svg":
+            self.boxes.append([])
+            self.dashed.append(0)
+        elif tag == "text":
+            self.boxes[-1].append("")
+        elif tag == "tr" and any(it[0] == "tbody" for it in self.open):
+            self.rows.append([])
+        elif tag == "td":
+            self.rows[-1].append("")
+        if tag == "path":
+            self.dashed[-1] += "dashed" in given["class"].split()
+
+    def add_to_parts(self, tags, data):
+        if "svg" in tags:
+            if tags[-1] == "text":
+                self.boxes[-1][-1] += data
+        elif "section" in tags:
+            self.groups[-1][-1] += data
+        elif "td" in tags:
+            self.rows[-1][-1] += data + " "
+        elif self.open and self.open[-1][1].get("class") in ("good", "bad"):
+            self.verdict += data
 
     def is_class(self):
         """Whether the cell that begins is the first one of a row of the classes."""
@@ -77,6 +114,7 @@ class Page(html.parser.HTMLParser):
     def handle_data(self, data):
         tags = [it[0] for it in self.open]
         last = self.open[-1] if self.open else ("", {})
+        self.add_to_parts(tags, data)
         if last[0] == "script":
             self.scripts[-1] += data
         elif "data-count" in last[1]:
@@ -105,11 +143,112 @@ def look(case):
     same(sorted(graph["classes"]), classes_of(case), "the classes of the graph")
     edges = sorted((name_of(one), name_of(other)) for one, other in case.facts.dependencies)
     same(sorted((graph["classes"][one], graph["classes"][other]) for one, other in graph["edges"]), edges, "its edges")
+    stories = Stories(case)
+    if stories.are_plain():
+        Told(case, stories).look(page)
     return text
 
 
-def name_of(class_of):
-    return f"{class_of[0]}/{class_of[1]}" if class_of[1] else class_of[0]
+def squeezed(text):
+    """A text without blanks."""
+    return "".join(text.split())
+
+
+class Told:
+    """What a page has to tell of a case, but for blanks."""
+
+    def __init__(self, case, stories):
+        self.case, self.facts, self.stories = case, case.facts, stories
+        # The dependencies that were told.
+        self.above = set()
+        self.origins = origins(case.lines) if case.words else {}
+
+    def look(self, page):
+        groups = self.stories.groups()
+        wanted = [[self.group(number, it), *map(self.article, it)] for number, it in enumerate(groups, 1)]
+        came = [[squeezed(part) for part in it] for it in page.groups]
+        came = [[it[0], *(without_meaning(part) for part in it[1:])] for it in came]
+        same(came, [[squeezed(part) for part in it] for it in wanted], "what is told")
+        violations = [it for group in groups for it in group]
+        same(page.boxes, list(map(boxes, violations)), "the pictures")
+        same(page.dashed, [int(bool(it.state)) for it in violations], "the dashed arrows")
+        verdict = f"Violations: {len(violations)}, in groups: {len(groups)}" if violations else "No violation"
+        verdict += f". Refused traces: {len(self.case.refused)}" if self.case.refused else ""
+        same(page.verdict, f"{verdict}.", "the verdict")
+        rows = [list(map(squeezed, it)) for it in page.rows]
+        wanted = [*map(self.refused, self.case.refused), *map(self.row, sorted(self.facts.classes))]
+        same(rows, [list(map(squeezed, it)) for it in wanted], "the rows of tables")
+
+    def group(self, number, group):
+        text = f"Group {number}"
+        if len(group) < 2:
+            return text
+        text += f"Violations that share dependencies: {len(group)}."
+        steps = [step for it in group for step in dict.fromkeys(it.steps)]
+        most = max(dict.fromkeys(steps), key=steps.count)
+        text += f" Of them {steps.count(most)} have {pair(most)}:"
+        return text + " if these locks are taken the other way round, most are solved."
+
+    def article(self, violation):
+        text = f"{violation.kind}{title(violation)}{violation.line}"
+        for step in violation.steps:
+            seen = self.facts.dependencies[step]
+            text += pair(step) + (", above" if step in self.above else self.seen(seen, frame(seen)))
+            self.above.add(step)
+        if violation.ends:
+            (safe, exposed), state = violation.ends, violation.state
+            text += f"{state} handlers acquire {name_of(safe)}"
+            text += self.seen(self.facts.uses[safe, "in", state], ())
+            seen = self.facts.uses[exposed, "on", state]
+            text += f"{name_of(exposed)} is held where {state} handlers can interrupt"
+            text += self.seen(seen, of_class(seen, exposed)) + self.since(seen)
+        return text
+
+    def line(self, line):
+        text = f"{line.file}:{line.file_number}: {line.text.decode('latin-1')}"
+        if isinstance(line.known, int):
+            return f"{text}, line {line.known} of the recording"
+        return text + "".join(map(told, line.known or ()))
+
+    def seen(self, seen, holds):
+        text = f"{seen.line.label}, task {seen.task}, {self.line(seen.line)}"
+        text += "".join(f"holds {name}, {self.line(line)}" for name, line in holds)
+        return text + "".join(f"in a {state} handler, {self.line(line)}" for state, line in seen.handlers)
+
+    def since(self, seen):
+        flags = [(it, seen.flags[it]) for it in ("hard", "soft") if seen.flags[it]]
+        begun = [(state, "the trace began" if flag is True else self.line(flag)) for state, flag in flags]
+        return "".join(f"{state} interrupts enabled since {text}" for state, text in begun)
+
+    def refused(self, refused):
+        _, label, _, number, fault = refused.split(" ")
+        line = self.case.at[int(number)]
+        return [label, f"{line.file}:{line.file_number}", fault, line.text.decode("latin-1")]
+
+    def row(self, class_of):
+        seen = [self.facts.uses.get((class_of, *it)) for it in USES]
+        first = "".join(f"{it.line.label} {it.line.file}:{it.line.file_number}" for it in seen if it)
+        count = [sum(it[place] == class_of for it in self.facts.dependencies) for place in (1, 0)]
+        origin = self.origins.get(class_of[0] if class_of[1] else class_of[0].removesuffix("!read"), "")
+        return [name_of(class_of), self.stories.shown.marks(class_of)[1:-1] + first, *map(str, count), origin]
+
+
+def pair(step):
+    return f"{name_of(step[0])} → {name_of(step[1])}"
+
+
+def boxes(violation):
+    """The texts of a picture: a box for each class, but that of a cycle once, and what comes back to the first."""
+    classes = [violation.steps[0][0], *(it[1] for it in violation.steps)] if violation.steps else violation.ends[:1]
+    classes = classes if violation.state else classes[:-1]
+    return [*map(name_of, classes), *filter(None, [violation.state])]
+
+
+def without_meaning(text):
+    """What is told, without what its kind means."""
+    for meaning in map(squeezed, MEANINGS):
+        text = text.replace(meaning, "")
+    return text
 
 
 def browser():

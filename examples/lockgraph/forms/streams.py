@@ -3,8 +3,20 @@ import os
 import re
 import subprocess
 
+from .maps import read as maps_read
+
 TOP = os.path.dirname(os.path.dirname(os.path.dirname(os.path.dirname(os.path.abspath(__file__)))))
 KINDS = ("recursion", "inversion", "conflict", "forbidden")
+
+
+def examples():
+    """Each example that has a trace, by its name in the tree."""
+    for folder in ("examples", "examples/rows", "examples/lockgraph"):
+        for name in sorted(os.listdir(f"{TOP}/{folder}")):
+            if name.endswith(".trace"):
+                with open(f"{TOP}/{folder}/{name}", "rb") as file:
+                    if any(line.split()[:1] == [b"trace"] for line in file):
+                        yield f"{folder}/{name}"
 
 
 class Wrong(Exception):
@@ -26,6 +38,8 @@ class Line:
     def __init__(self, label, number, file, file_number, text):
         self.label, self.number, self.file, self.file_number = label, number, file, file_number
         self.text = text.removesuffix(b"\r")
+        # What a map says of it: the calls that led there, or the number of a line of the recording.
+        self.known = None
 
     def fields(self):
         fields = self.text.replace(b"\t", b" ").split(b" ")
@@ -148,12 +162,15 @@ class Case:
     def read(self):
         """The lines of the stream, and those of each trace behind its header."""
         self.lines, self.traces, self.at = [], [], {}
-        for name in self.files:
+        maps = [maps_read(it) for word, it in zip(self.words, self.words[1:]) if word == "--map"]
+        for place, name in enumerate(self.files):
+            known = maps[place] if place < len(maps) else []
             with open(os.path.join(TOP, name), "rb") as file:
                 text = file.read()
             for number, line in enumerate(text.removesuffix(b"\n").split(b"\n"), 1):
                 self.lines.append(line)
                 read = Line(self.traces[-1].label if self.traces else "", len(self.lines), name, number, line)
+                read.known = known[number - 1] if number <= len(known) else None
                 fields = read.fields()
                 if fields[:1] == ["trace"]:
                     self.traces.append(Lines(fields[1]))
@@ -161,11 +178,12 @@ class Case:
                     self.traces[-1].append(read)
                     self.at[read.number] = read
 
-    def run(self, command, *words):
-        """What a command writes, whose status must be that of lockcheck."""
+    def run(self, command, *words, status=None):
+        """What a command writes, whose status must be that of lockcheck, or this one."""
         words = ["./lockgraph", command, *words, *self.words, *self.files]
         done = subprocess.run(words, cwd=TOP, stdin=subprocess.DEVNULL, capture_output=True, check=False)
-        same((done.returncode, done.stderr), (self.status, b""), "the status, with standard error")
+        status = self.status if status is None else status
+        same((done.returncode, done.stderr), (status, b""), "the status, with standard error")
         return done.stdout
 
 

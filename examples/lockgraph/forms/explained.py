@@ -1,0 +1,102 @@
+"""What `lockgraph explain` writes, by docs/OUTPUT.md, but for what maps say, and why traces are rejected."""
+import collections
+
+from .shown import Shown, grouped, held, lock_of_readers, waited
+
+
+class Explained(Shown):
+    """What is explained of a case."""
+
+    def explained(self, kind=None, name=None, most=0):
+        chosen = [it for it in self.violations if kind in (None, it.kind) and (name is None or it.has(name))]
+        groups = grouped(chosen)
+        ordered = [(group, it) for group in groups for it in group]
+        told = ordered[: most or None]
+        above = set()
+        for group, violation in told:
+            if len(group) > 1 and violation is group[0]:
+                counts = collections.Counter(step for it in group for step in set(it.steps))
+                steps = dict.fromkeys(step for it in group for step in it.steps)
+                first = max(steps, key=lambda it, counts=counts: counts[it])
+                yield f"together {len(group)}, of which {counts[first]} have {held(first[0])} -> {waited(first[1])}"
+                yield ""
+            yield from self.violation(violation, above)
+            yield ""
+        yield f"explained {len(told)}, not explained {len(chosen) - len(told)}"
+
+    def violation(self, violation, above):
+        yield violation.line
+        if len(violation.steps) > 1 and above.issuperset(violation.steps):
+            yield "  its dependencies are above"
+        else:
+            for step in violation.steps:
+                is_above = step in above
+                above.add(step)
+                yield f"  {held(step[0])} -> {waited(step[1])}" + (", above" if is_above else "")
+                if not is_above:
+                    seen = self.facts.dependencies[step]
+                    yield self.seen(seen)
+                    yield from map(self.hold, self.frame(seen))
+        if violation.kind == "inversion":
+            yield from self.common(violation)
+        if violation.ends:
+            yield from self.ends(violation)
+
+    def line(self, line):
+        return f"{line.file}:{line.file_number}: {line.text.decode('latin-1')}"
+
+    def seen(self, seen):
+        return f"    {seen.line.label}, task {seen.task}, {self.line(seen.line)}"
+
+    def hold(self, told):
+        lock, is_written, line = told
+        return f"    holds {lock}{' (written)' if is_written else ''}, {self.line(line)}"
+
+    def frame(self, seen):
+        """The locks that are held in the innermost handler, or outside any: what a writer holds is one."""
+        found = []
+        for hold in seen.holds:
+            lock = lock_of_readers(hold.class_of())
+            if hold.frame != seen.frame:
+                continue
+            if not lock:
+                found.append((hold.name, False, hold.line, hold.subclass == 0))
+                continue
+            name = lock + hold.name.removeprefix(hold.lock)
+            line = found.pop()[2] if found and found[-1] == (name, False, found[-1][2], True) else hold.line
+            found.append((name, True, line, False))
+        return [it[:3] for it in found]
+
+    def common(self, violation):
+        seen = [self.facts.dependencies[it] for it in violation.steps]
+        word = "both" if len(seen) == 2 else "all"
+        if len({(it.line.label, it.task) for it in seen}) == 1 and self.is_one_trace(seen):
+            yield f"  {word} by one task"
+        for name in dict.fromkeys(it[0] for it in self.frame(seen[0])):
+            found = [[it for it in self.frame(one) if it[0] == name] for one in seen]
+            if all(found) and ("@" not in name or self.is_one_trace(seen)):
+                is_written = any(it[1] for one in found for it in one[:1])
+                yield f"  {word} under {name}{' (written)' if is_written else ''}"
+
+    def is_one_trace(self, seen):
+        return any(all(it.line in trace for it in seen) for trace in self.case.traces)
+
+    def ends(self, violation):
+        safe, exposed = violation.ends
+        seen = self.facts.uses[safe, "in", violation.state]
+        yield f"  {violation.state} handlers acquire {waited(safe)}"
+        yield self.seen(seen)
+        for state, line in seen.handlers:
+            yield f"    in a {state} handler, {self.line(line)}"
+        seen = self.facts.uses[exposed, "on", violation.state]
+        yield f"  {held(exposed)} is held where {violation.state} handlers can interrupt"
+        yield self.seen(seen)
+        for it in seen.holds:
+            if it.class_of() == exposed:
+                lock = lock_of_readers(exposed)
+                name = lock + it.name.removeprefix(it.lock) if lock else it.name
+                yield self.hold((name, bool(lock), it.line))
+        for state in ("hard", "soft")[: 1 if violation.state == "hard" else 2]:
+            since = seen.flags[state]
+            if since:
+                yield f"    {state} on since " + ("the trace began" if since is True else self.line(since))
