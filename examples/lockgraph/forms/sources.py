@@ -17,7 +17,8 @@ MARKUP = f"""int main(void)\t// a
 }} <style>@import "http://{HOST}/c";</style> <link rel=stylesheet href=http://{HOST}/d>
 </code></pre></li></ol><iframe src=//{HOST}/e></iframe>
 """.encode()
-ODD = b"\x00nul \x7f\x1b[31m\rcr\nlatin \xe9\xe8 \xc3\xa9 \xf0\x9f\x94\x92 \\xE9\nturned \xe2\x80\xae back\xe2\x80\xa8\nlast"
+ODD = b"\x00nul \x7f\x1b[31m\rcr\nlatin \xe9\xe8 \xc3\xa9 \xf0\x9f\x94\x92 \\xE9\n"
+ODD += b"turned \xe2\x80\xae back\xe2\x80\xa8\nlast"
 SHOW = """
 document.title = JSON.stringify(all('.stack').map(stack => Array.from(stack.children).map(it => {
   const found = it.querySelector('pre.source');
@@ -125,9 +126,10 @@ def plant(room):
     for folder in (f"{tree}/src", f"{tree}/tree/src", f"{tree}/a", f"{tree}/dir.c", f"{other}/deep", f"{room}/outside"):
         os.makedirs(folder)
     files = {
-        "tree/src/plain.c": MARKUP, "tree/tree/src/plain.c": b"another\n" * 9, "tree/name.c": b"top\n", "tree/a/name.c": b"a\n",
-        "other/deep/name.c": b"deep\n", "outside/x.c": b"secret\n", "tree/odd.c": ODD, "tree/ends.c": b"a\r\n\r\nb\r\r\nc\r\n",
-        "tree/empty.c": b"", "tree/long.c": b"<" * (1 << 20) + b"\nend", "tree/cut.c": b"x" * 399 + "é€".encode() + b"\n" + b"y" * 400,
+        "tree/src/plain.c": MARKUP, "tree/tree/src/plain.c": b"another\n" * 9, "tree/name.c": b"top\n",
+        "tree/a/name.c": b"a\n", "other/deep/name.c": b"deep\n", "outside/x.c": b"secret\n", "tree/odd.c": ODD,
+        "tree/ends.c": b"a\r\n\r\nb\r\r\nc\r\n", "tree/empty.c": b"", "tree/long.c": b"<" * (1 << 20) + b"\nend",
+        "tree/cut.c": b"x" * 399 + "é€".encode() + b"\n" + b"y" * 400,
         "tree/large.c": b"<b>\n" * (LONGEST_SOURCE // 4), "tree/huge.c": b"<b>\n" * (LONGEST_SOURCE // 4) + b"\n",
         'tree/a "b\'&<i>.c': b"named\n", "tree/secret.c": b"unread\n",
     }
@@ -146,13 +148,16 @@ def plant(room):
     calls += [("/build/odd.c", line, at["tree/odd.c"]) for line in range(1, 5)]
     calls += [("x/ends.c", line, at["tree/ends.c"]) for line in range(1, 6)]
     calls += [
-        (plain, 3, plain), ("src/plain.c", 1, plain), ("./src//plain.c", 1, plain), ("/b/../c/../src/plain.c", 2, plain),
+        (plain, 3, plain), ("src/plain.c", 1, plain), ("./src//plain.c", 1, plain),
+        ("/b/../c/../src/plain.c", 2, plain),
         ("inner.c", 2, plain), ("../outside/x.c", 1, None), (f"{tree}/../outside/x.c", 1, None), ("link.c", 1, None),
-        ("away/x.c", 1, None), (f"{room}/outside/x.c", 1, None), ("src/..", 1, None), ("..", 1, None), ("/", 1, None), ("pipe.c", 1, None),
+        ("away/x.c", 1, None), (f"{room}/outside/x.c", 1, None), ("src/..", 1, None), ("..", 1, None), ("/", 1, None),
+        ("pipe.c", 1, None),
         ("dir.c", 1, None), ("secret.c", 1, secret), ("absent.c", 1, None), ("/x/name.c", 1, at["tree/name.c"]),
         ("/x/a/name.c", 1, at["tree/a/name.c"]), ("/y/deep/name.c", 1, at["other/deep/name.c"]),
         ("empty.c", 1, None), ("long.c", 1, at["tree/long.c"]), ("cut.c", 1, at["tree/cut.c"]),
-        ("large.c", LONGEST_SOURCE // 4, at["tree/large.c"]), ("huge.c", 1, None), ('q/a "b\'&<i>.c', 1, at['tree/a "b\'&<i>.c']),
+        ("large.c", LONGEST_SOURCE // 4, at["tree/large.c"]), ("huge.c", 1, None),
+        ('q/a "b\'&<i>.c', 1, at['tree/a "b\'&<i>.c']),
         ("plain.c\0", 1, None), (b"src/\xff.c", 1, None), ("d/" * 2500 + "src/plain.c", 1, None),
         ("src/plain.c", 18446744073709551615, None), ("d/" * 2000 + "src/plain.c", 1, plain),
     ]
@@ -185,7 +190,8 @@ def look(room):
         same(len(stack), len(calls), "how many calls a stack has")
         for (path, line, _), (_, came), it in zip(calls, stack, wanted):
             same(came and [tuple(row) for row in came], it, f"the lines around {path[:80]}:{line}")
-    must(all(came is None for stack in Stacks(case.run("html").decode("utf-8")).stacks for _, came in stack), "no --source")
+    without = Stacks(case.run("html").decode("utf-8")).stacks
+    must(all(came is None for stack in without for _, came in stack), "without --source there are lines of sources")
     return text, wanted
 
 
