@@ -35,14 +35,15 @@ _lockgraph() {
         --workers) COMPREPLY=($(compgen -W '1 2 4 8 16' -- "$word")) && return ;;
         --only) COMPREPLY=($(compgen -W 'recursion inversion conflict forbidden' -- "$word")) && return ;;
         --class | --most | --around | --strip | --lines) return ;;
-        --map | --known) __lockcheck_files "$word" && return ;;
+        --map | --known | --source) __lockcheck_files "$word" && return ;;
     esac
     case $command in
         cut) options='--lines' workers= ;;
         dot) options='--all --around --class --map' ;;
         explain) options='--class --map --most --only' ;;
         github | junit | sarif) options='--map --strip' ;;
-        html | json | ktap) options='--map' ;;
+        html) options='--map --source' ;;
+        json | ktap) options='--map' ;;
         list) options='--class --dependencies' ;;
         new) options='--fixed --known' ;;
         reduce) options='--from --keep-refused' ;;

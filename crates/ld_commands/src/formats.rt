@@ -53,16 +53,22 @@ const AFTER_HTML: &str = "\
 Writes one page of HTML: each violation with a picture and what stands behind it, all classes, and all dependencies.
 It needs no network.
 
+With --map, as for explain, or FILE.places beside FILE, each line has the calls that led there. With --source, which may
+stand several times, a call also has the lines of its source, two before it and two behind it: of the file below DIR that
+has the longest end of its path.
+
 Exit status: as lockcheck's.
 
 Example:
-  lockgraph html --map run.trace.places run.trace > run.html";
+  lockgraph html --map run.trace.places --source /home/you/project run.trace > run.html";
 
 /// What one of these commands is asked.
 #[derive(Drop)]
 pub struct FormatWords<'a> {
     /// What is written.
     pub format: Format<'a>,
+    /// The folders that sources are looked for in.
+    pub folders: Vec<&'a str>,
     /// The files with the streams, and their maps.
     pub mapped: Mapped<'a>,
 }
@@ -102,11 +108,12 @@ pub fn ktap_command<'a>(alloc: Global) -> Result<Command<'a>, AllocError> {
     with_files(alloc, command)
 }
 
-/// `html [--map MAP].. [--workers N] [FILE]..`.
+/// `html [--source DIR].. [--map MAP].. [--workers N] [FILE]..`.
 pub fn html_command<'a>(alloc: Global) -> Result<Command<'a>, AllocError> {
     let command = Command::new(alloc, "html")
         .about("Writes the violations, classes and dependencies as a page of HTML")
-        .after_help(AFTER_HTML);
+        .after_help(AFTER_HTML)
+        .arg(folder(alloc))?;
     with_files(alloc, command)
 }
 
@@ -117,6 +124,15 @@ fn prefix<'a>(alloc: Global) -> Arg<'a> {
         .value_name("PREFIX")
         .help("The folder that paths lose, such as that of a checkout")
         .action(ArgAction::Set)
+}
+
+/// `--source DIR`, which may stand several times.
+fn folder<'a>(alloc: Global) -> Arg<'a> {
+    Arg::new(alloc, "source")
+        .long("source")
+        .value_name("DIR")
+        .help("A folder of sources, whose lines are shown")
+        .action(ArgAction::Append)
 }
 
 /// The same command, with the words that each of these has.
@@ -151,6 +167,21 @@ fn stripped<'a>(matches: &ArgMatches<'a>) -> Stripped<'a> {
     Stripped { prefix }
 }
 
+/// What `--source` names, for the command of this name.
+fn folders<'a>(
+    alloc: Global,
+    name: &str,
+    matches: &ArgMatches<'a>,
+) -> Result<Vec<&'a str>, AllocError> {
+    if name != "html" {
+        return Ok(Vec::new(alloc));
+    }
+    match matches.get_strs("source") {
+        Some(names) => names.to_vec(alloc),
+        None => Ok(Vec::new(alloc)),
+    }
+}
+
 /// What the words behind the command of this name ask for.
 ///
 /// # Errors
@@ -165,6 +196,11 @@ pub fn read_format<'a>(
     let Some(format) = format_named(name, matches) else {
         return Err(command.error(ErrorKind::MissingSubcommand, "a command is missing")?);
     };
+    let folders = folders(alloc, name, matches)?;
     let mapped = read_mapped(alloc, command, matches)?;
-    Ok(FormatWords { format, mapped })
+    Ok(FormatWords {
+        format,
+        folders,
+        mapped,
+    })
 }

@@ -8,3 +8,4 @@ mod shown;
 
 pub use escaping::write_escaped;
 pub use form::Form;
+pub use shown::is_shown;

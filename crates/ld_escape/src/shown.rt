@@ -5,7 +5,7 @@ ghost use Rattle.ld_escape.specs.Shown.{is_odd, is_shown};
 
 /// Whether a name is UTF-8 and has no odd character. Those are the control characters from 128 on, those that
 /// end a line or turn the direction of what follows, and those that XML can't have.
-pub(crate) fn is_shown(name: &[u8]) -> bool
+pub fn is_shown(name: &[u8]) -> bool
     ensures { result ≡ is_shown name.now }
 {
     match str::from_utf8(name) {

@@ -2,12 +2,14 @@
 
 use crate::html::LINES;
 use crate::picture::write_picture;
+use crate::snippet::write_snippet;
 use crate::text::Text;
 use crate::words::{
     KINDS, dependency_at, end_at, kind_meaning, kind_word, state_word, write_title,
 };
 use ld_escape::Form;
 use ld_rows::{Dependency, End, Group, Line, Place, Rows, Seen, Since, Use, Violation};
+use ld_sources::Sources;
 use ld_trace::State;
 use std::alloc::{AllocError, Global};
 
@@ -16,6 +18,7 @@ pub(crate) fn write_violations(
     alloc: Global,
     text: &mut Text,
     rows: &Rows<'_>,
+    sources: &Sources<'_>,
 ) -> Result<(), AllocError> {
     if rows.violations.is_empty() {
         return Ok(());
@@ -34,6 +37,7 @@ pub(crate) fn write_violations(
     let mut articles = Articles {
         text,
         rows,
+        sources,
         told: vec![in alloc; false; rows.dependencies.len()]?,
     };
     for (place, group) in rows.groups.iter().enumerate() {
@@ -47,6 +51,7 @@ pub(crate) fn write_violations(
 struct Articles<'t, 'r, 'a> {
     text: &'t mut Text,
     rows: &'r Rows<'a>,
+    sources: &'r Sources<'r>,
     /// The dependencies that were told.
     told: Vec<bool>,
 }
@@ -224,6 +229,7 @@ impl Articles<'_, '_, '_> {
                 for frame in frames {
                     self.text.put("<li>")?;
                     LINES.frame(self.text, frame)?;
+                    write_snippet(self.text, self.sources, frame)?;
                     self.text.put("</li>")?;
                 }
                 self.text.put("</ol>")

@@ -7,6 +7,7 @@ use crate::junit::junit_text;
 use crate::ktap::ktap_text;
 use crate::sarif::sarif_text;
 use ld_rows::Rows;
+use ld_sources::Sources;
 use std::alloc::{AllocError, Global};
 
 /// A format. Paths to sources and traces lose their beginning.
@@ -29,7 +30,8 @@ pub enum Format<'p> {
     },
 }
 
-/// What a report says, in a format. All that comes from a stream, a map or the command line is escaped.
+/// What a report says, in a format. All that comes from a stream, a map, a source or the command line is escaped. A page
+/// shows the lines of these sources.
 ///
 /// # Errors
 ///
@@ -37,6 +39,7 @@ pub enum Format<'p> {
 pub fn format_text(
     alloc: Global,
     rows: &Rows<'_>,
+    sources: &Sources<'_>,
     format: &Format<'_>,
 ) -> Result<Vec<u8>, AllocError> {
     match format {
@@ -44,6 +47,6 @@ pub fn format_text(
         Format::Github(stripped) => github_text(alloc, rows, stripped),
         Format::Junit(stripped) => junit_text(alloc, rows, stripped),
         Format::Ktap => ktap_text(alloc, rows),
-        Format::Html { version } => html_text(alloc, rows, version),
+        Format::Html { version } => html_text(alloc, rows, sources, version),
     }
 }

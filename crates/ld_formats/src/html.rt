@@ -7,6 +7,7 @@ use crate::tables::{write_classes, write_graph, write_refused};
 use crate::text::Text;
 use ld_escape::Form;
 use ld_rows::Rows;
+use ld_sources::Sources;
 use std::alloc::{AllocError, Global};
 
 /// How a line of a trace is written.
@@ -15,7 +16,7 @@ pub(crate) const LINES: Lines = Lines {
     between: "<br>",
 };
 
-/// The report as one page, written by a program of this version. It has its style and its script within it, and its
+/// The report as one page, with the lines of these sources, written by a program of this version. It has its style and its script within it, and its
 /// policy lets a browser load nothing else. Without the script all of it can be read.
 ///
 /// # Errors
@@ -24,13 +25,14 @@ pub(crate) const LINES: Lines = Lines {
 pub(crate) fn html_text(
     alloc: Global,
     rows: &Rows<'_>,
+    sources: &Sources<'_>,
     version: &str,
 ) -> Result<Vec<u8>, AllocError> {
     let mut text = Text::new(alloc);
     write_head(&mut text)?;
     write_verdict(&mut text, rows)?;
     write_counts(&mut text, rows)?;
-    write_violations(alloc, &mut text, rows)?;
+    write_violations(alloc, &mut text, rows, sources)?;
     write_refused(&mut text, rows)?;
     write_classes(alloc, &mut text, rows)?;
     write_graph(&mut text, rows)?;

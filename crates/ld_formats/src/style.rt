@@ -18,13 +18,17 @@ h2 { margin-top: 2.5rem; border-bottom: 1px solid var(--line); }
 figure { margin: 1rem 0; } svg { max-width: 100%; height: auto; }
 .box { fill: var(--back); stroke: var(--text); } .arrow { fill: none; stroke: var(--bad); stroke-width: 2; } .head { fill: var(--bad); } .dashed { stroke-dasharray: 6 4; } svg text { fill: var(--text); }
 .stack, .held { margin: .25rem 0; } .stack li { list-style: none; }
+.source { margin: .25rem 0 .5rem; padding: .25rem .5rem; border-left: 3px solid var(--line); background: var(--back); white-space: pre-wrap; overflow-wrap: anywhere; tab-size: 8; }
+.source .number { color: var(--soft); display: inline-block; min-width: 4ch; text-align: right; user-select: none; }
+.source mark { background: var(--card); color: inherit; font-weight: 700; } .source mark .number { color: var(--bad); } .source mark .number::before { content: '\\25B8\\A0'; }
+.source .byte { border: 1px solid var(--soft); border-radius: .2rem; color: var(--soft); }
 table { border-collapse: collapse; width: 100%; } th, td { border: 1px solid var(--line); padding: .3rem .6rem; text-align: left; vertical-align: top; } td.number { text-align: right; }
 th button, .walk button { font: inherit; color: inherit; background: none; border: 0; padding: 0; cursor: pointer; text-decoration: underline dotted; text-align: left; }
 .filter { display: flex; flex-wrap: wrap; gap: 1rem; margin: 1rem 0; } .filter input[type=search] { flex: 1; min-width: 12rem; font: inherit; padding: .3rem .6rem; }
 .walk { display: grid; grid-template-columns: 1fr 1fr 1fr; gap: 1rem; border: 1px solid var(--line); border-radius: .5rem; padding: 1rem; }
 .walk ul { margin: 0; padding-left: 1.2rem; }
 [hidden] { display: none !important; }
-@media print { :root { --back: #fff; --text: #000; --soft: #333; --line: #999; --card: #fff; --bad: #000; --mark: #000; } .filter, .walk { display: none !important; } .violation, tr { break-inside: avoid; } body { max-width: none; padding: 0; } }
+@media print { :root { --back: #fff; --text: #000; --soft: #333; --line: #999; --card: #fff; --bad: #000; --mark: #000; } .filter, .walk { display: none !important; } .violation, tr, .source { break-inside: avoid; } body { max-width: none; padding: 0; } }
 ";
 
 /// The script of a page: what filters violations and classes, sorts classes, and walks along dependencies. Without it all is

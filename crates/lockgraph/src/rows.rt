@@ -16,6 +16,7 @@ use ld_json::json_text;
 use ld_places::{Places, ShownPlaces};
 use ld_rows::Rows;
 use ld_source_map::Maps;
+use ld_sources::{Folder, read_sources};
 use std::alloc::{AllocError, Global};
 use std::io;
 use std::rt::Files;
@@ -27,14 +28,14 @@ use std::thread::Threads;
 enum Form<'f> {
     /// As one JSON object a line.
     Json,
-    /// As other programs read them.
-    Format(&'f Format<'f>),
+    /// As other programs read them, with the sources that these folders have.
+    Format(&'f Format<'f>, &'f [Folder<'f>]),
 }
 
 impl Form<'_> {
     /// Whether all classes and dependencies are written, those of no violation too.
     fn has_all(self) -> bool {
-        matches!(self, Form::Format(Format::Html { .. }))
+        matches!(self, Form::Format(Format::Html { .. }, _))
     }
 }
 
@@ -54,12 +55,34 @@ pub fn answer_json<'a, R: Files + io::Input + Print + AllocGlobal + Threads + Wa
 ///
 /// # Errors
 ///
-/// Those of `answer_rows`.
+/// `Open` for the first folder of sources that isn't there, and those of `answer_rows`.
 pub fn answer_format<'a, R: Files + io::Input + Print + AllocGlobal + Threads + Wait + Sync>(
     rt: &R,
     words: &FormatWords<'a>,
 ) -> Result<Verdict, Fault<'a>> {
-    answer_rows(rt, &words.mapped, Form::Format(&words.format))
+    let folders = folders_of(rt, &words.folders)?;
+    answer_rows(rt, &words.mapped, Form::Format(&words.format, &folders))
+}
+
+/// The folders of these names.
+fn folders_of<'a, R: Files + AllocGlobal>(
+    rt: &R,
+    names: &[&'a str],
+) -> Result<Vec<Folder<'a>>, Fault<'a>> {
+    let mut folders = Vec::new(rt.alloc());
+    for name in names {
+        match Folder::of(rt, rt.alloc(), *name) {
+            Ok(folder) => keep(&mut folders, folder)?,
+            Err(error) => return Err(Fault::Open(*name, error)),
+        }
+    }
+    Ok(folders)
+}
+
+/// Puts a folder behind others.
+fn keep<'a>(folders: &mut Vec<Folder<'a>>, folder: Folder<'a>) -> Result<(), AllocError> {
+    folders.push(folder)?;
+    Ok(())
 }
 
 /// Writes the report of the named files in a form. May wait.
@@ -97,7 +120,7 @@ fn answer_rows<'a, R: Files + io::Input + Print + AllocGlobal + Threads + Wait +
 ///
 /// `Together` exactly where they are no stream together, whatever memory there is; `Memory` where a growth was
 /// refused; and `Uneven` where the workers' book isn't that of the stream.
-fn rows_told<'a, R: Threads + Wait + Sync>(
+fn rows_told<'a, R: Files + Threads + Wait + Sync>(
     rt: &R,
     alloc: Global,
     bytes: &[u8],
@@ -111,13 +134,14 @@ fn rows_told<'a, R: Threads + Wait + Sync>(
     ensures stream { IfSome (stream_fault bytes.now) (λ fault. result ≡ Err (Together fault)) }
 {
     let checked = check(rt, alloc, bytes, workers, &NoGate)?;
-    let told = rows_told_in(alloc, &checked, places, maps, form);
+    let told = rows_told_in(rt, alloc, &checked, places, maps, form);
     drop(checked);
     told
 }
 
 /// The report of the traces that a book lists, in a form.
-fn rows_told_in<'a>(
+fn rows_told_in<'a, R: Files>(
+    rt: &R,
     alloc: Global,
     checked: &Checked<'_>,
     places: &Places<'_>,
@@ -128,13 +152,14 @@ fn rows_told_in<'a>(
 {
     let report = report_in(alloc, &checked.book)?;
     // Lent again, since the report lives for a shorter time.
-    let text = text_in(alloc, &*checked, &report, &*places, maps, form)?;
+    let text = text_in(rt, alloc, &*checked, &report, &*places, maps, form)?;
     let verdict = verdict_of(&checked.book);
     Ok(Told { text, verdict })
 }
 
 /// The text on these traces, of which this is the report.
-fn text_in<'s>(
+fn text_in<'s, R: Files>(
+    rt: &R,
     alloc: Global,
     checked: &'s Checked<'s>,
     report: &'s [u8],
@@ -156,15 +181,23 @@ fn text_in<'s>(
         maps,
         form.has_all(),
     )?;
-    text_of_rows(alloc, &rows, form)
+    text_of_rows(rt, alloc, &rows, form)
 }
 
 /// The text of rows in a form.
-fn text_of_rows(alloc: Global, rows: &Rows<'_>, form: Form<'_>) -> Result<Vec<u8>, AllocError>
+fn text_of_rows<R: Files>(
+    rt: &R,
+    alloc: Global,
+    rows: &Rows<'_>,
+    form: Form<'_>,
+) -> Result<Vec<u8>, AllocError>
     ensures { form.entry ≡ Json → IfOk result (λ text. text.items ≡ json_text rows.now) }
 {
     match form {
         Form::Json => json_text(alloc, rows),
-        Form::Format(format) => format_text(alloc, rows, format),
+        Form::Format(format, folders) => {
+            let sources = read_sources(rt, alloc, folders, rows)?;
+            format_text(alloc, rows, &sources, format)
+        }
     }
 }

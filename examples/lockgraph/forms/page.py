@@ -5,8 +5,10 @@ import json
 import os
 import re
 import shutil
+import socketserver
 import subprocess
 import tempfile
+import threading
 
 from .maps import origins
 from .others import MEANINGS, shown, title
@@ -16,7 +18,7 @@ from .streams import must, same
 
 TAGS = set(
     "html head meta link title style body h1 h2 h3 h4 p dl div dt dd span input label output section article code"
-    " strong figure svg rect text path a ul ol li br table thead tbody tr th td footer script".split()
+    " strong figure svg rect text path a ul ol li br table thead tbody tr th td footer script pre mark".split()
 )
 # Attributes that load something, or run a script.
 ACTIVE = re.compile("on.*|src|srcset|srcdoc|style|action|formaction|data|poster|ping")
@@ -256,17 +258,34 @@ def browser():
     return shutil.which("chromium") or shutil.which("chromium-browser")
 
 
-def type_into(case, text, word):
-    """In a browser, what is shown once a word was typed: the classes and the violations that have it."""
-    with tempfile.TemporaryDirectory() as folder:
+class Asked(socketserver.BaseRequestHandler):
+    """Notes what a browser asks its proxy for, and gives nothing."""
+
+    def handle(self):
+        self.request.settimeout(5)
+        self.server.asked.append(self.request.recv(4096).decode("latin-1").split("\r\n")[0])
+
+
+def in_browser(text, script):
+    """What a script makes of a page, and puts into its title as JSON; and what the browser asks for meanwhile."""
+    with tempfile.TemporaryDirectory() as folder, socketserver.ThreadingTCPServer(("127.0.0.1", 0), Asked) as proxy:
+        proxy.daemon_threads, proxy.asked = True, []
+        threading.Thread(target=proxy.serve_forever, daemon=True).start()
         with open(f"{folder}/page.html", "w", encoding="utf-8", newline="") as file:
-            file.write(text.replace("</body>", f"<script>{TYPED.format(word=json.dumps(word))}</script></body>"))
+            file.write(text.replace("</body>", f"<script>{script}</script></body>"))
         words = [browser(), "--headless", "--no-sandbox", "--disable-gpu", f"--user-data-dir={folder}/user"]
+        words += [f"--proxy-server=127.0.0.1:{proxy.server_address[1]}", "--disable-background-networking"]
         words += ["--virtual-time-budget=5000", "--dump-dom", f"file://{folder}/page.html"]
         done = subprocess.run(words, capture_output=True, env={**os.environ, "HOME": folder}, timeout=100, check=False)
+        proxy.shutdown()
     title = re.search("<title>(.*?)</title>", done.stdout.decode("utf-8"), re.DOTALL)
-    must(title and title[1].startswith("{"), f"the script of the page doesn't run: {title and title[1]}")
-    came = json.loads(html.unescape(title[1]))
+    must(title and title[1][:1] in ("{", "["), f"the script of the page doesn't run: {title and title[1]}")
+    return json.loads(html.unescape(title[1])), proxy.asked
+
+
+def type_into(case, text, word):
+    """In a browser, what is shown once a word was typed: the classes and the violations that have it."""
+    came, _ = in_browser(text, TYPED.format(word=json.dumps(word)))
     held = [shown(it) for it in classes_of(case) if word.lower() in it.lower()]
     same(sorted(came["classes"]), sorted(held), f"the classes with {word}")
     same(came["before"], str(len(case.violations)), "how many violations are shown")
