@@ -1,6 +1,5 @@
 //! The words of `new`.
 
-use crate::news::Telling;
 use crate::words::{Given, count_of_workers, named_files, read_given};
 use clap::error::ErrorKind;
 use clap::{Arg, ArgAction, ArgMatches, Command, Error};
@@ -36,8 +35,8 @@ Example:
 pub struct NewWords<'a> {
     /// The name of the known text.
     pub known: &'a str,
-    /// What is told: what is new, or what is known and gone.
-    pub telling: Telling,
+    /// Whether it is told what is known and gone, and not what is new.
+    pub fixed: bool,
     /// The files with the streams, and how they are read.
     pub given: Given<'a>,
 }
@@ -79,14 +78,10 @@ pub fn read_new<'a>(
         return Err(command.error(ErrorKind::MissingRequiredArgument, "--known is missing")?);
     };
     let given = read_given(alloc, command, matches, &[known])?;
-    let telling = if matches.get_flag("fixed") {
-        Telling::Gone
-    } else {
-        Telling::New
-    };
+    let fixed = matches.get_flag("fixed");
     Ok(NewWords {
         known,
-        telling,
+        fixed,
         given,
     })
 }

@@ -1,6 +1,5 @@
 //! The words of `reduce`.
 
-use crate::reduce::Keeping;
 use crate::words::{Given, count_of_workers, named_files, read_given};
 use clap::{Arg, ArgAction, ArgMatches, Command, Error};
 use std::alloc::{AllocError, Global};
@@ -23,8 +22,10 @@ Example:
 /// What `reduce` is asked.
 #[derive(Drop)]
 pub struct ReduceWords<'a> {
-    /// What is written beside the traces that show something.
-    pub keeping: Keeping,
+    /// Whether the refused traces are written too.
+    pub refused: bool,
+    /// Whether each trace says where it comes from.
+    pub from: bool,
     /// The files with the streams, and how they are read.
     pub given: Given<'a>,
 }
@@ -60,10 +61,12 @@ pub fn read_reduce<'a>(
     command: &mut Command<'a>,
     matches: &ArgMatches<'a>,
 ) -> Result<ReduceWords<'a>, Error> {
-    let keeping = Keeping {
-        refused: matches.get_flag("keep-refused"),
-        from: matches.get_flag("from"),
-    };
+    let refused = matches.get_flag("keep-refused");
+    let from = matches.get_flag("from");
     let given = read_given(alloc, command, matches, &[])?;
-    Ok(ReduceWords { keeping, given })
+    Ok(ReduceWords {
+        refused,
+        from,
+        given,
+    })
 }

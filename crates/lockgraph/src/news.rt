@@ -31,6 +31,17 @@ pub enum Telling {
     Gone,
 }
 
+impl Telling {
+    /// What these words ask for.
+    fn of(words: &NewWords<'_>) -> Telling {
+        if words.fixed {
+            Telling::Gone
+        } else {
+            Telling::New
+        }
+    }
+}
+
 /// Why it isn't told what is new.
 #[derive(Clone, Copy)]
 pub enum NewsFault {
@@ -63,7 +74,7 @@ pub fn answer_new<'a, R: Files + io::Input + Print + AllocGlobal + Threads + Wai
     match write_news(
         rt,
         rt.alloc(),
-        words.telling,
+        Telling::of(words),
         &streams.bytes,
         &streams.places,
         &known,

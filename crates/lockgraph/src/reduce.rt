@@ -35,6 +35,16 @@ pub struct Keeping {
     pub from: bool,
 }
 
+impl Keeping {
+    /// What these words ask for.
+    fn of(words: &ReduceWords<'_>) -> Keeping {
+        Keeping {
+            refused: words.refused,
+            from: words.from,
+        }
+    }
+}
+
 /// Why there is no reduced stream, or no whole one.
 #[derive(Clone, Copy)]
 pub enum ReduceFault {
@@ -69,7 +79,7 @@ pub fn answer_reduce<'a, R: Files + io::Input + Print + AllocGlobal + Threads + 
         rt.alloc(),
         &streams.bytes,
         &streams.places,
-        words.keeping,
+        Keeping::of(words),
         &mut output,
         workers,
     ) {
@@ -87,10 +97,11 @@ fn answer_group<'a, R: Files + io::Input + Print + AllocGlobal + Threads + Wait 
     rt: &R,
     words: &ReduceWords<'a>,
 ) -> Result<Verdict, Fault<'a>> {
+    let keeping = Keeping::of(words);
     let workers = words.given.workers;
-    let group = read_group(rt, &words.given.files, words.keeping, workers)?;
+    let group = read_group(rt, &words.given.files, keeping, workers)?;
     let mut output = Std::new(io::writer(rt));
-    match write_group(rt, rt.alloc(), &group, words.keeping, &mut output, workers) {
+    match write_group(rt, rt.alloc(), &group, keeping, &mut output, workers) {
         Ok(verdict) => Ok(verdict),
         Err(fault) => Err(fault_of_reduce(fault)),
     }
