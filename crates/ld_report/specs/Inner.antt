@@ -1,2 +1,3 @@
 -- What only invariants, private functions and proofs cite: a reader of the promises needs none of it.
 pub mod Alarms
+pub mod Begin

@@ -1,14 +1,18 @@
 //! Writes the lines of a report. Each call answers `AllocError` where memory for its text was refused.
-ghost use Rattle.std.specs.Prelude.{◌≡◌, ◌++◌, OnOk, decimal, drop};
+ghost use Rattle.std.specs.Prelude.{◌≡◌, ◌++◌, IfSome, List, OnOk, decimal, drop};
+ghost use Rattle.std.specs.Bool.{OnTrue};
 ghost use Rattle.ld_class.specs.Names.{plain_class};
 ghost use Rattle.ld_rules.specs.declared.outcome.Outcome.TheVariants.{Refused};
+ghost use Rattle.ld_trace.specs.Sources.{PlainSource};
 ghost use Rattle.ld_book.specs.Findings.{plain_conflict_row, plain_cycle_row, plain_forbidden_row};
+ghost use Rattle.ld_report.specs.Inner.Begin.{forbidden_begin};
 ghost use Rattle.ld_report.specs.Report.{class_text, conflict_line, cycle_line, forbidden_line};
 ghost use Rattle.ld_report.specs.Report.{inversion_line, last_line, marked, place};
 ghost use Rattle.ld_report.specs.Report.{recursion_line, refused_line, state_name, steps};
 ghost use Rattle.ld_report.specs.Report.{summary_line, via};
 
 use crate::labels::label;
+use itoa::Buffer;
 use ld_book::{ClassName, ConflictRow, CycleRow, ForbiddenRow, Totals, Traces, Walk};
 use ld_rules::{TraceFault, Witness};
 use ld_trace::State;
@@ -106,18 +110,63 @@ pub fn write_conflict(
     Ok(())
 }
 
-/// Writes a forbidden walk.
-pub fn write_forbidden(
+/// Makes of `begin` what the line of a forbidden walk begins with. It has that of the row before, if there is one.
+// Rows with one first end stand together, so most lines begin as the one before.
+pub fn begin_forbidden(
+    begin: &mut Vec<u8>,
+    traces: &Traces<'_, '_>,
+    before: Option<&ForbiddenRow<'_, '_>>,
+    row: &ForbiddenRow<'_, '_>,
+) -> Result<(), AllocError>
+    requires { IfSome before (λ other. begin.old.items ≡ forbidden_begin traces.now (plain_forbidden_row other.now)) }
+    ensures { OnOk result (begin.new.items ≡ forbidden_begin traces.now (plain_forbidden_row row.now)) }
+{
+    if let Some(other) = before {
+        if begins_alike(other, row) {
+            return Ok(());
+        }
+    }
+    begin.clear();
+    write_begin(begin, traces, row)
+}
+
+/// Whether the lines of two forbidden walks begin alike: they have one state and one first end.
+fn begins_alike(row: &ForbiddenRow<'_, '_>, other: &ForbiddenRow<'_, '_>) -> bool
+    ensures { OnTrue result ((sources : List PlainSource)
+        → forbidden_begin sources (plain_forbidden_row row.now) ≡ forbidden_begin sources (plain_forbidden_row other.now)) }
+{
+    row.state == other.state
+        && row.safe_at == other.safe_at
+        && row.from_marks == other.from_marks
+        && row.from == other.from
+}
+
+/// Writes what the line of a forbidden walk begins with: its state and its first end.
+fn write_begin(
     text: &mut Vec<u8>,
     traces: &Traces<'_, '_>,
     row: &ForbiddenRow<'_, '_>,
 ) -> Result<(), AllocError>
     ensures { OnOk result (text.new.items ≡ text.old.items ++
-        forbidden_line traces.now (plain_forbidden_row row.now)) }
+        forbidden_begin traces.now (plain_forbidden_row row.now)) }
 {
     write_state(text, "forbidden ", row.state)?;
     write_class(text, " ", row.from, &row.from_marks)?;
-    write_place(text, " in ", traces, row.safe_at)?;
+    write_place(text, " in ", traces, row.safe_at)
+}
+
+/// Writes a forbidden walk, whose line begins with `begin`.
+pub fn write_forbidden(
+    text: &mut Vec<u8>,
+    traces: &Traces<'_, '_>,
+    begin: &[u8],
+    row: &ForbiddenRow<'_, '_>,
+) -> Result<(), AllocError>
+    requires { begin.now ≡ forbidden_begin traces.now (plain_forbidden_row row.now) }
+    ensures { OnOk result (text.new.items ≡ text.old.items ++
+        forbidden_line traces.now (plain_forbidden_row row.now)) }
+{
+    write_bytes(text, "", begin)?;
     write_class(text, " -> ", row.to, &row.to_marks)?;
     write_place(text, " on ", traces, row.unsafe_at)?;
     write_walk(text, &row.via)
@@ -136,14 +185,15 @@ pub fn write_last(text: &mut Vec<u8>, count: u64) -> Result<(), AllocError>
 }
 
 /// Writes a number behind these words.
+#[inline(always)]
 fn write_number(text: &mut Vec<u8>, words: &str, number: u64) -> Result<(), AllocError>
     ensures { OnOk result (text.new.items ≡ text.old.items ++ words.now ++ decimal number) }
 {
-    write!(text, "{words}{number}").map_err(|_| AllocError)
+    write_bytes(text, words, Buffer::new().format(number).as_bytes())
 }
 
 /// Writes these bytes behind these words.
-// Words of a known length are put there without a call.
+// Words of a known length are put there without a call, so what hands words on is inlined too.
 #[inline(always)]
 fn write_bytes(text: &mut Vec<u8>, words: &str, bytes: &[u8]) -> Result<(), AllocError>
     ensures { OnOk result (text.new.items ≡ text.old.items ++ words.now ++ bytes.now) }
@@ -195,6 +245,7 @@ fn write_name(text: &mut Vec<u8>, words: &str, class: ClassName<'_>) -> Result<(
 }
 
 /// Writes where something was first seen, behind these words.
+#[inline(always)]
 fn write_place(
     text: &mut Vec<u8>,
     words: &str,
@@ -208,6 +259,7 @@ fn write_place(
 }
 
 /// Writes a state, behind these words.
+#[inline(always)]
 fn write_state(text: &mut Vec<u8>, words: &str, state: State) -> Result<(), AllocError>
     ensures { OnOk result (text.new.items ≡ text.old.items ++ words.now ++ state_name state) }
 {
@@ -219,6 +271,7 @@ fn write_state(text: &mut Vec<u8>, words: &str, state: State) -> Result<(), Allo
 }
 
 /// Writes a class with its usage characters, behind these words.
+#[inline(always)]
 fn write_class(
     text: &mut Vec<u8>,
     words: &str,

@@ -9,7 +9,8 @@ ghost use Rattle.ld_report.specs.Report.{forbidden_line, last_line, refused_line
 ghost use Rattle.ld_report.specs.Report.{violation_lines, violations};
 
 use crate::lines::{
-    write_conflict, write_cycle, write_forbidden, write_last, write_refused, write_summary,
+    begin_forbidden, write_conflict, write_cycle, write_forbidden, write_last, write_refused,
+    write_summary,
 };
 use ld_book::{Book, ConflictRow, CycleRow, Findings, ForbiddenRow, Totals, Traces};
 use ld_rules::{Listed, Outcome};
@@ -59,7 +60,7 @@ fn text_of(
     let mut text = Vec::new(alloc);
     write_summary(&mut text, totals)?;
     write_all_refused(&mut text, traces.listed())?;
-    write_violations(&mut text, traces, findings)?;
+    write_violations(alloc, &mut text, traces, findings)?;
     write_last(&mut text, count_of(findings))?;
     Ok(text)
 }
@@ -80,6 +81,7 @@ fn write_all_refused(text: &mut Vec<u8>, listed: &[Listed<'_>]) -> Result<(), Al
 
 /// Writes every violation.
 fn write_violations(
+    alloc: Global,
     text: &mut Vec<u8>,
     traces: &Traces<'_, '_>,
     findings: &Findings<'_, '_>,
@@ -89,7 +91,7 @@ fn write_violations(
 {
     write_cycles(text, traces, findings.cycles.items())?;
     write_conflicts(text, traces, findings.conflicts.items())?;
-    write_all_forbidden(text, traces, findings.forbidden.items())
+    write_all_forbidden(alloc, text, traces, findings.forbidden.items())
 }
 
 /// Writes the dependencies on cycles.
@@ -124,6 +126,7 @@ fn write_conflicts(
 
 /// Writes the forbidden walks.
 fn write_all_forbidden(
+    alloc: Global,
     text: &mut Vec<u8>,
     traces: &Traces<'_, '_>,
     walks: &[ForbiddenRow<'_, '_>],
@@ -131,8 +134,12 @@ fn write_all_forbidden(
     ensures { OnOk result (text.new.items ≡ text.old.items ++
         flat_map (forbidden_line traces.now) (map plain_forbidden_row walks.now)) }
 {
+    let mut begin = Vec::new(alloc);
+    let mut before = None;
     for walk in walks {
-        write_forbidden(text, traces, walk)?;
+        begin_forbidden(&mut begin, traces, before, walk)?;
+        write_forbidden(text, traces, &begin, walk)?;
+        before = Some(walk);
     }
     Ok(())
 }
