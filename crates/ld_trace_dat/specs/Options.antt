@@ -66,8 +66,8 @@ others_at bytes at = do
   size ← word bytes at
   next ← long bytes size.1
   if next.0 == 0 then Ok (next.1, true)
-    else if nat_lt next.0 next.1 then fault size.1 wrongs.Order
-    else (section bytes next.0 0 >>= λ inside. Ok (inside.at, false))
+      else if nat_lt next.0 next.1 then fault size.1 wrongs.Order
+      else (section bytes next.0 0 >>= λ inside. Ok (inside.at, false))
 
 -- behind the option of number 0
 abbrev pub last : List ℕ → Version → ℕ → Result (ℕ × Bool) DatFault
@@ -90,7 +90,7 @@ unfoldable pub option : List ℕ → Version → Progress → Result Progress Da
 option bytes version from = do
   id ← half bytes from.at
   if id.0 == 0 then (last bytes version id.1 >>= λ x. Ok (progress x.0 x.1 from.found))
-    else option_of bytes from id.0 id.1
+      else option_of bytes from id.0 id.1
 
 -- All options, one behind the other, up to the last one. There are no more than n.
 unfoldable pub options : List ℕ → Version → ℕ → Progress → Result Progress DatFault

@@ -86,8 +86,8 @@ unfoldable pub kind_at : List ℕ → ℕ → Result ℕ DatFault
 kind_at bytes at = do
   kind ← part bytes at 10
   if bytes_eq kind.0 (ended (codes "flyrecord")) then Ok kind.1
-    else if bytes_eq kind.0 (ended (codes "latency  ")) then fault at wrongs.Latency
-    else fault at wrongs.Name
+      else if bytes_eq kind.0 (ended (codes "latency  ")) then fault at wrongs.Latency
+      else fault at wrongs.Name
 
 -- that no option names a second buffer
 abbrev pub alone : Option Span → Result Bool DatFault
@@ -125,7 +125,12 @@ said_6 bytes at = do
   found ← processors bytes bytes versions.Six count.0 (first_row said.at said.at)
   clock ← clock_6 bytes said.found.clock found.1.at
   Ok (record {
-    header_page = header_page.0; systems = events.0; symbols = symbols.0; names = names.0; clock = clock.0; processors = found.0
+    header_page = header_page.0;
+    systems = events.0;
+    symbols = symbols.0;
+    names = names.0;
+    clock = clock.0;
+    processors = found.0;
   })
 
 -- the bytes up to the end of the section of this kind that an option names, and where its contents begin
@@ -190,7 +195,12 @@ said_7 bytes at = do
   names ← names_at bytes said.found.names
   clocked ← buffer_at bytes buffer
   Ok (record {
-    header_page = header_page.0; systems = events.0; symbols = symbols.0; names = names.0; clock = clocked.0; processors = clocked.1
+    header_page = header_page.0;
+    systems = events.0;
+    symbols = symbols.0;
+    names = names.0;
+    clock = clocked.0;
+    processors = clocked.1;
   })
 
 -- the recording of either version

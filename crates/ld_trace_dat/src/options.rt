@@ -78,12 +78,7 @@ pub(crate) fn start_at(at: usize) -> Progress
 }
 
 /// The contents of an option, which is the first of its kind.
-fn once(
-    before: Option<Span>,
-    span: Span,
-    at: usize,
-    wrong: Wrong,
-) -> Result<Option<Span>, DatFault>
+fn once(before: Option<Span>, span: Span, at: usize, wrong: Wrong) -> Result<Option<Span>, DatFault>
     ensures { result ≡ once before span at wrong }
 {
     match before {

@@ -32,16 +32,18 @@ fn kind_at(bytes: &[u8], at: usize) -> Result<usize, DatFault>
     ensures { result ≡ kind_at bytes.now at }
 {
     let (kind, end) = part(bytes, at, 10)?;
-    match kind {
-        b"flyrecord\0" => Ok(end),
-        b"latency  \0" => Err(DatFault {
+    if kind == b"flyrecord\0".as_slice() {
+        Ok(end)
+    } else if kind == b"latency  \0".as_slice() {
+        Err(DatFault {
             offset: at,
             wrong: Wrong::Latency,
-        }),
-        _ => Err(DatFault {
+        })
+    } else {
+        Err(DatFault {
             offset: at,
             wrong: Wrong::Name,
-        }),
+        })
     }
 }
 

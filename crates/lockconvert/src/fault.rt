@@ -24,10 +24,8 @@ pub enum Fault {
     #[error("{0}: offset {1}: {2}")]
     File(String, usize, &'static str),
     /// The section at this offset of a file of trace-cmd is compressed.
-    #[error(
-        "{0}: offset {1}: compressed: `trace-cmd convert --compression none -i {0} -o NEW.dat` writes a file that \
-         can be read"
-    )]
+    #[error("{0}: offset {1}: compressed: `trace-cmd convert --compression none -i {0} -o NEW.dat` writes a file that \
+         can be read")]
     Compressed(String, usize),
     /// This file has another fault.
     #[error("{0}: {1}")]
@@ -96,12 +94,14 @@ fn words_of_file(wrong: FileWrong) -> &'static str {
         FileWrong::Compressed => "compressed",
         FileWrong::Section => "not the section that an option says",
         FileWrong::Order => "the next options stand before the end of these",
-        FileWrong::Missing => "no option says where the page's layout, the formats or the pages are",
+        FileWrong::Missing =>
+            "no option says where the page's layout, the formats or the pages are",
         FileWrong::Twice => "a second option of its kind",
         FileWrong::Buffers => "a second buffer: record without -B",
         FileWrong::Guest => "a recording of a host and its guests: record each alone",
         FileWrong::Processor => "the numbers of the processors don't rise, or are too large",
-        FileWrong::Overlap => "the pages of a processor begin before those of the one before it end",
+        FileWrong::Overlap =>
+            "the pages of a processor begin before those of the one before it end",
     }
 }
 

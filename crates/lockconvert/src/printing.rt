@@ -104,11 +104,7 @@ fn numbered(fault: Fault, processors: &[Processor<'_>]) -> Fault {
 /// # Errors
 ///
 /// Those of `add_merged`.
-fn merged(
-    alloc: Global,
-    layout: Layout,
-    processors: &[Processor<'_>],
-) -> Result<Entries, Fault>
+fn merged(alloc: Global, layout: Layout, processors: &[Processor<'_>]) -> Result<Entries, Fault>
     requires { is_layout layout ≡ true }
 {
     let sources = sources_of(alloc, layout, processors)?;
