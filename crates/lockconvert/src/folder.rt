@@ -65,7 +65,7 @@ fn read_formats<R: Files + AllocGlobal>(
 ) -> Result<Vec<(Known, Vec<u8>)>, Fault> {
     let mut formats = Vec::new(rt.alloc());
     for event in &KNOWN {
-        let name = format!(in rt.alloc(); "events/{event.system}/{event.name}/format")?;
+        let name = event.file(rt.alloc())?;
         if let Some(text) = read_if_there(rt, folder, name.as_str())? {
             formats.push((*event, text)).map_err(AllocError::from)?;
         }

@@ -31,7 +31,7 @@ pub fn layout_of(alloc: Global, parts: &Parts<'_>) -> Result<Layout, Fault>
 
 /// The name of the format of an event.
 fn name_of(alloc: Global, parts: &Parts<'_>, event: Known) -> Result<String, AllocError> {
-    let file = format!(in alloc; "events/{event.system}/{event.name}/format")?;
+    let file = event.file(alloc)?;
     parts.holder.part(alloc, file.as_str())
 }
 

@@ -14,20 +14,61 @@ pub struct Known {
     pub name: &'static str,
 }
 
-const fn known(sort: Sort, system: &'static str, name: &'static str) -> Known {
-    Known { sort, system, name }
+impl Known {
+    /// Its file `format`, from the folder of tracefs on.
+    ///
+    /// # Errors
+    ///
+    /// A growth of memory was refused.
+    pub fn file(self, alloc: Global) -> Result<String, AllocError> {
+        let system = self.system;
+        let name = self.name;
+        format!(in alloc; "events/{system}/{name}/format")
+    }
 }
 
 /// The events that are read.
 pub const KNOWN: [Known; 8] = [
-    known(Sort::Acquire, "lockcheck", "acquire"),
-    known(Sort::Release, "lockcheck", "release"),
-    known(Sort::StockAcquire, "lock", "lock_acquire"),
-    known(Sort::StockRelease, "lock", "lock_release"),
-    known(Sort::IrqEnable, "preemptirq", "irq_enable"),
-    known(Sort::IrqDisable, "preemptirq", "irq_disable"),
-    known(Sort::StepBegin, "cpuhp", "cpuhp_enter"),
-    known(Sort::StepEnd, "cpuhp", "cpuhp_exit"),
+    Known {
+        sort: Sort::Acquire,
+        system: "lockcheck",
+        name: "acquire",
+    },
+    Known {
+        sort: Sort::Release,
+        system: "lockcheck",
+        name: "release",
+    },
+    Known {
+        sort: Sort::StockAcquire,
+        system: "lock",
+        name: "lock_acquire",
+    },
+    Known {
+        sort: Sort::StockRelease,
+        system: "lock",
+        name: "lock_release",
+    },
+    Known {
+        sort: Sort::IrqEnable,
+        system: "preemptirq",
+        name: "irq_enable",
+    },
+    Known {
+        sort: Sort::IrqDisable,
+        system: "preemptirq",
+        name: "irq_disable",
+    },
+    Known {
+        sort: Sort::StepBegin,
+        system: "cpuhp",
+        name: "cpuhp_enter",
+    },
+    Known {
+        sort: Sort::StepEnd,
+        system: "cpuhp",
+        name: "cpuhp_exit",
+    },
 ];
 
 /// What holds a recording, by its path.
