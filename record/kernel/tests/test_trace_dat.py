@@ -188,7 +188,8 @@ class TraceDat(unittest.TestCase):
 
     def test_numbers_of_processors(self):
         text = self.text(dat.version_7(self.parts(SMALL), numbers=(2, 5))[0])
-        self.assertEqual(re.findall(rb'\[(\d+)\]', text), [b'002', b'005', b'002', b'005'])
+        # All events have one time: those of the lowest processor come first.
+        self.assertEqual(re.findall(rb'\[(\d+)\]', text), [b'002', b'002', b'005', b'005'])
         for numbers in (5, 2), (2, 2), (0, 65536):
             file, table = dat.version_7(dat.Parts(self.folder), numbers=numbers)
             self.fault(file, f'offset {table + 20}: the numbers of the processors')
