@@ -3,6 +3,7 @@
 use ld_kernel::Wrong as EventWrong;
 use ld_layout::{Fault as TextFault, Part, Wrong as LineWrong};
 use ld_pages::Wrong as PageWrong;
+use ld_trace_dat::{DatFault, Wrong as FileWrong};
 use std::alloc::AllocError;
 use std::io;
 use thiserror::Error;
@@ -19,6 +20,13 @@ pub enum Fault {
     /// This line of this file isn't a kernel's.
     #[error("{0}:{1}: {2}")]
     Line(String, usize, &'static str),
+    /// What stands at this offset of a file of trace-cmd can't be read.
+    #[error("{0}: offset {1}: {2}")]
+    File(String, usize, &'static str),
+    /// The section at this offset of a file of trace-cmd is compressed.
+    #[error("{0}: offset {1}: compressed: `trace-cmd convert --compression none -i {0} -o NEW.dat` writes a file that \
+         can be read")]
+    Compressed(String, usize),
     /// This file has another fault.
     #[error("{0}: {1}")]
     Text(String, &'static str),
@@ -71,6 +79,37 @@ pub fn fault_of_text(file: String, fault: TextFault) -> Fault {
         TextFault::Size(Part::Commit) => Fault::Text(file, "commit has neither 4 bytes nor 8"),
         TextFault::Size(Part::Contents) => Fault::Text(file, "data of no known size"),
         TextFault::Impossible => Fault::Text(file, "the fields don't stand in a page"),
+    }
+}
+
+/// What is wrong with a file of trace-cmd.
+fn words_of_file(wrong: FileWrong) -> &'static str {
+    match wrong {
+        FileWrong::Magic => "no file of `trace-cmd record`",
+        FileWrong::Version => "a version of trace.dat that is neither 6 nor 7",
+        FileWrong::BigEndian => "a recording of a big endian machine",
+        FileWrong::Ends => "the file ends here, or the part that holds this",
+        FileWrong::Name => "not the name that stands here in each trace.dat",
+        FileWrong::Latency => "the text of a latency tracer, not pages",
+        FileWrong::Compressed => "compressed",
+        FileWrong::Section => "not the section that an option says",
+        FileWrong::Order => "the next options stand before the end of these",
+        FileWrong::Missing =>
+            "no option says where the page's layout, the formats or the pages are",
+        FileWrong::Twice => "a second option of its kind",
+        FileWrong::Buffers => "a second buffer: record without -B",
+        FileWrong::Guest => "a recording of a host and its guests: record each alone",
+        FileWrong::Processor => "the numbers of the processors don't rise, or are too large",
+        FileWrong::Overlap =>
+            "the pages of a processor begin before those of the one before it end",
+    }
+}
+
+/// What is wrong with the file of trace-cmd of this name.
+pub fn fault_of_file(file: String, fault: DatFault) -> Fault {
+    match fault.wrong {
+        FileWrong::Compressed => Fault::Compressed(file, fault.offset),
+        wrong => Fault::File(file, fault.offset, words_of_file(wrong)),
     }
 }
 

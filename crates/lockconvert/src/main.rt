@@ -8,14 +8,16 @@ ghost use Rattle.clap.specs.declared.error.kind.ErrorKind.{ErrorKind};
 
 mod entries;
 mod fault;
-mod files;
+mod folder;
 mod formats;
 mod names;
+mod parts;
 mod printing;
+mod recorded;
 mod words;
 
 use fault::Fault;
-use printing::print_recording;
+use recorded::print_recording;
 use std::fmt::Display;
 use std::process::ExitCode;
 use std::rt::Env;
@@ -36,8 +38,8 @@ fn main(rt: HostRuntime) -> ExitCode {
         Err(error) => return refuse(&rt, error),
     };
     match read_words(rt.alloc(), words.as_slice()) {
-        Ok(folder) => {
-            let outcome = print_recording(&rt, folder);
+        Ok(asked) => {
+            let outcome = print_recording(&rt, asked);
             end(&rt, outcome)
         }
         Err(error) => tell(&rt, error),

@@ -5,17 +5,16 @@ ghost use Rattle.ld_pages.specs.Layouts.{is_layout};
 
 use crate::entries::Entries;
 use crate::fault::{Fault, words_of_event, words_of_page};
-use crate::files::{read_clock, read_if_there, read_layout, read_pages};
-use crate::formats::read_kinds;
+use crate::formats::{clock_of, kinds_of, layout_of};
 use crate::names::Names;
+use crate::parts::Parts;
 use ld_kernel::{Kind, event_of};
 use ld_merge::{Entry, MergeFault, merge};
 use ld_pages::{Event, Events, Item, Layout};
 use ld_printed::{Clock, write_event, write_lost};
+use ld_trace_dat::Processor;
 use std::alloc::{AllocError, Global};
-use std::io;
 use std::io::Write;
-use std::rt::Files;
 
 /// How many bytes of text are written at once, or more.
 const BLOCK: usize = 1 << 20;
@@ -27,7 +26,7 @@ const HEADER: &[u8] = b"# tracer: nop\n#\n";
 #[derive(Drop)]
 struct Reading<'a> {
     layout: Layout,
-    pages: &'a [Vec<u8>],
+    processors: &'a [Processor<'a>],
     kinds: Vec<Kind>,
     names: Names<'a>,
     clock: Clock,
@@ -45,13 +44,13 @@ fn fault_at(layout: Layout, processor: usize, offset: usize, words: &'static str
 fn sources_of<'a>(
     alloc: Global,
     layout: Layout,
-    pages: &'a [Vec<u8>],
+    processors: &[Processor<'a>],
 ) -> Result<Vec<Events<'a>>, AllocError>
     requires { is_layout layout ≡ true }
 {
     let mut sources = Vec::new(alloc);
-    for bytes in pages {
-        sources.push(Events::new(layout, bytes.as_slice()))?;
+    for processor in processors {
+        sources.push(Events::new(layout, processor.pages))?;
     }
     Ok(sources)
 }
@@ -82,28 +81,48 @@ fn add_merged(
     }
 }
 
-/// The items of all processors, merged.
+/// The number of the processor at a place of the list; the place where the list has none.
+fn number_of(processors: &[Processor<'_>], place: usize) -> usize {
+    match processors.get(place) {
+        Some(processor) => processor.number,
+        None => place,
+    }
+}
+
+/// A fault of pages with the number of its processor in the place of its place.
+fn numbered(fault: Fault, processors: &[Processor<'_>]) -> Fault {
+    match fault {
+        Fault::Pages(place, page, offset, words) => {
+            Fault::Pages(number_of(processors, place), page, offset, words)
+        }
+        other => other,
+    }
+}
+
+/// The items of all processors, merged. Each entry has the place of its processor in the list.
 ///
 /// # Errors
 ///
 /// Those of `add_merged`.
-fn merged(alloc: Global, layout: Layout, pages: &[Vec<u8>]) -> Result<Entries, Fault>
+fn merged(alloc: Global, layout: Layout, processors: &[Processor<'_>]) -> Result<Entries, Fault>
     requires { is_layout layout ≡ true }
 {
-    let sources = sources_of(alloc, layout, pages)?;
+    let sources = sources_of(alloc, layout, processors)?;
     let mut entries = Entries {
         items: Vec::new(alloc),
     };
-    add_merged(alloc, layout, &sources, &mut entries)?;
-    Ok(entries)
+    match add_merged(alloc, layout, &sources, &mut entries) {
+        Ok(()) => Ok(entries),
+        Err(fault) => Err(numbered(fault, processors)),
+    }
 }
 
-/// The data of an event of a processor.
-fn data_of<'a>(pages: &'a [Vec<u8>], processor: usize, event: &Event) -> &'a [u8] {
-    let Some(bytes) = pages.get(processor) else {
+/// The data of an event of the processor at a place of the list.
+fn data_of<'a>(processors: &[Processor<'a>], place: usize, event: &Event) -> &'a [u8] {
+    let Some(processor) = processors.get(place) else {
         return &[];
     };
-    match bytes.get(event.at..) {
+    match processor.pages.get(event.at..) {
         Some(rest) => match rest.get(..event.size) {
             Some(data) => data,
             None => &[],
@@ -118,14 +137,15 @@ fn data_of<'a>(pages: &'a [Vec<u8>], processor: usize, event: &Event) -> &'a [u8
 ///
 /// What is wrong with the event, or memory was refused.
 fn write_entry(out: &mut Vec<u8>, reading: &Reading<'_>, entry: &Entry) -> Result<(), Fault> {
+    let number = number_of(reading.processors, entry.processor);
     match entry.item {
         Item::Lost(lost) => {
-            write_lost(out, entry.processor, lost.count)?;
+            write_lost(out, number, lost.count)?;
             Ok(())
         }
         Item::Event(event) => {
-            let data = data_of(reading.pages, entry.processor, &event);
-            match event_of(&reading.kinds, entry.processor, event.time, data) {
+            let data = data_of(reading.processors, entry.processor, &event);
+            match event_of(&reading.kinds, number, event.time, data) {
                 Ok(told) => {
                     let name = reading.names.name(told.place.task);
                     write_event(out, reading.clock, name, &told)?;
@@ -133,7 +153,7 @@ fn write_entry(out: &mut Vec<u8>, reading: &Reading<'_>, entry: &Entry) -> Resul
                 }
                 Err(wrong) => Err(fault_at(
                     reading.layout,
-                    entry.processor,
+                    number,
                     event.at,
                     words_of_event(wrong),
                 )),
@@ -166,28 +186,30 @@ fn write_entries<W: Write>(
     output.flush().map_err(Fault::Write)
 }
 
-/// Writes the text of the recording in this folder to standard output. May wait.
+/// Writes the text of the recording with these parts to the output.
 ///
 /// # Errors
 ///
 /// Why the text isn't whole.
-pub fn print_recording<R: Files + Print + AllocGlobal>(rt: &R, folder: &str) -> Result<(), Fault> {
-    let layout = read_layout(rt, folder)?;
-    let kinds = read_kinds(rt, folder)?;
-    let clock = read_clock(rt, folder)?;
-    let pages = read_pages(rt, folder)?;
-    let lines = match read_if_there(rt, folder, "saved_cmdlines")? {
-        Some(lines) => lines,
-        None => Vec::new(rt.alloc()),
-    };
-    let names = Names::of(rt.alloc(), &lines)?;
-    let entries = merged(rt.alloc(), layout, &pages)?;
+pub fn print_text<W: Write>(alloc: Global, output: &mut W, parts: &Parts<'_>) -> Result<(), Fault> {
+    let layout = layout_of(alloc, parts)?;
     let reading = Reading {
         layout,
-        pages: &pages,
-        kinds,
-        names,
-        clock,
+        processors: &parts.processors,
+        kinds: kinds_of(alloc, parts)?,
+        names: Names::of(alloc, parts.names)?,
+        clock: clock_of(alloc, parts)?,
     };
-    write_entries(rt.alloc(), &mut io::writer(rt), &reading, &entries.items)
+    let entries = merged(alloc, layout, &parts.processors)?;
+    write_entries(alloc, output, &reading, &entries.items)
+}
+
+/// Writes the symbols of the recording with these parts to the output.
+///
+/// # Errors
+///
+/// A write or the flush failed.
+pub fn print_symbols<W: Write>(output: &mut W, parts: &Parts<'_>) -> Result<(), Fault> {
+    output.write_all(parts.symbols).map_err(Fault::Write)?;
+    output.flush().map_err(Fault::Write)
 }

@@ -1,0 +1,2 @@
+pub mod ManyLemmas
+pub mod OptionLemmas

@@ -1,0 +1,4 @@
+pub mod Parts
+pub mod Lists
+pub mod Options
+pub mod Recordings
