@@ -1,0 +1,3 @@
+pub mod FirstLemmas
+pub mod OrderLemmas
+pub mod RowLemmas
