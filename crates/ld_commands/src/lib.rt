@@ -21,7 +21,7 @@ pub use explain::ExplainWords;
 pub use formats::FormatWords;
 pub use json::JsonWords;
 pub use ld_cli::MOST_WORKERS;
-pub use list::ListWords;
+pub use list::{Between, ListWords};
 pub use mapped::Mapped;
 pub use new::NewWords;
 pub use reduce::ReduceWords;

@@ -1,3 +1,4 @@
 pub mod FirstLemmas
 pub mod OrderLemmas
 pub mod RowLemmas
+pub mod ListLemmas

@@ -1,3 +1,4 @@
 pub mod Named
 pub mod Occurrences
 pub mod Text
+pub mod List

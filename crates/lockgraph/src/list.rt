@@ -1,6 +1,6 @@
-//! `list`: the classes that the traces acquire.
+//! `list`: the classes that the traces acquire, or the traces that show a dependency.
 
-use crate::shown::answer_shown;
+use crate::shown::{Topic, answer_shown};
 use ld_check::Verdict;
 use ld_commands::ListWords;
 use ld_files::Fault;
@@ -10,7 +10,7 @@ use std::rt::Files;
 use std::sync::Wait;
 use std::thread::Threads;
 
-/// Writes the classes that the traces of the named files acquire. May wait.
+/// Writes the classes that the traces of the named files acquire, or which traces show a dependency. May wait.
 ///
 /// # Errors
 ///
@@ -19,10 +19,14 @@ pub fn answer_list<'a, R: Files + io::Input + Print + AllocGlobal + Threads + Wa
     rt: &R,
     words: &ListWords<'a>,
 ) -> Result<Verdict, Fault<'a>> {
-    answer_shown(rt, &words.given, Wanted::List(listing(words)))
+    let topic = match words.dependency {
+        Some(between) => Topic::Dependency(between),
+        None => Topic::Whole(Wanted::List(listing(words))),
+    };
+    answer_shown(rt, &words.given, topic)
 }
 
-/// What is to be listed.
+/// Which classes are to be listed.
 fn listing<'a>(words: &ListWords<'a>) -> Listing<'a> {
     match words.class {
         Some(name) => Listing::Class(name),

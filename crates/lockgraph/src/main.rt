@@ -14,6 +14,7 @@ mod found;
 mod groups;
 mod list;
 mod news;
+mod occurrences;
 mod reduce;
 mod report;
 mod rows;

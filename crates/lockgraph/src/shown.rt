@@ -6,8 +6,9 @@ ghost use Rattle.ld_trace.specs.Sources.{stream_fault};
 ghost use Rattle.ld_files.specs.declared.fault.Fault.TheVariants.{Together, Write};
 ghost use Rattle.lockgraph.specs.Shown.{verdict_of_read};
 
-use ld_check::{Checked, MOST_WORKERS, NoGate, Verdict, check};
-use ld_commands::Given;
+use crate::occurrences::occurrences_in;
+use ld_check::{Book, Checked, MOST_WORKERS, NoGate, Verdict, check};
+use ld_commands::{Between, Given};
 use ld_files::{Fault, Streams, Told, find_class, read_streams, write_told};
 use ld_io::Std;
 use ld_places::{Places, ShownPlaces};
@@ -18,7 +19,16 @@ use std::rt::Files;
 use std::sync::Wait;
 use std::thread::Threads;
 
-/// Writes what is wanted of the files that are named. May wait.
+/// What is asked of some traces.
+#[derive(Clone, Copy, Debug, PartialEq, Eq)]
+pub enum Topic<'a> {
+    /// A text on all that they show.
+    Whole(Wanted<'a>),
+    /// Which of them show the dependency between these classes.
+    Dependency(Between<'a>),
+}
+
+/// Writes what is asked of the files that are named. May wait.
 ///
 /// # Errors
 ///
@@ -26,15 +36,15 @@ use std::thread::Threads;
 pub fn answer_shown<'a, R: Files + io::Input + Print + AllocGlobal + Threads + Wait + Sync>(
     rt: &R,
     given: &Given<'a>,
-    wanted: Wanted<'a>,
+    topic: Topic<'a>,
 ) -> Result<Verdict, Fault<'a>> {
     let streams = read_streams(rt, &given.files)?;
-    let told = shown_of(rt, rt.alloc(), &streams, wanted, given.workers)?;
+    let told = shown_of(rt, rt.alloc(), &streams, topic, given.workers)?;
     let mut output = Std::new(io::writer(rt));
     write_told(&mut output, &told)
 }
 
-/// What is wanted of these streams, whose traces that many workers read at once. May wait.
+/// What is asked of these streams, whose traces that many workers read at once. May wait.
 ///
 /// # Errors
 ///
@@ -45,7 +55,7 @@ fn shown_of<'a, R: Threads + Wait + Sync>(
     rt: &R,
     alloc: Global,
     streams: &Streams<'_>,
-    wanted: Wanted<'_>,
+    topic: Topic<'_>,
     workers: usize,
 ) -> Result<Told, Fault<'a>>
     requires { (1 ≤ workers) × (workers ≤ MOST_WORKERS) }
@@ -57,7 +67,7 @@ fn shown_of<'a, R: Threads + Wait + Sync>(
 {
     match check(rt, alloc, &streams.bytes, workers, &NoGate) {
         Ok(checked) => {
-            let told = shown_in(rt, alloc, &checked, &streams.places, wanted, workers);
+            let told = shown_in(rt, alloc, &checked, &streams.places, topic, workers);
             drop(checked);
             told
         }
@@ -65,29 +75,47 @@ fn shown_of<'a, R: Threads + Wait + Sync>(
     }
 }
 
-/// What is wanted of the traces that a book lists.
+/// What is asked of the traces that a book lists.
 fn shown_in<'f, R: Threads + Sync>(
     rt: &R,
     alloc: Global,
     checked: &Checked<'_>,
     places: &Places<'_>,
-    wanted: Wanted<'_>,
+    topic: Topic<'_>,
     threads: usize,
 ) -> Result<Told, Fault<'f>>
     ensures verdict { IfOk result (λ told. told.verdict ≡ verdict_of_read (refused_count checked.now.book)) }
     ensures unwritten { result ≢ Err Write }
     ensures sound { (fault : StreamFault) → result ≢ Err (Together fault) }
 {
-    if let Wanted::List(Listing::Class(name)) = wanted {
-        find_class(alloc, &checked.book, name.as_bytes())?;
-    }
     let shown = ShownPlaces {
         files: places,
         sources: checked.sources.as_slice(),
     };
-    let text = text_of(rt, alloc, &checked.book, &shown, wanted, threads)?;
+    let text = match topic {
+        Topic::Whole(wanted) => whole_text(rt, alloc, &checked.book, &shown, wanted, threads)?,
+        Topic::Dependency(between) => occurrences_in(alloc, &checked.book, &shown, between)?,
+    };
     let verdict = verdict_of_read(checked.book.totals().refused);
     Ok(Told { text, verdict })
+}
+
+/// The text on all that a book shows.
+fn whole_text<'f, R: Threads + Sync>(
+    rt: &R,
+    alloc: Global,
+    book: &Book<'_>,
+    shown: &ShownPlaces<'_>,
+    wanted: Wanted<'_>,
+    threads: usize,
+) -> Result<Vec<u8>, Fault<'f>>
+    ensures unwritten { result ≢ Err Write }
+    ensures sound { (fault : StreamFault) → result ≢ Err (Together fault) }
+{
+    if let Wanted::List(Listing::Class(name)) = wanted {
+        find_class(alloc, book, name.as_bytes())?;
+    }
+    Ok(text_of(rt, alloc, book, shown, wanted, threads)?)
 }
 
 /// What it comes to that so many traces are refused, where no violation is told.

@@ -1,6 +1,6 @@
 //! `stats`: how much the traces are and show.
 
-use crate::shown::answer_shown;
+use crate::shown::{Topic, answer_shown};
 use ld_check::Verdict;
 use ld_commands::StatsWords;
 use ld_files::Fault;
@@ -19,5 +19,5 @@ pub fn answer_stats<'a, R: Files + io::Input + Print + AllocGlobal + Threads + W
     rt: &R,
     words: &StatsWords<'a>,
 ) -> Result<Verdict, Fault<'a>> {
-    answer_shown(rt, &words.given, Wanted::Stats)
+    answer_shown(rt, &words.given, Topic::Whole(Wanted::Stats))
 }
