@@ -34,7 +34,7 @@ _lockgraph() {
     case $before in
         --workers) COMPREPLY=($(compgen -W '1 2 4 8 16' -- "$word")) && return ;;
         --only) COMPREPLY=($(compgen -W 'recursion inversion conflict forbidden' -- "$word")) && return ;;
-        --class | --most | --around | --strip | --lines) return ;;
+        --class | --dependency | --most | --around | --strip | --lines) return ;;
         --map | --known | --source) __lockcheck_files "$word" && return ;;
     esac
     case $command in
@@ -44,7 +44,7 @@ _lockgraph() {
         github | junit | sarif) options='--map --strip' ;;
         html) options='--map --source' ;;
         json | ktap) options='--map' ;;
-        list) options='--class --dependencies' ;;
+        list) options='--class --dependencies --dependency' ;;
         new) options='--fixed --known' ;;
         reduce) options='--from --keep-refused' ;;
     esac
