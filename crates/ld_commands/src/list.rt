@@ -31,9 +31,6 @@ Example:
   lockgraph list --class rx_lock run.trace other.trace
   lockgraph list --dependency rx_lock tx_lock run.trace";
 
-/// What the help calls the classes of a dependency.
-const CLASSES: [&str; 2] = ["A", "B"];
-
 /// A dependency, by the names of its classes.
 #[derive(Clone, Copy, Debug, PartialEq, Eq)]
 pub struct Between<'a> {
@@ -60,13 +57,16 @@ pub struct ListWords<'a> {
 pub fn list_command<'a>(alloc: Global) -> Result<Command<'a>, AllocError> {
     let dependency = Arg::new(alloc, "dependency")
         .long("dependency")
-        .value_names(CLASSES.as_slice())
-        .help("The traces that show A -> B, the shortest first")
+        .value_name("CLASS")
+        .help(
+            "The traces in which the second class is acquired under the first one, the shortest first",
+        )
         .num_args(2)
         // Each byte but a blank may begin a name.
         .allow_hyphen_values(true)
         .action(ArgAction::Set)
-        .conflicts_with_all(&["class", "dependencies"])?;
+        .conflicts_with("class")?
+        .conflicts_with("dependencies")?;
     Command::new(alloc, "list")
         .about("Writes the classes that the traces acquire, and what each leads to")
         .after_help(AFTER_LIST)
