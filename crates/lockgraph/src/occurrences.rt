@@ -24,7 +24,7 @@ pub fn occurrences_in<'f>(
     between: Between<'_>,
 ) -> Result<Vec<u8>, Fault<'f>>
     ensures list { IfOk result (λ text. IsOccurrenceList shown.now.files.now
-        (map plain shown.now.sources.now) book.now between.from.now between.to.now text.items) }
+        (map plain shown.now.sources.now) book.now between.entry.from.now between.entry.to.now text.items) }
     ensures unwritten { result ≢ Err Write }
     ensures sound { (fault : StreamFault) → result ≢ Err (Together fault) }
 {
