@@ -175,7 +175,7 @@ class Case:
                 if fields[:1] == ["trace"]:
                     self.traces.append(Lines(fields[1]))
                 elif self.traces:
-                    self.traces[-1].append(read)
+                    self.traces[-1].add(read)
                     self.at[read.number] = read
 
     def run(self, command, *words, status=None):
@@ -188,8 +188,16 @@ class Case:
 
 
 class Lines(list):
-    """The lines of a trace."""
+    """The lines of a trace. If the first one says where the trace comes from, the others are shown there."""
 
     def __init__(self, label):
         super().__init__()
-        self.label = label
+        self.label, self.origin = label, None
+
+    def add(self, line):
+        if not self:
+            self.origin = re.fullmatch(rb"# from ([!-~]+) ([0-9]+)", line.text)
+        elif self.origin:
+            line.file = self.origin[1].decode("ascii")
+            line.file_number = int(self.origin[2]) + line.number - self[0].number
+        self.append(line)
