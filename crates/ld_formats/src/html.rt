@@ -16,8 +16,8 @@ pub(crate) const LINES: Lines = Lines {
     between: "<br>",
 };
 
-/// The report as one page, with the lines of these sources, written by a program of this version. It has its style and its script within it, and its
-/// policy lets a browser load nothing else. Without the script all of it can be read.
+/// The report as one page, with the lines of these sources, written by a program of this version. Its style and its
+/// script are within it, and its policy lets a browser load nothing else. All of it can be read without the script.
 ///
 /// # Errors
 ///
