@@ -181,8 +181,12 @@ def check_explain_nameless(directory):
 
 
 def check_explain_ends(directory):
-    """A name of which there is no more is there once, a file that isn't there is named, and who reads
-    may stop early."""
+    """A name of which there is no more is there once, a file that isn't there is named, without a report
+    there is the usage, and who reads may stop early."""
+    answer = call([EXPLAIN])
+    must((answer.returncode, answer.stdout, answer.stderr) ==
+         (2, "", "record/program/explain: usage: record/program/explain REPORT [STREAM ..]\n"),
+         f"explain of nothing: {answer.returncode} {answer.stdout} {answer.stderr}")
     report = os.path.join(directory, "kernel.report")
     with open(report, "w", encoding="ascii") as lines:
         lines.write("traces 1 refused 0 events 8 classes 2 dependencies 2\n"
