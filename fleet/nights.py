@@ -23,7 +23,7 @@ import urllib.parse
 from typing import NamedTuple
 
 # How the names of streams end: those of compressed ones have another ending behind the first.
-STREAM, PACKED = ".trace", (".gz", ".xz", ".bz2")
+STREAM, PACKED = ".trace", (".gz", ".xz", ".bz2", ".zst")
 STREAMS = (STREAM, *[STREAM + it for it in PACKED])
 REDUCED, COUNTS, FAULTY = ".reduced", ".counts", ".faulty"
 # How the name of a file ends that isn't whole: it is NAME%%HOST.PID.CHANCE.part.

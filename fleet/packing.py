@@ -2,6 +2,9 @@
 import contextlib
 import importlib
 import os
+import shutil
+import signal
+import subprocess
 import tempfile
 import zlib
 
@@ -9,7 +12,9 @@ from nights import PACKED, shown
 
 MIB = 1 << 20
 # The module of Python that reads what has this ending.
-MODULES = dict(zip(PACKED, ("gzip", "lzma", "bz2")))
+MODULES = {".gz": "gzip", ".xz": "lzma", ".bz2": "bz2"}
+# Python has no module for this one, so a program reads it. It takes as much memory as the stream was packed for.
+ZSTD = ("zstd", "--decompress", "--stdout", "--quiet", "--long=31")
 
 
 class Broken(Exception):
@@ -34,6 +39,13 @@ def module_of(path):
 
 def feed_unpacked(path, pipe):
     """Writes what is in a compressed file to a pipe."""
+    if os.path.splitext(path)[1] in MODULES:
+        feed_by_module(path, pipe)
+    else:
+        feed_by_zstd(path, pipe)
+
+
+def feed_by_module(path, pipe):
     module = module_of(path)
     broken = (EOFError, zlib.error, getattr(module, "LZMAError", EOFError))
     with module.open(path, "rb") as file:
@@ -51,6 +63,30 @@ def chunk_of(file, broken):
         if error.errno is not None:
             raise
         raise Broken(error) from None
+
+
+def feed_by_zstd(path, pipe):
+    """The file is read here, so that a fault of the disk is told from one of the bytes."""
+    with open(path, "rb") as file, tempfile.TemporaryFile() as said:
+        try:
+            program = subprocess.Popen(ZSTD, stdin=subprocess.PIPE, stdout=pipe, stderr=said)
+        except FileNotFoundError:
+            raise Missing("the program zstd isn't installed here") from None
+        try:
+            # Its status says why it doesn't read on.
+            with contextlib.suppress(BrokenPipeError):
+                shutil.copyfileobj(file, program.stdin, MIB)
+        except OSError:
+            program.kill()
+            raise
+        finally:
+            with contextlib.suppress(BrokenPipeError):
+                program.stdin.close()
+            program.wait()
+        # Who is fed may have read enough.
+        if program.returncode not in (0, -signal.SIGPIPE):
+            said.seek(0)
+            raise Broken(said.read().decode(errors="replace").strip().rpartition(": ")[2] or "zstd failed")
 
 
 @contextlib.contextmanager

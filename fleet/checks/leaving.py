@@ -3,6 +3,8 @@ import bz2
 import gzip
 import lzma
 import os
+import shutil
+import subprocess
 import time
 
 from rooms import call, fleet, must, night, program, read
@@ -43,7 +45,11 @@ def check_left(room, _count):
         must(read(target, "night.left") == b"", f"left: {does}: an old reason stays")
 
 
-PACKERS = {".gz": gzip.compress, ".xz": lzma.compress, ".bz2": bz2.compress}
+def by_zstd(data):
+    return subprocess.run(("zstd", "-cq"), input=data, stdout=subprocess.PIPE, check=True).stdout
+
+
+PACKERS = {".gz": gzip.compress, ".xz": lzma.compress, ".bz2": bz2.compress, ".zst": by_zstd}
 
 
 def check_packed(room, _count):
@@ -63,7 +69,7 @@ def check_packed(room, _count):
     with open(os.path.join(os.fsencode(streams), b"\xff.trace.gz"), "wb") as file:
         file.write(gzip.compress(b"trace odd\nacquire t C\nacquire t D\n"))
     left += [f"trace z\n# from z.trace.gz 1\n{SECOND}", "trace odd\n# from - 1\nacquire t C\nacquire t D\n"]
-    line = "streams 12 reduced 6 empty 0 faulty 6 left 0 refused 3 violations 2 new 2"
+    line = "streams 15 reduced 7 empty 0 faulty 8 left 0 refused 4 violations 2 new 2"
     said = night(streams, target, status=1, line=line)
     found = read(target, "night.trace").decode()
     must(found == "".join(left), f"packed: left is\n{found}\n{said}")
@@ -77,6 +83,7 @@ def check_packed(room, _count):
     ]
     must(faulty == cut + headless, f"packed: other streams are at fault: {faulty}")
     check_outside(room, streams)
+    check_without_zstd(room, streams)
 
 
 def check_outside(room, streams):
@@ -85,5 +92,16 @@ def check_outside(room, streams):
     ended = call(fleet("map"), "--folder", streams, room.path("other"), "../beside.trace.gz")
     must(
         ended.returncode == 1 and b"is named by its path below the folder" in ended.stderr,
+        f"packed: {ended.stderr.decode()}",
+    )
+
+
+def check_without_zstd(room, streams):
+    """A stream that was compressed by zstd is left with the reason, if there is no zstd."""
+    os.symlink(shutil.which("python3"), os.path.join(room.new("programs"), "python3"))
+    words = (fleet("map"), "--folder", streams, room.path("without"), "rack/m3.trace.zst")
+    ended = call(*words, more={"PATH": room.path("programs")})
+    must(
+        ended.returncode == 1 and b"the program zstd isn't installed here" in ended.stderr,
         f"packed: {ended.stderr.decode()}",
     )
