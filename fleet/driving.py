@@ -221,8 +221,10 @@ class Driver:
         return missing
 
     def join_command(self):
-        group = str(self.words.group)
-        return [os.path.join(HERE, "join"), "--folder", self.night.folder, "--group", group, self.night.path]
+        # A group takes longer than one stream of it: a short limit is for the streams alone.
+        limit = str(max(self.words.limit, LIMIT))
+        options = ["--folder", self.night.folder, "--group", str(self.words.group), "--limit", limit]
+        return [os.path.join(HERE, "join"), *options, self.night.path]
 
     def join(self):
         """Joins what is left of all streams, and answers what they were joined to."""

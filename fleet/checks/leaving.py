@@ -43,6 +43,22 @@ def check_left(room, _count):
         must(left == f"x.trace: {why}\n", f"left: {does}: left is {left}:\n{said}")
         night(streams, target, status=1)
         must(read(target, "night.left") == b"", f"left: {does}: an old reason stays")
+    check_join_hangs(room, streams)
+
+
+def check_join_hangs(room, streams):
+    """A join in which lockgraph hangs is ended, and says why. Another call does it."""
+    ended = call(fleet("map"), "--folder", streams, room.path("hanging"), "x.trace", "y.trace")
+    must(ended.returncode == 0, f"left: {ended.stderr.decode()}")
+    text = f'#!/bin/sh\ncase "$*" in *--help*) exec {program("lockgraph")} "$@" ;; esac\nexec sleep 600\n'
+    more = {"LOCKGRAPH": room.write("hangs", text, 0o755)}
+    ended = call(fleet("join"), "--folder", streams, "--limit", "2", room.path("hanging"), more=more)
+    must(
+        ended.returncode == 1 and b"left: lockgraph took longer than 2 s\n" in ended.stderr,
+        f"left: a join that hangs: status {ended.returncode}: {ended.stderr.decode()}",
+    )
+    ended = call(fleet("join"), "--folder", streams, room.path("hanging"))
+    must(ended.returncode == 0, f"left: {ended.stderr.decode()}")
 
 
 def by_zstd(data):
