@@ -1,10 +1,13 @@
 //! `explain`: why traces are refused, and what stands behind the violations of the others.
-ghost use Rattle.std.specs.Prelude.{◌≡◌, ◌≤◌, Err, IfOk, IfSome};
+ghost use Rattle.std.specs.Prelude.{◌≡◌, ◌≤◌, Err, IfOk, IfSome, false, flat_map, true};
+ghost use Rattle.ld_colours.specs.Colours.{styled};
+ghost use Rattle.ld_trace.specs.Lines.{lines};
 ghost use Rattle.ld_trace.specs.Sources.{sources, stream_fault};
 ghost use Rattle.ld_check.specs.OfReport.Verdict.{VerdictIs};
 ghost use Rattle.ld_files.specs.declared.fault.Fault.TheVariants.{Together};
 
 use ld_check::{Checked, MOST_WORKERS, NoGate, Verdict, check, report_in, verdict_of};
+use ld_colours::coloured;
 use ld_commands::ExplainWords;
 use ld_explain::{Choice, chosen, explain, faults};
 use ld_files::{Fault, Told, find_class, maps_in, maps_of, read_maps, read_streams, write_told};
@@ -17,14 +20,15 @@ use std::rt::Files;
 use std::sync::Wait;
 use std::thread::Threads;
 
-/// Writes what stands behind the violations of the files that are named. May wait.
+/// Writes what stands behind the violations of the files that are named, in colours if these are to be shown. May wait.
 ///
 /// # Errors
 ///
-/// Those of `read_maps`, `maps_in`, `read_streams`, `explained_of` and `write_told`.
+/// Those of `read_maps`, `maps_in`, `read_streams`, `explained_of`, `shown_of` and `write_told`.
 pub fn answer_explain<'a, R: Files + io::Input + Print + AllocGlobal + Threads + Wait + Sync>(
     rt: &R,
     words: &ExplainWords<'a>,
+    colours: bool,
 ) -> Result<Verdict, Fault<'a>> {
     let files = &words.mapped.given.files;
     let texts = read_maps(rt, &words.mapped.maps, files)?;
@@ -46,8 +50,27 @@ pub fn answer_explain<'a, R: Files + io::Input + Print + AllocGlobal + Threads +
         &choice,
         words.mapped.given.workers,
     )?;
+    let told = shown_of(rt.alloc(), told, colours)?;
     let mut output = Std::new(io::writer(rt));
     write_told(&mut output, &told)
+}
+
+/// What is told, with the colours of its text if these are to be shown.
+///
+/// # Errors
+///
+/// `AllocError` if a growth of memory was refused.
+fn shown_of(alloc: Global, told: Told, colours: bool) -> Result<Told, AllocError>
+    ensures verdict { IfOk result (λ shown. shown.verdict ≡ told.entry.verdict) }
+    ensures plain { colours ≡ false → IfOk result (λ shown. shown ≡ told.entry) }
+    ensures coloured { colours ≡ true → IfOk result (λ shown. shown.text.items ≡ flat_map styled (lines told.entry.text.items)) }
+{
+    if !colours {
+        return Ok(told);
+    }
+    let text = coloured(alloc, &told.text)?;
+    let verdict = told.verdict;
+    Ok(Told { text, verdict })
 }
 
 /// What stands behind the violations of these streams, whose traces that many workers read at once. May wait.

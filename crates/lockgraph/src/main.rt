@@ -33,7 +33,9 @@ use reduce::answer_reduce;
 use report::answer_check;
 use rows::{answer_format, answer_json};
 use stats::answer_stats;
+use std::env::VarError;
 use std::fmt::Display;
+use std::io::IsTerminal;
 use std::process::ExitCode;
 use std::rt::{Env, Files};
 use std::sync::Wait;
@@ -58,23 +60,24 @@ fn main(rt: HostRuntime) -> ExitCode {
     };
     match read_words(rt.alloc(), words.as_slice()) {
         Ok(asked) => {
-            let outcome = answer(&rt, &asked);
+            let outcome = answer(&rt, &asked, shows_colours(&rt));
             end(&rt, outcome)
         }
         Err(error) => tell(&rt, error),
     }
 }
 
-/// Does what the words ask for. May wait.
+/// Does what the words ask for, in colours if these are to be shown. May wait.
 fn answer<'a, R: Files + io::Input + Print + AllocGlobal + Threads + Wait + Sync>(
     rt: &R,
     asked: &Asked<'a>,
+    colours: bool,
 ) -> Result<Verdict, Fault<'a>> {
     let outcome = match asked {
         Asked::Check(words) => answer_check(rt, words),
         Asked::Cut(words) => answer_cut(rt, words),
         Asked::Dot(words) => answer_dot(rt, words),
-        Asked::Explain(words) => answer_explain(rt, words),
+        Asked::Explain(words) => answer_explain(rt, words, colours),
         Asked::Format(words) => answer_format(rt, words),
         Asked::Json(words) => answer_json(rt, words),
         Asked::List(words) => answer_list(rt, words),
@@ -98,6 +101,24 @@ fn end<R: Eprint>(rt: &R, outcome: Result<Verdict, Fault<'_>>) -> ExitCode
     match outcome {
         Ok(verdict) => ExitCode::from(verdict.status()),
         Err(fault) => refuse(rt, fault),
+    }
+}
+
+/// Whether standard output shows colours: it is a terminal, which the variable TERM doesn't call `dumb`, and NO_COLOR is
+/// empty or isn't set.
+fn shows_colours(rt: &HostRuntime) -> bool {
+    let is_wanted = match env::var(rt, "NO_COLOR") {
+        Ok(word) => word.is_empty(),
+        Err(error) => error == VarError::NotPresent,
+    };
+    is_wanted && !is_dumb(rt) && rt.stdout().is_terminal()
+}
+
+/// Whether the variable TERM says that the terminal shows plain text alone.
+fn is_dumb(rt: &HostRuntime) -> bool {
+    match env::var(rt, "TERM") {
+        Ok(word) => word.as_str() == "dumb",
+        Err(_) => false,
     }
 }
 
