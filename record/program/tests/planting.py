@@ -6,7 +6,7 @@ import shlex
 import shutil
 import subprocess
 
-HERE = os.path.dirname(os.path.realpath(__file__))
+HERE = os.path.dirname(os.path.dirname(os.path.realpath(__file__)))
 PLANTED = os.path.join(HERE, "planted")
 RUN = os.path.join(HERE, "run")
 EXPLAIN = os.path.join(HERE, "explain")
