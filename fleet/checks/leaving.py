@@ -50,6 +50,7 @@ def check_join_hangs(room, streams):
     """A join in which lockgraph hangs is ended, and says why. Another call does it."""
     ended = call(fleet("map"), "--folder", streams, room.path("hanging"), "x.trace", "y.trace")
     must(ended.returncode == 0, f"left: {ended.stderr.decode()}")
+    room.write("hanging/streams", "x.trace\0y.trace\0")
     text = f'#!/bin/sh\ncase "$*" in *--help*) exec {program("lockgraph")} "$@" ;; esac\nexec sleep 600\n'
     more = {"LOCKGRAPH": room.write("hangs", text, 0o755)}
     ended = call(fleet("join"), "--folder", streams, "--limit", "2", room.path("hanging"), more=more)
