@@ -214,12 +214,36 @@ def check_lost_scheduler(room, words):
     kill_marked(f"{MARK}={room.folder}", "FLEET_NODE=scheduler")
     check_no_worker(room, words)
     address = start_dask(room)
+    check_closed(address)
     threading.Thread(target=lose_the_scheduler, args=[room, target], daemon=True).start()
     ended = call(*words, address, streams, target, more=more)
     said = ended.stderr.decode()
     must(ended.returncode == 2 and "the scheduler is lost" in said, f"dask: status {ended.returncode}:\n{said}")
     ended = call(*words, start_dask(room), streams, target)
     must(ended.stdout.decode() == planted.summary(SMALL) + "\n", f"dask: it doesn't go on:\n{ended.stderr.decode()}")
+
+
+# What a client of Dask is closed before: it begins a round.
+CLOSED = """
+import importlib.machinery, importlib.util, sys
+sys.dont_write_bytecode = True
+loader = importlib.machinery.SourceFileLoader("night", sys.argv[1])
+night = importlib.util.module_from_spec(importlib.util.spec_from_loader("night", loader))
+loader.exec_module(night)
+cluster = night.Cluster(sys.argv[2])
+cluster.client.close()
+try:
+    cluster.start(["true"])
+except night.Wrong as why:
+    print(why)
+"""
+
+
+def check_closed(address):
+    """A scheduler that is lost between two rounds is told, too."""
+    named = {it: program(it.lower()) for it in ("LOCKGRAPH", "LOCKCHECK")}
+    ended = call(PYTHON, "-c", CLOSED, fleet("dask/night"), address, more=named)
+    must(b"the scheduler is lost" in ended.stdout, f"dask: a closed client isn't told:\n{ended.stderr.decode()}")
 
 
 def check_no_worker(room, words):
