@@ -61,9 +61,9 @@ pub fn answer_explain<'a, R: Files + io::Input + Print + AllocGlobal + Threads +
 ///
 /// `AllocError` if a growth of memory was refused.
 fn shown_of(alloc: Global, told: Told, colours: bool) -> Result<Told, AllocError>
-    ensures verdict { IfOk result (λ shown. shown.verdict ≡ told.entry.verdict) }
-    ensures plain { colours ≡ false → IfOk result (λ shown. shown ≡ told.entry) }
-    ensures coloured { colours ≡ true → IfOk result (λ shown. shown.text.items ≡ flat_map styled (lines told.entry.text.items)) }
+    ensures verdict { IfOk result (λ shown. shown.verdict ≡ told.verdict) }
+    ensures plain { colours ≡ false → IfOk result (λ shown. shown ≡ told) }
+    ensures coloured { colours ≡ true → IfOk result (λ shown. shown.text.items ≡ flat_map styled (lines told.text.items)) }
 {
     if !colours {
         return Ok(told);
