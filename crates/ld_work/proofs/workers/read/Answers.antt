@@ -14,7 +14,7 @@ last_is old new source sources behind =
 pub returns-else-is_due : goal.returns-else-is_due
 returns-else-is_due g c = last_is c.args.told.now c.push.new.self (plain c.args.source) c.in_ok-push.ensures.ok c.push.ensures.behind
 
-pub returns : goal.returns
-returns g c =
+pub returns-then-is_due : goal.returns-then-is_due
+returns-then-is_due g c =
     some-ok c.hand_on.result
     (last-on c.args.source.number c.push.new.self c.hand_on.new.self (last_is c.args.told.now c.push.new.self (plain c.args.source) c.in_ok-push.ensures.ok c.push.ensures.behind) c.hand_on.ensures)
