@@ -87,7 +87,7 @@ impl Articles<'_, '_, '_> {
                 self.text.put("\">")?;
                 self.pair(dependency)?;
                 self.text.put(
-                    "</a>: if these locks are taken the other way round, most are solved.",
+                    "</a>. Change that order, and check again: they may have other paths.",
                 )?;
             }
         }

@@ -188,8 +188,8 @@ class Told:
         text += f"Violations that share dependencies: {len(group)}."
         steps = [step for it in group for step in dict.fromkeys(it.steps)]
         most = max(dict.fromkeys(steps), key=steps.count)
-        text += f" Of them {steps.count(most)} have {pair(most)}:"
-        return text + " if these locks are taken the other way round, most are solved."
+        text += f" Of them {steps.count(most)} have {pair(most)}."
+        return text + " Change that order, and check again: they may have other paths."
 
     def article(self, violation):
         text = f"{violation.kind}{title(violation)}{violation.line}"
