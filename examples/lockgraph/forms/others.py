@@ -88,7 +88,7 @@ def sarif(case, prefix=""):
             for step in thread["locations"]:
                 physical(step["location"], prefix)
                 for frame in step.get("stack", {}).get("frames", ()):
-                    physical(frame["location"], prefix)
+                    called(frame["location"], prefix)
     fingerprints = [it["partialFingerprints"]["lockViolation/v1"] for it in run["results"]]
     told_by_sarif(case, run["results"], prefix)
     must(len(set(fingerprints)) == len(fingerprints), "fingerprints differ")
