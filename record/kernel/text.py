@@ -29,6 +29,7 @@ LOSS = re.compile(r'CPU:\d+ \[LOST (?:\d+ )?EVENTS\]\n|##### CPU \d+ buffer star
 ENTRIES = re.compile(r'# entries-in-buffer/entries-written: (\d+)/').match
 TRACER = re.compile(r'# tracer: (.*)\n').fullmatch
 STACK = ' => '  # before each line of a stack trace
+NAME = 16       # columns of a task's name
 
 
 class Damaged(Exception):
@@ -72,7 +73,7 @@ def quote(text):
 
 def is_begun(line):
     """Whether a line may be the begin of an event's: a task's name, with blanks before it, as far as its line end."""
-    return len(line) <= 16 and line[0] == ' ' and not line.startswith(STACK)
+    return len(line) <= NAME and line[0] == ' ' and not line.startswith(STACK)
 
 
 def fault_at_end(line):
