@@ -194,6 +194,13 @@ class OtherFiles(unittest.TestCase):
                 self.assertEqual(file.read(), same.read())
             self.assertFalse(os.path.isfile(pipe))
 
+    def test_a_folder_of_a_text(self):
+        with file_with(GOOD) as name:
+            folder = os.path.dirname(name)
+            result = subprocess.run([CONVERT, folder], capture_output=True, text=True)
+        self.assertEqual((result.returncode, result.stdout), (2, ''))
+        self.assertIn(f'{folder}: a folder without raw pages: name the text in it, as {folder}/trace', result.stderr)
+
     def test_labels(self):
         for label in ('', 'two words', 'x' * 59, 'é'):
             with self.subTest(label=label):
@@ -205,8 +212,9 @@ class Program(unittest.TestCase):
     """The converter as a program of its own."""
 
     def test_standard_input(self):
-        end = subprocess.run([CONVERT], input=GOOD.encode(), capture_output=True)
-        self.assertEqual((end.returncode, end.stdout), (0, b'trace kernel\nacquire t-1 a@1000\n'))
+        for words in ([], ['-']):
+            end = subprocess.run([CONVERT, *words], input=GOOD.encode(), capture_output=True)
+            self.assertEqual((end.returncode, end.stdout), (0, b'trace kernel\nacquire t-1 a@1000\n'))
 
     def test_standard_input_is_read_again(self):
         # What is acquired first is known to have recursive readers by the last line.
