@@ -11,7 +11,7 @@ use crate::telling::Telling;
 use crate::violations::{Dependency, Ends, Step, Violation, at_most};
 use crate::writing::{state_name, write_lock};
 use indexmap::IndexSet;
-use ld_overview::{ClassName, Witness, lock_of_readers, write_held, write_waited};
+use ld_overview::{Book, ClassName, Witness, lock_of_readers, write_held, write_waited};
 use ld_places::ShownPlaces;
 use ld_rows::Kind;
 use ld_source_map::Maps;
@@ -26,7 +26,7 @@ use std::io::Write;
 /// again. The last line says how many are explained, and how many are not: `most` are at most, and all where it is 0.
 /// So many refused traces are told of at most, too.
 ///
-/// `sources` are the traces of their book, each at the place of its number, `places` says where the lines are
+/// `sources` are the traces of their `book`, each at the place of its number, `places` says where the lines are
 /// shown, and `maps` what is known of these files' lines and of classes, which stands below each line and below the
 /// line that first names the class.
 ///
@@ -35,6 +35,7 @@ use std::io::Write;
 /// `AllocError` where a growth of memory was refused.
 pub fn explain<'t, 'a>(
     alloc: Global,
+    book: &'t Book<'a>,
     faults: &[Fault],
     violations: &[Violation<'_, 'a>],
     most: u64,
@@ -53,6 +54,7 @@ pub fn explain<'t, 'a>(
     let texts = Texts::of(alloc, sources, sightings.lines(alloc)?)?;
     wanted.told(Telling {
         alloc,
+        book,
         sources,
         places,
         maps,
@@ -244,13 +246,14 @@ impl<'t, 'a> Explaining<'t, 'a> {
     }
 
     /// What the first occurrences of a cycle's dependencies have in common: their task, and the locks that are held at
-    /// each.
+    /// each and exclude their tasks.
     fn common(&mut self, steps: &[Step<'a>]) -> Result<(), AllocError> {
         let all = if steps.len() == 2 { "both" } else { "all" };
         if are_by_one_task(self.telling.sightings, steps) {
             writeln!(self.telling.text, "  {all} by one task").map_err(|_| AllocError)?;
         }
-        let locks = common_locks(self.telling.alloc, self.telling.sightings, steps)?;
+        let telling = &self.telling;
+        let locks = common_locks(telling.alloc, telling.book, telling.sightings, steps)?;
         for held in &locks {
             write!(self.telling.text, "  {all} under ").map_err(|_| AllocError)?;
             write_lock(&mut self.telling.text, held)?;

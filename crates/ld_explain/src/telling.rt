@@ -4,7 +4,7 @@ use crate::known::{known_at, write_known_line};
 use crate::readers::{Held, holds_in, innermost};
 use crate::sightings::{Sightings, Texts};
 use crate::writing::{state_name, write_lock, write_place};
-use ld_overview::Witness;
+use ld_overview::{Book, Witness};
 use ld_places::ShownPlaces;
 use ld_replay::{Before, Flag, task_of};
 use ld_source_map::Maps;
@@ -16,6 +16,8 @@ use std::io::Write;
 #[derive(Drop)]
 pub struct Telling<'t, 'a> {
     pub alloc: Global,
+    /// What all traces show.
+    pub book: &'t Book<'a>,
     /// The traces, each at the place of its number.
     pub sources: &'t [Source<'a>],
     /// Where their lines are shown.

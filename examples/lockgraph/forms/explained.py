@@ -76,7 +76,9 @@ class Explained(Shown):
             found = [[it for it in self.frame(one) if it[0] == name] for one in seen]
             if all(found) and ("@" not in name or self.is_one_trace(seen)):
                 is_written = any(it[1] for one in found for it in one[:1])
-                yield f"  {word} under {name}{' (written)' if is_written else ''}"
+                # Recursive readers of a lock are let in together.
+                if is_written or (name.partition("@")[0] + "!read", 0) not in self.facts.classes:
+                    yield f"  {word} under {name}{' (written)' if is_written else ''}"
 
     def is_one_trace(self, seen):
         return any(all(it.line in trace for it in seen) for trace in self.case.traces)
