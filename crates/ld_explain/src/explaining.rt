@@ -313,6 +313,6 @@ impl<'t, 'a> Explaining<'t, 'a> {
             return Ok(());
         }
         let maps = self.telling.maps;
-        write_known_class(&mut self.telling.text, maps, name)
+        write_known_class(self.telling.alloc, &mut self.telling.text, maps, name)
     }
 }

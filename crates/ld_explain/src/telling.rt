@@ -3,7 +3,7 @@
 use crate::known::{known_at, write_known_line};
 use crate::readers::{Held, holds_in, innermost};
 use crate::sightings::{Sightings, Texts};
-use crate::writing::{state_name, write_lock, write_place};
+use crate::writing::{state_name, write_lock, write_place, write_visible};
 use ld_overview::{Book, Witness};
 use ld_places::ShownPlaces;
 use ld_replay::{Before, Flag, task_of};
@@ -86,11 +86,10 @@ impl<'t, 'a> Telling<'t, 'a> {
     pub fn line(&mut self, number: u64, line: u64) -> Result<(), AllocError> {
         write_place(&mut self.text, self.places, line)?;
         self.text.extend_from_slice(b": ")?;
-        self.text
-            .extend_from_slice(self.texts.at(Witness { number, line }))?;
+        write_visible(&mut self.text, self.texts.at(Witness { number, line }))?;
         self.text.push(b'\n')?;
         match known_at(self.places, self.maps, line) {
-            Some(at) => write_known_line(&mut self.text, at),
+            Some(at) => write_known_line(self.alloc, &mut self.text, at),
             None => Ok(()),
         }
     }
