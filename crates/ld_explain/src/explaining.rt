@@ -227,7 +227,8 @@ impl<'t, 'a> Explaining<'t, 'a> {
         write_waited(&mut self.telling.text, dependency.to)
     }
 
-    /// A dependency at its first witness, with the locks that its task held there in the same frame.
+    /// A dependency at its first witness, with the locks that its task held there in the same frame, and the handlers that
+    /// it was in.
     fn step(&mut self, step: Step<'a>) -> Result<(), AllocError> {
         self.telling.text.extend_from_slice(b"  ")?;
         self.dependency(step.dependency)?;
@@ -242,7 +243,8 @@ impl<'t, 'a> Explaining<'t, 'a> {
             return Ok(());
         };
         self.telling.seen(step.first, before)?;
-        self.telling.holds(step.first.number, before)
+        self.telling.holds(step.first.number, before)?;
+        self.telling.handlers(step.first.number, before)
     }
 
     /// What the first occurrences of a cycle's dependencies have in common: their task, and the locks that are held at
@@ -277,7 +279,7 @@ impl<'t, 'a> Explaining<'t, 'a> {
     }
 
     /// Where a lock of its class was held while such a handler could interrupt, the locks of the class that
-    /// its task held there already, in whatever frame, and since when such a handler could.
+    /// its task held there already, in whatever frame, the handlers that it was in, and since when such a handler could.
     fn exposed_end(&mut self, ends: &Ends<'a>) -> Result<(), AllocError> {
         self.telling.text.extend_from_slice(b"  ")?;
         write_held(&mut self.telling.text, ends.exposed)?;
@@ -298,6 +300,7 @@ impl<'t, 'a> Explaining<'t, 'a> {
                 self.telling.hold(number, &Held::of(hold))?;
             }
         }
+        self.telling.handlers(number, before)?;
         let flags = before.flags();
         self.telling.flag(number, State::Hard, flags.hard)?;
         match ends.state {
