@@ -3,7 +3,6 @@ ghost use Rattle.std.specs.Prelude.{◌≡◌, ◌≤◌, ◌<◌, ◌++◌, ℕ
 ghost use Rattle.std.specs.List.{Contains, last_or};
 ghost use Rattle.ld_trace.specs.Sources.{AreNumbered, Fits, PlainSource, plain};
 ghost use Rattle.ld_tickets.specs.Draw.{IsSeatOf};
-ghost use Rattle.ld_work.specs.Inner.Seen.{AreOne};
 ghost use Rattle.ld_work.specs.Inner.Uneven.{IsUneven};
 ghost use Rattle.ld_work.specs.Work.{ListsEachOnce};
 
@@ -169,7 +168,6 @@ fn feed<
     requires numbered { AreNumbered (map plain sources.now) }
     requires fit { All (λ source. Fits (plain source)) sources.now }
     requires scope { All (λ source. S.may_list (plain source)) sources.now }
-    requires one { AreOne S.may_list }
     requires history { IsSome H.history }
     ensures { IfOk result (λ fed. length fed.items ≡ length feeders.items) }
 {
@@ -245,7 +243,6 @@ fn run<
     requires numbered { AreNumbered (map plain sources.now) }
     requires fit { All (λ source. Fits (plain source)) sources.now }
     requires scope { All (λ source. S.may_list (plain source)) sources.now }
-    requires one { AreOne S.may_list }
     requires history { IsSome H.history }
     ensures { IfOk result (λ done. length done.items ≡ length jobs.items) }
 {
@@ -272,7 +269,6 @@ fn run_one<'a, T: Ledger, E: Ledger, S: Scope, H: Room, G: Gate, R: Wait>(
     requires numbered { AreNumbered (map plain sources.now) }
     requires fit { All (λ source. Fits (plain source)) sources.now }
     requires scope { All (λ source. S.may_list (plain source)) sources.now }
-    requires one { AreOne S.may_list }
     requires history { IsSome H.history }
 {
     let Job {
