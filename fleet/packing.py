@@ -15,14 +15,15 @@ MIB = 1 << 20
 MODULES = {".gz": "gzip", ".xz": "lzma", ".bz2": "bz2"}
 # Python has no module for this one, so a program reads it. It takes as much memory as the stream was packed for.
 ZSTD = ("zstd", "--decompress", "--stdout", "--quiet", "--long=31")
+SHORT_OF_MEMORY = b"not enough memory"
 
 
 class Broken(Exception):
     """The bytes of a file aren't a whole compressed stream."""
 
 
-class Missing(Exception):
-    """What is needed to decompress a file isn't there."""
+class Unable(Exception):
+    """A file can't be decompressed here and now: what does that isn't there, or failed itself."""
 
 
 def is_packed(name):
@@ -34,7 +35,7 @@ def module_of(path):
     try:
         return importlib.import_module(name)
     except ImportError:
-        raise Missing(f"Python's module {name} isn't installed here") from None
+        raise Unable(f"Python's module {name} isn't installed here") from None
 
 
 def feed_unpacked(path, pipe):
@@ -71,7 +72,7 @@ def feed_by_zstd(path, pipe):
         try:
             program = subprocess.Popen(ZSTD, stdin=subprocess.PIPE, stdout=pipe, stderr=said)
         except FileNotFoundError:
-            raise Missing("the program zstd isn't installed here") from None
+            raise Unable("the program zstd isn't installed here") from None
         try:
             # Its status says why it doesn't read on.
             with contextlib.suppress(BrokenPipeError):
@@ -83,10 +84,21 @@ def feed_by_zstd(path, pipe):
             with contextlib.suppress(BrokenPipeError):
                 program.stdin.close()
             program.wait()
-        # Who is fed may have read enough.
-        if program.returncode not in (0, -signal.SIGPIPE):
-            said.seek(0)
-            raise Broken(said.read().decode(errors="replace").strip().rpartition(": ")[2] or "zstd failed")
+        said.seek(0)
+        look_at_end(program.returncode, said.read())
+
+
+def look_at_end(status, said):
+    """Tells how zstd ended, with what it said, as a fault of the bytes or as one of its own."""
+    # The reader of what it writes may have read enough.
+    if status in (0, -signal.SIGPIPE):
+        return
+    why = said.decode(errors="replace").strip().rpartition(": ")[2]
+    # It ends with 1 if the bytes are at fault, but also if it can't have the memory that they were packed for.
+    if status == 1 and SHORT_OF_MEMORY not in said:
+        raise Broken(why or "zstd failed")
+    how = f"ended by signal {-status}" if status < 0 else f"status {status}"
+    raise Unable(f"zstd: {why or how}")
 
 
 @contextlib.contextmanager
@@ -96,7 +108,7 @@ def folder_of_input(name):
     with tempfile.TemporaryDirectory(prefix="fleet-") as folder:
         path = os.path.join(folder, name)
         if not os.path.realpath(path).startswith(os.path.realpath(folder) + os.sep):
-            raise Missing(f"{shown(name)}: a compressed stream is named by its path below the folder")
+            raise Unable(f"{shown(name)}: a compressed stream is named by its path below the folder")
         os.makedirs(os.path.dirname(path), exist_ok=True)
         os.symlink("/dev/stdin", path)
         yield folder

@@ -9,7 +9,7 @@ import subprocess
 import threading
 
 from nights import COUNTS, FAULTY, REDUCED, Counts, Wrong, is_counted, is_regular, shown, stamp_of, whole
-from packing import Broken, Missing, feed_unpacked, folder_of_input, is_packed
+from packing import Broken, Unable, feed_unpacked, folder_of_input, is_packed
 
 ROOT = os.path.dirname(os.path.dirname(os.path.realpath(__file__)))
 # `lockgraph reduce` ends with 2 for each fault, and only these are the stream's own: what it lacks memory or room for,
@@ -193,7 +193,7 @@ def run_packed(reducer, night, name, options, out):
             return reducer.run([*options, word_of(name) if is_utf8(name) else "-"], out, folder, feed=feed)
     except Broken as why:
         raise Faulty(f"{shown(name)}: it can't be decompressed: {why}") from None
-    except Missing as why:
+    except Unable as why:
         raise Failed(str(why)) from None
 
 

@@ -22,6 +22,15 @@ REASONS = [
     ("exec sleep 600", "lockgraph took longer than 6 s"),
     ('kill -9 "$PPID"', "no task has said why"),
 ]
+SHORT = "Allocation error : not enough memory"
+# What stands for zstd: what it does each time, if it is there at all, and what is said of the stream then.
+FAILING = [
+    (None, "the program zstd isn't installed here"),
+    (f"echo 'zstd: error 11 : {SHORT}' >&2; exit 11", "zstd: not enough memory"),
+    (f"echo '/*stdin* : Decoding error (36) : {SHORT}' >&2; exit 1", "zstd: not enough memory"),
+    ("exit 104", "zstd: status 104"),
+    ("kill -9 $$", "zstd: ended by signal 9"),
+]
 FIRST, SECOND = "acquire t A\nacquire t B\n", "acquire t B\nacquire t A\n"
 
 
@@ -100,7 +109,7 @@ def check_packed(room, _count):
     ]
     must(faulty == cut + headless, f"packed: other streams are at fault: {faulty}")
     check_outside(room, streams)
-    check_without_zstd(room, streams)
+    check_failing_zstd(room, streams)
 
 
 def check_outside(room, streams):
@@ -113,12 +122,20 @@ def check_outside(room, streams):
     )
 
 
-def check_without_zstd(room, streams):
-    """A stream that was compressed by zstd is left with the reason, if there is no zstd."""
-    os.symlink(shutil.which("python3"), os.path.join(room.new("programs"), "python3"))
-    words = (fleet("map"), "--folder", streams, room.path("without"), "rack/m3.trace.zst")
-    ended = call(*words, more={"PATH": room.path("programs")})
-    must(
-        ended.returncode == 1 and b"the program zstd isn't installed here" in ended.stderr,
-        f"packed: {ended.stderr.decode()}",
-    )
+def check_failing_zstd(room, streams):
+    """A stream that was compressed by zstd is left with the reason, if there is no zstd or it fails itself. With one
+    that doesn't, the same call reduces it."""
+    words = (fleet("map"), "--folder", streams, room.path("failing"), "rack/m3.trace.zst")
+    for does, why in FAILING:
+        room.new("failing")
+        programs = room.new("programs")
+        os.symlink(shutil.which("python3"), os.path.join(programs, "python3"))
+        if does:
+            room.write("programs/zstd", f"#!/bin/sh\n{does}\n", 0o755)
+        ended = call(*words, more={"PATH": programs})
+        must(
+            ended.returncode == 1 and f"left: {why}\n" in ended.stderr.decode(),
+            f"packed: zstd that does {does}: status {ended.returncode}: {ended.stderr.decode()}",
+        )
+        ended = call(*words)
+        must(ended.returncode == 0, f"packed: after a zstd that does {does}: {ended.stderr.decode()}")

@@ -6,7 +6,7 @@ ghost use Rattle.ld_work.specs.Work.{ListsEachOnce};
 
 use ld_report::Book;
 use ld_trace::{Source, StreamFault, split};
-use ld_work::{Gate, MOST_FEEDERS, WorkFault, work};
+use ld_work::{Gate, MOST_FEEDERS, Portion, WorkFault, work_by};
 use std::alloc::{AllocError, Global};
 use std::sync::Wait;
 use std::thread::Threads;
@@ -59,7 +59,7 @@ pub fn check<'a, G: Gate + Sync, R: Threads + Wait + Sync>(
         stream_fault bytes.entry.now ≡ Some fault }
 {
     let sources = split(alloc, bytes)?;
-    let book = work(rt, alloc, &sources, workers, gate)?;
+    let book = work_by(rt, alloc, &sources, workers, Portion::Bytes, gate)?;
     Ok(Checked { sources, book })
 }
 

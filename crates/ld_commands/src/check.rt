@@ -1,15 +1,15 @@
-//! The words of `check`.
+//! The arguments of `check`.
 
 use crate::words::{Given, count_of_workers, named_files, read_given};
 use clap::{ArgMatches, Command, Error};
 use std::alloc::{AllocError, Global};
 
-/// What the help of `check` says behind its words.
+/// The end of the help of `check`, below its arguments.
 const AFTER_CHECK: &str = "\
-Writes the report that lockcheck writes of the files as one stream, one after another: T:L counts lines over all of
-them. A fault of a file is told with its name.
+The report is the one that lockcheck writes of the files as one stream: L of T:L counts lines over all of them. An error
+names its file.
 
-Exit status: as lockcheck's.
+Exit status: that of lockcheck.
 
 Example:
   lockgraph check run.trace other.trace";
@@ -24,13 +24,13 @@ pub struct CheckWords<'a> {
 /// `check [--workers N] [FILE]..`.
 pub fn check_command<'a>(alloc: Global) -> Result<Command<'a>, AllocError> {
     Command::new(alloc, "check")
-        .about("Writes lockcheck's report of files")
+        .about("Print lockcheck's report of files")
         .after_help(AFTER_CHECK)
         .arg(count_of_workers(alloc))?
         .arg(named_files(alloc))
 }
 
-/// What the words behind `check` ask for.
+/// What the arguments of `check` ask for.
 ///
 /// # Errors
 ///

@@ -1,20 +1,20 @@
-//! The words of `cut`.
+//! The arguments of `cut`.
 
 use crate::words::{Given, named_files, read_given};
 use clap::{Arg, ArgAction, ArgMatches, Command, Error, value_parser};
 use std::alloc::{AllocError, Global};
 
-/// How many lines a piece has where no word says it.
+/// How many lines a piece has by default.
 const DEFAULT_LINES: usize = 200;
 
-/// What the help of `cut` says behind its words.
+/// The end of the help of `cut`, below its arguments.
 const AFTER_CUT: &str = "\
-Writes each trace as pieces, each but the last one with N of its lines. A piece begins with lines of the trace that
-carry over which handlers each task is in, its flags, and the locks that it holds. The pieces of a trace LABEL are LABEL,
-LABEL.2, LABEL.3 and so on. The stream has the same classes, dependencies and usage bits as before. A trace that is
-rejected is written whole. Of long traces, reduce leaves less once they are cut.
+Each piece has N lines of the trace, except the last one, which may have fewer. A later piece begins with lines of the
+trace that carry over each task's open handlers, flags and held locks. The pieces of a trace LABEL are LABEL, LABEL.2,
+LABEL.3 and so on. The stream has the same classes, dependencies and usage bits as before. A rejected trace is written
+whole. Of long traces, reduce leaves less if they are cut first.
 
-Exit status: 0, or 2 where there is no whole answer.
+Exit status: 0, or 2 if there is no whole answer.
 
 Example:
   lockgraph cut --lines 200 run.trace | lockgraph reduce > reduced.trace";
@@ -33,18 +33,18 @@ pub fn cut_command<'a>(alloc: Global) -> Result<Command<'a>, AllocError> {
     let lines = Arg::new(alloc, "lines")
         .long("lines")
         .value_name("N")
-        .help("How many lines of a trace a piece has, at least 1")
+        .help("How many lines of a trace each piece has, at least 1")
         .action(ArgAction::Set)
         .default_value("200")
         .value_parser(value_parser!(usize).range(1..));
     Command::new(alloc, "cut")
-        .about("Writes each trace as pieces that show the same together, as a stream")
+        .about("Write each trace as pieces that show the same, as a stream")
         .after_help(AFTER_CUT)
         .arg(lines)?
         .arg(named_files(alloc))
 }
 
-/// What the words behind `cut` ask for.
+/// What the arguments of `cut` ask for.
 ///
 /// # Errors
 ///

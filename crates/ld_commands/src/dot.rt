@@ -1,4 +1,4 @@
-//! The words of `dot`.
+//! The arguments of `dot`.
 
 use crate::explain::class_named;
 use crate::mapped::{Mapped, named_map, read_mapped};
@@ -7,22 +7,22 @@ use clap::error::ErrorKind;
 use clap::{Arg, ArgAction, ArgMatches, Command, Error, value_parser};
 use std::alloc::{AllocError, Global};
 
-/// How far a neighbourhood goes where no word says it.
+/// How far a neighbourhood goes by default.
 const DEFAULT_AROUND: u64 = 1;
 
-/// What the help of `dot` says behind its words.
+/// The end of the help of `dot`, below its arguments.
 const AFTER_DOT: &str = "\
-Writes a graph in the language of Graphviz. A class is a node, with its usage characters. A dependency is an edge,
-with the trace and FILE:LINE at which it was first seen. Recursions and the steps of inversions are red, other
-steps of forbidden paths orange, and the ends of a conflict have a double line around them. The class L!read, for
-which recursive readers of L wait, stands as !read in a box with the name L. With --map, or a map FILE.places beside
-FILE, the tooltip of an edge has the function and the source line, and the calls that led there.
+A node is a class, with its usage characters. An edge is a dependency, with the trace and FILE:LINE of its first
+occurrence. Recursions and the dependencies of inversions are red, other steps of forbidden paths orange. A class with
+a conflict has two lines around it. The class L!read, for which recursive readers of L wait, is the node !read in a
+box with the name L. With --map, or a map FILE.places beside FILE, the tooltip of an edge has the function, the source
+line and the calls that led there.
 
-Without --class and --all it shows what stands on violations. --class NAME shows the class and all that is at most
-N steps away from it, in either direction, and the dependencies between these.
+By default only the classes and dependencies of violations are drawn. --class NAME draws the class, everything that is
+at most N dependencies away from it in either direction, and the dependencies between these.
 
-Exit status, whatever is shown: 1 where there is a violation, 3 where there is none and a trace is refused, 0
-else, 2 where there is no whole answer.
+Exit status, whatever is drawn: 1 for violations, 3 for none but a rejected trace, 0 otherwise, 2 if there is no whole
+answer.
 
 Example:
   lockgraph dot run.trace | dot -Tsvg > run.svg";
@@ -41,7 +41,7 @@ pub struct Around<'a> {
 pub struct DotWords<'a> {
     /// The neighbourhood that is drawn alone; `None` for all of what is drawn.
     pub around: Option<Around<'a>>,
-    /// Whether all classes and dependencies are drawn, and not what stands on violations alone.
+    /// Whether all classes and dependencies are drawn, and not only those of violations.
     pub all: bool,
     /// The files with the streams, and their maps.
     pub mapped: Mapped<'a>,
@@ -51,22 +51,22 @@ pub struct DotWords<'a> {
 pub fn dot_command<'a>(alloc: Global) -> Result<Command<'a>, AllocError> {
     let all = Arg::new(alloc, "all")
         .long("all")
-        .help("All classes and all dependencies")
+        .help("Draw all classes and dependencies")
         .action(ArgAction::SetTrue)
         .conflicts_with("class")?;
     let class = Arg::new(alloc, "class")
         .long("class")
         .value_name("NAME")
-        .help("What is around this class, NAME or NAME/N")
+        .help("Draw what is near this class, NAME or NAME/N")
         .action(ArgAction::Set);
     let around = Arg::new(alloc, "around")
         .long("around")
         .value_name("N")
-        .help("How many steps away from it, 1 without this")
+        .help("Draw what is at most N dependencies away from the class; the default is 1")
         .action(ArgAction::Set)
         .value_parser(value_parser!(u64));
     Command::new(alloc, "dot")
-        .about("Draws classes and dependencies, in the language of Graphviz")
+        .about("Draw classes and dependencies as a graph for Graphviz")
         .after_help(AFTER_DOT)
         .arg(all)?
         .arg(class)?
@@ -76,11 +76,11 @@ pub fn dot_command<'a>(alloc: Global) -> Result<Command<'a>, AllocError> {
         .arg(named_files(alloc))
 }
 
-/// What the words behind `dot` ask for.
+/// What the arguments of `dot` ask for.
 ///
 /// # Errors
 ///
-/// Those of `read_words`, and where `--around` stands without `--class`.
+/// Those of `read_words`, and if `--around` is given without `--class`.
 pub fn read_dot<'a>(
     alloc: Global,
     command: &mut Command<'a>,
@@ -95,7 +95,7 @@ pub fn read_dot<'a>(
         None if steps.is_some() => {
             return Err(command.error(
                 ErrorKind::MissingRequiredArgument,
-                "--around is without --class",
+                "--around needs --class",
             )?);
         }
         None => None,

@@ -1,4 +1,4 @@
-//! The words of `explain`.
+//! The arguments of `explain`.
 
 use crate::mapped::{Mapped, named_map, read_mapped};
 use crate::words::{count_of_workers, named_files};
@@ -9,36 +9,36 @@ use std::alloc::{AllocError, Global};
 /// The names of the kinds of violations.
 const KINDS: [&str; 4] = ["recursion", "inversion", "conflict", "forbidden"];
 
-/// How many violations are explained where no word says it.
+/// How many violations are explained by default.
 const DEFAULT_MOST: u64 = 20;
 
-/// What the help of `explain` says behind its words.
+/// The end of the help of `explain`, below its arguments.
 const AFTER_EXPLAIN: &str = "\
-Under the line of each violation stand the dependencies of its cycle or path, in turn, each where it was first
-seen: the trace's label, the task, FILE:LINE and what the line says, and the locks that the task held there in
-the same handler, or outside any, each with the line of its acquisition. Of a conflict and of a forbidden path
-both ends follow: where a handler acquires the class, and which handlers its task was in; and where the class is
-held while handlers can interrupt, and since when they could.
+Each violation has its line of the report, followed by the dependencies of its cycle or path. A dependency is shown at
+its first occurrence: the label of the trace, the task, FILE:LINE and the event there. Below it are the locks that the
+task held in the same handler, or outside any, each with its acquisition. A conflict and a forbidden path also have
+both ends: where a handler acquires the class, with the handlers that the task is in; and where the class is held with
+interrupts enabled, and since when they are.
 
 The class L!read, for which recursive readers of L wait, is shown as L (read) if a task waits for it, and as
 L (written) if a task holds it.
 
-With --map, which may stand several times, the files have maps in turn, as the recorders write them: STREAM.places
-of a program, or what convert --map wrote of a kernel; an empty one, as /dev/null, says nothing. Below each line
-stands then the function and the source line, or the line of the recording; and below a class, where it is first
-named, what its locks are and where they are acquired most.
+If the first occurrences of an inversion are by one task of one trace, or under a common lock, a line says so. It
+begins with `both`, or `all` for more than two dependencies.
 
-Of an inversion it is told if all of these were by one task of one trace, and which locks were held at each of them:
-`both` of two dependencies, `all` of more.
+With a map each line has its function and source line below it, or the line of the kernel's recording. A class has,
+where it is first named, what its locks are and where they are acquired most. The recorders write maps: STREAM.places
+for a program, the file of convert --map for a kernel. The first --map belongs to the first file, and so on. A file
+without one has the map FILE.places, if that is there. --map /dev/null leaves it out.
 
-Traces that are refused come first, unless --only or --class choose violations: the faulty line, what its verb takes and
-what was found, and what the task had open there.
+Rejected traces come first, unless --only or --class choose violations. Each has the faulty line, what its verb takes,
+what is wrong there, and what the task had open.
 
-Violations that share dependencies stand together, and the heading names the one that most of them have. What
-was told before is `above`. The last line says how many violations are explained, and how many are not.
+Violations that share dependencies are grouped, below the dependency that most of them have. What was shown before is
+marked `above`. The last line counts the violations that are explained, and those that are not.
 
-Exit status, whatever is chosen: 1 where there is a violation, 3 where there is none and a trace is refused, 0
-else, 2 where there is no whole answer.
+Exit status, whatever is chosen: 1 for violations, 3 for none but a rejected trace, 0 otherwise, 2 if there is no whole
+answer.
 
 Example:
   lockgraph explain --class rx_lock --most 5 run.trace other.trace
@@ -60,13 +60,13 @@ pub struct ExplainWords<'a> {
 /// `explain [--only KIND] [--class NAME] [--most N] [--map FILE].. [--workers N] [FILE]..`.
 pub fn explain_command<'a>(alloc: Global) -> Result<Command<'a>, AllocError> {
     Command::new(alloc, "explain")
-        .about("Says what stands behind each violation: who held what where")
+        .about("Explain each violation: who held what, and where")
         .after_help(AFTER_EXPLAIN)
         .arg(
             Arg::new(alloc, "only")
                 .long("only")
                 .value_name("KIND")
-                .help("The violations of this kind alone")
+                .help("Only violations of this kind")
                 .action(ArgAction::Set)
                 .value_parser(KINDS.as_slice()),
         )?
@@ -74,14 +74,14 @@ pub fn explain_command<'a>(alloc: Global) -> Result<Command<'a>, AllocError> {
             Arg::new(alloc, "class")
                 .long("class")
                 .value_name("NAME")
-                .help("Those that this class is part of alone, NAME or NAME/N")
+                .help("Only violations with this class, NAME or NAME/N")
                 .action(ArgAction::Set),
         )?
         .arg(
             Arg::new(alloc, "most")
                 .long("most")
                 .value_name("N")
-                .help("How many violations, and refused traces, are explained at most, 0 for all")
+                .help("Explain at most N violations, and N rejected traces, 0 for all")
                 .action(ArgAction::Set)
                 .default_value("20")
                 .value_parser(value_parser!(u64)),
@@ -91,7 +91,7 @@ pub fn explain_command<'a>(alloc: Global) -> Result<Command<'a>, AllocError> {
         .arg(named_files(alloc))
 }
 
-/// What the words behind `explain` ask for.
+/// What the arguments of `explain` ask for.
 ///
 /// # Errors
 ///
@@ -121,7 +121,7 @@ pub fn class_named<'a>(matches: &ArgMatches<'a>) -> Option<&'a [u8]> {
     }
 }
 
-/// The kind of this name; `None` where there is no name.
+/// The kind of this name; `None` without a name.
 fn kind_named(name: Option<&str>) -> Option<Kind> {
     match name {
         Some("recursion") => Some(Kind::Recursion),

@@ -1,4 +1,4 @@
-//! The words of the commands that write for other programs: `sarif`, `github`, `junit`, `ktap` and `html`.
+//! The arguments of the commands that write for other programs: `sarif`, `github`, `junit`, `ktap` and `html`.
 
 use crate::mapped::{Mapped, named_map, read_mapped};
 use crate::words::{VERSION, count_of_workers, named_files};
@@ -7,57 +7,56 @@ use clap::{Arg, ArgAction, ArgMatches, Command, Error};
 use ld_formats::{Format, Stripped};
 use std::alloc::{AllocError, Global};
 
-/// What the help of `sarif` says behind its words.
+/// The end of the help of `sarif`, below its arguments.
 const AFTER_SARIF: &str = "\
-Writes SARIF 2.1.0, as scanners of code do: a result for each violation, with a flow for each step of its cycle or
-path. With --map, as for explain, it points to lines of sources, else to lines of traces.
+The form is SARIF 2.1.0: a result for each violation, with a flow for each step of its cycle or path. With a map, as for
+explain, the locations are source lines, otherwise lines of traces.
 
-Exit status: as lockcheck's.
+Exit status: that of lockcheck.
 
 Example:
   lockgraph sarif --map run.trace.places --strip /home/you/project run.trace > run.sarif";
 
-/// What the help of `github` says behind its words.
+/// The end of the help of `github`, below its arguments.
 const AFTER_GITHUB: &str = "\
-Writes workflow commands of GitHub: an error for each violation, a warning for each refused trace, and a notice of
-how many these are. What a step of a workflow prints so stands beside the lines of the change. With --map, as for
-explain, these are lines of sources, else lines of traces.
+The answer is workflow commands of GitHub: an error for each violation, a warning for each rejected trace, and a notice
+with their numbers. GitHub shows what a step prints in this form beside the lines of the change. With a map, as for
+explain, these are source lines, otherwise lines of traces.
 
-Exit status: as lockcheck's.
+Exit status: that of lockcheck.
 
 Example:
   lockgraph github --map run.trace.places --strip /home/you/project run.trace";
 
-/// What the help of `junit` says behind its words.
+/// The end of the help of `junit`, below its arguments.
 const AFTER_JUNIT: &str = "\
-Writes a suite of tests as JUnit's XML: a case for the traces, and a failed case for each group of violations that
-share dependencies. With --map, as for explain, it names lines of sources too.
+The answer is a test suite as JUnit's XML: a case for the traces, and a failed case for each group of violations that
+share dependencies. With a map, as for explain, it has source lines too.
 
-Exit status: as lockcheck's.
+Exit status: that of lockcheck.
 
 Example:
   lockgraph junit --map run.trace.places --strip /home/you/project run.trace > run.xml";
 
-/// What the help of `ktap` says behind its words.
+/// The end of the help of `ktap`, below its arguments.
 const AFTER_KTAP: &str = "\
-Writes tests as KTAP of version 1, which readers of TAP take too: a test for the traces, and a failed one for each
-group of violations that share dependencies, with what stands behind them in comments.
+The form is KTAP version 1, which readers of TAP take too: a test for the traces, and a failed test for each group of
+violations that share dependencies, with their explanation as comments.
 
-Exit status: as lockcheck's.
+Exit status: that of lockcheck.
 
 Example:
   lockgraph ktap --map run.trace.places run.trace";
 
-/// What the help of `html` says behind its words.
+/// The end of the help of `html`, below its arguments.
 const AFTER_HTML: &str = "\
-Writes one page of HTML: each violation with a picture and what stands behind it, all classes, and all dependencies.
-It needs no network.
+The page needs no network. It has each violation with a picture and its explanation, all classes, and all dependencies.
 
-With --map, as for explain, or FILE.places beside FILE, each line has the calls that led there. With --source, which may
-stand several times, a call also has the lines of its source, two before it and two behind it: of the file below DIR that
-has the longest end of its path.
+With a map, as for explain, each line has the calls that led there. With --source a call also has its source line, two
+before it and two behind it. A recorded path stands for the file below DIR that has the longest end of it. The option
+may be given several times.
 
-Exit status: as lockcheck's.
+Exit status: that of lockcheck.
 
 Example:
   lockgraph html --map run.trace.places --source /home/you/project run.trace > run.html";
@@ -76,7 +75,7 @@ pub struct FormatWords<'a> {
 /// `sarif [--strip PREFIX] [--map MAP].. [--workers N] [FILE]..`.
 pub fn sarif_command<'a>(alloc: Global) -> Result<Command<'a>, AllocError> {
     let command = Command::new(alloc, "sarif")
-        .about("Writes the violations as SARIF, for scanners of code")
+        .about("Write the violations as SARIF, for code scanning")
         .after_help(AFTER_SARIF)
         .arg(prefix(alloc))?;
     with_files(alloc, command)
@@ -85,7 +84,7 @@ pub fn sarif_command<'a>(alloc: Global) -> Result<Command<'a>, AllocError> {
 /// `github [--strip PREFIX] [--map MAP].. [--workers N] [FILE]..`.
 pub fn github_command<'a>(alloc: Global) -> Result<Command<'a>, AllocError> {
     let command = Command::new(alloc, "github")
-        .about("Writes the violations as annotations, for workflows of GitHub")
+        .about("Print the violations as annotations, for GitHub workflows")
         .after_help(AFTER_GITHUB)
         .arg(prefix(alloc))?;
     with_files(alloc, command)
@@ -94,7 +93,7 @@ pub fn github_command<'a>(alloc: Global) -> Result<Command<'a>, AllocError> {
 /// `junit [--strip PREFIX] [--map MAP].. [--workers N] [FILE]..`.
 pub fn junit_command<'a>(alloc: Global) -> Result<Command<'a>, AllocError> {
     let command = Command::new(alloc, "junit")
-        .about("Writes the violations as failed tests, in JUnit's XML")
+        .about("Write the violations as failed tests, in JUnit's XML")
         .after_help(AFTER_JUNIT)
         .arg(prefix(alloc))?;
     with_files(alloc, command)
@@ -103,7 +102,7 @@ pub fn junit_command<'a>(alloc: Global) -> Result<Command<'a>, AllocError> {
 /// `ktap [--map MAP].. [--workers N] [FILE]..`.
 pub fn ktap_command<'a>(alloc: Global) -> Result<Command<'a>, AllocError> {
     let command = Command::new(alloc, "ktap")
-        .about("Writes the violations as failed tests, in KTAP")
+        .about("Print the violations as failed tests, in KTAP")
         .after_help(AFTER_KTAP);
     with_files(alloc, command)
 }
@@ -111,7 +110,7 @@ pub fn ktap_command<'a>(alloc: Global) -> Result<Command<'a>, AllocError> {
 /// `html [--source DIR].. [--map MAP].. [--workers N] [FILE]..`.
 pub fn html_command<'a>(alloc: Global) -> Result<Command<'a>, AllocError> {
     let command = Command::new(alloc, "html")
-        .about("Writes the violations, classes and dependencies as a page of HTML")
+        .about("Write violations, classes and dependencies as a page of HTML")
         .after_help(AFTER_HTML)
         .arg(folder(alloc))?;
     with_files(alloc, command)
@@ -122,20 +121,20 @@ fn prefix<'a>(alloc: Global) -> Arg<'a> {
     Arg::new(alloc, "strip")
         .long("strip")
         .value_name("PREFIX")
-        .help("The folder that paths lose, such as that of a checkout")
+        .help("Make paths below this folder relative, such as a checkout")
         .action(ArgAction::Set)
 }
 
-/// `--source DIR`, which may stand several times.
+/// `--source DIR`, which may be given several times.
 fn folder<'a>(alloc: Global) -> Arg<'a> {
     Arg::new(alloc, "source")
         .long("source")
         .value_name("DIR")
-        .help("A folder of sources, whose lines are shown")
+        .help("Show lines of the sources in this folder")
         .action(ArgAction::Append)
 }
 
-/// The same command, with the words that each of these has.
+/// The same command, with the arguments that each of these has.
 fn with_files<'a>(alloc: Global, command: Command<'a>) -> Result<Command<'a>, AllocError> {
     command
         .arg(named_map(alloc))?
@@ -182,11 +181,11 @@ fn folders<'a>(
     }
 }
 
-/// What the words behind the command of this name ask for.
+/// What the arguments of the command of this name ask for.
 ///
 /// # Errors
 ///
-/// Those of `read_mapped`, and where it is none of these commands.
+/// Those of `read_mapped`, and if it is none of these commands.
 pub fn read_format<'a>(
     alloc: Global,
     command: &mut Command<'a>,

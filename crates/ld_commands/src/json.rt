@@ -1,21 +1,18 @@
-//! The words of `json`.
+//! The arguments of `json`.
 
 use crate::mapped::{Mapped, named_map, read_mapped};
 use crate::words::{count_of_workers, named_files};
 use clap::{ArgMatches, Command, Error};
 use std::alloc::{AllocError, Global};
 
-/// What the help of `json` says behind its words.
+/// The end of the help of `json`, below its arguments.
 const AFTER_JSON: &str = "\
-Writes the report, and what stands behind it, as one JSON object a line. Its kind is traces, refused, dependency,
-usage, recursion, inversion, conflict, forbidden, group or, of the last one, end. docs/report.schema.json
-describes each object, and docs/OUTPUT.md all of them together.
+The kind of an object is traces, refused, dependency, usage, recursion, inversion, conflict, forbidden, group or, of the
+last one, end. docs/report.schema.json describes each object. With a map, as for explain, each line of a trace has the
+calls that led there, or the line of the kernel's recording.
 
-With --map, which may stand several times, the files have maps in turn, as the recorders write them: each line of a
-trace then has the calls that led there, or the line of the recording.
-
-Exit status: as lockcheck's, 1 where there are violations, 3 where there is none and a trace is refused, 0 else,
-2 where there is no whole answer.
+Exit status: that of lockcheck, which is 1 for violations, 3 for none but a rejected trace, 0 otherwise, 2 if there is
+no whole answer.
 
 Example:
   lockgraph json run.trace other.trace > report.jsonl
@@ -31,14 +28,14 @@ pub struct JsonWords<'a> {
 /// `json [--map MAP].. [--workers N] [FILE]..`.
 pub fn json_command<'a>(alloc: Global) -> Result<Command<'a>, AllocError> {
     Command::new(alloc, "json")
-        .about("Writes the report and what stands behind it as one JSON object a line, for tools")
+        .about("Print the report and its explanation as one JSON object a line, for tools")
         .after_help(AFTER_JSON)
         .arg(named_map(alloc))?
         .arg(count_of_workers(alloc))?
         .arg(named_files(alloc))
 }
 
-/// What the words behind `json` ask for.
+/// What the arguments of `json` ask for.
 ///
 /// # Errors
 ///

@@ -1,4 +1,4 @@
-//! The command line of lockgraph: what the words of a call ask for.
+//! The command line of lockgraph: what a call asks for.
 #![tactic(auto)]
 
 mod check;

@@ -1,30 +1,29 @@
-//! The words of `list`.
+//! The arguments of `list`.
 
 use crate::words::{Given, count_of_workers, named_files, read_given};
 use clap::{Arg, ArgAction, ArgMatches, Command, Error};
 use std::alloc::{AllocError, Global};
 
-/// What the help of `list` says behind its words.
+/// The end of the help of `list`, below its arguments.
 const AFTER_LIST: &str = "\
-Writes a line for each class that the traces acquire, in the order of a report:
+There is a line for each class that the traces acquire, in the order of a report:
   CLASS {USAGE} acquired N reached-from N reaches N
-N are how often it is acquired, from how many classes paths of dependencies lead to it, and to how many they
-lead from it; a class on a cycle counts itself. Under it stand with --dependencies those that begin with it,
-each with the place where it was first seen:
+The numbers count its acquisitions, the classes from which a path of dependencies leads to it, and the classes to which
+one leads from it. A class on a cycle counts itself. --dependencies adds below each class the dependencies that begin
+with it, each with its first occurrence:
   -> CLASS at LABEL FILE:LINE
 The class L!read, for which recursive readers of L wait, has the row !read under that of L.
 
-Of one class --class writes where each usage bit was first seen, under which classes it was acquired (under),
-and which ones were acquired under it (over).
+--class lists one class: the first occurrence of each usage bit, the classes that it was acquired under (under), and
+those acquired under it (over). If no trace acquires the class, the status is 2, and standard error names the nearest
+one.
 
-With --dependency it writes how many traces show A -> B, that B was acquired while A was held, and a line for each:
+--dependency A B prints how many traces show A -> B, that B was acquired while A was held, and a line for each:
   lines N at LABEL FILE:LINE
-The trace with the fewest lines comes first, since it is the shortest way to that order. N counts the lines behind
-its header, and LINE is the first one there at which the dependency stands.
+The trace with the fewest lines comes first: it is the shortest way to that order. N counts the lines behind its
+header, and LINE is its first line at which the dependency stands.
 
-A class that no trace acquires is told with the nearest name.
-
-Exit status: 3 where a trace is refused, of which nothing is listed, 0 else, 2 where there is no whole answer.
+Exit status: 3 if a trace is rejected, of which nothing is listed, 0 otherwise, 2 if there is no whole answer.
 
 Example:
   lockgraph list --dependencies run.trace
@@ -59,7 +58,7 @@ pub fn list_command<'a>(alloc: Global) -> Result<Command<'a>, AllocError> {
         .long("dependency")
         .value_name("CLASS")
         .help(
-            "The traces in which the second class is acquired under the first one, the shortest first",
+            "List the traces in which the second class is acquired under the first, the shortest first",
         )
         .num_args(2)
         // Each byte but a blank may begin a name.
@@ -68,19 +67,19 @@ pub fn list_command<'a>(alloc: Global) -> Result<Command<'a>, AllocError> {
         .conflicts_with("class")?
         .conflicts_with("dependencies")?;
     Command::new(alloc, "list")
-        .about("Writes the classes that the traces acquire, and what each leads to")
+        .about("List classes, how often each is acquired, and what it leads to")
         .after_help(AFTER_LIST)
         .arg(
             Arg::new(alloc, "dependencies")
                 .long("dependencies")
-                .help("Under each class the dependencies that begin with it")
+                .help("Add below each class the dependencies that begin with it")
                 .action(ArgAction::SetTrue),
         )?
         .arg(
             Arg::new(alloc, "class")
                 .long("class")
                 .value_name("NAME")
-                .help("This class alone, and what was held around it")
+                .help("List this class alone, NAME or NAME/N, and what was held around it")
                 .action(ArgAction::Set),
         )?
         .arg(dependency)?
@@ -88,7 +87,7 @@ pub fn list_command<'a>(alloc: Global) -> Result<Command<'a>, AllocError> {
         .arg(named_files(alloc))
 }
 
-/// What the words behind `list` ask for.
+/// What the arguments of `list` ask for.
 ///
 /// # Errors
 ///

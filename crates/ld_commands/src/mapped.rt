@@ -1,4 +1,4 @@
-//! The words of commands that maps tell more to.
+//! The arguments of commands that read maps.
 
 use crate::words::{Given, read_given};
 use clap::error::ErrorKind;
@@ -8,27 +8,27 @@ use std::alloc::Global;
 /// Files with streams, and their maps.
 #[derive(Drop)]
 pub struct Mapped<'a> {
-    /// The names of the maps, of the files in turn: no more than there are files. Each other file has the map that
-    /// stands beside it, if there is one.
+    /// The names of the maps, of the files in turn: no more than there are files. Each other file has the map beside
+    /// it, if there is one.
     pub maps: Vec<&'a str>,
     /// The files with the streams, and how they are read.
     pub given: Given<'a>,
 }
 
-/// `--map MAP`, which may stand several times.
+/// `--map MAP`, which may be given several times.
 pub fn named_map<'a>(alloc: Global) -> Arg<'a> {
     Arg::new(alloc, "map")
         .long("map")
         .value_name("MAP")
-        .help("The map that a recorder wrote beside a file, of the files in turn")
+        .help("The map that a recorder wrote of a file; the first map is that of the first file")
         .action(ArgAction::Append)
 }
 
-/// Which files and maps the words name.
+/// Which files and maps the arguments name.
 ///
 /// # Errors
 ///
-/// Those of `read_given`, and where there are more maps than files.
+/// Those of `read_given`, and if there are more maps than files.
 pub fn read_mapped<'a>(
     alloc: Global,
     command: &mut Command<'a>,

@@ -1,29 +1,28 @@
-//! The words of `new`.
+//! The arguments of `new`.
 
 use crate::words::{Given, count_of_workers, named_files, read_given};
 use clap::error::ErrorKind;
 use clap::{Arg, ArgAction, ArgMatches, Command, Error};
 use std::alloc::{AllocError, Global};
 
-/// What the help of `new` says behind its words.
+/// The end of the help of `new`, below its arguments.
 const AFTER_NEW: &str = "\
-Writes the report of the traces without the violations that KNOWN has, a report of before: those of the same
-kind, state and classes, whatever their first occurrences and paths. Then stands `nothing new`, or `new N`.
-T:L counts lines over all files as one stream. Where several are named, comments end the text:
-`# line L is FILE:LINE`, one for each line that it names.
+A violation is known if KNOWN, an earlier report, has one of the same kind, state and classes. First occurrences and
+paths don't matter. The last line is `nothing new`, or `new` and the number of violations that are left. L of T:L
+counts lines over all files as one stream. For several files, comments at the end name the file of each line number:
+`# line L is FILE:LINE`.
 
-A line of KNOWN makes known what it says, in one of these forms, where .. may be anything:
+A line of KNOWN makes a violation known if it has one of these forms, in which .. may be anything:
   recursion A at ..
   inversion A -> B at ..
   conflict STATE A MARKS in ..
   forbidden STATE A MARKS in T:L -> B MARKS on ..
-In A and B each * stands for any bytes, also for none. Its other lines are those of reports, empty ones, and
-comments, which begin with #. A comment at the end says how many of these lines match nothing in the report.
+In A and B each * stands for any bytes, also none. Other lines are those of reports, blank lines, and comments, which
+begin with #. If known lines match nothing, a comment before the last line says how many. --fixed prints these lines
+instead, and then `fixed` and their number, or `nothing fixed`.
 
-With --fixed it writes those lines instead, and then `fixed` with their number, or `nothing fixed`.
-
-Exit status: 1 where a violation is new, 3 where none is and a trace is refused, 0 else, 2 where there is no
-answer. With --fixed it is never 1.
+Exit status: 1 if a violation is new, 3 if none is but a trace is rejected, 0 otherwise, 2 if there is no answer. With
+--fixed it is never 1.
 
 Example:
   lockcheck < run.trace > known.report
@@ -35,7 +34,7 @@ Example:
 pub struct NewWords<'a> {
     /// The name of the known text.
     pub known: &'a str,
-    /// Whether it is told what is known and gone, and not what is new.
+    /// Whether known lines that match nothing are written, and not what is new.
     pub fixed: bool,
     /// The files with the streams, and how they are read.
     pub given: Given<'a>,
@@ -44,27 +43,27 @@ pub struct NewWords<'a> {
 /// `new --known KNOWN [--fixed] [--workers N] [FILE]..`.
 pub fn new_command<'a>(alloc: Global) -> Result<Command<'a>, AllocError> {
     Command::new(alloc, "new")
-        .about("Writes what is new in a report: what no line of a known one says")
+        .about("Print the report without known violations")
         .after_help(AFTER_NEW)
         .arg(
             Arg::new(alloc, "known")
                 .long("known")
                 .value_name("KNOWN")
-                .help("A report of before")
+                .help("The known report")
                 .action(ArgAction::Set)
                 .required(true),
         )?
         .arg(
             Arg::new(alloc, "fixed")
                 .long("fixed")
-                .help("Instead the lines of KNOWN that match nothing in the report")
+                .help("Print the known lines that match nothing, instead of what is new")
                 .action(ArgAction::SetTrue),
         )?
         .arg(count_of_workers(alloc))?
         .arg(named_files(alloc))
 }
 
-/// What the words behind `new` ask for.
+/// What the arguments of `new` ask for.
 ///
 /// # Errors
 ///

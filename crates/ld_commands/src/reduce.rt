@@ -1,19 +1,20 @@
-//! The words of `reduce`.
+//! The arguments of `reduce`.
 
 use crate::words::{Given, count_of_workers, named_files, read_given};
 use clap::{Arg, ArgAction, ArgMatches, Command, Error};
 use std::alloc::{AllocError, Global};
 
-/// What the help of `reduce` says behind its words.
+/// The end of the help of `reduce`, below its arguments.
 const AFTER_REDUCE: &str = "\
-Writes those traces in which a dependency, or a usage bit of a class, was first seen, whole and in their order,
-as a stream: lockcheck gives of it the same violations, with the same labels, and lines counted anew. What is
-joined of reduced streams by cat has the violations of all their traces together, and can be reduced again.
-Classes without dependencies and usage bits may be missing in it, and so may lines before the first header.
---from notes where each trace comes from, unless its first line says so already. The notes stay, however often
-streams are joined and reduced again.
+The traces in which a dependency, or a usage bit of a class, first occurs are written whole and in their order. For this
+stream lockcheck reports the same violations with the same labels, but counts lines anew. Classes without dependencies
+and usage bits may be missing, and so may lines before the first header. Reduced streams can be joined by cat and
+reduced again: the result has the violations of all their traces together.
 
-Exit status: 3 where a refused trace is left out, 0 else, 2 where there is no whole answer.
+--from adds to each trace where it comes from, unless its first line says so already. These comments stay, however
+often streams are joined and reduced again.
+
+Exit status: 3 if a rejected trace is left out, 0 otherwise, 2 if there is no whole answer.
 
 Example:
   lockgraph reduce run.trace other.trace > reduced.trace
@@ -22,7 +23,7 @@ Example:
 /// What `reduce` is asked.
 #[derive(Drop)]
 pub struct ReduceWords<'a> {
-    /// Whether the refused traces are written too.
+    /// Whether rejected traces are written too.
     pub refused: bool,
     /// Whether each trace says where it comes from.
     pub from: bool,
@@ -33,25 +34,25 @@ pub struct ReduceWords<'a> {
 /// `reduce [--from] [--keep-refused] [--workers N] [FILE]..`.
 pub fn reduce_command<'a>(alloc: Global) -> Result<Command<'a>, AllocError> {
     Command::new(alloc, "reduce")
-        .about("Writes the traces that are the first to show something, as a stream")
+        .about("Write the traces that first show a dependency or usage bit, as a stream")
         .after_help(AFTER_REDUCE)
         .arg(
             Arg::new(alloc, "from")
                 .long("from")
-                .help("A line behind each header says where it stands: # from FILE LINE")
+                .help("Write # from FILE LINE behind each header: where the trace comes from")
                 .action(ArgAction::SetTrue),
         )?
         .arg(
             Arg::new(alloc, "keep-refused")
                 .long("keep-refused")
-                .help("Refused traces are written too")
+                .help("Write rejected traces too")
                 .action(ArgAction::SetTrue),
         )?
         .arg(count_of_workers(alloc))?
         .arg(named_files(alloc))
 }
 
-/// What the words behind `reduce` ask for.
+/// What the arguments of `reduce` ask for.
 ///
 /// # Errors
 ///

@@ -1,15 +1,15 @@
-//! The words of `stats`.
+//! The arguments of `stats`.
 
 use crate::words::{Given, count_of_workers, named_files, read_given};
 use clap::{ArgMatches, Command, Error};
 use std::alloc::{AllocError, Global};
 
-/// What the help of `stats` says behind its words.
+/// The end of the help of `stats`, below its arguments.
 const AFTER_STATS: &str = "\
-Writes one figure a line, NAME N: how much was recorded and read, what it shows, and how many violations it
-has of each kind. lockgraph(1) and docs/FORMAT.md say what each figure counts.
+Each line is NAME N: how much was recorded and read, what it shows, and how many violations of each kind there are.
+docs/OUTPUT.md says what each number counts.
 
-Exit status: 3 where a trace is refused, whose events count nowhere, 0 else, 2 where there is no whole answer.
+Exit status: 3 if a trace is rejected, whose events aren't counted, 0 otherwise, 2 if there is no whole answer.
 
 Example:
   lockgraph stats run.trace other.trace";
@@ -24,13 +24,13 @@ pub struct StatsWords<'a> {
 /// `stats [--workers N] [FILE]..`.
 pub fn stats_command<'a>(alloc: Global) -> Result<Command<'a>, AllocError> {
     Command::new(alloc, "stats")
-        .about("Counts what the traces are and show")
+        .about("Count traces, events, classes, dependencies and violations")
         .after_help(AFTER_STATS)
         .arg(count_of_workers(alloc))?
         .arg(named_files(alloc))
 }
 
-/// What the words behind `stats` ask for.
+/// What the arguments of `stats` ask for.
 ///
 /// # Errors
 ///

@@ -1,4 +1,4 @@
-//! The words of the command line.
+//! The command line: its command, and what each command is given.
 ghost use Rattle.std.specs.Prelude.{◌≤◌};
 ghost use Rattle.ld_cli.specs.declared.words.TheConstants.{MOST_WORKERS};
 
@@ -27,19 +27,19 @@ pub(crate) const VERSION: &str = "0.1.0";
 /// The name that stands for standard input.
 pub const STANDARD_INPUT: &str = "-";
 
-/// How many workers there are where no word says it.
+/// How many workers there are by default.
 const DEFAULT_WORKERS: usize = 4;
 
-/// What the help says behind the commands.
+/// The end of the help, below the commands.
 const AFTER_HELP: &str = "\
-Each command reads the named files as one stream of traces, one after another, or standard input where none
-is named. - is standard input too, and may be named once. A file without any trace is refused.
+Each command reads the named files as one stream of traces, one after another, or standard input if none is named.
+- is standard input too, and may be named once. A file without any trace is an error.
 
 Exit status:
-  0  no violation that is told, and no trace is refused
+  0  no violation is reported, and no trace is rejected
   1  violations
   2  no whole answer; standard error says why
-  3  no violation that is told, and a trace is refused
+  3  no violation is reported, but a trace is rejected
 
 Example:
   lockgraph check run.trace other.trace
@@ -110,19 +110,19 @@ pub struct Given<'a> {
     ghost few: { (1 ≤ workers) × (workers ≤ MOST_WORKERS) },
 }
 
-/// What these words of the command line ask for, the first of which is the program's name.
+/// What these arguments ask for, the first of which is the program's name.
 ///
 /// # Errors
 ///
-/// The error's text is for the user: the help or the version where the words ask for it, and else what is
-/// wrong with them, or that memory was refused.
+/// The error's text is for the user: the help or the version if they ask for it, and otherwise what is wrong with them,
+/// or that memory was refused.
 pub fn read_words<'a, S: AsStr>(alloc: Global, words: &'a [S]) -> Result<Asked<'a>, Error> {
     let mut command = command_line(alloc)?;
     let matches = command.try_get_matches_from_mut(words)?;
     read_matches(alloc, &mut command, &matches)
 }
 
-/// What these words ask for, which are matched.
+/// What these matched arguments ask for.
 fn read_matches<'a>(
     alloc: Global,
     command: &mut Command<'a>,
@@ -134,7 +134,7 @@ fn read_matches<'a>(
     }
 }
 
-/// What the words behind the command of this name ask for.
+/// What the arguments of the command of this name ask for.
 fn read_command<'a>(
     alloc: Global,
     command: &mut Command<'a>,
@@ -155,11 +155,11 @@ fn read_command<'a>(
     }
 }
 
-/// What the words name that each command is given. `others` are files that a command reads beside the streams.
+/// What each command is given. `others` are files that a command reads beside the streams.
 ///
 /// # Errors
 ///
-/// Where standard input is named twice, or memory was refused.
+/// If standard input is named twice, or memory was refused.
 pub(crate) fn read_given<'a>(
     alloc: Global,
     command: &mut Command<'a>,
@@ -200,12 +200,10 @@ fn workers(matches: &ArgMatches<'_>) -> usize
     }
 }
 
-/// What the words may say.
+/// The arguments that are taken.
 fn command_line<'a>(alloc: Global) -> Result<Command<'a>, AllocError> {
     let command = Command::new(alloc, "lockgraph")
-        .about(
-            "Answers questions on recorded lock traces, over the report that lockcheck gives of them",
-        )
+        .about("Explain, draw, list and compare recorded lock traces")
         .version(VERSION)
         .after_help(AFTER_HELP)
         .subcommand_required(true);
@@ -238,7 +236,7 @@ pub(crate) fn count_of_workers<'a>(alloc: Global) -> Arg<'a> {
     Arg::new(alloc, "workers")
         .long("workers")
         .value_name("N")
-        .help("How many workers read traces at once, from 1 to 16")
+        .help("How many threads read traces, from 1 to 16")
         .action(ArgAction::Set)
         .default_value("4")
         .value_parser(value_parser!(usize).range(1..=MOST_WORKERS as i64))
@@ -248,7 +246,7 @@ pub(crate) fn count_of_workers<'a>(alloc: Global) -> Arg<'a> {
 pub(crate) fn named_files<'a>(alloc: Global) -> Arg<'a> {
     Arg::new(alloc, "files")
         .value_name("FILE")
-        .help("The files with the traces")
+        .help("Files with traces, - for standard input")
         .action(ArgAction::Append)
         .num_args(0..)
 }

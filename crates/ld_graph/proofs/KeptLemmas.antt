@@ -80,23 +80,11 @@ IsKept-spare g classes edges more_classes more_edges h m n e a b c d r f =
       room_edges = omega (arith, n, e, h.room_edges);
       room_after = (
         omega (arith, m, a, h.room_after.0),
-        omega (
-          arith,
-          n,
-          b,
-          after,
-          h.room_after.1,
-        ),
+        omega (arith, n, b, after, h.room_after.1),
       );
       room_before = (
         omega (arith, m, c, h.room_before.0),
-        omega (
-          arith,
-          n,
-          d,
-          before,
-          h.room_before.1,
-        ),
+        omega (arith, n, d, before, h.room_before.1),
       );
       room_ranks = omega (arith, m, r, h.room_ranks);
       few = omega (arith, m, f, h.few);

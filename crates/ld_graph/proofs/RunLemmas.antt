@@ -175,12 +175,7 @@ module _ (runs : List Run) (old : List ℕ) (count c : ℕ) (h : AreRuns runs ol
       many =
           let f = h.fits c l in let a = f.0 in let b = f.2
           in let d = length-drop (run_at runs c).start old in
-          length-take-le (run_at runs c).len (drop (run_at runs c).start old) (omega (
-            arith,
-            a,
-            b,
-            d,
-          ))
+          length-take-le (run_at runs c).len (drop (run_at runs c).start old) (omega (arith, a, b, d))
 
       tail : new ≡ old ++ (items_of old (run_at runs c) ++ replicate (made.room - (run_at runs
           c).len) 0)

@@ -54,35 +54,13 @@ module _ (near : ℕ → Type 0) (level : ℕ) where
           inr (
             sym (some_same level k f),
             subst near (sym p) ny,
-            (
-              length queue,
-              (
-                l,
-                omega (
-                  arith,
-                  q,
-                ),
-                get_or_push queue y 0 (length queue) refl ∙ sym p,
-              ),
-            ),
+            (length queue, (l, omega (arith, q), get_or_push queue y 0 (length queue) refl ∙ sym p)),
           )
       | inr p ↦ elim (h.fresh x k (sym (other x p) ∙ e)) [
         | inl o ↦ inl o
         | inr o ↦
             let l = o.2.1.1 in let p = length_push queue y in
-            inr (
-              o.0,
-              o.1,
-              (
-                o.2.0,
-                (
-                  o.2.1.0,
-                  omega (arith, l, p),
-                  get_or_append_left queue (y ∷ [])
-                      0 o.2.0 l ∙ o.2.1.2,
-                ),
-              ),
-            )
+            inr (o.0, o.1, (o.2.0, (o.2.1.0, omega (arith, l, p), get_or_append_left queue (y ∷ []) 0 o.2.0 l ∙ o.2.1.2)))
       ]
     ]
 

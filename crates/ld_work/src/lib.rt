@@ -18,4 +18,5 @@ pub use gate::{Gate, NoGate};
 pub use ld_history::Room;
 pub use ld_tickets::{DrawSeat, Drawn, Tickets};
 pub use scope::Scope;
-pub use workers::{WorkFault, work};
+pub use told::Portion;
+pub use workers::{WorkFault, work, work_by};

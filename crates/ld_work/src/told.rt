@@ -15,12 +15,38 @@ use std::marker::{Model, PhantomData};
 use std::sync::Wait;
 use std::sync::ledger::Ledger;
 
+/// How many traces are handed on together by `Portion::Traces`.
+const TRACES: usize = 8;
+
+// No clause cites the constants, so all would hold with any other numbers.
+const _: () = prove!(TRACES == 1 << 3);
+
+/// How many bytes are handed on together by `Portion::Bytes`.
+const BYTES: usize = 65_536;
+
+const _: () = prove!(BYTES == 1 << 16);
+
+/// What a header has beside its label: `trace `, and the LF.
+const HEADER: usize = 7;
+
+/// How much a worker reads before it hands that on. Each hand-on takes the lock of the book.
+#[derive(Clone, Copy, Debug, PartialEq, Eq)]
+pub enum Portion {
+    /// 8 traces.
+    Traces,
+    /// As many traces as have 65,536 bytes, so that small ones don't wait for the lock one after the other.
+    Bytes,
+}
+
 /// What a worker reads, and what it handed on, which its desk lists. It is seen as what it shows.
 #[derive(Drop)]
 pub(crate) struct Told<'a, S: Scope, H: Room> {
     series: Series<'a>,
     /// What the worker saw of the desk's book: all that it handed on.
     front: Front<H>,
+    portion: Portion,
+    /// How many bytes the traces have that weren't handed on, with the lines of their headers.
+    bytes: usize,
     scope: PhantomData<S>,
 }
 
@@ -40,20 +66,30 @@ impl<'a, S: Scope, H: Room> Model for Told<'a, S, H> {
 
 impl<'a, S: Scope, H: Room> Told<'a, S, H> {
     /// Nothing was read.
-    pub(crate) fn new(alloc: Global, front: Front<H>) -> Told<'a, S, H>
+    pub(crate) fn new(alloc: Global, front: Front<H>, portion: Portion) -> Told<'a, S, H>
         requires history { IsSome H.history }
         ensures { result ≡ nothing_shown }
     {
         Told {
             series: Series::new(alloc),
             front,
+            portion,
+            bytes: 0,
             scope: PhantomData,
         }
     }
 
-    /// How many traces were read that weren't handed on.
-    pub(crate) fn count(&self) -> usize {
-        self.series.listed().len()
+    /// Whether there are traces that weren't handed on.
+    pub(crate) fn has_more(&self) -> bool {
+        !self.series.listed().is_empty()
+    }
+
+    /// Whether the traces that weren't handed on are as much as is handed on together.
+    pub(crate) fn is_due(&self) -> bool {
+        match self.portion {
+            Portion::Traces => self.series.listed().len() >= TRACES,
+            Portion::Bytes => self.bytes >= BYTES,
+        }
     }
 
     /// Reads one more trace.
@@ -69,6 +105,7 @@ impl<'a, S: Scope, H: Room> Told<'a, S, H> {
         ensures refused { OnErr result (self.new ≡ self.old) }
     {
         self.series.push(source)?;
+        self.bytes = self.bytes.saturating_add(length_of(&source));
         Ok(())
     }
 
@@ -87,6 +124,7 @@ impl<'a, S: Scope, H: Room> Told<'a, S, H> {
             .look(rt)
             .submit_next(feeder, &mut self.front, &mut self.series);
         // The lock is free again.
+        self.bytes = 0;
         match answer {
             Ok(()) => {
                 self.series.pass_on();
@@ -98,6 +136,13 @@ impl<'a, S: Scope, H: Room> Told<'a, S, H> {
             }
         }
     }
+}
+
+/// How many bytes a trace has, with a header of one blank and LF.
+fn length_of(source: &Source<'_>) -> usize {
+    HEADER
+        .saturating_add(source.name.len())
+        .saturating_add(source.bytes.len())
 }
 
 /// What wasn't added is given up: a worker goes on with its next draw, or ends where memory was refused.

@@ -11,7 +11,7 @@ use crate::even::uneven;
 use crate::feeder::{Feeder, MOST_FEEDERS};
 use crate::gate::Gate;
 use crate::scope::Scope;
-use crate::told::Told;
+use crate::told::{Portion, Told};
 use ld_book::Book;
 use ld_history::{Opened, Room};
 use ld_tickets::{DrawSeat, Tickets};
@@ -46,16 +46,11 @@ impl From<AllocError> for WorkFault {
     }
 }
 
-/// How many traces a worker reads at most before it hands them on together.
-const MOST_IN_BATCH: usize = 8;
-
-// No clause cites the constant, so all would hold with any other number.
-const _: () = prove!(MOST_IN_BATCH == 1 << 3);
-
 /// What a worker begins with.
 #[derive(Drop)]
 struct Job<T: Ledger, E: Ledger> {
     worker: usize,
+    portion: Portion,
     feeder: Feeder<T, E>,
     seat: DrawSeat,
 }
@@ -70,13 +65,13 @@ struct Done<T: Ledger, E: Ledger> {
 
 /// The book of these sources, read by that many workers at once. Each worker draws the number of its
 /// next trace, the least that is left, and passes the gate before it reads that trace. So one long
-/// trace holds up no other. Where no thread can be started, workers do their work one after another.
-/// May wait.
+/// trace holds up no other. It hands on 8 traces together. If no thread can be started, workers do their
+/// work one after another. May wait.
 ///
 /// # Errors
 ///
-/// `Memory` where a growth of memory was refused, which comes first, and `Uneven` where the book
-/// doesn't list just the sources.
+/// `Memory` if a growth of memory was refused, which comes first, and `Uneven` if the book doesn't list just
+/// the sources.
 pub fn work<'a, G: Gate + Sync, R: Threads + Wait + Sync>(
     rt: &R,
     alloc: Global,
@@ -90,11 +85,33 @@ pub fn work<'a, G: Gate + Sync, R: Threads + Wait + Sync>(
     requires fit { All (λ source. Fits (plain source)) sources.now }
     ensures { IfOk result (λ book. ListsEachOnce (map plain sources.now) book) }
 {
+    work_by(rt, alloc, sources, workers, Portion::Traces, gate)
+}
+
+/// As `work`. A worker hands on as much as the portion says.
+///
+/// # Errors
+///
+/// Those of `work`.
+pub fn work_by<'a, G: Gate + Sync, R: Threads + Wait + Sync>(
+    rt: &R,
+    alloc: Global,
+    sources: &[Source<'a>],
+    workers: usize,
+    portion: Portion,
+    gate: &G,
+) -> Result<Book<'a>, WorkFault>
+    requires workers { (1 ≤ workers) × (workers ≤ MOST_FEEDERS) }
+    requires few { length sources.now ≤ MOST_TRACES }
+    requires numbered { AreNumbered (map plain sources.now) }
+    requires fit { All (λ source. Fits (plain source)) sources.now }
+    ensures { IfOk result (λ book. ListsEachOnce (map plain sources.now) book) }
+{
     let opened = Opened::new(alloc)?;
     let traces = Blank::new(workers as u64);
     let events = Blank::new(workers as u64);
     work_at::<Brand, Brand, Brand, Brand, G, R>(
-        rt, alloc, traces, events, opened, sources, workers, gate,
+        rt, alloc, traces, events, opened, sources, workers, portion, gate,
     )
 }
 
@@ -115,6 +132,7 @@ fn work_at<
     opened: Opened,
     sources: &[Source<'a>],
     workers: usize,
+    portion: Portion,
     gate: &G,
 ) -> Result<Book<'a>, WorkFault>
     requires workers { (1 ≤ workers) × (workers ≤ MOST_FEEDERS) }
@@ -131,7 +149,7 @@ fn work_at<
     ensures { IfOk result (λ book. ListsEachOnce (map plain sources.now) book) }
 {
     let (desk, feeders) = Desk::<T, E, S, H>::with_history(alloc, traces, events, workers, opened)?;
-    let fed = feed(rt, alloc, &desk, sources, gate, feeders);
+    let fed = feed(rt, alloc, &desk, sources, gate, portion, feeders);
     let book = gathered(desk, fed)?;
     match settled(alloc, sources, &book) {
         Ok(()) => Ok(book),
@@ -161,6 +179,7 @@ fn feed<
     desk: &Desk<'a, T, E, S, H>,
     sources: &[Source<'a>],
     gate: &G,
+    portion: Portion,
     feeders: Vec<Feeder<T, E>>,
 ) -> Result<Vec<Feeder<T, E>>, AllocError>
     requires some { (1 ≤ length feeders.items) × (length feeders.items ≤ MOST_FEEDERS) }
@@ -172,7 +191,7 @@ fn feed<
     ensures { IfOk result (λ fed. length fed.items ≡ length feeders.items) }
 {
     let (tickets, seats) = Tickets::new(alloc, sources.len() as u64, feeders.len())?;
-    let jobs = jobs_of(alloc, feeders, seats)?;
+    let jobs = jobs_of(alloc, portion, feeders, seats)?;
     let done = run(rt, alloc, desk, &tickets, sources, gate, jobs)?;
     feeders_of(alloc, done)
 }
@@ -201,6 +220,7 @@ fn gathered<'a, T: Ledger, E: Ledger, S: Scope, H: Room>(
 /// A job for each feeder, with a seat.
 fn jobs_of<T: Ledger, E: Ledger>(
     alloc: Global,
+    portion: Portion,
     feeders: Vec<Feeder<T, E>>,
     seats: Vec<DrawSeat>,
 ) -> Result<Vec<Job<T, E>>, AllocError>
@@ -213,6 +233,7 @@ fn jobs_of<T: Ledger, E: Ledger>(
         let worker = jobs.len();
         jobs.push(Job {
             worker,
+            portion,
             feeder,
             seat,
         })?;
@@ -273,10 +294,11 @@ fn run_one<'a, T: Ledger, E: Ledger, S: Scope, H: Room, G: Gate, R: Wait>(
 {
     let Job {
         worker,
+        portion,
         mut feeder,
         mut seat,
     } = job;
-    let mut told = Told::<S, H>::new(alloc, desk.look(rt).front());
+    let mut told = Told::<S, H>::new(alloc, desk.look(rt).front(), portion);
     let mut refused = false;
     while let Some(number) = tickets.draw(&mut seat) {
         gate.pass(worker as u64, number);
@@ -286,14 +308,14 @@ fn run_one<'a, T: Ledger, E: Ledger, S: Scope, H: Room, G: Gate, R: Wait>(
             break;
         }
     }
-    if !refused && told.count() > 0 {
+    if !refused && told.has_more() {
         refused = told.hand_on(rt, desk, &mut feeder).is_err();
     }
     drop(told);
     Done { feeder, refused }
 }
 
-/// Reads a trace, and hands on a batch of `MOST_IN_BATCH` traces.
+/// Reads a trace, and hands on what was read if that is due.
 fn read<'a, T: Ledger, E: Ledger, S: Scope, H: Room, R: Wait>(
     rt: &R,
     desk: &Desk<'a, T, E, S, H>,
@@ -310,10 +332,11 @@ fn read<'a, T: Ledger, E: Ledger, S: Scope, H: Room, R: Wait>(
 {
     // Read before the lock is taken, so that the workers read at the same time.
     told.push(source)?;
-    if told.count() < MOST_IN_BATCH {
-        return Ok(());
+    if told.is_due() {
+        told.hand_on(rt, desk, feeder)
+    } else {
+        Ok(())
     }
-    told.hand_on(rt, desk, feeder)
 }
 
 /// The feeders of all workers.

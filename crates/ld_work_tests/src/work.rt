@@ -1,11 +1,9 @@
 //! Workers, one and several, where memory is refused, where there is much to read, and in turns.
 ghost use Rattle.std.specs.Prelude.{◌≤◌};
 
-use crate::common::{
-    INVERSION, expect_first_once, expect_inversion, long_trace, sources_of, totals,
-};
+use crate::common::{INVERSION, expect_first_once, expect_inversion, long_trace, sources_of};
 use ld_test_gate::Meeting;
-use ld_work::{Gate, MOST_FEEDERS, NoGate, WorkFault, work};
+use ld_work::{Gate, MOST_FEEDERS, NoGate, Portion, WorkFault, work, work_by};
 use std::alloc::Global;
 use std::process::Abort;
 use std::sync::Wait;
@@ -116,23 +114,41 @@ impl Gate for InTurn {
     }
 }
 
-// One worker reads number 0 and waits, the other one reads 1 to 11: it has handed on 1 to 8. Then the first
-// one reads 13 to 20: it has handed on 0 and 13 to 19 when the other one goes on.
-#[test]
-fn eight_traces_are_handed_on_together(rt: HostRuntime) -> Result<(), Fail> {
-    let stream = b"trace a\nacquire t A\nacquire t B\n"
-        .repeat(rt.alloc(), 21)
-        .expect(&rt, "a stream");
-    let sources = sources_of(rt.alloc(), &stream)?;
+/// Asserts in which order two workers list 21 of these traces, if one waits with number 0 until the other one has
+/// come to 12: what this one has handed on until then, and what the other one hands on next.
+fn expect_in_turn<R>(
+    rt: &R,
+    alloc: Global,
+    trace: &[u8],
+    portion: Portion,
+    first: &[u64],
+) -> Result<(), Fail>
+where
+    R: Threads + Wait + Abort + Sync,
+{
+    let stream = trace.repeat(alloc, 21)?;
+    let sources = sources_of(alloc, &stream)?;
     let gate = InTurn {
         came: AtomicU64::new(0),
     };
-    let book = work(&rt, rt.alloc(), &sources, 2, &gate).expect(&rt, "a book");
-    assert_eq!(rt; book.totals(), totals(21, 42, 2, 1));
-    let first = [1, 2, 3, 4, 5, 6, 7, 8, 0, 13, 14, 15, 16, 17, 18, 19];
+    let book = work_by(rt, alloc, &sources, 2, portion, &gate).expect(rt, "a book");
+    assert_eq!(rt; book.totals().traces, 21);
     for (listed, number) in book.listed().iter().zip(first) {
-        assert_eq!(rt; listed.source.number, number);
+        assert_eq!(rt; listed.source.number, *number);
     }
     drop(book);
     Ok(())
+}
+
+// By 8 traces the one hands on 1 to 8, the other one 0 and 13 to 19. By bytes it is after seven of these, which have
+// 24 for each of 417 pairs of events and 8 for the header: seven have 70,112, six 60,096.
+#[test]
+fn traces_are_handed_on_together(rt: HostRuntime) -> Result<(), Fail> {
+    let short = b"trace a\nacquire t A\nacquire t B\n";
+    let eight = [1, 2, 3, 4, 5, 6, 7, 8, 0, 13, 14, 15, 16, 17, 18, 19];
+    expect_in_turn(&rt, rt.alloc(), short, Portion::Traces, &eight)?;
+    let mut long = b"trace a\n".repeat(rt.alloc(), 1)?;
+    long.extend_from_slice(&b"acquire t A\nrelease t A\n".repeat(rt.alloc(), 417)?)?;
+    let seven = [1, 2, 3, 4, 5, 6, 7, 0, 13, 14, 15, 16, 17, 18];
+    expect_in_turn(&rt, rt.alloc(), &long, Portion::Bytes, &seven)
 }

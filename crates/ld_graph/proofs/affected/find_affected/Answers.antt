@@ -1,14 +1,11 @@
-use Rattle.std.proofs.Common.{◌+◌, arith, get_or, length, ◌∙◌}
-use Rattle.ld_graph.specs.Lists.{IsNear}
+use Rattle.std.proofs.Common.{arith, length, ◌∙◌}
 use Rattle.ld_graph.proofs.AffectedLemmas.{found-less}
 use Rattle.ld_graph.proofs.affected.find_affected.Goals as goal
 
 pub returns-in_default-clause-ended : goal.returns-in_default-clause-ended
 returns-in_default-clause-ended g c = (
-  found-less (IsNear c.args.lists.now.before.lists) (λ x. get_or c.args.labels.now x 0) (length c.args.labels.now) (get_or c.args.labels.now c.args.b 0) (get_or c.args.labels.now c.args.a 0) c.expand.new.search.found (c.loop-read_backward.done_backward + 1)
-      (length c.expand.new.search.found) c.in_default.ensures.next c.expand.ensures.found,
-  found-less (IsNear c.args.lists.now.after.lists) (λ x. get_or c.args.labels.now x 0) (length c.args.labels.now) (get_or c.args.labels.now c.args.b 0) (get_or c.args.labels.now c.args.a 0) c.loop-read_backward.forward.found c.loop-read_backward.done_forward 0
-      (omega arith) c.loop-read_backward.invariant.forward,
+  found-less c.expand.ensures.found (length c.expand.new.search.found) c.in_default.ensures.next,
+  found-less c.loop-read_backward.invariant.forward 0 (omega arith),
 )
 
 pub loop-read_backward-preserved-then-read_backward-read_forward : goal.loop-read_backward-preserved-then-read_backward-read_forward
@@ -32,10 +29,8 @@ loop-read_backward-preserved-then-read_backward-read_forward g c =
 
 pub returns-in_default-expand-clause-ended : goal.returns-in_default-expand-clause-ended
 returns-in_default-expand-clause-ended g c = (
-  found-less (IsNear c.args.lists.now.after.lists) (λ x. get_or c.args.labels.now x 0) (length c.args.labels.now) (get_or c.args.labels.now c.args.b 0) (get_or c.args.labels.now c.args.a 0) c.expand-else-read_backward-read_forward.new.search.found (c.loop-read_backward.done_forward + 1)
-      (length c.expand-else-read_backward-read_forward.new.search.found) c.in_default-expand.ensures.next c.expand-else-read_backward-read_forward.ensures.found,
-  found-less (IsNear c.args.lists.now.before.lists) (λ x. get_or c.args.labels.now x 0) (length c.args.labels.now) (get_or c.args.labels.now c.args.b 0) (get_or c.args.labels.now c.args.a 0) c.loop-read_backward.backward.found c.loop-read_backward.done_backward 0
-      (omega arith) c.loop-read_backward.invariant.backward,
+  found-less c.expand-else-read_backward-read_forward.ensures.found (length c.expand-else-read_backward-read_forward.new.search.found) c.in_default-expand.ensures.next,
+  found-less c.loop-read_backward.invariant.backward 0 (omega arith),
 )
 
 pub loop-read_backward-preserved : goal.loop-read_backward-preserved

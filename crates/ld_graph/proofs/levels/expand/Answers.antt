@@ -18,17 +18,11 @@ stays_in-requires c =
 
 pub bounds-levels-x : goal.bounds-levels-x
 bounds-levels-x c =
-    let n = c.requires.ends (get_or c.args.near.now c.loop-x.x-index 0)
-    (near_here c.args.near.now c.loop-x.x-index c.loop-x-test.true) in
-    let l = c.loop-x.auto.levels in
-    omega (arith, n, l)
+    omega (arith, c.requires.ends _ (near_here c.args.near.now c.loop-x.x-index c.loop-x-test.true), c.loop-x.auto.levels)
 
 pub bounds-levels-x-then-stays_in : goal.bounds-levels-x-then-stays_in
 bounds-levels-x-then-stays_in c =
-    let n = c.requires.ends (get_or c.args.near.now c.loop-x.x-index 0)
-    (near_here c.args.near.now c.loop-x.x-index c.loop-x-test.true) in
-    let l = c.loop-x.auto.levels in
-    omega (arith, n, l)
+    omega (arith, c.requires.ends _ (near_here c.args.near.now c.loop-x.x-index c.loop-x-test.true), c.loop-x.auto.levels)
 
 pub push_reserved-requires : goal.push_reserved-requires
 push_reserved-requires c =

@@ -34,17 +34,10 @@ pub loop-done-preserved : goal.loop-done-preserved
 loop-done-preserved c =
     record {
       count = omega (arith, c.expand-in-loop-done.ensures.count, c.loop-done.invariant.count);
-      capacity = omega (
-        arith,
-        c.expand-in-loop-done.ensures.capacity,
-        c.loop-done.invariant.capacity,
-      );
-      partial = IsPartial-next (IsNearInside c.args.lists.now.before.lists c.args.components c.component_of-component.result) c.args.end c.loop-done.done
-          c.loop-done.levels c.loop-done.queue.items c.loop-done.invariant.partial
-          (omega (arith, c.loop-done-test.true, c.len.ensures)) c.index-class.result.now
-          c.index-class.ensures
-          c.expand-in-loop-done.new.levels c.expand-in-loop-done.new.queue.items c.in-Some.level
-          (get_or_default c.loop-done.levels c.index-class.result.now None c.index-levels-class.result (next_within (IsNearInside c.args.lists.now.before.lists c.args.components c.component_of-component.result) c.args.end c.loop-done.done c.loop-done.levels c.loop-done.queue.items c.loop-done.invariant.partial (omega (arith, c.loop-done-test.true, c.len.ensures)) c.index-class.result.now c.index-class.ensures) ∙ sym c.get.ensures ∙ c.in-Some.is)
+      capacity = omega (arith, c.expand-in-loop-done.ensures.capacity, c.loop-done.invariant.capacity);
+      partial = IsPartial-next _ _ _ _ _ c.loop-done.invariant.partial (omega (arith, c.loop-done-test.true, c.len.ensures)) _
+          c.index-class.ensures _ _ c.in-Some.level
+          (get_or_default c.loop-done.levels c.index-class.result.now None c.index-levels-class.result (next_within _ _ _ _ _ c.loop-done.invariant.partial (omega (arith, c.loop-done-test.true, c.len.ensures)) _ c.index-class.ensures) ∙ sym c.get.ensures ∙ c.in-Some.is)
           (subst (λ n. Spreads (IsInsideOf c.args.components c.component_of-component.result n) (c.in-Some.level + 1) c.loop-done.levels
           c.loop-done.queue.items c.expand-in-loop-done.new.levels
           c.expand-in-loop-done.new.queue.items) (c.before-in-loop-done.ensures.near ∙ ap (λ l. list_at l.before.lists c.index-class.result.now) c.new-in-loop-done.ensures.lists)
@@ -55,41 +48,27 @@ loop-done-preserved c =
     }
 
 pub loop-done-smaller : goal.loop-done-smaller
-loop-done-smaller c = omega (
-  arith,
-  c.expand-in-loop-done.ensures.count,
-  c.loop-done-test.true,
-  c.len.ensures,
-)
+loop-done-smaller c = omega (arith, c.expand-in-loop-done.ensures.count, c.loop-done-test.true, c.len.ensures)
 
 pub bounds-levels-class : goal.bounds-levels-class
 bounds-levels-class c =
-    next_within (IsNearInside c.args.lists.now.before.lists c.args.components c.component_of-component.result) c.args.end c.loop-done.done c.loop-done.levels
-    c.loop-done.queue.items c.loop-done.invariant.partial
-    (omega (arith, c.loop-done-test.true, c.len.ensures)) c.index-class.result.now
-    c.index-class.ensures
+    next_within _ _ _ _ _ c.loop-done.invariant.partial (omega (arith, c.loop-done-test.true, c.len.ensures)) _ c.index-class.ensures
 
 pub overflow_add-level : goal.overflow_add-level
 overflow_add-level c =
-    let small = next_small (IsNearInside c.args.lists.now.before.lists c.args.components c.component_of-component.result) c.args.end c.loop-done.done
-    c.loop-done.levels c.loop-done.queue.items c.loop-done.invariant.partial
-    (omega (arith, c.loop-done-test.true, c.len.ensures)) c.index-class.result.now
-    c.index-class.ensures c.in-Some.level (get_or_default c.loop-done.levels c.index-class.result.now None c.index-levels-class.result (next_within (IsNearInside c.args.lists.now.before.lists c.args.components c.component_of-component.result) c.args.end c.loop-done.done c.loop-done.levels c.loop-done.queue.items c.loop-done.invariant.partial (omega (arith, c.loop-done-test.true, c.len.ensures)) c.index-class.result.now c.index-class.ensures) ∙ sym c.get.ensures ∙ c.in-Some.is) in
+    let small = next_small _ _ _ _ _ c.loop-done.invariant.partial (omega (arith, c.loop-done-test.true, c.len.ensures)) _
+    c.index-class.ensures c.in-Some.level (get_or_default c.loop-done.levels c.index-class.result.now None c.index-levels-class.result (next_within _ _ _ _ _ c.loop-done.invariant.partial (omega (arith, c.loop-done-test.true, c.len.ensures)) _ c.index-class.ensures) ∙ sym c.get.ensures ∙ c.in-Some.is) in
     omega (arith, small)
 
 pub unreachable-requires : goal.unreachable-requires
 unreachable-requires c =
-    let next = next_level (IsNearInside c.args.lists.now.before.lists c.args.components c.component_of-component.result) c.args.end c.loop-done.done
-    c.loop-done.levels c.loop-done.queue.items c.loop-done.invariant.partial
-    (omega (arith, c.loop-done-test.true, c.len.ensures)) c.index-class.result.now
-    c.index-class.ensures in
-    c.in_default.not-Some next.0 (c.get.ensures ∙ sym (get_or_default c.loop-done.levels c.index-class.result.now None c.index-levels-class.result (next_within (IsNearInside c.args.lists.now.before.lists c.args.components c.component_of-component.result) c.args.end c.loop-done.done c.loop-done.levels c.loop-done.queue.items c.loop-done.invariant.partial (omega (arith, c.loop-done-test.true, c.len.ensures)) c.index-class.result.now c.index-class.ensures)) ∙ next.1.0)
+    let next = next_level _ _ _ _ _ c.loop-done.invariant.partial (omega (arith, c.loop-done-test.true, c.len.ensures)) _ c.index-class.ensures in
+    c.in_default.not-Some next.0 (c.get.ensures ∙ sym (get_or_default c.loop-done.levels c.index-class.result.now None c.index-levels-class.result (next_within _ _ _ _ _ c.loop-done.invariant.partial (omega (arith, c.loop-done-test.true, c.len.ensures)) _ c.index-class.ensures)) ∙ next.1.0)
 
 pub returns-clause-levels : goal.returns-clause-levels
 returns-clause-levels c = λ i d within.
     subst (λ k. AreLevelsFor (λ a b. IsNearInside c.args.lists.now.before.lists c.args.components k b a) (get_or c.args.wanted.now i d) c.args.end c.loop-done.levels)
-    c.component_of-component.ensures (IsPartial-levels (IsNearInside c.args.lists.now.before.lists c.args.components c.component_of-component.result) c.args.end c.loop-done.done c.loop-done.levels
-    c.loop-done.queue.items c.loop-done.invariant.partial (get_or c.args.wanted.now i d)
+    c.component_of-component.ensures (IsPartial-levels _ _ _ _ _ c.loop-done.invariant.partial (get_or c.args.wanted.now i d)
     (inr (omega (arith, c.loop-done-test.false, c.len.ensures))))
 
 pub expand-requires-clause-ends : goal.expand-requires-clause-ends
@@ -105,28 +84,21 @@ expand-requires-in-loop-done-clause-ends c = λ x n.
 
 pub returns-clause-touched : goal.returns-clause-touched
 returns-clause-touched c =
-    let e = IsPartial-touched (IsNearInside c.args.lists.now.before.lists c.args.components c.component_of-component.result) c.args.end c.loop-done.done c.loop-done.levels
-    c.loop-done.queue.items c.loop-done.invariant.partial in
-    e
+    IsPartial-touched _ _ _ _ _ c.loop-done.invariant.partial
 
 pub returns-then-known-wanted-clause-touched : goal.returns-then-known-wanted-clause-touched
 returns-then-known-wanted-clause-touched c =
-    IsPartial-touched (IsNearInside c.args.lists.now.before.lists c.args.components c.component_of-component.result) c.args.end c.loop-done.done c.loop-done.levels
-    c.loop-done.queue.items c.loop-done.invariant.partial
+    IsPartial-touched _ _ _ _ _ c.loop-done.invariant.partial
 
 pub returns-then-known-wanted-clause-levels : goal.returns-then-known-wanted-clause-levels
 returns-then-known-wanted-clause-levels c = λ i d within.
     subst (λ k. AreLevelsFor (λ a b. IsNearInside c.args.lists.now.before.lists c.args.components k b a) (get_or c.args.wanted.now i d) c.args.end c.loop-done.levels)
-    c.component_of-component.ensures (IsPartial-levels (IsNearInside c.args.lists.now.before.lists c.args.components c.component_of-component.result) c.args.end c.loop-done.done c.loop-done.levels
-    c.loop-done.queue.items c.loop-done.invariant.partial (get_or c.args.wanted.now i d)
+    c.component_of-component.ensures (IsPartial-levels _ _ _ _ _ c.loop-done.invariant.partial (get_or c.args.wanted.now i d)
     (inl (subst (HasLevel c.loop-done.levels) (get_or_default c.args.wanted.now i 0 d within) (c.known_front-known.ensures.known i (omega (arith, within, c.if-known-wanted.true))))))
 
 pub before-requires-in-loop-done-clause-class : goal.before-requires-in-loop-done-clause-class
 before-requires-in-loop-done-clause-class c =
-    let within = next_within (IsNearInside c.args.lists.now.before.lists c.args.components c.component_of-component.result) c.args.end c.loop-done.done c.loop-done.levels
-    c.loop-done.queue.items c.loop-done.invariant.partial
-    (omega (arith, c.loop-done-test.true, c.len.ensures)) c.index-class.result.now
-    c.index-class.ensures in
+    let within = next_within _ _ _ _ _ c.loop-done.invariant.partial (omega (arith, c.loop-done-test.true, c.len.ensures)) _ c.index-class.ensures in
     let same = ap (λ l. length l.before.lists) c.new-in-loop-done.ensures.lists in
     omega (arith, same, within, c.requires.classes, c.loop-done.auto.levels)
 

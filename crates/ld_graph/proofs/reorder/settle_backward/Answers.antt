@@ -13,9 +13,8 @@ pub move_before-requires-clause-above : goal.move_before-requires-clause-above
 move_before-requires-clause-above g c = λ x n.
     let m = subst (λ l. Contains l x) c.found.ensures.found n in
     let w = c.requires.found.within x m in
-    let q = differs (IsNear c.args.lists.now.after.lists) (IsNear c.args.lists.now.before.lists)
-    c.args.order.now.ranks c.args.order.now.ranks c.args.a c.args.b c.args.search.now.found
-    c.requires.ends c.requires.rises c.requires.a c.requires.b c.requires.found c.requires.ranks c.args.b c.requires.b
+    let q = differs _ (IsNear c.args.lists.now.before.lists) _ c.args.order.now.ranks _ _ _ c.requires.ends c.requires.rises
+    c.requires.a c.requires.b c.requires.found c.requires.ranks c.args.b c.requires.b
     (λ h. true≢false (sym (c.has.ensures.1 h) ∙ c.if-has.false)) x m in
     omega (arith, w.1.0, q)
 
@@ -30,9 +29,8 @@ returns-then-has-clause-met g c = (
 
 pub returns-clause-mended : goal.returns-clause-mended
 returns-clause-mended g c =
-    mended_backward (IsNear c.args.lists.now.after.lists) (IsNear c.args.lists.now.before.lists)
-    c.args.order.now.ranks c.move_before.new.self.ranks c.args.a c.args.b c.args.search.now.found
-    c.requires.ends c.requires.rises c.requires.a c.requires.b c.requires.found (λ x y n. (c.requires.turned x y).0 n) c.requires.first
+    mended_backward _ (IsNear c.args.lists.now.before.lists) _ c.move_before.new.self.ranks _ _ _ c.requires.ends c.requires.rises
+    c.requires.a c.requires.b c.requires.found (λ x y n. (c.requires.turned x y).0 n) c.requires.first
     (λ h. true≢false (sym (c.has.ensures.1 h) ∙ c.if-has.false))
     (subst (λ l. HaveMoved (Contains l) (get_or c.args.order.now.ranks c.args.b 0) c.args.order.now.ranks c.move_before.new.self.ranks)
     c.found.ensures.found c.move_before.ensures.moved)

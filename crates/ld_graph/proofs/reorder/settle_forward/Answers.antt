@@ -12,9 +12,8 @@ pub move_behind-requires-clause-below : goal.move_behind-requires-clause-below
 move_behind-requires-clause-below g c = λ x n.
     let m = subst (λ l. Contains l x) c.found.ensures.found n in
     let w = c.requires.found.within x m in
-    let q = differs (IsNear c.args.lists.now.after.lists) (IsNear c.args.lists.now.after.lists)
-    c.args.order.now.ranks c.args.order.now.ranks c.args.a c.args.b c.args.search.now.found
-    c.requires.ends c.requires.rises c.requires.a c.requires.b c.requires.found c.requires.ranks c.args.a c.requires.a
+    let q = differs _ (IsNear c.args.lists.now.after.lists) _ c.args.order.now.ranks _ _ _ c.requires.ends c.requires.rises
+    c.requires.a c.requires.b c.requires.found c.requires.ranks c.args.a c.requires.a
     (λ h. true≢false (sym (c.has.ensures.1 h) ∙ c.if-has.false)) x m in
     omega (arith, w.1.1, q)
 
@@ -27,9 +26,8 @@ returns-then-has-clause-met g c = (
 
 pub returns-clause-mended : goal.returns-clause-mended
 returns-clause-mended g c =
-    mended_forward (IsNear c.args.lists.now.after.lists) (IsNear c.args.lists.now.after.lists)
-    c.args.order.now.ranks c.move_behind.new.self.ranks c.args.a c.args.b c.args.search.now.found
-    c.requires.ends c.requires.rises c.requires.a c.requires.b c.requires.found (λ x y n. n) c.requires.first
+    mended_forward _ (IsNear c.args.lists.now.after.lists) _ c.move_behind.new.self.ranks _ _ _ c.requires.ends c.requires.rises
+    c.requires.a c.requires.b c.requires.found (λ x y n. n) c.requires.first
     (λ h. true≢false (sym (c.has.ensures.1 h) ∙ c.if-has.false))
     (subst (λ l. HaveMoved (Contains l) (get_or c.args.order.now.ranks c.args.a 0 + 1) c.args.order.now.ranks c.move_behind.new.self.ranks)
     c.found.ensures.found c.move_behind.ensures.moved)

@@ -11,10 +11,10 @@ last_is : (old new : PlainShown) (source : PlainSource) → new.sources ≡ old.
 last_is old new source sources behind =
     subst (λ o. IfSome o (λ last. last.number ≡ source.number)) (sym ((λ i. last_or None (behind i ++ sources i)) ∙ last-read old.behind old.sources source)) refl
 
-pub returns-then-count-lt-MOST_IN_BATCH : goal.returns-then-count-lt-MOST_IN_BATCH
-returns-then-count-lt-MOST_IN_BATCH g c = last_is c.args.told.now c.push.new.self (plain c.args.source) c.in_ok-push.ensures.ok c.push.ensures.behind
+pub returns-else-is_due : goal.returns-else-is_due
+returns-else-is_due g c = last_is c.args.told.now c.push.new.self (plain c.args.source) c.in_ok-push.ensures.ok c.push.ensures.behind
 
-pub returns : goal.returns
-returns g c =
+pub returns-then-is_due : goal.returns-then-is_due
+returns-then-is_due g c =
     some-ok c.hand_on.result
     (last-on c.args.source.number c.push.new.self c.hand_on.new.self (last_is c.args.told.now c.push.new.self (plain c.args.source) c.in_ok-push.ensures.ok c.push.ensures.behind) c.hand_on.ensures)

@@ -30,26 +30,10 @@ invariant_of-self c =
         omega (arith, i.room_after.1, c.add_class.ensures.after.item_room),
       );
       room_before = (
-        omega (
-          arith,
-          now,
-          c.requires,
-          i.room_before.0,
-          c.add_class.ensures.before.class_room,
-        ),
-        omega (
-          arith,
-          i.room_before.1,
-          c.add_class.ensures.before.item_room,
-        ),
+        omega (arith, now, c.requires, i.room_before.0, c.add_class.ensures.before.class_room),
+        omega (arith, i.room_before.1, c.add_class.ensures.before.item_room),
       );
-      room_ranks = omega (
-        arith,
-        now,
-        c.requires,
-        i.room_ranks,
-        c.add_class-2.ensures.room,
-      );
+      room_ranks = omega (arith, now, c.requires, i.room_ranks, c.add_class-2.ensures.room);
       few = omega (arith, now, c.requires, i.few);
       ranked = let r = ap length c.add_class-2.ensures.ranks in
           let p = length_push c.self.inside.ranks.ranks (length c.self.inside.ranks.ranks) in

@@ -49,8 +49,7 @@ invariant_of-self g c =
 
 pub returns-then-not-added-clause-number : goal.returns-then-not-added-clause-number
 returns-then-not-added-clause-number g c =
-    let stored = c.in-Ok.ensures.stored in
-    IsEdgeNumber-stored c.insert_full.new.self.keys c.args.a c.args.b c.in-Ok.number stored.0 c.insert_full.ensures.unique c.in-Ok.ensures.within stored.1 stored.2
+    let s = c.in-Ok.ensures.stored in IsEdgeNumber-stored _ _ _ _ s.0 c.insert_full.ensures.unique c.in-Ok.ensures.within s.1 s.2
 
 pub returns-then-not-added-clause-there : goal.returns-then-not-added-clause-there
 returns-then-not-added-clause-there g c = (
@@ -61,8 +60,7 @@ returns-then-not-added-clause-there g c = (
 
 pub returns-clause-number : goal.returns-clause-number
 returns-clause-number g c =
-    let stored = c.in-Ok.ensures.stored in
-    IsEdgeNumber-stored c.insert_full.new.self.keys c.args.a c.args.b c.in-Ok.number stored.0 c.insert_full.ensures.unique c.in-Ok.ensures.within stored.1 stored.2
+    let s = c.in-Ok.ensures.stored in IsEdgeNumber-stored _ _ _ _ s.0 c.insert_full.ensures.unique c.in-Ok.ensures.within s.1 s.2
 
 pub invariant_of-self-2 : goal.invariant_of-self-2
 invariant_of-self-2 g c =
@@ -100,36 +98,17 @@ invariant_of-self-2 g c =
       room_edges = omega (arith, spare, c.requires.room, i.room_edges, c.insert_full.ensures.spare);
       room_after = (
         omega (arith, i.room_after.0, c.push.ensures.after.class_room),
-        omega (
-          arith,
-          count,
-          spare,
-          c.requires.room,
-          i.room_after.1,
-          c.push.ensures.after.item_room,
-        ),
+        omega (arith, count, spare, c.requires.room, i.room_after.1, c.push.ensures.after.item_room),
       );
       room_before = (
         omega (arith, i.room_before.0, c.push.ensures.before.class_room),
-        omega (
-          arith,
-          count,
-          spare,
-          c.requires.room,
-          i.room_before.1,
-          c.push.ensures.before.item_room,
-        ),
+        omega (arith, count, spare, c.requires.room, i.room_before.1, c.push.ensures.before.item_room),
       );
       room_ranks = omega (arith, i.room_ranks, c.place-answer.ensures.room);
       few = i.few;
-      ranked = placed_length c.self.inside i c.args.a c.args.b c.place-answer.new.has_cycle
-          c.place-answer.new.ranks.ranks c.place-answer.result placed ∙ i.ranked;
-      rises = λ f x y e. placed_rises c.self.inside i c.args.a c.args.b c.place-answer.new.has_cycle
-          c.place-answer.new.ranks.ranks c.place-answer.result placed f x y
-          (subst (λ k. IsEdge k x y) keys e);
-      cycle = λ t. subst (λ k. HasCycle (IsEdge k)) (sym keys) (placed_cycle c.self.inside i c.args.a
-          c.args.b c.place-answer.new.has_cycle c.place-answer.new.ranks.ranks c.place-answer.result
-          placed t);
+      ranked = placed_length _ i _ _ _ _ c.place-answer.result placed ∙ i.ranked;
+      rises = λ f x y e. placed_rises _ i _ _ _ _ c.place-answer.result placed f x y (subst (λ k. IsEdge k x y) keys e);
+      cycle = λ t. subst (λ k. HasCycle (IsEdge k)) (sym keys) (placed_cycle _ i _ _ _ _ c.place-answer.result placed t);
     }
 
 pub push-requires-clause-after_fresh : goal.push-requires-clause-after_fresh

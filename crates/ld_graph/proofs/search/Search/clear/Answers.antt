@@ -12,11 +12,7 @@ unmark-requires c = λ k n.
 
 pub invariant_of-self : goal.invariant_of-self
 invariant_of-self c =
-    let items = with_items_is c.self.inside.marks c.unmark.new.marks (omega (
-      arith,
-      c.unmark.auto.marks,
-      c.deref_mut.ensures.len,
-    )) in (
+    let items = with_items_is c.self.inside.marks c.unmark.new.marks (omega (arith, c.unmark.auto.marks, c.deref_mut.ensures.len)) in (
       rw c.clear.ensures.items (subst (λ m. AreMarked m []) (sym items)
           (AreMarked-cleared c.deref_mut.result.now c.unmark.new.marks c.self.inside.found.items
           (subst (λ m. AreMarked m c.self.inside.found.items) (sym c.deref_mut.ensures.value)

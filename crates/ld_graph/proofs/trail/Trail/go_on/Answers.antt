@@ -10,53 +10,45 @@ use Rattle.ld_graph.proofs.trail.Trail.go_on.Goals.{in_default-via-in-Open+else-
 
 pub after-near-requires-clause-class : goal.after-near-requires-clause-class
 after-near-requires-clause-class c = rw c.new.ensures.lists
-    (class_within c.args.lists.now.after.lists (shown c.args.self.now) c.requires.trail c.requires.some c.requires.ends c.top-top.result c.top-top.ensures
-    _ refl 0)
+    (class_within _ _ c.requires.trail c.requires.some c.requires.ends _ c.top-top.ensures _ refl 0)
 
 pub index-next-requires : goal.index-next-requires
 index-next-requires c =
-    let w = nexts_within c.args.lists.now.after.lists (shown c.args.self.now) c.requires.trail c.requires.some c.requires.ends c.top-top.result c.top-top.ensures
-    c.after-near.result.now (c.after-near.ensures.near ∙ ap (λ l. list_at l.after.lists c.top-top.result.class) c.new.ensures.lists) 0 in
+    let w = nexts_within _ _ c.requires.trail c.requires.some c.requires.ends _ c.top-top.ensures _ (c.after-near.ensures.near ∙ ap (λ l. list_at l.after.lists c.top-top.result.class) c.new.ensures.lists) 0 in
     omega (arith, w, c.args.self.now.nexts.ok.0)
 
 -- how many successors were looked at
 seen : (c : After-index-next) → get_or c.args.self.now.nexts.items c.top-top.result.class 0 ≡ c.index-next.result.now
 seen c =
-    let w = nexts_within c.args.lists.now.after.lists (shown c.args.self.now) c.requires.trail c.requires.some c.requires.ends c.top-top.result c.top-top.ensures
-    c.after-near.result.now (c.after-near.ensures.near ∙ ap (λ l. list_at l.after.lists c.top-top.result.class) c.new.ensures.lists) 0 in
+    let w = nexts_within _ _ c.requires.trail c.requires.some c.requires.ends _ c.top-top.ensures _ (c.after-near.ensures.near ∙ ap (λ l. list_at l.after.lists c.top-top.result.class) c.new.ensures.lists) 0 in
     sym (get_or_read c.args.self.now.nexts.items c.top-top.result.class c.index-next.result.now w c.index-next.ensures 0)
 
 pub index-requires : goal.index-requires
 index-requires c =
-    let w = to_within c.args.lists.now.after.lists (shown c.args.self.now) c.requires.trail c.requires.some c.requires.ends c.top-top.result c.top-top.ensures
-    c.after-near.result.now (c.after-near.ensures.near ∙ ap (λ l. list_at l.after.lists c.top-top.result.class) c.new.ensures.lists) c.index-next.result.now (seen (goal.at.index-requires c).After-index-next) (omega (arith, c.if-next-near.false)) in
+    let w = to_within _ _ c.requires.trail c.requires.some c.requires.ends _ c.top-top.ensures _ (c.after-near.ensures.near ∙ ap (λ l. list_at l.after.lists c.top-top.result.class) c.new.ensures.lists) c.index-next.result.now (seen (goal.at.index-requires c).After-index-next) (omega (arith, c.if-next-near.false)) in
     omega (arith, w, c.args.self.now.stages.ok.0)
 
 pub enter-requires : goal.enter-requires
 enter-requires c =
-    to_within c.args.lists.now.after.lists (shown c.args.self.now) c.requires.trail c.requires.some c.requires.ends c.top-top.result c.top-top.ensures
-    c.after-near.result.now (c.after-near.ensures.near ∙ ap (λ l. list_at l.after.lists c.top-top.result.class) c.new.ensures.lists) c.index-next.result.now (seen (goal.at.enter-requires c).After-index-next) (omega (arith, c.if-next-near.false))
+    to_within _ _ c.requires.trail c.requires.some c.requires.ends _ c.top-top.ensures _ (c.after-near.ensures.near ∙ ap (λ l. list_at l.after.lists c.top-top.result.class) c.new.ensures.lists) c.index-next.result.now (seen (goal.at.enter-requires c).After-index-next) (omega (arith, c.if-next-near.false))
 
 -- how far the successor has come
 stage_is : (c : After-index) → stage_at (shown c.args.self.now) (get_or c.after-near.result.now c.index-next.result.now 0) ≡ c.index.result.now
 stage_is c =
-    let w = to_within c.args.lists.now.after.lists (shown c.args.self.now) c.requires.trail c.requires.some c.requires.ends c.top-top.result c.top-top.ensures
-    c.after-near.result.now (c.after-near.ensures.near ∙ ap (λ l. list_at l.after.lists c.top-top.result.class) c.new.ensures.lists) c.index-next.result.now (seen (goal.at.After-index c).After-index-next) (omega (arith, c.if-next-near.false)) in
+    let w = to_within _ _ c.requires.trail c.requires.some c.requires.ends _ c.top-top.ensures _ (c.after-near.ensures.near ∙ ap (λ l. list_at l.after.lists c.top-top.result.class) c.new.ensures.lists) c.index-next.result.now (seen (goal.at.After-index c).After-index-next) (omega (arith, c.if-next-near.false)) in
     sym (get_or_read c.args.self.now.stages.items (get_or c.after-near.result.now c.index-next.result.now 0) c.index.result.now w c.index.ensures Fresh)
 
 -- the successor waits, further back than is known
 pub returns-in-Open-clause-trail : goal.returns-in-Open-clause-trail
 returns-in-Open-clause-trail c =
     subst (IsTrail c.args.lists.now.after.lists) (sym c.advance.ensures)
-    (waits_trail c.args.lists.now.after.lists (shown c.args.self.now) c.requires.trail c.requires.some c.requires.ends c.top-top.result c.top-top.ensures
-    c.after-near.result.now (c.after-near.ensures.near ∙ ap (λ l. list_at l.after.lists c.top-top.result.class) c.new.ensures.lists) c.index-next.result.now (seen (goal.at.returns-in-Open-clause-trail c).After-index-next) (omega (arith, c.if-next-near.false))
+    (waits_trail _ _ c.requires.trail c.requires.some c.requires.ends _ c.top-top.ensures _ (c.after-near.ensures.near ∙ ap (λ l. list_at l.after.lists c.top-top.result.class) c.new.ensures.lists) c.index-next.result.now (seen (goal.at.returns-in-Open-clause-trail c).After-index-next) (omega (arith, c.if-next-near.false))
     c.in-Open.position (stage_is (goal.at.returns-in-Open-clause-trail c).After-index ∙ c.in-Open.is) c.if-position-top.true)
 
 pub returns-in-Open-clause-less : goal.returns-in-Open-clause-less
 returns-in-Open-clause-less c =
     subst (λ t. work c.args.lists.now.after.lists t < work c.args.lists.now.after.lists (shown c.args.self.now)) (sym c.advance.ensures)
-    (look_less c.args.lists.now.after.lists (shown c.args.self.now) c.requires.trail c.requires.some c.requires.ends c.top-top.result c.top-top.ensures
-    c.after-near.result.now (c.after-near.ensures.near ∙ ap (λ l. list_at l.after.lists c.top-top.result.class) c.new.ensures.lists) c.index-next.result.now (seen (goal.at.returns-in-Open-clause-less c).After-index-next) (omega (arith, c.if-next-near.false))
+    (look_less _ _ c.requires.trail c.requires.some c.requires.ends _ c.top-top.ensures _ (c.after-near.ensures.near ∙ ap (λ l. list_at l.after.lists c.top-top.result.class) c.new.ensures.lists) c.index-next.result.now (seen (goal.at.returns-in-Open-clause-less c).After-index-next) (omega (arith, c.if-next-near.false))
     c.in-Open.position)
 
 pub returns-in_default-clause-trail : goal.returns-in_default-clause-trail
@@ -75,8 +67,7 @@ returns-in_default-clause-trail c =
       | in_default-via-in_default w ↦ w.self-is
     ] in
     subst (IsTrail c.args.lists.now.after.lists) (ap (λ s. advanced (shown s) c.top-top.result.low) (sym same) ∙ sym c.advance-in_default.ensures)
-    (known_trail c.args.lists.now.after.lists (shown c.args.self.now) c.requires.trail c.requires.some c.requires.ends c.top-top.result c.top-top.ensures
-    c.after-near.result.now (c.after-near.ensures.near ∙ ap (λ l. list_at l.after.lists c.top-top.result.class) c.new.ensures.lists) c.index-next.result.now (seen (goal.at.returns-in_default-clause-trail c).After-index-next) (omega (arith, c.if-next-near.false))
+    (known_trail _ _ c.requires.trail c.requires.some c.requires.ends _ c.top-top.ensures _ (c.after-near.ensures.near ∙ ap (λ l. list_at l.after.lists c.top-top.result.class) c.new.ensures.lists) c.index-next.result.now (seen (goal.at.returns-in_default-clause-trail c).After-index-next) (omega (arith, c.if-next-near.false))
     met behind)
 
 pub returns-in_default-clause-less : goal.returns-in_default-clause-less
@@ -87,22 +78,19 @@ returns-in_default-clause-less c =
     ] in
     subst (λ t. work c.args.lists.now.after.lists t < work c.args.lists.now.after.lists (shown c.args.self.now))
     (ap (λ s. advanced (shown s) c.top-top.result.low) (sym same) ∙ sym c.advance-in_default.ensures)
-    (look_less c.args.lists.now.after.lists (shown c.args.self.now) c.requires.trail c.requires.some c.requires.ends c.top-top.result c.top-top.ensures
-    c.after-near.result.now (c.after-near.ensures.near ∙ ap (λ l. list_at l.after.lists c.top-top.result.class) c.new.ensures.lists) c.index-next.result.now (seen (goal.at.returns-in_default-clause-less c).After-index-next) (omega (arith, c.if-next-near.false))
+    (look_less _ _ c.requires.trail c.requires.some c.requires.ends _ c.top-top.ensures _ (c.after-near.ensures.near ∙ ap (λ l. list_at l.after.lists c.top-top.result.class) c.new.ensures.lists) c.index-next.result.now (seen (goal.at.returns-in_default-clause-less c).After-index-next) (omega (arith, c.if-next-near.false))
     c.top-top.result.low)
 
 -- a class is met
 pub returns-in_ok-enter-in-Fresh-clause-trail : goal.returns-in_ok-enter-in-Fresh-clause-trail
 returns-in_ok-enter-in-Fresh-clause-trail c =
     subst (IsTrail c.args.lists.now.after.lists) (sym c.in_ok-enter-in-Fresh.ensures)
-    (enter_trail c.args.lists.now.after.lists (shown c.args.self.now) c.requires.trail c.requires.some c.requires.ends c.top-top.result c.top-top.ensures
-    c.after-near.result.now (c.after-near.ensures.near ∙ ap (λ l. list_at l.after.lists c.top-top.result.class) c.new.ensures.lists) c.index-next.result.now (seen (goal.at.returns-in_ok-enter-in-Fresh-clause-trail c).After-index-next) (omega (arith, c.if-next-near.false))
+    (enter_trail _ _ c.requires.trail c.requires.some c.requires.ends _ c.top-top.ensures _ (c.after-near.ensures.near ∙ ap (λ l. list_at l.after.lists c.top-top.result.class) c.new.ensures.lists) c.index-next.result.now (seen (goal.at.returns-in_ok-enter-in-Fresh-clause-trail c).After-index-next) (omega (arith, c.if-next-near.false))
     (stage_is (goal.at.returns-in_ok-enter-in-Fresh-clause-trail c).After-index ∙ c.in-Fresh.is))
 
 pub returns-in_ok-enter-in-Fresh-clause-less : goal.returns-in_ok-enter-in-Fresh-clause-less
 returns-in_ok-enter-in-Fresh-clause-less c =
     subst (λ t. work c.args.lists.now.after.lists t < work c.args.lists.now.after.lists (shown c.args.self.now)) (sym c.in_ok-enter-in-Fresh.ensures)
     (enter_less c.args.lists.now.after.lists (shown c.args.self.now) (get_or c.after-near.result.now c.index-next.result.now 0)
-    (to_within c.args.lists.now.after.lists (shown c.args.self.now) c.requires.trail c.requires.some c.requires.ends c.top-top.result c.top-top.ensures
-    c.after-near.result.now (c.after-near.ensures.near ∙ ap (λ l. list_at l.after.lists c.top-top.result.class) c.new.ensures.lists) c.index-next.result.now (seen (goal.at.returns-in_ok-enter-in-Fresh-clause-less c).After-index-next) (omega (arith, c.if-next-near.false)))
+    (to_within _ _ c.requires.trail c.requires.some c.requires.ends _ c.top-top.ensures _ (c.after-near.ensures.near ∙ ap (λ l. list_at l.after.lists c.top-top.result.class) c.new.ensures.lists) c.index-next.result.now (seen (goal.at.returns-in_ok-enter-in-Fresh-clause-less c).After-index-next) (omega (arith, c.if-next-near.false)))
     (stage_is (goal.at.returns-in_ok-enter-in-Fresh-clause-less c).After-index ∙ c.in-Fresh.is))

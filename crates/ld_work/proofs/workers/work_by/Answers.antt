@@ -1,7 +1,7 @@
 use Rattle.std.proofs.Common.{◌<◌, get_or, subst, sym}
 use Rattle.std.proofs.lemmas.List.{get_or-map, length-map}
 use Rattle.ld_trace.specs.Sources.{plain}
-use Rattle.ld_work.proofs.workers.work.Goals as goal
+use Rattle.ld_work.proofs.workers.work_by.Goals as goal
 
 -- each source is one of the sources
 pub work_at-requires-clause-scope : goal.work_at-requires-clause-scope

@@ -1,7 +1,7 @@
 use Rattle.std.specs.Prelude.{Some, map}
 use Rattle.std.specs.List.{Contains}
 use Rattle.ld_trace.specs.Sources.{plain}
-use Rattle.ld_work.proofs.workers.work.Given as goal
+use Rattle.ld_work.proofs.workers.work_by.Given as goal
 
 abbrev pub ghosts-work_at-T-Ledger : goal.ghosts-work_at-T-Ledger
 ghosts-work_at-T-Ledger g a = record { name = a.traces.name; parts = a.traces.parts }
