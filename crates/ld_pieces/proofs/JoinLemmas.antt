@@ -178,7 +178,7 @@ sections-counted h l (x ∷ xs) = by (is_header x) refl (sections-counted (h + 1
     by true is rest other = rw is (omega (arith, rest))
     by false is one rest = rw is (omega (arith, rest))
 
-unequal : (a b : ℕ) → (a ≡ b → ⊥) → (a == b) ≡ false
+pub unequal : (a b : ℕ) → (a ≡ b → ⊥) → (a == b) ≡ false
 unequal a b apart = ⊎_elim (λ (same : (eqb a b ≡ true) × (a ≡ b)). absurd (apart same.1)) (λ p. p.0) (eqb_tells a b)
 
 -- a line without a fault has none behind more headers either, as long as there aren't too many

@@ -1,5 +1,6 @@
 -- One element more of what loops over sources, pieces and reads have done.
 use Rattle.std.proofs.Common.{◌≡◌, ◌+◌, ◌-◌, ◌<◌, ◌≤◌, ◌⊎◌, inl, inr, ◌∙◌, ◌++◌, ◌∷◌, [], ℕ, List, Option, Some, None, map, take, length, get_or, refl, sym, ap, arith, append_assoc, append-nil, length-append, slice_get, Result, Ok, Err, IfSome, Bool, true, false, nat_lt, count_by, subst, if◌then◌else◌}
+use Rattle.std.proofs.lemmas.Bool.{true≢false}
 use Rattle.std.proofs.lemmas.List.{length-map, map-append, take_all, take_more}
 use Rattle.std.proofs.lemmas.Option.{same_Some}
 use Rattle.std.proofs.KnownBytes.{Consumes-nil, Consumes-trans}
@@ -16,7 +17,7 @@ use Rattle.ld_trace.specs.Lines.{lines}
 use Rattle.ld_trace.specs.Inner.Splitting.{is_lf}
 use Rattle.ld_trace.specs.Sources.{PlainSource, line_faults, plain, sources, stream_fault}
 use Rattle.ld_pieces.specs.Pieces.{BeginsWithHeader, EndsLine, IsCut, IsCutBehind, moved}
-use Rattle.ld_pieces.proofs.JoinLemmas.{begins-with-header, cut-behind, cut-first}
+use Rattle.ld_pieces.proofs.JoinLemmas.{begins-with-header, cut-behind, cut-first, unequal}
 
 -- sources that were moved, one by one
 pub moved-more : (traces before : ℕ) (found old new : List Source) (i : ℕ) (d x : Source) → i < length found
@@ -73,10 +74,10 @@ added bytes piece now told more all traces before len is few behind number count
   where
     none : (all : List ℕ) → len ≡ length all → (len == 0) ≡ true → all ≡ []
     none [] is zeroed = refl
-    none (x ∷ xs) is zeroed = absurd (let no = rw is at zeroed in cc)
+    none (x ∷ xs) is zeroed = absurd (true≢false (sym zeroed ∙ unequal len 0 (λ e. omega (arith, e, is))))
 
     ends : (bytes ≡ []) ⊎ EndsLine bytes → (len == 0) ≡ false → EndsLine bytes
-    ends (inl gone) some = absurd (let no = rw (long ∙ ap length gone) at some in cc)
+    ends (inl gone) some = absurd (true≢false (rw (long ∙ ap length gone) at some))
     ends (inr told) some = told
 
 -- pieces one behind the other
@@ -112,10 +113,6 @@ gains-most a b one two three room most first more within =
       Consumes-trans one two three first.0 more.0 first.2 more.1,
       omega (arith, long, length-append a first.0, length-append first.0 more.0, more.2, within),
     )
-
-pub gains-at-most : (a b : List ℕ) (one two : Option (List ℕ)) (most : ℕ) → Gains a b (Consumes one two) → length b ≤ most → ConsumesAtMost one two (most - length a)
-gains-at-most a b one two most gained within =
-    let long = ap length gained.1 in (gained.0, gained.2, omega (arith, long, length-append a gained.0, within))
 
 pub at-most-more : (one two : Option (List ℕ)) (few most : ℕ) → ConsumesAtMost one two few → few ≤ most → ConsumesAtMost one two most
 at-most-more one two few most read within = (read.0, read.1, omega (arith, read.2, within))

@@ -2,7 +2,7 @@
 ghost use Rattle.std.specs.Prelude.{◌≡◌, ◌≢◌, ◌≤◌, ◌+◌, ◌++◌, ◌⊎◌, [], None, IfOk, IfSome, IsTrue, OnErr, OnOk, count_by, false, length, map, true};
 ghost use Rattle.ld_io.specs.declared.transfer.TheConstants.{MOST_READ};
 ghost use Rattle.ld_trace.specs.Inner.Splitting.{is_lf};
-ghost use Rattle.ld_trace.specs.Sources.{plain, sources, stream_fault};
+ghost use Rattle.ld_trace.specs.Sources.{AreNumbered, plain, sources, stream_fault};
 ghost use Rattle.ld_pieces.specs.Pieces.{EndsLine};
 
 use crate::cut::{count_lines, cut_behind, ends_line};
@@ -166,6 +166,7 @@ impl<'a> Pieces<'a> {
     pub fn traces(&self) -> Option<&[Source<'a>]>
         ensures fault { IfSome result (λ _. stream_fault self.now ≡ None) }
         ensures traces { IfSome result (λ traces. map plain traces.now ≡ sources self.now) }
+        ensures numbered { IfSome result (λ traces. AreNumbered (map plain traces.now)) }
     {
         if self.is_cut && self.came.len() <= LONGEST_STREAM {
             Some(&self.traces)

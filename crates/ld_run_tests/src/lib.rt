@@ -11,6 +11,8 @@ mod fakes;
 #[cfg(test)]
 mod report;
 #[cfg(test)]
+mod pieces;
+#[cfg(test)]
 mod run;
 #[cfg(test)]
 mod texts;

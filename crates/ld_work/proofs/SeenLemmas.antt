@@ -24,7 +24,7 @@ pub seen-through : (all front entries : List Entry) → All (Contains all) front
 seen-through all front entries there = All-weaker (Contains front) (Contains all) (λ n saw. All-contains (Contains all) front n there saw) entries
 
 -- what a history notes tells the source
-source_of : Entry → PlainSource
+abbrev source_of : Entry → PlainSource
 source_of entry = record { number = entry.number; label = entry.label; first_line = entry.first_line; bytes = entry.bytes }
 
 -- Sources that were noted of a book are listed there.

@@ -57,10 +57,10 @@ struct Job<T: Ledger, E: Ledger> {
 
 /// What a worker leaves.
 #[derive(Drop)]
-struct Done<T: Ledger, E: Ledger> {
-    feeder: Feeder<T, E>,
+pub(crate) struct Done<T: Ledger, E: Ledger> {
+    pub(crate) feeder: Feeder<T, E>,
     /// A growth of memory was refused: the worker drew no more, and what its batch had isn't in the book.
-    refused: bool,
+    pub(crate) refused: bool,
 }
 
 /// The book of these sources, read by that many workers at once. Each worker draws the number of its
@@ -197,7 +197,7 @@ fn feed<
 }
 
 /// The book of a desk, all of whose feeders were given back, unless memory was refused.
-fn gathered<'a, T: Ledger, E: Ledger, S: Scope, H: Room>(
+pub(crate) fn gathered<'a, T: Ledger, E: Ledger, S: Scope, H: Room>(
     desk: Desk<'a, T, E, S, H>,
     fed: Result<Vec<Feeder<T, E>>, AllocError>,
 ) -> Result<Book<'a>, AllocError>
@@ -316,7 +316,7 @@ fn run_one<'a, T: Ledger, E: Ledger, S: Scope, H: Room, G: Gate, R: Wait>(
 }
 
 /// Reads a trace, and hands on what was read if that is due.
-fn read<'a, T: Ledger, E: Ledger, S: Scope, H: Room, R: Wait>(
+pub(crate) fn read<'a, T: Ledger, E: Ledger, S: Scope, H: Room, R: Wait>(
     rt: &R,
     desk: &Desk<'a, T, E, S, H>,
     source: Source<'a>,
@@ -344,7 +344,7 @@ fn read<'a, T: Ledger, E: Ledger, S: Scope, H: Room, R: Wait>(
 /// # Errors
 ///
 /// `AllocError` where one of them was refused memory, or memory for the feeders was.
-fn feeders_of<T: Ledger, E: Ledger>(
+pub(crate) fn feeders_of<T: Ledger, E: Ledger>(
     alloc: Global,
     done: Vec<Done<T, E>>,
 ) -> Result<Vec<Feeder<T, E>>, AllocError>
@@ -369,7 +369,7 @@ fn feeders_of<T: Ledger, E: Ledger>(
 /// # Errors
 ///
 /// `Memory` where memory was refused, and else `Uneven` with the number that tells it.
-fn settled<'a>(alloc: Global, sources: &[Source<'a>], book: &Book<'a>) -> Result<(), WorkFault>
+pub(crate) fn settled<'a>(alloc: Global, sources: &[Source<'a>], book: &Book<'a>) -> Result<(), WorkFault>
     requires numbered { AreNumbered (map plain sources.now) }
     requires among { All (Contains (map plain sources.now)) book.now }
     ensures even { OnOk result (ListsEachOnce (map plain sources.now) book.now) }
