@@ -3,7 +3,7 @@ use Rattle.std.proofs.Common.{◌≡◌, ◌+◌, ◌<◌, ◌≤◌, ◌⊎◌,
 use Rattle.std.proofs.lemmas.Bool.{true≢false}
 use Rattle.std.proofs.lemmas.Option.{same_Some}
 use Rattle.std.proofs.lemmas.List.{append-nil, get_or-map, get_or_default, length-map, map-append, take_all, take_more}
-use Rattle.std.proofs.lemmas.List.Elements.{All-append, All-contains, All-contains_itself, All-nil, All-weaker, Contains-append_left, Contains-append_right, Contains-get_or}
+use Rattle.std.proofs.lemmas.List.Elements.{All-append, All-push, All-contains, All-contains_itself, All-nil, All-weaker, Contains-append_left, Contains-append_right, Contains-get_or}
 use Rattle.std.specs.List.{Contains, last_or}
 use Rattle.std.specs.Result.{is_err}
 use mathlib.Core.List.{IsPrefix}
@@ -115,6 +115,15 @@ module _ (traces : List Listed) where
 
   pub entries-whole : (first now : List Entry) (i : ℕ) → length traces ≤ i → now ≡ first ++ entries_of (sources_of (take i traces)) → now ≡ first ++ entries_of (sources_of traces)
   entries-whole first now i all so_far = so_far ∙ ap (λ these. first ++ entries_of (sources_of these)) (take_all i traces all)
+
+  -- and what is true of them
+  pub among-more : (P : PlainSource → Type 0) (i : ℕ) (d : Listed) → i < length traces → All P (sources_of (take i traces)) → P (plain (get_or traces i d).source) → All P (sources_of (take (i + 1) traces))
+  among-more P i d within before here =
+      subst (All P) (sym (ap sources_of (take_more traces i d within) ∙ map-append (λ (l : Listed). plain l.source) (take i traces) (get_or traces i d ∷ [])))
+      (All-push P (sources_of (take i traces)) (plain (get_or traces i d).source) before here)
+
+  pub among-whole : (P : PlainSource → Type 0) (i : ℕ) → length traces ≤ i → All P (sources_of (take i traces)) → All P (sources_of traces)
+  among-whole P i all so_far = subst (λ these. All P (sources_of these)) (take_all i traces all) so_far
 
 -- what a clause says of an answer that is an error, or none
 pub on-ok : {T E P : Type 0} (r : Result T E) → OnOk r P → is_err r ≡ false → P

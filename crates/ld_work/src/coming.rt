@@ -181,11 +181,7 @@ fn read_next<'a, T: Ledger, E: Ledger, H: Room, R: Wait>(
 /// # Errors
 ///
 /// `Memory` if memory was refused, and else `Uneven`.
-pub fn compared<'a>(
-    alloc: Global,
-    sources: &[Source<'a>],
-    book: &Book<'a>,
-) -> Result<(), WorkFault>
+pub fn compared<'a>(alloc: Global, sources: &[Source<'a>], book: &Book<'a>) -> Result<(), WorkFault>
     requires { AreNumbered (map plain sources.now) }
     ensures { OnOk result (ListsEachOnce (map plain sources.now) book.now) }
 {

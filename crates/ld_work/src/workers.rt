@@ -369,7 +369,11 @@ pub(crate) fn feeders_of<T: Ledger, E: Ledger>(
 /// # Errors
 ///
 /// `Memory` where memory was refused, and else `Uneven` with the number that tells it.
-pub(crate) fn settled<'a>(alloc: Global, sources: &[Source<'a>], book: &Book<'a>) -> Result<(), WorkFault>
+pub(crate) fn settled<'a>(
+    alloc: Global,
+    sources: &[Source<'a>],
+    book: &Book<'a>,
+) -> Result<(), WorkFault>
     requires numbered { AreNumbered (map plain sources.now) }
     requires among { All (Contains (map plain sources.now)) book.now }
     ensures even { OnOk result (ListsEachOnce (map plain sources.now) book.now) }
