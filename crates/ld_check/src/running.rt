@@ -95,7 +95,9 @@ fn report_in<'a, I: Input, R: Threads + Wait + Sync>(
     // If no thread can be started, the stream is read first, and its traces afterwards.
     let (book, read) = join_mut(
         rt,
-        &mut || work_on(rt, alloc, &cuts, workers),
+        &mut ||
+            requires { (1 ≤ workers) × (workers ≤ MOST_WORKERS) }
+        { work_on(rt, alloc, &cuts, workers) },
         &mut || read_stream(rt, alloc, input, texts, &cuts),
     );
     let pieces = match read {
